@@ -1,0 +1,82 @@
+-- A spelling gives its labels back.
+use Rattle.std.proofs.Common.{◌≡◌, ℕ, ◌+◌, ◌-◌, ◌<◌, ◌≤◌, List, [], ◌∷◌, ◌++◌, length, take, drop, zero, suc, refl, ◌∙◌, ap, append_assoc, arith, length-append, append-nil, ◌⊎◌, ◌≢◌}
+use Rattle.std.specs.List.{AllByRecursion}
+use Rattle.std.proofs.Math.Seq.{take-append_seam, drop-append_seam}
+use Rattle.nb_names.specs.DomainName.{spelling, IsLabel, IsDomain}
+use Rattle.nb_names.specs.Spelled.{labels_within, labels_of, IsSpelled}
+
+-- with fuel for them all, the labels that a spelling has
+pub labels_within-spelling : (n : ℕ) (ls : List (List ℕ)) → AllByRecursion IsLabel ls → length (spelling ls) ≤ n → labels_within n (spelling ls) ≡ ls
+labels_within-spelling zero [] a h = refl
+labels_within-spelling (suc n) [] a h = refl
+labels_within-spelling zero (l ∷ ls) a h = absurd (omega arith)
+labels_within-spelling (suc n) ([] ∷ ls) a h = absurd (omega arith)
+labels_within-spelling (suc n) ((x ∷ xs) ∷ ls) a h =
+    let short : length (spelling ls) ≤ n = omega (arith, length-append xs (spelling ls)) in
+    cc (take-append_seam xs (spelling ls), drop-append_seam xs (spelling ls), labels_within-spelling n ls a.1 short)
+
+pub labels_of-spelling : (ls : List (List ℕ)) → AllByRecursion IsLabel ls → labels_of (spelling ls) ≡ ls
+labels_of-spelling ls a = labels_within-spelling _ ls a (omega arith)
+
+-- a spelling of a domain's labels is one
+pub spelled : (bytes : List ℕ) (ls : List (List ℕ)) → IsDomain ls → bytes ≡ spelling ls → IsSpelled bytes
+spelled bytes ls d e =
+    let same : labels_of bytes ≡ ls = rw e (labels_of-spelling ls d.each) in
+    record { domain = rw same d; exact = rw same e }
+
+-- the labels after their length bytes, without the zero byte at the end
+abbrev pub body : List (List ℕ) → List ℕ
+body [] = []
+body (l ∷ ls) = length l ∷ (l ++ body ls)
+
+pub spelling-body : (ls : List (List ℕ)) → spelling ls ≡ body ls ++ 0 ∷ []
+spelling-body [] = refl
+spelling-body (l ∷ ls) = cc (spelling-body ls, append_assoc l (body ls) (0 ∷ []))
+
+pub body-append : (ls ms : List (List ℕ)) → body (ls ++ ms) ≡ body ls ++ body ms
+body-append [] ms = refl
+body-append (l ∷ ls) ms = cc (body-append ls ms, append_assoc l (body ls) (body ms))
+
+pub AllByRecursion-snoc : (ls : List (List ℕ)) (l : List ℕ) → AllByRecursion IsLabel ls → IsLabel l → AllByRecursion IsLabel (ls ++ l ∷ [])
+AllByRecursion-snoc [] l a h = (h, tt)
+AllByRecursion-snoc (x ∷ xs) l a h = (a.0, AllByRecursion-snoc xs l a.1 h)
+
+pub length-spelling-snoc : (ls : List (List ℕ)) (l : List ℕ) → length (spelling (ls ++ l ∷ [])) ≡ length (spelling ls) + (length l + 1)
+length-spelling-snoc [] l = omega (arith, length-append l (0 ∷ []))
+length-spelling-snoc (x ∷ xs) l = omega (arith, length-append x (spelling (xs ++ l ∷ [])), length-append x (spelling xs), length-spelling-snoc xs l)
+
+-- the bytes without their zero, and a label and a zero behind them
+pub spelling-pushed : (ls : List (List ℕ)) (old popped new l : List ℕ) → old ≡ spelling ls → popped ≡ take (length old - 1) old → new ≡ ((popped ++ length l ∷ []) ++ l) ++ 0 ∷ [] → new ≡ spelling (ls ++ l ∷ [])
+spelling-pushed ls old popped new l e p n =
+    let is : old ≡ body ls ++ 0 ∷ [] = e ∙ spelling-body ls in
+    let count : length old - 1 ≡ length (body ls) = omega (arith, ap length is, length-append (body ls) (0 ∷ [])) in
+    let front : popped ≡ body ls = p ∙ (rw (count, is) (take-append_seam (body ls) (0 ∷ []))) in
+    n ∙ rw (front, spelling-body, body-append) (cc (append_assoc (body ls) (length l ∷ []) l, append-nil l))
+
+-- a label behind a domain's
+pub IsDomain-pushed : (ls : List (List ℕ)) (l : List ℕ) → IsDomain ls → IsLabel l → length (spelling ls) + (length l + 1) ≤ 255 → IsDomain (ls ++ l ∷ [])
+IsDomain-pushed ls l d h short =
+    record { each = AllByRecursion-snoc ls l d.each h; short = omega (arith, length-spelling-snoc ls l) }
+
+pub labels_of-spelled : (ls : List (List ℕ)) (bytes : List ℕ) → IsDomain ls → bytes ≡ spelling ls → labels_of bytes ≡ ls
+labels_of-spelled ls bytes d e = rw e (labels_of-spelling ls d.each)
+
+-- a first byte of 0, or one above what follows, spells no label
+pub none_spelled : (ls : List (List ℕ)) (size : ℕ) (rest : List ℕ) → AllByRecursion IsLabel ls → size ∷ rest ≡ spelling ls → (size ≡ 0) ⊎ (length rest < size) → ls ≡ []
+none_spelled [] size rest a e w = refl
+none_spelled (l ∷ ls) size rest a e w =
+    let first : size ≡ length l = cc in
+    let others : rest ≡ l ++ spelling ls = cc in
+    absurd (grind (arith, length-append l (spelling ls), ap length others, first, a, w))
+
+-- a first byte that isn't 0 spells a label, which stands behind it
+pub some_spelled : (ls : List (List ℕ)) (size : ℕ) (rest : List ℕ) → AllByRecursion IsLabel ls → size ∷ rest ≡ spelling ls → 0 < size → (more : List (List ℕ)) × (ls ≡ take size rest ∷ more) × (drop size rest ≡ spelling more)
+some_spelled [] size rest a e w = absurd (let zero_is : size ≡ 0 = cc in omega arith)
+some_spelled (l ∷ ls) size rest a e w =
+    let first : size ≡ length l = cc in
+    let others : rest ≡ l ++ spelling ls = cc in
+    (ls, rw (first, others, take-append_seam l (spelling ls)) refl, rw (first, others, drop-append_seam l (spelling ls)) refl)
+
+pub spelling-not_empty : (ls : List (List ℕ)) → length (spelling ls) ≢ 0
+spelling-not_empty [] = omega arith
+spelling-not_empty (l ∷ ls) = omega arith

@@ -1,0 +1,4 @@
+pub mod DomainName
+pub mod Spelled
+pub mod FirstLevel
+pub mod Name

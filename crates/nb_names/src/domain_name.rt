@@ -1,0 +1,187 @@
+//! Domain names, held in place.
+ghost use Rattle.std.specs.Prelude.{◌≡◌, ◌≤◌, ◌<◌, ◌↔◌, [], length, slice_get, option_map, IsTrue};
+ghost use Rattle.nb_names.specs.DomainName.{spelling, IsDomain, Pushes};
+ghost use Rattle.nb_names.specs.declared.limits.TheConstants.{MAX_SPELLING};
+
+use crate::label_fault::LabelFault;
+use crate::labels::{count_labels, label_at};
+use crate::limits::{MAX_LABEL, MAX_SPELLING};
+use arrayvec::ArrayVec;
+use std::cmp::Ordering;
+use std::marker::Model;
+
+/// A domain name: labels of 1 to 63 bytes, whose spelling has at most 255 bytes.
+///
+/// It is held in place, without memory. Names are equal, and ordered, by the bytes of their
+/// spellings, byte for byte (own: RFC 1001 leaves the case of a scope open).
+#[derive(Clone, Debug, Drop)]
+pub struct DomainName {
+    /// The spelling, its zero byte included.
+    bytes: ArrayVec<u8, MAX_SPELLING>,
+}
+
+impl Model for DomainName {
+    ghost use Rattle.std.specs.Prelude.{ℕ, List};
+    ghost use Rattle.nb_names.specs.Spelled.{labels_of, IsSpelled};
+
+    ghost Value = { List (List ℕ) };
+
+    ghost view = { λ name. labels_of name.bytes.items };
+
+    ghost invariant = { λ name. IsSpelled name.bytes.items };
+
+    ghost use Rattle.nb_names.specs.DomainName.{spelling};
+    ghost use Rattle.nb_names.specs.Spelled.{given_back};
+
+    ghost inverse = { λ labels. record { bytes = record { items = spelling labels } } };
+
+    ghost inverse_ok = { λ name spelled i. record { bytes = given_back name.bytes spelled i } };
+}
+
+impl DomainName {
+    /// The name without labels.
+    pub fn root() -> Self
+        ensures { result ≡ [] }
+    {
+        let mut bytes = ArrayVec::new();
+        bytes.push(0);
+        DomainName { bytes }
+    }
+
+    /// How many labels the name has.
+    pub fn len(&self) -> usize
+        ensures { result ≡ length self.now }
+    {
+        count_labels(self.bytes.as_slice())
+    }
+
+    /// Whether the name has no label.
+    pub fn is_empty(&self) -> bool
+        ensures { IsTrue result ↔ (self.now ≡ []) }
+    {
+        self.bytes.len() == 1
+    }
+
+    /// The label at a place, counted from 0.
+    pub fn label(&self, place: usize) -> Option<&[u8]>
+        ensures { option_map (λ label. label.now) result ≡ slice_get self.now place }
+    {
+        label_at(self.bytes.as_slice(), place)
+    }
+
+    /// The spelling: each label after its length byte, then a zero byte.
+    ///
+    /// RFC 1001 section 14.2.
+    pub fn spelling(&self) -> &[u8]
+        ensures value { result.now ≡ spelling self.now }
+        ensures domain { IsDomain self.now }
+    {
+        self.bytes.as_slice()
+    }
+
+    /// How many bytes the spelling has, its zero byte included.
+    pub fn spelled_len(&self) -> usize
+        ensures value { result ≡ length (spelling self.now) }
+        ensures domain { IsDomain self.now }
+    {
+        self.bytes.len()
+    }
+
+    /// The same name. No memory is taken.
+    pub fn copied(&self) -> DomainName
+        ensures { result ≡ self.now }
+    {
+        let mut bytes = ArrayVec::new();
+        bytes
+            .try_extend_from_slice(self.bytes.as_slice())
+            .unwrap();
+        DomainName { bytes }
+    }
+
+    /// Adds a label behind the others.
+    ///
+    /// # Errors
+    ///
+    /// The first fault that applies, in [`LabelFault`]'s order. The name is then as it was.
+    ///
+    /// RFC 1002 section 4.1 has the limits of 63 and 255 bytes.
+    pub fn push(&mut self, label: &[u8]) -> Result<(), LabelFault>
+        ensures { Pushes MAX_SPELLING self.old self.new label.now result }
+    {
+        if label.is_empty() {
+            return Err(LabelFault::EmptyLabel);
+        }
+        if label.len() > MAX_LABEL {
+            return Err(LabelFault::LabelTooLong);
+        }
+        if self.bytes.len() + 1 + label.len() > MAX_SPELLING {
+            return Err(LabelFault::TooLong);
+        }
+        self.bytes.pop();
+        self.bytes.push(label.len() as u8);
+        self.bytes.try_extend_from_slice(label).unwrap();
+        self.bytes.push(0);
+        Ok(())
+    }
+}
+
+impl PartialEq for DomainName {
+    ghost use Rattle.std.specs.Prelude.{◌≡◌, ◌↔◌, ◌==◌, IsTrue};
+    ghost use Rattle.std.specs.Cmp.Lexicographic.{pointwise};
+    ghost use Rattle.std.proofs.Common.{rules};
+    ghost use Rattle.std.specs.Cmp.Rules.{comparing};
+    ghost use Rattle.std.specs.Ordering.{on};
+    ghost use Rattle.nb_names.specs.DomainName.{spelling};
+
+    ghost eq = { on spelling (pointwise ◌==◌) };
+
+    ghost laws = { Prim.search (comparing, rules) };
+
+    fn eq(&self, other: &Self) -> bool
+        ensures value { result ≡ pointwise ◌==◌ (spelling self.now) (spelling other.now) }
+        ensures same { IsTrue result ↔ (self.now ≡ other.now) }
+    {
+        self.bytes == other.bytes
+    }
+}
+
+impl Eq for DomainName {
+    ghost use Rattle.std.proofs.Common.{rules};
+    ghost use Rattle.std.specs.Cmp.Rules.{comparing};
+
+    ghost laws = { Prim.search (comparing, rules) };
+}
+
+impl Ord for DomainName {
+    ghost use Rattle.std.proofs.Common.{rules};
+    ghost use Rattle.std.specs.Cmp.Rules.{comparing};
+    ghost use Rattle.nb_names.specs.DomainName.{domain_cmp};
+
+    ghost cmp = { domain_cmp };
+
+    ghost total = { Prim.search (comparing, rules) };
+
+    ghost matches_partial_cmp = { Prim.search (comparing, rules) };
+
+    ghost matches_eq = { Prim.search (comparing, rules) };
+
+    fn cmp(&self, other: &Self) -> Ordering {
+        self.bytes.cmp(&other.bytes)
+    }
+}
+
+impl PartialOrd for DomainName {
+    ghost use Rattle.std.proofs.Common.{rules};
+    ghost use Rattle.std.specs.Cmp.Rules.{comparing};
+    ghost use Rattle.std.specs.Cmp.{partial_order_from_own_ties};
+    ghost use Rattle.std.specs.Ordering.{as_partial_cmp};
+    ghost use Rattle.nb_names.specs.DomainName.{domain_cmp};
+
+    ghost partial_cmp = { as_partial_cmp domain_cmp };
+
+    ghost laws = { partial_order_from_own_ties (Prim.search (comparing, rules)) (Prim.search (comparing, rules)) };
+
+    fn partial_cmp(&self, other: &Self) -> Option<Ordering> {
+        Some(self.cmp(other))
+    }
+}

@@ -1,0 +1,16 @@
+//! The limits of names, each with its unit.
+
+/// The longest label, in bytes (RFC 1002 section 4.1: six bits of length).
+pub const MAX_LABEL: usize = 63;
+
+/// The longest spelling of a domain name, in bytes, its zero byte included (RFC 1002 section 4.1).
+pub const MAX_SPELLING: usize = 255;
+
+/// The bytes of a NetBIOS name, its suffix included (RFC 1001 section 14.1).
+pub const NAME_LENGTH: usize = 16;
+
+/// The letters that spell those bytes, two a byte (RFC 1001 section 14.1).
+pub const LETTERS: usize = 32;
+
+/// The longest spelling of a scope, in bytes: what is left beside a name's first label.
+pub const MAX_SCOPE: usize = 222;

@@ -1,0 +1,84 @@
+//! Scopes of NetBIOS names.
+ghost use Rattle.std.specs.Prelude.{◌≡◌, []};
+ghost use Rattle.nb_names.specs.DomainName.{Pushes};
+ghost use Rattle.nb_names.specs.Name.{IsScope};
+ghost use Rattle.nb_names.specs.declared.limits.TheConstants.{MAX_SCOPE};
+
+use crate::domain_name::DomainName;
+use crate::label_fault::LabelFault;
+use crate::limits::{MAX_LABEL, MAX_SCOPE};
+use std::marker::Model;
+
+/// The scope of a NetBIOS name: a domain name whose spelling has at most 222 bytes, so that it has
+/// room behind a name's first label of 32 letters.
+///
+/// Scopes are equal, and ordered, as the domain names that they are.
+#[derive(Clone, Debug, PartialEq, Eq, PartialOrd, Ord, Drop)]
+pub struct Scope {
+    domain: DomainName,
+}
+
+impl Model for Scope {
+    ghost use Rattle.std.specs.Prelude.{◌≤◌, ℕ, List, length, refl};
+    ghost use Rattle.nb_names.specs.DomainName.{spelling};
+    ghost use Rattle.nb_names.specs.Name.{IsScope};
+
+    ghost Value = { List (List ℕ) };
+
+    ghost view = { λ scope. scope.domain };
+
+    ghost invariant = { λ scope. IsScope scope.domain };
+
+    ghost inverse = { λ labels. record { domain = labels } };
+
+    ghost inverse_ok = { λ scope formed. refl };
+}
+
+impl Scope {
+    /// The scope without labels.
+    pub fn empty() -> Self
+        ensures { result ≡ [] }
+    {
+        Scope {
+            domain: DomainName::root(),
+        }
+    }
+
+    /// The labels of the scope, as a domain name.
+    pub fn as_domain(&self) -> &DomainName
+        ensures value { result.now ≡ self.now }
+        ensures scope { IsScope self.now }
+    {
+        &self.domain
+    }
+
+    /// The same scope. No memory is taken.
+    pub fn copied(&self) -> Scope
+        ensures { result ≡ self.now }
+    {
+        Scope {
+            domain: self.domain.copied(),
+        }
+    }
+
+    /// Adds a label behind the others.
+    ///
+    /// # Errors
+    ///
+    /// The first fault that applies, in [`LabelFault`]'s order, where a spelling may have 222 bytes.
+    /// The scope is then as it was.
+    pub fn push(&mut self, label: &[u8]) -> Result<(), LabelFault>
+        ensures { Pushes MAX_SCOPE self.old self.new label.now result }
+    {
+        if label.is_empty() {
+            return Err(LabelFault::EmptyLabel);
+        }
+        if label.len() > MAX_LABEL {
+            return Err(LabelFault::LabelTooLong);
+        }
+        if self.domain.spelled_len() + 1 + label.len() > MAX_SCOPE {
+            return Err(LabelFault::TooLong);
+        }
+        self.domain.push(label)
+    }
+}

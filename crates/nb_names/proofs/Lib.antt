@@ -1,3 +1,5 @@
 pub mod SpellingLemmas
 pub mod PlacesLemmas
 pub mod ScopeLemmas
+pub mod FirstLevelLemmas
+pub mod NameLemmas

@@ -80,3 +80,9 @@ some_spelled (l ∷ ls) size rest a e w =
 pub spelling-not_empty : (ls : List (List ℕ)) → length (spelling ls) ≢ 0
 spelling-not_empty [] = omega arith
 spelling-not_empty (l ∷ ls) = omega arith
+
+-- the labels behind a domain name's first are one
+pub IsDomain-rest : (ls : List (List ℕ)) (l : List ℕ) (rest : List (List ℕ)) → ls ≡ l ∷ rest → IsDomain ls → IsDomain rest
+IsDomain-rest ls l rest is d =
+    let whole = rw is at d in
+    record { each = whole.each.1; short = omega (arith, whole.short, length-append l (spelling rest)) }

@@ -1,13 +1,14 @@
 -- NetBIOS names: sixteen bytes and a scope (RFC 1001 section 14.1). Places in a spelling count from
 -- its first byte, which is the first label's length.
-use Rattle.std.specs.Prelude.{◌≡◌, ℕ, ◌+◌, ◌<◌, ◌≤◌, List, [], ◌∷◌, length, zero, suc, refl, ◌≢◌}
+use Rattle.std.specs.Prelude.{◌≡◌, ℕ, ◌+◌, ◌<◌, ◌≤◌, ◌^◌, List, [], ◌∷◌, length, refl, ◌≢◌}
+use Rattle.std.specs.List.{AllByRecursion}
 use Rattle.std.specs.Ordering.{nat_cmp, on, then_cmp}
 use Rattle.std.specs.Cmp.Lexicographic.{slice_cmp}
 use Rattle.std.specs.Coded.{Coded, code_by, coded×, coded_ℕ, coded_list}
 use Rattle.std.specs.declared.cmp.Ordering.{Ordering}
 use Rattle.nb_names.specs.declared.limits.TheConstants.{NAME_LENGTH, LETTERS, MAX_SCOPE}
 use Rattle.nb_names.specs.DomainName.{spelling, IsDomain, domain_cmp}
-use Rattle.nb_names.specs.FirstLevel.{letters, IsLetter}
+use Rattle.nb_names.specs.FirstLevel.{letters, IsFirstStranger}
 
 -- a NetBIOS name: its sixteen bytes, of which the last is the suffix, and the labels of its scope
 pub record NetbiosName : Type 0 where
@@ -25,9 +26,10 @@ pub record IsScope (labels : List (List ℕ)) : Type 0 where
   pub domain : IsDomain labels
   pub short : length (spelling labels) ≤ MAX_SCOPE
 
--- a name has sixteen bytes and a scope
+-- a name has sixteen bytes, each of eight bits, and a scope
 pub record IsName (name : NetbiosName) : Type 0 where
   pub sixteen : length name.bytes ≡ NAME_LENGTH
+  pub each : AllByRecursion (λ byte. byte < 2 ^ 8) name.bytes
   pub scope : IsScope name.scope
 
 -- the labels of a name: its letters, then those of its scope
@@ -37,12 +39,6 @@ labels_of_name name = letters name.bytes ∷ name.scope
 -- own: names stand in the order of their bytes, then of their scopes
 abbrev pub name_cmp : NetbiosName → NetbiosName → Ordering
 name_cmp = then_cmp (on (λ n. n.bytes) (slice_cmp nat_cmp)) (on (λ n. n.scope) domain_cmp)
-
--- the byte at a place of the first label isn't a letter, and those before it are
-abbrev pub IsFirstStranger : List ℕ → ℕ → Type 0
-IsFirstStranger [] place = ⊥
-IsFirstStranger (byte ∷ bytes) zero = IsLetter byte → ⊥
-IsFirstStranger (byte ∷ bytes) (suc place) = IsLetter byte × IsFirstStranger bytes place
 
 -- IsUnlike labels place: why these labels are no name's, as a place in their spelling: 0 where there is
 -- no label or the first one hasn't 32 bytes, else that of its first byte which is no letter

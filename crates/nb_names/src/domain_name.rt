@@ -1,10 +1,10 @@
 //! Domain names, held in place.
-ghost use Rattle.std.specs.Prelude.{◌≡◌, ◌≤◌, ◌<◌, ◌↔◌, [], length, slice_get, option_map, IsTrue};
-ghost use Rattle.nb_names.specs.DomainName.{spelling, IsDomain, Pushes};
+ghost use Rattle.std.specs.Prelude.{◌≡◌, ◌≤◌, ◌<◌, ◌↔◌, [], ◌∷◌, length, slice_get, option_map, IsTrue, MatchOption};
+ghost use Rattle.nb_names.specs.DomainName.{spelling, IsLabel, IsDomain, Pushes};
 ghost use Rattle.nb_names.specs.declared.limits.TheConstants.{MAX_SPELLING};
 
 use crate::label_fault::LabelFault;
-use crate::labels::{count_labels, label_at};
+use crate::labels::{count_labels, label_at, split_label};
 use crate::limits::{MAX_LABEL, MAX_SPELLING};
 use arrayvec::ArrayVec;
 use std::cmp::Ordering;
@@ -96,6 +96,30 @@ impl DomainName {
             .try_extend_from_slice(self.bytes.as_slice())
             .unwrap();
         DomainName { bytes }
+    }
+
+    /// The name of a label before the labels of another name.
+    pub(crate) fn with_first(label: &[u8], rest: &DomainName) -> DomainName
+        requires label { IsLabel label.now }
+        requires short { length (spelling (label.now ∷ rest.now)) ≤ MAX_SPELLING }
+        ensures { result ≡ label.now ∷ rest.now }
+    {
+        let mut bytes = ArrayVec::new();
+        bytes.push(label.len() as u8);
+        bytes.try_extend_from_slice(label).unwrap();
+        bytes.try_extend_from_slice(rest.spelling()).unwrap();
+        DomainName { bytes }
+    }
+
+    /// The first label, and the name of the labels behind it.
+    pub(crate) fn split_first(&self) -> Option<(&[u8], DomainName)>
+        ensures split { MatchOption result (self.now ≡ []) (λ split. self.now ≡ split.0.now ∷ split.1) }
+        ensures domain { IsDomain self.now }
+    {
+        let (label, rest) = split_label(self.bytes.as_slice())?;
+        let mut bytes = ArrayVec::new();
+        bytes.try_extend_from_slice(rest).unwrap();
+        Some((label, DomainName { bytes }))
     }
 
     /// Adds a label behind the others.

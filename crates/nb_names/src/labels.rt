@@ -5,7 +5,7 @@ ghost use Rattle.nb_names.specs.DomainName.{spelling, IsLabel};
 ghost use Rattle.nb_names.specs.Spelled.{BeginsWith};
 
 /// The first label of a spelling, and the spelling of the labels behind it.
-fn split_label(spelled: &[u8]) -> Option<(&[u8], &[u8])>
+pub(crate) fn split_label(spelled: &[u8]) -> Option<(&[u8], &[u8])>
     ensures split {
         (labels : List (List ℕ)) → AllByRecursion IsLabel labels → spelled.now ≡ spelling labels →
         MatchOption result (labels ≡ []) (λ split. BeginsWith labels split.0.now split.1.now)

@@ -44,6 +44,14 @@ impl Scope {
         }
     }
 
+    /// The scope that has a domain name's labels.
+    pub(crate) fn of_domain(domain: DomainName) -> Self
+        requires { IsScope domain }
+        ensures { result ≡ domain }
+    {
+        Scope { domain }
+    }
+
     /// The labels of the scope, as a domain name.
     pub fn as_domain(&self) -> &DomainName
         ensures value { result.now ≡ self.now }

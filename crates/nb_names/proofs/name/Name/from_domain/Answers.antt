@@ -1,0 +1,30 @@
+use Rattle.std.proofs.Common.{◌≡◌, ◌∷◌, ◌∙◌, [], sym, ap, List, ℕ}
+use Rattle.nb_names.specs.Name.{no_label, NetbiosName, labels_of_name, IsUnlike}
+use Rattle.nb_names.proofs.NameLemmas.{IsScope-rest, unlike_length, unlike_letter, name_length, name_letters, one_name}
+use Rattle.nb_names.proofs.name.Name.from_domain.Goals as goal
+
+pub returns-in_default-clause-fault : goal.returns-in_default-clause-fault
+returns-in_default-clause-fault c = rw c.in_default.ensures.split no_label
+
+pub returns-then-first-ne-LETTERS-clause-fault : goal.returns-then-first-ne-LETTERS-clause-fault
+returns-then-first-ne-LETTERS-clause-fault c = unlike_length _ _ _ c.in-Some.ensures.split c.if-first-ne-LETTERS.true
+
+pub returns-then-first-ne-LETTERS-clause-only : goal.returns-then-first-ne-LETTERS-clause-only
+returns-then-first-ne-LETTERS-clause-only c name formed is =
+    c.if-first-ne-LETTERS.true (name_length name _ _ formed (is ∙ c.in-Some.ensures.split))
+
+pub of_domain-requires : goal.of_domain-requires
+of_domain-requires c = IsScope-rest _ _ _ c.in-Some.ensures.split c.if-first-ne-LETTERS.false c.in-Some.ensures.domain
+
+pub returns-in-Err-clause-fault : goal.returns-in-Err-clause-fault
+returns-in-Err-clause-fault c = unlike_letter _ _ _ _ c.in-Some.ensures.split c.if-first-ne-LETTERS.false c.in-Err.ensures.stranger
+
+pub returns-in-Err-clause-only : goal.returns-in-Err-clause-only
+returns-in-Err-clause-only c name formed is =
+    name_letters name _ _ _ formed (is ∙ c.in-Some.ensures.split) c.in-Err.ensures.stranger
+
+pub returns-in-Ok-clause-only : goal.returns-in-Ok-clause-only
+returns-in-Ok-clause-only c name formed is =
+    let read : NetbiosName = record { bytes = c.in-Ok.bytes; scope = c.of_domain.result } in
+    let same : labels_of_name read ≡ labels_of_name name = cc (c.in-Ok.ensures.found, c.of_domain.ensures, c.in-Some.ensures.split, is) in
+    one_name read name same

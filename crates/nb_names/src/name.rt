@@ -1,0 +1,117 @@
+//! NetBIOS names.
+ghost use Rattle.std.specs.Prelude.{◌≡◌, IfOk, IfErr, IsOkAnd};
+ghost use Rattle.nb_names.specs.Name.{NetbiosName, IsName, IsUnlike, labels_of_name};
+
+use crate::domain_name::DomainName;
+use crate::first_level::{bytes_of, letters_of};
+use crate::limits::{LETTERS, NAME_LENGTH};
+use crate::scope::Scope;
+use std::marker::Model;
+
+/// A NetBIOS name: sixteen bytes, of which the last is the suffix, and a scope.
+///
+/// Names are equal, and ordered, byte for byte: by the sixteen bytes, then by the scope (own).
+///
+/// RFC 1001 section 14.1.
+#[derive(Clone, Debug, PartialEq, Eq, PartialOrd, Ord, Drop)]
+pub struct Name {
+    bytes: [u8; NAME_LENGTH],
+    scope: Scope,
+}
+
+impl Model for Name {
+    ghost use Rattle.std.specs.Prelude.{◌≡◌, length, refl};
+    ghost use Rattle.nb_names.specs.Name.{NetbiosName, IsScope, name_code};
+
+    ghost Value = { NetbiosName };
+
+    ghost coded = { name_code };
+
+    ghost view = { λ name. record { bytes = name.bytes; scope = name.scope } };
+
+    ghost inverse = { λ name. record { bytes = name.bytes; scope = name.scope } };
+
+    ghost inverse_ok = { λ name formed. refl };
+}
+
+/// Labels that are no NetBIOS name's.
+///
+/// `place` is an offset in the labels' spelling: 0 where there is no label or the first one hasn't 32
+/// bytes, else that of its first byte which is none of `A` to `P`.
+#[derive(Clone, Copy, Debug, PartialEq, Eq)]
+pub struct NotNetbios {
+    /// The offset, in bytes.
+    pub place: usize,
+}
+
+impl Name {
+    /// The name of these bytes and this scope.
+    pub fn new(bytes: [u8; NAME_LENGTH], scope: Scope) -> Self
+        ensures { result ≡ record { bytes = bytes; scope = scope } }
+    {
+        Name { bytes, scope }
+    }
+
+    /// The sixteen bytes.
+    pub fn bytes(&self) -> &[u8; NAME_LENGTH]
+        ensures value { result.now ≡ self.now.bytes }
+    {
+        &self.bytes
+    }
+
+    /// The scope.
+    pub fn scope(&self) -> &Scope
+        ensures value { result.now ≡ self.now.scope }
+    {
+        &self.scope
+    }
+
+    /// The same name. No memory is taken.
+    pub fn copied(&self) -> Name
+        ensures { result ≡ self.now }
+    {
+        Name {
+            bytes: self.bytes,
+            scope: self.scope.copied(),
+        }
+    }
+
+    /// The name's labels: the 32 letters of its bytes, then those of its scope.
+    ///
+    /// RFC 1001 sections 14.1 and 14.2.
+    pub fn to_domain(&self) -> DomainName
+        ensures { result ≡ labels_of_name self.now }
+    {
+        DomainName::with_first(&letters_of(&self.bytes), self.scope.as_domain())
+    }
+
+    /// The name that has these labels.
+    ///
+    /// # Errors
+    ///
+    /// [`NotNetbios`] where no name has them. Lower-case letters are refused (own).
+    ///
+    /// RFC 1001 section 14.1.
+    pub fn from_domain(domain: &DomainName) -> Result<Name, NotNetbios>
+        ensures found { IfOk result (λ name. labels_of_name name ≡ domain.now) }
+        ensures only {
+            (name : NetbiosName) → IsName name → labels_of_name name ≡ domain.now →
+            IsOkAnd result (λ read. read ≡ name)
+        }
+        ensures fault { IfErr result (λ fault. IsUnlike domain.now fault.place) }
+    {
+        let Some((first, rest)) = domain.split_first() else {
+            return Err(NotNetbios { place: 0 });
+        };
+        if first.len() != LETTERS {
+            return Err(NotNetbios { place: 0 });
+        }
+        match bytes_of(first) {
+            Ok(bytes) => Ok(Name {
+                bytes,
+                scope: Scope::of_domain(rest),
+            }),
+            Err(place) => Err(NotNetbios { place: 1 + place }),
+        }
+    }
+}

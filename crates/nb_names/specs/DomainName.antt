@@ -1,9 +1,9 @@
 -- Domain names as lists of labels, and how they are spelled (RFC 1001 section 14.2, RFC 1002
 -- section 4.1). Lengths are in bytes, and a spelling's length counts its zero byte.
-use Rattle.std.specs.Prelude.{◌≡◌, ℕ, ◌<◌, ◌≤◌, ◌++◌, List, [], ◌∷◌, length, Result, Ok, Err}
+use Rattle.std.specs.Prelude.{◌≡◌, ℕ, ◌<◌, ◌≤◌, ◌++◌, ◌==◌, Bool, List, [], ◌∷◌, length, Result, Ok, Err}
 use Rattle.std.specs.List.{AllByRecursion}
 use Rattle.std.specs.Ordering.{nat_cmp, on}
-use Rattle.std.specs.Cmp.Lexicographic.{slice_cmp}
+use Rattle.std.specs.Cmp.Lexicographic.{pointwise, slice_cmp}
 use Rattle.std.specs.declared.cmp.Ordering.{Ordering}
 use Rattle.nb_names.specs.declared.limits.TheConstants.{MAX_LABEL, MAX_SPELLING}
 use Rattle.nb_names.specs.declared.label_fault.LabelFault.{LabelFault}
@@ -36,6 +36,10 @@ abbrev pub Pushes : ℕ → List (List ℕ) → List (List ℕ) → List ℕ →
 Pushes limit old new label (Ok _) =
     IsLabel label × (length (spelling (old ++ label ∷ [])) ≤ limit) × (new ≡ old ++ label ∷ [])
 Pushes limit old new label (Err fault) = IsRefused limit old label fault × (new ≡ old)
+
+-- own: domain names are equal where the bytes of their spellings are
+abbrev pub domain_eq : List (List ℕ) → List (List ℕ) → Bool
+domain_eq = on spelling (pointwise ◌==◌)
 
 -- own: domain names stand in the order of the bytes of their spellings
 abbrev pub domain_cmp : List (List ℕ) → List (List ℕ) → Ordering

@@ -1,13 +1,13 @@
 -- NetBIOS names: sixteen bytes and a scope (RFC 1001 section 14.1). Places in a spelling count from
 -- its first byte, which is the first label's length.
-use Rattle.std.specs.Prelude.{◌≡◌, ℕ, ◌+◌, ◌<◌, ◌≤◌, ◌^◌, List, [], ◌∷◌, length, refl, ◌≢◌}
+use Rattle.std.specs.Prelude.{◌≡◌, ℕ, ◌+◌, ◌<◌, ◌≤◌, ◌^◌, ◌==◌, Bool, List, [], ◌∷◌, length, refl, ◌≢◌}
 use Rattle.std.specs.List.{AllByRecursion}
-use Rattle.std.specs.Ordering.{nat_cmp, on, then_cmp}
-use Rattle.std.specs.Cmp.Lexicographic.{slice_cmp}
+use Rattle.std.specs.Ordering.{nat_cmp, on, then_cmp, eq_of_both}
+use Rattle.std.specs.Cmp.Lexicographic.{pointwise, slice_cmp}
 use Rattle.std.specs.Coded.{Coded, code_by, coded×, coded_ℕ, coded_list}
 use Rattle.std.specs.declared.cmp.Ordering.{Ordering}
 use Rattle.nb_names.specs.declared.limits.TheConstants.{NAME_LENGTH, LETTERS, MAX_SCOPE}
-use Rattle.nb_names.specs.DomainName.{spelling, IsDomain, domain_cmp}
+use Rattle.nb_names.specs.DomainName.{spelling, IsDomain, domain_eq, domain_cmp}
 use Rattle.nb_names.specs.FirstLevel.{letters, IsFirstStranger}
 
 -- a NetBIOS name: its sixteen bytes, of which the last is the suffix, and the labels of its scope
@@ -35,6 +35,10 @@ pub record IsName (name : NetbiosName) : Type 0 where
 -- the labels of a name: its letters, then those of its scope
 abbrev pub labels_of_name : NetbiosName → List (List ℕ)
 labels_of_name name = letters name.bytes ∷ name.scope
+
+-- own: names are equal where their bytes and their scopes are
+abbrev pub name_eq : NetbiosName → NetbiosName → Bool
+name_eq = eq_of_both (on (λ n. n.bytes) (pointwise ◌==◌)) (on (λ n. n.scope) domain_eq)
 
 -- own: names stand in the order of their bytes, then of their scopes
 abbrev pub name_cmp : NetbiosName → NetbiosName → Ordering

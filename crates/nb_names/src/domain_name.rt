@@ -150,19 +150,17 @@ impl DomainName {
 }
 
 impl PartialEq for DomainName {
-    ghost use Rattle.std.specs.Prelude.{◌≡◌, ◌↔◌, ◌==◌, IsTrue};
-    ghost use Rattle.std.specs.Cmp.Lexicographic.{pointwise};
+    ghost use Rattle.std.specs.Prelude.{◌≡◌, ◌↔◌, IsTrue};
     ghost use Rattle.std.proofs.Common.{rules};
     ghost use Rattle.std.specs.Cmp.Rules.{comparing};
-    ghost use Rattle.std.specs.Ordering.{on};
-    ghost use Rattle.nb_names.specs.DomainName.{spelling};
+    ghost use Rattle.nb_names.specs.DomainName.{domain_eq};
 
-    ghost eq = { on spelling (pointwise ◌==◌) };
+    ghost eq = { domain_eq };
 
     ghost laws = { Prim.search (comparing, rules) };
 
     fn eq(&self, other: &Self) -> bool
-        ensures value { result ≡ pointwise ◌==◌ (spelling self.now) (spelling other.now) }
+        ensures value { result ≡ domain_eq self.now other.now }
         ensures same { IsTrue result ↔ (self.now ≡ other.now) }
     {
         self.bytes == other.bytes

@@ -6,6 +6,7 @@ use crate::domain_name::DomainName;
 use crate::first_level::{bytes_of, letters_of};
 use crate::limits::{LETTERS, NAME_LENGTH};
 use crate::scope::Scope;
+use std::cmp::Ordering;
 use std::marker::Model;
 
 /// A NetBIOS name: sixteen bytes, of which the last is the suffix, and a scope.
@@ -13,7 +14,7 @@ use std::marker::Model;
 /// Names are equal, and ordered, byte for byte: by the sixteen bytes, then by the scope (own).
 ///
 /// RFC 1001 section 14.1.
-#[derive(Clone, Debug, PartialEq, Eq, PartialOrd, Ord, Drop)]
+#[derive(Clone, Debug, Drop)]
 pub struct Name {
     bytes: [u8; NAME_LENGTH],
     scope: Scope,
@@ -113,5 +114,66 @@ impl Name {
             }),
             Err(place) => Err(NotNetbios { place: 1 + place }),
         }
+    }
+}
+
+impl PartialEq for Name {
+    ghost use Rattle.std.specs.Prelude.{◌≡◌, ◌↔◌, IsTrue};
+    ghost use Rattle.std.proofs.Common.{rules};
+    ghost use Rattle.std.specs.Cmp.Rules.{comparing};
+    ghost use Rattle.nb_names.specs.Name.{name_eq};
+
+    ghost eq = { name_eq };
+
+    ghost laws = { Prim.search (comparing, rules) };
+
+    fn eq(&self, other: &Self) -> bool
+        ensures value { result ≡ name_eq self.now other.now }
+        ensures same { IsTrue result ↔ (self.now ≡ other.now) }
+    {
+        self.bytes == other.bytes && self.scope == other.scope
+    }
+}
+
+impl Eq for Name {
+    ghost use Rattle.std.proofs.Common.{rules};
+    ghost use Rattle.std.specs.Cmp.Rules.{comparing};
+
+    ghost laws = { Prim.search (comparing, rules) };
+}
+
+impl Ord for Name {
+    ghost use Rattle.std.proofs.Common.{rules};
+    ghost use Rattle.std.specs.Cmp.Rules.{comparing};
+    ghost use Rattle.nb_names.specs.Name.{name_cmp};
+
+    ghost cmp = { name_cmp };
+
+    ghost total = { Prim.search (comparing, rules) };
+
+    ghost matches_partial_cmp = { Prim.search (comparing, rules) };
+
+    ghost matches_eq = { Prim.search (comparing, rules) };
+
+    fn cmp(&self, other: &Self) -> Ordering {
+        self.bytes
+            .cmp(&other.bytes)
+            .then_with(|| self.scope.cmp(&other.scope))
+    }
+}
+
+impl PartialOrd for Name {
+    ghost use Rattle.std.proofs.Common.{rules};
+    ghost use Rattle.std.specs.Cmp.Rules.{comparing};
+    ghost use Rattle.std.specs.Cmp.{partial_order_from_own_ties};
+    ghost use Rattle.std.specs.Ordering.{as_partial_cmp};
+    ghost use Rattle.nb_names.specs.Name.{name_cmp};
+
+    ghost partial_cmp = { as_partial_cmp name_cmp };
+
+    ghost laws = { partial_order_from_own_ties (Prim.search (comparing, rules)) (Prim.search (comparing, rules)) };
+
+    fn partial_cmp(&self, other: &Self) -> Option<Ordering> {
+        Some(self.cmp(other))
     }
 }

@@ -7,13 +7,14 @@ ghost use Rattle.nb_names.specs.declared.limits.TheConstants.{MAX_SCOPE};
 use crate::domain_name::DomainName;
 use crate::label_fault::LabelFault;
 use crate::limits::{MAX_LABEL, MAX_SCOPE};
+use std::cmp::Ordering;
 use std::marker::Model;
 
 /// The scope of a NetBIOS name: a domain name whose spelling has at most 222 bytes, so that it has
 /// room behind a name's first label of 32 letters.
 ///
 /// Scopes are equal, and ordered, as the domain names that they are.
-#[derive(Clone, Debug, PartialEq, Eq, PartialOrd, Ord, Drop)]
+#[derive(Clone, Debug, Drop)]
 pub struct Scope {
     domain: DomainName,
 }
@@ -88,5 +89,64 @@ impl Scope {
             return Err(LabelFault::TooLong);
         }
         self.domain.push(label)
+    }
+}
+
+impl PartialEq for Scope {
+    ghost use Rattle.std.specs.Prelude.{◌≡◌, ◌↔◌, IsTrue};
+    ghost use Rattle.std.proofs.Common.{rules};
+    ghost use Rattle.std.specs.Cmp.Rules.{comparing};
+    ghost use Rattle.nb_names.specs.DomainName.{domain_eq};
+
+    ghost eq = { domain_eq };
+
+    ghost laws = { Prim.search (comparing, rules) };
+
+    fn eq(&self, other: &Self) -> bool
+        ensures value { result ≡ domain_eq self.now other.now }
+        ensures same { IsTrue result ↔ (self.now ≡ other.now) }
+    {
+        self.domain == other.domain
+    }
+}
+
+impl Eq for Scope {
+    ghost use Rattle.std.proofs.Common.{rules};
+    ghost use Rattle.std.specs.Cmp.Rules.{comparing};
+
+    ghost laws = { Prim.search (comparing, rules) };
+}
+
+impl Ord for Scope {
+    ghost use Rattle.std.proofs.Common.{rules};
+    ghost use Rattle.std.specs.Cmp.Rules.{comparing};
+    ghost use Rattle.nb_names.specs.DomainName.{domain_cmp};
+
+    ghost cmp = { domain_cmp };
+
+    ghost total = { Prim.search (comparing, rules) };
+
+    ghost matches_partial_cmp = { Prim.search (comparing, rules) };
+
+    ghost matches_eq = { Prim.search (comparing, rules) };
+
+    fn cmp(&self, other: &Self) -> Ordering {
+        self.domain.cmp(&other.domain)
+    }
+}
+
+impl PartialOrd for Scope {
+    ghost use Rattle.std.proofs.Common.{rules};
+    ghost use Rattle.std.specs.Cmp.Rules.{comparing};
+    ghost use Rattle.std.specs.Cmp.{partial_order_from_own_ties};
+    ghost use Rattle.std.specs.Ordering.{as_partial_cmp};
+    ghost use Rattle.nb_names.specs.DomainName.{domain_cmp};
+
+    ghost partial_cmp = { as_partial_cmp domain_cmp };
+
+    ghost laws = { partial_order_from_own_ties (Prim.search (comparing, rules)) (Prim.search (comparing, rules)) };
+
+    fn partial_cmp(&self, other: &Self) -> Option<Ordering> {
+        Some(self.cmp(other))
     }
 }

@@ -51,8 +51,8 @@ pub bytes_turn : (ls bytes : List ℕ) (i high low : ℕ) → 2 * i + 1 < length
 bytes_turn ls bytes i high low room more h l first second done =
     let byte = halves high low h l in
     let written : letters (take (i + 1) (set bytes i (high * 16 + low))) ≡ letters (take i bytes) ++ (letter high ∷ letter low ∷ []) =
-        ap letters (take_more_set bytes i (high * 16 + low) more) ∙ letters-append (take i bytes) ((high * 16 + low) ∷ [])
-        ∙ ap (λ (r : List ℕ). letters (take i bytes) ++ r) (cc (byte.0, byte.1)) in
+    ap letters (take_more_set bytes i (high * 16 + low) more) ∙ letters-append (take i bytes) ((high * 16 + low) ∷ [])
+    ∙ ap (λ (r : List ℕ). letters (take i bytes) ++ r) (cc (byte.0, byte.1)) in
     take_two_more ls i room ∙ cc (first, second, done, written)
 
 -- once all are done
@@ -66,7 +66,7 @@ letters_two_more ls i high low h l first second done k below =
     elim (cases_lt k (2 * i)) [
       | inl less ↦ done k less
       | inr more ↦ elim (cases_lt k (2 * i + 1)) [
-          | inl one ↦ let at : k ≡ 2 * i = omega arith in (omega (arith, ap (λ (n : ℕ). get_or ls n 0) at, first), omega (arith, ap (λ (n : ℕ). get_or ls n 0) at, first))
-          | inr two ↦ let at : k ≡ 2 * i + 1 = omega arith in (omega (arith, ap (λ (n : ℕ). get_or ls n 0) at, second), omega (arith, ap (λ (n : ℕ). get_or ls n 0) at, second))
-        ]
+        | inl one ↦ let at : k ≡ 2 * i = omega arith in (omega (arith, ap (λ (n : ℕ). get_or ls n 0) at, first), omega (arith, ap (λ (n : ℕ). get_or ls n 0) at, first))
+        | inr two ↦ let at : k ≡ 2 * i + 1 = omega arith in (omega (arith, ap (λ (n : ℕ). get_or ls n 0) at, second), omega (arith, ap (λ (n : ℕ). get_or ls n 0) at, second))
+      ]
     ]

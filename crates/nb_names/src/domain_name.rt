@@ -92,9 +92,7 @@ impl DomainName {
         ensures { result ≡ self.now }
     {
         let mut bytes = ArrayVec::new();
-        bytes
-            .try_extend_from_slice(self.bytes.as_slice())
-            .unwrap();
+        bytes.try_extend_from_slice(self.bytes.as_slice()).unwrap();
         DomainName { bytes }
     }
 

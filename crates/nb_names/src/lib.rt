@@ -15,3 +15,6 @@ pub use domain_name::DomainName;
 pub use label_fault::LabelFault;
 pub use name::{Name, NotNetbios};
 pub use scope::Scope;
+
+#[cfg(test)]
+mod tests;

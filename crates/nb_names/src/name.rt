@@ -95,10 +95,8 @@ impl Name {
     /// RFC 1001 section 14.1.
     pub fn from_domain(domain: &DomainName) -> Result<Name, NotNetbios>
         ensures found { IfOk result (λ name. labels_of_name name ≡ domain.now) }
-        ensures only {
-            (name : NetbiosName) → IsName name → labels_of_name name ≡ domain.now →
-            IsOkAnd result (λ read. read ≡ name)
-        }
+        ensures only { (name : NetbiosName) → IsName name → labels_of_name name ≡ domain.now →
+            IsOkAnd result (λ read. read ≡ name) }
         ensures fault { IfErr result (λ fault. IsUnlike domain.now fault.place) }
     {
         let Some((first, rest)) = domain.split_first() else {

@@ -9,7 +9,7 @@ use Rattle.nb_names.specs.declared.limits.TheConstants.{MAX_LABEL, MAX_SPELLING}
 use Rattle.nb_names.specs.declared.label_fault.LabelFault.{LabelFault}
 use Rattle.nb_names.specs.declared.label_fault.LabelFault.TheVariants.{EmptyLabel, LabelTooLong, TooLong}
 
--- each label after its length byte, then a zero byte
+-- the labels in order, each with its length in front, and a zero at the end
 abbrev pub spelling : List (List ℕ) → List ℕ
 spelling [] = 0 ∷ []
 spelling (label ∷ labels) = length label ∷ (label ++ spelling labels)

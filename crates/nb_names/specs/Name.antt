@@ -21,7 +21,8 @@ name_code =
     code_by (List ℕ × List (List ℕ)) (coded× (coded_list coded_ℕ) (coded_list (coded_list coded_ℕ)))
     (λ n. (n.bytes, n.scope)) (λ p. record { bytes = p.0; scope = p.1 }) (λ _. refl)
 
--- these labels make a scope: what their spelling leaves of 255 bytes holds a name's first label
+-- these labels make a scope: what their spelling leaves of 255 bytes has room for a name's first label
+-- and its length byte
 pub record IsScope (labels : List (List ℕ)) : Type 0 where
   pub domain : IsDomain labels
   pub short : length (spelling labels) ≤ MAX_SCOPE
@@ -44,8 +45,9 @@ name_eq = eq_of_both (on (λ n. n.bytes) (pointwise ◌==◌)) (on (λ n. n.scop
 abbrev pub name_cmp : NetbiosName → NetbiosName → Ordering
 name_cmp = then_cmp (on (λ n. n.bytes) (slice_cmp nat_cmp)) (on (λ n. n.scope) domain_cmp)
 
--- IsUnlike labels place: why these labels are no name's, as a place in their spelling: 0 where there is
--- no label or the first one hasn't 32 bytes, else that of its first byte which is no letter
+-- IsUnlike labels place: why these labels are no name's, as a place in their spelling: its start, if the
+-- first label is missing or of another length than a name's letters; otherwise where the first label
+-- has its first byte that is no letter
 pub data IsUnlike : List (List ℕ) → ℕ → Type 0 where
   no_label : IsUnlike [] 0
   wrong_length : (first : List ℕ) (rest : List (List ℕ)) → length first ≢ LETTERS → IsUnlike (first ∷ rest) 0

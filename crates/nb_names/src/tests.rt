@@ -1,4 +1,6 @@
 //! What no clause says: bytes from outside, and each call once on its happy path.
 
 mod names;
+mod plain_reading;
+mod reading;
 mod vectors;

@@ -1,0 +1,47 @@
+//! What stands at a length byte.
+ghost use Rattle.nb_names.specs.LengthByte.{Begins};
+
+use crate::limits::MAX_LABEL;
+
+/// What a length byte begins.
+#[derive(Clone, Copy, Debug, PartialEq, Eq)]
+pub(crate) enum LengthByte {
+    /// The length byte, or a byte that it promises, is missing.
+    Cut,
+    /// The end of the name.
+    End,
+    /// A label of this many bytes, which stand behind it.
+    Label(usize),
+    /// Nothing: its first two bits are 01 or 10.
+    Reserved,
+    /// A pointer to this offset.
+    Pointer(usize),
+}
+
+/// What the length byte at an offset begins.
+pub(crate) fn length_byte_at(packet: &[u8], here: usize) -> LengthByte
+    ensures { Begins packet.now here result }
+{
+    if packet.len() <= here {
+        return LengthByte::Cut;
+    }
+    let first = packet[here] as usize;
+    let behind = packet.len() - here - 1;
+    if first == 0 {
+        return LengthByte::End;
+    }
+    if first <= MAX_LABEL {
+        return if behind < first {
+            LengthByte::Cut
+        } else {
+            LengthByte::Label(first)
+        };
+    }
+    if first < 192 {
+        return LengthByte::Reserved;
+    }
+    if behind == 0 {
+        return LengthByte::Cut;
+    }
+    LengthByte::Pointer((first - 192) * 256 + packet[here + 1] as usize)
+}

@@ -1,0 +1,97 @@
+//! Names, read where they stand in a packet.
+ghost use Rattle.std.specs.Prelude.{◌≡◌, ◌≤◌, ℕ, List, length, IfOk, IfErr, IsOkAnd};
+ghost use Rattle.nb_names.specs.Labels.{NameAt};
+ghost use Rattle.nb_names.specs.Name.{NetbiosName, IsName, labels_of_name};
+ghost use Rattle.nb_names.specs.NameFaults.{FaultAt, NetbiosFaultAt};
+
+use crate::domain_name::DomainName;
+use crate::fault::NameFault;
+use crate::length_byte::{LengthByte, length_byte_at};
+use crate::name::Name;
+use crate::pointers::Pointers;
+
+/// Reads the domain name that begins at an offset, and the offset behind it.
+///
+/// `packet` is the whole packet, since pointers count from its first byte. Offsets are in bytes from
+/// there, and `at` may lie past the end. The offset answered is behind the zero byte or the first
+/// pointer, where the name itself stands. No memory is taken.
+///
+/// # Errors
+///
+/// The first fault in reading order, and at one length byte the first in [`NameFault`]'s order;
+/// never `NotNetbios`.
+///
+/// RFC 1002 section 4.1. That a pointer leads below the start of the run of labels that it ends is
+/// our own rule.
+pub fn read_domain(
+    packet: &[u8],
+    at: usize,
+    pointers: Pointers,
+) -> Result<(DomainName, usize), NameFault>
+    // What is answered stands there, and what stands there is answered.
+    ensures found { IfOk result (λ read. NameAt packet.now pointers at read.0 read.1) }
+    ensures only { (labels : List (List ℕ)) (next : ℕ) → NameAt packet.now pointers at labels next →
+        IsOkAnd result (λ read. (read.0 ≡ labels) × (read.1 ≡ next)) }
+    ensures within { IfOk result (λ read. read.1 ≤ length packet.now) }
+
+    // Which fault it is, and where.
+    ensures fault { IfErr result (FaultAt packet.now pointers at) }
+{
+    let mut name = DomainName::root();
+    let mut start = at;
+    let mut here = at;
+    let mut next = None;
+    'way: loop {
+        match length_byte_at(packet, here) {
+            LengthByte::Cut => return Err(NameFault::Truncated(at.max(packet.len()))),
+            LengthByte::Reserved => return Err(NameFault::ReservedLabel(here)),
+            LengthByte::End => return Ok((name, next.unwrap_or(here + 1))),
+            LengthByte::Label(size) => {
+                let behind = here + 1 + size;
+                match name.push(&packet[here + 1..behind]) {
+                    Ok(()) => here = behind,
+                    Err(_) => return Err(NameFault::TooLong(here)),
+                }
+            }
+            LengthByte::Pointer(target) => {
+                match pointers {
+                    Pointers::Refused => return Err(NameFault::PointerNotAllowed(here)),
+                    Pointers::Followed => {}
+                }
+                if target >= start {
+                    return Err(NameFault::BadPointer(here));
+                }
+                next = Some(next.unwrap_or(here + 2));
+                start = target;
+                here = target;
+            }
+        }
+    }
+}
+
+/// Reads the NetBIOS name that begins at an offset, and the offset behind it.
+///
+/// It is read as by [`read_domain`], to the same offset. No memory is taken.
+///
+/// # Errors
+///
+/// Those of [`read_domain`], then `NotNetbios`, whose place is in the spelling of the labels read.
+///
+/// RFC 1001 section 14.1, RFC 1002 section 4.1.
+pub fn read_name(packet: &[u8], at: usize, pointers: Pointers) -> Result<(Name, usize), NameFault>
+    // The labels of the name answered stand there, and a name whose labels stand there is answered.
+    ensures found { IfOk result (λ read. NameAt packet.now pointers at (labels_of_name read.0) read.1) }
+    ensures only { (name : NetbiosName) (next : ℕ) → IsName name →
+        NameAt packet.now pointers at (labels_of_name name) next →
+        IsOkAnd result (λ read. (read.0 ≡ name) × (read.1 ≡ next)) }
+    ensures within { IfOk result (λ read. read.1 ≤ length packet.now) }
+
+    // Which fault it is, and where.
+    ensures fault { IfErr result (NetbiosFaultAt packet.now pointers at) }
+{
+    let (domain, next) = read_domain(packet, at, pointers)?;
+    match Name::from_domain(&domain) {
+        Ok(name) => Ok((name, next)),
+        Err(unlike) => Err(NameFault::NotNetbios(unlike.place)),
+    }
+}

@@ -6,3 +6,8 @@ pub mod NameLemmas
 pub mod LabelsLemmas
 pub mod FaultLemmas
 pub mod ReadingLemmas
+pub mod TextRunLemmas
+pub mod TextReachLemmas
+pub mod FrontLemmas
+pub mod PartsLemmas
+pub mod WrittenLemmas

@@ -6,3 +6,7 @@ pub mod Labels
 pub mod NameFaults
 pub mod FaultTexts
 pub mod LengthByte
+pub mod NameText
+pub mod TextFaults
+pub mod TextSteps
+pub mod Collected

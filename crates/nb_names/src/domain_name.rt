@@ -111,7 +111,8 @@ impl DomainName {
 
     /// The first label, and the name of the labels behind it.
     pub(crate) fn split_first(&self) -> Option<(&[u8], DomainName)>
-        ensures split { MatchOption result (self.now ≡ []) (λ split. self.now ≡ split.0.now ∷ split.1) }
+        ensures split { MatchOption result (self.now ≡ [])
+            (λ split. self.now ≡ split.0.now ∷ split.1) }
         ensures domain { IsDomain self.now }
     {
         let (label, rest) = split_label(self.bytes.as_slice())?;
@@ -199,7 +200,8 @@ impl PartialOrd for DomainName {
 
     ghost partial_cmp = { as_partial_cmp domain_cmp };
 
-    ghost laws = { partial_order_from_own_ties (Prim.search (comparing, rules)) (Prim.search (comparing, rules)) };
+    ghost laws = { partial_order_from_own_ties (Prim.search (comparing, rules))
+        (Prim.search (comparing, rules)) };
 
     fn partial_cmp(&self, other: &Self) -> Option<Ordering> {
         Some(self.cmp(other))

@@ -22,9 +22,9 @@ pub enum NameFault {
     BadPointer(usize),
     /// With the label at this offset the spelling passes 255 bytes, its zero byte included.
     TooLong(usize),
-    /// The labels are no NetBIOS name's. The place is one in their spelling, not in the packet: 0
-    /// where there is no label or the first one hasn't 32 bytes, else that of its first byte outside
-    /// `A` to `P`.
+    /// The labels are no NetBIOS name's. The place is one in their spelling, not in the packet: its
+    /// start, where there is no first label of 32 bytes, else that of its first byte outside `A` to
+    /// `P`.
     NotNetbios(usize),
 }
 

@@ -20,8 +20,10 @@ pub(crate) fn letters_of(bytes: &[u8; NAME_LENGTH]) -> [u8; LETTERS]
 /// The half byte that the letter at a place stands for, or the place where it is no letter.
 fn half_at(letters: &[u8], place: usize) -> Result<u8, usize>
     requires { place < length letters.now }
-    ensures found { IfOk result (λ half. (half < 16) × (slice_index letters.now place ≡ letter half)) }
-    ensures stranger { IfErr result (λ at. (at ≡ place) × ¬ IsLetter (slice_index letters.now place)) }
+    ensures found { IfOk result (λ half.
+        (half < 16) × (slice_index letters.now place ≡ letter half)) }
+    ensures stranger { IfErr result (λ at.
+        (at ≡ place) × ¬ IsLetter (slice_index letters.now place)) }
 {
     match letters[place] {
         letter @ b'A'..=b'P' => Ok(letter - b'A'),

@@ -2,7 +2,7 @@
 
 use thiserror::Error;
 
-/// Why a label could not be added to a name. Where several apply, the first in this order is answered.
+/// Why a label could not be added to a name. Where several apply, the first in this order is told.
 #[derive(Clone, Copy, Debug, PartialEq, Eq, Error)]
 pub enum LabelFault {
     /// The label has no bytes.

@@ -6,7 +6,8 @@ ghost use Rattle.nb_names.specs.Spelled.{BeginsWith};
 
 /// The first label of a spelling, and the spelling of the labels behind it.
 pub(crate) fn split_label(spelled: &[u8]) -> Option<(&[u8], &[u8])>
-    ensures split { (labels : List (List ℕ)) → AllByRecursion IsLabel labels → spelled.now ≡ spelling labels →
+    ensures split { (labels : List (List ℕ)) → AllByRecursion IsLabel labels →
+        spelled.now ≡ spelling labels →
         MatchOption result (labels ≡ []) (λ split. BeginsWith labels split.0.now split.1.now) }
     ensures shorter { IfSome result (λ split. length split.1.now < length spelled.now) }
 {
@@ -19,7 +20,8 @@ pub(crate) fn split_label(spelled: &[u8]) -> Option<(&[u8], &[u8])>
 
 /// The label at a place, counted from 0, in a spelling.
 pub(crate) fn label_at(spelled: &[u8], place: usize) -> Option<&[u8]>
-    ensures { (labels : List (List ℕ)) → AllByRecursion IsLabel labels → spelled.now ≡ spelling labels →
+    ensures { (labels : List (List ℕ)) → AllByRecursion IsLabel labels →
+        spelled.now ≡ spelling labels →
         option_map (λ label. label.now) result ≡ slice_get labels place }
 {
     let mut rest = spelled;
@@ -32,7 +34,8 @@ pub(crate) fn label_at(spelled: &[u8], place: usize) -> Option<&[u8]>
 
 /// How many labels a spelling has.
 pub(crate) fn count_labels(spelled: &[u8]) -> usize
-    ensures { (labels : List (List ℕ)) → AllByRecursion IsLabel labels → spelled.now ≡ spelling labels →
+    ensures { (labels : List (List ℕ)) → AllByRecursion IsLabel labels →
+        spelled.now ≡ spelling labels →
         result ≡ length labels }
 {
     let mut rest = spelled;

@@ -7,9 +7,10 @@ ghost use Rattle.nb_names.specs.Labels.{NameAt};
 ghost use Rattle.nb_names.specs.Name.{NetbiosName, IsName, labels_of_name};
 ghost use Rattle.nb_names.specs.NameFaults.{FaultAt, NetbiosFaultAt};
 
-/// Where labels stand, they make a domain name, and no other labels and no other offset stand there.
+/// Where labels stand they make a domain name, and no other labels and no other offset stand there.
 pub fn one_reading()
-    ensures domain { (packet : List ℕ) (pointers : Pointers) (at : ℕ) (labels : List (List ℕ)) (next : ℕ) →
+    ensures domain { (packet : List ℕ) (pointers : Pointers) (at : ℕ)
+        (labels : List (List ℕ)) (next : ℕ) →
         NameAt packet pointers at labels next → IsDomain labels }
     ensures one { (packet : List ℕ) (pointers : Pointers) (at : ℕ)
         (labels others : List (List ℕ)) (next other : ℕ) →
@@ -40,7 +41,8 @@ pub fn one_netbios_fault()
 /// A spelling that stands in a packet is read as the labels that it spells, whatever stands before
 /// and behind it, and whether or not pointers are followed.
 pub fn spelling_is_read()
-    ensures { (front rest : List ℕ) (pointers : Pointers) (labels : List (List ℕ)) → IsDomain labels →
+    ensures { (front rest : List ℕ) (pointers : Pointers) (labels : List (List ℕ)) →
+        IsDomain labels →
         NameAt (front ++ (spelling labels ++ rest)) pointers (length front)
         labels (length front + length (spelling labels)) }
 {}

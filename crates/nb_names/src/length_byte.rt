@@ -3,6 +3,9 @@ ghost use Rattle.nb_names.specs.LengthByte.{Begins};
 
 use crate::limits::MAX_LABEL;
 
+/// The lowest length byte that begins a pointer, with the bits 11 (RFC 1002 section 4.1).
+const LOWEST_POINTER: usize = 192;
+
 /// What a length byte begins.
 #[derive(Clone, Copy, Debug, PartialEq, Eq)]
 pub(crate) enum LengthByte {
@@ -37,11 +40,11 @@ pub(crate) fn length_byte_at(packet: &[u8], here: usize) -> LengthByte
             LengthByte::Label(first)
         };
     }
-    if first < 192 {
+    if first < LOWEST_POINTER {
         return LengthByte::Reserved;
     }
     if behind == 0 {
         return LengthByte::Cut;
     }
-    LengthByte::Pointer((first - 192) * 256 + packet[here + 1] as usize)
+    LengthByte::Pointer((first - LOWEST_POINTER) * 256 + packet[here + 1] as usize)
 }

@@ -2,6 +2,7 @@
 #![tactic(auto)]
 
 mod bytes;
+mod collected;
 mod domain_name;
 mod fault;
 mod first_level;
@@ -11,9 +12,16 @@ pub mod laws;
 mod length_byte;
 pub mod limits;
 mod name;
+pub mod plain;
 mod pointers;
 mod reading;
 mod scope;
+mod text_fault;
+pub mod text_laws;
+mod text_reading;
+mod text_steps;
+mod text_writing;
+mod writing;
 
 pub use bytes::{Bytes, NoMemory};
 pub use domain_name::DomainName;
@@ -23,6 +31,10 @@ pub use name::{Name, NotNetbios};
 pub use pointers::Pointers;
 pub use reading::{read_domain, read_name};
 pub use scope::Scope;
+pub use text_fault::TextFault;
+pub use text_reading::name_from_text;
+pub use text_writing::{domain_text, name_text};
+pub use writing::write_domain;
 
 #[cfg(test)]
 mod tests;

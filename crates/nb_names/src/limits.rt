@@ -9,6 +9,9 @@ pub const MAX_SPELLING: usize = 255;
 /// The bytes of a NetBIOS name, its suffix included (RFC 1001 section 14.1).
 pub const NAME_LENGTH: usize = 16;
 
+/// The bytes of a NetBIOS name before its suffix (RFC 1001 section 14.1).
+pub const FRONT_LENGTH: usize = 15;
+
 /// The letters that spell those bytes, two a byte (RFC 1001 section 14.1).
 pub const LETTERS: usize = 32;
 

@@ -37,8 +37,8 @@ impl Model for Name {
 
 /// Labels that are no NetBIOS name's.
 ///
-/// `place` is an offset in the labels' spelling: 0 where there is no label or the first one hasn't 32
-/// bytes, else that of its first byte which is none of `A` to `P`.
+/// `place` is an offset in the labels' spelling: its start, where there is no first label of 32
+/// bytes, else that of the label's first byte which is none of `A` to `P`.
 #[derive(Clone, Copy, Debug, PartialEq, Eq)]
 pub struct NotNetbios {
     /// The offset, in bytes.
@@ -169,7 +169,8 @@ impl PartialOrd for Name {
 
     ghost partial_cmp = { as_partial_cmp name_cmp };
 
-    ghost laws = { partial_order_from_own_ties (Prim.search (comparing, rules)) (Prim.search (comparing, rules)) };
+    ghost laws = { partial_order_from_own_ties (Prim.search (comparing, rules))
+        (Prim.search (comparing, rules)) };
 
     fn partial_cmp(&self, other: &Self) -> Option<Ordering> {
         Some(self.cmp(other))

@@ -12,9 +12,9 @@ use crate::pointers::Pointers;
 
 /// Reads the domain name that begins at an offset, and the offset behind it.
 ///
-/// `packet` is the whole packet, since pointers count from its first byte. Offsets are in bytes from
-/// there, and `at` may lie past the end. The offset answered is behind the zero byte or the first
-/// pointer, where the name itself stands. No memory is taken.
+/// `packet` is the whole packet, since pointers count from its first byte. Offsets are in bytes
+/// from there, and `at` may lie past the end. The offset answered is behind the zero byte or the
+/// first pointer, where the name itself stands. No memory is taken.
 ///
 /// # Errors
 ///
@@ -80,7 +80,8 @@ pub fn read_domain(
 /// RFC 1001 section 14.1, RFC 1002 section 4.1.
 pub fn read_name(packet: &[u8], at: usize, pointers: Pointers) -> Result<(Name, usize), NameFault>
     // The labels of the name answered stand there, and a name whose labels stand there is answered.
-    ensures found { IfOk result (λ read. NameAt packet.now pointers at (labels_of_name read.0) read.1) }
+    ensures found { IfOk result (λ read.
+        NameAt packet.now pointers at (labels_of_name read.0) read.1) }
     ensures only { (name : NetbiosName) (next : ℕ) → IsName name →
         NameAt packet.now pointers at (labels_of_name name) next →
         IsOkAnd result (λ read. (read.0 ≡ name) × (read.1 ≡ next)) }

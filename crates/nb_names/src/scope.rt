@@ -74,7 +74,7 @@ impl Scope {
     ///
     /// # Errors
     ///
-    /// The first fault that applies, in [`LabelFault`]'s order, where a spelling may have 222 bytes.
+    /// The first fault that applies, in [`LabelFault`]'s order, of a spelling of at most 222 bytes.
     /// The scope is then as it was.
     pub fn push(&mut self, label: &[u8]) -> Result<(), LabelFault>
         ensures { Pushes MAX_SCOPE self.old self.new label.now result }
@@ -144,7 +144,8 @@ impl PartialOrd for Scope {
 
     ghost partial_cmp = { as_partial_cmp domain_cmp };
 
-    ghost laws = { partial_order_from_own_ties (Prim.search (comparing, rules)) (Prim.search (comparing, rules)) };
+    ghost laws = { partial_order_from_own_ties (Prim.search (comparing, rules))
+        (Prim.search (comparing, rules)) };
 
     fn partial_cmp(&self, other: &Self) -> Option<Ordering> {
         Some(self.cmp(other))

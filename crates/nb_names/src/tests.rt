@@ -3,4 +3,5 @@
 mod names;
 mod plain_reading;
 mod reading;
+mod text;
 mod vectors;

@@ -1,5 +1,5 @@
-//! A plain reading of a name, written from the rules and not from the code: it lists the length bytes
-//! on the way, then takes the first fault, and else spells the labels.
+//! A plain reading of a name, written from the rules and not from the code: it lists the length
+//! bytes on the way, then takes the first fault, and else spells the labels.
 ghost use Rattle.std.specs.Prelude.{◌<◌};
 
 use crate::{NameFault, Pointers};

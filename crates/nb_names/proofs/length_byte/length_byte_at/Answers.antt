@@ -7,8 +7,8 @@ pub returns-then-behind-first : goal.returns-then-behind-first
 returns-then-behind-first c =
     short_label _ (stands_one c.args.packet.now c.args.here (omega arith)) (omega arith) (omega arith) (omega arith)
 
-pub returns-then-first-lt192 : goal.returns-then-first-lt192
-returns-then-first-lt192 c = record {
+pub returns-then-first-lt-LOWEST_POINTER : goal.returns-then-first-lt-LOWEST_POINTER
+returns-then-first-lt-LOWEST_POINTER c = record {
   first = get_or c.args.packet.now c.args.here 0;
   there = stands_one c.args.packet.now c.args.here (omega arith);
   low = omega arith;

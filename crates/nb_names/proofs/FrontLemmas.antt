@@ -1,0 +1,120 @@
+-- Which fronts of a text some text of the form begins with: those that the steps don't refuse.
+use Rattle.std.proofs.Common.{◌≡◌, ℕ, ◌+◌, ◌<◌, ◌≤◌, Bool, true, false, IsSome, List, [], ◌∷◌, ◌++◌, length, take, drop, Option, Some, None, option_and_then, refl, sym, ◌∙◌, ap, arith, append_assoc, get_or, ◌⊎◌, inl, inr}
+use Rattle.std.proofs.lemmas.List.{take-append-drop, take-take, take_more, take_all}
+use Rattle.nb_names.specs.declared.text_steps.Stage.{Stage}
+use Rattle.nb_names.specs.declared.text_steps.Stage.TheVariants.{Front, FrontEscape, FrontDigit, Suffix, SuffixDigit, SuffixEnd, Closed, LabelStart, Label, LabelEscape, LabelDigit}
+use Rattle.nb_names.specs.declared.text_steps.Event.{Event}
+use Rattle.nb_names.specs.declared.text_steps.Event.TheVariants.{LabelEnd}
+use Rattle.nb_names.specs.NameText.{Parts, HasForm, IsFormed, IsFront, IsBad}
+use Rattle.nb_names.specs.TextSteps.{Taken, nothing_taken, takes, step, run, parts_of, finish, parts_read}
+use Rattle.nb_names.proofs.TextRunLemmas.{ended, run-append, parts_read-form}
+use Rattle.nb_names.proofs.TextReachLemmas.{form-parts_read}
+
+-- what completes a text from a stage
+completion : Stage → List ℕ
+completion Front = 60 ∷ 48 ∷ 48 ∷ 62 ∷ []
+completion FrontEscape = 48 ∷ 48 ∷ 60 ∷ 48 ∷ 48 ∷ 62 ∷ []
+completion (FrontDigit _) = 48 ∷ 60 ∷ 48 ∷ 48 ∷ 62 ∷ []
+completion Suffix = 48 ∷ 48 ∷ 62 ∷ []
+completion (SuffixDigit _) = 48 ∷ 62 ∷ []
+completion SuffixEnd = 62 ∷ []
+completion Closed = []
+completion LabelStart = 65 ∷ []
+completion Label = []
+completion LabelEscape = 48 ∷ 48 ∷ []
+completion (LabelDigit _) = 48 ∷ []
+
+completes : (s : Stage) (t : Taken) → (parts : Parts) × (ended (run s t (completion s)) ≡ Some parts)
+unfolding completion
+completes Front t = (_, refl)
+completes FrontEscape t = (_, refl)
+completes (FrontDigit _) t = (_, refl)
+completes Suffix t = (_, refl)
+completes (SuffixDigit _) t = (_, refl)
+completes SuffixEnd t = (_, refl)
+completes Closed t = (_, refl)
+completes LabelStart t = (_, refl)
+completes Label t = (_, refl)
+completes LabelEscape t = (_, refl)
+completes (LabelDigit _) t = (_, refl)
+
+-- a text whose reading ends in parts is formed; one whose reading doesn't isn't
+pub formed_if_read : (text : List ℕ) (parts : Parts) → parts_read text ≡ Some parts → IsFormed text
+formed_if_read text parts e = (parts, form-parts_read parts text e)
+
+pub unformed_unless_read : (text : List ℕ) → parts_read text ≡ None → ¬ IsFormed text
+unformed_unless_read text e (parts, form) = absurd (let is : Some parts ≡ None = sym (parts_read-form parts text form) ∙ e in cc)
+
+read_behind : (s : Stage) (t : Taken) (front rest : List ℕ) → run Front nothing_taken front ≡ Some (s, t) → parts_read (front ++ rest) ≡ ended (run s t rest)
+read_behind s t front rest e = ap ended (run-append Front nothing_taken front rest ∙ ap (option_and_then (λ (end : Stage × Taken). run end.0 end.1 rest)) e)
+
+none_behind : (front rest : List ℕ) → run Front nothing_taken front ≡ None → parts_read (front ++ rest) ≡ None
+none_behind front rest e = ap ended (run-append Front nothing_taken front rest ∙ ap (option_and_then (λ (end : Stage × Taken). run end.0 end.1 rest)) e)
+
+-- some text of the form begins with what the steps read
+pub front_if_run : (text : List ℕ) (count : ℕ) (s : Stage) (t : Taken) → run Front nothing_taken (take count text) ≡ Some (s, t) → IsFront text count
+front_if_run text count s t e =
+    let whole = completes s t in
+    (completion s, formed_if_read (take count text ++ completion s) whole.0 (read_behind s t (take count text) (completion s) e ∙ whole.1))
+
+-- no text of the form begins with what they refuse, or with more
+pub no_front : (text : List ℕ) (dead count : ℕ) → run Front nothing_taken (take dead text) ≡ None → dead ≤ count → ¬ IsFront text count
+no_front text dead count e h (rest, formed) =
+    let two : take count text ≡ take dead text ++ drop dead (take count text) =
+    sym (take-append-drop dead (take count text)) ∙ ap (λ (front : List ℕ). front ++ drop dead (take count text)) (take-take dead count text h) in
+    unformed_unless_read (take count text ++ rest)
+    (ap (λ (front : List ℕ). parts_read (front ++ rest)) two ∙ ap parts_read (append_assoc (take dead text) (drop dead (take count text)) rest) ∙ none_behind (take dead text) (drop dead (take count text) ++ rest) e)
+    formed
+
+-- ---- the turns and ends of a loop over a text
+
+-- the run over one more byte
+pub run_more : (text : List ℕ) (i : ℕ) (s : Stage) (t : Taken) → i < length text → run Front nothing_taken (take i text) ≡ Some (s, t) → run Front nothing_taken (take (i + 1) text) ≡ option_and_then (λ next. Some (next.0, takes t next.1)) (step s (get_or text i 0))
+run_more text i s t h e =
+    ap (run Front nothing_taken) (take_more text i 0 h)
+    ∙ run-append Front nothing_taken (take i text) (get_or text i 0 ∷ [])
+    ∙ ap (option_and_then (λ (end : Stage × Taken). run end.0 end.1 (get_or text i 0 ∷ []))) e
+
+pub run_turn : (text : List ℕ) (i : ℕ) (s : Stage) (t : Taken) (next : Stage × Event) → i < length text → run Front nothing_taken (take i text) ≡ Some (s, t) → step s (get_or text i 0) ≡ Some next → run Front nothing_taken (take (i + 1) text) ≡ Some (next.0, takes t next.1)
+run_turn text i s t next h e f = run_more text i s t h e ∙ ap (option_and_then (λ (n : Stage × Event). Some (n.0, takes t n.1))) f
+
+-- where the steps refuse a byte, the text is bad at its place
+pub bad_inside : (text : List ℕ) (i : ℕ) (s : Stage) (t : Taken) → i < length text → run Front nothing_taken (take i text) ≡ Some (s, t) → step s (get_or text i 0) ≡ None → (¬ IsFormed text) × IsBad text i
+bad_inside text i s t h e f =
+    let dead : run Front nothing_taken (take (i + 1) text) ≡ None = run_more text i s t h e ∙ ap (option_and_then (λ (n : Stage × Event). Some (n.0, takes t n.1))) f in (
+      unformed_unless_read text (ap parts_read (sym (take-append-drop (i + 1) text)) ∙ none_behind (take (i + 1) text) (drop (i + 1) text) dead),
+      record { within = omega arith; front = front_if_run text i s t e; longest = λ count above in_text. no_front text (i + 1) count dead (omega arith) },
+    )
+
+-- where the text stops too early, it is bad at its end
+pub bad_at_end : (text : List ℕ) (i : ℕ) (s : Stage) (t : Taken) → length text ≤ i → run Front nothing_taken (take i text) ≡ Some (s, t) → finish s t ≡ None → (¬ IsFormed text) × IsBad text (length text)
+bad_at_end text i s t h e f =
+    let whole : run Front nothing_taken text ≡ Some (s, t) = ap (run Front nothing_taken) (sym (take_all i text h)) ∙ e in (
+      unformed_unless_read text (ap ended whole ∙ f),
+      record { within = omega arith; front = front_if_run text (length text) s t (ap (run Front nothing_taken) (take_all (length text) text (omega arith)) ∙ whole); longest = λ count above in_text. absurd (omega arith) },
+    )
+
+-- where it may end, it has the form
+pub parts_at_end : (text : List ℕ) (i : ℕ) (s : Stage) (t : Taken) (parts : Parts) → length text ≤ i → run Front nothing_taken (take i text) ≡ Some (s, t) → finish s t ≡ Some parts → parts_read text ≡ Some parts
+parts_at_end text i s t parts h e f = ap parts_read (sym (take_all i text h)) ∙ ap ended e ∙ f
+
+-- elsewhere than behind `>` or a label no text ends
+pub not_ended : (s : Stage) (t : Taken) → ¬ (s ≡ Closed) → ¬ (s ≡ Label) → finish s t ≡ None
+not_ended Closed t c l = absurd (c refl)
+not_ended Label t c l = absurd (l refl)
+not_ended Front t c l = refl
+not_ended FrontEscape t c l = refl
+not_ended (FrontDigit _) t c l = refl
+not_ended Suffix t c l = refl
+not_ended (SuffixDigit _) t c l = refl
+not_ended SuffixEnd t c l = refl
+not_ended LabelStart t c l = refl
+not_ended LabelEscape t c l = refl
+not_ended (LabelDigit _) t c l = refl
+
+-- behind `>` or a label a text may end
+pub formed_at_end : (text : List ℕ) (i : ℕ) (s : Stage) (t : Taken) → length text ≤ i → run Front nothing_taken (take i text) ≡ Some (s, t) → (s ≡ Closed) ⊎ (s ≡ Label) → IsFormed text
+formed_at_end text i s t h e (inl is) =
+    formed_if_read text _ (parts_at_end text i s t (parts_of t) h e (ap (λ (s : Stage). finish s t) is))
+formed_at_end text i s t h e (inr is) =
+    formed_if_read text _ (parts_at_end text i s t (parts_of (takes t LabelEnd)) h e (ap (λ (s : Stage). finish s t) is))

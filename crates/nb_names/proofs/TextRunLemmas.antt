@@ -1,0 +1,122 @@
+-- A text that has the form with some parts is read by the steps as these parts.
+use Rattle.std.proofs.Common.{◌≡◌, ◌==◌, ◌||◌, ℕ, ◌+◌, ◌*◌, ◌<◌, Bool, true, false, IsTrue, List, [], ◌∷◌, ◌++◌, length, Option, Some, None, option_and_then, if◌then◌else◌, nat_lt, refl, sym, ◌∙◌, ap, arith, append_assoc, append-nil}
+use Rattle.std.specs.Char.{digit_value}
+use Rattle.std.proofs.lemmas.Bool.{lt-ltb}
+use Rattle.nb_names.specs.declared.text_steps.Stage.{Stage}
+use Rattle.nb_names.specs.declared.text_steps.Stage.TheVariants.{Front, FrontEscape, FrontDigit, Suffix, SuffixDigit, SuffixEnd, Closed, LabelStart, Label, LabelEscape, LabelDigit}
+use Rattle.nb_names.specs.declared.text_steps.Event.{Event}
+use Rattle.nb_names.specs.declared.text_steps.Event.TheVariants.{Nothing, FrontByte, Last, LabelByte, LabelEnd}
+use Rattle.nb_names.specs.NameText.{is_plain, IsHexDigit, byte_of, Item, plain, escaped, Items, no_item, more_items, ScopeText, no_label, more_labels, Parts, HasForm}
+use Rattle.nb_names.specs.TextSteps.{digit_step, step, step_in_front, step_in_label, Taken, nothing_taken, takes, run, parts_of, finish, parts_read}
+
+-- ---- runs
+
+-- a run over two texts is one over the second behind one over the first
+pub run-append : (s : Stage) (t : Taken) (xs ys : List ℕ) → run s t (xs ++ ys) ≡ option_and_then (λ end. run end.0 end.1 ys) (run s t xs)
+run-append s t [] ys = refl
+run-append s t (x ∷ xs) ys =
+    elim (step s x) as (λ o. option_and_then (λ next. run next.0 (takes t next.1) (xs ++ ys)) o ≡ option_and_then (λ end. run end.0 end.1 ys) (option_and_then (λ next. run next.0 (takes t next.1) xs) o)) [
+      | None ↦ refl
+      | Some next ↦ run-append next.0 (takes t next.1) xs ys
+    ]
+
+-- the parts where a run ends
+abbrev pub ended : Option (Stage × Taken) → Option Parts
+ended o = option_and_then (λ end. finish end.0 end.1) o
+
+-- a run goes on behind a step
+pub run_on : (s : Stage) (t : Taken) (c : ℕ) (rest : List ℕ) (next : Stage × Event) → step s c ≡ Some next → run s t (c ∷ rest) ≡ run next.0 (takes t next.1) rest
+run_on s t c rest next e = ap (option_and_then (λ (n : Stage × Event). run n.0 (takes t n.1) rest)) e
+
+-- ---- steps
+
+pub digit_step-hex : (c : ℕ) (next : ℕ → Stage × Event) → IsHexDigit c → digit_step c next ≡ Some (next (digit_value c))
+digit_step-hex c next h = rw (lt-ltb (digit_value c) 16 h) refl
+
+not_first : (a b c d e : Bool) → (if a || b || c || d then false else e) ≡ true → a ≡ false
+not_first true b c d e h = absurd (cc)
+not_first false b c d e h = refl
+
+-- a plain byte is no dot and no backslash
+plain_no_dot : (c : ℕ) → IsTrue (is_plain c) → (c == 46) ≡ false
+plain_no_dot c p = not_first (c == 46) (c == 60) (c == 62) (c == 92) _ p
+
+step_in_front-plain : (c : ℕ) → IsTrue (is_plain c) → step_in_front c ≡ Some (Front, FrontByte c)
+step_in_front-plain c p = rw p refl
+
+step_in_label-plain : (c : ℕ) → IsTrue (is_plain c) → step_in_label c ≡ Some (Label, LabelByte c)
+step_in_label-plain c p = rw p refl
+
+otherwise : {X : Type 0} (b : Bool) (x y : X) → b ≡ false → (if b then x else y) ≡ y
+otherwise true x y h = absurd (cc)
+otherwise false x y h = refl
+
+step-label_plain : (c : ℕ) → IsTrue (is_plain c) → step Label c ≡ Some (Label, LabelByte c)
+step-label_plain c p = otherwise (c == 46) (Some (LabelStart, LabelEnd)) (step_in_label c) (plain_no_dot c p) ∙ step_in_label-plain c p
+
+-- ---- items
+
+front_item : (b : ℕ) (item : List ℕ) → Item b item → (t : Taken) (rest : List ℕ) → run Front t (item ++ rest) ≡ run Front (takes t (FrontByte b)) rest
+front_item b item (plain byte p) t rest = run_on Front t byte rest (Front, FrontByte byte) (step_in_front-plain byte p)
+front_item b item (escaped high low h l) t rest =
+    run_on FrontEscape t high (low ∷ rest) _ (digit_step-hex high (λ d. (FrontDigit d, Nothing)) h)
+    ∙ run_on (FrontDigit (digit_value high)) t low rest _ (digit_step-hex low (λ d. (Front, FrontByte (digit_value high * 16 + d))) l)
+
+pub front_items : (bytes text : List ℕ) → Items bytes text → (t : Taken) (rest : List ℕ) → run Front t (text ++ rest) ≡ run Front (record t { front = t.front ++ bytes }) rest
+front_items bytes text no_item t rest = rw append-nil refl
+front_items bytes text (more_items byte more item text' one others) t rest =
+    rw (append_assoc item text' rest) (front_item byte item one t (text' ++ rest) ∙ front_items more text' others (takes t (FrontByte byte)) rest)
+    ∙ ap (λ (front : List ℕ). run Front (record t { front = front }) rest) (append_assoc t.front (byte ∷ []) more)
+
+start_item : (b : ℕ) (item : List ℕ) → Item b item → (t : Taken) (rest : List ℕ) → run LabelStart t (item ++ rest) ≡ run Label (takes t (LabelByte b)) rest
+start_item b item (plain byte p) t rest = run_on LabelStart t byte rest (Label, LabelByte byte) (step_in_label-plain byte p)
+start_item b item (escaped high low h l) t rest =
+    run_on LabelEscape t high (low ∷ rest) _ (digit_step-hex high (λ d. (LabelDigit d, Nothing)) h)
+    ∙ run_on (LabelDigit (digit_value high)) t low rest _ (digit_step-hex low (λ d. (Label, LabelByte (digit_value high * 16 + d))) l)
+
+label_item : (b : ℕ) (item : List ℕ) → Item b item → (t : Taken) (rest : List ℕ) → run Label t (item ++ rest) ≡ run Label (takes t (LabelByte b)) rest
+label_item b item (plain byte p) t rest = run_on Label t byte rest (Label, LabelByte byte) (step-label_plain byte p)
+label_item b item (escaped high low h l) t rest = start_item _ _ (escaped high low h l) t rest
+
+label_items : (bytes text : List ℕ) → Items bytes text → (t : Taken) (rest : List ℕ) → run Label t (text ++ rest) ≡ run Label (record t { label = t.label ++ bytes }) rest
+label_items bytes text no_item t rest = rw append-nil refl
+label_items bytes text (more_items byte more item text' one others) t rest =
+    rw (append_assoc item text' rest) (label_item byte item one t (text' ++ rest) ∙ label_items more text' others (takes t (LabelByte byte)) rest)
+    ∙ ap (λ (label : List ℕ). run Label (record t { label = label }) rest) (append_assoc t.label (byte ∷ []) more)
+
+-- a label's items are one or more
+start_items : (bytes text : List ℕ) → Items bytes text → 0 < length bytes → (t : Taken) (rest : List ℕ) → run LabelStart t (text ++ rest) ≡ run Label (record t { label = t.label ++ bytes }) rest
+start_items bytes text no_item some t rest = absurd (omega arith)
+start_items bytes text (more_items byte more item text' one others) some t rest =
+    rw (append_assoc item text' rest) (start_item byte item one t (text' ++ rest) ∙ label_items more text' others (takes t (LabelByte byte)) rest)
+    ∙ ap (λ (label : List ℕ). run Label (record t { label = label }) rest) (append_assoc t.label (byte ∷ []) more)
+
+-- ---- scopes
+
+labels_behind : (labels : List (List ℕ)) (text : List ℕ) → ScopeText labels text → (t : Taken) → ended (run Label t text) ≡ Some (record { front = t.front; last = t.last; scope = (t.scope ++ t.label ∷ []) ++ labels })
+labels_behind labels text no_label t = rw append-nil refl
+labels_behind labels text (more_labels label others text' rest some row behind) t =
+    ap ended (start_items label text' row some (takes t LabelEnd) rest)
+    ∙ labels_behind others rest behind (record t { scope = t.scope ++ t.label ∷ []; label = label })
+    ∙ ap (λ (scope : List (List ℕ)). Some (record { front = t.front; last = t.last; scope = scope })) (append_assoc (t.scope ++ t.label ∷ []) (label ∷ []) others)
+
+scope_behind : (labels : List (List ℕ)) (text : List ℕ) → ScopeText labels text → (t : Taken) → t.scope ≡ [] → t.label ≡ [] → ended (run Closed t text) ≡ Some (record { front = t.front; last = t.last; scope = labels })
+scope_behind labels text no_label t s l = rw s refl
+scope_behind labels text (more_labels label others text' rest some row behind) t s l =
+    ap ended (start_items label text' row some t rest)
+    ∙ labels_behind others rest behind (record t { label = t.label ++ label })
+    ∙ rw (s, l) refl
+
+-- ---- the whole text
+
+-- a text of the form is read as its parts
+pub parts_read-form : (parts : Parts) (text : List ℕ) → HasForm parts text → parts_read text ≡ Some parts
+parts_read-form parts text form =
+    let behind : List ℕ = 60 ∷ form.high ∷ form.low ∷ 62 ∷ form.behind in
+    let t : Taken = record { front = parts.front; last = 0; scope = []; label = [] } in
+    ap parts_read form.whole
+    ∙ ap ended (front_items parts.front form.items form.front nothing_taken behind)
+    ∙ ap ended (run_on Suffix t form.high (form.low ∷ 62 ∷ form.behind) _ (digit_step-hex form.high (λ d. (SuffixDigit d, Nothing)) form.high_digit))
+    ∙ ap ended (run_on (SuffixDigit (digit_value form.high)) t form.low (62 ∷ form.behind) _ (digit_step-hex form.low (λ d. (SuffixEnd, Last (digit_value form.high * 16 + d))) form.low_digit))
+    ∙ scope_behind parts.scope form.behind form.scope (record t { last = byte_of form.high form.low }) refl refl
+    ∙ rw (← form.last) refl

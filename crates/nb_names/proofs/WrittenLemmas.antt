@@ -1,0 +1,233 @@
+-- What is written of a name is its text.
+use Rattle.std.proofs.Common.{◌≡◌, ◌≢◌, ◌==◌, ◌||◌, ℕ, ◌+◌, ◌-◌, ◌*◌, ◌/◌, ◌%◌, ◌<◌, ◌≤◌, ◌^◌, Bool, true, false, IsTrue, if◌then◌else◌, List, [], ◌∷◌, ◌++◌, length, take, drop, zero, suc, replicate, slice_index, refl, sym, ◌∙◌, ap, arith, append_assoc, append-nil, drop-cons, add-one, slice_get, get_or, Some, lit<}
+use Rattle.std.specs.List.{AllByRecursion, flat_map}
+use Rattle.std.specs.Char.{digit_value, digit_char, is_ascii_graphic}
+use Rattle.std.proofs.lemmas.Bool.{eqb-true}
+use Rattle.std.proofs.lemmas.Bool.Decides.{nat_tests}
+use Rattle.std.proofs.lemmas.List.{take_more, take_all, length-take, length-append, length-replicate}
+use Rattle.nb_names.specs.DomainName.{IsLabel}
+use Rattle.nb_names.specs.Name.{NetbiosName, IsScope, IsName}
+use Rattle.nb_names.specs.NameText.{is_plain, IsHexDigit, byte_of, Item, plain, escaped, Items, no_item, more_items, ScopeText, no_label, more_labels, Parts, HasForm, FitsLimits, filled, name_of, IsText, AreBytes, AreByteLabels, digits_of, item_of, items_of, scope_text_of, kept_before, trimmed, bytes_written, written}
+
+-- ---- spaces at the end
+
+trimmed-one : (c : ℕ) → c ≢ 32 → trimmed (c ∷ []) ≡ c ∷ []
+trimmed-one c h = grind (arith, nat_tests)
+
+kept_before-some : (b : ℕ) (xs : List ℕ) (c : ℕ) → kept_before b (xs ++ c ∷ []) ≡ b ∷ (xs ++ c ∷ [])
+kept_before-some b [] c = refl
+kept_before-some b (x ∷ xs) c = refl
+
+-- a space at the end goes
+pub trimmed-space : (xs : List ℕ) → trimmed (xs ++ 32 ∷ []) ≡ trimmed xs
+trimmed-space [] = refl
+trimmed-space (x ∷ xs) = ap (kept_before x) (trimmed-space xs)
+
+-- another byte at the end stays
+pub trimmed-other : (xs : List ℕ) (c : ℕ) → c ≢ 32 → trimmed (xs ++ c ∷ []) ≡ xs ++ c ∷ []
+trimmed-other [] c h = trimmed-one c h
+trimmed-other (x ∷ xs) c h = ap (kept_before x) (trimmed-other xs c h) ∙ kept_before-some x xs c
+
+kept_rest : (x : ℕ) (kept xs : List ℕ) (n : ℕ) → xs ≡ kept ++ replicate n 32 → (m : ℕ) × (x ∷ xs ≡ kept_before x kept ++ replicate m 32)
+kept_rest x (y ∷ kept) xs n e = (n, ap (λ (ys : List ℕ). x ∷ ys) e)
+kept_rest x [] xs n e = either (x == 32) refl where
+  either : (test : Bool) → (x == 32) ≡ test → (m : ℕ) × (x ∷ xs ≡ (if test then [] else x ∷ []) ++ replicate m 32)
+  either true is = (suc n, let same = eqb-true x 32 is in cc)
+  either false is = (n, ap (λ (ys : List ℕ). x ∷ ys) e)
+
+-- what is left out are spaces
+trimmed-rest : (xs : List ℕ) → (n : ℕ) × (xs ≡ trimmed xs ++ replicate n 32)
+trimmed-rest [] = (0, refl)
+trimmed-rest (x ∷ xs) = let rest = trimmed-rest xs in kept_rest x (trimmed xs) xs rest.0 rest.1
+
+-- filled up with spaces again, fifteen bytes are as they were
+filled-trimmed : (xs : List ℕ) → length xs ≡ 15 → filled (trimmed xs) ≡ xs
+filled-trimmed xs h =
+    let rest = trimmed-rest xs in
+    let size : rest.0 ≡ 15 - length (trimmed xs) =
+    omega (arith, ap length rest.1, length-append (trimmed xs) (replicate rest.0 32), length-replicate {A = ℕ} rest.0 32) in
+    ap (λ (n : ℕ). trimmed xs ++ replicate n 32) (sym size) ∙ sym rest.1
+
+kept-all : (P : ℕ → Type 0) (x : ℕ) (kept : List ℕ) → P x → AllByRecursion P kept → AllByRecursion P (kept_before x kept)
+kept-all P x (y ∷ kept) p a = (p, a)
+kept-all P x [] p a = either (x == 32) where
+  either : (test : Bool) → AllByRecursion P (if test then [] else x ∷ [])
+  either true = tt
+  either false = (p, tt)
+
+trimmed-all : (P : ℕ → Type 0) (xs : List ℕ) → AllByRecursion P xs → AllByRecursion P (trimmed xs)
+trimmed-all P [] a = tt
+trimmed-all P (x ∷ xs) a = kept-all P x (trimmed xs) a.0 (trimmed-all P xs a.1)
+
+kept-length : (x : ℕ) (kept : List ℕ) → length (kept_before x kept) ≤ length kept + 1
+kept-length x (y ∷ kept) = omega arith
+kept-length x [] = either (x == 32) where
+  either : (test : Bool) → length (if test then [] else x ∷ []) ≤ 1
+  either true = omega arith
+  either false = omega arith
+
+trimmed-length : (xs : List ℕ) → length (trimmed xs) ≤ length xs
+trimmed-length [] = omega arith
+trimmed-length (x ∷ xs) = omega (arith, kept-length x (trimmed xs), trimmed-length xs)
+
+-- ---- items
+
+digit_value-digit_char : (d : ℕ) → d < 16 → digit_value (digit_char d) ≡ d
+digit_value-digit_char d h = grind (arith, nat_tests)
+
+item_of-item : (b : ℕ) → b < 256 → Item b (item_of b)
+item_of-item b h = either (is_plain b) refl where
+  high : digit_value (digit_char (b / 16)) ≡ b / 16
+  high = digit_value-digit_char (b / 16) (omega arith)
+
+  low : digit_value (digit_char (b % 16)) ≡ b % 16
+  low = digit_value-digit_char (b % 16) (omega arith)
+
+  same : byte_of (digit_char (b / 16)) (digit_char (b % 16)) ≡ b
+  same = omega (arith, high, low)
+
+  code : Item b (92 ∷ digits_of b)
+  code = rw same at (escaped (digit_char (b / 16)) (digit_char (b % 16)) (omega (arith, high)) (omega (arith, low)))
+
+  either : (test : Bool) → is_plain b ≡ test → Item b (if test then b ∷ [] else 92 ∷ digits_of b)
+  either true e = plain b e
+  either false e = code
+
+items_of-items : (bs : List ℕ) → AllByRecursion (λ b. b < 2 ^ 8) bs → Items bs (items_of bs)
+items_of-items [] a = no_item
+items_of-items (b ∷ bs) a = more_items b bs (item_of b) (items_of bs) (item_of-item b a.0) (items_of-items bs a.1)
+
+scope_text_of-scope : (ls : List (List ℕ)) → AllByRecursion IsLabel ls → AreByteLabels ls → ScopeText ls (scope_text_of ls)
+scope_text_of-scope [] a b = no_label
+scope_text_of-scope (l ∷ ls) a b = more_labels l ls (items_of l) (scope_text_of ls) a.0.0 (items_of-items l b.0) (scope_text_of-scope ls a.1 b.1)
+
+-- ---- the whole text
+
+take-all : (P : ℕ → Type 0) (n : ℕ) (xs : List ℕ) → AllByRecursion P xs → AllByRecursion P (take n xs)
+take-all P zero xs a = tt
+take-all P (suc n) [] a = tt
+take-all P (suc n) (x ∷ xs) a = (a.0, take-all P n xs a.1)
+
+at-all : (P : ℕ → Type 0) (n : ℕ) (xs : List ℕ) → n < length xs → AllByRecursion P xs → P (slice_index xs n)
+at-all P n [] h a = absurd (omega arith)
+at-all P zero (x ∷ xs) h a = a.0
+at-all P (suc n) (x ∷ xs) h a = at-all P n xs (omega arith) a.1
+
+pub written-text : (name : NetbiosName) → IsName name → AreByteLabels name.scope → IsText name (written name)
+written-text name is labels = record {
+  parts = parts;
+  form = record {
+    items = items_of (trimmed (take 15 name.bytes));
+    high = digit_char (last / 16);
+    low = digit_char (last % 16);
+    behind = scope_text_of name.scope;
+    front = items_of-items (trimmed (take 15 name.bytes)) (trimmed-all _ (take 15 name.bytes) (take-all _ 15 name.bytes is.each));
+    high_digit = omega (arith, high, small);
+    low_digit = omega (arith, low);
+    last = omega (arith, high, low);
+    scope = scope_text_of-scope name.scope is.scope.domain.each labels;
+    whole =
+        append_assoc (items_of (trimmed (take 15 name.bytes)) ++ 60 ∷ digits_of last) (62 ∷ []) (scope_text_of name.scope)
+        ∙ append_assoc (items_of (trimmed (take 15 name.bytes))) (60 ∷ digits_of last) (62 ∷ scope_text_of name.scope);
+  };
+  limits = record { front = omega (arith, trimmed-length (take 15 name.bytes), size); scope = is.scope };
+  exact = λ i. record { bytes = sixteen i; scope = name.scope };
+} where
+  last : ℕ
+  last = slice_index name.bytes 15
+
+  parts : Parts
+  parts = record { front = trimmed (take 15 name.bytes); last = last; scope = name.scope }
+
+  small : last < 256
+  small = at-all (λ b. b < 2 ^ 8) 15 name.bytes (omega (arith, is.sixteen)) is.each
+
+  high : digit_value (digit_char (last / 16)) ≡ last / 16
+  high = digit_value-digit_char (last / 16) (omega (arith, small))
+
+  low : digit_value (digit_char (last % 16)) ≡ last % 16
+  low = digit_value-digit_char (last % 16) (omega arith)
+
+  size : length (take 15 name.bytes) ≡ 15
+  size = omega (arith, length-take 15 name.bytes, is.sixteen)
+
+  sixteen : name.bytes ≡ filled (trimmed (take 15 name.bytes)) ++ last ∷ []
+  sixteen =
+      sym (take_all 16 name.bytes (omega (arith, is.sixteen))) ∙ take_more name.bytes 15 0 (omega (arith, is.sixteen))
+      ∙ ap (λ (front : List ℕ). front ++ last ∷ []) (sym (filled-trimmed (take 15 name.bytes) size))
+
+-- the bytes and the scope of a name, written one after the other
+pub text_of_written : (name : NetbiosName) (bytes : List ℕ) (scope : List (List ℕ)) (text : List ℕ) → bytes ≡ name.bytes → scope ≡ name.scope → length bytes ≡ 16 → AreBytes bytes → IsScope scope → AreByteLabels scope → text ≡ bytes_written bytes ++ scope_text_of scope → IsText name text
+text_of_written name bytes scope text b s sixteen small is labels e =
+    let whole : NetbiosName = record { bytes = bytes; scope = scope } in
+    let same : whole ≡ name = λ i. record { bytes = b i; scope = s i } in
+    let found : IsText whole text = rw e (written-text whole (record { sixteen = sixteen; each = small; scope = is }) labels) in
+    rw same at found
+
+-- ---- a loop over labels
+
+-- what stands at a place, before what is left behind it
+pub dropped_label : (labels : List (List ℕ)) (place : ℕ) (label : List ℕ) → slice_get labels place ≡ Some label → drop place labels ≡ label ∷ drop (suc place) labels
+dropped_label [] zero label e = absurd (cc)
+dropped_label [] (suc place) label e = absurd (cc)
+dropped_label (first ∷ labels) zero label e = cc
+dropped_label (first ∷ labels) (suc place) label e = dropped_label labels place label e
+
+-- writing a label leaves what is left to write
+pub labels_turn : (labels : List (List ℕ)) (place : ℕ) (label before dotted after whole : List ℕ) → slice_get labels place ≡ Some label → dotted ≡ before ++ 46 ∷ [] → after ≡ dotted ++ items_of label → before ++ scope_text_of (drop place labels) ≡ whole → after ++ scope_text_of (drop (place + 1) labels) ≡ whole
+labels_turn labels place label before dotted after whole e d a w =
+    let rest : List ℕ = scope_text_of (drop (suc place) labels) in
+    let left : scope_text_of (drop place labels) ≡ (46 ∷ items_of label) ++ rest = ap scope_text_of (dropped_label labels place label e) in
+    let now : after ≡ (before ++ 46 ∷ []) ++ items_of label = a ∙ ap (λ (front : List ℕ). front ++ items_of label) d in
+    rw (add-one, now)
+    (append_assoc (before ++ 46 ∷ []) (items_of label) rest ∙ append_assoc before (46 ∷ []) (items_of label ++ rest)
+    ∙ ap (λ (behind : List ℕ). before ++ behind) (sym left) ∙ w)
+
+pub all_small : (bs : List ℕ) → ((i : ℕ) → get_or bs i 0 < 256) → AreBytes bs
+all_small [] h = tt
+all_small (b ∷ bs) h = (h 0, all_small bs (λ i. h (suc i)))
+
+pub bytes_turn : (labels : List (List ℕ)) (place : ℕ) (label : List ℕ) → slice_get labels place ≡ Some label → AreBytes label → AreByteLabels (drop (place + 1) labels) → AreByteLabels (drop place labels)
+bytes_turn labels place label e small rest = rw (dropped_label labels place label e) (small, rw add-one at rest)
+
+-- ---- what a text stands for
+
+replicate-all : (n : ℕ) → AllByRecursion (λ b. b < 2 ^ 8) (replicate n 32)
+replicate-all zero = tt
+replicate-all (suc n) = (lit< tt, replicate-all n)
+
+append-all : (P : ℕ → Type 0) (xs ys : List ℕ) → AllByRecursion P xs → AllByRecursion P ys → AllByRecursion P (xs ++ ys)
+append-all P [] ys a b = b
+append-all P (x ∷ xs) ys a b = (a.0, append-all P xs ys a.1 b)
+
+plain-small : (b : ℕ) → IsTrue (is_plain b) → b < 256
+plain-small b p = either (b == 46 || b == 60 || b == 62 || b == 92) p where
+  either : (test : Bool) → (if test then false else is_ascii_graphic b) ≡ true → b < 256
+  either true p = absurd (cc)
+  either false p = grind (arith, nat_tests)
+
+item-small : (b : ℕ) (item : List ℕ) → Item b item → b < 256
+item-small b item (plain byte p) = plain-small byte p
+item-small b item (escaped high low h l) = omega (arith, h, l)
+
+items-small : (bs text : List ℕ) → Items bs text → AllByRecursion (λ b. b < 2 ^ 8) bs
+items-small bs text no_item = tt
+items-small bs text (more_items b more item rest one others) = (item-small b item one, items-small more rest others)
+
+scope-small : (ls : List (List ℕ)) (text : List ℕ) → ScopeText ls text → AreByteLabels ls
+scope-small ls text no_label = tt
+scope-small ls text (more_labels l more items rest some row others) = (items-small l items row, scope-small more rest others)
+
+pub name_of_text : (text : List ℕ) (name : NetbiosName) → IsText name text → IsName name × AreByteLabels name.scope
+name_of_text text name is = rw is.exact (record { sixteen = sixteen; each = each; scope = is.limits.scope }, scope-small is.parts.scope is.form.behind is.form.scope) where
+  front : List ℕ
+  front = is.parts.front
+
+  sixteen : length (filled front ++ is.parts.last ∷ []) ≡ 16
+  sixteen = omega (arith, is.limits.front, length-append (filled front) (is.parts.last ∷ []), length-append front (replicate (15 - length front) 32), length-replicate {A = ℕ} (15 - length front) 32)
+
+  last : is.parts.last < 256
+  last = omega (arith, is.form.last, is.form.high_digit, is.form.low_digit)
+
+  each : AllByRecursion (λ b. b < 2 ^ 8) (filled front ++ is.parts.last ∷ [])
+  each = append-all _ (filled front) (is.parts.last ∷ []) (append-all _ front (replicate (15 - length front) 32) (items-small front is.form.items is.form.front) (replicate-all (15 - length front))) (last, tt)

@@ -1,0 +1,5 @@
+use Rattle.nb_names.proofs.WrittenLemmas.{written-text}
+use Rattle.nb_names.proofs.text_laws.written_is_read.Goals as goal
+
+pub returns : goal.returns
+returns c = written-text

@@ -1,0 +1,156 @@
+-- The text that people write NetBIOS names in (own). RFC 1001 section 14.1 has a name's sixteen bytes
+-- and section 14.2 its scope. Places in a text count from its first byte.
+--
+-- 32 is the space, 46 `.`, 60 `<`, 62 `>` and 92 `\`.
+use Rattle.std.specs.Prelude.{◌≡◌, ◌==◌, ◌||◌, ℕ, ◌+◌, ◌-◌, ◌*◌, ◌/◌, ◌%◌, ◌<◌, ◌≤◌, ◌^◌, Bool, false, IsTrue, List, [], ◌∷◌, ◌++◌, length, take, drop, replicate, if◌then◌else◌, slice_index}
+use Rattle.std.specs.List.{AllByRecursion, flat_map}
+use Rattle.std.specs.Char.{digit_value, digit_char, is_ascii_graphic}
+use Rattle.nb_names.specs.declared.limits.TheConstants.{FRONT_LENGTH}
+use Rattle.nb_names.specs.declared.text_fault.TextFault.{TextFault}
+use Rattle.nb_names.specs.declared.text_fault.TextFault.TheVariants.{BadText, TooLong}
+use Rattle.nb_names.specs.Name.{NetbiosName, IsScope}
+
+-- ---- the form
+
+-- whether a byte can stand for itself: 21 to 7e in hexadecimal, without `.`, `<`, `>` and `\`
+abbrev pub is_plain : ℕ → Bool
+is_plain byte = if byte == 46 || byte == 60 || byte == 62 || byte == 92 then false else is_ascii_graphic byte
+
+-- a hexadecimal digit, in either case
+abbrev pub IsHexDigit : ℕ → Type 0
+IsHexDigit digit = digit_value digit < 16
+
+-- the byte that two hexadecimal digits give, the high half first
+abbrev pub byte_of : ℕ → ℕ → ℕ
+byte_of high low = digit_value high * 16 + digit_value low
+
+-- Item byte text: the text is an item that stands for the byte: the byte itself, or its escape
+pub data Item : ℕ → List ℕ → Type 0 where
+  plain : (byte : ℕ) → IsTrue (is_plain byte) → Item byte (byte ∷ [])
+  escaped : (high low : ℕ) → IsHexDigit high → IsHexDigit low → Item (byte_of high low) (92 ∷ high ∷ low ∷ [])
+
+-- Items bytes text: the text is a row of items, which stand for the bytes in order
+pub data Items : List ℕ → List ℕ → Type 0 where
+  no_item : Items [] []
+  more_items : (byte : ℕ) (bytes item items : List ℕ)
+      → Item byte item → Items bytes items → Items (byte ∷ bytes) (item ++ items)
+
+-- ScopeText labels text: the text has `.` and one or more items for each label
+pub data ScopeText : List (List ℕ) → List ℕ → Type 0 where
+  no_label : ScopeText [] []
+  more_labels : (label : List ℕ) (labels : List (List ℕ)) (items text : List ℕ)
+      → 0 < length label → Items label items → ScopeText labels text
+      → ScopeText (label ∷ labels) (46 ∷ items ++ text)
+
+-- what stands in a text: the bytes before `<`, the byte behind it, and the labels behind `>`
+pub record Parts : Type 0 where
+  pub front : List ℕ
+  pub last : ℕ
+  pub scope : List (List ℕ)
+
+-- HasForm parts text: the text is items, `<`, two hexadecimal digits, `>`, and a scope's text
+pub record HasForm (parts : Parts) (text : List ℕ) : Type 0 where
+  pub items : List ℕ
+  pub high : ℕ
+  pub low : ℕ
+  pub behind : List ℕ
+  pub front : Items parts.front items
+  pub high_digit : IsHexDigit high
+  pub low_digit : IsHexDigit low
+  pub last : parts.last ≡ byte_of high low
+  pub scope : ScopeText parts.scope behind
+  pub whole : text ≡ items ++ 60 ∷ high ∷ low ∷ 62 ∷ behind
+
+-- the parts make a name: at most fifteen bytes before `<`, and labels that make a scope
+pub record FitsLimits (parts : Parts) : Type 0 where
+  pub front : length parts.front ≤ FRONT_LENGTH
+  pub scope : IsScope parts.scope
+
+-- the bytes, filled up with spaces to fifteen
+abbrev pub filled : List ℕ → List ℕ
+filled bytes = bytes ++ replicate (FRONT_LENGTH - length bytes) 32
+
+-- the name that the parts make
+abbrev pub name_of : Parts → NetbiosName
+name_of parts = record { bytes = filled parts.front ++ parts.last ∷ []; scope = parts.scope }
+
+-- IsText name text: the text has the form, and its parts make the name
+pub record IsText (name : NetbiosName) (text : List ℕ) : Type 0 where
+  pub parts : Parts
+  pub form : HasForm parts text
+  pub limits : FitsLimits parts
+  pub exact : name ≡ name_of parts
+
+-- each has eight bits
+abbrev pub AreBytes : List ℕ → Type 0
+AreBytes = AllByRecursion (λ byte. byte < 2 ^ 8)
+
+-- each label is of bytes
+abbrev pub AreByteLabels : List (List ℕ) → Type 0
+AreByteLabels = AllByRecursion AreBytes
+
+-- ---- what isn't a name's text
+
+-- some parts have this text
+abbrev pub IsFormed : List ℕ → Type 0
+IsFormed text = (parts : Parts) × HasForm parts text
+
+-- IsFront text count: some text of the form begins with the first `count` bytes of this text
+abbrev pub IsFront : List ℕ → ℕ → Type 0
+IsFront text count = (rest : List ℕ) × IsFormed (take count text ++ rest)
+
+-- IsBad text place: the longest front of the text with which some text of the form begins ends at the
+-- place; limits take no part in it
+pub record IsBad (text : List ℕ) (place : ℕ) : Type 0 where
+  pub within : place ≤ length text
+  pub front : IsFront text place
+  pub longest : (count : ℕ) → place < count → count ≤ length text → ¬ IsFront text count
+
+-- IsFaultOf text fault: why the text is no name's; it is TooLong only where it has the form, and
+-- BadText only where it hasn't
+abbrev pub IsFaultOf : List ℕ → TextFault → Type 0
+IsFaultOf text (BadText place) = (¬ IsFormed text) × IsBad text place
+IsFaultOf text TooLong = IsFormed text × ((name : NetbiosName) → ¬ IsText name text)
+
+-- ---- the written form
+
+-- the two digits of a byte, in lower case
+abbrev pub digits_of : ℕ → List ℕ
+digits_of byte = digit_char (byte / 16) ∷ digit_char (byte % 16) ∷ []
+
+-- the item of a byte: the byte itself where it can stand plainly, else its escape
+abbrev pub item_of : ℕ → List ℕ
+item_of byte = if is_plain byte then byte ∷ [] else 92 ∷ digits_of byte
+
+-- the items of the bytes, in order
+abbrev pub items_of : List ℕ → List ℕ
+items_of = flat_map item_of
+
+-- `.` and the items of each label
+abbrev pub scope_text_of : List (List ℕ) → List ℕ
+scope_text_of = flat_map (λ label. 46 ∷ items_of label)
+
+-- the byte before those kept, unless it is a space with none behind it
+abbrev pub kept_before : ℕ → List ℕ → List ℕ
+kept_before byte [] = if byte == 32 then [] else byte ∷ []
+kept_before byte (kept ∷ bytes) = byte ∷ kept ∷ bytes
+
+-- the bytes without the spaces at their end
+abbrev pub trimmed : List ℕ → List ℕ
+trimmed [] = []
+trimmed (byte ∷ bytes) = kept_before byte (trimmed bytes)
+
+-- the form in which a name's bytes are written: without the spaces at the end of the first fifteen
+abbrev pub bytes_written : List ℕ → List ℕ
+bytes_written bytes =
+    items_of (trimmed (take FRONT_LENGTH bytes)) ++ 60 ∷ digits_of (slice_index bytes FRONT_LENGTH) ++ 62 ∷ []
+
+-- the form in which a name is written
+abbrev pub written : NetbiosName → List ℕ
+written name = bytes_written name.bytes ++ scope_text_of name.scope
+
+-- the form in which a domain name is written: the items of its labels, with `.` between them, and `.`
+-- where it has none
+abbrev pub domain_written : List (List ℕ) → List ℕ
+domain_written [] = 46 ∷ []
+domain_written (label ∷ labels) = items_of label ++ scope_text_of labels

@@ -1,0 +1,66 @@
+//! The definitions' own program: a plain parser of the text of a name, a byte at a time.
+//!
+//! It is for tests, and for whoever wants to see the form run. Its contract is the definition.
+ghost use Rattle.std.specs.Prelude.{◌≡◌, IfOk, IfErr, IfSome, IfNone, IsOkAnd, MatchOption};
+ghost use Rattle.nb_names.specs.Name.{NetbiosName};
+ghost use Rattle.nb_names.specs.NameText.{IsText, IsFormed, IsBad, IsFaultOf};
+
+use crate::collected::Collected;
+use crate::name::Name;
+use crate::text_fault::TextFault;
+use crate::text_steps::{Event, Stage, step_of};
+
+/// The name that the bytes of a text stand for.
+///
+/// # Errors
+///
+/// The first that applies, in [`TextFault`]'s order.
+pub fn name_from_bytes(text: &[u8]) -> Result<Name, TextFault>
+    ensures found { IfOk result (λ name. IsText name text.now) }
+    ensures only { (name : NetbiosName) → IsText name text.now → IsOkAnd result (λ read. read ≡ name) }
+    ensures fault { IfErr result (IsFaultOf text.now) }
+{
+    if let Some(place) = bad_place(text) {
+        return Err(TextFault::BadText(place));
+    }
+    name_within_limits(text).ok_or(TextFault::TooLong)
+}
+
+/// Where a text leaves the form, or nothing where it has the form.
+fn bad_place(text: &[u8]) -> Option<usize>
+    ensures { MatchOption result (IsFormed text.now) (λ place. (¬ IsFormed text.now) × IsBad text.now place) }
+{
+    let mut stage = Stage::Front;
+    for (place, byte) in text.iter().enumerate() {
+        match step_of(stage, *byte) {
+            Some((next, _)) => stage = next,
+            None => return Some(place),
+        }
+    }
+    match stage {
+        Stage::Closed | Stage::Label => None,
+        _ => Some(text.len()),
+    }
+}
+
+/// The name of a text that has the form, or nothing where it passes a limit.
+fn name_within_limits(text: &[u8]) -> Option<Name>
+    ensures found { IfSome result (λ name. IsText name text.now) }
+    ensures none { IfNone result ((name : NetbiosName) → ¬ IsText name text.now) }
+{
+    let mut stage = Stage::Front;
+    let mut taken = Collected::new();
+    for byte in text {
+        let (next, event) = step_of(stage, *byte)?;
+        taken.take(event)?;
+        stage = next;
+    }
+    match stage {
+        Stage::Closed => Some(taken.into_name()),
+        Stage::Label => {
+            taken.take(Event::LabelEnd)?;
+            Some(taken.into_name())
+        }
+        _ => None,
+    }
+}

@@ -1,0 +1,20 @@
+//! Laws of the text of names.
+ghost use Rattle.std.specs.Prelude.{◌≡◌, List, ℕ};
+ghost use Rattle.nb_names.specs.Name.{NetbiosName, IsName};
+ghost use Rattle.nb_names.specs.NameText.{IsText, AreByteLabels, written};
+
+/// Each name is the name of the text that it is written in.
+pub fn written_is_read()
+    ensures { (name : NetbiosName) → IsName name → AreByteLabels name.scope → IsText name (written name) }
+{}
+
+/// A text is the text of one name.
+pub fn one_name()
+    ensures { (text : List ℕ) (a b : NetbiosName) → IsText a text → IsText b text → a ≡ b }
+{}
+
+/// What a text stands for is a name.
+pub fn text_has_name()
+    ensures { (text : List ℕ) (name : NetbiosName) → IsText name text →
+        IsName name × AreByteLabels name.scope }
+{}

@@ -1,0 +1,123 @@
+//! The steps in which the text of a name is read, a byte at a time.
+ghost use Rattle.std.specs.Prelude.{◌≡◌, ◌<◌, IfSome};
+ghost use Rattle.nb_names.specs.NameText.{is_plain as is_plain_byte};
+ghost use Rattle.nb_names.specs.TextSteps.{step, step_in_front, step_in_label, digit_of, HasDigit};
+
+/// Where a reading stands: what the bytes read so far end in.
+#[derive(Clone, Copy, Debug, PartialEq, Eq)]
+pub(crate) enum Stage {
+    /// Any number of items.
+    Front,
+    /// The `\` of an escape before `<`.
+    FrontEscape,
+    /// That escape's first digit, by its value.
+    FrontDigit(u8),
+    /// `<`.
+    Suffix,
+    /// The first digit behind `<`, by its value.
+    SuffixDigit(u8),
+    /// The second digit behind `<`.
+    SuffixEnd,
+    /// `>`.
+    Closed,
+    /// The `.` before a label.
+    LabelStart,
+    /// One or more items of a label.
+    Label,
+    /// The `\` of an escape in a label.
+    LabelEscape,
+    /// That escape's first digit, by its value.
+    LabelDigit(u8),
+}
+
+/// What a byte of a text adds to the name.
+#[derive(Clone, Copy, Debug, PartialEq, Eq)]
+pub(crate) enum Event {
+    /// Nothing so far.
+    Nothing,
+    /// A byte before `<`.
+    FrontByte(u8),
+    /// The byte behind `<`.
+    Last(u8),
+    /// A byte of the label.
+    LabelByte(u8),
+    /// The label's end.
+    LabelEnd,
+}
+
+/// Whether a byte can stand for itself.
+pub(crate) fn is_plain(byte: u8) -> bool
+    ensures { result ≡ is_plain_byte byte }
+{
+    match byte {
+        b'.' | b'<' | b'>' | b'\\' => false,
+        _ => byte.is_ascii_graphic(),
+    }
+}
+
+/// The value of a hexadecimal digit, in either case.
+fn hex_value(digit: u8) -> Option<u8>
+    ensures value { result ≡ digit_of digit }
+    ensures bound { IfSome result (λ value. value < 16) }
+{
+    match char::from(digit).to_digit(16) {
+        Some(value) => Some(value as u8),
+        None => None,
+    }
+}
+
+/// A step before `<`: an item goes on with the byte, or `<` ends them.
+fn front_step(byte: u8) -> Option<(Stage, Event)>
+    ensures { result ≡ step_in_front byte }
+{
+    if is_plain(byte) {
+        return Some((Stage::Front, Event::FrontByte(byte)));
+    }
+    match byte {
+        b'\\' => Some((Stage::FrontEscape, Event::Nothing)),
+        b'<' => Some((Stage::Suffix, Event::Nothing)),
+        _ => None,
+    }
+}
+
+/// A step in a label: an item goes on with the byte.
+fn label_step(byte: u8) -> Option<(Stage, Event)>
+    ensures { result ≡ step_in_label byte }
+{
+    if is_plain(byte) {
+        return Some((Stage::Label, Event::LabelByte(byte)));
+    }
+    match byte {
+        b'\\' => Some((Stage::LabelEscape, Event::Nothing)),
+        _ => None,
+    }
+}
+
+/// Where a reading stands behind a byte, and what the byte adds, or nothing where no text of the form
+/// goes on with it.
+pub(crate) fn step_of(stage: Stage, byte: u8) -> Option<(Stage, Event)>
+    requires { HasDigit stage }
+    ensures value { result ≡ step stage byte }
+    ensures digit { IfSome result (λ next. HasDigit next.0) }
+{
+    match stage {
+        Stage::Front => front_step(byte),
+        Stage::FrontEscape => Some((Stage::FrontDigit(hex_value(byte)?), Event::Nothing)),
+        Stage::FrontDigit(high) => {
+            Some((Stage::Front, Event::FrontByte(high * 16 + hex_value(byte)?)))
+        }
+        Stage::Suffix => Some((Stage::SuffixDigit(hex_value(byte)?), Event::Nothing)),
+        Stage::SuffixDigit(high) => {
+            Some((Stage::SuffixEnd, Event::Last(high * 16 + hex_value(byte)?)))
+        }
+        Stage::SuffixEnd if byte == b'>' => Some((Stage::Closed, Event::Nothing)),
+        Stage::Closed if byte == b'.' => Some((Stage::LabelStart, Event::Nothing)),
+        Stage::Label if byte == b'.' => Some((Stage::LabelStart, Event::LabelEnd)),
+        Stage::LabelStart | Stage::Label => label_step(byte),
+        Stage::LabelEscape => Some((Stage::LabelDigit(hex_value(byte)?), Event::Nothing)),
+        Stage::LabelDigit(high) => {
+            Some((Stage::Label, Event::LabelByte(high * 16 + hex_value(byte)?)))
+        }
+        Stage::SuffixEnd | Stage::Closed => None,
+    }
+}

@@ -1,0 +1,131 @@
+//! Writing names as text.
+ghost use Rattle.std.specs.Prelude.{◌≡◌, ◌++◌, ◌<◌, [], ◌∷◌, IfOk, OnOk, length, drop, string_bytes};
+ghost use Rattle.std.specs.Char.{digit_char};
+ghost use Rattle.nb_names.specs.declared.limits.TheConstants.{NAME_LENGTH};
+ghost use Rattle.nb_names.specs.NameText.{IsText, AreBytes, AreByteLabels, written, bytes_written, domain_written, trimmed, digits_of, item_of, items_of, scope_text_of};
+
+use crate::bytes::NoMemory;
+use crate::domain_name::DomainName;
+use crate::limits::{FRONT_LENGTH, NAME_LENGTH};
+use crate::name::Name;
+use crate::text_steps::is_plain;
+use std::alloc::Global;
+
+/// The text of a name, as it is written: the spaces at the end of its first fifteen bytes are left
+/// out, plain bytes stand for themselves, and all others are `\` and two digits in lower case.
+///
+/// # Errors
+///
+/// [`NoMemory`] where memory ran out.
+///
+/// The form is our own.
+pub fn name_text(alloc: Global, name: &Name) -> Result<String, NoMemory>
+    ensures written { IfOk result (λ text. string_bytes text ≡ written name.now) }
+    ensures read { IfOk result (λ text. IsText name.now (string_bytes text)) }
+{
+    let mut text = String::new(alloc);
+    push_bytes(&mut text, name.bytes())?;
+    push_labels(&mut text, name.scope().as_domain(), 0)?;
+    Ok(text)
+}
+
+/// The text of a domain name: the items of its labels with `.` between them; the root is `.`.
+///
+/// # Errors
+///
+/// [`NoMemory`] where memory ran out.
+///
+/// The form is our own.
+pub fn domain_text(alloc: Global, domain: &DomainName) -> Result<String, NoMemory>
+    ensures { IfOk result (λ text. string_bytes text ≡ domain_written domain.now) }
+{
+    let mut text = String::new(alloc);
+    match domain.label(0) {
+        Some(label) => {
+            push_items(&mut text, label)?;
+            push_labels(&mut text, domain, 1)?;
+        }
+        None => text.push('.')?,
+    }
+    Ok(text)
+}
+
+/// Adds a name's bytes: the items of the first fifteen, and the digits of the last.
+fn push_bytes(text: &mut String, bytes: &[u8; NAME_LENGTH]) -> Result<(), NoMemory>
+    ensures written { OnOk result (string_bytes text.new ≡ string_bytes text.old ++ bytes_written bytes.now) }
+    ensures sixteen { length bytes.now ≡ NAME_LENGTH }
+    ensures bytes { AreBytes bytes.now }
+{
+    push_items(text, without_last_spaces(&bytes[..FRONT_LENGTH]))?;
+    text.push('<')?;
+    push_digits(text, bytes[FRONT_LENGTH])?;
+    text.push('>')?;
+    Ok(())
+}
+
+/// The bytes without the spaces at their end.
+fn without_last_spaces(bytes: &[u8]) -> &[u8]
+    ensures { result.now ≡ trimmed bytes.now }
+{
+    let mut kept = bytes;
+    while let Some((last, front)) = kept.split_last() {
+        if *last != b' ' {
+            return kept;
+        }
+        kept = front;
+    }
+    kept
+}
+
+/// Adds `.` and the items of each label, from a place on.
+fn push_labels(text: &mut String, domain: &DomainName, from: usize) -> Result<(), NoMemory>
+    ensures written { OnOk result (string_bytes text.new ≡ string_bytes text.old ++ scope_text_of (drop from domain.now)) }
+    ensures bytes { OnOk result (AreByteLabels (drop from domain.now)) }
+{
+    for place in from..domain.len() {
+        let label = domain.label(place).unwrap();
+        text.push('.')?;
+        push_items(text, label)?;
+    }
+    Ok(())
+}
+
+/// Adds the items of the bytes, in order.
+fn push_items(text: &mut String, bytes: &[u8]) -> Result<(), NoMemory>
+    ensures written { OnOk result (string_bytes text.new ≡ string_bytes text.old ++ items_of bytes.now) }
+    ensures bytes { AreBytes bytes.now }
+{
+    for byte in bytes {
+        push_item(text, *byte)?;
+    }
+    Ok(())
+}
+
+/// Adds the item of a byte.
+fn push_item(text: &mut String, byte: u8) -> Result<(), NoMemory>
+    ensures { OnOk result (string_bytes text.new ≡ string_bytes text.old ++ item_of byte) }
+{
+    if is_plain(byte) {
+        text.push(char::from(byte))?;
+        return Ok(());
+    }
+    text.push('\\')?;
+    push_digits(text, byte)
+}
+
+/// Adds the two digits of a byte, in lower case.
+fn push_digits(text: &mut String, byte: u8) -> Result<(), NoMemory>
+    ensures { OnOk result (string_bytes text.new ≡ string_bytes text.old ++ digits_of byte) }
+{
+    push_digit(text, byte / 16)?;
+    push_digit(text, byte % 16)
+}
+
+/// Adds the digit of a half byte.
+fn push_digit(text: &mut String, half: u8) -> Result<(), NoMemory>
+    requires { half < 16 }
+    ensures { OnOk result (string_bytes text.new ≡ string_bytes text.old ++ digit_char half ∷ []) }
+{
+    text.push(char::from_digit(u32::from(half), 16).unwrap())?;
+    Ok(())
+}

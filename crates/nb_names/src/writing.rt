@@ -1,0 +1,20 @@
+//! Writing domain names.
+ghost use Rattle.std.specs.Prelude.{◌≡◌, IfOk};
+ghost use Rattle.nb_names.specs.DomainName.{spelling};
+
+use crate::bytes::{Bytes, NoMemory};
+use crate::domain_name::DomainName;
+use std::alloc::Global;
+
+/// The spelling of a domain name: each label after its length byte, then a zero byte.
+///
+/// # Errors
+///
+/// [`NoMemory`] where memory ran out.
+///
+/// RFC 1001 section 14.2.
+pub fn write_domain(alloc: Global, domain: &DomainName) -> Result<Bytes, NoMemory>
+    ensures { IfOk result (λ bytes. bytes ≡ spelling domain.now) }
+{
+    Bytes::copy(alloc, domain.spelling())
+}

@@ -1,0 +1,27 @@
+-- The texts of the program's faults, and the exit status of each (own). Numbers are decimal.
+use Rattle.std.specs.Prelude.{ℕ, List, ◌++◌, codes}
+use Rattle.std.specs.Fmt.{decimal}
+use Rattle.nb_names.specs.FaultTexts.{name_fault_text}
+use Rattle.nb_names.specs.TextFaults.{text_fault_text}
+use Rattle.nbt.specs.declared.fault.Fault.{Fault}
+use Rattle.nbt.specs.declared.fault.Fault.TheVariants.{Text, Name, BadHex, TrailingBytes, Write, Memory}
+use Rattle.nbt.specs.declared.status.Status.{Status}
+use Rattle.nbt.specs.declared.status.Status.TheVariants.{Refused, Failed}
+
+-- what is told of a fault, behind `nbt: `
+abbrev pub fault_text : Fault → List ℕ
+fault_text (Text fault) = text_fault_text fault
+fault_text (Name fault) = name_fault_text fault
+fault_text BadHex = codes "bad hex"
+fault_text (TrailingBytes at) = codes "trailing bytes " ++ decimal at
+fault_text Write = codes "write"
+fault_text Memory = codes "memory"
+
+-- the exit status that goes with a fault: 3 where a device or memory failed
+abbrev pub status_of : Fault → Status
+status_of (Text fault) = Refused
+status_of (Name fault) = Refused
+status_of BadHex = Refused
+status_of (TrailingBytes at) = Refused
+status_of Write = Failed
+status_of Memory = Failed

@@ -1,0 +1,84 @@
+-- What the program prints for names, and why it refuses them (own). A line ends with a line feed, 10.
+use Rattle.std.specs.Prelude.{◌≡◌, ◌≢◌, ◌⊎◌, ◌<◌, ℕ, List, [], ◌∷◌, ◌++◌, length, Option, Ok, IsErr}
+use Rattle.std.specs.Io.KnownBytes.{Appends, Keeps}
+use Rattle.hex.specs.Hex.{encode_lower, decode_of}
+use Rattle.nb_names.specs.declared.pointers.Pointers.TheVariants.{Refused}
+use Rattle.nb_names.specs.DomainName.{spelling}
+use Rattle.nb_names.specs.Name.{NetbiosName, labels_of_name}
+use Rattle.nb_names.specs.NameText.{IsText, IsFaultOf, written}
+use Rattle.nb_names.specs.Labels.{NameAt}
+use Rattle.nb_names.specs.NameFaults.{NetbiosFaultAt}
+use Rattle.nbt.specs.declared.fault.Fault.{Fault}
+use Rattle.nbt.specs.declared.fault.Fault.TheVariants.{Text, Name, BadHex, TrailingBytes, Write, Memory}
+
+-- the text as a line
+abbrev pub line : List ℕ → List ℕ
+line text = text ++ 10 ∷ []
+
+-- PrintsLine old new text: an output that held the old bytes has the line of the text behind them now
+abbrev pub PrintsLine : Option (List ℕ) → Option (List ℕ) → List ℕ → Type 0
+PrintsLine old new text = Appends old new (line text)
+
+-- IsSpellingOf text digits: the digits are the spelling, in hexadecimal, of the name that the text
+-- stands for
+pub record IsSpellingOf (text digits : List ℕ) : Type 0 where
+  pub name : NetbiosName
+  pub stands : IsText name text
+  pub exact : digits ≡ encode_lower (spelling (labels_of_name name))
+
+-- why no spelling is printed for a text
+abbrev pub IsSpellingFault : List ℕ → Fault → Type 0
+IsSpellingFault text (Text fault) = IsFaultOf text fault
+IsSpellingFault text (Name fault) = ⊥
+IsSpellingFault text BadHex = ⊥
+IsSpellingFault text (TrailingBytes at) = ⊥
+IsSpellingFault text Write = Unit {0}
+IsSpellingFault text Memory = Unit {0}
+
+-- IsNameOf digits text: the text is the written form of the name whose spelling the digits are, in
+-- hexadecimal, and nothing else
+pub record IsNameOf (digits text : List ℕ) : Type 0 where
+  pub bytes : List ℕ
+  pub name : NetbiosName
+  pub decoded : decode_of digits ≡ Ok bytes
+  pub stands : NameAt bytes Refused 0 (labels_of_name name) (length bytes)
+  pub exact : text ≡ written name
+
+-- IsTrailing bytes at: a name's labels stand at the front of the bytes, and other bytes from this
+-- offset on
+abbrev pub IsTrailing : List ℕ → ℕ → Type 0
+IsTrailing bytes at = (name : NetbiosName) × NameAt bytes Refused 0 (labels_of_name name) at × (at < length bytes)
+
+-- why no name is printed for digits
+abbrev pub IsNameFault : List ℕ → Fault → Type 0
+IsNameFault digits (Text fault) = ⊥
+IsNameFault digits BadHex = IsErr (decode_of digits)
+IsNameFault digits (Name fault) = (bytes : List ℕ) × (decode_of digits ≡ Ok bytes) × NetbiosFaultAt bytes Refused 0 fault
+IsNameFault digits (TrailingBytes at) = (bytes : List ℕ) × (decode_of digits ≡ Ok bytes) × IsTrailing bytes at
+IsNameFault digits Write = Unit {0}
+IsNameFault digits Memory = Unit {0}
+
+-- KeepsUnlessWrite old new fault: a fault in writing aside, the output is as it was
+abbrev pub KeepsUnlessWrite : Option (List ℕ) → Option (List ℕ) → Fault → Type 0
+KeepsUnlessWrite old new Write = Unit {0}
+KeepsUnlessWrite old new (Text fault) = Keeps old new
+KeepsUnlessWrite old new (Name fault) = Keeps old new
+KeepsUnlessWrite old new BadHex = Keeps old new
+KeepsUnlessWrite old new (TrailingBytes at) = Keeps old new
+KeepsUnlessWrite old new Memory = Keeps old new
+
+-- the fault isn't one of writing
+abbrev pub IsNoWrite : Fault → Type 0
+IsNoWrite fault = fault ≢ Write
+
+-- why digits give no bytes
+abbrev pub IsDecodeFault : List ℕ → Fault → Type 0
+IsDecodeFault digits fault = ((fault ≡ BadHex) × IsErr (decode_of digits)) ⊎ (fault ≡ Memory)
+
+-- PrintsSpelling text old new: the spelling of the text's name is printed as a line
+abbrev pub PrintsSpelling : List ℕ → Option (List ℕ) → Option (List ℕ) → Type 0
+PrintsSpelling text old new = (digits : List ℕ) × IsSpellingOf text digits × PrintsLine old new digits
+
+-- PrintsName digits old new: the text of the name whose spelling the digits are is printed as a line
+abbrev pub PrintsName : List ℕ → Option (List ℕ) → Option (List ℕ) → Type 0
+PrintsName digits old new = (text : List ℕ) × IsNameOf digits text × PrintsLine old new text

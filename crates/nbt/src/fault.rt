@@ -1,0 +1,89 @@
+//! What the program tells on standard error.
+ghost use Rattle.std.specs.Prelude.{◌≡◌};
+ghost use Rattle.nbt.specs.FaultTexts.{status_of};
+
+use crate::status::Status;
+use nb_names::{NameFault, NoMemory, TextFault};
+use std::fmt;
+
+/// Why a command ended before it was done.
+#[derive(Clone, Copy, Debug, PartialEq, Eq)]
+pub enum Fault {
+    /// The text of a name was refused.
+    Text(TextFault),
+    /// A name was refused where it was to be read from bytes.
+    Name(NameFault),
+    /// What was to be hexadecimal isn't: another character, or an odd number of digits.
+    BadHex,
+    /// Bytes follow the name that should have been alone. The offset is that of the first of them.
+    TrailingBytes(usize),
+    /// The output failed.
+    Write,
+    /// Memory ran out.
+    Memory,
+}
+
+impl Fault {
+    /// The exit status that goes with the fault.
+    pub fn status(self) -> Status
+        ensures { result ≡ status_of self }
+    {
+        match self {
+            Fault::Text(_) | Fault::Name(_) | Fault::BadHex | Fault::TrailingBytes(_) => {
+                Status::Refused
+            }
+            Fault::Write | Fault::Memory => Status::Failed,
+        }
+    }
+}
+
+impl fmt::Display for Fault {
+    ghost use Rattle.std.specs.Prelude.{Some};
+    ghost use Rattle.nbt.specs.FaultTexts.{fault_text};
+
+    ghost output = { λ fault. Some (fault_text fault) };
+
+    fn fmt<W: fmt::Write>(&self, f: &mut fmt::Formatter<W>) -> fmt::Result {
+        match self {
+            Fault::Text(fault) => write!(f, "{fault}"),
+            Fault::Name(fault) => write!(f, "{fault}"),
+            Fault::BadHex => f.write_str("bad hex"),
+            Fault::TrailingBytes(at) => write!(f, "trailing bytes {at}"),
+            Fault::Write => f.write_str("write"),
+            Fault::Memory => f.write_str("memory"),
+        }
+    }
+}
+
+impl From<TextFault> for Fault {
+    ghost use Rattle.std.specs.Prelude.{◌≡◌};
+    ghost use Rattle.nbt.specs.declared.fault.Fault.TheVariants.{Text};
+
+    ghost from_gives = { λ fault told. told ≡ Text fault };
+
+    fn from(fault: TextFault) -> Fault {
+        Fault::Text(fault)
+    }
+}
+
+impl From<NameFault> for Fault {
+    ghost use Rattle.std.specs.Prelude.{◌≡◌};
+    ghost use Rattle.nbt.specs.declared.fault.Fault.TheVariants.{Name};
+
+    ghost from_gives = { λ fault told. told ≡ Name fault };
+
+    fn from(fault: NameFault) -> Fault {
+        Fault::Name(fault)
+    }
+}
+
+impl From<NoMemory> for Fault {
+    ghost use Rattle.std.specs.Prelude.{◌≡◌};
+    ghost use Rattle.nbt.specs.declared.fault.Fault.TheVariants.{Memory};
+
+    ghost from_gives = { λ _ told. told ≡ Memory };
+
+    fn from(_fault: NoMemory) -> Fault {
+        Fault::Memory
+    }
+}

@@ -1,0 +1,88 @@
+//! `nbt name`: the spelling of a name's text, and the text of a spelling.
+ghost use Rattle.std.specs.Prelude.{◌≡◌, IfOk, IfErr, OnOk, Ok, IsErr, string_bytes};
+ghost use Rattle.std.specs.Io.KnownBytes.{Keeps};
+ghost use Rattle.hex.specs.Hex.{decode_of};
+ghost use Rattle.nbt.specs.Printing.{PrintsLine, PrintsSpelling, PrintsName, IsSpellingOf, IsSpellingFault, IsNameOf, IsNameFault, KeepsUnlessWrite, IsDecodeFault, IsNoWrite};
+
+use crate::fault::Fault;
+use hex::FromHexError;
+use nb_names::{Pointers, name_from_text, name_text, read_name, write_domain};
+use std::alloc::Global;
+use std::io::Write;
+
+/// Prints the spelling, in hexadecimal, of the name that a text stands for.
+///
+/// # Errors
+///
+/// [`Fault::Text`] where the text is no name's, [`Fault::Memory`] where memory ran out; nothing
+/// is printed then. [`Fault::Write`] where the output failed.
+pub fn print_spelling<W: Write>(alloc: Global, text: &str, output: &mut W) -> Result<(), Fault>
+    ensures printed { OnOk result (PrintsSpelling text.now
+        (W.contents output.old) (W.contents output.new)) }
+    ensures fault { IfErr result (IsSpellingFault text.now) }
+    ensures kept { IfErr result (KeepsUnlessWrite (W.contents output.old) (W.contents output.new)) }
+{
+    let digits = spelling_of(alloc, text)?;
+    print_line(digits.as_str(), output)
+}
+
+/// Prints the text of the name whose spelling the digits are, in hexadecimal of either case.
+///
+/// # Errors
+///
+/// In this order: [`Fault::BadHex`]; [`Fault::Name`] where no name stands there, pointers refused;
+/// [`Fault::TrailingBytes`] where bytes follow it; [`Fault::Memory`] where memory ran out; nothing
+/// is printed then. [`Fault::Write`] where the output failed.
+pub fn print_name<W: Write>(alloc: Global, digits: &str, output: &mut W) -> Result<(), Fault>
+    ensures printed { OnOk result (PrintsName digits.now
+        (W.contents output.old) (W.contents output.new)) }
+    ensures fault { IfErr result (IsNameFault digits.now) }
+    ensures kept { IfErr result (KeepsUnlessWrite (W.contents output.old) (W.contents output.new)) }
+{
+    let text = name_of(alloc, digits)?;
+    print_line(text.as_str(), output)
+}
+
+/// The spelling, in hexadecimal, of the name that a text stands for.
+fn spelling_of(alloc: Global, text: &str) -> Result<String, Fault>
+    ensures found { IfOk result (λ digits. IsSpellingOf text.now (string_bytes digits)) }
+    ensures fault { IfErr result (λ fault. IsSpellingFault text.now fault × IsNoWrite fault) }
+{
+    let name = name_from_text(text)?;
+    let spelling = write_domain(alloc, &name.to_domain())?;
+    hex::encode(alloc, spelling.as_slice()).map_err(|_| Fault::Memory)
+}
+
+/// The text of the name whose spelling the digits are.
+fn name_of(alloc: Global, digits: &str) -> Result<String, Fault>
+    ensures found { IfOk result (λ text. IsNameOf digits.now (string_bytes text)) }
+    ensures fault { IfErr result (λ fault. IsNameFault digits.now fault × IsNoWrite fault) }
+{
+    let bytes = decoded(alloc, digits)?;
+    let (name, next) = read_name(bytes.as_slice(), 0, Pointers::Refused)?;
+    if next < bytes.len() {
+        return Err(Fault::TrailingBytes(next));
+    }
+    Ok(name_text(alloc, &name)?)
+}
+
+/// The bytes that the digits give.
+fn decoded(alloc: Global, digits: &str) -> Result<Vec<u8>, Fault>
+    ensures found { IfOk result (λ bytes. decode_of digits.now ≡ Ok bytes.items) }
+    ensures fault { IfErr result (IsDecodeFault digits.now) }
+{
+    match hex::decode(alloc, digits) {
+        Ok(bytes) => Ok(bytes),
+        Err(FromHexError::OutOfMemory) => Err(Fault::Memory),
+        Err(_) => Err(Fault::BadHex),
+    }
+}
+
+/// Prints a text as a line.
+fn print_line<W: Write>(text: &str, output: &mut W) -> Result<(), Fault>
+    ensures printed { OnOk result (PrintsLine
+        (W.contents output.old) (W.contents output.new) text.now) }
+    ensures fault { IfErr result (λ fault. fault ≡ Fault.Write) }
+{
+    writeln!(output, "{text}").map_err(|_| Fault::Write)
+}

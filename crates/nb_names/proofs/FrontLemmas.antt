@@ -1,11 +1,11 @@
 -- Which fronts of a text some text of the form begins with: those that the steps don't refuse.
-use Rattle.std.proofs.Common.{◌≡◌, ℕ, ◌+◌, ◌<◌, ◌≤◌, Bool, true, false, IsSome, List, [], ◌∷◌, ◌++◌, length, take, drop, Option, Some, None, option_and_then, refl, sym, ◌∙◌, ap, arith, append_assoc, get_or, ◌⊎◌, inl, inr}
+use Rattle.std.proofs.Common.{◌≡◌, ℕ, ◌+◌, ◌<◌, ◌≤◌, List, [], ◌∷◌, ◌++◌, length, take, drop, Some, None, option_and_then, refl, sym, ◌∙◌, ap, arith, append_assoc, get_or, ◌⊎◌, inl, inr}
 use Rattle.std.proofs.lemmas.List.{take-append-drop, take-take, take_more, take_all}
 use Rattle.nb_names.specs.declared.text_steps.Stage.{Stage}
 use Rattle.nb_names.specs.declared.text_steps.Stage.TheVariants.{Front, FrontEscape, FrontDigit, Suffix, SuffixDigit, SuffixEnd, Closed, LabelStart, Label, LabelEscape, LabelDigit}
 use Rattle.nb_names.specs.declared.text_steps.Event.{Event}
 use Rattle.nb_names.specs.declared.text_steps.Event.TheVariants.{LabelEnd}
-use Rattle.nb_names.specs.NameText.{Parts, HasForm, IsFormed, IsFront, IsBad}
+use Rattle.nb_names.specs.NameText.{Parts, IsFormed, IsFront, IsBad}
 use Rattle.nb_names.specs.TextSteps.{Taken, nothing_taken, takes, step, run, parts_of, finish, parts_read}
 use Rattle.nb_names.proofs.TextRunLemmas.{ended, run-append, parts_read-form}
 use Rattle.nb_names.proofs.TextReachLemmas.{form-parts_read}

@@ -1,23 +1,23 @@
 -- The parts of a text within the limits, and the name that they make.
-use Rattle.std.proofs.Common.{◌≡◌, ℕ, ◌+◌, ◌-◌, ◌<◌, ◌≤◌, IfSome, IfNone, IsOkAnd, Result, Option, Some, None, option_and_then, List, [], ◌∷◌, ◌++◌, length, take, drop, replicate, slice_set, get_or, refl, sym, ◌∙◌, ap, arith, append_assoc}
+use Rattle.std.proofs.Common.{◌≡◌, ℕ, ◌-◌, ◌≤◌, IfSome, IfNone, IsOkAnd, Result, Option, Some, None, option_and_then, List, [], ◌∷◌, ◌++◌, length, take, drop, replicate, slice_set, refl, sym, ◌∙◌, ap, arith, append_assoc}
 use Rattle.std.specs.List.{AllByRecursion}
 use Rattle.std.specs.Option.{ok_or}
-use Rattle.std.proofs.lemmas.List.{drop-replicate, replicate_more, length-replicate, length-append, set_at, take-append-drop, take_all}
+use Rattle.std.proofs.lemmas.List.{drop-replicate, replicate_more, length-replicate, length-append, set_at, take-append-drop}
 use Rattle.std.proofs.lemmas.Option.{option_and_then_some}
 use Rattle.nb_names.specs.declared.text_steps.Stage.{Stage}
 use Rattle.nb_names.specs.declared.text_steps.Stage.TheVariants.{Front, FrontEscape, FrontDigit, Suffix, SuffixDigit, SuffixEnd, Closed, LabelStart, Label, LabelEscape, LabelDigit}
 use Rattle.nb_names.specs.declared.text_steps.Event.{Event}
 use Rattle.nb_names.specs.declared.text_steps.Event.TheVariants.{Nothing, FrontByte, Last, LabelByte, LabelEnd}
 use Rattle.nb_names.specs.declared.text_fault.TextFault.{TextFault}
-use Rattle.nb_names.specs.DomainName.{spelling, IsLabel}
+use Rattle.nb_names.specs.DomainName.{IsLabel}
 use Rattle.nb_names.specs.Name.{NetbiosName, IsScope}
-use Rattle.nb_names.specs.NameText.{Parts, HasForm, FitsLimits, filled, name_of, IsText, IsFormed}
-use Rattle.nb_names.specs.TextSteps.{Taken, nothing_taken, step, takes, run, parts_of, finish, parts_read}
+use Rattle.nb_names.specs.NameText.{Parts, FitsLimits, filled, name_of, IsText, IsFormed}
+use Rattle.nb_names.specs.TextSteps.{Taken, nothing_taken, step, takes, run, parts_of, finish}
 use Rattle.nb_names.specs.Collected.{FitsSoFar}
 use Rattle.nb_names.proofs.SpellingLemmas.{length-spelling-snoc}
-use Rattle.nb_names.proofs.TextRunLemmas.{ended, run-append, parts_read-form}
+use Rattle.nb_names.proofs.TextRunLemmas.{run-append, parts_read-form}
 use Rattle.nb_names.proofs.TextReachLemmas.{Reached, run_reached, start_reached, form-parts_read}
-use Rattle.nb_names.proofs.FrontLemmas.{run_turn, parts_at_end}
+use Rattle.nb_names.proofs.FrontLemmas.{parts_at_end}
 
 -- sixteen spaces, with the bytes at their front and one at their end
 pub filled_array : (front : List ℕ) (last : ℕ) → length front ≤ 15 → slice_set (front ++ drop (length front) (replicate 16 32)) 15 last ≡ filled front ++ last ∷ []

@@ -1,5 +1,5 @@
 -- What the steps read as parts has the form with these parts.
-use Rattle.std.proofs.Common.{◌≡◌, ◌==◌, ℕ, ◌+◌, ◌*◌, ◌<◌, Bool, true, false, IsTrue, IfSome, List, [], ◌∷◌, ◌++◌, length, Option, Some, None, option_and_then, if◌then◌else◌, nat_lt, refl, sym, ◌∙◌, ap, arith, append_assoc, append-nil}
+use Rattle.std.proofs.Common.{◌≡◌, ◌==◌, ℕ, ◌+◌, ◌*◌, ◌<◌, Bool, true, false, IfSome, List, [], ◌∷◌, ◌++◌, length, Option, Some, None, option_and_then, if◌then◌else◌, nat_lt, refl, ◌∙◌, ap, arith, append_assoc, append-nil}
 use Rattle.std.specs.Char.{digit_value}
 use Rattle.std.proofs.lemmas.Bool.{ltb-true, eqb-true}
 use Rattle.std.proofs.lemmas.List.{length-append}
@@ -9,7 +9,6 @@ use Rattle.nb_names.specs.declared.text_steps.Event.{Event}
 use Rattle.nb_names.specs.declared.text_steps.Event.TheVariants.{Nothing, FrontByte, Last, LabelByte, LabelEnd}
 use Rattle.nb_names.specs.NameText.{is_plain, IsHexDigit, byte_of, Item, plain, escaped, Items, no_item, more_items, ScopeText, no_label, more_labels, Parts, HasForm}
 use Rattle.nb_names.specs.TextSteps.{digit_step, step, step_in_front, step_in_label, Taken, nothing_taken, takes, run, parts_of, finish, parts_read}
-use Rattle.nb_names.proofs.TextRunLemmas.{ended}
 
 -- ---- items and labels at an end
 

@@ -1,5 +1,5 @@
 -- A text that has the form with some parts is read by the steps as these parts.
-use Rattle.std.proofs.Common.{◌≡◌, ◌==◌, ◌||◌, ℕ, ◌+◌, ◌*◌, ◌<◌, Bool, true, false, IsTrue, List, [], ◌∷◌, ◌++◌, length, Option, Some, None, option_and_then, if◌then◌else◌, nat_lt, refl, sym, ◌∙◌, ap, arith, append_assoc, append-nil}
+use Rattle.std.proofs.Common.{◌≡◌, ◌==◌, ◌||◌, ℕ, ◌+◌, ◌*◌, ◌<◌, Bool, true, false, IsTrue, List, [], ◌∷◌, ◌++◌, length, Option, Some, None, option_and_then, if◌then◌else◌, refl, ◌∙◌, ap, arith, append_assoc, append-nil}
 use Rattle.std.specs.Char.{digit_value}
 use Rattle.std.proofs.lemmas.Bool.{lt-ltb}
 use Rattle.nb_names.specs.declared.text_steps.Stage.{Stage}
@@ -7,7 +7,7 @@ use Rattle.nb_names.specs.declared.text_steps.Stage.TheVariants.{Front, FrontEsc
 use Rattle.nb_names.specs.declared.text_steps.Event.{Event}
 use Rattle.nb_names.specs.declared.text_steps.Event.TheVariants.{Nothing, FrontByte, Last, LabelByte, LabelEnd}
 use Rattle.nb_names.specs.NameText.{is_plain, IsHexDigit, byte_of, Item, plain, escaped, Items, no_item, more_items, ScopeText, no_label, more_labels, Parts, HasForm}
-use Rattle.nb_names.specs.TextSteps.{digit_step, step, step_in_front, step_in_label, Taken, nothing_taken, takes, run, parts_of, finish, parts_read}
+use Rattle.nb_names.specs.TextSteps.{digit_step, step, step_in_front, step_in_label, Taken, nothing_taken, takes, run, finish, parts_read}
 
 -- ---- runs
 

@@ -1,5 +1,5 @@
 -- What a reading of a name's text has taken, as the code keeps it (own).
-use Rattle.std.specs.Prelude.{ℕ, ◌≤◌, length}
+use Rattle.std.specs.Prelude.{◌≤◌, length}
 use Rattle.nb_names.specs.declared.limits.TheConstants.{FRONT_LENGTH, MAX_LABEL}
 use Rattle.nb_names.specs.declared.collected.Collected.{Collected}
 use Rattle.nb_names.specs.Name.{IsScope}

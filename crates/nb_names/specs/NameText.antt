@@ -1,8 +1,9 @@
--- The text that people write NetBIOS names in (own). RFC 1001 section 14.1 has a name's sixteen bytes
--- and section 14.2 its scope. Places in a text count from its first byte.
+-- The text that people write NetBIOS names in (own). RFC 1001 section 14.1 has a name's sixteen
+-- bytes, and section 14.2 its scope. Places in a text are counted in bytes, from its first.
 --
--- 32 is the space, 46 `.`, 60 `<`, 62 `>` and 92 `\`.
-use Rattle.std.specs.Prelude.{◌≡◌, ◌==◌, ◌||◌, ℕ, ◌+◌, ◌-◌, ◌*◌, ◌/◌, ◌%◌, ◌<◌, ◌≤◌, ◌^◌, Bool, false, IsTrue, List, [], ◌∷◌, ◌++◌, length, take, drop, replicate, if◌then◌else◌, slice_index}
+-- 32 is the space, 46 `.`, 60 `<`, 62 `>` and 92 `\`. Std's `digit_value` has the value of a digit
+-- or a letter of either case, and its `digit_char` the digit, in lower case, of a value.
+use Rattle.std.specs.Prelude.{◌≡◌, ◌==◌, ◌||◌, ℕ, ◌+◌, ◌-◌, ◌*◌, ◌/◌, ◌%◌, ◌<◌, ◌≤◌, ◌^◌, Bool, false, IsTrue, List, [], ◌∷◌, ◌++◌, length, take, replicate, if◌then◌else◌, slice_index}
 use Rattle.std.specs.List.{AllByRecursion, flat_map}
 use Rattle.std.specs.Char.{digit_value, digit_char, is_ascii_graphic}
 use Rattle.nb_names.specs.declared.limits.TheConstants.{FRONT_LENGTH}
@@ -14,7 +15,8 @@ use Rattle.nb_names.specs.Name.{NetbiosName, IsScope}
 
 -- whether a byte can stand for itself: 21 to 7e in hexadecimal, without `.`, `<`, `>` and `\`
 abbrev pub is_plain : ℕ → Bool
-is_plain byte = if byte == 46 || byte == 60 || byte == 62 || byte == 92 then false else is_ascii_graphic byte
+is_plain byte =
+    if byte == 46 || byte == 60 || byte == 62 || byte == 92 then false else is_ascii_graphic byte
 
 -- a hexadecimal digit, in either case
 abbrev pub IsHexDigit : ℕ → Type 0
@@ -27,7 +29,8 @@ byte_of high low = digit_value high * 16 + digit_value low
 -- Item byte text: the text is an item that stands for the byte: the byte itself, or its escape
 pub data Item : ℕ → List ℕ → Type 0 where
   plain : (byte : ℕ) → IsTrue (is_plain byte) → Item byte (byte ∷ [])
-  escaped : (high low : ℕ) → IsHexDigit high → IsHexDigit low → Item (byte_of high low) (92 ∷ high ∷ low ∷ [])
+  escaped : (high low : ℕ) → IsHexDigit high → IsHexDigit low
+      → Item (byte_of high low) (92 ∷ high ∷ low ∷ [])
 
 -- Items bytes text: the text is a row of items, which stand for the bytes in order
 pub data Items : List ℕ → List ℕ → Type 0 where
@@ -99,8 +102,8 @@ IsFormed text = (parts : Parts) × HasForm parts text
 abbrev pub IsFront : List ℕ → ℕ → Type 0
 IsFront text count = (rest : List ℕ) × IsFormed (take count text ++ rest)
 
--- IsBad text place: the longest front of the text with which some text of the form begins ends at the
--- place; limits take no part in it
+-- IsBad text place: the longest front of the text with which some text of the form begins ends at
+-- the place; limits take no part in it
 pub record IsBad (text : List ℕ) (place : ℕ) : Type 0 where
   pub within : place ≤ length text
   pub front : IsFront text place
@@ -143,14 +146,15 @@ trimmed (byte ∷ bytes) = kept_before byte (trimmed bytes)
 -- the form in which a name's bytes are written: without the spaces at the end of the first fifteen
 abbrev pub bytes_written : List ℕ → List ℕ
 bytes_written bytes =
-    items_of (trimmed (take FRONT_LENGTH bytes)) ++ 60 ∷ digits_of (slice_index bytes FRONT_LENGTH) ++ 62 ∷ []
+    items_of (trimmed (take FRONT_LENGTH bytes))
+    ++ 60 ∷ digits_of (slice_index bytes FRONT_LENGTH) ++ 62 ∷ []
 
 -- the form in which a name is written
 abbrev pub written : NetbiosName → List ℕ
 written name = bytes_written name.bytes ++ scope_text_of name.scope
 
--- the form in which a domain name is written: the items of its labels, with `.` between them, and `.`
--- where it has none
+-- the form in which a domain name is written: the items of its labels with `.` between them, and
+-- `.` where it has none
 abbrev pub domain_written : List (List ℕ) → List ℕ
 domain_written [] = 46 ∷ []
 domain_written (label ∷ labels) = items_of label ++ scope_text_of labels

@@ -1,5 +1,5 @@
--- The steps in which the text of a name is read (own). They are no part of what a name's text is: that
--- stands in NameText, and the text is shown to be read so. 46 is `.`, 60 `<`, 62 `>` and 92 `\`.
+-- The steps in which the text of a name is read, a byte at a time (own). They are no part of what a
+-- name's text is: that stands in NameText. 46 is `.`, 60 `<`, 62 `>` and 92 `\`.
 use Rattle.std.specs.Prelude.{◌==◌, ℕ, ◌+◌, ◌*◌, ◌<◌, List, [], ◌∷◌, ◌++◌, Option, Some, None, option_and_then, if◌then◌else◌, nat_lt}
 use Rattle.std.specs.Char.{digit_value}
 use Rattle.nb_names.specs.declared.text_steps.Stage.{Stage}
@@ -52,8 +52,8 @@ step Label byte = if byte == 46 then Some (LabelStart, LabelEnd) else step_in_la
 step LabelEscape byte = digit_step byte (λ high. (LabelDigit high, Nothing))
 step (LabelDigit high) byte = digit_step byte (λ low. (Label, LabelByte (high * 16 + low)))
 
--- what a reading has taken: the bytes before `<`, the byte behind it, the labels that have ended, and
--- the bytes of the one that hasn't
+-- what a reading has taken: the bytes before `<`, the byte behind it, the labels that have ended,
+-- and the bytes of the one that hasn't
 pub record Taken : Type 0 where
   pub front : List ℕ
   pub last : ℕ

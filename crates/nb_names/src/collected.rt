@@ -55,7 +55,8 @@ impl Collected {
 
     /// Ends the label, unless the scope has no room for it.
     fn end_label(&mut self) -> Option<()>
-        ensures taken { OnSome result (taken_of self.new ≡ takes (taken_of self.old) Event.LabelEnd) }
+        ensures taken { OnSome result
+            (taken_of self.new ≡ takes (taken_of self.old) Event.LabelEnd) }
         ensures none { IfNone result (¬ FitsSoFar (takes (taken_of self.old) Event.LabelEnd)) }
     {
         match self.scope.push(self.label.as_slice()) {

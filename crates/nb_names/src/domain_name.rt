@@ -69,7 +69,7 @@ impl DomainName {
         label_at(self.bytes.as_slice(), place)
     }
 
-    /// The spelling: each label after its length byte, then a zero byte.
+    /// The spelling: the labels, each behind its length, and a zero byte.
     ///
     /// RFC 1001 section 14.2.
     pub fn spelling(&self) -> &[u8]

@@ -1,6 +1,7 @@
 //! The definitions' own program: a plain parser of the text of a name, a byte at a time.
 //!
-//! It is for tests, and for whoever wants to see the form run. Its contract is the definition.
+//! It is for tests, and for whoever wants to see the form run. Its contract is the definition, and
+//! [`name_from_text`](crate::name_from_text) runs it.
 ghost use Rattle.std.specs.Prelude.{◌≡◌, IfOk, IfErr, IfSome, IfNone, IsOkAnd, MatchOption};
 ghost use Rattle.nb_names.specs.Name.{NetbiosName};
 ghost use Rattle.nb_names.specs.NameText.{IsText, IsFormed, IsBad, IsFaultOf};
@@ -17,7 +18,8 @@ use crate::text_steps::{Event, Stage, step_of};
 /// The first that applies, in [`TextFault`]'s order.
 pub fn name_from_bytes(text: &[u8]) -> Result<Name, TextFault>
     ensures found { IfOk result (λ name. IsText name text.now) }
-    ensures only { (name : NetbiosName) → IsText name text.now → IsOkAnd result (λ read. read ≡ name) }
+    ensures only { (name : NetbiosName) → IsText name text.now →
+        IsOkAnd result (λ read. read ≡ name) }
     ensures fault { IfErr result (IsFaultOf text.now) }
 {
     if let Some(place) = bad_place(text) {
@@ -28,7 +30,8 @@ pub fn name_from_bytes(text: &[u8]) -> Result<Name, TextFault>
 
 /// Where a text leaves the form, or nothing where it has the form.
 fn bad_place(text: &[u8]) -> Option<usize>
-    ensures { MatchOption result (IsFormed text.now) (λ place. (¬ IsFormed text.now) × IsBad text.now place) }
+    ensures { MatchOption result (IsFormed text.now)
+        (λ place. (¬ IsFormed text.now) × IsBad text.now place) }
 {
     let mut stage = Stage::Front;
     for (place, byte) in text.iter().enumerate() {

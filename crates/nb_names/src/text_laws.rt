@@ -5,7 +5,8 @@ ghost use Rattle.nb_names.specs.NameText.{IsText, AreByteLabels, written};
 
 /// Each name is the name of the text that it is written in.
 pub fn written_is_read()
-    ensures { (name : NetbiosName) → IsName name → AreByteLabels name.scope → IsText name (written name) }
+    ensures { (name : NetbiosName) → IsName name → AreByteLabels name.scope →
+        IsText name (written name) }
 {}
 
 /// A text is the text of one name.

@@ -9,20 +9,21 @@ use crate::text_fault::TextFault;
 
 /// The name that a text stands for, such as `FRED<20>.NETBIOS.COM`.
 ///
-/// The text is any number of items, `<`, two hexadecimal digits, `>`, and for each label of the scope
-/// `.` and one or more items. An item is one of the bytes 21 to 7e but `.`, `<`, `>` and `\`, which
-/// stands for itself, or `\` and two hexadecimal digits. The items before `<` are the name's first
-/// bytes, filled up with spaces to fifteen; the digits are its sixteenth. No memory is taken.
+/// The text is any number of items, `<`, two hexadecimal digits, `>`, and for each label of the
+/// scope `.` and one or more items. An item is one of the bytes 21 to 7e but `.`, `<`, `>` and `\`,
+/// which stands for itself, or `\` and two hexadecimal digits. The items before `<` are the name's
+/// first bytes, filled up with spaces to fifteen; the digits are its sixteenth. No memory is taken.
 ///
 /// # Errors
 ///
-/// The first that applies, in [`TextFault`]'s order: the form is judged over the whole text before any
-/// limit.
+/// The first that applies, in [`TextFault`]'s order: the form is judged over the whole text, and
+/// then the limits.
 ///
 /// The form is our own.
 pub fn name_from_text(text: &str) -> Result<Name, TextFault>
     ensures found { IfOk result (λ name. IsText name text.now) }
-    ensures only { (name : NetbiosName) → IsText name text.now → IsOkAnd result (λ read. read ≡ name) }
+    ensures only { (name : NetbiosName) → IsText name text.now →
+        IsOkAnd result (λ read. read ≡ name) }
     ensures fault { IfErr result (IsFaultOf text.now) }
 {
     plain::name_from_bytes(text.as_bytes())

@@ -93,8 +93,8 @@ fn label_step(byte: u8) -> Option<(Stage, Event)>
     }
 }
 
-/// Where a reading stands behind a byte, and what the byte adds, or nothing where no text of the form
-/// goes on with it.
+/// Where a reading stands behind a byte, and what the byte adds, or nothing where no text of the
+/// form goes on with it.
 pub(crate) fn step_of(stage: Stage, byte: u8) -> Option<(Stage, Event)>
     requires { HasDigit stage }
     ensures value { result ≡ step stage byte }

@@ -52,7 +52,8 @@ pub fn domain_text(alloc: Global, domain: &DomainName) -> Result<String, NoMemor
 
 /// Adds a name's bytes: the items of the first fifteen, and the digits of the last.
 fn push_bytes(text: &mut String, bytes: &[u8; NAME_LENGTH]) -> Result<(), NoMemory>
-    ensures written { OnOk result (string_bytes text.new ≡ string_bytes text.old ++ bytes_written bytes.now) }
+    ensures written { OnOk result
+        (string_bytes text.new ≡ string_bytes text.old ++ bytes_written bytes.now) }
     ensures sixteen { length bytes.now ≡ NAME_LENGTH }
     ensures bytes { AreBytes bytes.now }
 {
@@ -79,7 +80,8 @@ fn without_last_spaces(bytes: &[u8]) -> &[u8]
 
 /// Adds `.` and the items of each label, from a place on.
 fn push_labels(text: &mut String, domain: &DomainName, from: usize) -> Result<(), NoMemory>
-    ensures written { OnOk result (string_bytes text.new ≡ string_bytes text.old ++ scope_text_of (drop from domain.now)) }
+    ensures written { OnOk result
+        (string_bytes text.new ≡ string_bytes text.old ++ scope_text_of (drop from domain.now)) }
     ensures bytes { OnOk result (AreByteLabels (drop from domain.now)) }
 {
     for place in from..domain.len() {
@@ -92,7 +94,8 @@ fn push_labels(text: &mut String, domain: &DomainName, from: usize) -> Result<()
 
 /// Adds the items of the bytes, in order.
 fn push_items(text: &mut String, bytes: &[u8]) -> Result<(), NoMemory>
-    ensures written { OnOk result (string_bytes text.new ≡ string_bytes text.old ++ items_of bytes.now) }
+    ensures written { OnOk result
+        (string_bytes text.new ≡ string_bytes text.old ++ items_of bytes.now) }
     ensures bytes { AreBytes bytes.now }
 {
     for byte in bytes {

@@ -2,8 +2,10 @@
 
 use crate::tests::vectors::{FRED, WILDCARD};
 use crate::{
-    DomainName, Name, Scope, TextFault, domain_text, name_from_text, name_text, plain, write_domain,
+    DomainName, Name, NoMemory, Scope, TextFault, domain_text, name_from_text, name_text, plain,
+    write_domain,
 };
+use std::alloc::Global;
 use std::process::Abort;
 use std::test::Fail;
 
@@ -108,38 +110,37 @@ fn texts_meet_the_limits(rt: HostRuntime) -> Result<(), Fail> {
     Ok(())
 }
 
+/// The text in which the name of these bytes is written, in the scope of these labels.
+fn written(
+    rt: &impl Abort,
+    alloc: Global,
+    bytes: &[u8; 16],
+    labels: &[&[u8]],
+) -> Result<String, NoMemory> {
+    name_text(alloc, &name(rt, bytes, labels))
+}
+
 #[test]
 fn names_are_written(rt: HostRuntime) -> Result<(), Fail> {
-    let wildcard = b"*\x00\x00\x00\x00\x00\x00\x00\x00\x00\x00\x00\x00\x00\x00\x00";
-    let rows: [(&[u8; 16], &[&[u8]], &str); 5] = [
-        (
-            b"FRED            ",
-            &[b"NETBIOS", b"COM"],
-            "FRED<20>.NETBIOS.COM",
-        ),
-        (
-            wildcard,
-            &[],
-            "*\\00\\00\\00\\00\\00\\00\\00\\00\\00\\00\\00\\00\\00\\00<00>",
-        ),
-        (
-            b"  FR ED        \x1d",
-            &[b"A B "],
-            "\\20\\20FR\\20ED<1d>.A\\20B\\20",
-        ),
-        (
-            b"<.>\\\xff          \xff",
-            &[b"."],
-            "\\3c\\2e\\3e\\5c\\ff<ff>.\\2e",
-        ),
-        (b"                ", &[], "<20>"),
-    ];
-    for (bytes, labels, text) in rows {
-        let name = name(&rt, bytes, labels);
-        let written = name_text(rt.alloc(), &name)?;
-        assert_eq!(rt; written.as_str(), text);
-        assert!(rt; name_from_text(written.as_str()) == Ok(name), "{text}");
-    }
+    let text = written(&rt, rt.alloc(), b"FRED            ", &[b"NETBIOS", b"COM"])?;
+    assert_eq!(rt; text.as_str(), "FRED<20>.NETBIOS.COM");
+    let text = written(
+        &rt,
+        rt.alloc(),
+        b"*\x00\x00\x00\x00\x00\x00\x00\x00\x00\x00\x00\x00\x00\x00\x00",
+        &[],
+    )?;
+    assert_eq!(rt;
+        text.as_str(),
+        "*\\00\\00\\00\\00\\00\\00\\00\\00\\00\\00\\00\\00\\00\\00<00>"
+    );
+    // Spaces are left out at the end of the fifteen bytes alone.
+    let text = written(&rt, rt.alloc(), b"  FR ED        \x1d", &[b"A B "])?;
+    assert_eq!(rt; text.as_str(), "\\20\\20FR\\20ED<1d>.A\\20B\\20");
+    let text = written(&rt, rt.alloc(), b"<.>\\\xff          \xff", &[b"."])?;
+    assert_eq!(rt; text.as_str(), "\\3c\\2e\\3e\\5c\\ff<ff>.\\2e");
+    let text = written(&rt, rt.alloc(), b"                ", &[])?;
+    assert_eq!(rt; text.as_str(), "<20>");
     Ok(())
 }
 

@@ -1,8 +1,7 @@
 use Rattle.std.proofs.Common.{◌≡◌, ◌+◌, Some, sym, ◌∙◌, ap}
 use Rattle.nb_names.specs.declared.text_steps.Stage.{Stage}
-use Rattle.nb_names.specs.declared.text_steps.Stage.TheVariants.{Front, Label}
-use Rattle.nb_names.specs.declared.text_steps.Event.TheVariants.{LabelEnd}
-use Rattle.nb_names.specs.TextSteps.{Taken, nothing_taken, takes, run, parts_of, finish}
+use Rattle.nb_names.specs.declared.text_steps.Stage.TheVariants.{Front}
+use Rattle.nb_names.specs.TextSteps.{Taken, takes, parts_of, finish}
 use Rattle.nb_names.specs.Collected.{taken_of}
 use Rattle.nb_names.proofs.FrontLemmas.{run_turn, bad_inside, bad_at_end, not_ended}
 use Rattle.nb_names.proofs.PartsLemmas.{no_name_unformed, no_name_past_limits, no_name_past_label, text_at_end}

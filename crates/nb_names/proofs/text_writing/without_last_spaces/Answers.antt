@@ -1,4 +1,4 @@
-use Rattle.std.proofs.Common.{◌∷◌, [], ◌++◌, List, ℕ, sym, ◌∙◌, ap}
+use Rattle.std.proofs.Common.{◌∷◌, [], ◌++◌, ℕ, sym, ◌∙◌, ap}
 use Rattle.nb_names.specs.NameText.{trimmed}
 use Rattle.nb_names.proofs.WrittenLemmas.{trimmed-space, trimmed-other}
 use Rattle.nb_names.proofs.text_writing.without_last_spaces.Goals as goal

@@ -1,4 +1,4 @@
-use Rattle.std.proofs.Common.{◌≡◌, ◌≤◌, length, sym, ap, ◌∙◌, arith}
+use Rattle.std.proofs.Common.{◌≤◌, length, ap, ◌∙◌, arith}
 use Rattle.nb_names.proofs.PartsLemmas.{filled_array}
 use Rattle.nb_names.proofs.collected.Collected.into_name.Goals as goal
 

@@ -1,8 +1,8 @@
 -- A scope is pushed on as a domain name with a lower limit.
-use Rattle.std.proofs.Common.{◌≡◌, ◌<◌, ◌≤◌, ◌+◌, ℕ, List, [], ◌∷◌, ◌++◌, length, Result, Ok, Err, arith}
+use Rattle.std.proofs.Common.{◌<◌, ◌≤◌, ◌+◌, ℕ, List, length, Result, Ok, Err, arith}
 use Rattle.nb_names.specs.declared.label_fault.LabelFault.{LabelFault}
 use Rattle.nb_names.specs.declared.label_fault.LabelFault.TheVariants.{EmptyLabel, LabelTooLong, TooLong}
-use Rattle.nb_names.specs.DomainName.{spelling, IsDomain, Pushes}
+use Rattle.nb_names.specs.DomainName.{spelling, Pushes}
 use Rattle.nb_names.specs.Name.{IsScope}
 use Rattle.nb_names.proofs.SpellingLemmas.{length-spelling-snoc, IsDomain-pushed}
 

@@ -1,5 +1,4 @@
-use Rattle.std.proofs.Common.{◌≡◌, ◌+◌, ◌*◌, ◌<◌, ℕ, arith, length-set, get_or, ap, sym, ◌∙◌, subst, below_more}
-use Rattle.nb_names.specs.FirstLevel.{letter, IsLetter}
+use Rattle.std.proofs.Common.{arith, length-set}
 use Rattle.nb_names.proofs.FirstLevelLemmas.{bytes_turn, all_letters, letters_two_more}
 use Rattle.nb_names.proofs.first_level.bytes_of.Goals as goal
 

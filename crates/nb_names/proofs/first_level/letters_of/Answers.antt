@@ -1,5 +1,4 @@
-use Rattle.std.proofs.Common.{◌≡◌, ◌*◌, ℕ, take, arith, sym, ◌∙◌, ap, length-set, ◌≤◌, length}
-use Rattle.nb_names.specs.FirstLevel.{letters}
+use Rattle.std.proofs.Common.{arith, length-set}
 use Rattle.nb_names.proofs.FirstLevelLemmas.{letters_turn, all_letters}
 use Rattle.nb_names.proofs.first_level.letters_of.Goals as goal
 

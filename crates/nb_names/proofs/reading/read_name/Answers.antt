@@ -1,4 +1,3 @@
-use Rattle.std.proofs.Common.{rules}
 use Rattle.std.proofs.lemmas.Result.{err_from_is_err_and}
 use Rattle.nb_names.specs.NameFaults.{on_way, unlike}
 use Rattle.nb_names.proofs.reading.read_name.Goals as goal

@@ -1,4 +1,4 @@
-use Rattle.std.proofs.Common.{◌≡◌, ◌∷◌, ◌++◌, [], length, rules, append_assoc}
+use Rattle.std.proofs.Common.{◌≡◌, ◌∷◌, rules}
 use Rattle.nb_names.specs.DomainName.{spelling, IsDomain}
 use Rattle.nb_names.proofs.SpellingLemmas.{labels_of-spelled, spelled}
 use Rattle.nb_names.proofs.domain_name.DomainName.with_first.Goals as goal

@@ -1,5 +1,5 @@
-use Rattle.std.proofs.Common.{◌≡◌, ◌∷◌, ◌∙◌, [], sym, ap, List, ℕ}
-use Rattle.nb_names.specs.Name.{no_label, NetbiosName, labels_of_name, IsUnlike}
+use Rattle.std.proofs.Common.{◌≡◌, ◌∙◌}
+use Rattle.nb_names.specs.Name.{no_label, NetbiosName, labels_of_name}
 use Rattle.nb_names.proofs.NameLemmas.{IsScope-rest, unlike_length, unlike_letter, name_length, name_letters, one_name}
 use Rattle.nb_names.proofs.name.Name.from_domain.Goals as goal
 

@@ -5,7 +5,10 @@ use Rattle.nb_names.specs.declared.text_steps.Stage.{Stage}
 use Rattle.nb_names.specs.declared.text_steps.Stage.TheVariants.{Front, FrontEscape, FrontDigit, Suffix, SuffixDigit, SuffixEnd, Closed, LabelStart, Label, LabelEscape, LabelDigit}
 use Rattle.nb_names.specs.declared.text_steps.Event.{Event}
 use Rattle.nb_names.specs.declared.text_steps.Event.TheVariants.{LabelEnd}
-use Rattle.nb_names.specs.NameText.{Parts, IsFormed, IsFront, IsBad}
+use Rattle.nb_names.specs.NameText.{Parts, IsFormed, IsFront, IsBad, IsText, IsFaultOf}
+use Rattle.nb_names.specs.Name.{NetbiosName}
+use Rattle.nb_names.specs.declared.text_fault.TextFault.{TextFault}
+use Rattle.nb_names.specs.declared.text_fault.TextFault.TheVariants.{BadText, TooLong}
 use Rattle.nb_names.specs.TextSteps.{Taken, nothing_taken, takes, step, run, parts_of, finish, parts_read}
 use Rattle.nb_names.proofs.TextRunLemmas.{ended, run-append, parts_read-form}
 use Rattle.nb_names.proofs.TextReachLemmas.{form-parts_read}
@@ -118,3 +121,22 @@ formed_at_end text i s t h e (inl is) =
     formed_if_read text _ (parts_at_end text i s t (parts_of t) h e (ap (λ (s : Stage). finish s t) is))
 formed_at_end text i s t h e (inr is) =
     formed_if_read text _ (parts_at_end text i s t (parts_of (takes t LabelEnd)) h e (ap (λ (s : Stage). finish s t) is))
+
+-- ---- a text has one fault
+
+bad_places : (text : List ℕ) (a b : ℕ) → IsBad text a → IsBad text b → ¬ (a < b)
+bad_places text a b x y h = x.longest b h y.within y.front
+
+pub one_fault_of : (text : List ℕ) (a b : TextFault) → IsFaultOf text a → IsFaultOf text b → a ≡ b
+one_fault_of text (BadText a) (BadText b) x y =
+    let least : ¬ (a < b) = bad_places text a b x.1 y.1 in
+    let most : ¬ (b < a) = bad_places text b a y.1 x.1 in
+    let same : a ≡ b = grind (arith, least, most) in
+    ap BadText same
+one_fault_of text (BadText a) TooLong x y = absurd (x.0 y.0)
+one_fault_of text TooLong (BadText b) x y = absurd (y.0 x.0)
+one_fault_of text TooLong TooLong x y = refl
+
+pub no_fault_of_name : (text : List ℕ) (name : NetbiosName) (fault : TextFault) → IsText name text → ¬ IsFaultOf text fault
+no_fault_of_name text name (BadText place) is fault = fault.0 (is.parts, is.form)
+no_fault_of_name text name TooLong is fault = fault.1 name is

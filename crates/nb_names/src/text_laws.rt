@@ -1,7 +1,8 @@
 //! Laws of the text of names.
 ghost use Rattle.std.specs.Prelude.{◌≡◌, List, ℕ};
 ghost use Rattle.nb_names.specs.Name.{NetbiosName, IsName};
-ghost use Rattle.nb_names.specs.NameText.{IsText, AreByteLabels, written};
+ghost use Rattle.nb_names.specs.NameText.{IsText, AreByteLabels, IsFaultOf, written};
+ghost use Rattle.nb_names.specs.declared.text_fault.TextFault.{TextFault};
 
 /// Each name is the name of the text that it is written in.
 pub fn written_is_read()
@@ -18,4 +19,12 @@ pub fn one_name()
 pub fn text_has_name()
     ensures { (text : List ℕ) (name : NetbiosName) → IsText name text →
         IsName name × AreByteLabels name.scope }
+{}
+
+/// A text has one fault at most, and none where it is a name's.
+pub fn one_text_fault()
+    ensures one { (text : List ℕ) (a b : TextFault) →
+        IsFaultOf text a → IsFaultOf text b → a ≡ b }
+    ensures none { (text : List ℕ) (name : NetbiosName) (fault : TextFault) →
+        IsText name text → ¬ IsFaultOf text fault }
 {}

@@ -1,0 +1,5 @@
+pub mod Key
+pub mod Kind
+pub mod Fragment
+pub mod Datagram
+pub mod Pieces

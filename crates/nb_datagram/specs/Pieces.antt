@@ -1,0 +1,40 @@
+-- The parts of a datagram, and the pieces into which it is cut (RFC 1002 section 5.3). Places count from
+-- the first byte of the datagram's data.
+--
+-- Own: all pieces but the last have one length, and an empty datagram has one piece.
+use Rattle.std.specs.Prelude.{◌≡◌, ◌==◌, ℕ, ◌+◌, ◌-◌, ◌*◌, ◌/◌, ◌≤◌, max, cond, List, map, length, slice_get, slice_range, nat_lt, Some}
+use Rattle.std.specs.List.{range_with_len}
+use Rattle.nb_datagram.specs.declared.limits.TheConstants.{MORE, FIRST}
+use Rattle.nb_datagram.specs.Fragment.{FragmentParts, Core, Covers, reach}
+use Rattle.nb_datagram.specs.Datagram.{DatagramParts}
+
+-- f is a part of d: what it says is true of d, and it says that more follows exactly where more does
+pub record IsPart (f : Core) (d : DatagramParts) : Type 0 where
+  pub key : f.key ≡ d.key
+  pub kind : f.kind ≡ d.kind
+  pub source : f.source ≡ d.source
+  pub destination : f.destination ≡ d.destination
+  pub bytes : (i x : ℕ) → Covers f i x → slice_get d.bytes i ≡ Some x
+  pub within : reach f ≤ length d.bytes
+  pub more : f.more ≡ nat_lt (reach f) (length d.bytes)
+
+-- piece_count n m: how many pieces of m bytes n bytes have, the last of which may be shorter
+abbrev pub piece_count : ℕ → ℕ → ℕ
+piece_count n m = max 1 ((n + m - 1) / m)
+
+-- piece d m j: piece j of d by m covers the places from j * m to below (j + 1) * m; F is set in the
+-- first, M in all but the last, and no other flag
+abbrev pub piece : DatagramParts → ℕ → ℕ → FragmentParts
+piece d m j = record {
+  kind = d.kind;
+  flags = cond (j == 0) FIRST 0 + cond (nat_lt (j + 1) (piece_count (length d.bytes) m)) MORE 0;
+  key = d.key;
+  offset = j * m;
+  source = d.source;
+  destination = d.destination;
+  bytes = slice_range d.bytes (j * m) ((j + 1) * m);
+}
+
+-- the pieces of d by m, m at least 1, in order
+abbrev pub pieces : DatagramParts → ℕ → List FragmentParts
+pieces d m = map (piece d m) (range_with_len 0 (piece_count (length d.bytes) m))

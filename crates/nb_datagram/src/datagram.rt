@@ -1,0 +1,110 @@
+//! Whole datagrams.
+ghost use Rattle.std.specs.Prelude.{◌≡◌, ◌≤◌, ◌<◌, length, MatchResult};
+ghost use Rattle.nb_datagram.specs.declared.limits.TheConstants.{MAX_LENGTH};
+
+use crate::key::Key;
+use crate::kind::Kind;
+use crate::limits::MAX_LENGTH;
+use crate::too_long::TooLong;
+use nb_names::{Bytes, Name};
+use std::marker::Model;
+
+/// A datagram: its key, whom it is for, both names, and its data of at most 65,535 bytes.
+#[derive(Drop)]
+pub struct Datagram {
+    key: Key,
+    kind: Kind,
+    source: Name,
+    destination: Name,
+    bytes: Bytes,
+}
+
+impl Model for Datagram {
+    ghost use Rattle.std.specs.Prelude.{◌≤◌, length};
+    ghost use Rattle.nb_datagram.specs.Datagram.{DatagramParts};
+    ghost use Rattle.nb_datagram.specs.declared.limits.TheConstants.{MAX_LENGTH};
+
+    ghost Value = { DatagramParts };
+
+    ghost view = { λ d. record {
+      key = d.key;
+      kind = d.kind;
+      source = d.source;
+      destination = d.destination;
+      bytes = d.bytes;
+    } };
+
+    ghost invariant = { λ d. length d.bytes ≤ MAX_LENGTH };
+}
+
+impl Datagram {
+    /// A datagram of these parts. No memory is taken.
+    ///
+    /// # Errors
+    ///
+    /// `TooLong` where the data has more than 65,535 bytes.
+    pub fn new(
+        key: Key,
+        kind: Kind,
+        source: Name,
+        destination: Name,
+        bytes: Bytes,
+    ) -> Result<Datagram, TooLong>
+        ensures { MatchResult result
+            (λ datagram. (datagram ≡ record {
+              key = key;
+              kind = kind;
+              source = source;
+              destination = destination;
+              bytes = bytes;
+            }) × (length bytes ≤ MAX_LENGTH))
+            (λ _. MAX_LENGTH < length bytes) }
+    {
+        if bytes.as_slice().len() > MAX_LENGTH {
+            return Err(TooLong);
+        }
+        Ok(Datagram {
+            key,
+            kind,
+            source,
+            destination,
+            bytes,
+        })
+    }
+
+    /// The sender's address, port and identifier.
+    pub fn key(&self) -> Key
+        ensures { result ≡ self.now.key }
+    {
+        self.key
+    }
+
+    /// Whom it is for.
+    pub fn kind(&self) -> Kind
+        ensures { result ≡ self.now.kind }
+    {
+        self.kind
+    }
+
+    /// The sender's name.
+    pub fn source(&self) -> &Name
+        ensures { result.now ≡ self.now.source }
+    {
+        &self.source
+    }
+
+    /// The name that it is for.
+    pub fn destination(&self) -> &Name
+        ensures { result.now ≡ self.now.destination }
+    {
+        &self.destination
+    }
+
+    /// The data.
+    pub fn bytes(&self) -> &[u8]
+        ensures value { result.now ≡ self.now.bytes }
+        ensures within { length self.now.bytes ≤ MAX_LENGTH }
+    {
+        self.bytes.as_slice()
+    }
+}

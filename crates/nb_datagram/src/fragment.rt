@@ -1,0 +1,174 @@
+//! Fragments of datagrams, which borrow their data.
+ghost use Rattle.std.specs.Prelude.{◌≡◌, ◌≤◌, ◌<◌, ◌+◌, length, MatchResult};
+ghost use Rattle.nb_names.specs.DomainName.{spelling};
+ghost use Rattle.nb_names.specs.Name.{labels_of_name};
+ghost use Rattle.nb_names.specs.declared.limits.TheConstants.{MAX_SPELLING};
+ghost use Rattle.nb_datagram.specs.Fragment.{named_length, has_more, is_first};
+ghost use Rattle.nb_datagram.specs.declared.limits.TheConstants.{MAX_LENGTH};
+
+use crate::key::Key;
+use crate::kind::Kind;
+use crate::limits::{FIRST, MAX_LENGTH, MORE};
+use crate::too_long::TooLong;
+use nb_names::Name;
+use std::marker::Model;
+
+/// A part of a datagram's data, as one packet carries it, and what tells which datagram it is of.
+///
+/// The data is borrowed. Both names, spelled plainly, and the data have at most 65,535 bytes together.
+/// RFC 1002 section 4.4.2; that each fragment carries both names is own.
+#[derive(Drop)]
+pub struct Fragment<'a> {
+    kind: Kind,
+    flags: u8,
+    key: Key,
+    offset: u16,
+    source: Name,
+    destination: Name,
+    bytes: &'a [u8],
+}
+
+impl<'a> Model for Fragment<'a> {
+    ghost use Rattle.std.specs.Prelude.{◌≤◌};
+    ghost use Rattle.nb_datagram.specs.Fragment.{FragmentParts, named_length};
+    ghost use Rattle.nb_datagram.specs.declared.limits.TheConstants.{MAX_LENGTH};
+
+    ghost Value = { FragmentParts };
+
+    ghost view = { λ f. record {
+      kind = f.kind;
+      flags = f.flags;
+      key = f.key;
+      offset = f.offset;
+      source = f.source;
+      destination = f.destination;
+      bytes = f.bytes.now;
+    } };
+
+    ghost invariant = { λ f. named_length f.source f.destination f.bytes.now ≤ MAX_LENGTH };
+}
+
+/// How many bytes the plain spelling of a name has, its zero byte included.
+pub(crate) fn spelled_len(name: &Name) -> usize
+    ensures value { result ≡ length (spelling (labels_of_name name.now)) }
+    ensures short { result ≤ MAX_SPELLING }
+{
+    name.to_domain().spelled_len()
+}
+
+impl<'a> Fragment<'a> {
+    /// A fragment of these parts. `flags` is the packet's FLAGS, of which any bits may be set, and
+    /// `offset` the place of the first byte of `bytes` in the datagram's data.
+    ///
+    /// # Errors
+    ///
+    /// `TooLong` where both names, spelled plainly, and the data have more than 65,535 bytes together.
+    pub fn new(
+        kind: Kind,
+        flags: u8,
+        key: Key,
+        offset: u16,
+        source: Name,
+        destination: Name,
+        bytes: &'a [u8],
+    ) -> Result<Fragment<'a>, TooLong>
+        ensures { MatchResult result
+            (λ fragment. (fragment ≡ record {
+              kind = kind;
+              flags = flags;
+              key = key;
+              offset = offset;
+              source = source;
+              destination = destination;
+              bytes = bytes.entry.now;
+            }) × (named_length source destination bytes.entry.now ≤ MAX_LENGTH))
+            (λ _. MAX_LENGTH < named_length source destination bytes.entry.now) }
+    {
+        if bytes.len() > MAX_LENGTH {
+            return Err(TooLong);
+        }
+        if spelled_len(&source) + spelled_len(&destination) + bytes.len() > MAX_LENGTH {
+            return Err(TooLong);
+        }
+        Ok(Fragment {
+            kind,
+            flags,
+            key,
+            offset,
+            source,
+            destination,
+            bytes,
+        })
+    }
+
+    /// Whom the datagram is for.
+    pub fn kind(&self) -> Kind
+        ensures { result ≡ self.now.kind }
+    {
+        self.kind
+    }
+
+    /// The packet's FLAGS, all eight bits.
+    pub fn flags(&self) -> u8
+        ensures { result ≡ self.now.flags }
+    {
+        self.flags
+    }
+
+    /// Which datagram it is of.
+    pub fn key(&self) -> Key
+        ensures { result ≡ self.now.key }
+    {
+        self.key
+    }
+
+    /// The place of the first data byte in the datagram's data.
+    pub fn offset(&self) -> u16
+        ensures { result ≡ self.now.offset }
+    {
+        self.offset
+    }
+
+    /// The sender's name.
+    pub fn source(&self) -> &Name
+        ensures { result.now ≡ self.now.source }
+    {
+        &self.source
+    }
+
+    /// The name that the datagram is for.
+    pub fn destination(&self) -> &Name
+        ensures { result.now ≡ self.now.destination }
+    {
+        &self.destination
+    }
+
+    /// The data.
+    pub fn bytes(&self) -> &'a [u8]
+        ensures value { result.now ≡ self.now.bytes }
+        ensures within { named_length self.now.source self.now.destination self.now.bytes ≤ MAX_LENGTH }
+    {
+        self.bytes
+    }
+
+    /// Whether FLAGS says that this is the datagram's first fragment.
+    pub fn is_first(&self) -> bool
+        ensures { result ≡ is_first self.now.flags }
+    {
+        self.flags & FIRST != 0
+    }
+
+    /// Whether FLAGS says that more fragments follow.
+    pub fn has_more(&self) -> bool
+        ensures { result ≡ has_more self.now.flags }
+    {
+        self.flags & MORE != 0
+    }
+
+    /// The place behind the last data byte: the offset plus how many bytes there are.
+    pub fn reach(&self) -> u32
+        ensures { result ≡ self.now.offset + length self.now.bytes }
+    {
+        u32::from(self.offset) + self.bytes.len() as u32
+    }
+}

@@ -1,0 +1,27 @@
+//! Kinds of datagrams.
+ghost use Rattle.std.specs.Prelude.{◌≡◌};
+ghost use Rattle.nb_datagram.specs.Kind.{type_of};
+
+/// Whom a datagram is for (RFC 1002 section 4.4.1, MSG_TYPE 10 to 12).
+#[derive(Clone, Copy, Debug, PartialEq, Eq)]
+pub enum Kind {
+    /// One station: DIRECT_UNIQUE.
+    Unique,
+    /// The members of a group: DIRECT_GROUP.
+    Group,
+    /// All stations of a scope: BROADCAST.
+    Broadcast,
+}
+
+impl Kind {
+    /// The packet's MSG_TYPE.
+    pub fn message_type(self) -> u8
+        ensures { result ≡ type_of self }
+    {
+        match self {
+            Kind::Unique => 0x10,
+            Kind::Group => 0x11,
+            Kind::Broadcast => 0x12,
+        }
+    }
+}

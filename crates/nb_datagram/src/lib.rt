@@ -1,0 +1,18 @@
+//! The datagram service's fragments and datagrams (RFC 1002 section 4.4).
+#![tactic(auto)]
+
+mod datagram;
+mod fragment;
+mod key;
+mod kind;
+pub mod limits;
+mod too_long;
+
+pub use datagram::Datagram;
+pub use fragment::Fragment;
+pub use key::Key;
+pub use kind::Kind;
+pub use too_long::TooLong;
+
+#[cfg(test)]
+mod tests;

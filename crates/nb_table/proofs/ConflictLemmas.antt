@@ -1,0 +1,238 @@
+-- The tests of conflict and spoiling are the relations.
+use Rattle.std.proofs.Common.{◌≡◌, ◌≢◌, ◌≤◌, ◌||◌, ◌⊎◌, inl, inr, ℕ, Bool, true, false, cond, not, List, [], ◌∷◌, Contains, filter, Option, Some, None, refl, sym, ◌∙◌, ap, subst, arith, nat_lt, Decides}
+use Rattle.std.specs.Ordering.{nat_cmp}
+use Rattle.std.specs.Cmp.{nat_cmp_total}
+use Rattle.std.specs.List.{list_any}
+use Rattle.std.specs.FinMap as map
+use Rattle.std.specs.FinMap.{nat_cmp-IsAntisymmetric}
+use Rattle.nb_datagram.specs.declared.key.Key.{Key}
+use Rattle.nb_datagram.specs.Kind.{same_kind}
+use Rattle.nb_datagram.specs.Key.{same_key}
+use Rattle.nb_datagram.specs.Fragment.{Core, Covers, end_of_one}
+use Rattle.nb_table.specs.Cover.{same_where, bytes_agree, ends_agree, is_within, covers_agree, cover_of}
+use Rattle.nb_table.specs.Entry.{same_name, facts_agree, facts_of}
+use Rattle.nb_table.specs.Conflict.{Conflict, kinds, sources, destinations, overlap, ends, past_end, past_other_end, IsSpoilt, conflicts, some_conflict, with_key, is_spoilt}
+use Rattle.nb_table.proofs.MapsLemmas.{and_fails, entry_fails}
+use Rattle.nb_table.proofs.SameLemmas.{is_eq, not_lt, refutes, same_kind_decides, same_name_decides, same_key_decides}
+use Rattle.nb_table.proofs.PlacedLemmas.{get-cover_of, byte_of_decides, end_of_decides, cover_of_formed}
+use Rattle.nb_table.proofs.CoverLemmas.{Fit, fit_of}
+use Rattle.nb_table.proofs.EntryLemmas.{Accord, accord_of, entry_agrees, facts_unite}
+use Rattle.nb_table.proofs.OrderFreeLemmas.{in_cons, in_first, in_rest, in_none}
+
+-- ---- where a test fails
+
+covers : (f : Core) (i x : ℕ) → map.get (cover_of f).bytes i ≡ Some x → Covers f i x
+covers f i x e = (byte_of_decides f i x).0 (sym (get-cover_of f i) ∙ e)
+
+covered : (f : Core) (i x : ℕ) → Covers f i x → map.get (cover_of f).bytes i ≡ Some x
+covered f i x c = get-cover_of f i ∙ (byte_of_decides f i x).1 c
+
+differs : (o : Option ℕ) (x : ℕ) → same_where o x ≡ false → (y : ℕ) × (o ≡ Some y) × (x ≢ y)
+differs None x e = absurd (cc)
+differs (Some y) x e = (y, refl, λ h. (let clash : true ≡ false = sym (is_eq y x (sym h)) ∙ e in cc clash))
+
+two_ends : (o p : Option ℕ) → ends_agree o p ≡ false → (m n : ℕ) × (o ≡ Some m) × (p ≡ Some n) × (m ≢ n)
+two_ends None p e = absurd (cc)
+two_ends (Some m) p e = let d = differs p m e in (m, d.0, refl, d.1, d.2)
+
+past : (o : Option ℕ) (b : map.FinMap nat_cmp ℕ) → is_within o b ≡ false → (n i x : ℕ) × (o ≡ Some n) × (map.get b i ≡ Some x) × (n ≤ i)
+past None b e = absurd (cc)
+past (Some n) b e =
+    let w = entry_fails nat_cmp_total nat_cmp-IsAntisymmetric (λ i _. nat_lt i n) b e in
+    (n, w.key, w.value, refl, w.found, not_lt w.key n w.fails)
+
+clash_of_bytes : (f g : Core) → bytes_agree (cover_of f).bytes (cover_of g).bytes ≡ false → Conflict f g
+clash_of_bytes f g e =
+    let w = entry_fails nat_cmp_total nat_cmp-IsAntisymmetric (λ i v. same_where (map.get (cover_of g).bytes i) v) (cover_of f).bytes e in
+    let d = differs (map.get (cover_of g).bytes w.key) w.value w.fails in
+    overlap w.key w.value d.0 (covers f w.key w.value w.found) (covers g w.key d.0 d.1) d.2
+
+clash_of_ends : (f g : Core) → ends_agree (end_of_one f) (end_of_one g) ≡ false → Conflict f g
+clash_of_ends f g e =
+    let d = two_ends (end_of_one f) (end_of_one g) e in
+    ends d.0 d.1 ((end_of_decides f d.0).0 d.2) ((end_of_decides g d.1).0 d.3) d.4
+
+clash_past : (f g : Core) → is_within (end_of_one f) (cover_of g).bytes ≡ false → Conflict f g
+clash_past f g e =
+    let d = past (end_of_one f) (cover_of g).bytes e in
+    past_end d.0 d.1 d.2 ((end_of_decides f d.0).0 d.3) (covers g d.1 d.2 d.4) d.5
+
+clash_past_other : (f g : Core) → is_within (end_of_one g) (cover_of f).bytes ≡ false → Conflict f g
+clash_past_other f g e =
+    let d = past (end_of_one g) (cover_of f).bytes e in
+    past_other_end d.0 d.1 d.2 ((end_of_decides g d.0).0 d.3) (covers f d.1 d.2 d.4) d.5
+
+clash_of_covers : (f g : Core) → covers_agree (cover_of f) (cover_of g) ≡ false → Conflict f g
+clash_of_covers f g e = elim (and_fails (bytes_agree (cover_of f).bytes (cover_of g).bytes) _ e) [
+  | inl h ↦ clash_of_bytes f g h
+  | inr e ↦ elim (and_fails (ends_agree (end_of_one f) (end_of_one g)) _ e) [
+    | inl h ↦ clash_of_ends f g h
+    | inr e ↦ elim (and_fails (is_within (end_of_one f) (cover_of g).bytes) _ e) [
+      | inl h ↦ clash_past f g h
+      | inr h ↦ clash_past_other f g h
+    ]
+  ]
+]
+
+conflict_from : (f g : Core) → facts_agree (facts_of f) (facts_of g) ≡ false → Conflict f g
+conflict_from f g e = elim (and_fails (same_kind f.kind g.kind) _ e) [
+  | inl h ↦ kinds (refutes (same_kind f.kind g.kind) (same_kind_decides f.kind g.kind) h)
+  | inr e ↦ elim (and_fails (same_name f.source g.source) _ e) [
+    | inl h ↦ sources (refutes (same_name f.source g.source) (same_name_decides f.source g.source) h)
+    | inr e ↦ elim (and_fails (same_name f.destination g.destination) _ e) [
+      | inl h ↦ destinations (refutes (same_name f.destination g.destination) (same_name_decides f.destination g.destination) h)
+      | inr h ↦ clash_of_covers f g h
+    ]
+  ]
+]
+
+-- ---- no conflict where the facts agree
+
+contradicts : (f g : Core) → Accord (facts_of f) (facts_of g) → Fit (cover_of f) (cover_of g) → Conflict f g → ⊥
+contradicts f g a b (kinds h) = h a.kind
+contradicts f g a b (sources h) = h a.source
+contradicts f g a b (destinations h) = h a.destination
+contradicts f g a b (overlap i x y p q h) = h (b.bytes i x y (covered f i x p) (covered g i y q))
+contradicts f g a b (ends m n p q h) = h (b.ends m n ((end_of_decides f m).1 p) ((end_of_decides g n).1 q))
+contradicts f g a b (past_end n i x p q h) = let below = b.within n i x ((end_of_decides f n).1 p) (covered g i x q) in omega (arith, below, h)
+contradicts f g a b (past_other_end n i x p q h) = let below = b.inside n i x ((end_of_decides g n).1 p) (covered f i x q) in omega (arith, below, h)
+
+test_of : (f g : Core) (b : Bool) → facts_agree (facts_of f) (facts_of g) ≡ b → Conflict f g → not b ≡ true
+test_of f g true e c = let a = accord_of (facts_of f) (facts_of g) e in absurd (contradicts f g a (fit_of (cover_of f) (cover_of g) a.cover) c)
+test_of f g false e c = refl
+
+not_true : (b : Bool) → not b ≡ true → b ≡ false
+not_true true h = absurd (cc)
+not_true false h = refl
+
+pub conflicts_decides : (f g : Core) → Decides (conflicts f g) (Conflict f g)
+conflicts_decides f g = (λ e. conflict_from f g (not_true (facts_agree (facts_of f) (facts_of g)) e), test_of f g _ refl)
+
+-- ---- two fragments of a list
+
+or_cases : (a b : Bool) → (a || b) ≡ true → (a ≡ true) ⊎ (b ≡ true)
+or_cases true b h = inl refl
+or_cases false b h = inr h
+
+pub or_first : (a b : Bool) → a ≡ true → (a || b) ≡ true
+or_first true b h = refl
+or_first false b h = absurd (cc)
+
+or_second : (a b : Bool) → b ≡ true → (a || b) ≡ true
+or_second true b h = refl
+or_second false b h = h
+
+any_found : {X : Type 0} (p : X → Bool) (xs : List X) → list_any p xs ≡ true → (x : X) × Contains xs x × (p x ≡ true)
+any_found p [] h = absurd (cc)
+any_found p (x ∷ xs) h = elim (or_cases (p x) (list_any p xs) h) [
+  | inl e ↦ (x, in_first x xs, e)
+  | inr e ↦ let w = any_found p xs e in (w.0, in_rest x xs w.0 w.1, w.2)
+]
+
+any_from : {X : Type 0} (p : X → Bool) (xs : List X) (x : X) → Contains xs x → p x ≡ true → list_any p xs ≡ true
+any_from p [] x c h = absurd (in_none x c)
+any_from p (y ∷ ys) x c h = elim (in_cons y ys x c) [
+  | inl e ↦ or_first (p y) (list_any p ys) (ap p e ∙ h)
+  | inr c ↦ or_second (p y) (list_any p ys) (any_from p ys x c h)
+]
+
+-- two fragments of these conflict
+record Pair (gs : List Core) : Type 0 where
+  one : Core
+  other : Core
+  has_one : Contains gs one
+  has_other : Contains gs other
+  conflict : conflicts one other ≡ true
+
+pair_found : (gs : List Core) → some_conflict gs ≡ true → Pair gs
+pair_found [] h = absurd (cc)
+pair_found (f ∷ fs) h = elim (or_cases (list_any (conflicts f) fs) (some_conflict fs) h) [
+  | inl e ↦ let w = any_found (conflicts f) fs e in record { one = f; other = w.0; has_one = in_first f fs; has_other = in_rest f fs w.0 w.1; conflict = w.2 }
+  | inr e ↦ let w = pair_found fs e in record { one = w.one; other = w.other; has_one = in_rest f fs w.one w.has_one; has_other = in_rest f fs w.other w.has_other; conflict = w.conflict }
+]
+
+turned : (f g : Core) → conflicts f g ≡ true → conflicts g f ≡ true
+turned f g h = step (facts_agree (facts_of g) (facts_of f)) refl
+  where
+    step : (b : Bool) → facts_agree (facts_of g) (facts_of f) ≡ b → not b ≡ true
+    step true e = let clash : facts_agree (facts_of f) (facts_of g) ≡ true = facts_unite.turned (facts_of g) (facts_of f) e in
+        let fails = not_true (facts_agree (facts_of f) (facts_of g)) h in
+        absurd (let both : true ≡ false = sym clash ∙ fails in cc both)
+    step false e = refl
+
+not_itself : (f : Core) → conflicts f f ≡ true → ⊥
+not_itself f h =
+    let fails = not_true (facts_agree (facts_of f) (facts_of f)) h in
+    let agrees = entry_agrees (facts_of f) (cover_of_formed f) in
+    let both : true ≡ false = sym agrees ∙ fails in cc both
+
+pair_from : (gs : List Core) (f g : Core) → Contains gs f → Contains gs g → conflicts f g ≡ true → some_conflict gs ≡ true
+pair_from [] f g c d h = absurd (in_none f c)
+pair_from (e ∷ es) f g c d h = elim (in_cons e es f c) [
+  | inl a ↦ elim (in_cons e es g d) [
+    | inl b ↦ absurd (not_itself e (ap (conflicts e) b ∙ ap (λ x. conflicts x g) a ∙ h))
+    | inr d ↦ or_first (list_any (conflicts e) es) (some_conflict es) (any_from (conflicts e) es g d (ap (λ x. conflicts x g) a ∙ h))
+  ]
+  | inr c ↦ elim (in_cons e es g d) [
+    | inl b ↦ or_first (list_any (conflicts e) es) (some_conflict es) (any_from (conflicts e) es f c (ap (λ x. conflicts x f) b ∙ turned f g h))
+    | inr d ↦ or_second (list_any (conflicts e) es) (some_conflict es) (pair_from es f g c d h)
+  ]
+]
+
+-- ---- the fragments of a key
+
+pub in_filter : {X : Type 0} (p : X → Bool) (xs : List X) (x : X) → Contains (filter p xs) x → Contains xs x × (p x ≡ true)
+in_filter p [] x c = absurd (in_none x c)
+in_filter p (y ∷ ys) x c = step (p y) refl c (in_filter p ys x)
+  where
+    step : (b : Bool) → p y ≡ b → Contains (cond b (y ∷ filter p ys) (filter p ys)) x → (Contains (filter p ys) x → Contains ys x × (p x ≡ true)) → Contains (y ∷ ys) x × (p x ≡ true)
+    step true e c rec = elim (in_cons y (filter p ys) x c) [
+      | inl h ↦ (subst (Contains (y ∷ ys)) h (in_first y ys), ap p (sym h) ∙ e)
+      | inr d ↦ let r = rec d in (in_rest y ys x r.0, r.1)
+    ]
+    step false e c rec = let r = rec c in (in_rest y ys x r.0, r.1)
+
+pub filter_in : {X : Type 0} (p : X → Bool) (xs : List X) (x : X) → Contains xs x → p x ≡ true → Contains (filter p xs) x
+filter_in p [] x c h = absurd (in_none x c)
+filter_in p (y ∷ ys) x c h = elim (in_cons y ys x c) [
+  | inl e ↦ subst (λ z. Contains (filter p (y ∷ ys)) z) e (step (p y) (ap p e ∙ h))
+  | inr d ↦ other (p y) (filter_in p ys x d h)
+]
+  where
+    step : (b : Bool) → b ≡ true → Contains (cond b (y ∷ filter p ys) (filter p ys)) y
+    step true e = in_first y (filter p ys)
+    step false e = absurd (cc)
+
+    other : (b : Bool) → Contains (filter p ys) x → Contains (cond b (y ∷ filter p ys) (filter p ys)) x
+    other true d = in_rest y (filter p ys) x d
+    other false d = d
+
+pub in_with_key : (k : Key) (L : List Core) (f : Core) → Contains (with_key k L) f → Contains L f × (f.key ≡ k)
+in_with_key k L f c = let r = in_filter (λ f. same_key k f.key) L f c in (r.0, sym ((same_key_decides k f.key).0 r.1))
+
+pub with_key_in : (k : Key) (L : List Core) (f : Core) → Contains L f → f.key ≡ k → Contains (with_key k L) f
+with_key_in k L f c e = filter_in (λ f. same_key k f.key) L f c ((same_key_decides k f.key).1 (sym e))
+
+pub is_spoilt_decides : (L : List Core) (k : Key) → Decides (is_spoilt L k) (IsSpoilt L k)
+is_spoilt_decides L k = (found, from)
+  where
+    found : is_spoilt L k ≡ true → IsSpoilt L k
+    found h =
+        let p = pair_found (with_key k L) h in
+        let one = in_with_key k L p.one p.has_one in
+        let other = in_with_key k L p.other p.has_other in
+        record {
+          one = p.one;
+          other = p.other;
+          has_one = one.0;
+          has_other = other.0;
+          of_key = one.1;
+          disagree = record { same_key = one.1 ∙ sym other.1; conflict = (conflicts_decides p.one p.other).0 p.conflict };
+        }
+
+    from : IsSpoilt L k → is_spoilt L k ≡ true
+    from s =
+        pair_from (with_key k L) s.one s.other
+        (with_key_in k L s.one s.has_one s.of_key)
+        (with_key_in k L s.other s.has_other (sym s.disagree.same_key ∙ s.of_key))
+        ((conflicts_decides s.one s.other).1 s.disagree.conflict)

@@ -1,0 +1,131 @@
+-- Entries agree where kinds and names are the same and covers agree, and their union is one in the sense
+-- of SlotLemmas.
+use Rattle.std.proofs.Common.{◌≡◌, true, refl, sym, ◌∙◌}
+use Rattle.nb_table.specs.Slot.{Spoilt, Held, OnHeld}
+use Rattle.nb_table.specs.Cover.{Cover, covers_agree, join_cover, IsCover}
+use Rattle.nb_table.specs.Entry.{EntryFacts, Entry, facts_agree, facts_together, join_entry, AreEntryFacts, IsEntry}
+use Rattle.nb_table.proofs.MapsLemmas.{and_left, and_right, and_both}
+use Rattle.nb_table.proofs.SameLemmas.{same_kind_decides, same_name_decides}
+use Rattle.nb_table.proofs.SlotLemmas.{Unites, join-comm, join-assoc, join-idem, join_formed}
+use Rattle.nb_table.proofs.CoverLemmas.{covers_unite, formed_agrees, agrees_formed}
+
+-- a and b don't contradict each other
+pub record Accord (a b : EntryFacts) : Type 0 where
+  pub kind : a.kind ≡ b.kind
+  pub source : a.source ≡ b.source
+  pub destination : a.destination ≡ b.destination
+  pub cover : covers_agree a.cover b.cover ≡ true
+
+pub accord_of : (a b : EntryFacts) → facts_agree a b ≡ true → Accord a b
+accord_of a b h =
+    let t1 = and_right _ _ h in let t2 = and_right _ _ t1 in
+    record {
+      kind = (same_kind_decides a.kind b.kind).0 (and_left _ _ h);
+      source = (same_name_decides a.source b.source).0 (and_left _ _ t1);
+      destination = (same_name_decides a.destination b.destination).0 (and_left _ _ t2);
+      cover = and_right _ _ t2;
+    }
+
+pub facts_agree_of : (a b : EntryFacts) → Accord a b → facts_agree a b ≡ true
+facts_agree_of a b f =
+    and_both _ _ ((same_kind_decides a.kind b.kind).1 f.kind)
+    (and_both _ _ ((same_name_decides a.source b.source).1 f.source)
+    (and_both _ _ ((same_name_decides a.destination b.destination).1 f.destination) f.cover))
+
+turned : (a b : EntryFacts) → Accord a b → Accord b a
+turned a b f = record {
+  kind = sym f.kind;
+  source = sym f.source;
+  destination = sym f.destination;
+  cover = covers_unite.turned a.cover b.cover f.cover;
+}
+
+left : (a b c : EntryFacts) → Accord a b → Accord (facts_together a b) c → Accord a c
+left a b c ab f = record {
+  kind = f.kind;
+  source = f.source;
+  destination = f.destination;
+  cover = covers_unite.left a.cover b.cover c.cover ab.cover f.cover;
+}
+
+right : (a b c : EntryFacts) → Accord a b → Accord (facts_together a b) c → Accord b c
+right a b c ab f = record {
+  kind = sym ab.kind ∙ f.kind;
+  source = sym ab.source ∙ f.source;
+  destination = sym ab.destination ∙ f.destination;
+  cover = covers_unite.right a.cover b.cover c.cover ab.cover f.cover;
+}
+
+both : (a b c : EntryFacts) → Accord a c → Accord b c → Accord (facts_together a b) c
+both a b c ac bc = record {
+  kind = ac.kind;
+  source = ac.source;
+  destination = ac.destination;
+  cover = covers_unite.both a.cover b.cover c.cover ac.cover bc.cover;
+}
+
+same : (a b : EntryFacts) → Accord a b → facts_together a b ≡ facts_together b a
+same a b f =
+    let cover = covers_unite.same a.cover b.cover f.cover in
+    λ i. record { kind = f.kind i; source = f.source i; destination = f.destination i; cover = cover i }
+
+pub facts_unite : Unites facts_agree facts_together
+facts_unite = record {
+  turned = λ a b h. facts_agree_of b a (turned a b (accord_of a b h));
+  same = λ a b h. same a b (accord_of a b h);
+  regroup = λ a b c. λ i. record { kind = a.kind; source = a.source; destination = a.destination; cover = covers_unite.regroup a.cover b.cover c.cover i };
+  once = λ a. λ i. record { kind = a.kind; source = a.source; destination = a.destination; cover = covers_unite.once a.cover i };
+  left = λ a b c ab h. facts_agree_of a c (left a b c (accord_of a b ab) (accord_of _ _ h));
+  right = λ a b c ab h. facts_agree_of b c (right a b c (accord_of a b ab) (accord_of _ _ h));
+  both = λ a b c ac bc. facts_agree_of _ _ (both a b c (accord_of a c ac) (accord_of b c bc));
+}
+
+-- ---- well formed is to agree with oneself
+
+pub entry_agrees : (a : EntryFacts) → AreEntryFacts a → facts_agree a a ≡ true
+entry_agrees a h = facts_agree_of a a (record { kind = refl; source = refl; destination = refl; cover = formed_agrees a.cover h })
+
+pub agrees_entry : (a : EntryFacts) → facts_agree a a ≡ true → AreEntryFacts a
+agrees_entry a h = let f = accord_of a a h in agrees_formed a.cover f.cover
+
+entry_slot : (e : Entry) → IsEntry e → OnHeld (λ a. facts_agree a a ≡ true) e
+entry_slot Spoilt f = tt
+entry_slot (Held a) f = entry_agrees a f
+
+slot_entry : (e : Entry) → OnHeld (λ a. facts_agree a a ≡ true) e → IsEntry e
+slot_entry Spoilt f = tt
+slot_entry (Held a) f = agrees_entry a f
+
+cover_slot : (c : Cover) → IsCover c → OnHeld (λ a. covers_agree a a ≡ true) c
+cover_slot Spoilt f = tt
+cover_slot (Held a) f = formed_agrees a f
+
+slot_cover : (c : Cover) → OnHeld (λ a. covers_agree a a ≡ true) c → IsCover c
+slot_cover Spoilt f = tt
+slot_cover (Held a) f = agrees_formed a f
+
+-- ---- the laws of joins of covers and entries
+
+pub join_cover-comm : (a b : Cover) → join_cover a b ≡ join_cover b a
+join_cover-comm = join-comm covers_unite
+
+pub join_cover-assoc : (a b c : Cover) → join_cover (join_cover a b) c ≡ join_cover a (join_cover b c)
+join_cover-assoc = join-assoc covers_unite
+
+pub join_cover-idem : (a : Cover) → IsCover a → join_cover a a ≡ a
+join_cover-idem a f = join-idem covers_unite a (cover_slot a f)
+
+pub join_cover_formed : (a b : Cover) → IsCover a → IsCover b → IsCover (join_cover a b)
+join_cover_formed a b f g = slot_cover _ (join_formed covers_unite a b (cover_slot a f) (cover_slot b g))
+
+pub join_entry-comm : (a b : Entry) → join_entry a b ≡ join_entry b a
+join_entry-comm = join-comm facts_unite
+
+pub join_entry-assoc : (a b c : Entry) → join_entry (join_entry a b) c ≡ join_entry a (join_entry b c)
+join_entry-assoc = join-assoc facts_unite
+
+pub join_entry-idem : (a : Entry) → IsEntry a → join_entry a a ≡ a
+join_entry-idem a f = join-idem facts_unite a (entry_slot a f)
+
+pub join_entry_formed : (a b : Entry) → IsEntry a → IsEntry b → IsEntry (join_entry a b)
+join_entry_formed a b f g = slot_entry _ (join_formed facts_unite a b (entry_slot a f) (entry_slot b g))

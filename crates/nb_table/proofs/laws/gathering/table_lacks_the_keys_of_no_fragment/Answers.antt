@@ -1,0 +1,5 @@
+use Rattle.nb_table.proofs.SayingLemmas.{absent_exactly}
+use Rattle.nb_table.proofs.laws.gathering.table_lacks_the_keys_of_no_fragment.Goals as goal
+
+pub returns : goal.returns
+returns c = absent_exactly

@@ -1,0 +1,32 @@
+use Rattle.std.proofs.Common.{refl, sym, ◌∙◌}
+use Rattle.nb_datagram.specs.Fragment.{core_of}
+use Rattle.nb_table.proofs.SameLemmas.{refutes}
+use Rattle.nb_table.proofs.PlainLemmas.{header_conflict, overlap_conflict, ends_conflict, past_conflict, past_other_conflict, last_conflict}
+use Rattle.nb_table.proofs.plain.conflicting.conflict.Goals as goal
+
+pub returns-then-not-same_header : goal.returns-then-not-same_header
+returns-then-not-same_header c =
+    (λ _. header_conflict (core_of c.args.one.now) (core_of c.args.other.now) (refutes c.same_header.result c.same_header.ensures c.if-not-same_header.true), λ _. refl)
+
+pub returns-then-bytes_differ : goal.returns-then-bytes_differ
+returns-then-bytes_differ c =
+    (λ _. overlap_conflict (core_of c.args.one.now) (core_of c.args.other.now) (c.bytes_differ.ensures.0 c.if-bytes_differ.true), λ _. refl)
+
+pub returns-then-ends_differ : goal.returns-then-ends_differ
+returns-then-ends_differ c =
+    (λ _. ends_conflict (core_of c.args.one.now) (core_of c.args.other.now) (sym c.ends_differ.ensures ∙ c.if-ends_differ.true), λ _. refl)
+
+pub returns-then-passes_end : goal.returns-then-passes_end
+returns-then-passes_end c =
+    (λ _. past_conflict (core_of c.args.one.now) (core_of c.args.other.now) (c.passes_end.ensures.0 c.if-passes_end.true), λ _. refl)
+
+pub returns : goal.returns
+returns c = (
+  λ h. past_other_conflict (core_of c.args.one.now) (core_of c.args.other.now) (c.passes_end-2.ensures.0 h),
+  λ h. c.passes_end-2.ensures.1 (last_conflict (core_of c.args.one.now) (core_of c.args.other.now)
+      (c.same_header.ensures.0 c.if-not-same_header.false)
+      (refutes c.bytes_differ.result c.bytes_differ.ensures c.if-bytes_differ.false)
+      (sym c.ends_differ.ensures ∙ c.if-ends_differ.false)
+      (refutes c.passes_end.result c.passes_end.ensures c.if-passes_end.false)
+      h),
+)

@@ -1,0 +1,82 @@
+-- What a list of fragments says of each key (own). Places count from the first byte of a datagram's
+-- data.
+use Rattle.std.specs.Prelude.{◌≡◌, ◌++◌, ℕ, cond, List, [], ◌∷◌, map, slice_get, Option, Some, None}
+use Rattle.std.specs.FinMap as maps
+use Rattle.std.specs.Coded.{Coded}
+use Rattle.nb_datagram.specs.declared.key.Key.{Key}
+use Rattle.nb_datagram.specs.Key.{key_cmp, key_code}
+use Rattle.nb_datagram.specs.Fragment.{Core, byte_of, end_of_one}
+use Rattle.nb_table.specs.Maps.{first_of, at_keys}
+use Rattle.nb_table.specs.Slot.{Spoilt, Held}
+use Rattle.nb_table.specs.Cover.{CoverFacts, placed}
+use Rattle.nb_table.specs.Entry.{EntryFacts, Entry, entry_code}
+use Rattle.nb_table.specs.Conflict.{with_key, some_conflict}
+
+-- first_byte fs i: the byte at place i of the first of these fragments that covers it
+abbrev pub first_byte : List Core → ℕ → Option ℕ
+first_byte [] i = None
+first_byte (f ∷ fs) i = first_of (byte_of f i) (first_byte fs i)
+
+-- the end of the first of these fragments that ends
+abbrev pub first_end : List Core → Option ℕ
+first_end [] = None
+first_end (f ∷ fs) = first_of (end_of_one f) (first_end fs)
+
+-- byte_at L k i: the byte of the first fragment of L with key k that covers place i
+abbrev pub byte_at : List Core → Key → ℕ → Option ℕ
+byte_at L k i = first_byte (with_key k L) i
+
+-- end_of L k: the end of the first fragment of L with key k that ends
+abbrev pub end_of : List Core → Key → Option ℕ
+end_of L k = first_end (with_key k L)
+
+-- the bytes of these fragments with their places, one fragment behind the other
+abbrev pub all_placed : List Core → List (ℕ × ℕ)
+all_placed [] = []
+all_placed (f ∷ fs) = placed f.offset f.bytes ++ all_placed fs
+
+-- the finite map of the first byte at each place, and the first end
+abbrev pub cover_in : List Core → CoverFacts
+cover_in fs = record { bytes = maps.from_entries (all_placed fs); end = first_end fs }
+
+-- facts_in f fs: the kind and names of f, and the cover of fs
+abbrev pub facts_in : Core → List Core → EntryFacts
+facts_in f fs = record {
+  kind = f.kind;
+  source = f.source;
+  destination = f.destination;
+  cover = cover_in fs;
+}
+
+-- the entry of these fragments of one key: spoilt where two of them conflict, else the kind and names
+-- of the first with the cover of all
+abbrev pub entry_in : List Core → Option Entry
+entry_in [] = None
+entry_in (f ∷ fs) = Some (cond (some_conflict (f ∷ fs)) Spoilt (Held (facts_in f (f ∷ fs))))
+
+-- entry_at L k: what L says of key k, if a fragment has it
+abbrev pub entry_at : List Core → Key → Option Entry
+entry_at L k = entry_in (with_key k L)
+
+-- Says L k e: these facts are what L says of key k: the kind and names of its first fragment with that
+-- key, the byte at each place, and the end
+pub record Says (L : List Core) (k : Key) (e : EntryFacts) : Type 0 where
+  pub first : Core
+  pub is_first : slice_get (with_key k L) 0 ≡ Some first
+  pub kind : e.kind ≡ first.kind
+  pub source : e.source ≡ first.source
+  pub destination : e.destination ≡ first.destination
+  pub bytes : (i : ℕ) → maps.get e.cover.bytes i ≡ byte_at L k i
+  pub end : e.cover.end ≡ end_of L k
+
+-- a table: an entry for each key that it has
+abbrev pub Contents : Type 0
+Contents = maps.FinMap key_cmp Entry
+
+-- the table of a list: the finite map from the keys of its fragments to what it says of them
+abbrev pub table_of : List Core → Contents
+table_of L = at_keys (entry_at L) (map (λ f. f.key) L)
+
+-- a table as the list of its keys and entries
+abbrev pub contents_code : Coded Contents
+contents_code = maps.code key_code entry_code

@@ -1,0 +1,25 @@
+-- Tables, joined (own).
+use Rattle.std.specs.Prelude.{◌≡◌, ◌↔◌, not, List, filter, Some, Contains}
+use Rattle.std.specs.FinMap as maps
+use Rattle.nb_datagram.specs.declared.key.Key.{Key}
+use Rattle.nb_datagram.specs.Key.{same_key}
+use Rattle.nb_datagram.specs.Fragment.{Core}
+use Rattle.nb_table.specs.Maps.{joined}
+use Rattle.nb_table.specs.Entry.{Entry, IsEntry, join_entry}
+use Rattle.nb_table.specs.Contents.{Contents}
+
+-- the join of two tables: the keys of either; at a key of both, the join of the entries
+abbrev pub join : Contents → Contents → Contents
+join = joined join_entry
+
+-- each entry of the table is well formed
+abbrev pub IsTable : Contents → Type 0
+IsTable t = (k : Key) (e : Entry) → maps.get t k ≡ Some e → IsEntry e
+
+-- the lists have the same set of cores
+abbrev pub SameCores : List Core → List Core → Type 0
+SameCores L M = (f : Core) → (Contains L f ↔ Contains M f)
+
+-- without_key k L: the fragments of L whose key isn't k, in order
+abbrev pub without_key : Key → List Core → List Core
+without_key k = filter (λ f. not (same_key k f.key))

@@ -1,0 +1,10 @@
+pub mod Maps
+pub mod Slot
+pub mod Cover
+pub mod Entry
+pub mod Conflict
+pub mod Contents
+pub mod Join
+pub mod Whole
+pub mod Sender
+pub mod Plain

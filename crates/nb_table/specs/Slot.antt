@@ -1,0 +1,41 @@
+-- What facts come to that may contradict each other, and how two such results are joined (own).
+--
+-- It is said once over the facts' type. Covers and entries are two cases of it.
+use Rattle.std.specs.Prelude.{Bool, cond, Option, Some, None, ◌≡◌, refl}
+use Rattle.std.specs.Coded.{Coded, code_by, coded_option}
+
+-- spoilt by facts that contradict each other, or what all of them say together
+pub data Slot (X : Type 0) : Type 0 where
+  Spoilt : Slot X
+  Held : X → Slot X
+
+-- join_slot agree together a b: spoilt if one is, or if the facts of both don't agree; else the facts
+-- of both together
+abbrev pub join_slot : {X : Type 0} → (X → X → Bool) → (X → X → X) → Slot X → Slot X → Slot X
+join_slot agree together Spoilt b = Spoilt
+join_slot agree together (Held a) Spoilt = Spoilt
+join_slot agree together (Held a) (Held b) = cond (agree a b) (Held (together a b)) Spoilt
+
+-- what is held is well formed, if anything is
+abbrev pub OnHeld : {X : Type 0} → (X → Type 0) → Slot X → Type 0
+OnHeld P Spoilt = Unit {0}
+OnHeld P (Held a) = P a
+
+-- the facts, if they are held
+abbrev pub held : {X : Type 0} → Slot X → Option X
+held Spoilt = None
+held (Held a) = Some a
+
+-- what these facts come to, if there are any
+abbrev pub slot_of : {X : Type 0} → Option X → Slot X
+slot_of None = Spoilt
+slot_of (Some a) = Held a
+
+-- the facts of a slot give it back
+pub slot_back : {X : Type 0} (s : Slot X) → slot_of (held s) ≡ s
+slot_back Spoilt = refl
+slot_back (Held a) = refl
+
+-- a slot as its facts, if there are any
+abbrev pub slot_code : {X : Type 0} → Coded X → Coded (Slot X)
+slot_code {X} x = code_by (Option X) (coded_option x) held slot_of slot_back

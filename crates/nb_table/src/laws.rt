@@ -1,0 +1,32 @@
+//! The laws of the definitions, each the contract of a function that does nothing.
+//!
+//! They speak of the values of `specs/` alone. They say that the definitions mean what they are called,
+//! and that no order of arrival, no repeat and no split among stations makes a difference.
+
+mod completing;
+mod conflicting;
+mod gathering;
+mod joining;
+mod parts;
+
+pub use completing::{datagram_has_the_bytes_of_its_entry, whole_entries_have_a_datagram};
+pub use conflicting::{
+    byte_is_that_which_covers, conflict_test_is_the_relation, end_is_where_it_ends,
+    spoilt_test_is_the_relation,
+};
+pub use gathering::{
+    dropping_a_key_drops_its_fragments, same_cores_make_the_same_table,
+    table_has_the_entry_of_its_list, table_holds_what_its_list_says,
+    table_is_spoilt_where_fragments_disagree, table_lacks_the_keys_of_no_fragment,
+    table_of_a_list_is_well_formed, table_of_two_lists_is_the_join,
+};
+pub use joining::{
+    cover_join_is_associative, cover_join_is_commutative, cover_join_is_idempotent,
+    cover_join_is_well_formed, entry_join_is_associative, entry_join_is_commutative,
+    entry_join_is_idempotent, entry_join_is_well_formed, table_join_is_associative,
+    table_join_is_commutative, table_join_is_idempotent, table_join_is_well_formed,
+};
+pub use parts::{
+    all_parts_give_the_datagram, parts_are_not_spoilt, parts_are_whole_where_all_are_there,
+    pieces_are_all_parts,
+};

@@ -1,0 +1,26 @@
+//! The tests by which tables are defined are the relations that say what they mean.
+ghost use Rattle.std.specs.Prelude.{◌≡◌, ◌↔◌, ℕ, Some, IsTrue};
+ghost use Rattle.nb_datagram.specs.declared.key.Key.{Key};
+ghost use Rattle.nb_datagram.specs.Fragment.{Core, Covers, EndsAt, byte_of, end_of_one};
+ghost use Rattle.nb_table.specs.Conflict.{Conflict, IsSpoilt, conflicts, is_spoilt};
+ghost use Rattle.std.specs.Prelude.{List};
+
+/// A fragment has a byte at a place exactly where it covers the place with that byte.
+pub fn byte_is_that_which_covers()
+    ensures { (f : Core) (i x : ℕ) → (byte_of f i ≡ Some x) ↔ Covers f i x }
+{}
+
+/// A fragment has an end exactly where it ends there.
+pub fn end_is_where_it_ends()
+    ensures { (f : Core) (n : ℕ) → (end_of_one f ≡ Some n) ↔ EndsAt f n }
+{}
+
+/// Two fragments fail the test of agreement exactly where they contradict each other.
+pub fn conflict_test_is_the_relation()
+    ensures { (f g : Core) → IsTrue (conflicts f g) ↔ Conflict f g }
+{}
+
+/// A key passes the test for spoilt exactly where two of the list's fragments with the key disagree.
+pub fn spoilt_test_is_the_relation()
+    ensures { (L : List Core) (k : Key) → IsTrue (is_spoilt L k) ↔ IsSpoilt L k }
+{}

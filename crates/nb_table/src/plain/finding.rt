@@ -1,0 +1,85 @@
+//! The first fragment of a key that covers a place, or that ends.
+ghost use Rattle.std.specs.Prelude.{◌≡◌, cond, None};
+ghost use Rattle.nb_datagram.specs.Key.{same_key};
+ghost use Rattle.nb_datagram.specs.Fragment.{core_of, cores_of};
+ghost use Rattle.nb_datagram.specs.Fragment.{byte_of as core_byte};
+ghost use Rattle.nb_datagram.specs.Fragment.{end_of_one as core_end};
+ghost use Rattle.nb_table.specs.Contents.{byte_at as list_byte};
+ghost use Rattle.nb_table.specs.Contents.{end_of as list_end};
+
+use nb_datagram::{Fragment, Key};
+
+/// Whether a fragment has this key.
+pub(crate) fn has_key(fragment: &Fragment<'_>, key: &Key) -> bool
+    ensures { result ≡ same_key key.now fragment.now.key }
+{
+    fragment.key() == *key
+}
+
+/// The byte that a fragment has at a place, if it covers it.
+pub(crate) fn byte_of(fragment: &Fragment<'_>, place: u32) -> Option<u8>
+    ensures { result ≡ core_byte (core_of fragment.now) place }
+{
+    let offset = u32::from(fragment.offset());
+    if place < offset {
+        return None;
+    }
+    fragment.bytes().get((place - offset) as usize).copied()
+}
+
+/// Where a fragment ends, if it does.
+pub(crate) fn end_of_one(fragment: &Fragment<'_>) -> Option<u32>
+    ensures { result ≡ core_end (core_of fragment.now) }
+{
+    if fragment.has_more() {
+        None
+    } else {
+        Some(fragment.reach())
+    }
+}
+
+/// The byte at a place, of a fragment with this key.
+fn byte_with(fragment: &Fragment<'_>, key: &Key, place: u32) -> Option<u8>
+    ensures { result ≡ cond (same_key key.now fragment.now.key) (core_byte (core_of fragment.now) place) None }
+{
+    if has_key(fragment, key) {
+        byte_of(fragment, place)
+    } else {
+        None
+    }
+}
+
+/// The end of a fragment with this key.
+fn end_with(fragment: &Fragment<'_>, key: &Key) -> Option<u32>
+    ensures { result ≡ cond (same_key key.now fragment.now.key) (core_end (core_of fragment.now)) None }
+{
+    if has_key(fragment, key) {
+        end_of_one(fragment)
+    } else {
+        None
+    }
+}
+
+/// The byte at a place of the first fragment with this key that covers it.
+pub fn byte_at(fragments: &[Fragment<'_>], key: &Key, place: u32) -> Option<u8>
+    ensures { result ≡ list_byte (cores_of fragments.now) key.now place }
+{
+    for candidate in fragments {
+        if let Some(byte) = byte_with(candidate, key, place) {
+            return Some(byte);
+        }
+    }
+    None
+}
+
+/// The end of the first fragment with this key that ends.
+pub fn end_of(fragments: &[Fragment<'_>], key: &Key) -> Option<u32>
+    ensures { result ≡ list_end (cores_of fragments.now) key.now }
+{
+    for fragment in fragments {
+        if let Some(end) = end_with(fragment, key) {
+            return Some(end);
+        }
+    }
+    None
+}

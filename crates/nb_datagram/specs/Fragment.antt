@@ -2,8 +2,9 @@
 -- 4.4.1, 4.4.2 and 5.3).
 --
 -- Places count from the first byte of the datagram's data, names not counted.
--- Own: each fragment carries both names, and no flag but M counts when fragments are put together.
-use Rattle.std.specs.Prelude.{◌≡◌, ◌==◌, ℕ, ◌+◌, ◌-◌, ◌≤◌, Bool, true, false, cond, not, List, map, length, slice_get, bit_and, nat_le, Option, Some, None}
+-- Own, and other than section 5.3: each fragment carries both names, and its offset counts from there.
+-- M alone of the flags counts when fragments are put together; F is judged before, when one is taken.
+use Rattle.std.specs.Prelude.{◌≡◌, ◌==◌, ℕ, ◌+◌, ◌-◌, ◌≤◌, Bool, false, cond, not, List, map, length, slice_get, bit_and, nat_le, Option, Some, None}
 use Rattle.nb_names.specs.DomainName.{spelling}
 use Rattle.nb_names.specs.Name.{NetbiosName, labels_of_name}
 use Rattle.nb_datagram.specs.declared.key.Key.{Key}

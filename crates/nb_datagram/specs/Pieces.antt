@@ -1,10 +1,10 @@
--- The parts of a datagram, and the pieces into which it is cut (RFC 1002 section 5.3). Places count from
--- the first byte of the datagram's data.
+-- The parts of a datagram, and the pieces into which it is cut. Places count from the first byte of the
+-- datagram's data.
 --
--- Own: all pieces but the last have one length, and an empty datagram has one piece.
+-- Own, and other than RFC 1002 section 5.3: all pieces but the last have one length, no flag but F and M
+-- is set (SNT is 00), and a datagram without data still has a piece.
 use Rattle.std.specs.Prelude.{◌≡◌, ◌==◌, ℕ, ◌+◌, ◌-◌, ◌*◌, ◌/◌, ◌≤◌, max, cond, List, map, length, slice_get, slice_range, nat_lt, Some}
 use Rattle.std.specs.List.{range_with_len}
-use Rattle.nb_datagram.specs.declared.limits.TheConstants.{MORE, FIRST}
 use Rattle.nb_datagram.specs.Fragment.{FragmentParts, Core, Covers, reach}
 use Rattle.nb_datagram.specs.Datagram.{DatagramParts}
 
@@ -18,16 +18,17 @@ pub record IsPart (f : Core) (d : DatagramParts) : Type 0 where
   pub within : reach f ≤ length d.bytes
   pub more : f.more ≡ nat_lt (reach f) (length d.bytes)
 
--- piece_count n m: how many pieces of m bytes n bytes have, the last of which may be shorter
+-- piece_count n m: how many pieces of m bytes n bytes have, the last of which may be shorter, and at
+-- least one
 abbrev pub piece_count : ℕ → ℕ → ℕ
 piece_count n m = max 1 ((n + m - 1) / m)
 
--- piece d m j: piece j of d by m covers the places from j * m to below (j + 1) * m; F is set in the
--- first, M in all but the last, and no other flag
+-- piece d m j: the m bytes of d from place j * m on, or as many as are left; F marks piece 0, and M each
+-- piece with another behind it
 abbrev pub piece : DatagramParts → ℕ → ℕ → FragmentParts
 piece d m j = record {
   kind = d.kind;
-  flags = cond (j == 0) FIRST 0 + cond (nat_lt (j + 1) (piece_count (length d.bytes) m)) MORE 0;
+  flags = cond (j == 0) 2 0 + cond (nat_lt (j + 1) (piece_count (length d.bytes) m)) 1 0;
   key = d.key;
   offset = j * m;
   source = d.source;

@@ -15,7 +15,7 @@ use std::marker::Model;
 
 /// A part of a datagram's data, as one packet carries it, and what tells which datagram it is of.
 ///
-/// The data is borrowed. Both names, spelled plainly, and the data have at most 65,535 bytes together.
+/// The data is lent. Both names, spelled plainly, and the data have at most 65,535 bytes together.
 /// RFC 1002 section 4.4.2; that each fragment carries both names is own.
 #[derive(Drop)]
 pub struct Fragment<'a> {
@@ -62,7 +62,7 @@ impl<'a> Fragment<'a> {
     ///
     /// # Errors
     ///
-    /// `TooLong` where both names, spelled plainly, and the data have more than 65,535 bytes together.
+    /// `TooLong` where both names, spelled plainly, and the data pass 65,535 bytes together.
     pub fn new(
         kind: Kind,
         flags: u8,
@@ -146,7 +146,8 @@ impl<'a> Fragment<'a> {
     /// The data.
     pub fn bytes(&self) -> &'a [u8]
         ensures value { result.now ≡ self.now.bytes }
-        ensures within { named_length self.now.source self.now.destination self.now.bytes ≤ MAX_LENGTH }
+        ensures within { named_length self.now.source self.now.destination
+            self.now.bytes ≤ MAX_LENGTH }
     {
         self.bytes
     }

@@ -227,12 +227,12 @@ is_spoilt_decides L k = (found, from)
           has_one = one.0;
           has_other = other.0;
           of_key = one.1;
-          disagree = record { same_key = one.1 ∙ sym other.1; conflict = (conflicts_decides p.one p.other).0 p.conflict };
+          disagree = record { one_key = one.1 ∙ sym other.1; conflict = (conflicts_decides p.one p.other).0 p.conflict };
         }
 
     from : IsSpoilt L k → is_spoilt L k ≡ true
     from s =
         pair_from (with_key k L) s.one s.other
         (with_key_in k L s.one s.has_one s.of_key)
-        (with_key_in k L s.other s.has_other (sym s.disagree.same_key ∙ s.of_key))
+        (with_key_in k L s.other s.has_other (sym s.disagree.one_key ∙ s.of_key))
         ((conflicts_decides s.one s.other).1 s.disagree.conflict)

@@ -98,7 +98,7 @@ pub parts_not_spoilt : (L : List Core) (d : DatagramParts) → HasPartsAlone L d
 parts_not_spoilt L d h s =
     parts_free s.one s.other d
     (h s.one s.has_one s.of_key)
-    (h s.other s.has_other (sym s.disagree.same_key ∙ s.of_key))
+    (h s.other s.has_other (sym s.disagree.one_key ∙ s.of_key))
     s.disagree.conflict
 
 -- ---- a list of parts

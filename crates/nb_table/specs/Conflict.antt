@@ -1,13 +1,13 @@
 -- When two fragments contradict each other, and when a key is spoilt in a list of fragments (own).
-use Rattle.std.specs.Prelude.{◌≡◌, ◌≢◌, ℕ, ◌≤◌, Bool, not, List, [], ◌∷◌, ◌||◌, Contains, filter}
+use Rattle.std.specs.Prelude.{◌≡◌, ◌≢◌, ℕ, ◌≤◌, Bool, false, not, List, [], ◌∷◌, ◌||◌, Contains, filter}
 use Rattle.std.specs.List.{list_any}
-use Rattle.std.specs.Prelude.{false}
 use Rattle.nb_datagram.specs.declared.key.Key.{Key}
 use Rattle.nb_datagram.specs.Key.{same_key}
 use Rattle.nb_datagram.specs.Fragment.{Core, Covers, EndsAt}
 use Rattle.nb_table.specs.Entry.{facts_agree, facts_of}
 
--- f and g can't both be fragments of one datagram
+-- f and g contradict each other, whatever their keys: in kind or in a name, in the byte at a place, in
+-- the end, or by a byte of one that lies behind the other's last place
 pub data Conflict (f g : Core) : Type 0 where
   kinds : f.kind ≢ g.kind → Conflict f g
   sources : f.source ≢ g.source → Conflict f g
@@ -19,10 +19,10 @@ pub data Conflict (f g : Core) : Type 0 where
 
 -- two fragments disagree: they have one key, and conflict
 pub record Disagree (f g : Core) : Type 0 where
-  pub same_key : f.key ≡ g.key
+  pub one_key : f.key ≡ g.key
   pub conflict : Conflict f g
 
--- IsSpoilt L k: two fragments of L with key k disagree
+-- IsSpoilt L k: L contradicts itself about the key k
 pub record IsSpoilt (L : List Core) (k : Key) : Type 0 where
   pub one : Core
   pub other : Core
@@ -44,6 +44,6 @@ some_conflict (f ∷ fs) = list_any (conflicts f) fs || some_conflict fs
 abbrev pub with_key : Key → List Core → List Core
 with_key k = filter (λ f. same_key k f.key)
 
--- is_spoilt L k: two fragments of L with key k disagree, as a test
+-- is_spoilt L k: the same, as a test
 abbrev pub is_spoilt : List Core → Key → Bool
 is_spoilt L k = some_conflict (with_key k L)

@@ -22,11 +22,11 @@ abbrev pub first_end : List Core → Option ℕ
 first_end [] = None
 first_end (f ∷ fs) = first_of (end_of_one f) (first_end fs)
 
--- byte_at L k i: the byte of the first fragment of L with key k that covers place i
+-- byte_at L k i: what the earliest fragment of the key k in L that covers place i has there
 abbrev pub byte_at : List Core → Key → ℕ → Option ℕ
 byte_at L k i = first_byte (with_key k L) i
 
--- end_of L k: the end of the first fragment of L with key k that ends
+-- end_of L k: where the earliest fragment of the key k in L that ends does so
 abbrev pub end_of : List Core → Key → Option ℕ
 end_of L k = first_end (with_key k L)
 
@@ -73,7 +73,7 @@ pub record Says (L : List Core) (k : Key) (e : EntryFacts) : Type 0 where
 abbrev pub Contents : Type 0
 Contents = maps.FinMap key_cmp Entry
 
--- the table of a list: the finite map from the keys of its fragments to what it says of them
+-- the table of a list: an entry for each key that one of its fragments has
 abbrev pub table_of : List Core → Contents
 table_of L = at_keys (entry_at L) (map (λ f. f.key) L)
 

@@ -28,7 +28,7 @@ abbrev pub ends_agree : Option ℕ → Option ℕ → Bool
 ends_agree None b = true
 ends_agree (Some x) b = same_where b x
 
--- no covered place is at or past the end
+-- every place with a byte lies below the end, if there is one
 abbrev pub is_within : Option ℕ → map.FinMap nat_cmp ℕ → Bool
 is_within None bytes = true
 is_within (Some n) bytes = list_all (λ e. nat_lt e.0 n) (map.entries bytes)
@@ -51,7 +51,7 @@ Cover = Slot CoverFacts
 abbrev pub join_cover : Cover → Cover → Cover
 join_cover = join_slot covers_agree covers_together
 
--- no covered place is at or past the cover's own end
+-- its own bytes lie below its own end
 abbrev pub AreCoverFacts : CoverFacts → Type 0
 AreCoverFacts a = is_within a.end a.bytes ≡ true
 

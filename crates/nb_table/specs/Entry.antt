@@ -43,7 +43,7 @@ Entry = Slot EntryFacts
 abbrev pub join_entry : Entry → Entry → Entry
 join_entry = join_slot facts_agree facts_together
 
--- no covered place is at or past the entry's own end
+-- every place that it has a byte for lies below its end, if it has one
 abbrev pub AreEntryFacts : EntryFacts → Type 0
 AreEntryFacts a = AreCoverFacts a.cover
 

@@ -9,8 +9,8 @@ pub data Slot (X : Type 0) : Type 0 where
   Spoilt : Slot X
   Held : X → Slot X
 
--- join_slot agree together a b: spoilt if one is, or if the facts of both don't agree; else the facts
--- of both together
+-- join_slot agree together a b: what one side has spoilt stays so, and facts that don't agree spoil it;
+-- otherwise the facts of both together
 abbrev pub join_slot : {X : Type 0} → (X → X → Bool) → (X → X → X) → Slot X → Slot X → Slot X
 join_slot agree together Spoilt b = Spoilt
 join_slot agree together (Held a) Spoilt = Spoilt
@@ -26,7 +26,7 @@ abbrev pub held : {X : Type 0} → Slot X → Option X
 held Spoilt = None
 held (Held a) = Some a
 
--- what these facts come to, if there are any
+-- what these facts come to: spoilt, where there are none
 abbrev pub slot_of : {X : Type 0} → Option X → Slot X
 slot_of None = Spoilt
 slot_of (Some a) = Held a

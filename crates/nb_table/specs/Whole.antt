@@ -9,7 +9,7 @@ use Rattle.nb_table.specs.Cover.{CoverFacts}
 use Rattle.nb_table.specs.Entry.{EntryFacts, Entry}
 use Rattle.nb_table.specs.Contents.{Contents}
 
--- a cover is whole: it has an end, and all places below it are covered
+-- a cover is whole: its end is known, and no place before it lacks a byte
 pub record IsWholeCover (c : CoverFacts) : Type 0 where
   pub length : ℕ
   pub ends : c.end ≡ Some length

@@ -1,7 +1,7 @@
 //! The laws of the definitions, each the contract of a function that does nothing.
 //!
-//! They speak of the values of `specs/` alone. They say that the definitions mean what they are called,
-//! and that no order of arrival, no repeat and no split among stations makes a difference.
+//! They speak of the values of `specs/` alone. They say that the definitions mean what they are
+//! called, and that no order of arrival, no repeat and no split among stations makes a difference.
 
 mod completing;
 mod conflicting;

@@ -11,8 +11,8 @@ use std::test::Fail;
 /// The offset, the FLAGS and the data of a fragment.
 type Piece = (u16, u8, &'static [u8]);
 
-/// What fragments are called, the fragments in order of arrival, and whether their key is then spoilt or
-/// whole with this data.
+/// What fragments are called, the fragments in order of arrival, and whether their key is then
+/// spoilt, or whole with this data.
 type Situation = (&'static str, &'static [Piece], bool, Option<&'static [u8]>);
 
 const KEY: Key = Key {

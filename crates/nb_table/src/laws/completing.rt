@@ -8,10 +8,12 @@ ghost use Rattle.nb_table.specs.Whole.{IsWhole, IsDatagram, datagram_of};
 
 /// An entry has a datagram exactly where it is whole.
 pub fn whole_entries_have_a_datagram()
-    ensures { (k : Key) (e : Entry) → IsWhole e ↔ ((d : DatagramParts) × (datagram_of k e ≡ Some d)) }
+    ensures { (k : Key) (e : Entry) →
+        IsWhole e ↔ ((d : DatagramParts) × (datagram_of k e ≡ Some d)) }
 {}
 
 /// The datagram of an entry has its key, kind and names, and its bytes up to the end, in order.
 pub fn datagram_has_the_bytes_of_its_entry()
-    ensures { (k : Key) (e : EntryFacts) (d : DatagramParts) → (datagram_of k (Held e) ≡ Some d) ↔ IsDatagram k e d }
+    ensures { (k : Key) (e : EntryFacts) (d : DatagramParts) →
+        (datagram_of k (Held e) ≡ Some d) ↔ IsDatagram k e d }
 {}

@@ -20,7 +20,7 @@ pub fn conflict_test_is_the_relation()
     ensures { (f g : Core) → IsTrue (conflicts f g) ↔ Conflict f g }
 {}
 
-/// A key passes the test for spoilt exactly where two of the list's fragments with the key disagree.
+/// A key passes the test for spoilt exactly where two of the list's fragments of it disagree.
 pub fn spoilt_test_is_the_relation()
     ensures { (L : List Core) (k : Key) → IsTrue (is_spoilt L k) ↔ IsSpoilt L k }
 {}

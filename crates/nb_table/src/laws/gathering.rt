@@ -1,5 +1,5 @@
-//! The table of a list of fragments: what it has, and that order, repeats and cuts of the list make no
-//! difference.
+//! The table of a list of fragments: what it has, and that order, repeats and cuts of the list make
+//! no difference.
 ghost use Rattle.std.specs.Prelude.{◌≡◌, ◌≢◌, ◌↔◌, ◌++◌, List, Contains, Some, None};
 ghost use Rattle.std.specs.FinMap as maps;
 ghost use Rattle.nb_datagram.specs.declared.key.Key.{Key};
@@ -17,7 +17,8 @@ pub fn table_has_the_entry_of_its_list()
 
 /// A table has nothing at a key exactly where no fragment of its list has that key.
 pub fn table_lacks_the_keys_of_no_fragment()
-    ensures { (L : List Core) (k : Key) → (maps.get (table_of L) k ≡ None) ↔ ((f : Core) → Contains L f → f.key ≢ k) }
+    ensures { (L : List Core) (k : Key) →
+        (maps.get (table_of L) k ≡ None) ↔ ((f : Core) → Contains L f → f.key ≢ k) }
 {}
 
 /// A table has Spoilt at a key exactly where two fragments of its list with that key disagree.
@@ -25,10 +26,11 @@ pub fn table_is_spoilt_where_fragments_disagree()
     ensures { (L : List Core) (k : Key) → (maps.get (table_of L) k ≡ Some Spoilt) ↔ IsSpoilt L k }
 {}
 
-/// What a table has at any other key is what the list says: the kind and names of the first fragment
-/// with the key, the byte at each place, and the end.
+/// What a table has at any other key is what the list says: the kind and names of the first
+/// fragment with the key, the byte at each place, and the end.
 pub fn table_holds_what_its_list_says()
-    ensures { (L : List Core) (k : Key) (e : EntryFacts) → maps.get (table_of L) k ≡ Some (Held e) → Says L k e }
+    ensures { (L : List Core) (k : Key) (e : EntryFacts) →
+        maps.get (table_of L) k ≡ Some (Held e) → Says L k e }
 {}
 
 /// The table of any list is well formed.

@@ -13,7 +13,8 @@ use nb_datagram::{Fragment, Key};
 
 /// Whether both fragments cover a place, with different bytes.
 fn differ_at(one: &Fragment<'_>, other: &Fragment<'_>, place: u32) -> bool
-    ensures { result ≡ differ (core_byte (core_of one.now) place) (core_byte (core_of other.now) place) }
+    ensures { result ≡ differ (core_byte (core_of one.now) place)
+        (core_byte (core_of other.now) place) }
 {
     match (byte_of(one, place), byte_of(other, place)) {
         (Some(byte), Some(other_byte)) => byte != other_byte,
@@ -88,14 +89,16 @@ fn conflict(one: &Fragment<'_>, other: &Fragment<'_>) -> bool
 
 /// Whether the other fragment has this key, and the two contradict each other.
 fn conflict_with(one: &Fragment<'_>, other: &Fragment<'_>, key: &Key) -> bool
-    ensures { result ≡ (same_key key.now other.now.key && conflicts (core_of one.now) (core_of other.now)) }
+    ensures { result ≡ (same_key key.now other.now.key
+        && conflicts (core_of one.now) (core_of other.now)) }
 {
     has_key(other, key) && conflict(one, other)
 }
 
 /// Whether the fragment contradicts one of the others that have this key.
 fn conflict_with_some(one: &Fragment<'_>, others: &[Fragment<'_>], key: &Key) -> bool
-    ensures { result ≡ list_any (conflicts (core_of one.now)) (with_key key.now (cores_of others.now)) }
+    ensures { result ≡ list_any (conflicts (core_of one.now))
+        (with_key key.now (cores_of others.now)) }
 {
     for other in others {
         if conflict_with(one, other, key) {

@@ -40,7 +40,8 @@ pub(crate) fn end_of_one(fragment: &Fragment<'_>) -> Option<u32>
 
 /// The byte at a place, of a fragment with this key.
 fn byte_with(fragment: &Fragment<'_>, key: &Key, place: u32) -> Option<u8>
-    ensures { result ≡ cond (same_key key.now fragment.now.key) (core_byte (core_of fragment.now) place) None }
+    ensures { result ≡ cond (same_key key.now fragment.now.key)
+        (core_byte (core_of fragment.now) place) None }
 {
     if has_key(fragment, key) {
         byte_of(fragment, place)
@@ -51,7 +52,8 @@ fn byte_with(fragment: &Fragment<'_>, key: &Key, place: u32) -> Option<u8>
 
 /// The end of a fragment with this key.
 fn end_with(fragment: &Fragment<'_>, key: &Key) -> Option<u32>
-    ensures { result ≡ cond (same_key key.now fragment.now.key) (core_end (core_of fragment.now)) None }
+    ensures { result ≡ cond (same_key key.now fragment.now.key)
+        (core_end (core_of fragment.now)) None }
 {
     if has_key(fragment, key) {
         end_of_one(fragment)

@@ -90,7 +90,8 @@ fn bytes_below(
     key: &Key,
     end: u32,
 ) -> Result<Option<Bytes>, NoMemory>
-    ensures { IfOk result (λ bytes. bytes ≡ cover_bytes (cover_in (with_key key.now (cores_of fragments.now))).bytes end) }
+    ensures { IfOk result (λ bytes.
+        bytes ≡ cover_bytes (cover_in (with_key key.now (cores_of fragments.now))).bytes end) }
 {
     let mut bytes = Vec::new(alloc);
     for place in 0..end {
@@ -118,8 +119,8 @@ fn datagram_from(first: &Fragment<'_>, key: &Key, bytes: Bytes) -> Datagram
     Datagram::new(*key, first.kind(), source, destination, bytes).unwrap()
 }
 
-/// The datagram of the key, with the kind and names of this fragment, if each place below the end has
-/// a byte.
+/// The datagram of the key, with the kind and names of this fragment, if each place below the end
+/// has a byte.
 fn datagram_below(
     alloc: Global,
     fragments: &[Fragment<'_>],
@@ -128,7 +129,8 @@ fn datagram_below(
     end: u32,
 ) -> Result<Option<Datagram>, NoMemory>
     requires { end ≤ MAX_LENGTH }
-    ensures { IfOk result (λ datagram. datagram ≡ datagram_to (cores_of fragments.now) key.now (core_of first.now) end) }
+    ensures { IfOk result (λ datagram.
+        datagram ≡ datagram_to (cores_of fragments.now) key.now (core_of first.now) end) }
 {
     match bytes_below(alloc, fragments, key, end)? {
         Some(bytes) => Ok(Some(datagram_from(first, key, bytes))),
@@ -146,8 +148,10 @@ pub fn datagram(
     fragments: &[Fragment<'_>],
     key: &Key,
 ) -> Result<Option<Datagram>, PlainFault>
-    ensures found { IfOk result (λ datagram. datagram ≡ datagram_at (table_of (cores_of fragments.now)) key.now) }
-    ensures too_long { IsErrOf result PlainFault.TooLong ↔ IsLong (datagram_at (table_of (cores_of fragments.now)) key.now) }
+    ensures found { IfOk result (λ datagram.
+        datagram ≡ datagram_at (table_of (cores_of fragments.now)) key.now) }
+    ensures too_long { IsErrOf result PlainFault.TooLong
+        ↔ IsLong (datagram_at (table_of (cores_of fragments.now)) key.now) }
 {
     if !is_whole(fragments, key) {
         return Ok(None);

@@ -1,0 +1,108 @@
+-- Rows that the code reads, item by item, and the packet that they make.
+use Rattle.std.proofs.Common.{◌≡◌, ℕ, ◌+◌, ◌≤◌, List, [], ◌∷◌, ◌++◌, length, take, drop, refl, ap, ◌∙◌, arith, length-append, length-drop}
+use Rattle.std.proofs.lemmas.List.{take-append-drop, length-take-le}
+use Rattle.nb_service.specs.declared.fault.ServiceFault.{ServiceFault}
+use Rattle.nb_service.specs.declared.fault.ServiceFault.TheVariants.{NoMemory}
+use Rattle.nb_service.specs.declared.header.Header.{Header}
+use Rattle.nb_service.specs.declared.limits.TheConstants.{HEADER_LENGTH}
+use Rattle.nb_service.specs.declared.question.Question.{Question}
+use Rattle.nb_service.specs.Header.{HasHeader}
+use Rattle.nb_service.specs.Record.{ResourceRecord}
+use Rattle.nb_service.specs.Packet.{QuestionAt, RecordAt, Row, none, more, ServicePacket, header_of, records_of, IsPacket}
+use Rattle.nb_service.specs.ServiceFaults.{RecordFails, RowFails, QuestionsFail, RecordsFail, record_count, PacketFails, in_questions, in_records, IsRefused, malformed, no_memory}
+use Rattle.nb_service.specs.Reading.{RowOf, HasRow, OrMemory, fails, memory, HasPacket}
+use Rattle.nb_service.proofs.NumberLemmas.{within_16}
+use Rattle.nb_service.proofs.PacketLemmas.{header_within}
+use Rattle.nb_service.proofs.RowLemmas.{row-append, row-snoc, fails_longer, fails_behind}
+
+pub row_begun : {A : Type 0} (S : ℕ → A → ℕ → Type 0) (at : ℕ) → RowOf S at 0 [] at
+row_begun S at = record { row = none; counted = refl }
+
+pub row_turn : {A : Type 0} (S : ℕ → A → ℕ → Type 0) (at k m n : ℕ) (xs : List A) (x : A) → RowOf S at k xs m → S m x n → RowOf S at (k + 1) (xs ++ x ∷ []) n
+row_turn S at k m n xs x r h =
+    record { row = row-snoc S at m n xs x r.row h; counted = omega (arith, length-append xs (x ∷ []), r.counted) }
+
+-- a fault behind the items read
+pub row_stopped : {A : Type 0} (S : ℕ → A → ℕ → Type 0) (F : ℕ → ServiceFault → Type 0) (at k n m : ℕ) (xs : List A) (f : ServiceFault) → RowOf S at k xs m → k + 1 ≤ n → F m f → RowFails S F at n f
+row_stopped S F at k n m xs f r low h = record { items = xs; here = m; before = r.row; fewer = omega (arith, r.counted); fails = h }
+
+-- ---- the packet of rows
+
+-- a row cut after some items
+rows_packet : (b : List ℕ) (h : Header) (qs : List Question) (rs : List ResourceRecord) (behind used : ℕ) → HasHeader b h → RowOf (QuestionAt b) HEADER_LENGTH h.questions qs behind →
+    RowOf (RecordAt b) behind (record_count h) rs used → HasPacket b
+rows_packet b h qs rs behind used x q r =
+    let first : List ResourceRecord = take h.answers rs in
+    let rest : List ResourceRecord = drop h.answers rs in
+    let second : List ResourceRecord = take h.authorities rest in
+    let third : List ResourceRecord = drop h.authorities rest in
+    let long : length first ≡ h.answers = length-take-le h.answers rs (omega (arith, r.counted)) in
+    let left : length rest ≡ h.authorities + h.additional = omega (arith, length-drop h.answers rs, r.counted) in
+    let middle : length second ≡ h.authorities = length-take-le h.authorities rest (omega (arith, left)) in
+    let last : length third ≡ h.additional = omega (arith, length-drop h.authorities rest, left) in
+    let whole : first ++ (second ++ third) ≡ rs = ap (λ (z : List ResourceRecord). first ++ z) (take-append-drop h.authorities rest) ∙ take-append-drop h.answers rs in (
+      record { id = h.id; word = h.word; questions = qs; answers = first; authorities = second; additional = third },
+      used,
+      record {
+        behind = behind;
+        header = rw (q.counted, long, middle, last) x;
+        questions = q.row;
+        records = rw whole r.row;
+      },
+    )
+
+pub packet_there : (b : List ℕ) (h : Header) (behind used : ℕ) → HasHeader b h → HasRow (QuestionAt b) HEADER_LENGTH h.questions behind → HasRow (RecordAt b) behind (record_count h) used → HasPacket b
+packet_there b h behind used x q r = rows_packet b h q.0 r.0 behind used x q.1 r.1
+
+pub packet_built : (b : List ℕ) (h : Header) (qs : List Question) (us bs cs : List ResourceRecord) (m n o used : ℕ) → HasHeader b h → RowOf (QuestionAt b) HEADER_LENGTH h.questions qs m →
+    RowOf (RecordAt b) m h.answers us n → RowOf (RecordAt b) n h.authorities bs o → RowOf (RecordAt b) o h.additional cs used →
+    IsPacket b (record { id = h.id; word = h.word; questions = qs; answers = us; authorities = bs; additional = cs }) used
+packet_built b h qs us bs cs m n o used x q r s t =
+    record {
+      behind = m;
+      header = rw (q.counted, r.counted, s.counted, t.counted) x;
+      questions = q.row;
+      records = row-append (RecordAt b) m n used us (bs ++ cs) r.row (row-append (RecordAt b) n o used bs cs s.row t.row);
+    }
+
+-- ---- faults of rows as faults of the packet
+
+pub check_questions : (b : List ℕ) (h : Header) (f : ServiceFault) → HasHeader b h → QuestionsFail b HEADER_LENGTH h.questions f → PacketFails b f
+check_questions b h f x r = in_questions h x r
+
+pub check_records : (b : List ℕ) (h : Header) (behind : ℕ) (f : ServiceFault) → HasHeader b h → HasRow (QuestionAt b) HEADER_LENGTH h.questions behind →
+    RecordsFail b behind (record_count h) f → PacketFails b f
+check_records b h behind f x q r = in_records h q.0 behind x q.1.row q.1.counted r
+
+pub build_questions : (b : List ℕ) (h : Header) (f : ServiceFault) → HasHeader b h → OrMemory (QuestionsFail b HEADER_LENGTH h.questions) f → OrMemory (PacketFails b) f
+build_questions b h f x (fails r) = fails (in_questions h x r)
+build_questions b h f x memory = memory
+
+pub build_records : (b : List ℕ) (h : Header) (qs : List Question) (rs : List ResourceRecord) (m n count : ℕ) (f : ServiceFault) → HasHeader b h → RowOf (QuestionAt b) HEADER_LENGTH h.questions qs m →
+    Row (RecordAt b) m rs n → length rs + count ≤ record_count h → OrMemory (RecordsFail b n count) f → OrMemory (PacketFails b) f
+build_records b h qs rs m n count f x q before few (fails r) =
+    fails (in_records h qs m x q.row q.counted
+    (fails_longer (RecordAt b) (RecordFails b) m (length rs + count) (record_count h) f
+    (fails_behind (RecordAt b) (RecordFails b) m n count rs f before r) few))
+build_records b h qs rs m n count f x q before few memory = memory
+
+-- ---- answers of decoding
+
+pub refused_build : (b : List ℕ) (f : ServiceFault) → HasPacket b → OrMemory (PacketFails b) f → IsRefused b f
+refused_build b f h (fails r) = malformed r
+refused_build b f h memory = no_memory h.0 h.1 h.2
+
+pub only_memory : (b : List ℕ) (f : ServiceFault) → (PacketFails b f → ⊥) → OrMemory (PacketFails b) f → f ≡ NoMemory
+only_memory b f none_fails (fails r) = absurd (none_fails r)
+only_memory b f none_fails memory = refl
+
+-- ---- the end of a packet is within the bytes
+
+row_within : {A : Type 0} (S : ℕ → A → ℕ → Type 0) (limit : ℕ) → ((at n : ℕ) (x : A) → S at x n → n ≤ limit) → (at n : ℕ) (xs : List A) → Row S at xs n → at ≤ limit → n ≤ limit
+row_within S limit each at n [] none low = low
+row_within S limit each at n (x ∷ xs) (more b y ys h r) low = row_within S limit each b n ys r (each at b y h)
+
+pub packet_within : (b : List ℕ) (p : ServicePacket) (n : ℕ) → IsPacket b p n → n ≤ length b
+packet_within b p n x =
+    let questions = row_within (QuestionAt b) (length b) (λ at m q h. omega (arith, h.end, within_16 b (h.behind + 2) q.class h.class)) HEADER_LENGTH x.behind p.questions x.questions (header_within b (header_of p) x.header) in
+    row_within (RecordAt b) (length b) (λ at m r h. omega (arith, h.end, h.whole)) x.behind n (records_of p) x.records questions

@@ -1,0 +1,6 @@
+use Rattle.nb_service.specs.Packet.{QuestionAt}
+use Rattle.nb_service.specs.Reading.{HasRow}
+use Rattle.nb_service.proofs.checking.skip_questions.Given as goal
+
+abbrev pub invariant-loop : goal.invariant-loop
+invariant-loop l = HasRow (QuestionAt l.packet) l.at l.counter l.next

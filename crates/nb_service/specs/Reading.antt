@@ -1,0 +1,23 @@
+-- What the code has of a packet while it reads it: rows of items, apart from their values.
+use Rattle.std.specs.Prelude.{◌≡◌, ℕ, List, length}
+use Rattle.nb_service.specs.declared.fault.ServiceFault.{ServiceFault}
+use Rattle.nb_service.specs.declared.fault.ServiceFault.TheVariants.{NoMemory}
+use Rattle.nb_service.specs.Packet.{Row, ServicePacket, IsPacket}
+
+-- RowOf Stands at count items next: a row of as many items as the count
+pub record RowOf {A : Type 0} (Stands : ℕ → A → ℕ → Type 0) (at count : ℕ) (items : List A) (next : ℕ) : Type 0 where
+  pub row : Row Stands at items next
+  pub counted : length items ≡ count
+
+-- HasRow Stands at count next: some row of as many items as the count
+abbrev pub HasRow : {A : Type 0} → (ℕ → A → ℕ → Type 0) → ℕ → ℕ → ℕ → Type 0
+HasRow {A} Stands at count next = (items : List A) × RowOf Stands at count items next
+
+-- OrMemory Fails fault: the fault is one of these, or want of memory
+pub data OrMemory (Fails : ServiceFault → Type 0) : ServiceFault → Type 0 where
+  fails : {fault : ServiceFault} → Fails fault → OrMemory Fails fault
+  memory : OrMemory Fails NoMemory
+
+-- these bytes begin with some packet
+abbrev pub HasPacket : List ℕ → Type 0
+HasPacket bytes = (packet : ServicePacket) × (used : ℕ) × IsPacket bytes packet used

@@ -1,0 +1,34 @@
+-- Resource records as values (RFC 1002 section 4.2.1.3). Lengths are in bytes.
+use Rattle.std.specs.Prelude.{◌≡◌, ◌≢◌, ℕ, ◌≤◌, List, length}
+use Rattle.nb_service.specs.declared.kinds.TheConstants.{NS}
+use Rattle.nb_service.specs.declared.limits.TheConstants.{MAX_RDATA}
+use Rattle.nb_service.specs.declared.rdata.Rdata.{Rdata}
+use Rattle.nb_service.specs.declared.rdata.Rdata.TheVariants.{Bytes, Domain}
+
+-- the RDATA of a record: bytes, or the labels of a domain name
+pub data ResourceData : Type 0 where
+  octets : List ℕ → ResourceData
+  target : List (List ℕ) → ResourceData
+
+-- a record: the labels of its name, its kind, class, time to live in seconds, and RDATA
+pub record ResourceRecord : Type 0 where
+  pub name : List (List ℕ)
+  pub kind : ℕ
+  pub class : ℕ
+  pub ttl : ℕ
+  pub rdata : ResourceData
+
+-- record_of name kind class ttl rdata: the record of these parts
+abbrev pub record_of : List (List ℕ) → ℕ → ℕ → ℕ → ResourceData → ResourceRecord
+record_of name kind class ttl rdata =
+    record { name = name; kind = kind; class = class; ttl = ttl; rdata = rdata }
+
+-- IsDataOf kind rdata: records of this kind may have this RDATA: a domain name exactly where it is NS
+abbrev pub IsDataOf : ℕ → ResourceData → Type 0
+IsDataOf kind (octets bytes) = (kind ≢ NS) × (length bytes ≤ MAX_RDATA)
+IsDataOf kind (target labels) = kind ≡ NS
+
+-- the RDATA that a value of the code stands for
+abbrev pub data_of : Rdata → ResourceData
+data_of (Bytes bytes) = octets bytes.now
+data_of (Domain name) = target name

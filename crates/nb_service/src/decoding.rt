@@ -1,0 +1,86 @@
+//! Packets, decoded.
+ghost use Rattle.std.specs.Prelude.{◌≡◌, ◌≤◌, ℕ, length, IfOk, IfErr, OnOk, MatchResult};
+ghost use Rattle.nb_service.specs.declared.fault.ServiceFault.TheVariants.{NoMemory};
+ghost use Rattle.nb_service.specs.Header.{HasHeader};
+ghost use Rattle.nb_service.specs.Packet.{ServicePacket, IsPacket};
+ghost use Rattle.nb_service.specs.Reading.{HasPacket, OrMemory};
+ghost use Rattle.nb_service.specs.ServiceFaults.{PacketFails, IsRefused};
+
+use crate::checking::{skip_questions, skip_records};
+use crate::fault::ServiceFault;
+use crate::header::{Header, read_header};
+use crate::laws::{one_packet, one_service_fault};
+use crate::limits::HEADER_LENGTH;
+use crate::listing::{list_questions, list_records};
+use crate::packet::Packet;
+use std::alloc::Global;
+
+/// Checks the questions and records behind a header, without memory.
+fn check(bytes: &[u8], header: &Header) -> Result<(), ServiceFault>
+    requires { HasHeader bytes.now header.now }
+    ensures found { OnOk result (HasPacket bytes.now) }
+    ensures fault { IfErr result (PacketFails bytes.now) }
+{
+    let behind = skip_questions(bytes, HEADER_LENGTH, header.questions as usize)?;
+    let records = header.answers as usize
+        + (header.authorities as usize + header.additional as usize);
+    skip_records(bytes, behind, records)?;
+    Ok(())
+}
+
+/// Builds the packet behind a header, and its length.
+fn build<'a>(
+    alloc: Global,
+    bytes: &'a [u8],
+    header: &Header,
+) -> Result<(Packet<'a>, usize), ServiceFault>
+    requires { HasHeader bytes.now header.now }
+    ensures found { IfOk result (λ read. IsPacket bytes.now read.0 read.1) }
+    ensures fault { IfErr result (OrMemory (PacketFails bytes.now)) }
+{
+    let (questions, at) = list_questions(alloc, bytes, HEADER_LENGTH, header.questions)?;
+    let (answers, at) = list_records(alloc, bytes, at, header.answers)?;
+    let (authorities, at) = list_records(alloc, bytes, at, header.authorities)?;
+    let (additional, used) = list_records(alloc, bytes, at, header.additional)?;
+    let packet = Packet::with_lists(
+        header.id,
+        header.word,
+        questions,
+        answers,
+        authorities,
+        additional,
+    );
+    Ok((packet, used))
+}
+
+/// Decodes the packet at the front of bytes, and how many bytes it has.
+///
+/// Names are read over all of the bytes, with pointers followed; offsets in pointers and in faults
+/// count from the first byte. Bytes behind the last record are left unread and not counted (own).
+/// Reserved bits, and unknown operations, kinds and classes, are kept. RDATA is borrowed. Memory is
+/// taken for the four lists alone, once the whole packet has been checked.
+///
+/// # Errors
+///
+/// The first fault in reading order; `NoMemory` only where the bytes begin with a packet.
+///
+/// RFC 1002 section 4.2.1. That the RDATA of an NS record is a domain name, with pointers followed,
+/// which ends where the RDATA does, is our own rule.
+pub fn decode<'a>(alloc: Global, bytes: &'a [u8]) -> Result<(Packet<'a>, usize), ServiceFault>
+    // What is answered stands there, and what stands there is answered, unless memory runs out.
+    ensures found { IfOk result (λ read. IsPacket bytes.now read.0 read.1) }
+    ensures only { (packet : ServicePacket) (used : ℕ) → IsPacket bytes.now packet used →
+        MatchResult result (λ read. (read.0 ≡ packet) × (read.1 ≡ used))
+        (λ fault. fault ≡ NoMemory) }
+    ensures within { IfOk result (λ read. read.1 ≤ length bytes.now) }
+
+    // Which fault it is, and where; want of memory only where a packet stands.
+    ensures fault { IfErr result (IsRefused bytes.now) }
+{
+    // The laws on which the clause `only` stands; the calls do nothing.
+    one_packet();
+    one_service_fault();
+    let header = read_header(bytes)?;
+    check(bytes, &header)?;
+    build(alloc, bytes, &header)
+}

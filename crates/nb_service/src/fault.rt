@@ -1,0 +1,74 @@
+//! Why bytes could not be decoded.
+
+use nb_names::NameFault;
+use std::alloc::{AllocError, AllocFailed};
+use std::error::Error;
+use std::fmt;
+
+/// Why a name service packet could not be decoded, and where.
+///
+/// Offsets count from the packet's first byte. The first fault in reading order is answered.
+#[derive(Clone, Copy, Debug, PartialEq, Eq)]
+pub enum ServiceFault {
+    /// A byte of the header, of the numbers behind a name, or of a record's RDATA is missing. The
+    /// offset is that of the first missing byte, which is how many bytes there are.
+    Truncated(usize),
+    /// A name could not be read: that of a question or a record, or the one in the RDATA of an NS
+    /// record.
+    Name(NameFault),
+    /// The name in the RDATA at this offset doesn't end where the RDATA does (own).
+    NameRdata(usize),
+    /// Memory ran out. The bytes are those of a packet.
+    NoMemory,
+}
+
+impl fmt::Display for ServiceFault {
+    ghost use Rattle.std.specs.Prelude.{Some};
+    ghost use Rattle.nb_service.specs.FaultTexts.{service_fault_text};
+
+    ghost output = { λ fault. Some (service_fault_text fault) };
+
+    fn fmt<W: fmt::Write>(&self, f: &mut fmt::Formatter<W>) -> fmt::Result {
+        match self {
+            ServiceFault::Truncated(at) => write!(f, "truncated {at}"),
+            ServiceFault::Name(fault) => write!(f, "name: {fault}"),
+            ServiceFault::NameRdata(at) => write!(f, "name rdata {at}"),
+            ServiceFault::NoMemory => f.write_str("memory"),
+        }
+    }
+}
+
+impl Error for ServiceFault {}
+
+impl From<NameFault> for ServiceFault {
+    ghost use Rattle.std.specs.Prelude.{◌≡◌};
+    ghost use Rattle.nb_service.specs.declared.fault.ServiceFault.TheVariants.{Name};
+
+    ghost from_gives = { λ fault e. e ≡ Name fault };
+
+    fn from(fault: NameFault) -> ServiceFault {
+        ServiceFault::Name(fault)
+    }
+}
+
+impl From<AllocError> for ServiceFault {
+    ghost use Rattle.std.specs.Prelude.{◌≡◌};
+    ghost use Rattle.nb_service.specs.declared.fault.ServiceFault.TheVariants.{NoMemory};
+
+    ghost from_gives = { λ _ e. e ≡ NoMemory };
+
+    fn from(_e: AllocError) -> ServiceFault {
+        ServiceFault::NoMemory
+    }
+}
+
+impl<T: Drop> From<AllocFailed<T>> for ServiceFault {
+    ghost use Rattle.std.specs.Prelude.{◌≡◌};
+    ghost use Rattle.nb_service.specs.declared.fault.ServiceFault.TheVariants.{NoMemory};
+
+    ghost from_gives = { λ _ e. e ≡ NoMemory };
+
+    fn from(_e: AllocFailed<T>) -> ServiceFault {
+        ServiceFault::NoMemory
+    }
+}

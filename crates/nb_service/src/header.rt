@@ -1,0 +1,43 @@
+//! The header of a packet.
+ghost use Rattle.std.specs.Prelude.{IfOk, IfErr};
+ghost use Rattle.nb_service.specs.Header.{HasHeader};
+ghost use Rattle.nb_service.specs.ServiceFaults.{PacketFails};
+
+use crate::fault::ServiceFault;
+use crate::limits::HEADER_LENGTH;
+use crate::numbers::number_16;
+
+/// The fields of a header (RFC 1002 section 4.2.1.1).
+#[derive(Clone, Copy, Debug, PartialEq, Eq)]
+pub(crate) struct Header {
+    /// The identifier, NAME_TRN_ID.
+    pub(crate) id: u16,
+    /// The flag word: R, OPCODE, NM_FLAGS and RCODE.
+    pub(crate) word: u16,
+    /// How many questions there are.
+    pub(crate) questions: u16,
+    /// How many answers there are.
+    pub(crate) answers: u16,
+    /// How many authorities there are.
+    pub(crate) authorities: u16,
+    /// How many additional records there are.
+    pub(crate) additional: u16,
+}
+
+/// The header at the front of a packet.
+pub(crate) fn read_header(packet: &[u8]) -> Result<Header, ServiceFault>
+    ensures found { IfOk result (HasHeader packet.now) }
+    ensures fault { IfErr result (PacketFails packet.now) }
+{
+    if packet.len() < HEADER_LENGTH {
+        return Err(ServiceFault::Truncated(packet.len()));
+    }
+    Ok(Header {
+        id: number_16(packet, 0),
+        word: number_16(packet, 2),
+        questions: number_16(packet, 4),
+        answers: number_16(packet, 6),
+        authorities: number_16(packet, 8),
+        additional: number_16(packet, 10),
+    })
+}

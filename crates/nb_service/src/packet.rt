@@ -1,0 +1,175 @@
+//! Name service packets.
+ghost use Rattle.std.specs.Prelude.{◌≡◌, ◌≤◌, ◌↔◌, length, OnOk, OnErr, IsErrOf};
+ghost use Rattle.nb_service.specs.Building.{packet_of, empty_packet, IsCounted};
+ghost use Rattle.nb_service.specs.Building.{with_question, with_record, section_of, IsFull};
+ghost use Rattle.nb_service.specs.Flags.{opcode_of, rcode_of};
+
+use crate::limits::MAX_ENTRIES;
+use crate::push_fault::PushFault;
+use crate::question::Question;
+use crate::questions::Questions;
+use crate::record::Record;
+use crate::records::Records;
+use crate::section::Section;
+use std::alloc::Global;
+use std::marker::Model;
+
+/// A name service packet (RFC 1002 section 4.2.1).
+///
+/// Each of its four lists has at most 65,535 items. The RDATA of its records is borrowed.
+#[derive(Debug, Drop)]
+pub struct Packet<'a> {
+    id: u16,
+    word: u16,
+    questions: Questions,
+    answers: Records<'a>,
+    authorities: Records<'a>,
+    additional: Records<'a>,
+}
+
+impl<'a> Model for Packet<'a> {
+    ghost use Rattle.nb_service.specs.Packet.{ServicePacket};
+    ghost use Rattle.nb_service.specs.Building.{packet_of, IsCounted};
+
+    ghost Value = { ServicePacket };
+
+    ghost view = { λ p. packet_of p.id p.word p.questions p.answers p.authorities p.additional };
+
+    ghost invariant = { λ p.
+        IsCounted (packet_of p.id p.word p.questions p.answers p.authorities p.additional) };
+}
+
+impl<'a> Packet<'a> {
+    /// A packet of these parts.
+    pub(crate) fn with_lists(
+        id: u16,
+        word: u16,
+        questions: Questions,
+        answers: Records<'a>,
+        authorities: Records<'a>,
+        additional: Records<'a>,
+    ) -> Packet<'a>
+        requires { IsCounted (packet_of id word questions answers authorities additional) }
+        ensures { result ≡
+            packet_of id word questions answers.entry authorities.entry additional.entry }
+    {
+        Packet {
+            id,
+            word,
+            questions,
+            answers,
+            authorities,
+            additional,
+        }
+    }
+
+    /// A packet without questions and records. No memory is taken.
+    pub fn new(alloc: Global, id: u16, word: u16) -> Packet<'a>
+        ensures { result ≡ empty_packet id word }
+    {
+        Packet {
+            id,
+            word,
+            questions: Questions::from_vec(Vec::new(alloc)),
+            answers: Records::from_vec(Vec::new(alloc)),
+            authorities: Records::from_vec(Vec::new(alloc)),
+            additional: Records::from_vec(Vec::new(alloc)),
+        }
+    }
+
+    /// The identifier, NAME_TRN_ID.
+    pub fn id(&self) -> u16
+        ensures { result ≡ self.now.id }
+    {
+        self.id
+    }
+
+    /// The flag word: R, OPCODE, NM_FLAGS and RCODE, with reserved bits as they came.
+    pub fn word(&self) -> u16
+        ensures { result ≡ self.now.word }
+    {
+        self.word
+    }
+
+    /// The operation, OPCODE; any number from 0 to 15.
+    ///
+    /// RFC 1002 section 4.2.1.1.
+    pub fn opcode(&self) -> u8
+        ensures { result ≡ opcode_of self.now.word }
+    {
+        (self.word >> 11 & 0xf) as u8
+    }
+
+    /// The result of a request, RCODE; any number from 0 to 15.
+    ///
+    /// RFC 1002 section 4.2.1.1.
+    pub fn rcode(&self) -> u8
+        ensures { result ≡ rcode_of self.now.word }
+    {
+        (self.word & 0xf) as u8
+    }
+
+    /// The questions.
+    pub fn questions(&self) -> &Questions
+        ensures value { result.now ≡ self.now.questions }
+        ensures counted { IsCounted self.now }
+    {
+        &self.questions
+    }
+
+    /// The records that answer the questions.
+    pub fn answers(&self) -> &Records<'a>
+        ensures value { result.now ≡ self.now.answers }
+        ensures counted { IsCounted self.now }
+    {
+        &self.answers
+    }
+
+    /// The records about name servers.
+    pub fn authorities(&self) -> &Records<'a>
+        ensures value { result.now ≡ self.now.authorities }
+        ensures counted { IsCounted self.now }
+    {
+        &self.authorities
+    }
+
+    /// The records that are given besides.
+    pub fn additional(&self) -> &Records<'a>
+        ensures value { result.now ≡ self.now.additional }
+        ensures counted { IsCounted self.now }
+    {
+        &self.additional
+    }
+
+    /// Adds a question behind the others.
+    ///
+    /// # Errors
+    ///
+    /// The first fault that applies, in [`PushFault`]'s order. The packet is then as it was,
+    /// and the question is dropped.
+    pub fn push_question(&mut self, question: Question) -> Result<(), PushFault>
+        ensures pushed { OnOk result (self.new ≡ with_question self.old question) }
+        ensures too_many { IsErrOf result PushFault.TooMany ↔ IsFull self.old.questions }
+        ensures err { OnErr result (self.new ≡ self.old) }
+    {
+        self.questions.push(question)
+    }
+
+    /// Adds a record to a section, behind the others there.
+    ///
+    /// # Errors
+    ///
+    /// The first fault that applies, in [`PushFault`]'s order. The packet is then as it was,
+    /// and the record is dropped.
+    pub fn push(&mut self, section: Section, entry: Record<'a>) -> Result<(), PushFault>
+        ensures pushed { OnOk result (self.new ≡ with_record self.old section entry.entry) }
+        ensures too_many { IsErrOf result PushFault.TooMany ↔ IsFull (section_of self.old section) }
+        ensures err { OnErr result (self.new ≡ self.old) }
+    {
+        match section {
+            Section::Answer => self.answers.push(entry),
+            Section::Authority => self.authorities.push(entry),
+            Section::Additional => self.additional.push(entry),
+        }
+    }
+}

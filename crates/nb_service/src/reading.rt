@@ -1,0 +1,83 @@
+//! Questions and records, read where they stand in a packet.
+ghost use Rattle.std.specs.Prelude.{◌≡◌, ◌≤◌, ◌+◌, length, IfOk, IfErr};
+ghost use Rattle.nb_service.specs.Packet.{QuestionAt, DataAt, RecordAt};
+ghost use Rattle.nb_service.specs.Record.{data_of};
+ghost use Rattle.nb_service.specs.ServiceFaults.{QuestionFails, TargetFails, RecordFails};
+
+use crate::fault::ServiceFault;
+use crate::kinds::NS;
+use crate::numbers::{number_16, number_32};
+use crate::question::Question;
+use crate::rdata::Rdata;
+use crate::record::Record;
+use nb_names::{Pointers, read_domain};
+
+/// The bytes of a question behind its name: QUESTION_TYPE, QUESTION_CLASS.
+const QUESTION_FIELDS: usize = 4;
+
+/// The bytes of a record between its name and its RDATA: RR_TYPE, RR_CLASS, TTL, RDLENGTH.
+const RECORD_FIELDS: usize = 10;
+
+/// The question that stands at an offset, and the offset behind it. No memory is taken.
+pub(crate) fn read_question(packet: &[u8], at: usize) -> Result<(Question, usize), ServiceFault>
+    ensures found { IfOk result (λ read. QuestionAt packet.now at read.0 read.1) }
+    ensures within { IfOk result (λ read. read.1 ≤ length packet.now) }
+    ensures fault { IfErr result (QuestionFails packet.now at) }
+{
+    let (name, behind) = read_domain(packet, at, Pointers::Followed)?;
+    if packet.len() - behind < QUESTION_FIELDS {
+        return Err(ServiceFault::Truncated(packet.len()));
+    }
+    let question = Question {
+        name,
+        kind: number_16(packet, behind),
+        class: number_16(packet, behind + 2),
+    };
+    Ok((question, behind + QUESTION_FIELDS))
+}
+
+/// The RDATA of a record of a kind: the `size` bytes at `begin`.
+fn read_rdata<'a>(
+    packet: &'a [u8],
+    begin: usize,
+    size: usize,
+    kind: u16,
+) -> Result<Rdata<'a>, ServiceFault>
+    requires { begin + size ≤ length packet.now }
+    ensures found { IfOk result (λ rdata. DataAt packet.now begin size kind (data_of rdata)) }
+    ensures fault { IfErr result (λ fault. (kind ≡ NS) × TargetFails packet.now begin size fault) }
+{
+    if kind != NS {
+        return Ok(Rdata::Bytes(&packet[begin..begin + size]));
+    }
+    let (name, next) = read_domain(packet, begin, Pointers::Followed)?;
+    if next != begin + size {
+        return Err(ServiceFault::NameRdata(begin));
+    }
+    Ok(Rdata::Domain(name))
+}
+
+/// The record that stands at an offset, and the offset behind it. No memory is taken.
+pub(crate) fn read_record<'a>(
+    packet: &'a [u8],
+    at: usize,
+) -> Result<(Record<'a>, usize), ServiceFault>
+    ensures found { IfOk result (λ read. RecordAt packet.now at read.0 read.1) }
+    ensures within { IfOk result (λ read. read.1 ≤ length packet.now) }
+    ensures fault { IfErr result (RecordFails packet.now at) }
+{
+    let (name, behind) = read_domain(packet, at, Pointers::Followed)?;
+    if packet.len() - behind < RECORD_FIELDS {
+        return Err(ServiceFault::Truncated(packet.len()));
+    }
+    let kind = number_16(packet, behind);
+    let class = number_16(packet, behind + 2);
+    let ttl = number_32(packet, behind + 4);
+    let size = number_16(packet, behind + 8) as usize;
+    let begin = behind + RECORD_FIELDS;
+    if packet.len() - begin < size {
+        return Err(ServiceFault::Truncated(packet.len()));
+    }
+    let rdata = read_rdata(packet, begin, size, kind)?;
+    Ok((Record::new(name, kind, class, ttl, rdata), begin + size))
+}

@@ -1,0 +1,135 @@
+//! Resource records.
+ghost use Rattle.std.specs.Prelude.{◌≡◌, ◌≢◌, ◌<◌, ◌↔◌, length, IfOk, IsErrOf};
+ghost use Rattle.nb_service.specs.Record.{octets, target, record_of, data_of, IsDataOf};
+
+use crate::kinds::NS;
+use crate::limits::MAX_RDATA;
+use crate::rdata::Rdata;
+use nb_names::DomainName;
+use std::marker::Model;
+use thiserror::Error;
+
+/// Why there is no such record. Where both apply, the first is answered.
+#[derive(Clone, Copy, Debug, PartialEq, Eq, Error)]
+pub enum RecordFault {
+    /// The kind is NS, whose RDATA is a domain name (own).
+    #[error("the kind is NS")]
+    KindIsNs,
+    /// The RDATA has more than 65,535 bytes.
+    #[error("too long")]
+    TooLong,
+}
+
+/// A resource record (RFC 1002 section 4.2.1.3). RDATA of bytes is borrowed.
+///
+/// The RDATA is a domain name exactly where the kind is NS (own).
+#[derive(Debug, Drop)]
+pub struct Record<'a> {
+    name: DomainName,
+    kind: u16,
+    class: u16,
+    ttl: u32,
+    rdata: Rdata<'a>,
+}
+
+impl<'a> Model for Record<'a> {
+    ghost use Rattle.nb_service.specs.Record.{ResourceRecord, record_of, data_of, IsDataOf};
+
+    ghost Value = { ResourceRecord };
+
+    ghost view = { λ r. record_of r.name r.kind r.class r.ttl (data_of r.rdata) };
+
+    ghost invariant = { λ r. IsDataOf r.kind (data_of r.rdata) };
+}
+
+impl<'a> Record<'a> {
+    /// A record of these parts.
+    pub(crate) fn new(
+        name: DomainName,
+        kind: u16,
+        class: u16,
+        ttl: u32,
+        rdata: Rdata<'a>,
+    ) -> Record<'a>
+        requires { IsDataOf kind (data_of rdata) }
+        ensures { result ≡ record_of name kind class ttl (data_of rdata.entry) }
+    {
+        Record {
+            name,
+            kind,
+            class,
+            ttl,
+            rdata,
+        }
+    }
+
+    /// A record of any kind but NS. No memory is taken.
+    ///
+    /// # Errors
+    ///
+    /// The first fault that applies, in [`RecordFault`]'s order.
+    pub fn bytes(
+        name: DomainName,
+        kind: u16,
+        class: u16,
+        ttl: u32,
+        rdata: &'a [u8],
+    ) -> Result<Record<'a>, RecordFault>
+        ensures value { IfOk result (λ made.
+            made ≡ record_of name kind class ttl (octets rdata.entry.now)) }
+        ensures kind_is_ns { IsErrOf result RecordFault.KindIsNs ↔ (kind ≡ NS) }
+        ensures too_long { IsErrOf result RecordFault.TooLong ↔
+            ((kind ≢ NS) × (MAX_RDATA < length rdata.entry.now)) }
+    {
+        if kind == NS {
+            return Err(RecordFault::KindIsNs);
+        }
+        if rdata.len() > MAX_RDATA {
+            return Err(RecordFault::TooLong);
+        }
+        Ok(Record::new(name, kind, class, ttl, Rdata::Bytes(rdata)))
+    }
+
+    /// A record of kind NS, with the domain name of a name server. No memory is taken.
+    pub fn ns(name: DomainName, class: u16, ttl: u32, domain: DomainName) -> Record<'a>
+        ensures { result ≡ record_of name NS class ttl (target domain) }
+    {
+        Record::new(name, NS, class, ttl, Rdata::Domain(domain))
+    }
+
+    /// The name that the record is about.
+    pub fn name(&self) -> &DomainName
+        ensures { result.now ≡ self.now.name }
+    {
+        &self.name
+    }
+
+    /// The kind; [`crate::kinds`] names some.
+    pub fn kind(&self) -> u16
+        ensures { result ≡ self.now.kind }
+    {
+        self.kind
+    }
+
+    /// The class; [`crate::classes`] names one.
+    pub fn class(&self) -> u16
+        ensures { result ≡ self.now.class }
+    {
+        self.class
+    }
+
+    /// The time to live, in seconds.
+    pub fn ttl(&self) -> u32
+        ensures { result ≡ self.now.ttl }
+    {
+        self.ttl
+    }
+
+    /// The RDATA, a domain name exactly where the kind is NS.
+    pub fn rdata(&self) -> &Rdata<'a>
+        ensures value { data_of result.now ≡ self.now.rdata }
+        ensures kept { IsDataOf self.now.kind self.now.rdata }
+    {
+        &self.rdata
+    }
+}

@@ -2,17 +2,16 @@
 use Rattle.std.proofs.Common.{◌≡◌, ℕ, ◌≤◌, List, ◌++◌, length, take, drop, refl, ap, sym, subst, ◌∙◌, arith, length-append}
 use Rattle.std.proofs.lemmas.List.{take_at, drop_at}
 use Rattle.nb_service.specs.declared.fault.ServiceFault.{ServiceFault}
-use Rattle.nb_service.specs.declared.header.Header.{Header}
 use Rattle.nb_service.specs.declared.limits.TheConstants.{HEADER_LENGTH}
 use Rattle.nb_service.specs.declared.question.Question.{Question}
-use Rattle.nb_service.specs.Header.{HasHeader}
+use Rattle.nb_service.specs.Header.{PacketHeader, HasHeader}
 use Rattle.nb_service.specs.Packet.{QuestionAt, RecordAt, Row, ServicePacket, header_of, records_of, IsPacket}
 use Rattle.nb_service.specs.ServiceFaults.{QuestionFails, RecordFails, RowFails, record_count, PacketFails, cut_header, in_questions, in_records}
 use Rattle.nb_service.proofs.NumberLemmas.{one_number_16, within_16}
 use Rattle.nb_service.proofs.RowLemmas.{one_row, no_row, one_row_fault}
 use Rattle.nb_service.proofs.ItemLemmas.{NameLaws, single_question, single_record}
 
-pub one_header : (packet : List ℕ) (h g : Header) → HasHeader packet h → HasHeader packet g → h ≡ g
+pub one_header : (packet : List ℕ) (h g : PacketHeader) → HasHeader packet h → HasHeader packet g → h ≡ g
 one_header packet h g a b = λ i. record {
   id = one_number_16 packet 0 h.id g.id a.id b.id i;
   word = one_number_16 packet 2 h.word g.word a.word b.word i;
@@ -22,7 +21,7 @@ one_header packet h g a b = λ i. record {
   additional = one_number_16 packet 10 h.additional g.additional a.additional b.additional i;
 }
 
-pub header_within : (packet : List ℕ) (h : Header) → HasHeader packet h → HEADER_LENGTH ≤ length packet
+pub header_within : (packet : List ℕ) (h : PacketHeader) → HasHeader packet h → HEADER_LENGTH ≤ length packet
 header_within packet h a = within_16 packet 10 h.additional a.additional
 
 pub append_cancel : {A : Type 0} (xs ys us vs : List A) → xs ++ ys ≡ us ++ vs → length xs ≡ length us → (xs ≡ us) × (ys ≡ vs)
@@ -38,15 +37,15 @@ pub one_packet : (b : List ℕ) → NameLaws b → (p q : ServicePacket) (m n : 
 one_packet b laws p q m n x y =
     let header : header_of p ≡ header_of q = one_header b (header_of p) (header_of q) x.header y.header in
     let counts : record_count (header_of p) ≡ record_count (header_of q) = ap record_count header in
-    let few : length p.questions ≡ length q.questions = ap (λ (h : Header). h.questions) header in
+    let few : length p.questions ≡ length q.questions = ap (λ (h : PacketHeader). h.questions) header in
     let questions = one_row (QuestionAt b) (QuestionFails b) (single_question b laws) HEADER_LENGTH x.behind y.behind p.questions q.questions x.questions y.questions few in
     let rest : Row (RecordAt b) x.behind (records_of q) n = subst (λ (k : ℕ). Row (RecordAt b) k (records_of q) n) (sym questions.1) y.records in
     let records = one_row (RecordAt b) (RecordFails b) (single_record b laws) x.behind m n (records_of p) (records_of q) x.records rest (length-records_of p ∙ counts ∙ sym (length-records_of q)) in
-    let first = append_cancel p.answers (p.authorities ++ p.additional) q.answers (q.authorities ++ q.additional) records.0 (ap (λ (h : Header). h.answers) header) in
-    let second = append_cancel p.authorities p.additional q.authorities q.additional first.1 (ap (λ (h : Header). h.authorities) header) in (
+    let first = append_cancel p.answers (p.authorities ++ p.additional) q.answers (q.authorities ++ q.additional) records.0 (ap (λ (h : PacketHeader). h.answers) header) in
+    let second = append_cancel p.authorities p.additional q.authorities q.additional first.1 (ap (λ (h : PacketHeader). h.authorities) header) in (
       λ i. record {
-        id = ap (λ (h : Header). h.id) header i;
-        word = ap (λ (h : Header). h.word) header i;
+        id = ap (λ (h : PacketHeader). h.id) header i;
+        word = ap (λ (h : PacketHeader). h.word) header i;
         questions = questions.0 i;
         answers = first.0 i;
         authorities = second.0 i;
@@ -58,12 +57,12 @@ one_packet b laws p q m n x y =
 pub no_packet : (b : List ℕ) → NameLaws b → (p : ServicePacket) (n : ℕ) (f : ServiceFault) → IsPacket b p n → PacketFails b f → ⊥
 no_packet b laws p n f x (cut_header low) = omega (arith, header_within b (header_of p) x.header)
 no_packet b laws p n f x (in_questions h g r) =
-    let same : length p.questions ≡ h.questions = ap (λ (k : Header). k.questions) (one_header b (header_of p) h x.header g) in
+    let same : length p.questions ≡ h.questions = ap (λ (k : PacketHeader). k.questions) (one_header b (header_of p) h x.header g) in
     no_row (QuestionAt b) (QuestionFails b) (single_question b laws) HEADER_LENGTH x.behind p.questions f x.questions
     (subst (λ (k : ℕ). RowFails (QuestionAt b) (QuestionFails b) HEADER_LENGTH k f) (sym same) r)
 no_packet b laws p n f x (in_records h qs behind g before count r) =
     let header : header_of p ≡ h = one_header b (header_of p) h x.header g in
-    let few : length p.questions ≡ length qs = ap (λ (k : Header). k.questions) header ∙ sym count in
+    let few : length p.questions ≡ length qs = ap (λ (k : PacketHeader). k.questions) header ∙ sym count in
     let questions = one_row (QuestionAt b) (QuestionFails b) (single_question b laws) HEADER_LENGTH x.behind behind p.questions qs x.questions before few in
     let same : length (records_of p) ≡ record_count h = length-records_of p ∙ ap record_count header in
     let moved : RowFails (RecordAt b) (RecordFails b) x.behind (record_count h) f = subst (λ (k : ℕ). RowFails (RecordAt b) (RecordFails b) k (record_count h) f) (sym questions.1) r in
@@ -71,10 +70,10 @@ no_packet b laws p n f x (in_records h qs behind g before count r) =
     (subst (λ (k : ℕ). RowFails (RecordAt b) (RecordFails b) x.behind k f) (sym same) moved)
 
 -- a fault in the questions and one behind them
-questions_apart : (b : List ℕ) → NameLaws b → (f : ServiceFault) (h g : Header) (qs : List Question) (behind : ℕ) → HasHeader b h → HasHeader b g →
+questions_apart : (b : List ℕ) → NameLaws b → (f : ServiceFault) (h g : PacketHeader) (qs : List Question) (behind : ℕ) → HasHeader b h → HasHeader b g →
     RowFails (QuestionAt b) (QuestionFails b) HEADER_LENGTH h.questions f → Row (QuestionAt b) HEADER_LENGTH qs behind → length qs ≡ g.questions → ⊥
 questions_apart b laws f h g qs behind x y r before count =
-    let same : length qs ≡ h.questions = count ∙ ap (λ (k : Header). k.questions) (one_header b g h y x) in
+    let same : length qs ≡ h.questions = count ∙ ap (λ (k : PacketHeader). k.questions) (one_header b g h y x) in
     no_row (QuestionAt b) (QuestionFails b) (single_question b laws) HEADER_LENGTH behind qs f before
     (subst (λ (k : ℕ). RowFails (QuestionAt b) (QuestionFails b) HEADER_LENGTH k f) (sym same) r)
 
@@ -89,7 +88,7 @@ one_packet_fault b laws f g (in_questions h x r) (in_records k qs n y before cou
 one_packet_fault b laws f g (in_records h qs n x before count r) (cut_header few) = absurd (omega (arith, header_within b h x))
 one_packet_fault b laws f g (in_records h qs n x before count r) (in_questions k y s) = absurd (questions_apart b laws g k h qs n y x s before count)
 one_packet_fault b laws f g (in_records h qs n x before count r) (in_records k rs m y behind counts s) =
-    let few : length qs ≡ length rs = count ∙ ap (λ (z : Header). z.questions) (one_header b h k x y) ∙ sym counts in
+    let few : length qs ≡ length rs = count ∙ ap (λ (z : PacketHeader). z.questions) (one_header b h k x y) ∙ sym counts in
     let same = one_row (QuestionAt b) (QuestionFails b) (single_question b laws) HEADER_LENGTH n m qs rs before behind few in
     one_row_fault (RecordAt b) (RecordFails b) (single_record b laws) n (record_count h) (record_count k) f g r
     (subst (λ (z : ℕ). RowFails (RecordAt b) (RecordFails b) z (record_count k) g) (sym same.1) s)

@@ -3,10 +3,9 @@ use Rattle.std.proofs.Common.{◌≡◌, ℕ, ◌+◌, ◌≤◌, List, [], ◌�
 use Rattle.std.proofs.lemmas.List.{take-append-drop, length-take-le}
 use Rattle.nb_service.specs.declared.fault.ServiceFault.{ServiceFault}
 use Rattle.nb_service.specs.declared.fault.ServiceFault.TheVariants.{NoMemory}
-use Rattle.nb_service.specs.declared.header.Header.{Header}
 use Rattle.nb_service.specs.declared.limits.TheConstants.{HEADER_LENGTH}
 use Rattle.nb_service.specs.declared.question.Question.{Question}
-use Rattle.nb_service.specs.Header.{HasHeader}
+use Rattle.nb_service.specs.Header.{PacketHeader, HasHeader}
 use Rattle.nb_service.specs.Record.{ResourceRecord}
 use Rattle.nb_service.specs.Packet.{QuestionAt, RecordAt, Row, none, more, ServicePacket, header_of, records_of, IsPacket}
 use Rattle.nb_service.specs.ServiceFaults.{RecordFails, RowFails, QuestionsFail, RecordsFail, record_count, PacketFails, in_questions, in_records, IsRefused, malformed, no_memory}
@@ -29,7 +28,7 @@ row_stopped S F at k n m xs f r low h = record { items = xs; here = m; before = 
 -- ---- the packet of rows
 
 -- a row cut after some items
-rows_packet : (b : List ℕ) (h : Header) (qs : List Question) (rs : List ResourceRecord) (behind used : ℕ) → HasHeader b h → RowOf (QuestionAt b) HEADER_LENGTH h.questions qs behind →
+rows_packet : (b : List ℕ) (h : PacketHeader) (qs : List Question) (rs : List ResourceRecord) (behind used : ℕ) → HasHeader b h → RowOf (QuestionAt b) HEADER_LENGTH h.questions qs behind →
     RowOf (RecordAt b) behind (record_count h) rs used → HasPacket b
 rows_packet b h qs rs behind used x q r =
     let first : List ResourceRecord = take h.answers rs in
@@ -51,10 +50,10 @@ rows_packet b h qs rs behind used x q r =
       },
     )
 
-pub packet_there : (b : List ℕ) (h : Header) (behind used : ℕ) → HasHeader b h → HasRow (QuestionAt b) HEADER_LENGTH h.questions behind → HasRow (RecordAt b) behind (record_count h) used → HasPacket b
+pub packet_there : (b : List ℕ) (h : PacketHeader) (behind used : ℕ) → HasHeader b h → HasRow (QuestionAt b) HEADER_LENGTH h.questions behind → HasRow (RecordAt b) behind (record_count h) used → HasPacket b
 packet_there b h behind used x q r = rows_packet b h q.0 r.0 behind used x q.1 r.1
 
-pub packet_built : (b : List ℕ) (h : Header) (qs : List Question) (us bs cs : List ResourceRecord) (m n o used : ℕ) → HasHeader b h → RowOf (QuestionAt b) HEADER_LENGTH h.questions qs m →
+pub packet_built : (b : List ℕ) (h : PacketHeader) (qs : List Question) (us bs cs : List ResourceRecord) (m n o used : ℕ) → HasHeader b h → RowOf (QuestionAt b) HEADER_LENGTH h.questions qs m →
     RowOf (RecordAt b) m h.answers us n → RowOf (RecordAt b) n h.authorities bs o → RowOf (RecordAt b) o h.additional cs used →
     IsPacket b (record { id = h.id; word = h.word; questions = qs; answers = us; authorities = bs; additional = cs }) used
 packet_built b h qs us bs cs m n o used x q r s t =
@@ -67,18 +66,18 @@ packet_built b h qs us bs cs m n o used x q r s t =
 
 -- ---- faults of rows as faults of the packet
 
-pub check_questions : (b : List ℕ) (h : Header) (f : ServiceFault) → HasHeader b h → QuestionsFail b HEADER_LENGTH h.questions f → PacketFails b f
+pub check_questions : (b : List ℕ) (h : PacketHeader) (f : ServiceFault) → HasHeader b h → QuestionsFail b HEADER_LENGTH h.questions f → PacketFails b f
 check_questions b h f x r = in_questions h x r
 
-pub check_records : (b : List ℕ) (h : Header) (behind : ℕ) (f : ServiceFault) → HasHeader b h → HasRow (QuestionAt b) HEADER_LENGTH h.questions behind →
+pub check_records : (b : List ℕ) (h : PacketHeader) (behind : ℕ) (f : ServiceFault) → HasHeader b h → HasRow (QuestionAt b) HEADER_LENGTH h.questions behind →
     RecordsFail b behind (record_count h) f → PacketFails b f
 check_records b h behind f x q r = in_records h q.0 behind x q.1.row q.1.counted r
 
-pub build_questions : (b : List ℕ) (h : Header) (f : ServiceFault) → HasHeader b h → OrMemory (QuestionsFail b HEADER_LENGTH h.questions) f → OrMemory (PacketFails b) f
+pub build_questions : (b : List ℕ) (h : PacketHeader) (f : ServiceFault) → HasHeader b h → OrMemory (QuestionsFail b HEADER_LENGTH h.questions) f → OrMemory (PacketFails b) f
 build_questions b h f x (fails r) = fails (in_questions h x r)
 build_questions b h f x memory = memory
 
-pub build_records : (b : List ℕ) (h : Header) (qs : List Question) (rs : List ResourceRecord) (m n count : ℕ) (f : ServiceFault) → HasHeader b h → RowOf (QuestionAt b) HEADER_LENGTH h.questions qs m →
+pub build_records : (b : List ℕ) (h : PacketHeader) (qs : List Question) (rs : List ResourceRecord) (m n count : ℕ) (f : ServiceFault) → HasHeader b h → RowOf (QuestionAt b) HEADER_LENGTH h.questions qs m →
     Row (RecordAt b) m rs n → length rs + count ≤ record_count h → OrMemory (RecordsFail b n count) f → OrMemory (PacketFails b) f
 build_records b h qs rs m n count f x q before few (fails r) =
     fails (in_records h qs m x q.row q.counted

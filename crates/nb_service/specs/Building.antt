@@ -1,4 +1,4 @@
--- Packets built part by part (own).
+-- Packets built part by part.
 use Rattle.std.specs.Prelude.{ℕ, ◌≤◌, List, [], ◌∷◌, ◌++◌, length}
 use Rattle.nb_service.specs.declared.limits.TheConstants.{MAX_ENTRIES}
 use Rattle.nb_service.specs.declared.question.Question.{Question}

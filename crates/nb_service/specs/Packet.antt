@@ -1,19 +1,19 @@
 -- Name service packets, and how they stand in bytes (RFC 1002 section 4.2.1). All offsets count from
--- the packet's first byte, and what stands at one is told with the offset behind it.
+-- the packet's first byte. Numbers behind the names of fields are their widths in bytes, and a field
+-- `behind` is the offset behind a name.
 --
--- A name is read over all of the bytes, its pointers followed. Bytes behind the last record belong to
--- no part of the packet (own). Own: the RDATA of a record of kind NS is a domain name, which ends
+-- Names are read over all of the bytes, their pointers followed, so a label may reach into bytes behind
+-- the last record. Those bytes count as no part of the packet (own). Own: the RDATA of a record of kind NS is a domain name, which ends
 -- where the RDATA does.
 use Rattle.std.specs.Prelude.{◌≡◌, ◌≢◌, ℕ, ◌+◌, ◌≤◌, List, [], ◌∷◌, ◌++◌, length}
 use Rattle.std.specs.Int.{w16, w32}
 use Rattle.nb_names.specs.declared.pointers.Pointers.TheVariants.{Followed}
 use Rattle.nb_names.specs.Labels.{StandsAt, NameAt}
-use Rattle.nb_service.specs.declared.header.Header.{Header}
 use Rattle.nb_service.specs.declared.kinds.TheConstants.{NS}
 use Rattle.nb_service.specs.declared.limits.TheConstants.{HEADER_LENGTH}
 use Rattle.nb_service.specs.declared.question.Question.{Question}
 use Rattle.nb_service.specs.Numbers.{NumberAt}
-use Rattle.nb_service.specs.Header.{HasHeader}
+use Rattle.nb_service.specs.Header.{PacketHeader, HasHeader}
 use Rattle.nb_service.specs.Record.{ResourceData, octets, target, ResourceRecord}
 
 -- QuestionAt packet at question next: at this offset the question stands (RFC 1002 section 4.2.1.2):
@@ -63,7 +63,7 @@ pub record ServicePacket : Type 0 where
   pub additional : List ResourceRecord
 
 -- the header of a packet: its counts are the lengths of the lists
-abbrev pub header_of : ServicePacket → Header
+abbrev pub header_of : ServicePacket → PacketHeader
 header_of packet =
     record {
       id = packet.id;
@@ -78,8 +78,8 @@ header_of packet =
 abbrev pub records_of : ServicePacket → List ResourceRecord
 records_of packet = packet.answers ++ (packet.authorities ++ packet.additional)
 
--- IsPacket bytes packet used: the first `used` of these bytes are this packet: its header, its
--- questions, then its records
+-- IsPacket bytes packet used: these bytes begin with this packet, which takes up `used` of them: its
+-- header, its questions, then its records
 pub record IsPacket (bytes : List ℕ) (packet : ServicePacket) (used : ℕ) : Type 0 where
   pub behind : ℕ
   pub header : HasHeader bytes (header_of packet)

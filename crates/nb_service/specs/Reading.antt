@@ -1,8 +1,10 @@
--- What the code has of a packet while it reads it: rows of items, apart from their values.
+-- What the code's own functions tell of a packet while it is read; no public contract cites this.
 use Rattle.std.specs.Prelude.{◌≡◌, ℕ, List, length}
 use Rattle.nb_service.specs.declared.fault.ServiceFault.{ServiceFault}
 use Rattle.nb_service.specs.declared.fault.ServiceFault.TheVariants.{NoMemory}
 use Rattle.nb_service.specs.Packet.{Row, ServicePacket, IsPacket}
+use Rattle.nb_service.specs.declared.header.Header.{Header}
+use Rattle.nb_service.specs.Header.{PacketHeader}
 
 -- RowOf Stands at count items next: a row of as many items as the count
 pub record RowOf {A : Type 0} (Stands : ℕ → A → ℕ → Type 0) (at count : ℕ) (items : List A) (next : ℕ) : Type 0 where
@@ -21,3 +23,15 @@ pub data OrMemory (Fails : ServiceFault → Type 0) : ServiceFault → Type 0 wh
 -- these bytes begin with some packet
 abbrev pub HasPacket : List ℕ → Type 0
 HasPacket bytes = (packet : ServicePacket) × (used : ℕ) × IsPacket bytes packet used
+
+-- the header that a value of the code stands for
+abbrev pub header_value : Header → PacketHeader
+header_value h =
+    record {
+      id = h.id;
+      word = h.word;
+      questions = h.questions;
+      answers = h.answers;
+      authorities = h.authorities;
+      additional = h.additional;
+    }

@@ -23,7 +23,8 @@ abbrev pub record_of : List (List ℕ) → ℕ → ℕ → ℕ → ResourceData 
 record_of name kind class ttl rdata =
     record { name = name; kind = kind; class = class; ttl = ttl; rdata = rdata }
 
--- IsDataOf kind rdata: records of this kind may have this RDATA: a domain name exactly where it is NS
+-- IsDataOf kind rdata: records of this kind may have this RDATA: a domain name where the kind is NS, and
+-- elsewhere bytes, up to the 65,535 that RDLENGTH can tell
 abbrev pub IsDataOf : ℕ → ResourceData → Type 0
 IsDataOf kind (octets bytes) = (kind ≢ NS) × (length bytes ≤ MAX_RDATA)
 IsDataOf kind (target labels) = kind ≡ NS

@@ -11,12 +11,11 @@ use Rattle.nb_names.specs.Labels.{NameAt}
 use Rattle.nb_names.specs.NameFaults.{FaultAt}
 use Rattle.nb_service.specs.declared.fault.ServiceFault.{ServiceFault}
 use Rattle.nb_service.specs.declared.fault.ServiceFault.TheVariants.{Truncated, Name, NameRdata, NoMemory}
-use Rattle.nb_service.specs.declared.header.Header.{Header}
 use Rattle.nb_service.specs.declared.kinds.TheConstants.{NS}
 use Rattle.nb_service.specs.declared.limits.TheConstants.{HEADER_LENGTH}
 use Rattle.nb_service.specs.declared.question.Question.{Question}
 use Rattle.nb_service.specs.Numbers.{NumberAt}
-use Rattle.nb_service.specs.Header.{HasHeader}
+use Rattle.nb_service.specs.Header.{PacketHeader, HasHeader}
 use Rattle.nb_service.specs.Packet.{QuestionAt, RecordAt, Row, ServicePacket, IsPacket}
 
 -- QuestionFails packet at fault: no question stands at this offset, and this is its first fault
@@ -73,16 +72,16 @@ abbrev pub RecordsFail : List ℕ → ℕ → ℕ → ServiceFault → Type 0
 RecordsFail packet = RowFails (RecordAt packet) (RecordFails packet)
 
 -- how many records a header promises
-abbrev pub record_count : Header → ℕ
+abbrev pub record_count : PacketHeader → ℕ
 record_count header = header.answers + (header.authorities + header.additional)
 
 -- PacketFails bytes fault: these bytes begin with no packet, and this is the first fault
 pub data PacketFails (bytes : List ℕ) : ServiceFault → Type 0 where
   cut_header : length bytes < HEADER_LENGTH → PacketFails bytes (Truncated (length bytes))
-  in_questions : {fault : ServiceFault} (header : Header) → HasHeader bytes header
+  in_questions : {fault : ServiceFault} (header : PacketHeader) → HasHeader bytes header
       → QuestionsFail bytes HEADER_LENGTH header.questions fault
       → PacketFails bytes fault
-  in_records : {fault : ServiceFault} (header : Header) (questions : List Question) (behind : ℕ)
+  in_records : {fault : ServiceFault} (header : PacketHeader) (questions : List Question) (behind : ℕ)
       → HasHeader bytes header → Row (QuestionAt bytes) HEADER_LENGTH questions behind
       → length questions ≡ header.questions
       → RecordsFail bytes behind (record_count header) fault

@@ -3,7 +3,7 @@ ghost use Rattle.std.specs.Prelude.{◌≡◌, ◌≤◌, ℕ, length, IfOk, IfE
 ghost use Rattle.nb_service.specs.declared.fault.ServiceFault.TheVariants.{NoMemory};
 ghost use Rattle.nb_service.specs.Header.{HasHeader};
 ghost use Rattle.nb_service.specs.Packet.{ServicePacket, IsPacket};
-ghost use Rattle.nb_service.specs.Reading.{HasPacket, OrMemory};
+ghost use Rattle.nb_service.specs.Reading.{header_value, HasPacket, OrMemory};
 ghost use Rattle.nb_service.specs.ServiceFaults.{PacketFails, IsRefused};
 
 use crate::checking::{skip_questions, skip_records};
@@ -17,7 +17,7 @@ use std::alloc::Global;
 
 /// Checks the questions and records behind a header, without memory.
 fn check(bytes: &[u8], header: &Header) -> Result<(), ServiceFault>
-    requires { HasHeader bytes.now header.now }
+    requires { HasHeader bytes.now (header_value header.now) }
     ensures found { OnOk result (HasPacket bytes.now) }
     ensures fault { IfErr result (PacketFails bytes.now) }
 {
@@ -34,7 +34,7 @@ fn build<'a>(
     bytes: &'a [u8],
     header: &Header,
 ) -> Result<(Packet<'a>, usize), ServiceFault>
-    requires { HasHeader bytes.now header.now }
+    requires { HasHeader bytes.now (header_value header.now) }
     ensures found { IfOk result (λ read. IsPacket bytes.now read.0 read.1) }
     ensures fault { IfErr result (OrMemory (PacketFails bytes.now)) }
 {
@@ -53,16 +53,17 @@ fn build<'a>(
     Ok((packet, used))
 }
 
-/// Decodes the packet at the front of bytes, and how many bytes it has.
+/// Decodes the packet at the front of bytes, and how many of them it takes up.
 ///
 /// Names are read over all of the bytes, with pointers followed; offsets in pointers and in faults
-/// count from the first byte. Bytes behind the last record are left unread and not counted (own).
-/// Reserved bits, and unknown operations, kinds and classes, are kept. RDATA is borrowed. Memory is
-/// taken for the four lists alone, once the whole packet has been checked.
+/// count from the first byte. What stands behind the last record doesn't count towards the length
+/// (own); only a label that a pointer leads to can reach into it. Numbers and bits without a
+/// meaning here come through unchanged. A record's bytes are lent from the input. Memory is taken
+/// for the four lists alone, once the whole packet has been checked.
 ///
 /// # Errors
 ///
-/// The first fault in reading order; `NoMemory` only where the bytes begin with a packet.
+/// What is wrong first, read from the front; `NoMemory` only where the bytes begin with a packet.
 ///
 /// RFC 1002 section 4.2.1. That the RDATA of an NS record is a domain name, with pointers followed,
 /// which ends where the RDATA does, is our own rule.

@@ -7,18 +7,18 @@ use std::fmt;
 
 /// Why a name service packet could not be decoded, and where.
 ///
-/// Offsets count from the packet's first byte. The first fault in reading order is answered.
+/// Offsets count from the packet's first byte. Of several faults the one nearest the front is told.
 #[derive(Clone, Copy, Debug, PartialEq, Eq)]
 pub enum ServiceFault {
     /// A byte of the header, of the numbers behind a name, or of a record's RDATA is missing. The
-    /// offset is that of the first missing byte, which is how many bytes there are.
+    /// number is how many bytes there are: the place where one is missing.
     Truncated(usize),
     /// A name could not be read: that of a question or a record, or the one in the RDATA of an NS
     /// record.
     Name(NameFault),
     /// The name in the RDATA at this offset doesn't end where the RDATA does (own).
     NameRdata(usize),
-    /// Memory ran out. The bytes are those of a packet.
+    /// Memory ran out. The bytes begin with a packet.
     NoMemory,
 }
 

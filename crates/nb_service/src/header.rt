@@ -1,6 +1,7 @@
 //! The header of a packet.
 ghost use Rattle.std.specs.Prelude.{IfOk, IfErr};
 ghost use Rattle.nb_service.specs.Header.{HasHeader};
+ghost use Rattle.nb_service.specs.Reading.{header_value};
 ghost use Rattle.nb_service.specs.ServiceFaults.{PacketFails};
 
 use crate::fault::ServiceFault;
@@ -26,7 +27,7 @@ pub(crate) struct Header {
 
 /// The header at the front of a packet.
 pub(crate) fn read_header(packet: &[u8]) -> Result<Header, ServiceFault>
-    ensures found { IfOk result (HasHeader packet.now) }
+    ensures found { IfOk result (λ header. HasHeader packet.now (header_value header)) }
     ensures fault { IfErr result (PacketFails packet.now) }
 {
     if packet.len() < HEADER_LENGTH {

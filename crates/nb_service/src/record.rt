@@ -22,7 +22,7 @@ pub enum RecordFault {
 
 /// A resource record (RFC 1002 section 4.2.1.3). RDATA of bytes is borrowed.
 ///
-/// The RDATA is a domain name exactly where the kind is NS (own).
+/// NS records, and no others, have a domain name as RDATA (own).
 #[derive(Debug, Drop)]
 pub struct Record<'a> {
     name: DomainName,

@@ -82,6 +82,21 @@ fn bytes_behind_a_response_are_left(rt: HostRuntime) -> Result<(), Fail> {
 }
 
 #[test]
+fn a_label_may_reach_behind_the_packet(rt: HostRuntime) -> Result<(), Fail> {
+    // The question's name points to the identifier's first byte, a length of 63.
+    let bytes = b"\x3f\x00\x00\x00\x00\x01\x00\x00\x00\x00\x00\x00\xc0\x00\x00\x20\x00\x01\
+        xxxxxxxxxxxxxxxxxxxxxxxxxxxxxxxxxxxxxxxxxxxxxx\x00";
+    let (packet, used) = decoded(rt.alloc(), bytes)?;
+    assert_eq!(rt; used, 18);
+    let questions = packet.questions().as_slice();
+    assert_eq!(rt; questions.len(), 1);
+    assert_eq!(rt; questions[0].name.label(0), Some(&bytes[1..64]));
+    let cut = ServiceFault::Name(NameFault::Truncated(18));
+    expect_fault(&rt, rt.alloc(), &bytes[..18], cut);
+    Ok(())
+}
+
+#[test]
 fn the_name_of_a_name_server_fills_its_rdata(rt: HostRuntime) -> Result<(), Fail> {
     let fault = ServiceFault::NameRdata(23);
     expect_fault(&rt, rt.alloc(), NAME_SERVER, fault);

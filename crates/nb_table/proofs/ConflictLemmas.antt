@@ -10,13 +10,12 @@ use Rattle.nb_datagram.specs.Kind.{same_kind}
 use Rattle.nb_datagram.specs.Key.{same_key}
 use Rattle.nb_datagram.specs.Fragment.{Core, Covers, end_of_one}
 use Rattle.nb_table.specs.Cover.{same_where, bytes_agree, ends_agree, is_within, covers_agree, cover_of}
-use Rattle.nb_table.specs.Entry.{same_name, facts_agree, facts_of}
+use Rattle.nb_table.specs.Entry.{FactsFit, same_name, facts_agree, facts_of}
 use Rattle.nb_table.specs.Conflict.{Conflict, kinds, sources, destinations, overlap, ends, past_end, past_other_end, IsSpoilt, conflicts, some_conflict, with_key, is_spoilt}
 use Rattle.nb_table.proofs.MapsLemmas.{and_fails, entry_fails}
 use Rattle.nb_table.proofs.SameLemmas.{is_eq, not_lt, refutes, same_kind_decides, same_name_decides, same_key_decides}
 use Rattle.nb_table.proofs.PlacedLemmas.{get-cover_of, byte_of_decides, end_of_decides, cover_of_formed}
-use Rattle.nb_table.proofs.CoverLemmas.{Fit, fit_of}
-use Rattle.nb_table.proofs.EntryLemmas.{Accord, accord_of, entry_agrees, facts_unite}
+use Rattle.nb_table.proofs.EntryLemmas.{facts_fit_of, entry_agrees, facts_unite}
 use Rattle.nb_table.proofs.OrderFreeLemmas.{in_cons, in_first, in_rest, in_none}
 
 -- ---- where a test fails
@@ -88,17 +87,17 @@ conflict_from f g e = elim (and_fails (same_kind f.kind g.kind) _ e) [
 
 -- ---- no conflict where the facts agree
 
-contradicts : (f g : Core) → Accord (facts_of f) (facts_of g) → Fit (cover_of f) (cover_of g) → Conflict f g → ⊥
-contradicts f g a b (kinds h) = h a.kind
-contradicts f g a b (sources h) = h a.source
-contradicts f g a b (destinations h) = h a.destination
-contradicts f g a b (overlap i x y p q h) = h (b.bytes i x y (covered f i x p) (covered g i y q))
-contradicts f g a b (ends m n p q h) = h (b.ends m n ((end_of_decides f m).1 p) ((end_of_decides g n).1 q))
-contradicts f g a b (past_end n i x p q h) = let below = b.within n i x ((end_of_decides f n).1 p) (covered g i x q) in omega (arith, below, h)
-contradicts f g a b (past_other_end n i x p q h) = let below = b.inside n i x ((end_of_decides g n).1 p) (covered f i x q) in omega (arith, below, h)
+contradicts : (f g : Core) → FactsFit (facts_of f) (facts_of g) → Conflict f g → ⊥
+contradicts f g a (kinds h) = h a.kind
+contradicts f g a (sources h) = h a.source
+contradicts f g a (destinations h) = h a.destination
+contradicts f g a (overlap i x y p q h) = h (a.cover.bytes i x y (covered f i x p) (covered g i y q))
+contradicts f g a (ends m n p q h) = h (a.cover.ends m n ((end_of_decides f m).1 p) ((end_of_decides g n).1 q))
+contradicts f g a (past_end n i x p q h) = let below = a.cover.within n i x ((end_of_decides f n).1 p) (covered g i x q) in omega (arith, below, h)
+contradicts f g a (past_other_end n i x p q h) = let below = a.cover.inside n i x ((end_of_decides g n).1 p) (covered f i x q) in omega (arith, below, h)
 
 test_of : (f g : Core) (b : Bool) → facts_agree (facts_of f) (facts_of g) ≡ b → Conflict f g → not b ≡ true
-test_of f g true e c = let a = accord_of (facts_of f) (facts_of g) e in absurd (contradicts f g a (fit_of (cover_of f) (cover_of g) a.cover) c)
+test_of f g true e c = absurd (contradicts f g (facts_fit_of (facts_of f) (facts_of g) e) c)
 test_of f g false e c = refl
 
 not_true : (b : Bool) → not b ≡ true → b ≡ false

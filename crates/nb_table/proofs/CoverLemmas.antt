@@ -1,22 +1,14 @@
 -- Covers agree by what look-ups find, and their union is one in the sense of SlotLemmas.
-use Rattle.std.proofs.Common.{◌≡◌, ◌<◌, ◌⊎◌, inl, inr, ℕ, true, Option, Some, None, refl, sym, ◌∙◌, ap, subst, nat_lt}
+use Rattle.std.proofs.Common.{◌≡◌, ◌<◌, ◌⊎◌, inl, inr, ℕ, true, Option, Some, None, refl, sym, ◌∙◌, ap, subst, nat_lt, Decides}
 use Rattle.std.specs.Ordering.{nat_cmp}
 use Rattle.std.specs.Cmp.{nat_cmp_total}
 use Rattle.std.specs.FinMap as map
 use Rattle.std.specs.FinMap.{nat_cmp-IsAntisymmetric}
 use Rattle.nb_table.specs.Maps.{first_of}
-use Rattle.nb_table.specs.Cover.{CoverFacts, same_where, ends_agree, is_within, covers_agree, covers_together, AreCoverFacts}
+use Rattle.nb_table.specs.Cover.{CoverFacts, CoversFit, same_where, ends_agree, is_within, covers_agree, covers_together, AreCoverFacts}
 use Rattle.nb_table.proofs.MapsLemmas.{and_left, and_right, and_both, get-union, all_entries_found, all_entries_from}
 use Rattle.nb_table.proofs.SameLemmas.{eq_is, is_eq, lt_is, is_lt}
 use Rattle.nb_table.proofs.SlotLemmas.{Unites}
-
--- a and b don't contradict each other: one byte a place, one end, and no place at or past the other's
--- end
-pub record Fit (a b : CoverFacts) : Type 0 where
-  pub bytes : (q x y : ℕ) → map.get a.bytes q ≡ Some x → map.get b.bytes q ≡ Some y → x ≡ y
-  pub ends : (m n : ℕ) → a.end ≡ Some m → b.end ≡ Some n → m ≡ n
-  pub within : (n q x : ℕ) → a.end ≡ Some n → map.get b.bytes q ≡ Some x → q < n
-  pub inside : (n q x : ℕ) → b.end ≡ Some n → map.get a.bytes q ≡ Some x → q < n
 
 same_at : (o : Option ℕ) (x y : ℕ) → same_where o x ≡ true → o ≡ Some y → x ≡ y
 same_at None x y h e = absurd (cc)
@@ -42,7 +34,7 @@ pub is_within_from : (o : Option ℕ) (m : map.FinMap nat_cmp ℕ) → ((n q x :
 is_within_from None m h = refl
 is_within_from (Some k) m h = all_entries_from nat_cmp_total nat_cmp-IsAntisymmetric (λ i _. nat_lt i k) m (λ q x f. is_lt q k (h k q x refl f))
 
-pub fit_of : (a b : CoverFacts) → covers_agree a b ≡ true → Fit a b
+pub fit_of : (a b : CoverFacts) → covers_agree a b ≡ true → CoversFit a b
 fit_of a b h =
     let t1 = and_right _ _ h in let t2 = and_right _ _ t1 in
     record {
@@ -52,7 +44,7 @@ fit_of a b h =
       inside = within_is b.end a.bytes (and_right _ _ t2);
     }
 
-pub agree_of : (a b : CoverFacts) → Fit a b → covers_agree a b ≡ true
+pub agree_of : (a b : CoverFacts) → CoversFit a b → covers_agree a b ≡ true
 agree_of a b f =
     and_both _ _
     (all_entries_from nat_cmp_total nat_cmp-IsAntisymmetric (λ i v. same_where (map.get b.bytes i) v) a.bytes (λ q x e. at_same (map.get b.bytes q) x (λ y g. f.bytes q x y e g)))
@@ -75,7 +67,7 @@ first_either (Some k) p n e = inl e
 pub in_union : (a b : CoverFacts) (q : ℕ) → map.get (covers_together a b).bytes q ≡ first_of (map.get a.bytes q) (map.get b.bytes q)
 in_union a b q = get-union nat_cmp_total nat_cmp-IsAntisymmetric a.bytes b.bytes q
 
-pub fit_left : (a b c : CoverFacts) → Fit (covers_together a b) c → Fit a c
+pub fit_left : (a b c : CoverFacts) → CoversFit (covers_together a b) c → CoversFit a c
 fit_left a b c f = record {
   bytes = λ q x y e g. f.bytes q x y (in_union a b q ∙ first_left _ _ x e) g;
   ends = λ m n e g. f.ends m n (first_left _ _ m e) g;
@@ -83,7 +75,7 @@ fit_left a b c f = record {
   inside = λ n q x e g. f.inside n q x e (in_union a b q ∙ first_left _ _ x g);
 }
 
-pub fit_right : (a b c : CoverFacts) → Fit a b → Fit (covers_together a b) c → Fit b c
+pub fit_right : (a b c : CoverFacts) → CoversFit a b → CoversFit (covers_together a b) c → CoversFit b c
 fit_right a b c ab f = record {
   bytes = λ q x y e g. f.bytes q x y (in_union a b q ∙ first_right _ _ (ab.bytes q) x e) g;
   ends = λ m n e g. f.ends m n (first_right _ _ ab.ends m e) g;
@@ -91,7 +83,7 @@ fit_right a b c ab f = record {
   inside = λ n q x e g. f.inside n q x e (in_union a b q ∙ first_right _ _ (ab.bytes q) x g);
 }
 
-pub fit_both : (a b c : CoverFacts) → Fit a c → Fit b c → Fit (covers_together a b) c
+pub fit_both : (a b c : CoverFacts) → CoversFit a c → CoversFit b c → CoversFit (covers_together a b) c
 fit_both a b c ac bc = record {
   bytes = λ q x y e g. elim (first_either _ _ x (sym (in_union a b q) ∙ e)) [ inl h ↦ ac.bytes q x y h g | inr h ↦ bc.bytes q x y h g ];
   ends = λ m n e g. elim (first_either _ _ m e) [ inl h ↦ ac.ends m n h g | inr h ↦ bc.ends m n h g ];
@@ -99,7 +91,7 @@ fit_both a b c ac bc = record {
   inside = λ n q x e g. elim (first_either _ _ x (sym (in_union a b q) ∙ g)) [ inl h ↦ ac.inside n q x e h | inr h ↦ bc.inside n q x e h ];
 }
 
-pub fit_turned : (a b : CoverFacts) → Fit a b → Fit b a
+pub fit_turned : (a b : CoverFacts) → CoversFit a b → CoversFit b a
 fit_turned a b f = record {
   bytes = λ q x y e g. sym (f.bytes q y x g e);
   ends = λ m n e g. sym (f.ends n m g e);
@@ -128,7 +120,7 @@ first_itself : (o : Option ℕ) → first_of o o ≡ o
 first_itself None = refl
 first_itself (Some x) = refl
 
-together-comm : (a b : CoverFacts) → Fit a b → covers_together a b ≡ covers_together b a
+together-comm : (a b : CoverFacts) → CoversFit a b → covers_together a b ≡ covers_together b a
 together-comm a b f = same_cover _ _ (λ q. in_union a b q ∙ either_first _ _ (f.bytes q) ∙ sym (in_union b a q)) (either_first _ _ f.ends)
 
 together-assoc : (a b c : CoverFacts) → covers_together (covers_together a b) c ≡ covers_together a (covers_together b c)
@@ -154,16 +146,28 @@ covers_unite = record {
 
 -- ---- well formed is to agree with oneself
 
-one_value : (o : Option ℕ) (x y : ℕ) → o ≡ Some x → o ≡ Some y → x ≡ y
+pub one_value : (o : Option ℕ) (x y : ℕ) → o ≡ Some x → o ≡ Some y → x ≡ y
 one_value o x y e f = let both : Some x ≡ Some y = sym e ∙ f in cc
 
 pub formed_agrees : (a : CoverFacts) → AreCoverFacts a → covers_agree a a ≡ true
 formed_agrees a h = agree_of a a (record {
   bytes = λ q x y e f. one_value (map.get a.bytes q) x y e f;
   ends = λ m n e f. one_value a.end m n e f;
-  within = within_is a.end a.bytes h;
-  inside = within_is a.end a.bytes h;
+  within = h;
+  inside = h;
 })
 
 pub agrees_formed : (a : CoverFacts) → covers_agree a a ≡ true → AreCoverFacts a
-agrees_formed a h = let f = fit_of a a h in is_within_from a.end a.bytes f.within
+agrees_formed a h = (fit_of a a h).within
+
+pub covers_agree_decides : (a b : CoverFacts) → Decides (covers_agree a b) (CoversFit a b)
+covers_agree_decides a b = (fit_of a b, agree_of a b)
+
+-- a union with facts that are held already adds nothing
+pub together_held : (a b : CoverFacts) → ((i x : ℕ) → map.get b.bytes i ≡ Some x → map.get a.bytes i ≡ Some x) → ((n : ℕ) → b.end ≡ Some n → a.end ≡ Some n) → covers_together a b ≡ a
+together_held a b bytes ends = same_cover _ _ (λ i. in_union a b i ∙ first_held (map.get a.bytes i) (map.get b.bytes i) (bytes i)) (first_held a.end b.end ends)
+  where
+    first_held : (o p : Option ℕ) → ((x : ℕ) → p ≡ Some x → o ≡ Some x) → first_of o p ≡ o
+    first_held (Some x) p h = refl
+    first_held None None h = refl
+    first_held None (Some y) h = sym (h y refl)

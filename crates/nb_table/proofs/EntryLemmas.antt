@@ -1,92 +1,86 @@
 -- Entries agree where kinds and names are the same and covers agree, and their union is one in the sense
 -- of SlotLemmas.
-use Rattle.std.proofs.Common.{◌≡◌, true, refl, sym, ◌∙◌}
+use Rattle.std.proofs.Common.{◌≡◌, ap, Decides, ℕ, cond, Some, true, refl, sym, ◌∙◌}
+use Rattle.std.specs.FinMap as maps
 use Rattle.nb_table.specs.Slot.{Spoilt, Held, OnHeld}
 use Rattle.nb_table.specs.Cover.{Cover, covers_agree, join_cover, IsCover}
-use Rattle.nb_table.specs.Entry.{EntryFacts, Entry, facts_agree, facts_together, join_entry, AreEntryFacts, IsEntry}
+use Rattle.nb_table.specs.Entry.{EntryFacts, FactsFit, Entry, facts_agree, facts_together, join_entry, AreEntryFacts, IsEntry}
 use Rattle.nb_table.proofs.MapsLemmas.{and_left, and_right, and_both}
 use Rattle.nb_table.proofs.SameLemmas.{same_kind_decides, same_name_decides}
 use Rattle.nb_table.proofs.SlotLemmas.{Unites, join-comm, join-assoc, join-idem, join_formed}
-use Rattle.nb_table.proofs.CoverLemmas.{covers_unite, formed_agrees, agrees_formed}
+use Rattle.nb_table.proofs.CoverLemmas.{covers_unite, fit_of, agree_of, fit_left, fit_right, fit_both, fit_turned, formed_agrees, agrees_formed, together_held, one_value}
 
--- a and b don't contradict each other
-pub record Accord (a b : EntryFacts) : Type 0 where
-  pub kind : a.kind ≡ b.kind
-  pub source : a.source ≡ b.source
-  pub destination : a.destination ≡ b.destination
-  pub cover : covers_agree a.cover b.cover ≡ true
-
-pub accord_of : (a b : EntryFacts) → facts_agree a b ≡ true → Accord a b
-accord_of a b h =
+pub facts_fit_of : (a b : EntryFacts) → facts_agree a b ≡ true → FactsFit a b
+facts_fit_of a b h =
     let t1 = and_right _ _ h in let t2 = and_right _ _ t1 in
     record {
       kind = (same_kind_decides a.kind b.kind).0 (and_left _ _ h);
       source = (same_name_decides a.source b.source).0 (and_left _ _ t1);
       destination = (same_name_decides a.destination b.destination).0 (and_left _ _ t2);
-      cover = and_right _ _ t2;
+      cover = fit_of a.cover b.cover (and_right _ _ t2);
     }
 
-pub facts_agree_of : (a b : EntryFacts) → Accord a b → facts_agree a b ≡ true
+pub facts_agree_of : (a b : EntryFacts) → FactsFit a b → facts_agree a b ≡ true
 facts_agree_of a b f =
     and_both _ _ ((same_kind_decides a.kind b.kind).1 f.kind)
     (and_both _ _ ((same_name_decides a.source b.source).1 f.source)
-    (and_both _ _ ((same_name_decides a.destination b.destination).1 f.destination) f.cover))
+    (and_both _ _ ((same_name_decides a.destination b.destination).1 f.destination) (agree_of a.cover b.cover f.cover)))
 
-turned : (a b : EntryFacts) → Accord a b → Accord b a
+turned : (a b : EntryFacts) → FactsFit a b → FactsFit b a
 turned a b f = record {
   kind = sym f.kind;
   source = sym f.source;
   destination = sym f.destination;
-  cover = covers_unite.turned a.cover b.cover f.cover;
+  cover = fit_turned a.cover b.cover f.cover;
 }
 
-left : (a b c : EntryFacts) → Accord a b → Accord (facts_together a b) c → Accord a c
+left : (a b c : EntryFacts) → FactsFit a b → FactsFit (facts_together a b) c → FactsFit a c
 left a b c ab f = record {
   kind = f.kind;
   source = f.source;
   destination = f.destination;
-  cover = covers_unite.left a.cover b.cover c.cover ab.cover f.cover;
+  cover = fit_left a.cover b.cover c.cover f.cover;
 }
 
-right : (a b c : EntryFacts) → Accord a b → Accord (facts_together a b) c → Accord b c
+right : (a b c : EntryFacts) → FactsFit a b → FactsFit (facts_together a b) c → FactsFit b c
 right a b c ab f = record {
   kind = sym ab.kind ∙ f.kind;
   source = sym ab.source ∙ f.source;
   destination = sym ab.destination ∙ f.destination;
-  cover = covers_unite.right a.cover b.cover c.cover ab.cover f.cover;
+  cover = fit_right a.cover b.cover c.cover ab.cover f.cover;
 }
 
-both : (a b c : EntryFacts) → Accord a c → Accord b c → Accord (facts_together a b) c
+both : (a b c : EntryFacts) → FactsFit a c → FactsFit b c → FactsFit (facts_together a b) c
 both a b c ac bc = record {
   kind = ac.kind;
   source = ac.source;
   destination = ac.destination;
-  cover = covers_unite.both a.cover b.cover c.cover ac.cover bc.cover;
+  cover = fit_both a.cover b.cover c.cover ac.cover bc.cover;
 }
 
-same : (a b : EntryFacts) → Accord a b → facts_together a b ≡ facts_together b a
+same : (a b : EntryFacts) → FactsFit a b → facts_together a b ≡ facts_together b a
 same a b f =
-    let cover = covers_unite.same a.cover b.cover f.cover in
+    let cover = covers_unite.same a.cover b.cover (agree_of a.cover b.cover f.cover) in
     λ i. record { kind = f.kind i; source = f.source i; destination = f.destination i; cover = cover i }
 
 pub facts_unite : Unites facts_agree facts_together
 facts_unite = record {
-  turned = λ a b h. facts_agree_of b a (turned a b (accord_of a b h));
-  same = λ a b h. same a b (accord_of a b h);
+  turned = λ a b h. facts_agree_of b a (turned a b (facts_fit_of a b h));
+  same = λ a b h. same a b (facts_fit_of a b h);
   regroup = λ a b c. λ i. record { kind = a.kind; source = a.source; destination = a.destination; cover = covers_unite.regroup a.cover b.cover c.cover i };
   once = λ a. λ i. record { kind = a.kind; source = a.source; destination = a.destination; cover = covers_unite.once a.cover i };
-  left = λ a b c ab h. facts_agree_of a c (left a b c (accord_of a b ab) (accord_of _ _ h));
-  right = λ a b c ab h. facts_agree_of b c (right a b c (accord_of a b ab) (accord_of _ _ h));
-  both = λ a b c ac bc. facts_agree_of _ _ (both a b c (accord_of a c ac) (accord_of b c bc));
+  left = λ a b c ab h. facts_agree_of a c (left a b c (facts_fit_of a b ab) (facts_fit_of _ _ h));
+  right = λ a b c ab h. facts_agree_of b c (right a b c (facts_fit_of a b ab) (facts_fit_of _ _ h));
+  both = λ a b c ac bc. facts_agree_of _ _ (both a b c (facts_fit_of a c ac) (facts_fit_of b c bc));
 }
 
 -- ---- well formed is to agree with oneself
 
 pub entry_agrees : (a : EntryFacts) → AreEntryFacts a → facts_agree a a ≡ true
-entry_agrees a h = facts_agree_of a a (record { kind = refl; source = refl; destination = refl; cover = formed_agrees a.cover h })
+entry_agrees a h = facts_agree_of a a (record { kind = refl; source = refl; destination = refl; cover = fit_of a.cover a.cover (formed_agrees a.cover h) })
 
 pub agrees_entry : (a : EntryFacts) → facts_agree a a ≡ true → AreEntryFacts a
-agrees_entry a h = let f = accord_of a a h in agrees_formed a.cover f.cover
+agrees_entry a h = (facts_fit_of a a h).cover.within
 
 entry_slot : (e : Entry) → IsEntry e → OnHeld (λ a. facts_agree a a ≡ true) e
 entry_slot Spoilt f = tt
@@ -103,6 +97,27 @@ cover_slot (Held a) f = formed_agrees a f
 slot_cover : (c : Cover) → OnHeld (λ a. covers_agree a a ≡ true) c → IsCover c
 slot_cover Spoilt f = tt
 slot_cover (Held a) f = agrees_formed a f
+
+pub facts_agree_decides : (a b : EntryFacts) → Decides (facts_agree a b) (FactsFit a b)
+facts_agree_decides a b = (facts_fit_of a b, facts_agree_of a b)
+
+-- an entry joined with facts that it has already is as it was
+pub join_held : (a b : EntryFacts) → AreEntryFacts a → a.kind ≡ b.kind → a.source ≡ b.source → a.destination ≡ b.destination →
+    ((i x : ℕ) → maps.get b.cover.bytes i ≡ Some x → maps.get a.cover.bytes i ≡ Some x) → ((n : ℕ) → b.cover.end ≡ Some n → a.cover.end ≡ Some n) →
+    join_entry (Held a) (Held b) ≡ Held a
+join_held a b formed kind source destination bytes ends =
+    ap (λ p. cond p (Held (facts_together a b)) Spoilt) (facts_agree_of a b (record {
+      kind = kind;
+      source = source;
+      destination = destination;
+      cover = record {
+        bytes = λ i x y e f. one_value (maps.get a.cover.bytes i) x y e (bytes i y f);
+        ends = λ m n e f. one_value a.cover.end m n e (ends n f);
+        within = λ n i x e f. formed n i x e (bytes i x f);
+        inside = λ n i x e f. formed n i x (ends n e) f;
+      };
+    }))
+    ∙ (λ i. Held (record { kind = a.kind; source = a.source; destination = a.destination; cover = together_held a.cover b.cover bytes ends i }))
 
 -- ---- the laws of joins of covers and entries
 

@@ -1,17 +1,19 @@
 -- The set of fragments decides the table; and without a key's fragments it is the table without the key.
-use Rattle.std.proofs.Common.{◌≡◌, ◌⊎◌, inl, inr, zero, suc, Bool, true, false, cond, not, List, [], ◌∷◌, Contains, None, refl, sym, ◌∙◌, ap, arith}
+use Rattle.std.proofs.Common.{◌≡◌, ◌⊎◌, inl, inr, zero, suc, Bool, true, false, cond, not, List, [], ◌∷◌, Contains, Option, Some, None, refl, sym, ◌∙◌, ap, arith}
 use Rattle.std.specs.FinMap as maps
 use Rattle.nb_datagram.specs.declared.key.Key.{Key}
 use Rattle.nb_datagram.specs.Key.{same_key}
 use Rattle.nb_datagram.specs.Fragment.{Core}
-use Rattle.nb_table.specs.Entry.{join_entry}
+use Rattle.nb_table.specs.Maps.{joined_at, joined_onto}
+use Rattle.nb_table.specs.Entry.{Entry, join_entry, facts_of}
+use Rattle.nb_table.specs.Slot.{Held}
 use Rattle.nb_table.specs.Conflict.{with_key}
-use Rattle.nb_table.specs.Contents.{entry_in, table_of}
+use Rattle.nb_table.specs.Contents.{Contents, entry_in, table_of}
 use Rattle.nb_table.specs.Join.{join, SameCores, without_key}
 use Rattle.nb_table.proofs.MapsLemmas.{joined-empty}
 use Rattle.nb_table.proofs.SameLemmas.{key_cmp_total, key_cmp_exact, same_key_decides, refutes}
-use Rattle.nb_table.proofs.TableLemmas.{same_table, join-comm, join-assoc, join-idem}
-use Rattle.nb_table.proofs.ContentsLemmas.{get-table_of, table_of-append, table_of_formed}
+use Rattle.nb_table.proofs.TableLemmas.{same_table, get-join, join-comm, join-assoc, join-idem}
+use Rattle.nb_table.proofs.ContentsLemmas.{entry_in-cons, get-table_of, table_of-append, table_of_formed}
 
 -- ---- elements
 
@@ -106,3 +108,34 @@ remove-table_of L k = same_table _ _ (λ q.
     ∙ sym (none_or (same_key q k) (with_key q L))
     ∙ ap entry_in (sym (with-without k q L))
     ∙ sym (get-table_of (without_key k L) q))
+
+-- ---- one more fragment
+
+none_else : (b : Bool) (f : Core) → entry_in (cond b (f ∷ []) []) ≡ cond b (Some (Held (facts_of f))) None
+none_else true f = entry_in-cons f []
+none_else false f = refl
+
+-- the table of one fragment
+pub get-table_of-one : (f : Core) (k : Key) → maps.get (table_of (f ∷ [])) k ≡ cond (same_key k f.key) (Some (Held (facts_of f))) None
+get-table_of-one f k = get-table_of (f ∷ []) k ∙ none_else (same_key k f.key) f
+
+at_one : (t : Contents) (f : Core) (q : Key) (b : Bool) → same_key q f.key ≡ b →
+    joined_at join_entry (maps.get t q) (cond b (Some (Held (facts_of f))) None) ≡ cond b (Some (joined_onto join_entry (maps.get t f.key) (Held (facts_of f)))) (maps.get t q)
+at_one t f q true e = onto (maps.get t q) ∙ ap (λ k. Some (joined_onto join_entry (maps.get t k) (Held (facts_of f)))) ((same_key_decides q f.key).0 e)
+  where
+    onto : (a : Option Entry) → joined_at join_entry a (Some (Held (facts_of f))) ≡ Some (joined_onto join_entry a (Held (facts_of f)))
+    onto None = refl
+    onto (Some x) = refl
+at_one t f q false e = alone (maps.get t q)
+  where
+    alone : (a : Option Entry) → joined_at join_entry a None ≡ a
+    alone None = refl
+    alone (Some x) = refl
+
+-- joining the table of one fragment changes its key alone
+pub join_one : (t : Contents) (f : Core) → join t (table_of (f ∷ [])) ≡ maps.insert t f.key (joined_onto join_entry (maps.get t f.key) (Held (facts_of f)))
+join_one t f = same_table _ _ (λ q.
+    get-join t (table_of (f ∷ [])) q
+    ∙ ap (joined_at join_entry (maps.get t q)) (get-table_of-one f q)
+    ∙ at_one t f q (same_key q f.key) refl
+    ∙ sym (maps.get-insert key_cmp_total t f.key (joined_onto join_entry (maps.get t f.key) (Held (facts_of f))) q))

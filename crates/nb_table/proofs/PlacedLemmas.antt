@@ -9,7 +9,6 @@ use Rattle.nb_datagram.specs.Fragment.{Core, Covers, EndsAt, reach, byte_of, end
 use Rattle.nb_table.specs.Maps.{first_of}
 use Rattle.nb_table.specs.Cover.{placed, cover_of, AreCoverFacts}
 use Rattle.nb_table.proofs.SameLemmas.{eq_is, is_eq, le_is, is_le, not_le, le_not}
-use Rattle.nb_table.proofs.CoverLemmas.{is_within_from}
 
 -- ---- one fragment
 
@@ -73,11 +72,11 @@ covers_below f i x c = let inside = slice_get_within f.bytes (i - f.offset) x c.
 
 -- what one fragment says is well formed
 pub cover_of_formed : (f : Core) → AreCoverFacts (cover_of f)
-cover_of_formed f = is_within_from (end_of_one f) (cover_of f).bytes (λ n q x e g.
+cover_of_formed f = λ n q x e g.
     let ends = (end_of_decides f n).0 e in
     let covers = (byte_of_decides f q x).0 (sym (get-cover_of f q) ∙ g) in
     let below = covers_below f q x covers in
-    omega (arith, below, ends.1))
+    omega (arith, below, ends.1)
 
 -- ---- several
 

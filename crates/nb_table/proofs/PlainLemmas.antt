@@ -1,16 +1,16 @@
 -- What the plain program's loops over places find.
-use Rattle.std.proofs.Common.{◌≡◌, ◌<◌, ◌≤◌, ◌+◌, ◌-◌, ◌==◌, ◌↔◌, ◌&&◌, ◌||◌, ℕ, IsTrue, Bool, true, false, cond, not, List, [], ◌∷◌, take, drop, length, slice_get, get_or, nat_lt, Option, Some, None, refl, sym, ◌∙◌, ap, ap₂, arith, drop-cons, length-drop, le_of_eq, add-one, drop_of_length-le, le_refl}
+use Rattle.std.proofs.Common.{◌≡◌, ◌<◌, ◌≤◌, ◌+◌, ◌-◌, ◌==◌, ◌↔◌, ◌&&◌, ◌||◌, ℕ, IsTrue, Bool, true, false, cond, not, List, ◌∷◌, take, drop, length, slice_get, get_or, nat_lt, Option, Some, None, refl, sym, ◌∙◌, ap, ap₂, arith, drop-cons, length-drop, le_of_eq, add-one, drop_of_length-le}
 use Rattle.std.proofs.lemmas.List.{take_all}
 use Rattle.std.specs.List.{list_any}
 use Rattle.std.proofs.lemmas.Option.{slice_get-get_or}
 use Rattle.nb_datagram.specs.declared.key.Key.{Key}
 use Rattle.nb_datagram.specs.Key.{same_key}
-use Rattle.nb_datagram.specs.Fragment.{FragmentParts, core_of, cores_of, Core, Covers, EndsAt, reach, byte_of, end_of_one}
+use Rattle.nb_datagram.specs.Fragment.{FragmentParts, core_of, cores_of, Core, reach, byte_of, end_of_one}
 use Rattle.nb_table.specs.Entry.{facts_agree, facts_of}
 use Rattle.nb_table.specs.Conflict.{Conflict, kinds, sources, destinations, overlap, ends, past_end, past_other_end, conflicts, some_conflict, with_key, is_spoilt}
 use Rattle.nb_table.specs.Plain.{differ, SameHeader, Overlap, PastEnd}
 use Rattle.nb_table.proofs.SameLemmas.{eq_is, is_eq, lt_is, is_lt}
-use Rattle.nb_table.proofs.EntryLemmas.{accord_of}
+use Rattle.nb_table.proofs.EntryLemmas.{facts_fit_of}
 use Rattle.nb_table.proofs.ConflictLemmas.{conflicts_decides}
 use Rattle.nb_table.proofs.PlacedLemmas.{byte_of_decides, end_of_decides, covers_below}
 
@@ -80,7 +80,7 @@ past_end_decides f g n r e some s = (
 -- ---- conflicts
 
 header_test : (f g : Core) (b : Bool) → facts_agree (facts_of f) (facts_of g) ≡ b → (SameHeader f g → ⊥) → not b ≡ true
-header_test f g true e h = let a = accord_of (facts_of f) (facts_of g) e in absurd (h (a.kind, (a.source, a.destination)))
+header_test f g true e h = let a = facts_fit_of (facts_of f) (facts_of g) e in absurd (h (a.kind, (a.source, a.destination)))
 header_test f g false e h = refl
 
 -- fragments without the same kind and names conflict

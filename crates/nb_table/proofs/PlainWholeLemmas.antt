@@ -1,5 +1,5 @@
 -- When a key is whole, by the tests of the plain program, and its datagram.
-use Rattle.std.proofs.Common.{◌≡◌, ◌<◌, ◌≤◌, ◌+◌, ◌↔◌, ℕ, Bool, true, false, cond, List, [], ◌∷◌, length, slice_get, option_and_then, Option, Some, None, Result, Ok, Err, IsErrAnd, IsErrOf, is_some, inl, inr, refl, sym, ◌∙◌, ap, arith}
+use Rattle.std.proofs.Common.{◌≡◌, ◌<◌, ◌≤◌, ◌+◌, ℕ, Bool, true, false, cond, List, [], ◌∷◌, length, slice_get, option_and_then, Option, Some, None, Result, Ok, Err, IsErrAnd, IsErrOf, is_some, inl, inr, refl, sym, ◌∙◌, ap, arith}
 use Rattle.std.proofs.lemmas.Bool.{cases_lt}
 use Rattle.std.specs.FinMap as maps
 use Rattle.nb_datagram.specs.declared.key.Key.{Key}
@@ -7,15 +7,14 @@ use Rattle.nb_datagram.specs.Fragment.{Core}
 use Rattle.nb_datagram.specs.Datagram.{DatagramParts}
 use Rattle.nb_datagram.specs.declared.limits.TheConstants.{MAX_LENGTH}
 use Rattle.nb_table.specs.Slot.{Spoilt, Held}
-use Rattle.nb_table.specs.Entry.{EntryFacts, Entry}
+use Rattle.nb_table.specs.Entry.{Entry}
 use Rattle.nb_table.specs.Conflict.{IsSpoilt, some_conflict, with_key, is_spoilt}
-use Rattle.nb_table.specs.Contents.{first_end, byte_at, end_of, cover_in, facts_in, entry_in, entry_at, table_of}
+use Rattle.nb_table.specs.Contents.{first_end, byte_at, end_of, cover_in, facts_in, entry_in, table_of}
 use Rattle.nb_table.specs.Whole.{IsWhole, bytes_below, bytes_to, datagram_with, datagram_of, datagram_at}
 use Rattle.nb_table.specs.Sender.{IsWholeAt}
 use Rattle.nb_table.specs.Plain.{CoversBelow, IsLong, datagram_to}
 use Rattle.nb_table.specs.declared.plain.whole.PlainFault.{PlainFault}
 use Rattle.nb_table.specs.declared.plain.whole.PlainFault.TheVariants.{TooLong, NoMemory}
-use Rattle.nb_table.proofs.SameLemmas.{refutes}
 use Rattle.nb_table.proofs.ConflictLemmas.{is_spoilt_decides}
 use Rattle.nb_table.proofs.ContentsLemmas.{get-cover_in, get-table_of}
 use Rattle.nb_table.proofs.SayingLemmas.{spoilt_exactly, held_says}

@@ -1,6 +1,6 @@
 -- Covers: the bytes that are known of a datagram's data, by place, and its end, if that is known (own).
 -- Places count from the first byte of the datagram's data; the end is how many bytes it has.
-use Rattle.std.specs.Prelude.{◌≡◌, ◌==◌, ◌&&◌, ◌+◌, ℕ, Bool, true, List, [], ◌∷◌, Option, Some, None, nat_lt, refl}
+use Rattle.std.specs.Prelude.{◌≡◌, ◌==◌, ◌&&◌, ◌+◌, ◌<◌, ℕ, Bool, true, List, [], ◌∷◌, Option, Some, None, nat_lt, refl}
 use Rattle.std.specs.Ordering.{nat_cmp}
 use Rattle.std.specs.List.{list_all}
 use Rattle.std.specs.FinMap as map
@@ -19,21 +19,29 @@ abbrev pub same_where : Option ℕ → ℕ → Bool
 same_where None y = true
 same_where (Some x) y = x == y
 
--- no place has two different bytes
+-- no place has two different bytes, as a test
 abbrev pub bytes_agree : map.FinMap nat_cmp ℕ → map.FinMap nat_cmp ℕ → Bool
 bytes_agree a b = list_all (λ e. same_where (map.get b e.0) e.1) (map.entries a)
 
--- there are not two different ends
+-- there are not two different ends, as a test
 abbrev pub ends_agree : Option ℕ → Option ℕ → Bool
 ends_agree None b = true
 ends_agree (Some x) b = same_where b x
 
--- every place with a byte lies below the end, if there is one
+-- every place with a byte lies below the end, if there is one, as a test
 abbrev pub is_within : Option ℕ → map.FinMap nat_cmp ℕ → Bool
 is_within None bytes = true
 is_within (Some n) bytes = list_all (λ e. nat_lt e.0 n) (map.entries bytes)
 
--- the two don't contradict each other
+-- the two don't contradict each other: at a place of both one byte, one end, and the places of each
+-- below the end of the other
+pub record CoversFit (a b : CoverFacts) : Type 0 where
+  pub bytes : (i x y : ℕ) → map.get a.bytes i ≡ Some x → map.get b.bytes i ≡ Some y → x ≡ y
+  pub ends : (m n : ℕ) → a.end ≡ Some m → b.end ≡ Some n → m ≡ n
+  pub within : (n i x : ℕ) → a.end ≡ Some n → map.get b.bytes i ≡ Some x → i < n
+  pub inside : (n i x : ℕ) → b.end ≡ Some n → map.get a.bytes i ≡ Some x → i < n
+
+-- the two don't contradict each other, as a test
 abbrev pub covers_agree : CoverFacts → CoverFacts → Bool
 covers_agree a b =
     bytes_agree a.bytes b.bytes
@@ -53,7 +61,7 @@ join_cover = join_slot covers_agree covers_together
 
 -- its own bytes lie below its own end
 abbrev pub AreCoverFacts : CoverFacts → Type 0
-AreCoverFacts a = is_within a.end a.bytes ≡ true
+AreCoverFacts a = (n i x : ℕ) → a.end ≡ Some n → map.get a.bytes i ≡ Some x → i < n
 
 -- the cover is well formed
 abbrev pub IsCover : Cover → Type 0

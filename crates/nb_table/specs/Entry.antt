@@ -1,5 +1,5 @@
 -- Entries: what is known of one datagram, that is of one key (own).
-use Rattle.std.specs.Prelude.{◌==◌, ◌&&◌, Bool, refl}
+use Rattle.std.specs.Prelude.{◌≡◌, ◌==◌, ◌&&◌, Bool, refl}
 use Rattle.std.specs.Cmp.Lexicographic.{pointwise}
 use Rattle.std.specs.Coded.{Coded, code_by, coded×}
 use Rattle.nb_names.specs.Name.{NetbiosName, name_code}
@@ -7,7 +7,7 @@ use Rattle.nb_datagram.specs.declared.kind.Kind.{Kind}
 use Rattle.nb_datagram.specs.Kind.{same_kind, kind_code}
 use Rattle.nb_datagram.specs.Fragment.{Core}
 use Rattle.nb_table.specs.Slot.{Slot, join_slot, OnHeld, slot_code}
-use Rattle.nb_table.specs.Cover.{CoverFacts, covers_agree, covers_together, cover_of, AreCoverFacts, cover_facts_code}
+use Rattle.nb_table.specs.Cover.{CoverFacts, CoversFit, covers_agree, covers_together, cover_of, AreCoverFacts, cover_facts_code}
 
 -- the kind, both names, and the cover's facts
 pub record EntryFacts : Type 0 where
@@ -20,7 +20,14 @@ pub record EntryFacts : Type 0 where
 abbrev pub same_name : NetbiosName → NetbiosName → Bool
 same_name a b = pointwise ◌==◌ a.bytes b.bytes && pointwise (pointwise ◌==◌) a.scope b.scope
 
--- the two don't contradict each other
+-- the two don't contradict each other: one kind, the same names, and covers that don't
+pub record FactsFit (a b : EntryFacts) : Type 0 where
+  pub kind : a.kind ≡ b.kind
+  pub source : a.source ≡ b.source
+  pub destination : a.destination ≡ b.destination
+  pub cover : CoversFit a.cover b.cover
+
+-- the two don't contradict each other, as a test
 abbrev pub facts_agree : EntryFacts → EntryFacts → Bool
 facts_agree a b =
     same_kind a.kind b.kind

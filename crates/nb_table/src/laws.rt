@@ -11,8 +11,8 @@ mod parts;
 
 pub use completing::{datagram_has_the_bytes_of_its_entry, whole_entries_have_a_datagram};
 pub use conflicting::{
-    byte_is_that_which_covers, conflict_test_is_the_relation, end_is_where_it_ends,
-    spoilt_test_is_the_relation,
+    byte_is_that_which_covers, conflict_test_is_the_relation, cover_agreement_is_the_relation,
+    end_is_where_it_ends, entry_agreement_is_the_relation, spoilt_test_is_the_relation,
 };
 pub use gathering::{
     dropping_a_key_drops_its_fragments, same_cores_make_the_same_table,
@@ -23,8 +23,9 @@ pub use gathering::{
 pub use joining::{
     cover_join_is_associative, cover_join_is_commutative, cover_join_is_idempotent,
     cover_join_is_well_formed, entry_join_is_associative, entry_join_is_commutative,
-    entry_join_is_idempotent, entry_join_is_well_formed, table_join_is_associative,
-    table_join_is_commutative, table_join_is_idempotent, table_join_is_well_formed,
+    entry_join_is_idempotent, entry_join_is_well_formed, joining_a_fragment_changes_its_key,
+    table_join_has_the_keys_of_either, table_join_is_associative, table_join_is_commutative,
+    table_join_is_idempotent, table_join_is_well_formed, union_has_the_bytes_of_both,
 };
 pub use parts::{
     all_parts_give_the_datagram, parts_are_not_spoilt, parts_are_whole_where_all_are_there,

@@ -2,6 +2,8 @@
 ghost use Rattle.std.specs.Prelude.{◌≡◌, ◌↔◌, ℕ, Some, IsTrue};
 ghost use Rattle.nb_datagram.specs.declared.key.Key.{Key};
 ghost use Rattle.nb_datagram.specs.Fragment.{Core, Covers, EndsAt, byte_of, end_of_one};
+ghost use Rattle.nb_table.specs.Cover.{CoverFacts, CoversFit, covers_agree};
+ghost use Rattle.nb_table.specs.Entry.{EntryFacts, FactsFit, facts_agree};
 ghost use Rattle.nb_table.specs.Conflict.{Conflict, IsSpoilt, conflicts, is_spoilt};
 ghost use Rattle.std.specs.Prelude.{List};
 
@@ -23,4 +25,16 @@ pub fn conflict_test_is_the_relation()
 /// A key passes the test for spoilt exactly where two of the list's fragments of it disagree.
 pub fn spoilt_test_is_the_relation()
     ensures { (L : List Core) (k : Key) → IsTrue (is_spoilt L k) ↔ IsSpoilt L k }
+{}
+
+/// Two covers pass the test of agreement exactly where they don't contradict each other at any
+/// place or end.
+pub fn cover_agreement_is_the_relation()
+    ensures { (a b : CoverFacts) → IsTrue (covers_agree a b) ↔ CoversFit a b }
+{}
+
+/// Two entries pass the test of agreement exactly where kinds and names are the same and their
+/// covers don't contradict each other.
+pub fn entry_agreement_is_the_relation()
+    ensures { (a b : EntryFacts) → IsTrue (facts_agree a b) ↔ FactsFit a b }
 {}

@@ -1,8 +1,13 @@
 //! Joins of covers, of entries and of tables are commutative, associative and idempotent.
-ghost use Rattle.std.specs.Prelude.{◌≡◌};
-ghost use Rattle.nb_table.specs.Cover.{Cover, join_cover, IsCover};
-ghost use Rattle.nb_table.specs.Entry.{Entry, join_entry, IsEntry};
-ghost use Rattle.nb_table.specs.Contents.{Contents};
+ghost use Rattle.std.specs.Prelude.{◌≡◌, ℕ, [], ◌∷◌};
+ghost use Rattle.std.specs.FinMap as maps;
+ghost use Rattle.nb_datagram.specs.declared.key.Key.{Key};
+ghost use Rattle.nb_datagram.specs.Fragment.{Core};
+ghost use Rattle.nb_table.specs.Maps.{first_of, joined_at, joined_onto};
+ghost use Rattle.nb_table.specs.Slot.{Held};
+ghost use Rattle.nb_table.specs.Cover.{CoverFacts, Cover, covers_together, join_cover, IsCover};
+ghost use Rattle.nb_table.specs.Entry.{Entry, join_entry, IsEntry, facts_of};
+ghost use Rattle.nb_table.specs.Contents.{Contents, table_of};
 ghost use Rattle.nb_table.specs.Join.{join, IsTable};
 
 /// It makes no difference which of two covers is joined into the other.
@@ -63,4 +68,23 @@ pub fn table_join_is_idempotent()
 /// The join of two well-formed tables is well formed.
 pub fn table_join_is_well_formed()
     ensures { (a b : Contents) → IsTable a → IsTable b → IsTable (join a b) }
+{}
+
+/// The union of two covers has at each place the byte of the first, or else that of the second.
+pub fn union_has_the_bytes_of_both()
+    ensures { (a b : CoverFacts) (i : ℕ) → maps.get (covers_together a b).bytes i ≡
+        first_of (maps.get a.bytes i) (maps.get b.bytes i) }
+{}
+
+/// The join of two tables has the keys of either: what one alone has stands as it is there, and a
+/// key of both has the join of the entries.
+pub fn table_join_has_the_keys_of_either()
+    ensures { (a b : Contents) (k : Key) →
+        maps.get (join a b) k ≡ joined_at join_entry (maps.get a k) (maps.get b k) }
+{}
+
+/// Joining the table of one fragment changes the entry of its key alone.
+pub fn joining_a_fragment_changes_its_key()
+    ensures { (t : Contents) (f : Core) → join t (table_of (f ∷ [])) ≡
+        maps.insert t f.key (joined_onto join_entry (maps.get t f.key) (Held (facts_of f))) }
 {}

@@ -1,4 +1,4 @@
-use Rattle.std.proofs.Common.{◌≡◌, refl, sym, ◌∙◌, Some, None}
+use Rattle.std.proofs.Common.{◌≡◌, refl, sym, ◌∙◌, None}
 use Rattle.nb_datagram.specs.Fragment.{core_of, cores_of}
 use Rattle.nb_table.specs.Contents.{table_of}
 use Rattle.nb_table.specs.Whole.{datagram_at}

@@ -1,4 +1,4 @@
-use Rattle.std.proofs.Common.{◌≡◌, Some, None, refl, sym, ◌∙◌, ap, subst}
+use Rattle.std.proofs.Common.{◌≡◌, Some, None, sym, ◌∙◌, subst}
 use Rattle.nb_datagram.specs.Fragment.{cores_of}
 use Rattle.nb_table.specs.Plain.{CoversBelow}
 use Rattle.nb_table.proofs.SameLemmas.{refutes}

@@ -1,6 +1,4 @@
 //! Keys of datagrams.
-ghost use Rattle.std.specs.Prelude.{◌≡◌};
-ghost use Rattle.nb_datagram.specs.Key.{key_cmp};
 
 use std::cmp::Ordering;
 
@@ -8,7 +6,7 @@ use std::cmp::Ordering;
 /// sender gave it.
 ///
 /// Keys are ordered as numbers, by address, port and identifier. RFC 1002 section 4.4.1.
-#[derive(Clone, Copy, Debug, PartialEq, Eq, PartialOrd, Ord)]
+#[derive(Clone, Copy, Debug, PartialEq, Eq)]
 pub struct Key {
     /// The sender's address, SOURCE_IP.
     pub ip: [u8; 4],
@@ -18,11 +16,38 @@ pub struct Key {
     pub id: u16,
 }
 
-impl Key {
-    /// How the key stands to another: by address, then port, then identifier.
-    pub fn order(&self, other: &Key) -> Ordering
-        ensures { result ≡ key_cmp self.now other.now }
-    {
-        self.cmp(other)
+impl Ord for Key {
+    ghost use Rattle.std.proofs.Common.{rules};
+    ghost use Rattle.std.specs.Cmp.Rules.{comparing};
+    ghost use Rattle.nb_datagram.specs.Key.{key_cmp};
+
+    ghost cmp = { key_cmp };
+
+    ghost total = { Prim.search (comparing, rules) };
+
+    ghost matches_partial_cmp = { Prim.search (comparing, rules) };
+
+    ghost matches_eq = { Prim.search (comparing, rules) };
+
+    fn cmp(&self, other: &Self) -> Ordering {
+        let port_and_id = self.port.cmp(&other.port).then(self.id.cmp(&other.id));
+        self.ip.cmp(&other.ip).then(port_and_id)
+    }
+}
+
+impl PartialOrd for Key {
+    ghost use Rattle.std.proofs.Common.{rules};
+    ghost use Rattle.std.specs.Cmp.Rules.{comparing};
+    ghost use Rattle.std.specs.Cmp.{partial_order_from_own_ties};
+    ghost use Rattle.std.specs.Ordering.{as_partial_cmp};
+    ghost use Rattle.nb_datagram.specs.Key.{key_cmp};
+
+    ghost partial_cmp = { as_partial_cmp key_cmp };
+
+    ghost laws = { partial_order_from_own_ties (Prim.search (comparing, rules))
+        (Prim.search (comparing, rules)) };
+
+    fn partial_cmp(&self, other: &Self) -> Option<Ordering> {
+        Some(self.cmp(other))
     }
 }

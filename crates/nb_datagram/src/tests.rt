@@ -105,10 +105,10 @@ fn keys_are_ordered_as_numbers(rt: HostRuntime) {
         },
     ];
     for key in later {
-        assert_eq!(rt; KEY.order(&key), Ordering::Less);
-        assert_eq!(rt; key.order(&KEY), Ordering::Greater);
+        assert_eq!(rt; KEY.cmp(&key), Ordering::Less);
+        assert_eq!(rt; key.cmp(&KEY), Ordering::Greater);
     }
-    assert_eq!(rt; KEY.order(&KEY), Ordering::Equal);
+    assert_eq!(rt; KEY.cmp(&KEY), Ordering::Equal);
 }
 
 #[test]

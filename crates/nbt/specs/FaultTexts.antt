@@ -1,12 +1,12 @@
 -- The texts of the program's faults, and the exit status of each (own). Numbers are decimal.
-use Rattle.std.specs.Prelude.{ℕ, List, ◌++◌, codes}
+use Rattle.std.specs.Prelude.{ℕ, List, ◌++◌, codes, Result, Ok, Err}
 use Rattle.std.specs.Fmt.{decimal}
 use Rattle.nb_names.specs.FaultTexts.{name_fault_text}
 use Rattle.nb_names.specs.TextFaults.{text_fault_text}
 use Rattle.nbt.specs.declared.fault.Fault.{Fault}
 use Rattle.nbt.specs.declared.fault.Fault.TheVariants.{Text, Name, BadHex, TrailingBytes, Write, Memory}
 use Rattle.nbt.specs.declared.status.Status.{Status}
-use Rattle.nbt.specs.declared.status.Status.TheVariants.{Refused, Failed}
+use Rattle.nbt.specs.declared.status.Status.TheVariants.{Done, Refused, Failed}
 
 -- what is told of a fault, behind `nbt: `
 abbrev pub fault_text : Fault → List ℕ
@@ -25,3 +25,8 @@ status_of BadHex = Refused
 status_of (TrailingBytes at) = Refused
 status_of Write = Failed
 status_of Memory = Failed
+
+-- the exit status of a command that ended so
+abbrev pub status_after : Result Unit Fault → Status
+status_after (Ok _) = Done
+status_after (Err fault) = status_of fault

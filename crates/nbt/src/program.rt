@@ -1,5 +1,7 @@
 //! The program over any input and output.
-ghost use Rattle.std.specs.Prelude.{◌≡◌, ◌≤◌};
+ghost use Rattle.std.specs.Prelude.{◌≡◌, ◌≢◌, ◌≤◌};
+ghost use Rattle.clap.specs.Words.{kind_of};
+ghost use Rattle.nbt.specs.FaultTexts.{status_after};
 
 use crate::command_line::command;
 use crate::fault::Fault;
@@ -52,7 +54,9 @@ fn acted<W: Write>(alloc: Global, matches: &ArgMatches<'_>, output: &mut W) -> R
 }
 
 /// The status with which a command ended, its fault told.
-fn ended<E: Write>(outcome: Result<(), Fault>, errors: &mut E) -> Status {
+fn ended<E: Write>(outcome: Result<(), Fault>, errors: &mut E) -> Status
+    ensures { result ≡ status_after outcome }
+{
     match outcome {
         Ok(()) => Status::Done,
         Err(fault) => {
@@ -63,7 +67,12 @@ fn ended<E: Write>(outcome: Result<(), Fault>, errors: &mut E) -> Status {
 }
 
 /// The status where `clap` didn't read the words: it asks for help, or says what is wrong.
-fn unread<W: Write, E: Write>(error: &Error, output: &mut W, errors: &mut E) -> Status {
+fn unread<W: Write, E: Write>(error: &Error, output: &mut W, errors: &mut E) -> Status
+    ensures memory { kind_of error.now ≡ ErrorKind.OutOfMemory → result ≡ Status.Failed }
+    ensures help { kind_of error.now ≡ ErrorKind.DisplayHelp → result ≢ Status.BadUsage }
+    ensures usage { kind_of error.now ≢ ErrorKind.OutOfMemory →
+        kind_of error.now ≢ ErrorKind.DisplayHelp → result ≡ Status.BadUsage }
+{
     match error.kind() {
         ErrorKind::OutOfMemory => ended(Err(Fault::Memory), errors),
         ErrorKind::DisplayHelp => {

@@ -67,14 +67,11 @@ impl<'a> Packet<'a> {
     pub fn new(alloc: Global, id: u16, word: u16) -> Packet<'a>
         ensures { result ≡ empty_packet id word }
     {
-        Packet {
-            id,
-            word,
-            questions: Questions::from_vec(Vec::new(alloc)),
-            answers: Records::from_vec(Vec::new(alloc)),
-            authorities: Records::from_vec(Vec::new(alloc)),
-            additional: Records::from_vec(Vec::new(alloc)),
-        }
+        let questions = Questions::from_vec(Vec::new(alloc));
+        let answers = Records::from_vec(Vec::new(alloc));
+        let authorities = Records::from_vec(Vec::new(alloc));
+        let additional = Records::from_vec(Vec::new(alloc));
+        Packet::with_lists(id, word, questions, answers, authorities, additional)
     }
 
     /// The identifier, NAME_TRN_ID.

@@ -17,6 +17,8 @@ pub enum Fault {
     BadHex,
     /// Bytes follow the name that should have been alone. The offset is that of the first of them.
     TrailingBytes(usize),
+    /// The program's words couldn't be read.
+    Read,
     /// The output failed.
     Write,
     /// Memory ran out.
@@ -32,7 +34,7 @@ impl Fault {
             Fault::Text(_) | Fault::Name(_) | Fault::BadHex | Fault::TrailingBytes(_) => {
                 Status::Refused
             }
-            Fault::Write | Fault::Memory => Status::Failed,
+            Fault::Read | Fault::Write | Fault::Memory => Status::Failed,
         }
     }
 }
@@ -49,6 +51,7 @@ impl fmt::Display for Fault {
             Fault::Name(fault) => write!(f, "{fault}"),
             Fault::BadHex => f.write_str("bad hex"),
             Fault::TrailingBytes(at) => write!(f, "trailing bytes {at}"),
+            Fault::Read => f.write_str("read"),
             Fault::Write => f.write_str("write"),
             Fault::Memory => f.write_str("memory"),
         }

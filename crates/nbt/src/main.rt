@@ -7,36 +7,35 @@ mod name;
 mod program;
 mod status;
 
-use crate::program::run;
-use crate::status::Status;
+use crate::fault::Fault;
+use crate::program::{ended, run};
 use std::env;
-use std::io::Write;
 use std::process::ExitCode;
 
 fn main(rt: HostRuntime) -> ExitCode {
-    let mut errors = rt.stderr();
-    let Some(words) = words_of(&rt) else {
-        let _ = writeln!(errors, "nbt: read");
-        return ExitCode::from(Status::Failed.code());
-    };
     let mut input = rt.stdin();
     let mut output = rt.stdout();
-    ExitCode::from(run(
-        rt.alloc(),
-        words.as_slice(),
-        &mut input,
-        &mut output,
-        &mut errors,
-    ))
+    let mut errors = rt.stderr();
+    let code = match words_of(&rt) {
+        Ok(words) => run(
+            rt.alloc(),
+            words.as_slice(),
+            &mut input,
+            &mut output,
+            &mut errors,
+        ),
+        Err(fault) => ended(Err(fault), &mut errors).code(),
+    };
+    ExitCode::from(code)
 }
 
-/// The words that the program was called with, its own name first, if they can be read.
-fn words_of(rt: &HostRuntime) -> Option<Vec<String>> {
+/// The words that the program was called with, its own name first.
+fn words_of(rt: &HostRuntime) -> Result<Vec<String>, Fault> {
     let mut words = Vec::new(rt.alloc());
-    for word in env::args(rt).ok()? {
-        words.push(word).ok()?;
+    for word in env::args(rt).map_err(|_| Fault::Read)? {
+        words.push(word).map_err(|_| Fault::Memory)?;
     }
-    Some(words)
+    Ok(words)
 }
 
 #[cfg(test)]

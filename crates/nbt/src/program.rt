@@ -54,7 +54,7 @@ fn acted<W: Write>(alloc: Global, matches: &ArgMatches<'_>, output: &mut W) -> R
 }
 
 /// The status with which a command ended, its fault told.
-fn ended<E: Write>(outcome: Result<(), Fault>, errors: &mut E) -> Status
+pub fn ended<E: Write>(outcome: Result<(), Fault>, errors: &mut E) -> Status
     ensures { result ≡ status_after outcome }
 {
     match outcome {

@@ -135,3 +135,19 @@ fn lists_keep_their_items(rt: HostRuntime) {
     assert_eq!(rt; records.as_slice().len(), 0);
     assert_eq!(rt; records.into_vec().len(), 0);
 }
+
+/// The numbers are those of RFC 1002 section 4.2.1.3.
+#[test]
+fn kinds_and_classes_have_their_numbers(rt: HostRuntime) {
+    let numbers = [
+        (kinds::A, 0x0001),
+        (kinds::NS, 0x0002),
+        (kinds::NULL, 0x000a),
+        (kinds::NB, 0x0020),
+        (kinds::NBSTAT, 0x0021),
+        (classes::IN, 0x0001),
+    ];
+    for (number, want) in numbers {
+        assert_eq!(rt; number, want);
+    }
+}

@@ -2,8 +2,8 @@
 -- 4.4.1, 4.4.2 and 5.3).
 --
 -- Places count from the first byte of the datagram's data, names not counted.
--- Own, and other than section 5.3: each fragment carries both names, and its offset counts from there.
--- M alone of the flags counts when fragments are put together; F is judged before, when one is taken.
+-- Own, and other than section 5.3: each fragment carries both names, and its offset is a place so
+-- counted. M alone of the flags counts when fragments are put together; F takes no part.
 use Rattle.std.specs.Prelude.{◌≡◌, ◌==◌, ℕ, ◌+◌, ◌-◌, ◌≤◌, Bool, false, cond, not, List, map, length, slice_get, bit_and, nat_le, Option, Some, None}
 use Rattle.nb_names.specs.DomainName.{spelling}
 use Rattle.nb_names.specs.Name.{NetbiosName, labels_of_name}

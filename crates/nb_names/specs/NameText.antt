@@ -103,7 +103,7 @@ abbrev pub IsFront : List ℕ → ℕ → Type 0
 IsFront text count = (rest : List ℕ) × IsFormed (take count text ++ rest)
 
 -- IsBad text place: the longest front of the text with which some text of the form begins ends at
--- the place; limits take no part in it
+-- the place, whatever the limits
 pub record IsBad (text : List ℕ) (place : ℕ) : Type 0 where
   pub within : place ≤ length text
   pub front : IsFront text place

@@ -90,7 +90,7 @@ impl Name {
     ///
     /// # Errors
     ///
-    /// [`NotNetbios`] where no name has them. Lower-case letters are refused (own).
+    /// [`NotNetbios`] where no name has them. A letter in lower case is none (own).
     ///
     /// RFC 1001 section 14.1.
     pub fn from_domain(domain: &DomainName) -> Result<Name, NotNetbios>

@@ -6,9 +6,8 @@ use std::fmt;
 /// Why a text is no NetBIOS name's. Where both apply, the first is answered.
 #[derive(Clone, Copy, Debug, PartialEq, Eq)]
 pub enum TextFault {
-    /// The text hasn't the form of a name's text. The place, in bytes from its start, is that of
-    /// the first byte with which no text of the form goes on, or the text's length where it only
-    /// stops too early.
+    /// The text hasn't the form of a name's text. The place, in bytes from its start, is the length
+    /// of the longest front of the text that some text of the form begins with.
     BadText(usize),
     /// More than fifteen bytes stand before `<`, a label has more than 63, or the scope's spelling
     /// more than 222.

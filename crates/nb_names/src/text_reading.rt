@@ -11,8 +11,9 @@ use crate::text_fault::TextFault;
 ///
 /// The text is any number of items, `<`, two hexadecimal digits, `>`, and for each label of the
 /// scope `.` and one or more items. An item is one of the bytes 21 to 7e but `.`, `<`, `>` and `\`,
-/// which stands for itself, or `\` and two hexadecimal digits. The items before `<` are the name's
-/// first bytes, filled up with spaces to fifteen; the digits are its sixteenth. No memory is taken.
+/// which stands for itself, or `\` and two hexadecimal digits. What stands before `<` gives the
+/// name's front, and spaces fill it up to fifteen bytes; the digits give the sixteenth. No memory
+/// is taken.
 ///
 /// # Errors
 ///

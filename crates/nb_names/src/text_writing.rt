@@ -12,7 +12,7 @@ use crate::text_steps::is_plain;
 use std::alloc::Global;
 
 /// The text of a name, as it is written: the spaces at the end of its first fifteen bytes are left
-/// out, plain bytes stand for themselves, and all others are `\` and two digits in lower case.
+/// out, a byte that may stand plainly does, and any other is `\` and two digits in lower case.
 ///
 /// # Errors
 ///

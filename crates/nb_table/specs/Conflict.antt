@@ -7,7 +7,7 @@ use Rattle.nb_datagram.specs.Fragment.{Core, Covers, EndsAt}
 use Rattle.nb_table.specs.Entry.{facts_agree, facts_of}
 
 -- f and g contradict each other, whatever their keys: in kind or in a name, in the byte at a place, in
--- the end, or by a byte of one that lies behind the other's last place
+-- the end, or by a byte of one at or past the place where the other ends
 pub data Conflict (f g : Core) : Type 0 where
   kinds : f.kind ≢ g.kind → Conflict f g
   sources : f.source ≢ g.source → Conflict f g
@@ -44,6 +44,6 @@ some_conflict (f ∷ fs) = list_any (conflicts f) fs || some_conflict fs
 abbrev pub with_key : Key → List Core → List Core
 with_key k = filter (λ f. same_key k f.key)
 
--- is_spoilt L k: the same, as a test
+-- is_spoilt L k: L contradicts itself about the key k, as a test
 abbrev pub is_spoilt : List Core → Key → Bool
 is_spoilt L k = some_conflict (with_key k L)

@@ -69,7 +69,7 @@ fn a_name_of_255_bytes_is_read(rt: HostRuntime) {
     let too_long = Err(NameFault::TooLong(225));
     expect_domain(&rt, &past, 0, Pointers::Refused, too_long);
     expect_domain(&rt, front(&past), 0, Pointers::Refused, too_long);
-    // A label that is cut off and too long at once is cut off.
+    // Missing bytes come before a length past the limit.
     let cut = Err(NameFault::Truncated(256));
     expect_domain(&rt, &long_name(63), 0, Pointers::Refused, cut);
 }

@@ -143,6 +143,7 @@ fn datagram_below(
 /// # Errors
 ///
 /// `TooLong` where the key is whole and has more than 65,535 bytes; no memory is taken then.
+/// `NoMemory` where memory ran out.
 pub fn datagram(
     alloc: Global,
     fragments: &[Fragment<'_>],

@@ -10,6 +10,7 @@ mod status;
 use crate::fault::Fault;
 use crate::program::{ended, run};
 use std::env;
+use std::io::ErrorKind;
 use std::process::ExitCode;
 
 fn main(rt: HostRuntime) -> ExitCode {
@@ -32,7 +33,11 @@ fn main(rt: HostRuntime) -> ExitCode {
 /// The words that the program was called with, its own name first.
 fn words_of(rt: &HostRuntime) -> Result<Vec<String>, Fault> {
     let mut words = Vec::new(rt.alloc());
-    for word in env::args(rt).map_err(|_| Fault::Read)? {
+    let given = env::args(rt).map_err(|error| match error.kind() {
+        ErrorKind::OutOfMemory => Fault::Memory,
+        _ => Fault::Read,
+    })?;
+    for word in given {
         words.push(word).map_err(|_| Fault::Memory)?;
     }
     Ok(words)

@@ -12,7 +12,7 @@ use Rattle.nb_datagram.specs.Fragment.{Core, byte_of, end_of_one}
 use Rattle.nb_table.specs.Maps.{first_of, joined_at}
 use Rattle.nb_table.specs.Slot.{Spoilt, Held}
 use Rattle.nb_table.specs.Cover.{CoverFacts, covers_together, placed, cover_of}
-use Rattle.nb_table.specs.Entry.{EntryFacts, Entry, facts_agree, facts_together, join_entry, facts_of, IsEntry}
+use Rattle.nb_table.specs.Entry.{EntryFacts, EntryValue, facts_agree, facts_together, join_entry, facts_of, IsEntry}
 use Rattle.nb_table.specs.Conflict.{conflicts, some_conflict, with_key}
 use Rattle.nb_table.specs.Contents.{first_byte, all_placed, cover_in, facts_in, entry_in, entry_at, table_of}
 use Rattle.nb_table.specs.Join.{join, IsTable}
@@ -101,14 +101,14 @@ or_true true = refl
 or_true false = refl
 
 entry_step : (f g : Core) (gs : List Core) (b : Bool) → some_conflict (g ∷ gs) ≡ b →
-    ◌≡◌ {A = Option Entry} (Some (cond (list_any (conflicts f) (g ∷ gs) || b) Spoilt (Held (facts_in f (f ∷ g ∷ gs)))))
+    ◌≡◌ {A = Option EntryValue} (Some (cond (list_any (conflicts f) (g ∷ gs) || b) Spoilt (Held (facts_in f (f ∷ g ∷ gs)))))
     (Some (join_entry (Held (facts_of f)) (cond b Spoilt (Held (facts_in g (g ∷ gs))))))
 entry_step f g gs true e = ap (λ p. Some (cond p Spoilt (Held (facts_in f (f ∷ g ∷ gs))))) (or_true (list_any (conflicts f) (g ∷ gs)))
 entry_step f g gs false e =
     ap (λ x. Some (cond (list_any (conflicts f) (g ∷ gs) || false) Spoilt (Held x))) (facts_in-cons f g gs)
     ∙ choice (list_any (conflicts f) (g ∷ gs)) (facts_agree (facts_of f) (facts_in g (g ∷ gs))) (agree_each (facts_of f) g gs e) (facts_together (facts_of f) (facts_in g (g ∷ gs)))
   where
-    choice : (p q : Bool) → q ≡ not p → (x : EntryFacts) → ◌≡◌ {A = Option Entry} (Some (cond (p || false) Spoilt (Held x))) (Some (cond q (Held x) Spoilt))
+    choice : (p q : Bool) → q ≡ not p → (x : EntryFacts) → ◌≡◌ {A = Option EntryValue} (Some (cond (p || false) Spoilt (Held x))) (Some (cond q (Held x) Spoilt))
     choice true q e x = ap (λ r. Some (cond r (Held x) Spoilt)) (sym e)
     choice false q e x = ap (λ r. Some (cond r (Held x) Spoilt)) (sym e)
 
@@ -124,11 +124,11 @@ entry_in-append (f ∷ fs) gs =
     ∙ sym (at-assoc join_entry join_entry-assoc (Some (Held (facts_of f))) (entry_in fs) (entry_in gs))
     ∙ ap (λ a. joined_at join_entry a (entry_in gs)) (sym (entry_in-cons f fs))
 
-pub entry_in_formed : (fs : List Core) (e : Entry) → entry_in fs ≡ Some e → IsEntry e
+pub entry_in_formed : (fs : List Core) (e : EntryValue) → entry_in fs ≡ Some e → IsEntry e
 entry_in_formed [] e h = absurd (cc)
 entry_in_formed (f ∷ fs) e h = at_formed (Some (Held (facts_of f))) (entry_in fs) (single f) (entry_in_formed fs) e (sym (entry_in-cons f fs) ∙ h)
   where
-    single : (g : Core) (e : Entry) → ◌≡◌ {A = Option Entry} (Some (Held (facts_of g))) (Some e) → IsEntry e
+    single : (g : Core) (e : EntryValue) → ◌≡◌ {A = Option EntryValue} (Some (Held (facts_of g))) (Some e) → IsEntry e
     single g e h = let one : Held (facts_of g) ≡ e = cc in subst IsEntry one (cover_of_formed g)
 
 -- ---- the table of a list

@@ -3,8 +3,8 @@
 use Rattle.std.proofs.Common.{◌≡◌, ap, Decides, ℕ, cond, Some, true, refl, sym, ◌∙◌}
 use Rattle.std.specs.FinMap as maps
 use Rattle.nb_table.specs.Slot.{Spoilt, Held, OnHeld}
-use Rattle.nb_table.specs.Cover.{Cover, covers_agree, join_cover, IsCover}
-use Rattle.nb_table.specs.Entry.{EntryFacts, FactsFit, Entry, facts_agree, facts_together, join_entry, AreEntryFacts, IsEntry}
+use Rattle.nb_table.specs.Cover.{CoverValue, covers_agree, join_cover, IsCover}
+use Rattle.nb_table.specs.Entry.{EntryFacts, FactsFit, EntryValue, facts_agree, facts_together, join_entry, AreEntryFacts, IsEntry}
 use Rattle.nb_table.proofs.MapsLemmas.{and_left, and_right, and_both}
 use Rattle.nb_table.proofs.SameLemmas.{same_kind_decides, same_name_decides}
 use Rattle.nb_table.proofs.SlotLemmas.{Unites, join-comm, join-assoc, join-idem, join_formed}
@@ -82,19 +82,19 @@ entry_agrees a h = facts_agree_of a a (record { kind = refl; source = refl; dest
 pub agrees_entry : (a : EntryFacts) → facts_agree a a ≡ true → AreEntryFacts a
 agrees_entry a h = (facts_fit_of a a h).cover.within
 
-entry_slot : (e : Entry) → IsEntry e → OnHeld (λ a. facts_agree a a ≡ true) e
+entry_slot : (e : EntryValue) → IsEntry e → OnHeld (λ a. facts_agree a a ≡ true) e
 entry_slot Spoilt f = tt
 entry_slot (Held a) f = entry_agrees a f
 
-slot_entry : (e : Entry) → OnHeld (λ a. facts_agree a a ≡ true) e → IsEntry e
+slot_entry : (e : EntryValue) → OnHeld (λ a. facts_agree a a ≡ true) e → IsEntry e
 slot_entry Spoilt f = tt
 slot_entry (Held a) f = agrees_entry a f
 
-cover_slot : (c : Cover) → IsCover c → OnHeld (λ a. covers_agree a a ≡ true) c
+cover_slot : (c : CoverValue) → IsCover c → OnHeld (λ a. covers_agree a a ≡ true) c
 cover_slot Spoilt f = tt
 cover_slot (Held a) f = formed_agrees a f
 
-slot_cover : (c : Cover) → OnHeld (λ a. covers_agree a a ≡ true) c → IsCover c
+slot_cover : (c : CoverValue) → OnHeld (λ a. covers_agree a a ≡ true) c → IsCover c
 slot_cover Spoilt f = tt
 slot_cover (Held a) f = agrees_formed a f
 
@@ -121,26 +121,26 @@ join_held a b formed kind source destination bytes ends =
 
 -- ---- the laws of joins of covers and entries
 
-pub join_cover-comm : (a b : Cover) → join_cover a b ≡ join_cover b a
+pub join_cover-comm : (a b : CoverValue) → join_cover a b ≡ join_cover b a
 join_cover-comm = join-comm covers_unite
 
-pub join_cover-assoc : (a b c : Cover) → join_cover (join_cover a b) c ≡ join_cover a (join_cover b c)
+pub join_cover-assoc : (a b c : CoverValue) → join_cover (join_cover a b) c ≡ join_cover a (join_cover b c)
 join_cover-assoc = join-assoc covers_unite
 
-pub join_cover-idem : (a : Cover) → IsCover a → join_cover a a ≡ a
+pub join_cover-idem : (a : CoverValue) → IsCover a → join_cover a a ≡ a
 join_cover-idem a f = join-idem covers_unite a (cover_slot a f)
 
-pub join_cover_formed : (a b : Cover) → IsCover a → IsCover b → IsCover (join_cover a b)
+pub join_cover_formed : (a b : CoverValue) → IsCover a → IsCover b → IsCover (join_cover a b)
 join_cover_formed a b f g = slot_cover _ (join_formed covers_unite a b (cover_slot a f) (cover_slot b g))
 
-pub join_entry-comm : (a b : Entry) → join_entry a b ≡ join_entry b a
+pub join_entry-comm : (a b : EntryValue) → join_entry a b ≡ join_entry b a
 join_entry-comm = join-comm facts_unite
 
-pub join_entry-assoc : (a b c : Entry) → join_entry (join_entry a b) c ≡ join_entry a (join_entry b c)
+pub join_entry-assoc : (a b c : EntryValue) → join_entry (join_entry a b) c ≡ join_entry a (join_entry b c)
 join_entry-assoc = join-assoc facts_unite
 
-pub join_entry-idem : (a : Entry) → IsEntry a → join_entry a a ≡ a
+pub join_entry-idem : (a : EntryValue) → IsEntry a → join_entry a a ≡ a
 join_entry-idem a f = join-idem facts_unite a (entry_slot a f)
 
-pub join_entry_formed : (a b : Entry) → IsEntry a → IsEntry b → IsEntry (join_entry a b)
+pub join_entry_formed : (a b : EntryValue) → IsEntry a → IsEntry b → IsEntry (join_entry a b)
 join_entry_formed a b f g = slot_entry _ (join_formed facts_unite a b (entry_slot a f) (entry_slot b g))

@@ -5,7 +5,7 @@ use Rattle.nb_datagram.specs.declared.key.Key.{Key}
 use Rattle.nb_datagram.specs.Key.{same_key}
 use Rattle.nb_datagram.specs.Fragment.{Core}
 use Rattle.nb_table.specs.Maps.{joined_at, joined_onto}
-use Rattle.nb_table.specs.Entry.{Entry, join_entry, facts_of}
+use Rattle.nb_table.specs.Entry.{EntryValue, join_entry, facts_of}
 use Rattle.nb_table.specs.Slot.{Held}
 use Rattle.nb_table.specs.Conflict.{with_key}
 use Rattle.nb_table.specs.Contents.{Contents, entry_in, table_of}
@@ -123,12 +123,12 @@ at_one : (t : Contents) (f : Core) (q : Key) (b : Bool) → same_key q f.key ≡
     joined_at join_entry (maps.get t q) (cond b (Some (Held (facts_of f))) None) ≡ cond b (Some (joined_onto join_entry (maps.get t f.key) (Held (facts_of f)))) (maps.get t q)
 at_one t f q true e = onto (maps.get t q) ∙ ap (λ k. Some (joined_onto join_entry (maps.get t k) (Held (facts_of f)))) ((same_key_decides q f.key).0 e)
   where
-    onto : (a : Option Entry) → joined_at join_entry a (Some (Held (facts_of f))) ≡ Some (joined_onto join_entry a (Held (facts_of f)))
+    onto : (a : Option EntryValue) → joined_at join_entry a (Some (Held (facts_of f))) ≡ Some (joined_onto join_entry a (Held (facts_of f)))
     onto None = refl
     onto (Some x) = refl
 at_one t f q false e = alone (maps.get t q)
   where
-    alone : (a : Option Entry) → joined_at join_entry a None ≡ a
+    alone : (a : Option EntryValue) → joined_at join_entry a None ≡ a
     alone None = refl
     alone (Some x) = refl
 

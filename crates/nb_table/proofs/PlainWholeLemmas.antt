@@ -7,7 +7,7 @@ use Rattle.nb_datagram.specs.Fragment.{Core}
 use Rattle.nb_datagram.specs.Datagram.{DatagramParts}
 use Rattle.nb_datagram.specs.declared.limits.TheConstants.{MAX_LENGTH}
 use Rattle.nb_table.specs.Slot.{Spoilt, Held}
-use Rattle.nb_table.specs.Entry.{Entry}
+use Rattle.nb_table.specs.Entry.{EntryValue}
 use Rattle.nb_table.specs.Conflict.{IsSpoilt, some_conflict, with_key, is_spoilt}
 use Rattle.nb_table.specs.Contents.{first_end, byte_at, end_of, cover_in, facts_in, entry_in, table_of}
 use Rattle.nb_table.specs.Whole.{IsWhole, bytes_below, bytes_to, datagram_with, datagram_of, datagram_at}
@@ -68,14 +68,14 @@ whole_from L k n free ends below =
       record { length = n; ends = ends; covered = λ i h. (let w = below i h in (w.0, get-cover_in (with_key k L) i ∙ w.1)) },
     )
 
-spoilt_not_whole : (L : List Core) (k : Key) (e : Entry) → maps.get (table_of L) k ≡ Some e → IsWhole e → IsSpoilt L k → ⊥
+spoilt_not_whole : (L : List Core) (k : Key) (e : EntryValue) → maps.get (table_of L) k ≡ Some e → IsWhole e → IsSpoilt L k → ⊥
 spoilt_not_whole L k Spoilt h w s = w
 spoilt_not_whole L k (Held e) h w s = let clash = sym h ∙ (spoilt_exactly L k).1 s in absurd (cc clash)
 
 pub whole_free : (L : List Core) (k : Key) → IsWholeAt (table_of L) k → IsSpoilt L k → ⊥
 whole_free L k w = spoilt_not_whole L k w.0 w.1 w.2
 
-whole_in : (L : List Core) (k : Key) (e : Entry) → maps.get (table_of L) k ≡ Some e → IsWhole e → (n : ℕ) × (end_of L k ≡ Some n) × CoversBelow L k n
+whole_in : (L : List Core) (k : Key) (e : EntryValue) → maps.get (table_of L) k ≡ Some e → IsWhole e → (n : ℕ) × (end_of L k ≡ Some n) × CoversBelow L k n
 whole_in L k Spoilt h w = absurd w
 whole_in L k (Held e) h w =
     let s = held_says L k e h in
@@ -90,11 +90,11 @@ whole_ends L k w = whole_in L k w.0 w.1 w.2
 pub not_whole : (L : List Core) (k : Key) → (IsWholeAt (table_of L) k → ⊥) → datagram_at (table_of L) k ≡ None
 not_whole L k h = at (maps.get (table_of L) k) refl
   where
-    none : (e : Entry) (o : Option DatagramParts) → datagram_of k e ≡ o → maps.get (table_of L) k ≡ Some e → datagram_of k e ≡ None
+    none : (e : EntryValue) (o : Option DatagramParts) → datagram_of k e ≡ o → maps.get (table_of L) k ≡ Some e → datagram_of k e ≡ None
     none e None d g = d
     none e (Some x) d g = absurd (h (e, g, (whole_exactly k e).1 (x, d)))
 
-    at : (o : Option Entry) → maps.get (table_of L) k ≡ o → option_and_then (datagram_of k) o ≡ None
+    at : (o : Option EntryValue) → maps.get (table_of L) k ≡ o → option_and_then (datagram_of k) o ≡ None
     at None g = refl
     at (Some e) g = none e (datagram_of k e) refl g
 

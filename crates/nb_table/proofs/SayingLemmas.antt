@@ -4,7 +4,7 @@ use Rattle.std.specs.FinMap as maps
 use Rattle.nb_datagram.specs.declared.key.Key.{Key}
 use Rattle.nb_datagram.specs.Fragment.{Core}
 use Rattle.nb_table.specs.Slot.{Spoilt, Held}
-use Rattle.nb_table.specs.Entry.{EntryFacts, Entry}
+use Rattle.nb_table.specs.Entry.{EntryFacts, EntryValue}
 use Rattle.nb_table.specs.Conflict.{IsSpoilt, some_conflict, with_key}
 use Rattle.nb_table.specs.Contents.{facts_in, entry_in, table_of, Says}
 use Rattle.nb_table.proofs.ContentsLemmas.{get-cover_in, get-table_of}
@@ -30,7 +30,7 @@ absent_exactly L k = (
 
 -- ---- spoilt
 
-chosen_spoilt : (b : Bool) (e : EntryFacts) → ◌≡◌ {A = Option Entry} (Some (cond b Spoilt (Held e))) (Some Spoilt) → b ≡ true
+chosen_spoilt : (b : Bool) (e : EntryFacts) → ◌≡◌ {A = Option EntryValue} (Some (cond b Spoilt (Held e))) (Some Spoilt) → b ≡ true
 chosen_spoilt true e h = refl
 chosen_spoilt false e h = absurd (cc)
 
@@ -56,7 +56,7 @@ record First (fs : List Core) (e : EntryFacts) : Type 0 where
   is_first : slice_get fs 0 ≡ Some first
   facts : facts_in first fs ≡ e
 
-chosen_held : (b : Bool) (a e : EntryFacts) → ◌≡◌ {A = Option Entry} (Some (cond b Spoilt (Held a))) (Some (Held e)) → a ≡ e
+chosen_held : (b : Bool) (a e : EntryFacts) → ◌≡◌ {A = Option EntryValue} (Some (cond b Spoilt (Held a))) (Some (Held e)) → a ≡ e
 chosen_held true a e h = absurd (cc)
 chosen_held false a e h = cc
 

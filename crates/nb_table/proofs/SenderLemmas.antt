@@ -6,7 +6,7 @@ use Rattle.nb_datagram.specs.Fragment.{Core, reach, core_of}
 use Rattle.nb_datagram.specs.Datagram.{DatagramParts}
 use Rattle.nb_datagram.specs.Pieces.{IsPart, pieces}
 use Rattle.nb_table.specs.Slot.{Spoilt, Held}
-use Rattle.nb_table.specs.Entry.{EntryFacts, Entry}
+use Rattle.nb_table.specs.Entry.{EntryFacts, EntryValue}
 use Rattle.nb_table.specs.Conflict.{with_key}
 use Rattle.nb_table.specs.Contents.{table_of, Says}
 use Rattle.nb_table.specs.Whole.{IsWholeCover, IsWhole}
@@ -32,7 +32,7 @@ record Holds (L : List Core) (d : DatagramParts) : Type 0 where
   is : maps.get (table_of L) d.key ≡ Some (Held facts)
   says : Says L d.key facts
 
-holds_at : (L : List Core) (d : DatagramParts) → HasPartsAlone L d → (f : Core) → IsOf L d f → (o : Option Entry) → maps.get (table_of L) d.key ≡ o → Holds L d
+holds_at : (L : List Core) (d : DatagramParts) → HasPartsAlone L d → (f : Core) → IsOf L d f → (o : Option EntryValue) → maps.get (table_of L) d.key ≡ o → Holds L d
 holds_at L d h f own None e = absurd ((absent_exactly L d.key).0 e f own.0 own.1)
 holds_at L d h f own (Some Spoilt) e = absurd (parts_not_spoilt_in_table L d h e)
 holds_at L d h f own (Some (Held a)) e = record { facts = a; is = e; says = held_says L d.key a e }
@@ -80,7 +80,7 @@ all_of_whole L d h e says w =
       last = (last.fragment, in_with_key d.key L last.fragment last.has, last.ends.0);
     }
 
-all_at : (L : List Core) (d : DatagramParts) → HasPartsAlone L d → (e : Entry) → maps.get (table_of L) d.key ≡ Some e → IsWhole e → HasAll L d
+all_at : (L : List Core) (d : DatagramParts) → HasPartsAlone L d → (e : EntryValue) → maps.get (table_of L) d.key ≡ Some e → IsWhole e → HasAll L d
 all_at L d h Spoilt e w = absurd w
 all_at L d h (Held a) e w = all_of_whole L d h a (held_says L d.key a e) w
 

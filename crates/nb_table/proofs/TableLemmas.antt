@@ -3,7 +3,7 @@ use Rattle.std.proofs.Common.{◌≡◌, Option, Some, None, refl, sym, ◌∙�
 use Rattle.std.specs.FinMap as maps
 use Rattle.nb_datagram.specs.declared.key.Key.{Key}
 use Rattle.nb_table.specs.Maps.{joined_at}
-use Rattle.nb_table.specs.Entry.{Entry, join_entry, IsEntry}
+use Rattle.nb_table.specs.Entry.{EntryValue, join_entry, IsEntry}
 use Rattle.nb_table.specs.Contents.{Contents}
 use Rattle.nb_table.specs.Join.{join, IsTable}
 use Rattle.nb_table.proofs.MapsLemmas.{get-joined, joined-comm, joined-assoc, joined-idem}
@@ -28,7 +28,7 @@ pub join-idem : (a : Contents) → IsTable a → join a a ≡ a
 join-idem a f = joined-idem key_cmp_total key_cmp_exact join_entry a (λ k e h. join_entry-idem e (f k e h))
 
 -- the entry of a join, where both entries are well formed
-pub at_formed : (a b : Option Entry) → ((e : Entry) → a ≡ Some e → IsEntry e) → ((e : Entry) → b ≡ Some e → IsEntry e) → (e : Entry) → joined_at join_entry a b ≡ Some e → IsEntry e
+pub at_formed : (a b : Option EntryValue) → ((e : EntryValue) → a ≡ Some e → IsEntry e) → ((e : EntryValue) → b ≡ Some e → IsEntry e) → (e : EntryValue) → joined_at join_entry a b ≡ Some e → IsEntry e
 at_formed None b f g e h = g e h
 at_formed (Some x) None f g e h = f e h
 at_formed (Some x) (Some y) f g e h =

@@ -8,7 +8,7 @@ use Rattle.std.specs.FinMap as maps
 use Rattle.nb_datagram.specs.declared.key.Key.{Key}
 use Rattle.nb_datagram.specs.Datagram.{DatagramParts}
 use Rattle.nb_table.specs.Slot.{Spoilt, Held}
-use Rattle.nb_table.specs.Entry.{EntryFacts, Entry}
+use Rattle.nb_table.specs.Entry.{EntryFacts, EntryValue}
 use Rattle.nb_table.specs.Whole.{IsWhole, with_last, bytes_below, bytes_to, datagram_with, datagram_of, IsDatagram}
 
 -- ---- the bytes below a place
@@ -125,7 +125,7 @@ datagram_from k e d h =
 pub datagram_exactly : (k : Key) (e : EntryFacts) (d : DatagramParts) → (datagram_of k (Held e) ≡ Some d) ↔ IsDatagram k e d
 datagram_exactly k e d = (datagram_found k e d, datagram_from k e d)
 
-whole_from : (k : Key) (e : Entry) → (d : DatagramParts) × (datagram_of k e ≡ Some d) → IsWhole e
+whole_from : (k : Key) (e : EntryValue) → (d : DatagramParts) × (datagram_of k e ≡ Some d) → IsWhole e
 whole_from k Spoilt h = let w = h.1 in absurd (cc)
 whole_from k (Held e) h =
     let d = h.0 in let r = datagram_found k e d h.1 in
@@ -135,7 +135,7 @@ whole_from k (Held e) h =
       covered = λ i f. (get_or d.bytes i 0, r.bytes i f ∙ slice_get-get_or d.bytes i 0 f);
     }
 
-whole_found : (k : Key) (e : Entry) → IsWhole e → (d : DatagramParts) × (datagram_of k e ≡ Some d)
+whole_found : (k : Key) (e : EntryValue) → IsWhole e → (d : DatagramParts) × (datagram_of k e ≡ Some d)
 whole_found k Spoilt h = absurd h
 whole_found k (Held e) h =
     let b = below_covered e.cover.bytes h.length h.covered in (
@@ -143,5 +143,5 @@ whole_found k (Held e) h =
       ap (datagram_with k e) (ap (bytes_to e.cover.bytes) h.ends ∙ b.1),
     )
 
-pub whole_exactly : (k : Key) (e : Entry) → IsWhole e ↔ ((d : DatagramParts) × (datagram_of k e ≡ Some d))
+pub whole_exactly : (k : Key) (e : EntryValue) → IsWhole e ↔ ((d : DatagramParts) × (datagram_of k e ≡ Some d))
 whole_exactly k e = (whole_found k e, whole_from k e)

@@ -9,7 +9,7 @@ use Rattle.nb_datagram.specs.Fragment.{Core, byte_of, end_of_one}
 use Rattle.nb_table.specs.Maps.{first_of, at_keys}
 use Rattle.nb_table.specs.Slot.{Spoilt, Held}
 use Rattle.nb_table.specs.Cover.{CoverFacts, placed}
-use Rattle.nb_table.specs.Entry.{EntryFacts, Entry, entry_code}
+use Rattle.nb_table.specs.Entry.{EntryFacts, EntryValue, entry_code}
 use Rattle.nb_table.specs.Conflict.{with_key, some_conflict}
 
 -- first_byte fs i: the byte at place i of the first of these fragments that covers it
@@ -50,12 +50,12 @@ facts_in f fs = record {
 
 -- the entry of these fragments of one key: spoilt where two of them conflict, else the kind and names
 -- of the first with the cover of all
-abbrev pub entry_in : List Core → Option Entry
+abbrev pub entry_in : List Core → Option EntryValue
 entry_in [] = None
 entry_in (f ∷ fs) = Some (cond (some_conflict (f ∷ fs)) Spoilt (Held (facts_in f (f ∷ fs))))
 
 -- entry_at L k: what L says of key k, if a fragment has it
-abbrev pub entry_at : List Core → Key → Option Entry
+abbrev pub entry_at : List Core → Key → Option EntryValue
 entry_at L k = entry_in (with_key k L)
 
 -- Says L k e: these facts are what L says of key k: the kind and names of its first fragment with that
@@ -71,7 +71,7 @@ pub record Says (L : List Core) (k : Key) (e : EntryFacts) : Type 0 where
 
 -- a table: an entry for each key that it has
 abbrev pub Contents : Type 0
-Contents = maps.FinMap key_cmp Entry
+Contents = maps.FinMap key_cmp EntryValue
 
 -- the table of a list: an entry for each key that one of its fragments has
 abbrev pub table_of : List Core → Contents

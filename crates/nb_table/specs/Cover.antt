@@ -52,11 +52,11 @@ abbrev pub covers_together : CoverFacts → CoverFacts → CoverFacts
 covers_together a b = record { bytes = union a.bytes b.bytes; end = first_of a.end b.end }
 
 -- a cover: clashed, or bytes by place and an end or none
-abbrev pub Cover : Type 0
-Cover = Slot CoverFacts
+abbrev pub CoverValue : Type 0
+CoverValue = Slot CoverFacts
 
 -- the join of two covers
-abbrev pub join_cover : Cover → Cover → Cover
+abbrev pub join_cover : CoverValue → CoverValue → CoverValue
 join_cover = join_slot covers_agree covers_together
 
 -- its own bytes lie below its own end
@@ -64,7 +64,7 @@ abbrev pub AreCoverFacts : CoverFacts → Type 0
 AreCoverFacts a = (n i x : ℕ) → a.end ≡ Some n → map.get a.bytes i ≡ Some x → i < n
 
 -- the cover is well formed
-abbrev pub IsCover : Cover → Type 0
+abbrev pub IsCover : CoverValue → Type 0
 IsCover = OnHeld AreCoverFacts
 
 -- placed i bytes: the bytes with their places, from i on
@@ -83,5 +83,5 @@ cover_facts_code =
     (λ c. (c.bytes, c.end)) (λ p. record { bytes = p.0; end = p.1 }) (λ _. refl)
 
 -- a cover as its facts, if it isn't clashed
-abbrev pub cover_code : Coded Cover
+abbrev pub cover_code : Coded CoverValue
 cover_code = slot_code cover_facts_code

@@ -43,11 +43,11 @@ facts_together a b = record {
 }
 
 -- an entry: spoilt, or what is known
-abbrev pub Entry : Type 0
-Entry = Slot EntryFacts
+abbrev pub EntryValue : Type 0
+EntryValue = Slot EntryFacts
 
 -- the join of two entries
-abbrev pub join_entry : Entry → Entry → Entry
+abbrev pub join_entry : EntryValue → EntryValue → EntryValue
 join_entry = join_slot facts_agree facts_together
 
 -- every place that it has a byte for lies below its end, if it has one
@@ -55,7 +55,7 @@ abbrev pub AreEntryFacts : EntryFacts → Type 0
 AreEntryFacts a = AreCoverFacts a.cover
 
 -- the entry is well formed
-abbrev pub IsEntry : Entry → Type 0
+abbrev pub IsEntry : EntryValue → Type 0
 IsEntry = OnHeld AreEntryFacts
 
 -- what one fragment says of its datagram
@@ -77,5 +77,5 @@ entry_facts_code =
     (λ _. refl)
 
 -- an entry as its facts, if it isn't spoilt
-abbrev pub entry_code : Coded Entry
+abbrev pub entry_code : Coded EntryValue
 entry_code = slot_code entry_facts_code

@@ -5,7 +5,7 @@ use Rattle.nb_datagram.specs.declared.key.Key.{Key}
 use Rattle.nb_datagram.specs.Key.{same_key}
 use Rattle.nb_datagram.specs.Fragment.{Core}
 use Rattle.nb_table.specs.Maps.{joined}
-use Rattle.nb_table.specs.Entry.{Entry, IsEntry, join_entry}
+use Rattle.nb_table.specs.Entry.{EntryValue, IsEntry, join_entry}
 use Rattle.nb_table.specs.Contents.{Contents}
 
 -- the join of two tables: the keys of either; at a key of both, the join of the entries
@@ -14,7 +14,7 @@ join = joined join_entry
 
 -- each entry of the table is well formed
 abbrev pub IsTable : Contents → Type 0
-IsTable t = (k : Key) (e : Entry) → maps.get t k ≡ Some e → IsEntry e
+IsTable t = (k : Key) (e : EntryValue) → maps.get t k ≡ Some e → IsEntry e
 
 -- the lists have the same set of cores
 abbrev pub SameCores : List Core → List Core → Type 0

@@ -6,7 +6,7 @@ use Rattle.nb_datagram.specs.declared.key.Key.{Key}
 use Rattle.nb_datagram.specs.Fragment.{Core, Covers}
 use Rattle.nb_datagram.specs.Datagram.{DatagramParts}
 use Rattle.nb_datagram.specs.Pieces.{IsPart}
-use Rattle.nb_table.specs.Entry.{Entry}
+use Rattle.nb_table.specs.Entry.{EntryValue}
 use Rattle.nb_table.specs.Contents.{Contents}
 use Rattle.nb_table.specs.Whole.{IsWhole, datagram_of}
 
@@ -25,8 +25,8 @@ pub record HasAll (L : List Core) (d : DatagramParts) : Type 0 where
 
 -- the key k is whole in the table t
 abbrev pub IsWholeAt : Contents → Key → Type 0
-IsWholeAt t k = (e : Entry) × (maps.get t k ≡ Some e) × IsWhole e
+IsWholeAt t k = (e : EntryValue) × (maps.get t k ≡ Some e) × IsWhole e
 
 -- the table t gives the datagram d, whole
 abbrev pub Gives : Contents → DatagramParts → Type 0
-Gives t d = (e : Entry) × (maps.get t d.key ≡ Some e) × (datagram_of d.key e ≡ Some d)
+Gives t d = (e : EntryValue) × (maps.get t d.key ≡ Some e) × (datagram_of d.key e ≡ Some d)

@@ -6,7 +6,7 @@ use Rattle.nb_datagram.specs.declared.key.Key.{Key}
 use Rattle.nb_datagram.specs.Datagram.{DatagramParts}
 use Rattle.nb_table.specs.Slot.{Spoilt, Held}
 use Rattle.nb_table.specs.Cover.{CoverFacts}
-use Rattle.nb_table.specs.Entry.{EntryFacts, Entry}
+use Rattle.nb_table.specs.Entry.{EntryFacts, EntryValue}
 use Rattle.nb_table.specs.Contents.{Contents}
 
 -- a cover is whole: its end is known, and no place before it lacks a byte
@@ -16,7 +16,7 @@ pub record IsWholeCover (c : CoverFacts) : Type 0 where
   pub covered : (i : ℕ) → i < length → (x : ℕ) × (maps.get c.bytes i ≡ Some x)
 
 -- an entry is whole: it isn't spoilt, and its cover is whole
-abbrev pub IsWhole : Entry → Type 0
+abbrev pub IsWhole : EntryValue → Type 0
 IsWhole Spoilt = ⊥
 IsWhole (Held e) = IsWholeCover e.cover
 
@@ -43,7 +43,7 @@ datagram_with k e (Some bytes) =
     Some (record { key = k; kind = e.kind; source = e.source; destination = e.destination; bytes = bytes })
 
 -- datagram_of k e: the datagram of the entry e of key k, if it is whole
-abbrev pub datagram_of : Key → Entry → Option DatagramParts
+abbrev pub datagram_of : Key → EntryValue → Option DatagramParts
 datagram_of k Spoilt = None
 datagram_of k (Held e) = datagram_with k e (bytes_to e.cover.bytes e.cover.end)
 

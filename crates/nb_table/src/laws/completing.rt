@@ -3,12 +3,12 @@ ghost use Rattle.std.specs.Prelude.{◌≡◌, ◌↔◌, Some};
 ghost use Rattle.nb_datagram.specs.declared.key.Key.{Key};
 ghost use Rattle.nb_datagram.specs.Datagram.{DatagramParts};
 ghost use Rattle.nb_table.specs.Slot.{Held};
-ghost use Rattle.nb_table.specs.Entry.{EntryFacts, Entry};
+ghost use Rattle.nb_table.specs.Entry.{EntryFacts, EntryValue};
 ghost use Rattle.nb_table.specs.Whole.{IsWhole, IsDatagram, datagram_of};
 
 /// An entry has a datagram exactly where it is whole.
 pub fn whole_entries_have_a_datagram()
-    ensures { (k : Key) (e : Entry) →
+    ensures { (k : Key) (e : EntryValue) →
         IsWhole e ↔ ((d : DatagramParts) × (datagram_of k e ≡ Some d)) }
 {}
 

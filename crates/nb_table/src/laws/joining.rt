@@ -5,49 +5,49 @@ ghost use Rattle.nb_datagram.specs.declared.key.Key.{Key};
 ghost use Rattle.nb_datagram.specs.Fragment.{Core};
 ghost use Rattle.nb_table.specs.Maps.{first_of, joined_at, joined_onto};
 ghost use Rattle.nb_table.specs.Slot.{Held};
-ghost use Rattle.nb_table.specs.Cover.{CoverFacts, Cover, covers_together, join_cover, IsCover};
-ghost use Rattle.nb_table.specs.Entry.{Entry, join_entry, IsEntry, facts_of};
+ghost use Rattle.nb_table.specs.Cover.{CoverFacts, CoverValue, covers_together, join_cover, IsCover};
+ghost use Rattle.nb_table.specs.Entry.{EntryValue, join_entry, IsEntry, facts_of};
 ghost use Rattle.nb_table.specs.Contents.{Contents, table_of};
 ghost use Rattle.nb_table.specs.Join.{join, IsTable};
 
 /// It makes no difference which of two covers is joined into the other.
 pub fn cover_join_is_commutative()
-    ensures { (a b : Cover) → join_cover a b ≡ join_cover b a }
+    ensures { (a b : CoverValue) → join_cover a b ≡ join_cover b a }
 {}
 
 /// It makes no difference in which groups three covers are joined.
 pub fn cover_join_is_associative()
-    ensures { (a b c : Cover) → join_cover (join_cover a b) c ≡ join_cover a (join_cover b c) }
+    ensures { (a b c : CoverValue) → join_cover (join_cover a b) c ≡ join_cover a (join_cover b c) }
 {}
 
 /// A well-formed cover joined with itself is as it was.
 pub fn cover_join_is_idempotent()
-    ensures { (a : Cover) → IsCover a → join_cover a a ≡ a }
+    ensures { (a : CoverValue) → IsCover a → join_cover a a ≡ a }
 {}
 
 /// The join of two well-formed covers is well formed.
 pub fn cover_join_is_well_formed()
-    ensures { (a b : Cover) → IsCover a → IsCover b → IsCover (join_cover a b) }
+    ensures { (a b : CoverValue) → IsCover a → IsCover b → IsCover (join_cover a b) }
 {}
 
 /// It makes no difference which of two entries is joined into the other.
 pub fn entry_join_is_commutative()
-    ensures { (a b : Entry) → join_entry a b ≡ join_entry b a }
+    ensures { (a b : EntryValue) → join_entry a b ≡ join_entry b a }
 {}
 
 /// It makes no difference in which groups three entries are joined.
 pub fn entry_join_is_associative()
-    ensures { (a b c : Entry) → join_entry (join_entry a b) c ≡ join_entry a (join_entry b c) }
+    ensures { (a b c : EntryValue) → join_entry (join_entry a b) c ≡ join_entry a (join_entry b c) }
 {}
 
 /// A well-formed entry joined with itself is as it was.
 pub fn entry_join_is_idempotent()
-    ensures { (a : Entry) → IsEntry a → join_entry a a ≡ a }
+    ensures { (a : EntryValue) → IsEntry a → join_entry a a ≡ a }
 {}
 
 /// The join of two well-formed entries is well formed.
 pub fn entry_join_is_well_formed()
-    ensures { (a b : Entry) → IsEntry a → IsEntry b → IsEntry (join_entry a b) }
+    ensures { (a b : EntryValue) → IsEntry a → IsEntry b → IsEntry (join_entry a b) }
 {}
 
 /// It makes no difference which of two tables is joined into the other.

@@ -13,7 +13,8 @@ use Rattle.nb_names.specs.Name.{NetbiosName, IsName, IsUnlike, no_label, wrong_l
 use Rattle.std.proofs.lemmas.Bool.{cases_lt}
 use Rattle.nb_names.proofs.NameLemmas.{name_length, name_letters}
 use Rattle.nb_names.proofs.SpellingLemmas.{length-spelling-snoc}
-use Rattle.nb_names.proofs.LabelsLemmas.{stands_same, stands_fits, stands_first, one_target, pointer_first, IsDomain-read, one_reading}
+use Rattle.nb_names.specs.PacketFacts.{stands_same, stands_fits}
+use Rattle.nb_names.proofs.LabelsLemmas.{stands_first, one_target, pointer_first, IsDomain-read, one_reading}
 
 -- ---- what a length byte begins is one thing
 

@@ -3,16 +3,10 @@ use Rattle.std.proofs.Common.{◌≡◌, ℕ, ◌+◌, ◌-◌, ◌*◌, ◌/◌
 use Rattle.std.proofs.lemmas.List.{take-append-drop, length-take, length-take-le, drop_more, take-take, drop_at, drop-drop, take_at}
 use Rattle.nb_names.specs.declared.pointers.Pointers.{Pointers}
 use Rattle.nb_names.specs.DomainName.{spelling, IsDomain}
+use Rattle.nb_names.specs.PacketFacts.{stands_same, stands_fits}
 use Rattle.nb_names.specs.Labels.{StandsAt, pointer_bytes, IsPointer, LabelsAt, ends, goes_on, leads_to}
 
 -- ---- bytes that stand in a packet
-
-pub stands_same : (packet : List ℕ) (at : ℕ) (xs ys : List ℕ) → StandsAt packet at xs → StandsAt packet at ys → length xs ≡ length ys → xs ≡ ys
-stands_same packet at xs ys h g e = sym h ∙ ap (λ (n : ℕ). take n (drop at packet)) e ∙ g
-
-pub stands_fits : (packet : List ℕ) (at : ℕ) (bytes : List ℕ) → StandsAt packet at bytes → 0 < length bytes → at + length bytes ≤ length packet
-stands_fits packet at bytes h some =
-    omega (arith, ap length h, length-take (length bytes) (drop at packet), length-drop at packet)
 
 pub stands_first : (packet : List ℕ) (at byte : ℕ) (bytes : List ℕ) → StandsAt packet at (byte ∷ bytes) → get_or packet at 0 ≡ byte
 stands_first packet at byte bytes h =

@@ -2,8 +2,11 @@ pub mod DomainName
 pub mod Spelled
 pub mod FirstLevel
 pub mod Name
+pub mod NameFacts
 pub mod Labels
 pub mod NameFaults
+pub mod Numbers
+pub mod PacketFacts
 pub mod FaultTexts
 pub mod LengthByte
 pub mod NameText

@@ -3,8 +3,8 @@
 --
 -- 32 is the space, 46 `.`, 60 `<`, 62 `>` and 92 `\`. Std's `digit_value` has the value of a digit
 -- or a letter of either case, and its `digit_char` the digit, in lower case, of a value.
-use Rattle.std.specs.Prelude.{◌≡◌, ◌==◌, ◌||◌, ℕ, ◌+◌, ◌-◌, ◌*◌, ◌/◌, ◌%◌, ◌<◌, ◌≤◌, ◌^◌, Bool, false, IsTrue, List, [], ◌∷◌, ◌++◌, length, take, replicate, if◌then◌else◌, slice_index}
-use Rattle.std.specs.List.{AllByRecursion, flat_map}
+use Rattle.std.specs.Prelude.{◌≡◌, ◌==◌, ◌||◌, ℕ, ◌+◌, ◌-◌, ◌*◌, ◌/◌, ◌%◌, ◌<◌, ◌≤◌, Bool, false, IsTrue, List, [], ◌∷◌, ◌++◌, length, take, replicate, if◌then◌else◌, slice_index}
+use Rattle.std.specs.List.{flat_map}
 use Rattle.std.specs.Char.{digit_value, digit_char, is_ascii_graphic}
 use Rattle.nb_names.specs.declared.limits.TheConstants.{FRONT_LENGTH}
 use Rattle.nb_names.specs.declared.text_fault.TextFault.{TextFault}
@@ -83,14 +83,6 @@ pub record IsText (name : NetbiosName) (text : List ℕ) : Type 0 where
   pub form : HasForm parts text
   pub limits : FitsLimits parts
   pub exact : name ≡ name_of parts
-
--- each has eight bits
-abbrev pub AreBytes : List ℕ → Type 0
-AreBytes = AllByRecursion (λ byte. byte < 2 ^ 8)
-
--- each label is of bytes
-abbrev pub AreByteLabels : List (List ℕ) → Type 0
-AreByteLabels = AllByRecursion AreBytes
 
 -- ---- what isn't a name's text
 

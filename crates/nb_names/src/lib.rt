@@ -12,6 +12,7 @@ pub mod laws;
 mod length_byte;
 pub mod limits;
 mod name;
+pub mod numbers;
 pub mod plain;
 mod pointers;
 mod reading;

@@ -1,7 +1,8 @@
 //! Laws of the text of names.
 ghost use Rattle.std.specs.Prelude.{◌≡◌, List, ℕ};
 ghost use Rattle.nb_names.specs.Name.{NetbiosName, IsName};
-ghost use Rattle.nb_names.specs.NameText.{IsText, AreByteLabels, IsFaultOf, written};
+ghost use Rattle.nb_names.specs.DomainName.{AreByteLabels};
+ghost use Rattle.nb_names.specs.NameText.{IsText, IsFaultOf, written};
 ghost use Rattle.nb_names.specs.declared.text_fault.TextFault.{TextFault};
 
 /// Each name is the name of the text that it is written in.

@@ -2,7 +2,8 @@
 ghost use Rattle.std.specs.Prelude.{◌≡◌, ◌++◌, ◌<◌, [], ◌∷◌, IfOk, OnOk, length, drop, string_bytes};
 ghost use Rattle.std.specs.Char.{digit_char};
 ghost use Rattle.nb_names.specs.declared.limits.TheConstants.{NAME_LENGTH};
-ghost use Rattle.nb_names.specs.NameText.{IsText, AreBytes, AreByteLabels, written, bytes_written, domain_written, trimmed, digits_of, item_of, items_of, scope_text_of};
+ghost use Rattle.nb_names.specs.DomainName.{AreBytes, AreByteLabels};
+ghost use Rattle.nb_names.specs.NameText.{IsText, written, bytes_written, domain_written, trimmed, digits_of, item_of, items_of, scope_text_of};
 
 use crate::bytes::NoMemory;
 use crate::domain_name::DomainName;

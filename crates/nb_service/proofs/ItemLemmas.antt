@@ -9,11 +9,11 @@ use Rattle.nb_service.specs.declared.fault.ServiceFault.{ServiceFault}
 use Rattle.nb_service.specs.declared.fault.ServiceFault.TheVariants.{Name}
 use Rattle.nb_service.specs.declared.kinds.TheConstants.{NS}
 use Rattle.nb_service.specs.declared.question.Question.{Question}
-use Rattle.nb_service.specs.Numbers.{NumberAt}
+use Rattle.nb_names.specs.Numbers.{NumberAt}
 use Rattle.nb_service.specs.Record.{ResourceData, octets, target, ResourceRecord}
 use Rattle.nb_service.specs.Packet.{QuestionAt, DataAt, bytes, domain, RecordAt}
 use Rattle.nb_service.specs.ServiceFaults.{QuestionFails, question_name, question_cut, DataBegins, TargetFails, target_name, target_end, RecordFails, record_name, record_cut, rdata_cut, rdata_fails}
-use Rattle.nb_service.proofs.NumberLemmas.{stands_same, one_number_16, one_number_32, within_16}
+use Rattle.nb_names.specs.PacketFacts.{stands_same, one_number_16, one_number_32, within_16}
 use Rattle.nb_service.proofs.RowLemmas.{Single}
 
 -- what the laws of names say of one packet

@@ -1,5 +1,4 @@
 pub mod RowLemmas
-pub mod NumberLemmas
 pub mod ItemLemmas
 pub mod PacketLemmas
 pub mod ReadingLemmas

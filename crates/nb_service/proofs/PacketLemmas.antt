@@ -7,7 +7,7 @@ use Rattle.nb_service.specs.declared.question.Question.{Question}
 use Rattle.nb_service.specs.Header.{PacketHeader, HasHeader}
 use Rattle.nb_service.specs.Packet.{QuestionAt, RecordAt, Row, ServicePacket, header_of, records_of, IsPacket}
 use Rattle.nb_service.specs.ServiceFaults.{QuestionFails, RecordFails, RowFails, record_count, PacketFails, cut_header, in_questions, in_records}
-use Rattle.nb_service.proofs.NumberLemmas.{one_number_16, within_16}
+use Rattle.nb_names.specs.PacketFacts.{one_number_16, within_16}
 use Rattle.nb_service.proofs.RowLemmas.{one_row, no_row, one_row_fault}
 use Rattle.nb_service.proofs.ItemLemmas.{NameLaws, single_question, single_record}
 

@@ -10,7 +10,7 @@ use Rattle.nb_service.specs.Record.{ResourceRecord}
 use Rattle.nb_service.specs.Packet.{QuestionAt, RecordAt, Row, none, more, ServicePacket, header_of, records_of, IsPacket}
 use Rattle.nb_service.specs.ServiceFaults.{RecordFails, RowFails, QuestionsFail, RecordsFail, record_count, PacketFails, in_questions, in_records, IsRefused, malformed, no_memory}
 use Rattle.nb_service.specs.Reading.{RowOf, HasRow, OrMemory, fails, memory, HasPacket}
-use Rattle.nb_service.proofs.NumberLemmas.{within_16}
+use Rattle.nb_names.specs.PacketFacts.{within_16}
 use Rattle.nb_service.proofs.PacketLemmas.{header_within}
 use Rattle.nb_service.proofs.RowLemmas.{row-append, row-snoc, fails_longer, fails_behind}
 

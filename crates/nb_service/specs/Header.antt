@@ -4,7 +4,7 @@
 --   at 8  NSCOUNT 2 · at 10  ARCOUNT 2
 use Rattle.std.specs.Prelude.{ℕ, List}
 use Rattle.std.specs.Int.{w16}
-use Rattle.nb_service.specs.Numbers.{NumberAt}
+use Rattle.nb_names.specs.Numbers.{NumberAt}
 
 -- a header: the identifier, the flag word, and how many items the packet has of each sort
 pub record PacketHeader : Type 0 where

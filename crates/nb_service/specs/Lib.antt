@@ -1,4 +1,3 @@
-pub mod Numbers
 pub mod Header
 pub mod Record
 pub mod Packet

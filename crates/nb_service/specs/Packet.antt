@@ -12,7 +12,7 @@ use Rattle.nb_names.specs.Labels.{StandsAt, NameAt}
 use Rattle.nb_service.specs.declared.kinds.TheConstants.{NS}
 use Rattle.nb_service.specs.declared.limits.TheConstants.{HEADER_LENGTH}
 use Rattle.nb_service.specs.declared.question.Question.{Question}
-use Rattle.nb_service.specs.Numbers.{NumberAt}
+use Rattle.nb_names.specs.Numbers.{NumberAt}
 use Rattle.nb_service.specs.Header.{PacketHeader, HasHeader}
 use Rattle.nb_service.specs.Record.{ResourceData, octets, target, ResourceRecord}
 

@@ -14,7 +14,7 @@ use Rattle.nb_service.specs.declared.fault.ServiceFault.TheVariants.{Truncated, 
 use Rattle.nb_service.specs.declared.kinds.TheConstants.{NS}
 use Rattle.nb_service.specs.declared.limits.TheConstants.{HEADER_LENGTH}
 use Rattle.nb_service.specs.declared.question.Question.{Question}
-use Rattle.nb_service.specs.Numbers.{NumberAt}
+use Rattle.nb_names.specs.Numbers.{NumberAt}
 use Rattle.nb_service.specs.Header.{PacketHeader, HasHeader}
 use Rattle.nb_service.specs.Packet.{QuestionAt, RecordAt, Row, ServicePacket, IsPacket}
 

@@ -6,7 +6,7 @@ ghost use Rattle.nb_service.specs.ServiceFaults.{PacketFails};
 
 use crate::fault::ServiceFault;
 use crate::limits::HEADER_LENGTH;
-use crate::numbers::number_16;
+use nb_names::numbers::number_16;
 
 /// The fields of a header (RFC 1002 section 4.2.1.1).
 #[derive(Clone, Copy, Debug, PartialEq, Eq)]

@@ -10,7 +10,6 @@ pub mod kinds;
 pub mod laws;
 pub mod limits;
 mod listing;
-mod numbers;
 mod packet;
 mod push_fault;
 mod question;

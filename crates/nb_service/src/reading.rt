@@ -6,7 +6,7 @@ ghost use Rattle.nb_service.specs.ServiceFaults.{QuestionFails, TargetFails, Rec
 
 use crate::fault::ServiceFault;
 use crate::kinds::NS;
-use crate::numbers::{number_16, number_32};
+use nb_names::numbers::{number_16, number_32};
 use crate::question::Question;
 use crate::rdata::Rdata;
 use crate::record::Record;

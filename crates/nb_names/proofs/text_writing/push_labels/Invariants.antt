@@ -1,5 +1,6 @@
 use Rattle.std.proofs.Common.{◌≡◌, ◌++◌, drop, string_bytes}
-use Rattle.nb_names.specs.NameText.{scope_text_of, AreByteLabels}
+use Rattle.nb_names.specs.DomainName.{AreByteLabels}
+use Rattle.nb_names.specs.NameText.{scope_text_of}
 use Rattle.nb_names.proofs.text_writing.push_labels.Given as goal
 
 abbrev pub invariant-loop-place : goal.invariant-loop-place

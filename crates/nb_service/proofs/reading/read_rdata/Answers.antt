@@ -1,7 +1,7 @@
 use Rattle.std.proofs.lemmas.Result.{err_from_is_err_and}
 use Rattle.nb_service.specs.Packet.{bytes, domain}
 use Rattle.nb_service.specs.ServiceFaults.{target_name, target_end}
-use Rattle.nb_service.proofs.NumberLemmas.{range_stands}
+use Rattle.nb_names.specs.PacketFacts.{range_stands}
 use Rattle.nb_service.proofs.reading.read_rdata.Goals as goal
 
 pub returns-then-kind-ne-NS-clause-found : goal.returns-then-kind-ne-NS-clause-found

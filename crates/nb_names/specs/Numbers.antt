@@ -1,4 +1,4 @@
--- Numbers in a name service packet (RFC 1002 section 4.2.1), big-endian. All offsets count from the
+-- Numbers in packets (RFC 1002 section 4.2.1), the high byte first. All offsets count from the
 -- packet's first byte.
 use Rattle.std.specs.Prelude.{ℕ, ◌<◌, ◌^◌, List}
 use Rattle.std.specs.Int.{Width, byte_len, to_be_bytes}

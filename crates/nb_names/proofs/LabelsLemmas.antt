@@ -1,6 +1,6 @@
 -- What stands in a packet, and that a name has one reading.
 use Rattle.std.proofs.Common.{◌≡◌, ℕ, ◌+◌, ◌-◌, ◌*◌, ◌/◌, ◌%◌, ◌<◌, ◌≤◌, List, [], ◌∷◌, ◌++◌, length, take, drop, get_or, refl, ap, sym, subst, ◌∙◌, arith, append_assoc, length-append, length-drop}
-use Rattle.std.proofs.lemmas.List.{take-append-drop, length-take, length-take-le, drop_more, take-take, drop_at, drop-drop, take_at}
+use Rattle.std.proofs.lemmas.List.{take-append-drop, length-take-le, drop_more, take-take, drop_at, drop-drop, take_at}
 use Rattle.nb_names.specs.declared.pointers.Pointers.{Pointers}
 use Rattle.nb_names.specs.DomainName.{spelling, IsDomain}
 use Rattle.nb_names.specs.PacketFacts.{stands_same, stands_fits}

@@ -6,10 +6,10 @@ ghost use Rattle.nb_service.specs.ServiceFaults.{QuestionFails, TargetFails, Rec
 
 use crate::fault::ServiceFault;
 use crate::kinds::NS;
-use nb_names::numbers::{number_16, number_32};
 use crate::question::Question;
 use crate::rdata::Rdata;
 use crate::record::Record;
+use nb_names::numbers::{number_16, number_32};
 use nb_names::{Pointers, read_domain};
 
 /// The bytes of a question behind its name: QUESTION_TYPE, QUESTION_CLASS.

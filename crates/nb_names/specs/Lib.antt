@@ -13,3 +13,5 @@ pub mod NameText
 pub mod TextFaults
 pub mod TextSteps
 pub mod Collected
+pub mod Tally
+pub mod Counted

@@ -3,6 +3,7 @@
 
 mod bytes;
 mod collected;
+mod counted;
 mod domain_name;
 mod fault;
 mod first_level;
@@ -17,6 +18,7 @@ pub mod plain;
 mod pointers;
 mod reading;
 mod scope;
+mod tally;
 mod text_fault;
 pub mod text_laws;
 mod text_reading;
@@ -25,6 +27,7 @@ mod text_writing;
 mod writing;
 
 pub use bytes::{Bytes, NoMemory};
+pub use counted::{Counted, Told};
 pub use domain_name::DomainName;
 pub use fault::NameFault;
 pub use label_fault::LabelFault;

@@ -1,5 +1,6 @@
 //! What no clause says: bytes from outside, and each call once on its happy path.
 
+mod counted;
 mod names;
 mod plain_reading;
 mod reading;

@@ -1,5 +1,5 @@
 -- The keys of datagrams (RFC 1002 section 4.4.1: SOURCE_IP, SOURCE_PORT, DGM_ID).
-use Rattle.std.specs.Prelude.{◌≡◌, ℕ, Bool, List, refl}
+use Rattle.std.specs.Prelude.{ℕ, Bool, List, refl}
 use Rattle.std.specs.Ordering.{nat_cmp, on, then_cmp, eq_by_cmp}
 use Rattle.std.specs.Cmp.Lexicographic.{slice_cmp}
 use Rattle.std.specs.Coded.{Coded, code_by, coded×, coded_ℕ, coded_list}

@@ -1,4 +1,5 @@
 pub mod Key
+pub mod KeyOrder
 pub mod Kind
 pub mod Fragment
 pub mod Datagram

@@ -2,16 +2,22 @@
 #![tactic(auto)]
 
 mod datagram;
+pub mod error_codes;
 mod fragment;
 mod key;
 mod kind;
+pub mod laws;
 pub mod limits;
+mod lists;
+mod packet;
 mod too_long;
 
 pub use datagram::Datagram;
 pub use fragment::Fragment;
 pub use key::Key;
 pub use kind::Kind;
+pub use lists::{Datagrams, ErrorPackets, Pieces};
+pub use packet::ErrorPacket;
 pub use too_long::TooLong;
 
 #[cfg(test)]

@@ -1,6 +1,6 @@
 //! The parts of fragments and datagrams, and their limits.
 
-use crate::{Datagram, Fragment, Key, Kind, TooLong};
+use crate::{Datagram, Datagrams, ErrorPacket, ErrorPackets, Fragment, Key, Kind, Pieces, TooLong};
 use nb_names::{Bytes, Name, Scope};
 use std::cmp::Ordering;
 use std::process::Abort;
@@ -116,4 +116,54 @@ fn kinds_have_their_message_types(rt: HostRuntime) {
     assert_eq!(rt; Kind::Unique.message_type(), 0x10);
     assert_eq!(rt; Kind::Group.message_type(), 0x11);
     assert_eq!(rt; Kind::Broadcast.message_type(), 0x12);
+}
+
+#[test]
+fn pieces_keep_their_items(rt: HostRuntime) -> Result<(), Fail> {
+    let mut fragments = Vec::new(rt.alloc());
+    fragments.push(fragment(1, 0, b"ab")?)?;
+    fragments.push(fragment(0, 2, b"c")?)?;
+    let pieces = Pieces::from_vec(fragments);
+    assert_eq!(rt; pieces.as_slice().len(), 2);
+    for (place, piece) in pieces.as_slice().iter().enumerate() {
+        assert_eq!(rt; piece.offset() as usize, 2 * place);
+    }
+    let back = pieces.into_vec();
+    assert_eq!(rt; back.len(), 2);
+    for (place, piece) in back.as_slice().iter().enumerate() {
+        assert_eq!(rt; piece.bytes().len(), 2 - place);
+    }
+    Ok(())
+}
+
+#[test]
+fn datagrams_keep_their_items(rt: HostRuntime) -> Result<(), Fail> {
+    let mut datagrams = Vec::new(rt.alloc());
+    for data in [b"one".as_slice(), b"three"] {
+        let bytes = Bytes::copy(rt.alloc(), data)?;
+        datagrams.push(Datagram::new(KEY, Kind::Group, joe(), fred(), bytes)?)?;
+    }
+    let datagrams = Datagrams::from_vec(datagrams);
+    assert_eq!(rt; datagrams.as_slice().len(), 2);
+    for (datagram, data) in datagrams
+        .into_vec()
+        .iter()
+        .zip([b"one".as_slice(), b"three"])
+    {
+        assert_eq!(rt; datagram.bytes(), data);
+    }
+    Ok(())
+}
+
+#[test]
+fn error_packets_keep_their_items(rt: HostRuntime) -> Result<(), Fail> {
+    let errors = [0x82, 0x84].map(|code| ErrorPacket {
+        flags: 2,
+        key: KEY,
+        code,
+    });
+    let packets = ErrorPackets::from_vec(Vec::from_slice(rt.alloc(), &errors)?);
+    assert_eq!(rt; packets.as_slice(), errors.as_slice());
+    assert_eq!(rt; packets.into_vec().as_slice(), errors.as_slice());
+    Ok(())
 }

@@ -1,6 +1,7 @@
 //! What no clause says: bytes from outside, and each call once on its happy path.
 
 mod counted;
+mod items;
 mod names;
 mod plain_reading;
 mod reading;

@@ -1,0 +1,39 @@
+-- The order of keys is total, keys that tie are one key, and a key's fields tell it. The laws of traits
+-- may cite these.
+use Rattle.std.proofs.Common.{◌≡◌, refl, sym, ap, ◌∙◌}
+use Rattle.std.specs.Prelude.{Decides}
+use Rattle.std.specs.Cmp.{Equal-is, IsTotalOrder, nat_cmp_total, on_total, then_total, tied_itself}
+use Rattle.std.specs.Cmp.Lexicographic.{nat_list_cmp_total}
+use Rattle.std.specs.FinMap.{IsAntisymmetric, nat_cmp-IsAntisymmetric, slice_cmp-IsAntisymmetric}
+use Rattle.std.specs.Ordering.{ordering_then}
+use Rattle.std.specs.declared.cmp.Ordering.{Ordering}
+use Rattle.std.specs.declared.cmp.Ordering.TheVariants.{Less, Equal, Greater}
+use Rattle.nb_datagram.specs.declared.key.Key.{Key}
+use Rattle.nb_datagram.specs.Key.{key_cmp, same_key}
+
+pub key_cmp_total : IsTotalOrder key_cmp
+key_cmp_total =
+    then_total (on_total (λ (k : Key). k.ip) nat_list_cmp_total)
+    (then_total (on_total (λ (k : Key). k.port) nat_cmp_total) (on_total (λ (k : Key). k.id) nat_cmp_total))
+
+-- where two comparisons one behind the other tie, each ties
+both_tie : (a b : Ordering) → ordering_then a b ≡ Equal → (a ≡ Equal) × (b ≡ Equal)
+both_tie Less b e = absurd (cc)
+both_tie Equal b e = (refl, e)
+both_tie Greater b e = absurd (cc)
+
+pub key_cmp_exact : IsAntisymmetric key_cmp
+key_cmp_exact x y e =
+    let outer = both_tie _ _ e in
+    let inner = both_tie _ _ outer.1 in
+    let ip = slice_cmp-IsAntisymmetric nat_cmp-IsAntisymmetric x.ip y.ip outer.0 in
+    let port = nat_cmp-IsAntisymmetric x.port y.port inner.0 in
+    let id = nat_cmp-IsAntisymmetric x.id y.id inner.1 in
+    λ i. record { ip = ip i; port = port i; id = id i }
+
+-- the test for one key decides whether keys are equal
+pub same_key_decides : (a b : Key) → Decides (same_key a b) (a ≡ b)
+same_key_decides a b = (
+  λ h. key_cmp_exact a b ((Equal-is (key_cmp a b)).0 h),
+  λ e. ap (same_key a) (sym e) ∙ (Equal-is (key_cmp a a)).1 (tied_itself key_cmp_total a),
+)

@@ -1,6 +1,5 @@
 -- The tests of conflict and spoiling are the relations.
 use Rattle.std.proofs.Common.{◌≡◌, ◌≢◌, ◌≤◌, ◌||◌, ◌⊎◌, inl, inr, ℕ, Bool, true, false, cond, not, List, [], ◌∷◌, Contains, filter, Option, Some, None, refl, sym, ◌∙◌, ap, subst, arith, nat_lt, Decides}
-use Rattle.std.specs.Ordering.{nat_cmp}
 use Rattle.std.specs.Cmp.{nat_cmp_total}
 use Rattle.std.specs.List.{list_any}
 use Rattle.std.specs.FinMap as map
@@ -8,22 +7,26 @@ use Rattle.std.specs.FinMap.{nat_cmp-IsAntisymmetric}
 use Rattle.nb_datagram.specs.declared.key.Key.{Key}
 use Rattle.nb_datagram.specs.Kind.{same_kind}
 use Rattle.nb_datagram.specs.Key.{same_key}
-use Rattle.nb_datagram.specs.Fragment.{Core, Covers, end_of_one}
-use Rattle.nb_table.specs.Cover.{same_where, bytes_agree, ends_agree, is_within, covers_agree, cover_of}
-use Rattle.nb_table.specs.Entry.{FactsFit, same_name, facts_agree, facts_of}
-use Rattle.nb_table.specs.Conflict.{Conflict, kinds, sources, destinations, overlap, ends, past_end, past_other_end, IsSpoilt, conflicts, some_conflict, with_key, is_spoilt}
-use Rattle.nb_table.proofs.MapsLemmas.{and_fails, entry_fails}
-use Rattle.nb_table.proofs.SameLemmas.{is_eq, not_lt, refutes, same_kind_decides, same_name_decides, same_key_decides}
+use Rattle.nb_datagram.specs.Fragment.{Core, Covers, EndsAt, end_of_one}
+use Rattle.nb_table.specs.Cover.{CoverFacts, LiesBelow, lies_below, same_where, bytes_agree, ends_agree, is_below_end, covers_agree, cover_of}
+use Rattle.nb_table.specs.Entry.{FactsFit, facts_agree, facts_of}
+use Rattle.nb_table.specs.Conflict.{PastEnd, Conflict, kinds, sources, destinations, overlap, ends, past_end, past_other_end, IsSpoilt}
+use Rattle.nb_table.specs.ConflictTests.{conflicts, some_conflict, with_key, is_spoilt}
+use Rattle.nb_names.specs.Name.{name_eq}
+use Rattle.nb_names.specs.NameFacts.{name_eq_decides}
+use Rattle.nb_table.specs.Lemmas.MapsLemmas.{and_fails, entry_fails}
+use Rattle.nb_table.specs.Lemmas.SameLemmas.{is_eq, not_lt, refutes, same_kind_decides, same_key_decides}
 use Rattle.nb_table.proofs.PlacedLemmas.{get-cover_of, byte_of_decides, end_of_decides, cover_of_formed}
-use Rattle.nb_table.proofs.EntryLemmas.{facts_fit_of, entry_agrees, facts_unite}
+use Rattle.nb_table.specs.Lemmas.CoverLemmas.{lies_below_decides}
+use Rattle.nb_table.specs.Lemmas.EntryLemmas.{facts_fit_of, entry_agrees, facts_unite}
 use Rattle.nb_table.proofs.OrderFreeLemmas.{in_cons, in_first, in_rest, in_none}
 
 -- ---- where a test fails
 
-covers : (f : Core) (i x : ℕ) → map.get (cover_of f).bytes i ≡ Some x → Covers f i x
+pub covers : (f : Core) (i x : ℕ) → map.get (cover_of f).bytes i ≡ Some x → Covers f i x
 covers f i x e = (byte_of_decides f i x).0 (sym (get-cover_of f i) ∙ e)
 
-covered : (f : Core) (i x : ℕ) → Covers f i x → map.get (cover_of f).bytes i ≡ Some x
+pub covered : (f : Core) (i x : ℕ) → Covers f i x → map.get (cover_of f).bytes i ≡ Some x
 covered f i x c = get-cover_of f i ∙ (byte_of_decides f i x).1 c
 
 differs : (o : Option ℕ) (x : ℕ) → same_where o x ≡ false → (y : ℕ) × (o ≡ Some y) × (x ≢ y)
@@ -34,41 +37,46 @@ two_ends : (o p : Option ℕ) → ends_agree o p ≡ false → (m n : ℕ) × (o
 two_ends None p e = absurd (cc)
 two_ends (Some m) p e = let d = differs p m e in (m, d.0, refl, d.1, d.2)
 
-past : (o : Option ℕ) (b : map.FinMap nat_cmp ℕ) → is_within o b ≡ false → (n i x : ℕ) × (o ≡ Some n) × (map.get b i ≡ Some x) × (n ≤ i)
-past None b e = absurd (cc)
-past (Some n) b e =
-    let w = entry_fails nat_cmp_total nat_cmp-IsAntisymmetric (λ i _. nat_lt i n) b e in
-    (n, w.key, w.value, refl, w.found, not_lt w.key n w.fails)
+past : (o : Option ℕ) (c : CoverFacts) → is_below_end o c ≡ false → (n : ℕ) × (o ≡ Some n) × (LiesBelow n c → ⊥)
+past None c e = absurd (cc)
+past (Some n) c e = (n, refl, refutes (lies_below n c) (lies_below_decides n c) e)
+
+-- g covers a place at or past an end of f
+pub past_from : (f g : Core) (n i x : ℕ) → EndsAt f n → Covers g i x → n ≤ i → PastEnd f g
+past_from f g n i x e c h = record { end = n; ends = e; past = λ p. (let below = p.bytes i x (covered g i x c) in omega (arith, below, h)) }
+
+-- the place that one fragment covers at or past the end of another
+pub past_place : (f g : Core) → PastEnd f g → (n i x : ℕ) × EndsAt f n × Covers g i x × (n ≤ i)
+past_place f g p = found (lies_below p.end (cover_of g)) refl
+  where
+    found : (b : Bool) → lies_below p.end (cover_of g) ≡ b → (n i x : ℕ) × EndsAt f n × Covers g i x × (n ≤ i)
+    found true e = absurd (p.past ((lies_below_decides p.end (cover_of g)).0 e))
+    found false e =
+        let w = entry_fails nat_cmp_total nat_cmp-IsAntisymmetric (λ i _. nat_lt i p.end) (cover_of g).bytes e in
+        (p.end, w.key, w.value, p.ends, covers g w.key w.value w.found, not_lt w.key p.end w.fails)
 
 clash_of_bytes : (f g : Core) → bytes_agree (cover_of f).bytes (cover_of g).bytes ≡ false → Conflict f g
 clash_of_bytes f g e =
     let w = entry_fails nat_cmp_total nat_cmp-IsAntisymmetric (λ i v. same_where (map.get (cover_of g).bytes i) v) (cover_of f).bytes e in
     let d = differs (map.get (cover_of g).bytes w.key) w.value w.fails in
-    overlap w.key w.value d.0 (covers f w.key w.value w.found) (covers g w.key d.0 d.1) d.2
+    overlap (record { place = w.key; byte = w.value; other_byte = d.0; covers = covers f w.key w.value w.found; other_covers = covers g w.key d.0 d.1; differs = d.2 })
 
 clash_of_ends : (f g : Core) → ends_agree (end_of_one f) (end_of_one g) ≡ false → Conflict f g
 clash_of_ends f g e =
     let d = two_ends (end_of_one f) (end_of_one g) e in
     ends d.0 d.1 ((end_of_decides f d.0).0 d.2) ((end_of_decides g d.1).0 d.3) d.4
 
-clash_past : (f g : Core) → is_within (end_of_one f) (cover_of g).bytes ≡ false → Conflict f g
-clash_past f g e =
-    let d = past (end_of_one f) (cover_of g).bytes e in
-    past_end d.0 d.1 d.2 ((end_of_decides f d.0).0 d.3) (covers g d.1 d.2 d.4) d.5
-
-clash_past_other : (f g : Core) → is_within (end_of_one g) (cover_of f).bytes ≡ false → Conflict f g
-clash_past_other f g e =
-    let d = past (end_of_one g) (cover_of f).bytes e in
-    past_other_end d.0 d.1 d.2 ((end_of_decides g d.0).0 d.3) (covers f d.1 d.2 d.4) d.5
+past_of : (f g : Core) → is_below_end (end_of_one f) (cover_of g) ≡ false → PastEnd f g
+past_of f g e = let d = past (end_of_one f) (cover_of g) e in record { end = d.0; ends = (end_of_decides f d.0).0 d.1; past = d.2 }
 
 clash_of_covers : (f g : Core) → covers_agree (cover_of f) (cover_of g) ≡ false → Conflict f g
 clash_of_covers f g e = elim (and_fails (bytes_agree (cover_of f).bytes (cover_of g).bytes) _ e) [
   | inl h ↦ clash_of_bytes f g h
   | inr e ↦ elim (and_fails (ends_agree (end_of_one f) (end_of_one g)) _ e) [
     | inl h ↦ clash_of_ends f g h
-    | inr e ↦ elim (and_fails (is_within (end_of_one f) (cover_of g).bytes) _ e) [
-      | inl h ↦ clash_past f g h
-      | inr h ↦ clash_past_other f g h
+    | inr e ↦ elim (and_fails (is_below_end (end_of_one g) (cover_of f)) _ e) [
+      | inl h ↦ past_other_end (past_of g f h)
+      | inr h ↦ past_end (past_of f g h)
     ]
   ]
 ]
@@ -76,10 +84,10 @@ clash_of_covers f g e = elim (and_fails (bytes_agree (cover_of f).bytes (cover_o
 conflict_from : (f g : Core) → facts_agree (facts_of f) (facts_of g) ≡ false → Conflict f g
 conflict_from f g e = elim (and_fails (same_kind f.kind g.kind) _ e) [
   | inl h ↦ kinds (refutes (same_kind f.kind g.kind) (same_kind_decides f.kind g.kind) h)
-  | inr e ↦ elim (and_fails (same_name f.source g.source) _ e) [
-    | inl h ↦ sources (refutes (same_name f.source g.source) (same_name_decides f.source g.source) h)
-    | inr e ↦ elim (and_fails (same_name f.destination g.destination) _ e) [
-      | inl h ↦ destinations (refutes (same_name f.destination g.destination) (same_name_decides f.destination g.destination) h)
+  | inr e ↦ elim (and_fails (name_eq f.source g.source) _ e) [
+    | inl h ↦ sources (refutes (name_eq f.source g.source) (name_eq_decides f.source g.source) h)
+    | inr e ↦ elim (and_fails (name_eq f.destination g.destination) _ e) [
+      | inl h ↦ destinations (refutes (name_eq f.destination g.destination) (name_eq_decides f.destination g.destination) h)
       | inr h ↦ clash_of_covers f g h
     ]
   ]
@@ -91,10 +99,10 @@ contradicts : (f g : Core) → FactsFit (facts_of f) (facts_of g) → Conflict f
 contradicts f g a (kinds h) = h a.kind
 contradicts f g a (sources h) = h a.source
 contradicts f g a (destinations h) = h a.destination
-contradicts f g a (overlap i x y p q h) = h (a.cover.bytes i x y (covered f i x p) (covered g i y q))
+contradicts f g a (overlap o) = o.differs (a.cover.bytes o.place o.byte o.other_byte (covered f o.place o.byte o.covers) (covered g o.place o.other_byte o.other_covers))
 contradicts f g a (ends m n p q h) = h (a.cover.ends m n ((end_of_decides f m).1 p) ((end_of_decides g n).1 q))
-contradicts f g a (past_end n i x p q h) = let below = a.cover.within n i x ((end_of_decides f n).1 p) (covered g i x q) in omega (arith, below, h)
-contradicts f g a (past_other_end n i x p q h) = let below = a.cover.inside n i x ((end_of_decides g n).1 p) (covered f i x q) in omega (arith, below, h)
+contradicts f g a (past_end p) = p.past (a.cover.other_below p.end ((end_of_decides f p.end).1 p.ends))
+contradicts f g a (past_other_end p) = p.past (a.cover.own_below p.end ((end_of_decides g p.end).1 p.ends))
 
 test_of : (f g : Core) (b : Bool) → facts_agree (facts_of f) (facts_of g) ≡ b → Conflict f g → not b ≡ true
 test_of f g true e c = absurd (contradicts f g (facts_fit_of (facts_of f) (facts_of g) e) c)

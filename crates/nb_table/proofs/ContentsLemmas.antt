@@ -13,16 +13,16 @@ use Rattle.nb_table.specs.Maps.{first_of, joined_at}
 use Rattle.nb_table.specs.Slot.{Spoilt, Held}
 use Rattle.nb_table.specs.Cover.{CoverFacts, covers_together, placed, cover_of}
 use Rattle.nb_table.specs.Entry.{EntryFacts, EntryValue, facts_agree, facts_together, join_entry, facts_of, IsEntry}
-use Rattle.nb_table.specs.Conflict.{conflicts, some_conflict, with_key}
+use Rattle.nb_table.specs.ConflictTests.{conflicts, some_conflict, with_key}
 use Rattle.nb_table.specs.Contents.{first_byte, all_placed, cover_in, facts_in, entry_in, entry_at, table_of}
 use Rattle.nb_table.specs.Join.{join, IsTable}
-use Rattle.nb_table.proofs.MapsLemmas.{get-at_keys, at-assoc}
-use Rattle.nb_table.proofs.SameLemmas.{key_cmp_total, key_cmp_exact}
-use Rattle.nb_table.proofs.SlotLemmas.{agree_union}
-use Rattle.nb_table.proofs.CoverLemmas.{same_cover, in_union}
+use Rattle.nb_table.specs.Lemmas.MapsLemmas.{get-at_keys, at-assoc}
+use Rattle.nb_table.specs.Lemmas.SameLemmas.{key_cmp_total, key_cmp_exact}
+use Rattle.nb_table.specs.Lemmas.SlotLemmas.{agree_union}
+use Rattle.nb_table.specs.Lemmas.CoverLemmas.{same_cover, in_union}
 use Rattle.nb_table.proofs.PlacedLemmas.{find-placed, find-append, cover_of_formed}
-use Rattle.nb_table.proofs.EntryLemmas.{facts_unite, join_entry-assoc}
-use Rattle.nb_table.proofs.TableLemmas.{same_table, get-join, at_formed}
+use Rattle.nb_table.specs.Lemmas.EntryLemmas.{facts_unite, join_entry-assoc}
+use Rattle.nb_table.specs.Lemmas.TableLemmas.{same_table, get-join, at_formed}
 
 -- ---- the cover of fragments
 

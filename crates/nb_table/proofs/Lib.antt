@@ -1,17 +1,11 @@
-pub mod MapsLemmas
-pub mod SameLemmas
-pub mod SlotLemmas
-pub mod CoverLemmas
-pub mod EntryLemmas
-pub mod PlacedLemmas
-pub mod TableLemmas
-pub mod ContentsLemmas
-pub mod OrderFreeLemmas
-pub mod ConflictLemmas
-pub mod SayingLemmas
-pub mod WholeLemmas
-pub mod PlainLemmas
-pub mod PlainWholeLemmas
-pub mod PartsLemmas
-pub mod PiecesLemmas
-pub mod SenderLemmas
+mod PlacedLemmas
+mod ContentsLemmas
+mod OrderFreeLemmas
+mod ConflictLemmas
+mod SayingLemmas
+mod WholeLemmas
+mod PlainLemmas
+mod PlainWholeLemmas
+mod PartsLemmas
+mod PiecesLemmas
+mod SenderLemmas

@@ -7,12 +7,12 @@ use Rattle.nb_datagram.specs.Fragment.{Core}
 use Rattle.nb_table.specs.Maps.{joined_at, joined_onto}
 use Rattle.nb_table.specs.Entry.{EntryValue, join_entry, facts_of}
 use Rattle.nb_table.specs.Slot.{Held}
-use Rattle.nb_table.specs.Conflict.{with_key}
+use Rattle.nb_table.specs.ConflictTests.{with_key}
 use Rattle.nb_table.specs.Contents.{Contents, entry_in, table_of}
 use Rattle.nb_table.specs.Join.{join, SameCores, without_key}
-use Rattle.nb_table.proofs.MapsLemmas.{joined-empty}
-use Rattle.nb_table.proofs.SameLemmas.{key_cmp_total, key_cmp_exact, same_key_decides, refutes}
-use Rattle.nb_table.proofs.TableLemmas.{same_table, get-join, join-comm, join-assoc, join-idem}
+use Rattle.nb_table.specs.Lemmas.MapsLemmas.{joined-empty}
+use Rattle.nb_table.specs.Lemmas.SameLemmas.{key_cmp_total, key_cmp_exact, same_key_decides, refutes}
+use Rattle.nb_table.specs.Lemmas.TableLemmas.{same_table, get-join, join-comm, join-assoc, join-idem}
 use Rattle.nb_table.proofs.ContentsLemmas.{entry_in-cons, get-table_of, table_of-append, table_of_formed}
 
 -- ---- elements

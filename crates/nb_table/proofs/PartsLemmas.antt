@@ -1,16 +1,18 @@
 -- Fragments that are parts of one datagram don't conflict, and what they say together is true of it.
-use Rattle.std.proofs.Common.{◌≡◌, ◌<◌, ◌≤◌, inl, inr, ℕ, Contains, List, [], ◌∷◌, length, slice_get, Option, Some, None, refl, sym, ◌∙◌, ap, arith}
+use Rattle.std.proofs.Common.{◌≡◌, ◌≤◌, inl, inr, ℕ, Contains, List, [], ◌∷◌, length, slice_get, Option, Some, None, refl, sym, ◌∙◌, ap, arith}
 use Rattle.std.proofs.lemmas.Option.{slice_get_within}
 use Rattle.nb_datagram.specs.Fragment.{Core, Covers, EndsAt, reach, byte_of, end_of_one}
 use Rattle.nb_datagram.specs.Datagram.{DatagramParts}
 use Rattle.nb_datagram.specs.Pieces.{IsPart}
 use Rattle.nb_table.specs.Maps.{first_of}
+use Rattle.nb_table.specs.Cover.{LiesBelow, cover_of}
 use Rattle.nb_table.specs.Conflict.{Conflict, kinds, sources, destinations, overlap, ends, past_end, past_other_end, IsSpoilt}
 use Rattle.nb_table.specs.Contents.{first_byte, first_end}
 use Rattle.nb_table.specs.Sender.{HasPartsAlone}
-use Rattle.nb_table.proofs.SameLemmas.{not_lt}
-use Rattle.nb_table.proofs.CoverLemmas.{first_either}
+use Rattle.nb_table.specs.Lemmas.SameLemmas.{not_lt}
+use Rattle.nb_table.specs.Lemmas.CoverLemmas.{first_either}
 use Rattle.nb_table.proofs.PlacedLemmas.{byte_of_decides, end_of_decides}
+use Rattle.nb_table.proofs.ConflictLemmas.{covers}
 use Rattle.nb_table.proofs.OrderFreeLemmas.{in_none, in_first, in_rest, in_cons}
 
 -- ---- the first byte and the first end, and whose they are
@@ -78,21 +80,23 @@ parts_byte : (f g : Core) (d : DatagramParts) (i x y : ℕ) → IsPart f d → I
 parts_byte f g d i x y p q a b = let both : Some x ≡ Some y = sym (p.bytes i x a) ∙ q.bytes i y b in cc
 
 -- what a part covers is below where another ends
-parts_below : (f g : Core) (d : DatagramParts) (n i x : ℕ) → IsPart f d → IsPart g d → EndsAt f n → Covers g i x → i < n
-parts_below f g d n i x p q e c =
-    let here = part_ends f d n p e in
-    let inside = slice_get_within d.bytes i x (q.bytes i x c) in
-    omega arith
+parts_below : (f g : Core) (d : DatagramParts) (n : ℕ) → IsPart f d → IsPart g d → EndsAt f n → LiesBelow n (cover_of g)
+parts_below f g d n p q e = record {
+  bytes = λ i x c.
+      let here = part_ends f d n p e in
+      let inside = slice_get_within d.bytes i x (q.bytes i x (covers g i x c)) in
+      omega arith;
+}
 
 -- two parts don't conflict
 parts_free : (f g : Core) (d : DatagramParts) → IsPart f d → IsPart g d → Conflict f g → ⊥
 parts_free f g d p q (kinds h) = h (p.kind ∙ sym q.kind)
 parts_free f g d p q (sources h) = h (p.source ∙ sym q.source)
 parts_free f g d p q (destinations h) = h (p.destination ∙ sym q.destination)
-parts_free f g d p q (overlap i x y a b h) = h (parts_byte f g d i x y p q a b)
+parts_free f g d p q (overlap o) = o.differs (parts_byte f g d o.place o.byte o.other_byte p q o.covers o.other_covers)
 parts_free f g d p q (ends m n a b h) = h (part_ends f d m p a ∙ sym (part_ends g d n q b))
-parts_free f g d p q (past_end n i x e c h) = let below = parts_below f g d n i x p q e c in omega arith
-parts_free f g d p q (past_other_end n i x e c h) = let below = parts_below g f d n i x q p e c in omega arith
+parts_free f g d p q (past_end w) = w.past (parts_below f g d w.end p q w.ends)
+parts_free f g d p q (past_other_end w) = w.past (parts_below g f d w.end q p w.ends)
 
 pub parts_not_spoilt : (L : List Core) (d : DatagramParts) → HasPartsAlone L d → IsSpoilt L d.key → ⊥
 parts_not_spoilt L d h s =

@@ -13,7 +13,7 @@ use Rattle.nb_datagram.specs.Fragment.{Covers, core_of, has_more, reach}
 use Rattle.nb_datagram.specs.Datagram.{DatagramParts}
 use Rattle.nb_datagram.specs.Pieces.{IsPart, piece_count, piece, pieces}
 use Rattle.nb_table.specs.Sender.{HasPartsAlone, HasAll}
-use Rattle.nb_table.proofs.SameLemmas.{lt_is, is_lt}
+use Rattle.nb_table.specs.Lemmas.SameLemmas.{lt_is, is_lt}
 use Rattle.nb_table.proofs.OrderFreeLemmas.{in_none, in_first, in_rest, in_cons}
 
 -- ---- how many pieces there are

@@ -8,7 +8,7 @@ use Rattle.std.specs.FinMap as map
 use Rattle.nb_datagram.specs.Fragment.{Core, Covers, EndsAt, reach, byte_of, end_of_one}
 use Rattle.nb_table.specs.Maps.{first_of}
 use Rattle.nb_table.specs.Cover.{placed, cover_of, AreCoverFacts}
-use Rattle.nb_table.proofs.SameLemmas.{eq_is, is_eq, le_is, is_le, not_le, le_not}
+use Rattle.nb_table.specs.Lemmas.SameLemmas.{eq_is, is_eq, le_is, is_le, not_le, le_not}
 
 -- ---- one fragment
 
@@ -72,11 +72,13 @@ covers_below f i x c = let inside = slice_get_within f.bytes (i - f.offset) x c.
 
 -- what one fragment says is well formed
 pub cover_of_formed : (f : Core) → AreCoverFacts (cover_of f)
-cover_of_formed f = λ n q x e g.
-    let ends = (end_of_decides f n).0 e in
-    let covers = (byte_of_decides f q x).0 (sym (get-cover_of f q) ∙ g) in
-    let below = covers_below f q x covers in
-    omega (arith, below, ends.1)
+cover_of_formed f = λ n e. record {
+  bytes = λ q x g.
+      let ends = (end_of_decides f n).0 e in
+      let covers = (byte_of_decides f q x).0 (sym (get-cover_of f q) ∙ g) in
+      let below = covers_below f q x covers in
+      omega (arith, below, ends.1);
+}
 
 -- ---- several
 

@@ -1,17 +1,19 @@
 -- What the plain program's loops over places find.
-use Rattle.std.proofs.Common.{◌≡◌, ◌<◌, ◌≤◌, ◌+◌, ◌-◌, ◌==◌, ◌↔◌, ◌&&◌, ◌||◌, ℕ, IsTrue, Bool, true, false, cond, not, List, ◌∷◌, take, drop, length, slice_get, get_or, nat_lt, Option, Some, None, refl, sym, ◌∙◌, ap, ap₂, arith, drop-cons, length-drop, le_of_eq, add-one, drop_of_length-le}
+use Rattle.std.proofs.Common.{◌≡◌, ◌<◌, ◌≤◌, ◌+◌, ◌-◌, ◌==◌, ◌↔◌, ◌&&◌, ◌||◌, inl, inr, ℕ, IsTrue, Bool, true, false, cond, not, List, ◌∷◌, take, drop, length, slice_get, get_or, nat_lt, Option, Some, None, refl, sym, ◌∙◌, ap, ap₂, arith, drop-cons, length-drop, le_of_eq, add-one, drop_of_length-le}
 use Rattle.std.proofs.lemmas.List.{take_all}
 use Rattle.std.specs.List.{list_any}
-use Rattle.std.proofs.lemmas.Option.{slice_get-get_or}
+use Rattle.std.proofs.lemmas.Bool.{cases_lt}
+use Rattle.std.proofs.lemmas.Option.{slice_get-get_or, slice_get_within, same_Some}
 use Rattle.nb_datagram.specs.declared.key.Key.{Key}
 use Rattle.nb_datagram.specs.Key.{same_key}
-use Rattle.nb_datagram.specs.Fragment.{FragmentParts, core_of, cores_of, Core, reach, byte_of, end_of_one}
+use Rattle.nb_datagram.specs.Fragment.{FragmentParts, core_of, cores_of, Core, Covers, reach, byte_of, end_of_one}
 use Rattle.nb_table.specs.Entry.{facts_agree, facts_of}
-use Rattle.nb_table.specs.Conflict.{Conflict, kinds, sources, destinations, overlap, ends, past_end, past_other_end, conflicts, some_conflict, with_key, is_spoilt}
-use Rattle.nb_table.specs.Plain.{differ, SameHeader, Overlap, PastEnd}
-use Rattle.nb_table.proofs.SameLemmas.{eq_is, is_eq, lt_is, is_lt}
-use Rattle.nb_table.proofs.EntryLemmas.{facts_fit_of}
-use Rattle.nb_table.proofs.ConflictLemmas.{conflicts_decides}
+use Rattle.nb_table.specs.Conflict.{Overlap, PastEnd, Conflict, kinds, sources, destinations, overlap, ends, past_end, past_other_end}
+use Rattle.nb_table.specs.ConflictTests.{conflicts, some_conflict, with_key, is_spoilt}
+use Rattle.nb_table.specs.Plain.{differ, SameHeader}
+use Rattle.nb_table.specs.Lemmas.SameLemmas.{eq_is, is_eq, lt_is, is_lt}
+use Rattle.nb_table.specs.Lemmas.EntryLemmas.{facts_fit_of}
+use Rattle.nb_table.proofs.ConflictLemmas.{conflicts_decides, past_from, covers}
 use Rattle.nb_table.proofs.PlacedLemmas.{byte_of_decides, end_of_decides, covers_below}
 
 -- ---- overlaps
@@ -62,20 +64,22 @@ overlap_refuted f g each o =
 
 pub past_end_decides : (f g : Core) (n r : ℕ) → end_of_one f ≡ Some n → 0 < length g.bytes → r ≡ reach g → IsTrue (nat_lt n r) ↔ PastEnd f g
 past_end_decides f g n r e some s = (
-  λ h. let below : n < r = lt_is n r h in record {
-    end = n;
-    place = g.offset + (length g.bytes - 1);
-    byte = get_or g.bytes (length g.bytes - 1) 0;
-    ends = (end_of_decides f n).0 e;
-    covers = (omega arith, ap (slice_get g.bytes) (omega arith) ∙ slice_get-get_or g.bytes (length g.bytes - 1) 0 (omega (arith, some)));
-    past = omega (arith, below, s, some);
-  },
-  λ p. let same : Some p.end ≡ Some n = sym ((end_of_decides f p.end).1 p.ends) ∙ e in
-      let one : p.end ≡ n = cc in
-      let below = covers_below g p.place p.byte p.covers in
-      let past = p.past in
-      is_lt n r (omega (arith, below, s, one, past)),
+  λ h. let over : n < r = lt_is n r h in
+      let last : Covers g (g.offset + (length g.bytes - 1)) (get_or g.bytes (length g.bytes - 1) 0) =
+      (omega arith, ap (slice_get g.bytes) (omega arith) ∙ slice_get-get_or g.bytes (length g.bytes - 1) 0 (omega (arith, some))) in
+      past_from f g n (g.offset + (length g.bytes - 1)) (get_or g.bytes (length g.bytes - 1) 0) ((end_of_decides f n).0 e) last (omega (arith, over, s, some)),
+  λ p. elim (cases_lt n r) [
+    | inl over ↦ is_lt n r over
+    | inr under ↦
+        let same : p.end ≡ n = same_Some p.end n (sym ((end_of_decides f p.end).1 p.ends) ∙ e) in
+        absurd (p.past (record { bytes = λ i x c. (let below = covers_below g i x (covers g i x c) in omega (arith, below, s, same, under)) }))
+  ],
 )
+
+-- a fragment without data lies below each end
+pub empty_never_past : (f g : Core) → length g.bytes ≡ 0 → PastEnd f g → ⊥
+empty_never_past f g none p =
+    p.past (record { bytes = λ i x c. (let inside = slice_get_within g.bytes (i - g.offset) x (covers g i x c).1 in absurd (omega (arith, inside, none))) })
 
 -- ---- conflicts
 
@@ -88,7 +92,7 @@ pub header_conflict : (f g : Core) → (SameHeader f g → ⊥) → Conflict f g
 header_conflict f g h = (conflicts_decides f g).0 (header_test f g (facts_agree (facts_of f) (facts_of g)) refl h)
 
 pub overlap_conflict : (f g : Core) → Overlap f g → Conflict f g
-overlap_conflict f g o = overlap o.place o.byte o.other_byte o.covers o.other_covers o.differs
+overlap_conflict f g o = overlap o
 
 pub ends_conflict : (f g : Core) → differ (end_of_one f) (end_of_one g) ≡ true → Conflict f g
 ends_conflict f g h =
@@ -97,20 +101,20 @@ ends_conflict f g h =
     (λ e. (let clash : true ≡ false = sym (is_eq w.one w.other e) ∙ w.differs in cc clash))
 
 pub past_conflict : (f g : Core) → PastEnd f g → Conflict f g
-past_conflict f g p = past_end p.end p.place p.byte p.ends p.covers p.past
+past_conflict f g p = past_end p
 
 pub past_other_conflict : (f g : Core) → PastEnd g f → Conflict f g
-past_other_conflict f g p = past_other_end p.end p.place p.byte p.ends p.covers p.past
+past_other_conflict f g p = past_other_end p
 
 -- a conflict of none of the other kinds is that f covers a place past the end of g
 pub last_conflict : (f g : Core) → SameHeader f g → (Overlap f g → ⊥) → differ (end_of_one f) (end_of_one g) ≡ false → (PastEnd f g → ⊥) → Conflict f g → PastEnd g f
 last_conflict f g h o e p (kinds n) = absurd (n h.0)
 last_conflict f g h o e p (sources n) = absurd (n h.1.0)
 last_conflict f g h o e p (destinations n) = absurd (n h.1.1)
-last_conflict f g h o e p (overlap i x y a b n) = absurd (o (record { place = i; byte = x; other_byte = y; covers = a; other_covers = b; differs = n }))
+last_conflict f g h o e p (overlap w) = absurd (o w)
 last_conflict f g h o e p (ends m n a b d) = absurd (d (same_bytes m n (ap₂ differ (sym ((end_of_decides f m).1 a)) (sym ((end_of_decides g n).1 b)) ∙ e)))
-last_conflict f g h o e p (past_end n i x a b d) = absurd (p (record { end = n; place = i; byte = x; ends = a; covers = b; past = d }))
-last_conflict f g h o e p (past_other_end n i x a b d) = record { end = n; place = i; byte = x; ends = a; covers = b; past = d }
+last_conflict f g h o e p (past_end w) = absurd (p w)
+last_conflict f g h o e p (past_other_end w) = w
 
 -- ---- spoilt keys
 

@@ -8,10 +8,11 @@ use Rattle.nb_datagram.specs.Datagram.{DatagramParts}
 use Rattle.nb_datagram.specs.declared.limits.TheConstants.{MAX_LENGTH}
 use Rattle.nb_table.specs.Slot.{Spoilt, Held}
 use Rattle.nb_table.specs.Entry.{EntryValue}
-use Rattle.nb_table.specs.Conflict.{IsSpoilt, some_conflict, with_key, is_spoilt}
+use Rattle.nb_table.specs.Conflict.{IsSpoilt}
+use Rattle.nb_table.specs.ConflictTests.{some_conflict, with_key, is_spoilt}
 use Rattle.nb_table.specs.Contents.{first_end, byte_at, end_of, cover_in, facts_in, entry_in, table_of}
 use Rattle.nb_table.specs.Whole.{IsWhole, bytes_below, bytes_to, datagram_with, datagram_of, datagram_at}
-use Rattle.nb_table.specs.Sender.{IsWholeAt}
+use Rattle.nb_table.specs.Whole.{IsWholeAt}
 use Rattle.nb_table.specs.Plain.{CoversBelow, IsLong, datagram_to}
 use Rattle.nb_table.specs.declared.plain.whole.PlainFault.{PlainFault}
 use Rattle.nb_table.specs.declared.plain.whole.PlainFault.TheVariants.{TooLong, NoMemory}

@@ -5,7 +5,8 @@ use Rattle.nb_datagram.specs.declared.key.Key.{Key}
 use Rattle.nb_datagram.specs.Fragment.{Core}
 use Rattle.nb_table.specs.Slot.{Spoilt, Held}
 use Rattle.nb_table.specs.Entry.{EntryFacts, EntryValue}
-use Rattle.nb_table.specs.Conflict.{IsSpoilt, some_conflict, with_key}
+use Rattle.nb_table.specs.Conflict.{IsSpoilt}
+use Rattle.nb_table.specs.ConflictTests.{some_conflict, with_key}
 use Rattle.nb_table.specs.Contents.{facts_in, entry_in, table_of, Says}
 use Rattle.nb_table.proofs.ContentsLemmas.{get-cover_in, get-table_of}
 use Rattle.nb_table.proofs.ConflictLemmas.{is_spoilt_decides, with_key_in, in_with_key}

@@ -1,5 +1,5 @@
 -- A list whose fragments with a datagram's key are parts of it: what its table has at that key.
-use Rattle.std.proofs.Common.{◌≡◌, ◌<◌, ℕ, Contains, List, map, slice_get, Option, Some, None, refl, sym, ◌∙◌, subst, ◌≤◌}
+use Rattle.std.proofs.Common.{◌≡◌, ◌<◌, ℕ, Contains, List, map, slice_get, Option, Some, None, refl, sym, ◌∙◌, ap, subst, ◌≤◌, option_and_then}
 use Rattle.std.proofs.lemmas.Option.{slice_get_within, get_or_from_slice_get}
 use Rattle.std.specs.FinMap as maps
 use Rattle.nb_datagram.specs.Fragment.{Core, reach, core_of}
@@ -7,10 +7,10 @@ use Rattle.nb_datagram.specs.Datagram.{DatagramParts}
 use Rattle.nb_datagram.specs.Pieces.{IsPart, pieces}
 use Rattle.nb_table.specs.Slot.{Spoilt, Held}
 use Rattle.nb_table.specs.Entry.{EntryFacts, EntryValue}
-use Rattle.nb_table.specs.Conflict.{with_key}
+use Rattle.nb_table.specs.ConflictTests.{with_key}
 use Rattle.nb_table.specs.Contents.{table_of, Says}
-use Rattle.nb_table.specs.Whole.{IsWholeCover, IsWhole}
-use Rattle.nb_table.specs.Sender.{HasPartsAlone, IsOf, HasAll, IsWholeAt, Gives}
+use Rattle.nb_table.specs.Whole.{IsWholeCover, IsWhole, IsWholeAt, datagram_of}
+use Rattle.nb_table.specs.Sender.{HasPartsAlone, IsOf, HasAll, Gives}
 use Rattle.nb_table.proofs.ConflictLemmas.{in_with_key, with_key_in}
 use Rattle.nb_table.proofs.SayingLemmas.{absent_exactly, spoilt_exactly, held_says}
 use Rattle.nb_table.proofs.WholeLemmas.{datagram_from}
@@ -95,20 +95,18 @@ gives_where_all L d h all =
     let says = held.says in
     let first : IsPart says.first d = first_is_part L d h says.first says.is_first in
     let whole = facts_are_whole L d h all held.facts says in
-    let end_is = end_of_parts (with_key d.key L) d (of_key L d h) whole.length (sym says.end ∙ whole.ends) in (
-      Held held.facts,
-      held.is,
-      datagram_from d.key held.facts d (record {
-        key = refl;
-        kind = sym (says.kind ∙ first.kind);
-        source = sym (says.source ∙ first.source);
-        destination = sym (says.destination ∙ first.destination);
-        ends = subst (λ n. held.facts.cover.end ≡ Some n) end_is whole.ends;
-        bytes = λ i below. (
-            let x = whole.covered i (subst (λ n. i < n) (sym end_is) below) in
-            x.1 ∙ sym (byte_of_parts (with_key d.key L) d (of_key L d h) i x.0 (sym (says.bytes i) ∙ x.1)));
-      }),
-    )
+    let end_is = end_of_parts (with_key d.key L) d (of_key L d h) whole.length (sym says.end ∙ whole.ends) in
+    ap (option_and_then (datagram_of d.key)) held.is
+    ∙ datagram_from d.key held.facts d (record {
+      key = refl;
+      kind = sym (says.kind ∙ first.kind);
+      source = sym (says.source ∙ first.source);
+      destination = sym (says.destination ∙ first.destination);
+      ends = subst (λ n. held.facts.cover.end ≡ Some n) end_is whole.ends;
+      bytes = λ i below. (
+          let x = whole.covered i (subst (λ n. i < n) (sym end_is) below) in
+          x.1 ∙ sym (byte_of_parts (with_key d.key L) d (of_key L d h) i x.0 (sym (says.bytes i) ∙ x.1)));
+    })
 
 -- the pieces of d give d
 pub pieces_give : (d : DatagramParts) (m : ℕ) → 1 ≤ m → Gives (table_of (map core_of (pieces d m))) d

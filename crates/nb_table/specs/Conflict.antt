@@ -1,21 +1,35 @@
--- When two fragments contradict each other, and when a key is spoilt in a list of fragments (own).
-use Rattle.std.specs.Prelude.{◌≡◌, ◌≢◌, ℕ, ◌≤◌, Bool, false, not, List, [], ◌∷◌, ◌||◌, Contains, filter}
-use Rattle.std.specs.List.{list_any}
+-- When two fragments contradict each other, and when a key is spoilt in a list of fragments (own). Here
+-- stand the relations; the tests by which tables are defined stand in ConflictTests.
+use Rattle.std.specs.Prelude.{◌≡◌, ◌≢◌, ℕ, List, Contains}
 use Rattle.nb_datagram.specs.declared.key.Key.{Key}
-use Rattle.nb_datagram.specs.Key.{same_key}
 use Rattle.nb_datagram.specs.Fragment.{Core, Covers, EndsAt}
-use Rattle.nb_table.specs.Entry.{facts_agree, facts_of}
+use Rattle.nb_table.specs.Cover.{LiesBelow, cover_of}
+
+-- both fragments cover a place, with different bytes
+pub record Overlap (f g : Core) : Type 0 where
+  pub place : ℕ
+  pub byte : ℕ
+  pub other_byte : ℕ
+  pub covers : Covers f place byte
+  pub other_covers : Covers g place other_byte
+  pub differs : byte ≢ other_byte
+
+-- PastEnd f g: f ends, and not all that g says lies below that end: g covers a place at or past it
+pub record PastEnd (f g : Core) : Type 0 where
+  pub end : ℕ
+  pub ends : EndsAt f end
+  pub past : LiesBelow end (cover_of g) → ⊥
 
 -- f and g contradict each other, whatever their keys: in kind or in a name, in the byte at a place, in
--- the end, or by a byte of one at or past the place where the other ends
+-- the end, or by a place of one at or past the end of the other
 pub data Conflict (f g : Core) : Type 0 where
   kinds : f.kind ≢ g.kind → Conflict f g
   sources : f.source ≢ g.source → Conflict f g
   destinations : f.destination ≢ g.destination → Conflict f g
-  overlap : (i x y : ℕ) → Covers f i x → Covers g i y → x ≢ y → Conflict f g
+  overlap : Overlap f g → Conflict f g
   ends : (m n : ℕ) → EndsAt f m → EndsAt g n → m ≢ n → Conflict f g
-  past_end : (n i x : ℕ) → EndsAt f n → Covers g i x → n ≤ i → Conflict f g
-  past_other_end : (n i x : ℕ) → EndsAt g n → Covers f i x → n ≤ i → Conflict f g
+  past_end : PastEnd f g → Conflict f g
+  past_other_end : PastEnd g f → Conflict f g
 
 -- two fragments disagree: they have one key, and conflict
 pub record Disagree (f g : Core) : Type 0 where
@@ -30,20 +44,3 @@ pub record IsSpoilt (L : List Core) (k : Key) : Type 0 where
   pub has_other : Contains L other
   pub of_key : one.key ≡ k
   pub disagree : Disagree one other
-
--- f and g conflict, as a test
-abbrev pub conflicts : Core → Core → Bool
-conflicts f g = not (facts_agree (facts_of f) (facts_of g))
-
--- two of these fragments conflict
-abbrev pub some_conflict : List Core → Bool
-some_conflict [] = false
-some_conflict (f ∷ fs) = list_any (conflicts f) fs || some_conflict fs
-
--- with_key k L: the fragments of L with key k, in order
-abbrev pub with_key : Key → List Core → List Core
-with_key k = filter (λ f. same_key k f.key)
-
--- is_spoilt L k: L contradicts itself about the key k, as a test
-abbrev pub is_spoilt : List Core → Key → Bool
-is_spoilt L k = some_conflict (with_key k L)

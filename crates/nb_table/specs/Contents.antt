@@ -2,15 +2,14 @@
 -- data.
 use Rattle.std.specs.Prelude.{◌≡◌, ◌++◌, ℕ, cond, List, [], ◌∷◌, map, slice_get, Option, Some, None}
 use Rattle.std.specs.FinMap as maps
-use Rattle.std.specs.Coded.{Coded}
 use Rattle.nb_datagram.specs.declared.key.Key.{Key}
-use Rattle.nb_datagram.specs.Key.{key_cmp, key_code}
+use Rattle.nb_datagram.specs.Key.{key_cmp}
 use Rattle.nb_datagram.specs.Fragment.{Core, byte_of, end_of_one}
 use Rattle.nb_table.specs.Maps.{first_of, at_keys}
 use Rattle.nb_table.specs.Slot.{Spoilt, Held}
 use Rattle.nb_table.specs.Cover.{CoverFacts, placed}
-use Rattle.nb_table.specs.Entry.{EntryFacts, EntryValue, entry_code}
-use Rattle.nb_table.specs.Conflict.{with_key, some_conflict}
+use Rattle.nb_table.specs.Entry.{EntryFacts, EntryValue}
+use Rattle.nb_table.specs.ConflictTests.{with_key, some_conflict}
 
 -- first_byte fs i: the byte at place i of the first of these fragments that covers it
 abbrev pub first_byte : List Core → ℕ → Option ℕ
@@ -76,7 +75,3 @@ Contents = maps.FinMap key_cmp EntryValue
 -- the table of a list: an entry for each key that one of its fragments has
 abbrev pub table_of : List Core → Contents
 table_of L = at_keys (entry_at L) (map (λ f. f.key) L)
-
--- a table as the list of its keys and entries
-abbrev pub contents_code : Coded Contents
-contents_code = maps.code key_code entry_code

@@ -1,13 +1,11 @@
 -- Entries: what is known of one datagram, that is of one key (own).
-use Rattle.std.specs.Prelude.{◌≡◌, ◌==◌, ◌&&◌, Bool, refl}
-use Rattle.std.specs.Cmp.Lexicographic.{pointwise}
-use Rattle.std.specs.Coded.{Coded, code_by, coded×}
-use Rattle.nb_names.specs.Name.{NetbiosName, name_code}
+use Rattle.std.specs.Prelude.{◌≡◌, ◌&&◌, Bool}
+use Rattle.nb_names.specs.Name.{NetbiosName, name_eq}
 use Rattle.nb_datagram.specs.declared.kind.Kind.{Kind}
-use Rattle.nb_datagram.specs.Kind.{same_kind, kind_code}
+use Rattle.nb_datagram.specs.Kind.{same_kind}
 use Rattle.nb_datagram.specs.Fragment.{Core}
-use Rattle.nb_table.specs.Slot.{Slot, join_slot, OnHeld, slot_code}
-use Rattle.nb_table.specs.Cover.{CoverFacts, CoversFit, covers_agree, covers_together, cover_of, AreCoverFacts, cover_facts_code}
+use Rattle.nb_table.specs.Slot.{Slot, join_slot, OnHeld}
+use Rattle.nb_table.specs.Cover.{CoverFacts, CoversFit, covers_agree, covers_together, cover_of, AreCoverFacts}
 
 -- the kind, both names, and the cover's facts
 pub record EntryFacts : Type 0 where
@@ -15,10 +13,6 @@ pub record EntryFacts : Type 0 where
   pub source : NetbiosName
   pub destination : NetbiosName
   pub cover : CoverFacts
-
--- the two are one name, byte for byte
-abbrev pub same_name : NetbiosName → NetbiosName → Bool
-same_name a b = pointwise ◌==◌ a.bytes b.bytes && pointwise (pointwise ◌==◌) a.scope b.scope
 
 -- the two don't contradict each other: one kind, the same names, and covers that don't
 pub record FactsFit (a b : EntryFacts) : Type 0 where
@@ -31,7 +25,7 @@ pub record FactsFit (a b : EntryFacts) : Type 0 where
 abbrev pub facts_agree : EntryFacts → EntryFacts → Bool
 facts_agree a b =
     same_kind a.kind b.kind
-    && (same_name a.source b.source && (same_name a.destination b.destination && covers_agree a.cover b.cover))
+    && (name_eq a.source b.source && (name_eq a.destination b.destination && covers_agree a.cover b.cover))
 
 -- what two that agree say together
 abbrev pub facts_together : EntryFacts → EntryFacts → EntryFacts
@@ -66,16 +60,3 @@ facts_of f = record {
   destination = f.destination;
   cover = cover_of f;
 }
-
--- an entry's facts as the tuple of them
-abbrev pub entry_facts_code : Coded EntryFacts
-entry_facts_code =
-    code_by (Kind × (NetbiosName × (NetbiosName × CoverFacts)))
-    (coded× kind_code (coded× name_code (coded× name_code cover_facts_code)))
-    (λ e. (e.kind, (e.source, (e.destination, e.cover))))
-    (λ p. record { kind = p.0; source = p.1.0; destination = p.1.1.0; cover = p.1.1.1 })
-    (λ _. refl)
-
--- an entry as its facts, if it isn't spoilt
-abbrev pub entry_code : Coded EntryValue
-entry_code = slot_code entry_facts_code

@@ -3,8 +3,11 @@ pub mod Slot
 pub mod Cover
 pub mod Entry
 pub mod Conflict
+pub mod ConflictTests
 pub mod Contents
 pub mod Join
+pub mod Codes
 pub mod Whole
 pub mod Sender
 pub mod Plain
+pub mod Lemmas

@@ -1,11 +1,11 @@
 -- What the plain program's functions find (own): of two fragments, the cases of a conflict one by one;
 -- of a key, what is covered, and whether its datagram is too long.
-use Rattle.std.specs.Prelude.{◌≡◌, ◌≢◌, ◌==◌, ◌<◌, ◌≤◌, ℕ, Bool, false, not, List, length, Option, Some, None}
+use Rattle.std.specs.Prelude.{◌≡◌, ◌==◌, ◌<◌, ℕ, Bool, false, not, List, length, Option, Some, None}
 use Rattle.nb_datagram.specs.declared.key.Key.{Key}
-use Rattle.nb_datagram.specs.Fragment.{Core, Covers, EndsAt}
+use Rattle.nb_datagram.specs.Fragment.{Core}
 use Rattle.nb_datagram.specs.Datagram.{DatagramParts}
 use Rattle.nb_datagram.specs.declared.limits.TheConstants.{MAX_LENGTH}
-use Rattle.nb_table.specs.Conflict.{with_key}
+use Rattle.nb_table.specs.ConflictTests.{with_key}
 use Rattle.nb_table.specs.Contents.{byte_at, cover_in, facts_in}
 use Rattle.nb_table.specs.Whole.{bytes_below, datagram_with}
 
@@ -22,24 +22,6 @@ SameNames f g = (f.source ≡ g.source) × (f.destination ≡ g.destination)
 -- the two fragments have the same kind and names
 abbrev pub SameHeader : Core → Core → Type 0
 SameHeader f g = (f.kind ≡ g.kind) × SameNames f g
-
--- both fragments cover a place, with different bytes
-pub record Overlap (f g : Core) : Type 0 where
-  pub place : ℕ
-  pub byte : ℕ
-  pub other_byte : ℕ
-  pub covers : Covers f place byte
-  pub other_covers : Covers g place other_byte
-  pub differs : byte ≢ other_byte
-
--- PastEnd f g: g covers a place at or past the end of f
-pub record PastEnd (f g : Core) : Type 0 where
-  pub end : ℕ
-  pub place : ℕ
-  pub byte : ℕ
-  pub ends : EndsAt f end
-  pub covers : Covers g place byte
-  pub past : end ≤ place
 
 -- CoversBelow L k n: each place below n is covered by a fragment of L with key k
 abbrev pub CoversBelow : List Core → Key → ℕ → Type 0

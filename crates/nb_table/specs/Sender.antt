@@ -1,14 +1,11 @@
 -- The fragments of a datagram that its sender cut: when a list has parts of it alone, and when it has
 -- all of it (own). Places count from the first byte of the datagram's data.
 use Rattle.std.specs.Prelude.{◌≡◌, ℕ, ◌<◌, false, List, length, Some, Contains}
-use Rattle.std.specs.FinMap as maps
-use Rattle.nb_datagram.specs.declared.key.Key.{Key}
 use Rattle.nb_datagram.specs.Fragment.{Core, Covers}
 use Rattle.nb_datagram.specs.Datagram.{DatagramParts}
 use Rattle.nb_datagram.specs.Pieces.{IsPart}
-use Rattle.nb_table.specs.Entry.{EntryValue}
 use Rattle.nb_table.specs.Contents.{Contents}
-use Rattle.nb_table.specs.Whole.{IsWhole, datagram_of}
+use Rattle.nb_table.specs.Whole.{datagram_at}
 
 -- all fragments of L with the key of d are parts of d
 abbrev pub HasPartsAlone : List Core → DatagramParts → Type 0
@@ -23,10 +20,6 @@ pub record HasAll (L : List Core) (d : DatagramParts) : Type 0 where
   pub places : (i : ℕ) → i < length d.bytes → (f : Core) × IsOf L d f × ((x : ℕ) × Covers f i x)
   pub last : (f : Core) × IsOf L d f × (f.more ≡ false)
 
--- the key k is whole in the table t
-abbrev pub IsWholeAt : Contents → Key → Type 0
-IsWholeAt t k = (e : EntryValue) × (maps.get t k ≡ Some e) × IsWhole e
-
 -- the table t gives the datagram d, whole
 abbrev pub Gives : Contents → DatagramParts → Type 0
-Gives t d = (e : EntryValue) × (maps.get t d.key ≡ Some e) × (datagram_of d.key e ≡ Some d)
+Gives t d = datagram_at t d.key ≡ Some d

@@ -1,8 +1,7 @@
 -- What facts come to that may contradict each other, and how two such results are joined (own).
 --
 -- It is said once over the facts' type. Covers and entries are two cases of it.
-use Rattle.std.specs.Prelude.{Bool, cond, Option, Some, None, ◌≡◌, refl}
-use Rattle.std.specs.Coded.{Coded, code_by, coded_option}
+use Rattle.std.specs.Prelude.{Bool, cond}
 
 -- spoilt by facts that contradict each other, or what all of them say together
 pub data Slot (X : Type 0) : Type 0 where
@@ -20,22 +19,3 @@ join_slot agree together (Held a) (Held b) = cond (agree a b) (Held (together a 
 abbrev pub OnHeld : {X : Type 0} → (X → Type 0) → Slot X → Type 0
 OnHeld P Spoilt = Unit {0}
 OnHeld P (Held a) = P a
-
--- the facts, if they are held
-abbrev pub held : {X : Type 0} → Slot X → Option X
-held Spoilt = None
-held (Held a) = Some a
-
--- what these facts come to: spoilt, where there are none
-abbrev pub slot_of : {X : Type 0} → Option X → Slot X
-slot_of None = Spoilt
-slot_of (Some a) = Held a
-
--- the facts of a slot give it back
-pub slot_back : {X : Type 0} (s : Slot X) → slot_of (held s) ≡ s
-slot_back Spoilt = refl
-slot_back (Held a) = refl
-
--- a slot as its facts, if there are any
-abbrev pub slot_code : {X : Type 0} → Coded X → Coded (Slot X)
-slot_code {X} x = code_by (Option X) (coded_option x) held slot_of slot_back

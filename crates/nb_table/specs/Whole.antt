@@ -20,6 +20,10 @@ abbrev pub IsWhole : EntryValue → Type 0
 IsWhole Spoilt = ⊥
 IsWhole (Held e) = IsWholeCover e.cover
 
+-- IsWholeAt t k: the table t has the key k whole
+abbrev pub IsWholeAt : Contents → Key → Type 0
+IsWholeAt t k = (e : EntryValue) × (maps.get t k ≡ Some e) × IsWhole e
+
 -- the list with one more item, if there are both
 abbrev pub with_last : Option (List ℕ) → Option ℕ → Option (List ℕ)
 with_last None o = None
@@ -60,3 +64,13 @@ pub record IsDatagram (k : Key) (e : EntryFacts) (d : DatagramParts) : Type 0 wh
 -- datagram_at t k: the datagram of key k, if the table has it whole
 abbrev pub datagram_at : Contents → Key → Option DatagramParts
 datagram_at t k = option_and_then (datagram_of k) (maps.get t k)
+
+-- newly o p: what there is after, if there was nothing before
+abbrev pub newly : {X : Type 0} → Option X → Option X → Option X
+newly None after = after
+newly (Some before) after = None
+
+-- newly_whole before after k: the datagram of key k, if it is whole in the table after, and wasn't in the
+-- one before
+abbrev pub newly_whole : Contents → Contents → Key → Option DatagramParts
+newly_whole before after k = newly (datagram_at before k) (datagram_at after k)

@@ -4,7 +4,8 @@ ghost use Rattle.nb_datagram.specs.declared.key.Key.{Key};
 ghost use Rattle.nb_datagram.specs.Fragment.{Core, Covers, EndsAt, byte_of, end_of_one};
 ghost use Rattle.nb_table.specs.Cover.{CoverFacts, CoversFit, covers_agree};
 ghost use Rattle.nb_table.specs.Entry.{EntryFacts, FactsFit, facts_agree};
-ghost use Rattle.nb_table.specs.Conflict.{Conflict, IsSpoilt, conflicts, is_spoilt};
+ghost use Rattle.nb_table.specs.Conflict.{Conflict, IsSpoilt};
+ghost use Rattle.nb_table.specs.ConflictTests.{conflicts, is_spoilt};
 ghost use Rattle.std.specs.Prelude.{List};
 
 /// A fragment has a byte at a place exactly where it covers the place with that byte.

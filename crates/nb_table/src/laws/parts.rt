@@ -7,7 +7,8 @@ ghost use Rattle.nb_datagram.specs.Pieces.{pieces};
 ghost use Rattle.nb_table.specs.Slot.{Spoilt};
 ghost use Rattle.nb_table.specs.Conflict.{IsSpoilt};
 ghost use Rattle.nb_table.specs.Contents.{table_of};
-ghost use Rattle.nb_table.specs.Sender.{HasPartsAlone, HasAll, IsWholeAt, Gives};
+ghost use Rattle.nb_table.specs.Sender.{HasPartsAlone, HasAll, Gives};
+ghost use Rattle.nb_table.specs.Whole.{IsWholeAt};
 
 /// Where all fragments of a list with a datagram's key are parts of it, the key is spoilt neither
 /// in the list nor in the list's table.

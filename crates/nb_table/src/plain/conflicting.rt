@@ -5,8 +5,9 @@ ghost use Rattle.nb_datagram.specs.Key.{same_key};
 ghost use Rattle.nb_datagram.specs.Fragment.{core_of, cores_of};
 ghost use Rattle.nb_datagram.specs.Fragment.{byte_of as core_byte};
 ghost use Rattle.nb_datagram.specs.Fragment.{end_of_one as core_end};
-ghost use Rattle.nb_table.specs.Conflict.{Conflict, IsSpoilt, conflicts, with_key};
-ghost use Rattle.nb_table.specs.Plain.{differ, SameNames, SameHeader, Overlap, PastEnd};
+ghost use Rattle.nb_table.specs.Conflict.{Overlap, PastEnd, Conflict, IsSpoilt};
+ghost use Rattle.nb_table.specs.ConflictTests.{conflicts, with_key};
+ghost use Rattle.nb_table.specs.Plain.{differ, SameNames, SameHeader};
 
 use super::finding::{byte_of, end_of_one, has_key};
 use nb_datagram::{Fragment, Key};

@@ -3,12 +3,12 @@ ghost use Rattle.std.specs.Prelude.{◌≡◌, ◌↔◌, ◌<◌, ◌≤◌, Is
 ghost use Rattle.nb_datagram.specs.Fragment.{core_of, cores_of};
 ghost use Rattle.nb_datagram.specs.Datagram.{DatagramParts};
 ghost use Rattle.nb_datagram.specs.declared.limits.TheConstants.{MAX_LENGTH};
-ghost use Rattle.nb_table.specs.Conflict.{with_key};
+ghost use Rattle.nb_table.specs.ConflictTests.{with_key};
 ghost use Rattle.nb_table.specs.Contents.{cover_in, table_of};
 ghost use Rattle.nb_table.specs.Contents.{byte_at as list_byte};
 ghost use Rattle.nb_table.specs.Whole.{datagram_at};
 ghost use Rattle.nb_table.specs.Whole.{bytes_below as cover_bytes};
-ghost use Rattle.nb_table.specs.Sender.{IsWholeAt};
+ghost use Rattle.nb_table.specs.Whole.{IsWholeAt};
 ghost use Rattle.nb_table.specs.Plain.{CoversBelow, IsLong, datagram_to};
 
 use super::conflicting::is_spoilt;

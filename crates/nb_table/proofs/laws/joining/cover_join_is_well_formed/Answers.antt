@@ -1,4 +1,4 @@
-use Rattle.nb_table.proofs.EntryLemmas.{join_cover_formed}
+use Rattle.nb_table.specs.Lemmas.EntryLemmas.{join_cover_formed}
 use Rattle.nb_table.proofs.laws.joining.cover_join_is_well_formed.Goals as goal
 
 pub returns : goal.returns

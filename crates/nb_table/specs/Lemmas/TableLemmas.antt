@@ -1,14 +1,15 @@
 -- The laws of joins of tables.
 use Rattle.std.proofs.Common.{◌≡◌, Option, Some, None, refl, sym, ◌∙◌, subst}
+use Rattle.std.proofs.lemmas.Option.{same_Some}
 use Rattle.std.specs.FinMap as maps
 use Rattle.nb_datagram.specs.declared.key.Key.{Key}
 use Rattle.nb_table.specs.Maps.{joined_at}
 use Rattle.nb_table.specs.Entry.{EntryValue, join_entry, IsEntry}
 use Rattle.nb_table.specs.Contents.{Contents}
 use Rattle.nb_table.specs.Join.{join, IsTable}
-use Rattle.nb_table.proofs.MapsLemmas.{get-joined, joined-comm, joined-assoc, joined-idem}
-use Rattle.nb_table.proofs.SameLemmas.{key_cmp_total, key_cmp_exact}
-use Rattle.nb_table.proofs.EntryLemmas.{join_entry-comm, join_entry-assoc, join_entry-idem, join_entry_formed}
+use Rattle.nb_table.specs.Lemmas.MapsLemmas.{get-joined, joined-comm, joined-assoc, joined-idem}
+use Rattle.nb_table.specs.Lemmas.SameLemmas.{key_cmp_total, key_cmp_exact}
+use Rattle.nb_table.specs.Lemmas.EntryLemmas.{join_entry-comm, join_entry-assoc, join_entry-idem, join_entry_formed}
 
 -- tables with the same look-ups are one
 pub same_table : (a b : Contents) → ((k : Key) → maps.get a k ≡ maps.get b k) → a ≡ b
@@ -32,8 +33,7 @@ pub at_formed : (a b : Option EntryValue) → ((e : EntryValue) → a ≡ Some e
 at_formed None b f g e h = g e h
 at_formed (Some x) None f g e h = f e h
 at_formed (Some x) (Some y) f g e h =
-    let one : join_entry x y ≡ e = cc in
-    subst IsEntry one (join_entry_formed x y (f x refl) (g y refl))
+    subst IsEntry (same_Some (join_entry x y) e h) (join_entry_formed x y (f x refl) (g y refl))
 
 pub join_formed : (a b : Contents) → IsTable a → IsTable b → IsTable (join a b)
 join_formed a b f g k e h = at_formed (maps.get a k) (maps.get b k) (f k) (g k) e (sym (get-join a b k) ∙ h)

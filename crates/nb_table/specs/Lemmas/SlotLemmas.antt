@@ -1,9 +1,10 @@
 -- Joins of slots are commutative, associative and idempotent, whatever the facts are, from what their
 -- agreement and their union meet.
 use Rattle.std.proofs.Common.{◌≡◌, ◌&&◌, Bool, true, false, cond, refl, sym, ◌∙◌, ap}
+use Rattle.std.proofs.lemmas.Bool.{true≢false}
 use Rattle.std.specs.Cmp.{both_ways}
 use Rattle.nb_table.specs.Slot.{Slot, Spoilt, Held, join_slot, OnHeld}
-use Rattle.nb_table.proofs.MapsLemmas.{and_left, and_right, and_both}
+use Rattle.nb_table.specs.Lemmas.MapsLemmas.{and_left, and_right, and_both}
 
 -- what makes facts that agree a union
 pub record Unites {X : Type 0} (agree : X → X → Bool) (together : X → X → X) : Type 0 where
@@ -42,10 +43,10 @@ module _ {X : Type 0} {agree : X → X → Bool} {together : X → X → X} (u :
   sides a b c false false e f = refl
   sides a b c false true e f =
       sym (ap (λ r. cond r (Held (together a (together b c))) Spoilt) (both_ways (agree a (together b c)) false
-      (λ h. sym e ∙ u.turned b a (u.left b c a f (u.turned _ _ h))) (λ h. absurd (cc))))
+      (λ h. sym e ∙ u.turned b a (u.left b c a f (u.turned _ _ h))) (λ h. absurd (true≢false (sym h)))))
   sides a b c true false e f =
       ap (λ r. cond r (Held (together (together a b) c)) Spoilt) (both_ways (agree (together a b) c) false
-      (λ h. sym f ∙ u.right a b c e h) (λ h. absurd (cc)))
+      (λ h. sym f ∙ u.right a b c e h) (λ h. absurd (true≢false (sym h))))
   sides a b c true true e f =
       ap (λ s. cond (agree (together a b) c) (Held s) Spoilt) (u.regroup a b c)
       ∙ ap (λ r. cond r (Held (together a (together b c))) Spoilt) (both_ways (agree (together a b) c) (agree a (together b c))

@@ -5,26 +5,27 @@ use Rattle.std.specs.FinMap as maps
 use Rattle.nb_table.specs.Slot.{Spoilt, Held, OnHeld}
 use Rattle.nb_table.specs.Cover.{CoverValue, covers_agree, join_cover, IsCover}
 use Rattle.nb_table.specs.Entry.{EntryFacts, FactsFit, EntryValue, facts_agree, facts_together, join_entry, AreEntryFacts, IsEntry}
-use Rattle.nb_table.proofs.MapsLemmas.{and_left, and_right, and_both}
-use Rattle.nb_table.proofs.SameLemmas.{same_kind_decides, same_name_decides}
-use Rattle.nb_table.proofs.SlotLemmas.{Unites, join-comm, join-assoc, join-idem, join_formed}
-use Rattle.nb_table.proofs.CoverLemmas.{covers_unite, fit_of, agree_of, fit_left, fit_right, fit_both, fit_turned, formed_agrees, agrees_formed, together_held, one_value}
+use Rattle.nb_names.specs.NameFacts.{name_eq_decides}
+use Rattle.nb_table.specs.Lemmas.MapsLemmas.{and_left, and_right, and_both}
+use Rattle.nb_table.specs.Lemmas.SameLemmas.{same_kind_decides}
+use Rattle.nb_table.specs.Lemmas.SlotLemmas.{Unites, join-comm, join-assoc, join-idem, join_formed}
+use Rattle.nb_table.specs.Lemmas.CoverLemmas.{covers_unite, fit_of, agree_of, fit_left, fit_right, fit_both, fit_turned, formed_agrees, agrees_formed, together_held, one_value}
 
 pub facts_fit_of : (a b : EntryFacts) → facts_agree a b ≡ true → FactsFit a b
 facts_fit_of a b h =
     let t1 = and_right _ _ h in let t2 = and_right _ _ t1 in
     record {
       kind = (same_kind_decides a.kind b.kind).0 (and_left _ _ h);
-      source = (same_name_decides a.source b.source).0 (and_left _ _ t1);
-      destination = (same_name_decides a.destination b.destination).0 (and_left _ _ t2);
+      source = (name_eq_decides a.source b.source).0 (and_left _ _ t1);
+      destination = (name_eq_decides a.destination b.destination).0 (and_left _ _ t2);
       cover = fit_of a.cover b.cover (and_right _ _ t2);
     }
 
 pub facts_agree_of : (a b : EntryFacts) → FactsFit a b → facts_agree a b ≡ true
 facts_agree_of a b f =
     and_both _ _ ((same_kind_decides a.kind b.kind).1 f.kind)
-    (and_both _ _ ((same_name_decides a.source b.source).1 f.source)
-    (and_both _ _ ((same_name_decides a.destination b.destination).1 f.destination) (agree_of a.cover b.cover f.cover)))
+    (and_both _ _ ((name_eq_decides a.source b.source).1 f.source)
+    (and_both _ _ ((name_eq_decides a.destination b.destination).1 f.destination) (agree_of a.cover b.cover f.cover)))
 
 turned : (a b : EntryFacts) → FactsFit a b → FactsFit b a
 turned a b f = record {
@@ -80,7 +81,7 @@ pub entry_agrees : (a : EntryFacts) → AreEntryFacts a → facts_agree a a ≡ 
 entry_agrees a h = facts_agree_of a a (record { kind = refl; source = refl; destination = refl; cover = fit_of a.cover a.cover (formed_agrees a.cover h) })
 
 pub agrees_entry : (a : EntryFacts) → facts_agree a a ≡ true → AreEntryFacts a
-agrees_entry a h = (facts_fit_of a a h).cover.within
+agrees_entry a h = (facts_fit_of a a h).cover.own_below
 
 entry_slot : (e : EntryValue) → IsEntry e → OnHeld (λ a. facts_agree a a ≡ true) e
 entry_slot Spoilt f = tt
@@ -113,8 +114,8 @@ join_held a b formed kind source destination bytes ends =
       cover = record {
         bytes = λ i x y e f. one_value (maps.get a.cover.bytes i) x y e (bytes i y f);
         ends = λ m n e f. one_value a.cover.end m n e (ends n f);
-        within = λ n i x e f. formed n i x e (bytes i x f);
-        inside = λ n i x e f. formed n i x (ends n e) f;
+        own_below = λ n e. formed n (ends n e);
+        other_below = λ n e. record { bytes = λ i x f. (formed n e).bytes i x (bytes i x f) };
       };
     }))
     ∙ (λ i. Held (record { kind = a.kind; source = a.source; destination = a.destination; cover = together_held a.cover b.cover bytes ends i }))

@@ -1,38 +1,47 @@
 -- Covers agree by what look-ups find, and their union is one in the sense of SlotLemmas.
-use Rattle.std.proofs.Common.{◌≡◌, ◌<◌, ◌⊎◌, inl, inr, ℕ, true, Option, Some, None, refl, sym, ◌∙◌, ap, subst, nat_lt, Decides}
-use Rattle.std.specs.Ordering.{nat_cmp}
+use Rattle.std.proofs.Common.{◌≡◌, ◌⊎◌, inl, inr, ℕ, true, Option, Some, None, refl, sym, ◌∙◌, ap, subst, nat_lt, Decides}
 use Rattle.std.specs.Cmp.{nat_cmp_total}
+use Rattle.std.proofs.lemmas.Option.{none-some, same_Some}
 use Rattle.std.specs.FinMap as map
 use Rattle.std.specs.FinMap.{nat_cmp-IsAntisymmetric}
 use Rattle.nb_table.specs.Maps.{first_of}
-use Rattle.nb_table.specs.Cover.{CoverFacts, CoversFit, same_where, ends_agree, is_within, covers_agree, covers_together, AreCoverFacts}
-use Rattle.nb_table.proofs.MapsLemmas.{and_left, and_right, and_both, get-union, all_entries_found, all_entries_from}
-use Rattle.nb_table.proofs.SameLemmas.{eq_is, is_eq, lt_is, is_lt}
-use Rattle.nb_table.proofs.SlotLemmas.{Unites}
+use Rattle.nb_table.specs.Cover.{CoverFacts, CoversFit, LiesBelow, lies_below, is_below_end, same_where, ends_agree, covers_agree, covers_together, AreCoverFacts}
+use Rattle.nb_table.specs.Lemmas.MapsLemmas.{and_left, and_right, and_both, get-union, all_entries_found, all_entries_from}
+use Rattle.nb_table.specs.Lemmas.SameLemmas.{eq_is, is_eq, lt_is, is_lt}
+use Rattle.nb_table.specs.Lemmas.SlotLemmas.{Unites}
 
 same_at : (o : Option ℕ) (x y : ℕ) → same_where o x ≡ true → o ≡ Some y → x ≡ y
-same_at None x y h e = absurd (cc)
-same_at (Some z) x y h e = let one : z ≡ y = cc in sym (eq_is z x h) ∙ one
+same_at None x y h e = absurd (none-some y e)
+same_at (Some z) x y h e = sym (eq_is z x h) ∙ same_Some z y e
 
 at_same : (o : Option ℕ) (x : ℕ) → ((y : ℕ) → o ≡ Some y → x ≡ y) → same_where o x ≡ true
 at_same None x h = refl
 at_same (Some z) x h = is_eq z x (sym (h z refl))
 
 ends_are : (o p : Option ℕ) → ends_agree o p ≡ true → (m n : ℕ) → o ≡ Some m → p ≡ Some n → m ≡ n
-ends_are None p h m n e f = absurd (cc)
-ends_are (Some k) p h m n e f = let one : k ≡ m = cc in sym one ∙ same_at p k n h f
+ends_are None p h m n e f = absurd (none-some m e)
+ends_are (Some k) p h m n e f = sym (same_Some k m e) ∙ same_at p k n h f
 
 are_ends : (o p : Option ℕ) → ((m n : ℕ) → o ≡ Some m → p ≡ Some n → m ≡ n) → ends_agree o p ≡ true
 are_ends None p h = refl
 are_ends (Some k) p h = at_same p k (λ y e. h k y refl e)
 
-pub within_is : (o : Option ℕ) (m : map.FinMap nat_cmp ℕ) → is_within o m ≡ true → (n q x : ℕ) → o ≡ Some n → map.get m q ≡ Some x → q < n
-within_is None m h n q x e f = absurd (cc)
-within_is (Some k) m h n q x e f = let one : k ≡ n = cc in subst (λ n. q < n) one (lt_is q k (all_entries_found nat_cmp-IsAntisymmetric (λ i _. nat_lt i k) m h q x f))
+below_is : (n : ℕ) (c : CoverFacts) → lies_below n c ≡ true → LiesBelow n c
+below_is n c h = record { bytes = λ q x f. lt_is q n (all_entries_found nat_cmp-IsAntisymmetric (λ i _. nat_lt i n) c.bytes h q x f) }
 
-pub is_within_from : (o : Option ℕ) (m : map.FinMap nat_cmp ℕ) → ((n q x : ℕ) → o ≡ Some n → map.get m q ≡ Some x → q < n) → is_within o m ≡ true
-is_within_from None m h = refl
-is_within_from (Some k) m h = all_entries_from nat_cmp_total nat_cmp-IsAntisymmetric (λ i _. nat_lt i k) m (λ q x f. is_lt q k (h k q x refl f))
+is_below : (n : ℕ) (c : CoverFacts) → LiesBelow n c → lies_below n c ≡ true
+is_below n c h = all_entries_from nat_cmp_total nat_cmp-IsAntisymmetric (λ i _. nat_lt i n) c.bytes (λ q x f. is_lt q n (h.bytes q x f))
+
+pub lies_below_decides : (n : ℕ) (c : CoverFacts) → Decides (lies_below n c) (LiesBelow n c)
+lies_below_decides n c = (below_is n c, is_below n c)
+
+pub below_end_is : (o : Option ℕ) (c : CoverFacts) → is_below_end o c ≡ true → (n : ℕ) → o ≡ Some n → LiesBelow n c
+below_end_is None c h n e = absurd (none-some n e)
+below_end_is (Some k) c h n e = subst (λ n. LiesBelow n c) (same_Some k n e) (below_is k c h)
+
+pub below_end_from : (o : Option ℕ) (c : CoverFacts) → ((n : ℕ) → o ≡ Some n → LiesBelow n c) → is_below_end o c ≡ true
+below_end_from None c h = refl
+below_end_from (Some k) c h = is_below k c (h k refl)
 
 pub fit_of : (a b : CoverFacts) → covers_agree a b ≡ true → CoversFit a b
 fit_of a b h =
@@ -40,20 +49,20 @@ fit_of a b h =
     record {
       bytes = λ q x y e f. same_at (map.get b.bytes q) x y (all_entries_found nat_cmp-IsAntisymmetric (λ i v. same_where (map.get b.bytes i) v) a.bytes (and_left _ _ h) q x e) f;
       ends = ends_are a.end b.end (and_left _ _ t1);
-      within = within_is a.end b.bytes (and_left _ _ t2);
-      inside = within_is b.end a.bytes (and_right _ _ t2);
+      own_below = below_end_is b.end a (and_left _ _ t2);
+      other_below = below_end_is a.end b (and_right _ _ t2);
     }
 
 pub agree_of : (a b : CoverFacts) → CoversFit a b → covers_agree a b ≡ true
 agree_of a b f =
     and_both _ _
     (all_entries_from nat_cmp_total nat_cmp-IsAntisymmetric (λ i v. same_where (map.get b.bytes i) v) a.bytes (λ q x e. at_same (map.get b.bytes q) x (λ y g. f.bytes q x y e g)))
-    (and_both _ _ (are_ends a.end b.end f.ends) (and_both _ _ (is_within_from a.end b.bytes f.within) (is_within_from b.end a.bytes f.inside)))
+    (and_both _ _ (are_ends a.end b.end f.ends) (and_both _ _ (below_end_from b.end a f.own_below) (below_end_from a.end b f.other_below)))
 
 -- ---- what fits with the union of two
 
 first_left : (o p : Option ℕ) (n : ℕ) → o ≡ Some n → first_of o p ≡ Some n
-first_left None p n e = absurd (cc)
+first_left None p n e = absurd (none-some n e)
 first_left (Some k) p n e = e
 
 first_right : (o p : Option ℕ) → ((m n : ℕ) → o ≡ Some m → p ≡ Some n → m ≡ n) → (n : ℕ) → p ≡ Some n → first_of o p ≡ Some n
@@ -67,36 +76,46 @@ first_either (Some k) p n e = inl e
 pub in_union : (a b : CoverFacts) (q : ℕ) → map.get (covers_together a b).bytes q ≡ first_of (map.get a.bytes q) (map.get b.bytes q)
 in_union a b q = get-union nat_cmp_total nat_cmp-IsAntisymmetric a.bytes b.bytes q
 
+-- what lies below a place with the union of two does so each by itself, and the other way round
+below_left : (n : ℕ) (a b : CoverFacts) → LiesBelow n (covers_together a b) → LiesBelow n a
+below_left n a b h = record { bytes = λ q x g. h.bytes q x (in_union a b q ∙ first_left _ _ x g) }
+
+below_right : (n : ℕ) (a b : CoverFacts) → CoversFit a b → LiesBelow n (covers_together a b) → LiesBelow n b
+below_right n a b ab h = record { bytes = λ q x g. h.bytes q x (in_union a b q ∙ first_right _ _ (ab.bytes q) x g) }
+
+pub below_both : (n : ℕ) (a b : CoverFacts) → LiesBelow n a → LiesBelow n b → LiesBelow n (covers_together a b)
+below_both n a b h k = record { bytes = λ q x g. elim (first_either _ _ x (sym (in_union a b q) ∙ g)) [ inl f ↦ h.bytes q x f | inr f ↦ k.bytes q x f ] }
+
 pub fit_left : (a b c : CoverFacts) → CoversFit (covers_together a b) c → CoversFit a c
 fit_left a b c f = record {
   bytes = λ q x y e g. f.bytes q x y (in_union a b q ∙ first_left _ _ x e) g;
   ends = λ m n e g. f.ends m n (first_left _ _ m e) g;
-  within = λ n q x e g. f.within n q x (first_left _ _ n e) g;
-  inside = λ n q x e g. f.inside n q x e (in_union a b q ∙ first_left _ _ x g);
+  own_below = λ n e. below_left n a b (f.own_below n e);
+  other_below = λ n e. f.other_below n (first_left _ _ n e);
 }
 
 pub fit_right : (a b c : CoverFacts) → CoversFit a b → CoversFit (covers_together a b) c → CoversFit b c
 fit_right a b c ab f = record {
   bytes = λ q x y e g. f.bytes q x y (in_union a b q ∙ first_right _ _ (ab.bytes q) x e) g;
   ends = λ m n e g. f.ends m n (first_right _ _ ab.ends m e) g;
-  within = λ n q x e g. f.within n q x (first_right _ _ ab.ends n e) g;
-  inside = λ n q x e g. f.inside n q x e (in_union a b q ∙ first_right _ _ (ab.bytes q) x g);
+  own_below = λ n e. below_right n a b ab (f.own_below n e);
+  other_below = λ n e. f.other_below n (first_right _ _ ab.ends n e);
 }
 
 pub fit_both : (a b c : CoverFacts) → CoversFit a c → CoversFit b c → CoversFit (covers_together a b) c
 fit_both a b c ac bc = record {
   bytes = λ q x y e g. elim (first_either _ _ x (sym (in_union a b q) ∙ e)) [ inl h ↦ ac.bytes q x y h g | inr h ↦ bc.bytes q x y h g ];
   ends = λ m n e g. elim (first_either _ _ m e) [ inl h ↦ ac.ends m n h g | inr h ↦ bc.ends m n h g ];
-  within = λ n q x e g. elim (first_either _ _ n e) [ inl h ↦ ac.within n q x h g | inr h ↦ bc.within n q x h g ];
-  inside = λ n q x e g. elim (first_either _ _ x (sym (in_union a b q) ∙ g)) [ inl h ↦ ac.inside n q x e h | inr h ↦ bc.inside n q x e h ];
+  own_below = λ n e. below_both n a b (ac.own_below n e) (bc.own_below n e);
+  other_below = λ n e. elim (first_either _ _ n e) [ inl h ↦ ac.other_below n h | inr h ↦ bc.other_below n h ];
 }
 
 pub fit_turned : (a b : CoverFacts) → CoversFit a b → CoversFit b a
 fit_turned a b f = record {
   bytes = λ q x y e g. sym (f.bytes q y x g e);
   ends = λ m n e g. sym (f.ends n m g e);
-  within = f.inside;
-  inside = f.within;
+  own_below = f.other_below;
+  other_below = f.own_below;
 }
 
 -- ---- the laws of the union
@@ -147,18 +166,18 @@ covers_unite = record {
 -- ---- well formed is to agree with oneself
 
 pub one_value : (o : Option ℕ) (x y : ℕ) → o ≡ Some x → o ≡ Some y → x ≡ y
-one_value o x y e f = let both : Some x ≡ Some y = sym e ∙ f in cc
+one_value o x y e f = same_Some x y (sym e ∙ f)
 
 pub formed_agrees : (a : CoverFacts) → AreCoverFacts a → covers_agree a a ≡ true
 formed_agrees a h = agree_of a a (record {
   bytes = λ q x y e f. one_value (map.get a.bytes q) x y e f;
   ends = λ m n e f. one_value a.end m n e f;
-  within = h;
-  inside = h;
+  own_below = h;
+  other_below = h;
 })
 
 pub agrees_formed : (a : CoverFacts) → covers_agree a a ≡ true → AreCoverFacts a
-agrees_formed a h = (fit_of a a h).within
+agrees_formed a h = (fit_of a a h).own_below
 
 pub covers_agree_decides : (a b : CoverFacts) → Decides (covers_agree a b) (CoversFit a b)
 covers_agree_decides a b = (fit_of a b, agree_of a b)

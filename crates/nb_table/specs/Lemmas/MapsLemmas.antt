@@ -8,6 +8,8 @@ use Rattle.std.specs.List.{list_all, list_any}
 use Rattle.std.specs.Prelude.{T}
 use Rattle.std.specs.FinMap.{is_sorted}
 use Rattle.std.specs.FinMap.Entries.{below_all}
+use Rattle.std.proofs.lemmas.Bool.{true≢false}
+use Rattle.std.proofs.lemmas.Option.{none-some, same_Some}
 use Rattle.std.specs.FinMap as map
 use Rattle.nb_table.specs.Maps.{first_of, joined_at, joined_onto, joined_with, joined, union, with_some, at_keys}
 
@@ -15,16 +17,16 @@ use Rattle.nb_table.specs.Maps.{first_of, joined_at, joined_onto, joined_with, j
 
 pub and_left : (a b : Bool) → (a && b) ≡ true → a ≡ true
 and_left true b h = refl
-and_left false b h = absurd (cc)
+and_left false b h = absurd (true≢false (sym h))
 
 pub and_right : (a b : Bool) → (a && b) ≡ true → b ≡ true
 and_right true b h = h
-and_right false b h = absurd (cc)
+and_right false b h = absurd (true≢false (sym h))
 
 pub and_both : (a b : Bool) → a ≡ true → b ≡ true → (a && b) ≡ true
 and_both true true p q = refl
-and_both false b p q = absurd (cc)
-and_both a false p q = absurd (cc)
+and_both false b p q = absurd (true≢false (sym p))
+and_both true false p q = absurd (true≢false (sym q))
 
 -- one of two tests fails
 pub and_fails : (a b : Bool) → (a && b) ≡ false → (a ≡ false) ⊎ (b ≡ false)
@@ -34,18 +36,18 @@ and_fails false b h = inl refl
 -- ---- keys
 
 is_equal : (r : Ordering) → is_eq r ≡ true → r ≡ Equal
-is_equal Less e = absurd (cc)
+is_equal Less e = absurd (true≢false (sym e))
 is_equal Equal e = refl
-is_equal Greater e = absurd (cc)
+is_equal Greater e = absurd (true≢false (sym e))
 
 -- two keys that tie are one
 pub one_key : {K : Type 0} {R : K → K → Ordering} → map.IsAntisymmetric R → (q k : K) → eq_by_cmp R q k ≡ true → q ≡ k
 one_key {R = R} exact q k e = exact q k (is_equal (R q k) e)
 
 self_equal : (r : Ordering) → r ≡ ordering_reverse r → r ≡ Equal
-self_equal Less e = absurd (cc)
+self_equal Less e = absurd (true≢false (ap is_lt e))
 self_equal Equal e = refl
-self_equal Greater e = absurd (cc)
+self_equal Greater e = absurd (true≢false (sym (ap is_lt e)))
 
 -- a key ties with itself
 pub tied_self : {K : Type 0} {R : K → K → Ordering} → IsTotalOrder R → (q : K) → eq_by_cmp R q q ≡ true
@@ -149,11 +151,11 @@ get-at_keys {R = R} o exact f (k ∷ ks) q =
 -- ---- a test of every entry
 
 all_found : {K X : Type 0} {R : K → K → Ordering} → map.IsAntisymmetric R → (P : K → X → Bool) (es : List (K × X)) → list_all (λ e. P e.0 e.1) es ≡ true → (q : K) (x : X) → map.find R q es ≡ Some x → P q x ≡ true
-all_found exact P [] h q x e = absurd (cc)
+all_found exact P [] h q x e = absurd (none-some x e)
 all_found {R = R} exact P (e ∷ es) h q x f = step (eq_by_cmp R q e.0) refl f (all_found exact P es (and_right _ _ h) q x)
   where
     step : (b : Bool) → eq_by_cmp R q e.0 ≡ b → cond b (Some e.1) (map.find R q es) ≡ Some x → (map.find R q es ≡ Some x → P q x ≡ true) → P q x ≡ true
-    step true k f rec = let same : e.1 ≡ x = cc in subst (λ y. P q y ≡ true) same (subst (λ k. P k e.1 ≡ true) (sym (one_key exact q e.0 k)) (and_left _ _ h))
+    step true k f rec = let same = same_Some e.1 x f in subst (λ y. P q y ≡ true) same (subst (λ k. P k e.1 ≡ true) (sym (one_key exact q e.0 k)) (and_left _ _ h))
     step false k f rec = rec f
 
 lt_not_eq : (r : Ordering) → T (is_lt r) → is_eq r ≡ false
@@ -175,7 +177,7 @@ below_none R q (e ∷ es) h = ap (λ b. cond b (Some e.1) (map.find R q es)) (lt
 
 -- what is found behind an entry is found at it too
 found_later : {K X : Type 0} (R : K → K → Ordering) → map.IsAntisymmetric R → (q k : K) (v x : X) (es : List (K × X)) (b : Bool) → eq_by_cmp R q k ≡ b → map.find R k es ≡ None → map.find R q es ≡ Some x → cond b (Some v) (map.find R q es) ≡ Some x
-found_later R exact q k v x es true e none f = let same : q ≡ k = one_key exact q k e in absurd (let clash : Some x ≡ None = sym f ∙ ap (λ j. map.find R j es) same ∙ none in cc clash)
+found_later R exact q k v x es true e none f = let same : q ≡ k = one_key exact q k e in absurd (none-some x (sym none ∙ ap (λ j. map.find R j es) (sym same) ∙ f))
 found_later R exact q k v x es false e none f = f
 
 -- the first entry is found
@@ -196,7 +198,7 @@ pub record Fails {K X : Type 0} (P : K → X → Bool) (look : K → Option X) :
   pub fails : P key value ≡ false
 
 fails_from : {K X : Type 0} (R : K → K → Ordering) → IsTotalOrder R → map.IsAntisymmetric R → (P : K → X → Bool) (es : List (K × X)) → T (is_sorted R es) → list_all (λ e. P e.0 e.1) es ≡ false → Fails P (λ q. map.find R q es)
-fails_from R o exact P [] s h = absurd (cc)
+fails_from R o exact P [] s h = absurd (true≢false h)
 fails_from R o exact P (e ∷ es) s h = elim (and_fails (P e.0 e.1) _ h) [
   | inl here ↦ record { key = e.0; value = e.1; found = found_first R o e es; fails = here }
   | inr there ↦ let w = fails_from R o exact P es (T_right _ _ s) there in

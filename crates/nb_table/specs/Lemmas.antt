@@ -1,0 +1,8 @@
+-- What the laws of joins rest on. No clause cites a lemma of these files: they stand beside the definitions
+-- because the laws of a trait can cite nothing of `proofs/`.
+pub mod MapsLemmas
+pub mod SameLemmas
+pub mod SlotLemmas
+pub mod CoverLemmas
+pub mod EntryLemmas
+pub mod TableLemmas

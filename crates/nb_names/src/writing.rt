@@ -1,6 +1,6 @@
 //! Writing domain names.
 ghost use Rattle.std.specs.Prelude.{◌≡◌, IfOk};
-ghost use Rattle.nb_names.specs.DomainName.{spelling, AreBytes};
+ghost use Rattle.nb_names.specs.DomainName.{spelling};
 
 use crate::bytes::{Bytes, NoMemory};
 use crate::domain_name::DomainName;
@@ -14,8 +14,7 @@ use std::alloc::Global;
 ///
 /// RFC 1001 section 14.2.
 pub fn write_domain(alloc: Global, domain: &DomainName) -> Result<Bytes, NoMemory>
-    ensures written { IfOk result (λ bytes. bytes ≡ spelling domain.now) }
-    ensures bytes { IfOk result AreBytes }
+    ensures { IfOk result (λ bytes. bytes ≡ spelling domain.now) }
 {
     Bytes::copy(alloc, domain.spelling())
 }

@@ -9,3 +9,6 @@ mod PlainWholeLemmas
 mod PartsLemmas
 mod PiecesLemmas
 mod SenderLemmas
+mod TreeLemmas
+mod PutLemmas
+mod LimitsLemmas

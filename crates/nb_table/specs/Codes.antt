@@ -11,6 +11,7 @@ use Rattle.nb_table.specs.Slot.{Slot, Spoilt, Held}
 use Rattle.nb_table.specs.Cover.{CoverFacts, CoverValue}
 use Rattle.nb_table.specs.Entry.{EntryFacts, EntryValue}
 use Rattle.nb_table.specs.Contents.{Contents}
+use Rattle.nb_table.specs.Limits.{TableValue}
 
 -- the facts, if they are held
 abbrev pub held : {X : Type 0} → Slot X → Option X
@@ -57,3 +58,11 @@ entry_code = slot_code entry_facts_code
 -- a table as the list of its keys and entries
 abbrev pub contents_code : Coded Contents
 contents_code = maps.code key_code entry_code
+
+-- a table as the tuple of its contents and limits
+abbrev pub table_code : Coded TableValue
+table_code =
+    code_by (Contents × (ℕ × ℕ)) (coded× contents_code (coded× coded_ℕ coded_ℕ))
+    (λ t. (t.contents, (t.limits.keys, t.limits.longest)))
+    (λ p. record { contents = p.0; limits = record { keys = p.1.0; longest = p.1.1 } })
+    (λ _. refl)

@@ -6,8 +6,11 @@ pub mod Conflict
 pub mod ConflictTests
 pub mod Contents
 pub mod Join
+pub mod Places
+pub mod Limits
 pub mod Codes
 pub mod Whole
 pub mod Sender
 pub mod Plain
+pub mod FaultTexts
 pub mod Lemmas

@@ -1,0 +1,45 @@
+//! Covers: what is known of a datagram's data.
+ghost use Rattle.std.specs.Prelude.{◌≡◌, IfOk};
+ghost use Rattle.nb_datagram.specs.Fragment.{core_of};
+ghost use Rattle.nb_table.specs.Slot.{Held};
+ghost use Rattle.nb_table.specs.Cover.{cover_of};
+
+use crate::places::Places;
+use nb_datagram::Fragment;
+use nb_names::NoMemory;
+use std::alloc::Global;
+use std::marker::Model;
+
+/// The bytes that are known of a datagram's data, by place, and its end, if that is known; or
+/// clashed, by facts that contradict each other.
+#[derive(Drop)]
+pub struct Cover {
+    places: Option<Places>,
+}
+
+impl Model for Cover {
+    ghost use Rattle.nb_table.specs.Cover.{CoverValue};
+    ghost use Rattle.nb_table.specs.Codes.{slot_of, cover_code};
+
+    ghost Value = { CoverValue };
+
+    ghost coded = { cover_code };
+
+    ghost view = { λ c. slot_of c.places };
+}
+
+impl Cover {
+    /// What one fragment says of its datagram's data. Memory is taken for its bytes.
+    ///
+    /// # Errors
+    ///
+    /// `NoMemory` where memory ran out.
+    pub fn of(alloc: Global, fragment: &Fragment<'_>) -> Result<Cover, NoMemory>
+        ensures { IfOk result (λ cover. cover ≡ Held (cover_of (core_of fragment.now))) }
+    {
+        let places = Places::of(alloc, fragment)?;
+        Ok(Cover {
+            places: Some(places),
+        })
+    }
+}

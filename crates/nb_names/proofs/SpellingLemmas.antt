@@ -2,7 +2,7 @@
 use Rattle.std.proofs.Common.{◌≡◌, ℕ, ◌+◌, ◌-◌, ◌<◌, ◌≤◌, List, [], ◌∷◌, ◌++◌, length, take, drop, zero, suc, refl, ◌∙◌, ap, append_assoc, arith, length-append, append-nil, ◌⊎◌, ◌≢◌}
 use Rattle.std.specs.List.{AllByRecursion}
 use Rattle.std.proofs.Math.Seq.{take-append_seam, drop-append_seam}
-use Rattle.nb_names.specs.DomainName.{spelling, IsLabel, IsDomain}
+use Rattle.nb_names.specs.DomainName.{spelling, AreBytes, AreByteLabels, IsLabel, IsDomain}
 use Rattle.nb_names.specs.Spelled.{labels_within, labels_of, IsSpelled}
 
 -- with fuel for them all, the labels that a spelling has
@@ -86,3 +86,13 @@ pub IsDomain-rest : (ls : List (List ℕ)) (l : List ℕ) (rest : List (List ℕ
 IsDomain-rest ls l rest is d =
     let whole = rw is at d in
     record { each = whole.each.1; short = omega (arith, whole.short, length-append l (spelling rest)) }
+
+-- labels whose spelling is of bytes are of bytes
+AllByRecursion-split : (P : ℕ → Type 0) (xs ys : List ℕ) → AllByRecursion P (xs ++ ys) → AllByRecursion P xs × AllByRecursion P ys
+AllByRecursion-split P [] ys a = (tt, a)
+AllByRecursion-split P (x ∷ xs) ys a = let rest = AllByRecursion-split P xs ys a.1 in ((a.0, rest.0), rest.1)
+
+pub AreByteLabels-spelled : (ls : List (List ℕ)) → AreBytes (spelling ls) → AreByteLabels ls
+AreByteLabels-spelled [] a = tt
+AreByteLabels-spelled (l ∷ ls) a =
+    let parts = AllByRecursion-split _ l (spelling ls) a.1 in (parts.0, AreByteLabels-spelled ls parts.1)

@@ -1,13 +1,12 @@
 -- NetBIOS names: sixteen bytes and a scope (RFC 1001 section 14.1). Places in a spelling count from
 -- its first byte, which is the first label's length.
-use Rattle.std.specs.Prelude.{◌≡◌, ℕ, ◌+◌, ◌<◌, ◌≤◌, ◌^◌, ◌==◌, Bool, List, [], ◌∷◌, length, refl, ◌≢◌}
-use Rattle.std.specs.List.{AllByRecursion}
+use Rattle.std.specs.Prelude.{◌≡◌, ℕ, ◌+◌, ◌≤◌, ◌==◌, Bool, List, [], ◌∷◌, length, refl, ◌≢◌}
 use Rattle.std.specs.Ordering.{nat_cmp, on, then_cmp, eq_of_both}
 use Rattle.std.specs.Cmp.Lexicographic.{pointwise, slice_cmp}
 use Rattle.std.specs.Coded.{Coded, code_by, coded×, coded_ℕ, coded_list}
 use Rattle.std.specs.declared.cmp.Ordering.{Ordering}
 use Rattle.nb_names.specs.declared.limits.TheConstants.{NAME_LENGTH, LETTERS, MAX_SCOPE}
-use Rattle.nb_names.specs.DomainName.{spelling, IsDomain, domain_eq, domain_cmp}
+use Rattle.nb_names.specs.DomainName.{spelling, AreBytes, AreByteLabels, IsDomain, domain_eq, domain_cmp}
 use Rattle.nb_names.specs.FirstLevel.{letters, IsFirstStranger}
 
 -- a NetBIOS name: its sixteen bytes, of which the last is the suffix, and the labels of its scope
@@ -30,8 +29,12 @@ pub record IsScope (labels : List (List ℕ)) : Type 0 where
 -- a name has sixteen bytes, each of eight bits, and a scope
 pub record IsName (name : NetbiosName) : Type 0 where
   pub sixteen : length name.bytes ≡ NAME_LENGTH
-  pub each : AllByRecursion (λ byte. byte < 2 ^ 8) name.bytes
+  pub each : AreBytes name.bytes
   pub scope : IsScope name.scope
+
+-- a name whose labels are of bytes too
+abbrev pub IsByteName : NetbiosName → Type 0
+IsByteName name = IsName name × AreByteLabels name.scope
 
 -- the labels of a name: its letters, then those of its scope
 abbrev pub labels_of_name : NetbiosName → List (List ℕ)

@@ -1,5 +1,6 @@
 //! What a reading of a name's text has taken so far.
 ghost use Rattle.std.specs.Prelude.{◌≡◌, OnSome, IfNone};
+ghost use Rattle.nb_names.specs.Name.{IsByteName};
 ghost use Rattle.nb_names.specs.NameText.{name_of, FitsLimits};
 ghost use Rattle.nb_names.specs.TextSteps.{nothing_taken, takes, parts_of};
 ghost use Rattle.nb_names.specs.Collected.{taken_of, FitsSoFar};
@@ -72,6 +73,7 @@ impl Collected {
     pub(crate) fn into_name(self) -> Name
         ensures name { result ≡ name_of (parts_of (taken_of self)) }
         ensures limits { FitsLimits (parts_of (taken_of self)) }
+        ensures bytes { IsByteName result }
     {
         let mut bytes = [b' '; NAME_LENGTH];
         bytes[..self.front.len()].copy_from_slice(self.front.as_slice());

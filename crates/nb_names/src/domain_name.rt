@@ -1,10 +1,10 @@
 //! Domain names, held in place.
 ghost use Rattle.std.specs.Prelude.{◌≡◌, ◌≤◌, ◌<◌, ◌↔◌, [], ◌∷◌, length, slice_get, option_map, IsTrue, MatchOption};
-ghost use Rattle.nb_names.specs.DomainName.{spelling, IsLabel, IsDomain, Pushes};
+ghost use Rattle.nb_names.specs.DomainName.{spelling, AreBytes, AreByteLabels, IsLabel, IsDomain, Pushes};
 ghost use Rattle.nb_names.specs.declared.limits.TheConstants.{MAX_SPELLING};
 
 use crate::label_fault::LabelFault;
-use crate::labels::{count_labels, label_at, split_label};
+use crate::labels::{count_labels, each_is_a_byte, label_at, split_label};
 use crate::limits::{MAX_LABEL, MAX_SPELLING};
 use arrayvec::ArrayVec;
 use std::cmp::Ordering;
@@ -75,8 +75,12 @@ impl DomainName {
     pub fn spelling(&self) -> &[u8]
         ensures value { result.now ≡ spelling self.now }
         ensures domain { IsDomain self.now }
+        ensures bytes { AreBytes result.now }
+        ensures labels { AreByteLabels self.now }
     {
-        self.bytes.as_slice()
+        let bytes = self.bytes.as_slice();
+        each_is_a_byte(bytes);
+        bytes
     }
 
     /// How many bytes the spelling has, its zero byte included.

@@ -1,7 +1,7 @@
 //! Labels, found in the bytes that spell them.
 ghost use Rattle.std.specs.Prelude.{◌≡◌, ◌<◌, IfSome, ℕ, List, [], length, option_map, slice_get, MatchOption};
 ghost use Rattle.std.specs.List.{AllByRecursion};
-ghost use Rattle.nb_names.specs.DomainName.{spelling, IsLabel};
+ghost use Rattle.nb_names.specs.DomainName.{spelling, AreBytes, IsLabel};
 ghost use Rattle.nb_names.specs.Spelled.{BeginsWith};
 
 /// The first label of a spelling, and the spelling of the labels behind it.
@@ -46,3 +46,8 @@ pub(crate) fn count_labels(spelled: &[u8]) -> usize
     }
     count
 }
+
+/// What the type of bytes says of each. It is proved; a call does nothing.
+pub(crate) fn each_is_a_byte(bytes: &[u8])
+    ensures { AreBytes bytes.now }
+{}

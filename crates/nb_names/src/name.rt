@@ -1,9 +1,10 @@
 //! NetBIOS names.
 ghost use Rattle.std.specs.Prelude.{◌≡◌, IfOk, IfErr, IsOkAnd};
-ghost use Rattle.nb_names.specs.Name.{NetbiosName, IsName, IsUnlike, labels_of_name};
+ghost use Rattle.nb_names.specs.Name.{NetbiosName, IsName, IsByteName, IsUnlike, labels_of_name};
 
 use crate::domain_name::DomainName;
 use crate::first_level::{bytes_of, letters_of};
+use crate::labels::each_is_a_byte;
 use crate::limits::{LETTERS, NAME_LENGTH};
 use crate::scope::Scope;
 use std::cmp::Ordering;
@@ -22,13 +23,15 @@ pub struct Name {
 
 impl Model for Name {
     ghost use Rattle.std.specs.Prelude.{◌≡◌, length, refl};
-    ghost use Rattle.nb_names.specs.Name.{NetbiosName, IsScope, name_code};
+    ghost use Rattle.nb_names.specs.Name.{NetbiosName, IsByteName, name_code};
 
     ghost Value = { NetbiosName };
 
     ghost coded = { name_code };
 
     ghost view = { λ name. record { bytes = name.bytes; scope = name.scope } };
+
+    ghost invariant = { λ name. IsByteName (record { bytes = name.bytes; scope = name.scope }) };
 
     ghost inverse = { λ name. record { bytes = name.bytes; scope = name.scope } };
 
@@ -48,14 +51,18 @@ pub struct NotNetbios {
 impl Name {
     /// The name of these bytes and this scope.
     pub fn new(bytes: [u8; NAME_LENGTH], scope: Scope) -> Self
-        ensures { result ≡ record { bytes = bytes; scope = scope } }
+        ensures value { result ≡ record { bytes = bytes; scope = scope } }
+        ensures name { IsByteName result }
     {
+        each_is_a_byte(&bytes);
+        let _ = scope.as_domain();
         Name { bytes, scope }
     }
 
     /// The sixteen bytes.
     pub fn bytes(&self) -> &[u8; NAME_LENGTH]
         ensures value { result.now ≡ self.now.bytes }
+        ensures name { IsByteName self.now }
     {
         &self.bytes
     }
@@ -63,18 +70,17 @@ impl Name {
     /// The scope.
     pub fn scope(&self) -> &Scope
         ensures value { result.now ≡ self.now.scope }
+        ensures name { IsByteName self.now }
     {
         &self.scope
     }
 
     /// The same name. No memory is taken.
     pub fn copied(&self) -> Name
-        ensures { result ≡ self.now }
+        ensures value { result ≡ self.now }
+        ensures name { IsByteName result }
     {
-        Name {
-            bytes: self.bytes,
-            scope: self.scope.copied(),
-        }
+        Name::new(self.bytes, self.scope.copied())
     }
 
     /// The name's labels: the 32 letters of its bytes, then those of its scope.
@@ -95,6 +101,7 @@ impl Name {
     /// RFC 1001 section 14.1.
     pub fn from_domain(domain: &DomainName) -> Result<Name, NotNetbios>
         ensures found { IfOk result (λ name. labels_of_name name ≡ domain.now) }
+        ensures name { IfOk result IsByteName }
         ensures only { (name : NetbiosName) → IsName name → labels_of_name name ≡ domain.now →
             IsOkAnd result (λ read. read ≡ name) }
         ensures fault { IfErr result (λ fault. IsUnlike domain.now fault.place) }
@@ -106,10 +113,7 @@ impl Name {
             return Err(NotNetbios { place: 0 });
         }
         match bytes_of(first) {
-            Ok(bytes) => Ok(Name {
-                bytes,
-                scope: Scope::of_domain(rest),
-            }),
+            Ok(bytes) => Ok(Name::new(bytes, Scope::of_domain(rest))),
             Err(place) => Err(NotNetbios { place: 1 + place }),
         }
     }

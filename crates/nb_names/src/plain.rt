@@ -3,7 +3,7 @@
 //! It is for tests, and for whoever wants to see the form run. Its contract is the definition, and
 //! [`name_from_text`](crate::name_from_text) runs it.
 ghost use Rattle.std.specs.Prelude.{◌≡◌, IfOk, IfErr, IfSome, IfNone, IsOkAnd, MatchOption};
-ghost use Rattle.nb_names.specs.Name.{NetbiosName};
+ghost use Rattle.nb_names.specs.Name.{NetbiosName, IsByteName};
 ghost use Rattle.nb_names.specs.NameText.{IsText, IsFormed, IsBad, IsFaultOf};
 
 use crate::collected::Collected;
@@ -18,6 +18,7 @@ use crate::text_steps::{Event, Stage, step_of};
 /// The first that applies, in [`TextFault`]'s order.
 pub fn name_from_bytes(text: &[u8]) -> Result<Name, TextFault>
     ensures found { IfOk result (λ name. IsText name text.now) }
+    ensures name { IfOk result IsByteName }
     ensures only { (name : NetbiosName) → IsText name text.now →
         IsOkAnd result (λ read. read ≡ name) }
     ensures fault { IfErr result (IsFaultOf text.now) }
@@ -49,6 +50,7 @@ fn bad_place(text: &[u8]) -> Option<usize>
 /// The name of a text that has the form, or nothing where it passes a limit.
 fn name_within_limits(text: &[u8]) -> Option<Name>
     ensures found { IfSome result (λ name. IsText name text.now) }
+    ensures name { IfSome result IsByteName }
     ensures none { IfNone result ((name : NetbiosName) → ¬ IsText name text.now) }
 {
     let mut stage = Stage::Front;

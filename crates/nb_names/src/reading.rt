@@ -1,7 +1,7 @@
 //! Names, read where they stand in a packet.
 ghost use Rattle.std.specs.Prelude.{◌≡◌, ◌≤◌, ℕ, List, length, IfOk, IfErr, IsOkAnd};
 ghost use Rattle.nb_names.specs.Labels.{NameAt};
-ghost use Rattle.nb_names.specs.Name.{NetbiosName, IsName, labels_of_name};
+ghost use Rattle.nb_names.specs.Name.{NetbiosName, IsName, IsByteName, labels_of_name};
 ghost use Rattle.nb_names.specs.NameFaults.{FaultAt, NetbiosFaultAt};
 
 use crate::domain_name::DomainName;
@@ -82,6 +82,7 @@ pub fn read_name(packet: &[u8], at: usize, pointers: Pointers) -> Result<(Name, 
     // The labels of the name answered stand there, and a name whose labels stand there is answered.
     ensures found { IfOk result (λ read.
         NameAt packet.now pointers at (labels_of_name read.0) read.1) }
+    ensures name { IfOk result (λ read. IsByteName read.0) }
     ensures only { (name : NetbiosName) (next : ℕ) → IsName name →
         NameAt packet.now pointers at (labels_of_name name) next →
         IsOkAnd result (λ read. (read.0 ≡ name) × (read.1 ≡ next)) }

@@ -1,6 +1,6 @@
 //! Scopes of NetBIOS names.
 ghost use Rattle.std.specs.Prelude.{◌≡◌, []};
-ghost use Rattle.nb_names.specs.DomainName.{Pushes};
+ghost use Rattle.nb_names.specs.DomainName.{AreByteLabels, Pushes};
 ghost use Rattle.nb_names.specs.Name.{IsScope};
 ghost use Rattle.nb_names.specs.declared.limits.TheConstants.{MAX_SCOPE};
 
@@ -57,7 +57,9 @@ impl Scope {
     pub fn as_domain(&self) -> &DomainName
         ensures value { result.now ≡ self.now }
         ensures scope { IsScope self.now }
+        ensures labels { AreByteLabels self.now }
     {
+        let _ = self.domain.spelling();
         &self.domain
     }
 

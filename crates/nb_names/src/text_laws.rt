@@ -1,14 +1,12 @@
 //! Laws of the text of names.
 ghost use Rattle.std.specs.Prelude.{◌≡◌, List, ℕ};
-ghost use Rattle.nb_names.specs.Name.{NetbiosName, IsName};
-ghost use Rattle.nb_names.specs.DomainName.{AreByteLabels};
+ghost use Rattle.nb_names.specs.Name.{NetbiosName, IsByteName};
 ghost use Rattle.nb_names.specs.NameText.{IsText, IsFaultOf, written};
 ghost use Rattle.nb_names.specs.declared.text_fault.TextFault.{TextFault};
 
 /// Each name is the name of the text that it is written in.
 pub fn written_is_read()
-    ensures { (name : NetbiosName) → IsName name → AreByteLabels name.scope →
-        IsText name (written name) }
+    ensures { (name : NetbiosName) → IsByteName name → IsText name (written name) }
 {}
 
 /// A text is the text of one name.
@@ -18,8 +16,7 @@ pub fn one_name()
 
 /// What a text stands for is a name.
 pub fn text_has_name()
-    ensures { (text : List ℕ) (name : NetbiosName) → IsText name text →
-        IsName name × AreByteLabels name.scope }
+    ensures { (text : List ℕ) (name : NetbiosName) → IsText name text → IsByteName name }
 {}
 
 /// A text has one fault at most, and none where it is a name's.

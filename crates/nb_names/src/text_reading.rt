@@ -1,6 +1,6 @@
 //! Reading the text of a NetBIOS name.
 ghost use Rattle.std.specs.Prelude.{◌≡◌, IfOk, IfErr, IsOkAnd};
-ghost use Rattle.nb_names.specs.Name.{NetbiosName};
+ghost use Rattle.nb_names.specs.Name.{NetbiosName, IsByteName};
 ghost use Rattle.nb_names.specs.NameText.{IsText, IsFaultOf};
 
 use crate::name::Name;
@@ -23,6 +23,7 @@ use crate::text_fault::TextFault;
 /// The form is our own.
 pub fn name_from_text(text: &str) -> Result<Name, TextFault>
     ensures found { IfOk result (λ name. IsText name text.now) }
+    ensures name { IfOk result IsByteName }
     ensures only { (name : NetbiosName) → IsText name text.now →
         IsOkAnd result (λ read. read ≡ name) }
     ensures fault { IfErr result (IsFaultOf text.now) }

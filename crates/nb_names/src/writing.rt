@@ -1,6 +1,6 @@
 //! Writing domain names.
 ghost use Rattle.std.specs.Prelude.{◌≡◌, IfOk};
-ghost use Rattle.nb_names.specs.DomainName.{spelling};
+ghost use Rattle.nb_names.specs.DomainName.{spelling, AreBytes};
 
 use crate::bytes::{Bytes, NoMemory};
 use crate::domain_name::DomainName;
@@ -14,7 +14,8 @@ use std::alloc::Global;
 ///
 /// RFC 1001 section 14.2.
 pub fn write_domain(alloc: Global, domain: &DomainName) -> Result<Bytes, NoMemory>
-    ensures { IfOk result (λ bytes. bytes ≡ spelling domain.now) }
+    ensures written { IfOk result (λ bytes. bytes ≡ spelling domain.now) }
+    ensures bytes { IfOk result AreBytes }
 {
     Bytes::copy(alloc, domain.spelling())
 }

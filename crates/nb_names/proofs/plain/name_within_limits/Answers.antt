@@ -52,4 +52,4 @@ pub returns-in_default : goal.returns-in_default
 returns-in_default c =
     let t = taken_of c.loop-byte.taken in
     let bad = bad_at_end c.args.text.now c.loop-byte.byte-index c.loop-byte.stage t c.loop-byte-test.false c.loop-byte.invariant.reading (not_ended c.loop-byte.stage t c.in_default.not-Closed c.in_default.not-Label) in
-    record { found = tt; none = no_name_unformed c.args.text.now bad.0 }
+    record { found = tt; name = tt; none = no_name_unformed c.args.text.now bad.0 }

@@ -6,4 +6,4 @@ pub returns-clause-name : goal.returns-clause-name
 returns-clause-name c =
     let fits : length c.args.self.front.items ≤ 15 = omega (arith, c.as_slice.ensures.fits, ap length c.as_slice.ensures.value) in
     let front = c.copy_from_slice.ensures.after ∙ c.as_slice.ensures.value in
-    rw (c.new.ensures, c.len.ensures.value, front) (λ i. record { bytes = filled_array c.args.self.front.items c.args.self.last fits i; scope = c.args.self.scope })
+    rw (c.new.ensures.value, c.len.ensures.value, front) (λ i. record { bytes = filled_array c.args.self.front.items c.args.self.last fits i; scope = c.args.self.scope })

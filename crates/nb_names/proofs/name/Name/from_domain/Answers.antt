@@ -27,4 +27,4 @@ pub returns-in-Ok-clause-only : goal.returns-in-Ok-clause-only
 returns-in-Ok-clause-only c name formed is =
     let read : NetbiosName = record { bytes = c.in-Ok.bytes; scope = c.of_domain.result } in
     let same : labels_of_name read ≡ labels_of_name name = cc (c.in-Ok.ensures.found, c.of_domain.ensures, c.in-Some.ensures.split, is) in
-    one_name read name same
+    c.new.ensures.value ∙ one_name read name same

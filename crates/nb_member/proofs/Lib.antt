@@ -1,0 +1,4 @@
+pub mod DigitsLemmas
+pub mod WordsLemmas
+pub mod MomentLemmas
+pub mod PayloadLemmas

@@ -1,0 +1,83 @@
+-- The lines of a capture (own), each without its line feed. Numbers of bytes count from the line's
+-- first.
+--
+-- 10 is the line feed, 32 the space and 35 `#`. A moment is in milliseconds.
+use Rattle.std.specs.Prelude.{◌≡◌, ℕ, ◌<◌, ◌≤◌, ◌^◌, List, [], ◌∷◌, ◌++◌, length, codes, Contains, Option, Some, None, Result, Ok, Err}
+use Rattle.std.specs.Str.Parse.{IsNumeral, digits_value}
+use Rattle.nb_names.specs.NameText.{IsHexDigit, byte_of}
+use Rattle.nb_member.specs.declared.limits.TheConstants.{MAX_LINE, MAX_MOMENT_DIGITS}
+use Rattle.nb_member.specs.declared.line.Line.{Line}
+use Rattle.nb_member.specs.declared.line.Line.TheVariants.{Packet, Tick}
+use Rattle.nb_member.specs.declared.line_fault.LineFault.{LineFault}
+use Rattle.nb_member.specs.declared.line_fault.LineFault.TheVariants.{BadLine, NoMemory}
+
+-- ---- the words of a line
+
+-- PortText port text: the word stands for the port of a service
+pub data PortText : ℕ → List ℕ → Type 0 where
+  names : PortText 137 (codes "137")
+  datagrams : PortText 138 (codes "138")
+  sessions : PortText 139 (codes "139")
+
+-- MomentText moment text: the word is decimal digits, no more than a moment may have, that write the
+-- moment, which has 64 bits
+pub record MomentText (moment : ℕ) (text : List ℕ) : Type 0 where
+  pub digits : IsNumeral 10 text
+  pub most : length text ≤ MAX_MOMENT_DIGITS
+  pub value : moment ≡ digits_value 10 text
+  pub fits : moment < 2 ^ 64
+
+-- HexText bytes text: the text is two hexadecimal digits for each byte, in order
+pub data HexText : List ℕ → List ℕ → Type 0 where
+  no_byte : HexText [] []
+  one_more : (high low : ℕ) (bytes text : List ℕ) → IsHexDigit high → IsHexDigit low
+      → HexText bytes text → HexText (byte_of high low ∷ bytes) (high ∷ low ∷ text)
+
+-- PayloadText payload text: the word is the digits of the payload's bytes, or `empty` where it has none
+pub data PayloadText : List ℕ → List ℕ → Type 0 where
+  empty : PayloadText [] (codes "empty")
+  digits : (payload text : List ℕ) → 0 < length text → HexText payload text
+      → PayloadText payload text
+
+-- ---- lines
+
+-- Says line value: the words of the line, with one space between them, stand for this
+pub data Says : List ℕ → Line → Type 0 where
+  packet : (port moment : ℕ) (payload port_text moment_text payload_text : List ℕ)
+      → PortText port port_text → MomentText moment moment_text → PayloadText payload payload_text
+      → Says (port_text ++ 32 ∷ (moment_text ++ 32 ∷ payload_text)) (Packet port moment payload)
+  tick : (now : ℕ) (text : List ℕ) → MomentText now text → Says (codes "tick" ++ 32 ∷ text) (Tick now)
+
+-- Blank line: the line is empty, or a comment: `#` and any bytes, without a line feed
+pub data Blank : List ℕ → Type 0 where
+  nothing : Blank []
+  comment : (text : List ℕ) → ¬ Contains text 10 → Blank (35 ∷ text)
+
+-- HasValue line value: this is what the line says, and it isn't too long
+pub record HasValue (line : List ℕ) (value : Line) : Type 0 where
+  pub says : Says line value
+  pub length : length line ≤ MAX_LINE
+
+-- the line says nothing, and isn't too long
+pub record SaysNothing (line : List ℕ) : Type 0 where
+  pub blank : Blank line
+  pub length : length line ≤ MAX_LINE
+
+-- the line is none of a capture's: it neither says nothing nor has a value
+pub record IsMalformed (line : List ℕ) : Type 0 where
+  pub not_blank : ¬ SaysNothing line
+  pub no_value : (value : Line) → ¬ HasValue line value
+
+-- ReadsBy Says result: what is answered of words that say what `Says` relates them to; memory counts
+-- only where they say something
+abbrev pub ReadsBy : {A : Type 0} → (A → Type 0) → Result A LineFault → Type 0
+ReadsBy Says (Ok value) = Says value
+ReadsBy {A} Says (Err BadLine) = (value : A) → ¬ Says value
+ReadsBy {A} Says (Err NoMemory) = (value : A) × Says value
+
+-- Reads line result: what is answered of the line; memory counts only where it has a value
+abbrev pub Reads : List ℕ → Result (Option Line) LineFault → Type 0
+Reads line (Ok None) = SaysNothing line
+Reads line (Ok (Some value)) = HasValue line value
+Reads line (Err BadLine) = IsMalformed line
+Reads line (Err NoMemory) = (value : Line) × HasValue line value

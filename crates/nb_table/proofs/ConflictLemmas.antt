@@ -1,5 +1,5 @@
 -- The tests of conflict and spoiling are the relations.
-use Rattle.std.proofs.Common.{◌≡◌, ◌≢◌, ◌≤◌, ◌||◌, ◌⊎◌, inl, inr, ℕ, Bool, true, false, cond, not, List, [], ◌∷◌, Contains, filter, Option, Some, None, refl, sym, ◌∙◌, ap, subst, arith, nat_lt, Decides}
+use Rattle.std.proofs.Common.{◌≡◌, ◌≢◌, ◌≤◌, ◌↔◌, ◌||◌, ◌⊎◌, inl, inr, ℕ, Bool, true, false, cond, not, List, [], ◌∷◌, Contains, filter, Option, Some, None, refl, sym, ◌∙◌, ap, subst, arith, nat_lt, Decides}
 use Rattle.std.specs.Cmp.{nat_cmp_total}
 use Rattle.std.specs.List.{list_any}
 use Rattle.std.specs.FinMap as map
@@ -54,6 +54,13 @@ past_place f g p = found (lies_below p.end (cover_of g)) refl
     found false e =
         let w = entry_fails nat_cmp_total nat_cmp-IsAntisymmetric (λ i _. nat_lt i p.end) (cover_of g).bytes e in
         (p.end, w.key, w.value, p.ends, covers g w.key w.value w.found, not_lt w.key p.end w.fails)
+
+pub past_end_exactly : (f g : Core) → PastEnd f g ↔ ((n i x : ℕ) × EndsAt f n × Covers g i x × (n ≤ i))
+past_end_exactly f g = (past_place f g, λ w. past_from f g w.0 w.1 w.2 w.3 w.4 w.5)
+
+-- a byte exactly at an end conflicts with it
+pub at_end_conflicts : (f g : Core) (n x : ℕ) → EndsAt f n → Covers g n x → Conflict f g
+at_end_conflicts f g n x e c = past_end (past_from f g n n x e c (omega arith))
 
 clash_of_bytes : (f g : Core) → bytes_agree (cover_of f).bytes (cover_of g).bytes ≡ false → Conflict f g
 clash_of_bytes f g e =

@@ -2,6 +2,7 @@ mod PlacedLemmas
 mod ContentsLemmas
 mod OrderFreeLemmas
 mod ConflictLemmas
+mod FirstLemmas
 mod SayingLemmas
 mod WholeLemmas
 mod PlainLemmas

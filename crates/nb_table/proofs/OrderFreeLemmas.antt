@@ -1,5 +1,8 @@
 -- The set of fragments decides the table; and without a key's fragments it is the table without the key.
-use Rattle.std.proofs.Common.{◌≡◌, ◌⊎◌, inl, inr, zero, suc, Bool, true, false, cond, not, List, [], ◌∷◌, Contains, Option, Some, None, refl, sym, ◌∙◌, ap, arith}
+use Rattle.std.proofs.Common.{◌≡◌, ◌⊎◌, inl, inr, zero, suc, Bool, true, false, cond, not, List, [], ◌∷◌, Contains, Option, Some, None, refl, sym, ◌∙◌, ap, subst, arith, ◌++◌, reverse}
+use Rattle.std.proofs.lemmas.Bool.{true≢false}
+use Rattle.std.proofs.lemmas.List.{reverse-append}
+use Rattle.std.specs.Cmp.{both_ways}
 use Rattle.std.specs.FinMap as maps
 use Rattle.nb_datagram.specs.declared.key.Key.{Key}
 use Rattle.nb_datagram.specs.Key.{same_key}
@@ -7,11 +10,11 @@ use Rattle.nb_datagram.specs.Fragment.{Core}
 use Rattle.nb_table.specs.Maps.{joined_at, joined_onto}
 use Rattle.nb_table.specs.Entry.{EntryValue, join_entry, facts_of}
 use Rattle.nb_table.specs.Slot.{Held}
-use Rattle.nb_table.specs.ConflictTests.{with_key}
+use Rattle.nb_table.specs.ConflictTests.{with_key, keyed}
 use Rattle.nb_table.specs.Contents.{Contents, entry_in, table_of}
 use Rattle.nb_table.specs.Join.{join, SameCores, without_key}
 use Rattle.nb_table.specs.Lemmas.MapsLemmas.{joined-empty}
-use Rattle.nb_table.specs.Lemmas.SameLemmas.{key_cmp_total, key_cmp_exact, same_key_decides, refutes}
+use Rattle.nb_table.specs.Lemmas.SameLemmas.{key_cmp_total, key_cmp_exact, same_key_decides}
 use Rattle.nb_table.specs.Lemmas.TableLemmas.{same_table, get-join, join-comm, join-assoc, join-idem}
 use Rattle.nb_table.proofs.ContentsLemmas.{entry_in-cons, get-table_of, table_of-append, table_of_formed}
 
@@ -71,43 +74,105 @@ same_cores-same_table L M h =
     ∙ join-comm (table_of M) (table_of L)
     ∙ all_absorbed L M (λ f. (h f).0)
 
--- ---- without a key
+-- ---- turned round, and repeated
 
-kept : (k q : Key) (f : Core) (W F : List Core) (a b c : Bool) → same_key q f.key ≡ a → same_key q k ≡ b → same_key k f.key ≡ c → with_key q W ≡ cond b [] F → with_key q (cond (not c) (f ∷ W) W) ≡ cond b [] (cond a (f ∷ F) F)
-kept k q f W F true true true ea eb ec rec = rec
-kept k q f W F true false true ea eb ec rec =
-    let at : q ≡ f.key = (same_key_decides q f.key).0 ea in
-    let from : k ≡ f.key = (same_key_decides k f.key).0 ec in
-    absurd (refutes (same_key q k) (same_key_decides q k) eb (at ∙ sym from))
-kept k q f W F false true true ea eb ec rec = rec
-kept k q f W F false false true ea eb ec rec = rec
-kept k q f W F true true false ea eb ec rec =
-    let at : q ≡ f.key = (same_key_decides q f.key).0 ea in
-    let one : q ≡ k = (same_key_decides q k).0 eb in
-    absurd (refutes (same_key k f.key) (same_key_decides k f.key) ec (sym one ∙ at))
-kept k q f W F true false false ea eb ec rec = ap (λ b. cond b (f ∷ with_key q W) (with_key q W)) ea ∙ ap (λ (r : List Core). f ∷ r) rec
-kept k q f W F false b false ea eb ec rec = ap (λ b. cond b (f ∷ with_key q W) (with_key q W)) ea ∙ rec
+pub in_append : {X : Type 0} (xs ys : List X) (x : X) → Contains (xs ++ ys) x → Contains xs x ⊎ Contains ys x
+in_append [] ys x c = inr c
+in_append (z ∷ zs) ys x c = elim (in_cons z (zs ++ ys) x c) [
+  | inl e ↦ inl (subst (Contains (z ∷ zs)) e (in_first z zs))
+  | inr d ↦ elim (in_append zs ys x d) [ inl h ↦ inl (in_rest z zs x h) | inr h ↦ inr h ]
+]
 
--- what a key has of the fragments without a key's
-with-without : (k q : Key) (L : List Core) → with_key q (without_key k L) ≡ cond (same_key q k) [] (with_key q L)
-with-without k q [] = empty (same_key q k)
+pub append_front : {X : Type 0} (xs ys : List X) (x : X) → Contains xs x → Contains (xs ++ ys) x
+append_front [] ys x c = absurd (in_none x c)
+append_front (z ∷ zs) ys x c = elim (in_cons z zs x c) [
+  | inl e ↦ subst (Contains (z ∷ zs ++ ys)) e (in_first z (zs ++ ys))
+  | inr d ↦ in_rest z (zs ++ ys) x (append_front zs ys x d)
+]
+
+pub append_behind : {X : Type 0} (xs ys : List X) (x : X) → Contains ys x → Contains (xs ++ ys) x
+append_behind [] ys x c = c
+append_behind (z ∷ zs) ys x c = in_rest z (zs ++ ys) x (append_behind zs ys x c)
+
+-- the order of two lists makes no difference to what they have
+pub turned_cores : (L M : List Core) → SameCores (L ++ M) (M ++ L)
+turned_cores L M f = (turn L M, turn M L)
+  where
+    turn : (xs ys : List Core) → Contains (xs ++ ys) f → Contains (ys ++ xs) f
+    turn xs ys c = elim (in_append xs ys f c) [ inl h ↦ append_behind ys xs f h | inr h ↦ append_front ys xs f h ]
+
+pub repeated_cores : (L : List Core) → SameCores (L ++ L) L
+repeated_cores L f = (λ c. elim (in_append L L f c) [ inl h ↦ h | inr h ↦ h ], append_front L L f)
+
+reverse-cons : (f : Core) (L : List Core) → reverse (f ∷ L) ≡ reverse L ++ f ∷ []
+reverse-cons f L = reverse-append (f ∷ []) L
+
+in_reverse : (L : List Core) (f : Core) → Contains (reverse L) f → Contains L f
+in_reverse [] f c = c
+in_reverse (g ∷ gs) f c = elim (in_append (reverse gs) (g ∷ []) f (subst (λ (M : List Core). Contains M f) (reverse-cons g gs) c)) [
+  | inl h ↦ in_rest g gs f (in_reverse gs f h)
+  | inr h ↦ append_front (g ∷ []) gs f h
+]
+
+reverse_in : (L : List Core) (f : Core) → Contains L f → Contains (reverse L) f
+reverse_in [] f c = c
+reverse_in (g ∷ gs) f c = subst (λ (M : List Core). Contains M f) (sym (reverse-cons g gs)) (elim (in_cons g gs f c) [
+  | inl e ↦ append_behind (reverse gs) (g ∷ []) f (subst (Contains (g ∷ [])) e (in_first g []))
+  | inr d ↦ append_front (reverse gs) (g ∷ []) f (reverse_in gs f d)
+])
+
+pub reversed_cores : (L : List Core) → SameCores (reverse L) L
+reversed_cores L f = (in_reverse L f, reverse_in L f)
+
+-- ---- the keys that pass a test
+
+kept : (q : Key) (f : Core) (W F : List Core) (a b c : Bool) → same_key q f.key ≡ a → (a ≡ true → c ≡ b) → with_key q W ≡ cond b F [] → with_key q (cond c (f ∷ W) W) ≡ cond b (cond a (f ∷ F) F) []
+kept q f W F true true true e h rec = ap (λ b. cond b (f ∷ with_key q W) (with_key q W)) e ∙ ap (λ (r : List Core). f ∷ r) rec
+kept q f W F true true false e h rec = absurd (true≢false (sym (h refl)))
+kept q f W F true false true e h rec = absurd (true≢false (h refl))
+kept q f W F true false false e h rec = rec
+kept q f W F false b true e h rec = ap (λ b. cond b (f ∷ with_key q W) (with_key q W)) e ∙ rec
+kept q f W F false b false e h rec = rec
+
+-- what a key has of the fragments whose keys pass a test
+with-keyed : (p : Key → Bool) (q : Key) (L : List Core) → with_key q (keyed p L) ≡ cond (p q) (with_key q L) []
+with-keyed p q [] = empty (p q)
   where
     empty : (b : Bool) → ◌≡◌ {A = List Core} [] (cond b [] [])
     empty true = refl
     empty false = refl
-with-without k q (f ∷ fs) = kept k q f (without_key k fs) (with_key q fs) (same_key q f.key) (same_key q k) (same_key k f.key) refl refl refl (with-without k q fs)
+with-keyed p q (f ∷ fs) =
+    kept q f (keyed p fs) (with_key q fs) (same_key q f.key) (p q) (p f.key) refl
+    (λ e. ap p (sym ((same_key_decides q f.key).0 e))) (with-keyed p q fs)
 
-none_or : (b : Bool) (fs : List Core) → entry_in (cond b [] fs) ≡ cond b None (entry_in fs)
-none_or true fs = refl
-none_or false fs = refl
+chosen : (b : Bool) (fs : List Core) → entry_in (cond b fs []) ≡ cond b (entry_in fs) None
+chosen true fs = refl
+chosen false fs = refl
+
+pub retain-table_of : (L : List Core) (p : Key → Bool) → maps.retain_keys (table_of L) p ≡ table_of (keyed p L)
+retain-table_of L p = same_table _ _ (λ q.
+    maps.get-retain_keys (table_of L) p q (λ k e. ap p (sym (key_cmp_exact q k e)))
+    ∙ ap (λ o. cond (p q) o None) (get-table_of L q)
+    ∙ sym (chosen (p q) (with_key q L))
+    ∙ ap entry_in (sym (with-keyed p q L))
+    ∙ sym (get-table_of (keyed p L) q))
+
+-- a table without a key is the table with the other keys
+pub remove_retains : (t : Contents) (k : Key) → maps.remove t k ≡ maps.retain_keys t (λ q. not (same_key k q))
+remove_retains t k = same_table _ _ (λ q.
+    maps.get-remove key_cmp_total t k q
+    ∙ turned (same_key q k) (same_key k q) (maps.get t q) (both_ways _ _ (swapped q k) (swapped k q))
+    ∙ sym (maps.get-retain_keys t (λ q. not (same_key k q)) q (λ x e. ap (λ j. not (same_key k j)) (sym (key_cmp_exact q x e)))))
+  where
+    swapped : (a b : Key) → same_key a b ≡ true → same_key b a ≡ true
+    swapped a b h = (same_key_decides b a).1 (sym ((same_key_decides a b).0 h))
+
+    turned : (a b : Bool) (o : Option EntryValue) → a ≡ b → cond a None o ≡ cond (not b) o None
+    turned true b o e = ap (λ c. cond (not c) o None) e
+    turned false b o e = ap (λ c. cond (not c) o None) e
 
 pub remove-table_of : (L : List Core) (k : Key) → maps.remove (table_of L) k ≡ table_of (without_key k L)
-remove-table_of L k = same_table _ _ (λ q.
-    maps.get-remove key_cmp_total (table_of L) k q
-    ∙ ap (cond (same_key q k) None) (get-table_of L q)
-    ∙ sym (none_or (same_key q k) (with_key q L))
-    ∙ ap entry_in (sym (with-without k q L))
-    ∙ sym (get-table_of (without_key k L) q))
+remove-table_of L k = remove_retains (table_of L) k ∙ retain-table_of L (λ q. not (same_key k q))
 
 -- ---- one more fragment
 

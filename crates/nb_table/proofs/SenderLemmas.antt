@@ -14,7 +14,8 @@ use Rattle.nb_table.specs.Sender.{HasPartsAlone, IsOf, HasAll, Gives}
 use Rattle.nb_table.proofs.ConflictLemmas.{in_with_key, with_key_in}
 use Rattle.nb_table.proofs.SayingLemmas.{absent_exactly, spoilt_exactly, held_says}
 use Rattle.nb_table.proofs.WholeLemmas.{datagram_from}
-use Rattle.nb_table.proofs.PartsLemmas.{first_byte_from, first_end_from, first_byte_there, first_end_there, parts_not_spoilt, byte_of_parts, end_of_parts}
+use Rattle.nb_table.proofs.FirstLemmas.{first_byte_from, first_end_from, first_byte_there, first_end_there}
+use Rattle.nb_table.proofs.PartsLemmas.{parts_not_spoilt, byte_of_parts, end_of_parts}
 use Rattle.nb_table.proofs.PiecesLemmas.{pieces_alone, pieces_all}
 
 -- ---- the entry of parts

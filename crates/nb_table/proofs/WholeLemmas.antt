@@ -1,5 +1,5 @@
 -- An entry is whole exactly where it has a datagram, and which one that is.
-use Rattle.std.proofs.Common.{◌≡◌, ◌↔◌, ◌<◌, ◌≤◌, ◌+◌, ◌++◌, inl, inr, ℕ, zero, suc, List, [], ◌∷◌, length, take, slice_get, get_or, Option, Some, None, refl, sym, ◌∙◌, ap, ap₂, arith, length-append, add-one}
+use Rattle.std.proofs.Common.{◌≡◌, ◌↔◌, ◌<◌, ◌≤◌, ◌+◌, ◌++◌, inl, inr, ℕ, zero, suc, List, [], ◌∷◌, length, take, slice_get, get_or, option_and_then, Option, Some, None, refl, sym, ◌∙◌, ap, ap₂, arith, length-append, add-one}
 use Rattle.std.proofs.lemmas.Bool.{cases_lt}
 use Rattle.std.proofs.lemmas.List.{take_more, take_all}
 use Rattle.std.proofs.lemmas.Option.{slice_get-get_or}
@@ -9,7 +9,8 @@ use Rattle.nb_datagram.specs.declared.key.Key.{Key}
 use Rattle.nb_datagram.specs.Datagram.{DatagramParts}
 use Rattle.nb_table.specs.Slot.{Spoilt, Held}
 use Rattle.nb_table.specs.Entry.{EntryFacts, EntryValue}
-use Rattle.nb_table.specs.Whole.{IsWhole, with_last, bytes_below, bytes_to, datagram_with, datagram_of, IsDatagram}
+use Rattle.nb_table.specs.Contents.{Contents}
+use Rattle.nb_table.specs.Whole.{IsWhole, IsWholeAt, newly, newly_whole, datagram_at, with_last, bytes_below, bytes_to, datagram_with, datagram_of, IsDatagram}
 
 -- ---- the bytes below a place
 
@@ -145,3 +146,36 @@ whole_found k (Held e) h =
 
 pub whole_exactly : (k : Key) (e : EntryValue) → IsWhole e ↔ ((d : DatagramParts) × (datagram_of k e ≡ Some d))
 whole_exactly k e = (whole_found k e, whole_from k e)
+
+-- ---- what is newly whole
+
+at_found : (k : Key) (o : Option EntryValue) (d : DatagramParts) → option_and_then (datagram_of k) o ≡ Some d → (e : EntryValue) × (o ≡ Some e) × (datagram_of k e ≡ Some d)
+at_found k None d h = absurd (cc)
+at_found k (Some e) d h = (e, refl, h)
+
+pub whole_at_exactly : (t : Contents) (k : Key) → IsWholeAt t k ↔ ((d : DatagramParts) × (datagram_at t k ≡ Some d))
+whole_at_exactly t k = (
+  λ w. let d = whole_found k w.0 w.2 in (d.0, ap (option_and_then (datagram_of k)) w.1 ∙ d.1),
+  λ d. let w = at_found k (maps.get t k) d.0 d.1 in (w.0, w.1, whole_from k w.0 (d.0, w.2)),
+)
+
+newly_found : (o p : Option DatagramParts) (d : DatagramParts) → newly o p ≡ Some d → (o ≡ None) × (p ≡ Some d)
+newly_found None p d h = (refl, h)
+newly_found (Some x) p d h = absurd (cc)
+
+newly_from : (o p : Option DatagramParts) (d : DatagramParts) → (o ≡ None) × (p ≡ Some d) → newly o p ≡ Some d
+newly_from None p d h = h.1
+newly_from (Some x) p d h = let clash = h.0 in absurd (cc)
+
+none_whole : (t : Contents) (k : Key) → datagram_at t k ≡ None → IsWholeAt t k → ⊥
+none_whole t k h w = let d = (whole_at_exactly t k).0 w in let both : None ≡ Some d.0 = sym h ∙ d.1 in cc both
+
+whole_none : (t : Contents) (k : Key) (o : Option DatagramParts) → datagram_at t k ≡ o → (IsWholeAt t k → ⊥) → o ≡ None
+whole_none t k None h n = refl
+whole_none t k (Some d) h n = absurd (n ((whole_at_exactly t k).1 (d, h)))
+
+pub newly_exactly : (s t : Contents) (k : Key) (d : DatagramParts) → (newly_whole s t k ≡ Some d) ↔ ((IsWholeAt s k → ⊥) × (datagram_at t k ≡ Some d))
+newly_exactly s t k d = (
+  λ h. let w = newly_found (datagram_at s k) (datagram_at t k) d h in (none_whole s k w.0, w.1),
+  λ h. newly_from (datagram_at s k) (datagram_at t k) d (whole_none s k (datagram_at s k) refl h.0, h.1),
+)

@@ -1,14 +1,15 @@
--- What a list of fragments says of each key (own). Places count from the first byte of a datagram's
--- data.
-use Rattle.std.specs.Prelude.{◌≡◌, ◌++◌, ℕ, cond, List, [], ◌∷◌, map, slice_get, Option, Some, None}
+-- What a list of fragments says of each key (own): `IsTableOf` says what a list's table is, and `table_of`
+-- is that table. Places count from the first byte of a datagram's data.
+use Rattle.std.specs.Prelude.{◌≡◌, ◌≢◌, ◌++◌, ℕ, Contains, cond, List, [], ◌∷◌, map, slice_get, Option, Some, None}
 use Rattle.std.specs.FinMap as maps
 use Rattle.nb_datagram.specs.declared.key.Key.{Key}
 use Rattle.nb_datagram.specs.Key.{key_cmp}
-use Rattle.nb_datagram.specs.Fragment.{Core, byte_of, end_of_one}
+use Rattle.nb_datagram.specs.Fragment.{Core, Covers, EndsAt, byte_of, end_of_one}
 use Rattle.nb_table.specs.Maps.{first_of, at_keys}
 use Rattle.nb_table.specs.Slot.{Spoilt, Held}
 use Rattle.nb_table.specs.Cover.{CoverFacts, placed}
 use Rattle.nb_table.specs.Entry.{EntryFacts, EntryValue}
+use Rattle.nb_table.specs.Conflict.{IsSpoilt}
 use Rattle.nb_table.specs.ConflictTests.{with_key, some_conflict}
 
 -- first_byte fs i: the byte at place i of the first of these fragments that covers it
@@ -28,6 +29,48 @@ byte_at L k i = first_byte (with_key k L) i
 -- end_of L k: where the earliest fragment of the key k in L that ends does so
 abbrev pub end_of : List Core → Key → Option ℕ
 end_of L k = first_end (with_key k L)
+
+-- Says L k e: these facts are what L says of key k: the kind and names of its first fragment with that
+-- key, the byte at each place, and the end
+pub record Says (L : List Core) (k : Key) (e : EntryFacts) : Type 0 where
+  pub first : Core
+  pub is_first : slice_get (with_key k L) 0 ≡ Some first
+  pub kind : e.kind ≡ first.kind
+  pub source : e.source ≡ first.source
+  pub destination : e.destination ≡ first.destination
+  pub bytes : (i : ℕ) → maps.get e.cover.bytes i ≡ byte_at L k i
+  pub end : e.cover.end ≡ end_of L k
+
+-- a table: an entry for each key that it has
+abbrev pub Contents : Type 0
+Contents = maps.FinMap key_cmp EntryValue
+
+-- IsEntryOf L k o: o is what L says of key k: nothing, if no fragment has the key; Spoilt, if two of its
+-- fragments disagree; else what its fragments say
+abbrev pub IsEntryOf : List Core → Key → Option EntryValue → Type 0
+IsEntryOf L k None = (f : Core) → Contains L f → f.key ≢ k
+IsEntryOf L k (Some Spoilt) = IsSpoilt L k
+IsEntryOf L k (Some (Held e)) = (IsSpoilt L k → ⊥) × Says L k e
+
+-- IsTableOf L t: t has at each key what L says of it
+abbrev pub IsTableOf : List Core → Contents → Type 0
+IsTableOf L t = (k : Key) → IsEntryOf L k (maps.get t k)
+
+-- HasByte L k i x: some fragment of L with key k has the byte x at place i
+pub record HasByte (L : List Core) (k : Key) (i x : ℕ) : Type 0 where
+  pub fragment : Core
+  pub has : Contains L fragment
+  pub of_key : fragment.key ≡ k
+  pub covers : Covers fragment i x
+
+-- HasEnd L k n: some fragment of L with key k ends at n
+pub record HasEnd (L : List Core) (k : Key) (n : ℕ) : Type 0 where
+  pub fragment : Core
+  pub has : Contains L fragment
+  pub of_key : fragment.key ≡ k
+  pub ends : EndsAt fragment n
+
+-- ---- the table of a list, as a value
 
 -- the bytes of these fragments with their places, one fragment behind the other
 abbrev pub all_placed : List Core → List (ℕ × ℕ)
@@ -56,21 +99,6 @@ entry_in (f ∷ fs) = Some (cond (some_conflict (f ∷ fs)) Spoilt (Held (facts_
 -- entry_at L k: what L says of key k, if a fragment has it
 abbrev pub entry_at : List Core → Key → Option EntryValue
 entry_at L k = entry_in (with_key k L)
-
--- Says L k e: these facts are what L says of key k: the kind and names of its first fragment with that
--- key, the byte at each place, and the end
-pub record Says (L : List Core) (k : Key) (e : EntryFacts) : Type 0 where
-  pub first : Core
-  pub is_first : slice_get (with_key k L) 0 ≡ Some first
-  pub kind : e.kind ≡ first.kind
-  pub source : e.source ≡ first.source
-  pub destination : e.destination ≡ first.destination
-  pub bytes : (i : ℕ) → maps.get e.cover.bytes i ≡ byte_at L k i
-  pub end : e.cover.end ≡ end_of L k
-
--- a table: an entry for each key that it has
-abbrev pub Contents : Type 0
-Contents = maps.FinMap key_cmp EntryValue
 
 -- the table of a list: an entry for each key that one of its fragments has
 abbrev pub table_of : List Core → Contents

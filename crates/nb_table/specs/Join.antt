@@ -1,11 +1,12 @@
 -- Tables, joined (own).
-use Rattle.std.specs.Prelude.{◌≡◌, ◌↔◌, not, List, filter, Some, Contains}
+use Rattle.std.specs.Prelude.{◌≡◌, ◌↔◌, not, List, Some, Contains}
 use Rattle.std.specs.FinMap as maps
 use Rattle.nb_datagram.specs.declared.key.Key.{Key}
 use Rattle.nb_datagram.specs.Key.{same_key}
 use Rattle.nb_datagram.specs.Fragment.{Core}
 use Rattle.nb_table.specs.Maps.{joined}
 use Rattle.nb_table.specs.Entry.{EntryValue, IsEntry, join_entry}
+use Rattle.nb_table.specs.ConflictTests.{keyed}
 use Rattle.nb_table.specs.Contents.{Contents}
 
 -- the join of two tables: the keys of either; at a key of both, the join of the entries
@@ -22,4 +23,4 @@ SameCores L M = (f : Core) → (Contains L f ↔ Contains M f)
 
 -- without_key k L: the fragments of L whose key isn't k, in order
 abbrev pub without_key : Key → List Core → List Core
-without_key k = filter (λ f. not (same_key k f.key))
+without_key k = keyed (λ q. not (same_key k q))

@@ -9,16 +9,24 @@ mod gathering;
 mod joining;
 mod parts;
 
-pub use completing::{datagram_has_the_bytes_of_its_entry, whole_entries_have_a_datagram};
+pub use completing::{
+    datagram_has_the_bytes_of_its_entry, newly_whole_is_whole_and_was_not,
+    whole_entries_have_a_datagram, whole_keys_have_a_datagram,
+};
 pub use conflicting::{
-    byte_is_that_which_covers, conflict_test_is_the_relation, cover_agreement_is_the_relation,
-    end_is_where_it_ends, entry_agreement_is_the_relation, spoilt_test_is_the_relation,
+    a_byte_at_an_end_conflicts, byte_is_that_which_covers, conflict_test_is_the_relation,
+    cover_agreement_is_the_relation, end_is_where_it_ends, entry_agreement_is_the_relation,
+    past_an_end_a_place_is_covered, spoilt_test_is_the_relation,
 };
 pub use gathering::{
-    dropping_a_key_drops_its_fragments, same_cores_make_the_same_table,
+    dropping_a_key_drops_its_fragments, keeping_keys_keeps_their_fragments,
+    lists_repeated_have_the_same_cores, lists_swapped_have_the_same_cores,
+    lists_turned_round_have_the_same_cores, same_cores_make_the_same_table,
+    table_has_the_bytes_of_its_fragments, table_has_the_ends_of_its_fragments,
     table_has_the_entry_of_its_list, table_holds_what_its_list_says,
     table_is_spoilt_where_fragments_disagree, table_lacks_the_keys_of_no_fragment,
-    table_of_a_list_is_well_formed, table_of_two_lists_is_the_join,
+    table_of_a_list_is_its_table, table_of_a_list_is_the_only_one, table_of_a_list_is_well_formed,
+    table_of_two_lists_is_the_join,
 };
 pub use joining::{
     cover_join_is_associative, cover_join_is_commutative, cover_join_is_idempotent,

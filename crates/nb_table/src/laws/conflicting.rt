@@ -1,12 +1,11 @@
 //! The tests by which tables are defined are the relations that say what they mean.
-ghost use Rattle.std.specs.Prelude.{◌≡◌, ◌↔◌, ℕ, Some, IsTrue};
+ghost use Rattle.std.specs.Prelude.{◌≡◌, ◌↔◌, ◌≤◌, ℕ, List, Some, IsTrue};
 ghost use Rattle.nb_datagram.specs.declared.key.Key.{Key};
 ghost use Rattle.nb_datagram.specs.Fragment.{Core, Covers, EndsAt, byte_of, end_of_one};
 ghost use Rattle.nb_table.specs.Cover.{CoverFacts, CoversFit, covers_agree};
 ghost use Rattle.nb_table.specs.Entry.{EntryFacts, FactsFit, facts_agree};
-ghost use Rattle.nb_table.specs.Conflict.{Conflict, IsSpoilt};
+ghost use Rattle.nb_table.specs.Conflict.{PastEnd, Conflict, IsSpoilt};
 ghost use Rattle.nb_table.specs.ConflictTests.{conflicts, is_spoilt};
-ghost use Rattle.std.specs.Prelude.{List};
 
 /// A fragment has a byte at a place exactly where it covers the place with that byte.
 pub fn byte_is_that_which_covers()
@@ -16,6 +15,17 @@ pub fn byte_is_that_which_covers()
 /// A fragment has an end exactly where it ends there.
 pub fn end_is_where_it_ends()
     ensures { (f : Core) (n : ℕ) → (end_of_one f ≡ Some n) ↔ EndsAt f n }
+{}
+
+/// A fragment passes the end of another exactly where it covers a place at or past that end.
+pub fn past_an_end_a_place_is_covered()
+    ensures { (f g : Core) →
+        PastEnd f g ↔ ((n i x : ℕ) × EndsAt f n × Covers g i x × (n ≤ i)) }
+{}
+
+/// A fragment that covers the very place at which another ends contradicts it.
+pub fn a_byte_at_an_end_conflicts()
+    ensures { (f g : Core) (n x : ℕ) → EndsAt f n → Covers g n x → Conflict f g }
 {}
 
 /// Two fragments fail the test of agreement exactly where they contradict each other.

@@ -1,0 +1,5 @@
+use Rattle.nb_table.proofs.ConflictLemmas.{at_end_conflicts}
+use Rattle.nb_table.proofs.laws.conflicting.a_byte_at_an_end_conflicts.Goals as goal
+
+pub returns : goal.returns
+returns c = at_end_conflicts

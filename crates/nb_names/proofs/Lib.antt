@@ -6,8 +6,11 @@ pub mod NameLemmas
 pub mod LabelsLemmas
 pub mod FaultLemmas
 pub mod ReadingLemmas
+pub mod TotalityLemmas
+pub mod OtherWordsLemmas
 pub mod TextRunLemmas
 pub mod TextReachLemmas
 pub mod FrontLemmas
 pub mod PartsLemmas
+pub mod TextTotalityLemmas
 pub mod WrittenLemmas

@@ -1,11 +1,26 @@
 //! Laws of the definitions that the contracts cite. Each is proved; a call does nothing.
-ghost use Rattle.std.specs.Prelude.{◌≡◌, ℕ, ◌+◌, List, ◌++◌, length};
+ghost use Rattle.std.specs.Prelude.{◌≡◌, ◌≢◌, ◌↔◌, ◌⊎◌, ℕ, ◌+◌, ◌*◌, ◌/◌, ◌%◌, ◌<◌, List, ◌∷◌, ◌++◌, length, slice_index};
+ghost use Rattle.std.specs.List.{sum_by};
+ghost use Rattle.std.specs.Int.{w16, to_be_bytes};
 ghost use Rattle.nb_names.specs.declared.fault.NameFault.{NameFault};
+ghost use Rattle.nb_names.specs.declared.fault.NameFault.TheVariants.{Truncated};
+ghost use Rattle.nb_names.specs.declared.limits.TheConstants.{MAX_LABEL, MAX_SPELLING, MAX_SCOPE, NAME_LENGTH, FRONT_LENGTH, LETTERS};
 ghost use Rattle.nb_names.specs.declared.pointers.Pointers.{Pointers};
-ghost use Rattle.nb_names.specs.DomainName.{spelling, IsDomain};
-ghost use Rattle.nb_names.specs.Labels.{NameAt};
-ghost use Rattle.nb_names.specs.Name.{NetbiosName, IsName, labels_of_name};
+ghost use Rattle.nb_names.specs.DomainName.{spelling, AreBytes, IsDomain};
+ghost use Rattle.nb_names.specs.FirstLevel.{letters, IsLetter};
+ghost use Rattle.nb_names.specs.Labels.{NameAt, pointer_bytes};
+ghost use Rattle.nb_names.specs.Name.{NetbiosName, IsName, IsScope, IsUnlike, labels_of_name};
 ghost use Rattle.nb_names.specs.NameFaults.{FaultAt, NetbiosFaultAt};
+
+/// The limits that the definitions cite, as numbers.
+pub fn numbers()
+    ensures label { MAX_LABEL ≡ 63 }
+    ensures spelling { MAX_SPELLING ≡ 255 }
+    ensures scope { MAX_SCOPE ≡ 222 }
+    ensures bytes { NAME_LENGTH ≡ 16 }
+    ensures front { FRONT_LENGTH ≡ 15 }
+    ensures letters { LETTERS ≡ 32 }
+{}
 
 /// Where labels stand they make a domain name, and no other labels and no other offset stand there.
 pub fn one_reading()
@@ -45,4 +60,64 @@ pub fn spelling_is_read()
         IsDomain labels →
         NameAt (front ++ (spelling labels ++ rest)) pointers (length front)
         labels (length front + length (spelling labels)) }
+{}
+
+/// At each offset of a packet labels stand or there is a fault, for domain names and for NetBIOS
+/// names. By [`one_fault`] and [`one_netbios_fault`] it is never both.
+pub fn name_or_fault()
+    ensures domain { (packet : List ℕ) (pointers : Pointers) (at : ℕ) → AreBytes packet →
+        ((labels : List (List ℕ)) × (next : ℕ) × NameAt packet pointers at labels next)
+        ⊎ ((fault : NameFault) × FaultAt packet pointers at fault) }
+    ensures netbios { (packet : List ℕ) (pointers : Pointers) (at : ℕ) → AreBytes packet →
+        ((name : NetbiosName) × (next : ℕ) × IsName name
+        × NameAt packet pointers at (labels_of_name name) next)
+        ⊎ ((fault : NameFault) × NetbiosFaultAt packet pointers at fault) }
+{}
+
+/// Bytes behind a packet change neither a name that stands in it nor a fault, unless that was that
+/// bytes are missing.
+pub fn more_behind()
+    ensures name { (packet more : List ℕ) (pointers : Pointers) (at : ℕ)
+        (labels : List (List ℕ)) (next : ℕ) →
+        NameAt packet pointers at labels next → NameAt (packet ++ more) pointers at labels next }
+    ensures fault { (packet more : List ℕ) (pointers : Pointers) (at : ℕ) (fault : NameFault) →
+        FaultAt packet pointers at fault → ((count : ℕ) → fault ≢ Truncated count) →
+        FaultAt (packet ++ more) pointers at fault }
+{}
+
+/// A pointer is its offset plus c000, as a number of two bytes.
+pub fn pointer_is_a_number()
+    ensures { (target : ℕ) → target < 16384 →
+        pointer_bytes target ≡ to_be_bytes w16 (49152 + target) }
+{}
+
+/// A spelling has a byte more than its labels, each with its length byte.
+pub fn spelled_length()
+    ensures { (labels : List (List ℕ)) →
+        length (spelling labels) ≡ 1 + sum_by (λ label. 1 + length label) labels }
+{}
+
+/// A scope is the labels that make a domain name with 32 bytes before them.
+pub fn scope_has_room()
+    ensures { (first : List ℕ) (labels : List (List ℕ)) → length first ≡ 32 →
+        IsScope labels ↔ IsDomain (first ∷ labels) }
+{}
+
+/// The letters of a byte, by its place: the one of its high half, and then that of its low half,
+/// counted from `A`, which is 65.
+pub fn letters_by_place()
+    ensures count { (bytes : List ℕ) → length (letters bytes) ≡ 2 * length bytes }
+    ensures high { (bytes : List ℕ) (place : ℕ) → place < length bytes →
+        slice_index (letters bytes) (2 * place) ≡ 65 + slice_index bytes place / 16 }
+    ensures low { (bytes : List ℕ) (place : ℕ) → place < length bytes →
+        slice_index (letters bytes) (2 * place + 1) ≡ 65 + slice_index bytes place % 16 }
+{}
+
+/// At a place above 0 that is answered for labels that are no name's, the byte of their spelling
+/// is no letter, and those between the length byte and it are.
+pub fn place_in_spelling()
+    ensures there { (labels : List (List ℕ)) (place : ℕ) → IsUnlike labels place → 0 < place →
+        ¬ IsLetter (slice_index (spelling labels) place) }
+    ensures before { (labels : List (List ℕ)) (place before : ℕ) → IsUnlike labels place →
+        0 < before → before < place → IsLetter (slice_index (spelling labels) before) }
 {}

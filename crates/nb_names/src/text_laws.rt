@@ -1,7 +1,7 @@
 //! Laws of the text of names.
-ghost use Rattle.std.specs.Prelude.{◌≡◌, List, ℕ};
+ghost use Rattle.std.specs.Prelude.{◌≡◌, ◌≢◌, ◌↔◌, ◌⊎◌, ◌≤◌, IsTrue, List, ℕ};
 ghost use Rattle.nb_names.specs.Name.{NetbiosName, IsByteName};
-ghost use Rattle.nb_names.specs.NameText.{IsText, IsFaultOf, written};
+ghost use Rattle.nb_names.specs.NameText.{IsText, IsFaultOf, is_plain, written};
 ghost use Rattle.nb_names.specs.declared.text_fault.TextFault.{TextFault};
 
 /// Each name is the name of the text that it is written in.
@@ -25,4 +25,16 @@ pub fn one_text_fault()
         IsFaultOf text a → IsFaultOf text b → a ≡ b }
     ensures none { (text : List ℕ) (name : NetbiosName) (fault : TextFault) →
         IsText name text → ¬ IsFaultOf text fault }
+{}
+
+/// Each text is a name's or has a fault. By [`one_text_fault`] it is never both.
+pub fn text_or_fault()
+    ensures { (text : List ℕ) → ((name : NetbiosName) × IsText name text)
+        ⊎ ((fault : TextFault) × IsFaultOf text fault) }
+{}
+
+/// The bytes that stand for themselves are 21 to 7e in hexadecimal, but `.`, `<`, `>` and `\`.
+pub fn plain_bytes()
+    ensures { (byte : ℕ) → IsTrue (is_plain byte) ↔ ((33 ≤ byte) × (byte ≤ 126)
+        × (byte ≢ 46) × (byte ≢ 60) × (byte ≢ 62) × (byte ≢ 92)) }
 {}

@@ -6,3 +6,7 @@ pub mod Reading
 pub mod Building
 pub mod Flags
 pub mod FaultTexts
+pub mod Encoding
+pub mod Views
+pub mod Pieces
+pub mod Requests

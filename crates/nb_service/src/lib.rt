@@ -1,15 +1,21 @@
-//! Name service packets: the packets of port 137, decoded.
+//! Name service packets: the packets of port 137, decoded, built and encoded.
 #![tactic(auto)]
 
+mod address_entries;
+mod address_entry;
 mod checking;
 pub mod classes;
 mod decoding;
+mod encoding;
 mod fault;
+mod flags;
 mod header;
 pub mod kinds;
 pub mod laws;
 pub mod limits;
 mod listing;
+mod node_name;
+mod node_status;
 mod packet;
 mod push_fault;
 mod question;
@@ -18,10 +24,18 @@ mod rdata;
 mod reading;
 mod record;
 mod records;
+mod requests;
 mod section;
+mod writing;
 
+pub use address_entries::AddressEntries;
+pub use address_entry::AddressEntry;
 pub use decoding::decode;
+pub use encoding::encode;
 pub use fault::ServiceFault;
+pub use flags::{NmFlags, NodeFlags, ont};
+pub use node_name::NodeName;
+pub use node_status::NodeStatus;
 pub use packet::Packet;
 pub use push_fault::PushFault;
 pub use question::Question;
@@ -29,6 +43,7 @@ pub use questions::Questions;
 pub use rdata::Rdata;
 pub use record::{Record, RecordFault};
 pub use records::Records;
+pub use requests::{node_status_request, query, refresh, registration, release};
 pub use section::Section;
 
 #[cfg(test)]

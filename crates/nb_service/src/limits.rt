@@ -9,3 +9,12 @@ pub const MAX_ENTRIES: usize = 65_535;
 
 /// The longest RDATA, in bytes: RDLENGTH has 16 bits (RFC 1002 section 4.2.1.3).
 pub const MAX_RDATA: usize = 65_535;
+
+/// An entry of NB_FLAGS and an address, in bytes (RFC 1002 section 4.2.13).
+pub const ENTRY_LENGTH: usize = 6;
+
+/// One of a node's names with its flags, in bytes (RFC 1002 section 4.2.18).
+pub const NODE_NAME_LENGTH: usize = 18;
+
+/// UNIT_ID, in bytes (RFC 1002 section 4.2.18).
+pub const UNIT_ID_LENGTH: usize = 6;

@@ -2,8 +2,9 @@
 ghost use Rattle.std.specs.Prelude.{◌≡◌, ◌≤◌, ◌↔◌, length, OnOk, OnErr, IsErrOf};
 ghost use Rattle.nb_service.specs.Building.{packet_of, empty_packet, IsCounted};
 ghost use Rattle.nb_service.specs.Building.{with_question, with_record, section_of, IsFull};
-ghost use Rattle.nb_service.specs.Flags.{opcode_of, rcode_of};
+ghost use Rattle.nb_service.specs.Flags.{opcode_of, rcode_of, nm_bits, nm_bits_of};
 
+use crate::flags::{NmFlags, nm_flags_of};
 use crate::limits::MAX_ENTRIES;
 use crate::push_fault::PushFault;
 use crate::question::Question;
@@ -104,6 +105,15 @@ impl<'a> Packet<'a> {
         ensures { result ≡ rcode_of self.now.word }
     {
         (self.word & 0xf) as u8
+    }
+
+    /// The flags AA, TC, RD, RA and B of NM_FLAGS, without its reserved bits.
+    ///
+    /// RFC 1002 section 4.2.1.1.
+    pub fn nm_flags(&self) -> NmFlags
+        ensures { nm_bits result ≡ nm_bits_of self.now.word }
+    {
+        nm_flags_of(self.word)
     }
 
     /// The questions.

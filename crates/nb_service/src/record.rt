@@ -1,9 +1,13 @@
 //! Resource records.
-ghost use Rattle.std.specs.Prelude.{◌≡◌, ◌≢◌, ◌<◌, ◌↔◌, length, IfOk, IsErrOf};
+ghost use Rattle.std.specs.Prelude.{◌≡◌, ◌≢◌, ◌<◌, ◌↔◌, ℕ, List, length, IfOk, IsErrOf, MatchOption};
+ghost use Rattle.std.specs.List.{flat_map};
 ghost use Rattle.nb_service.specs.Record.{octets, target, record_of, data_of, IsDataOf};
+ghost use Rattle.nb_service.specs.Views.{HasEntries, HasStatus, entry_bytes, after_count};
 
-use crate::kinds::NS;
-use crate::limits::MAX_RDATA;
+use crate::address_entries::AddressEntries;
+use crate::kinds::{NB, NBSTAT, NS};
+use crate::limits::{ENTRY_LENGTH, MAX_RDATA, NODE_NAME_LENGTH};
+use crate::node_status::NodeStatus;
 use crate::rdata::Rdata;
 use nb_names::DomainName;
 use std::marker::Model;
@@ -123,6 +127,50 @@ impl<'a> Record<'a> {
         ensures { result ≡ self.now.ttl }
     {
         self.ttl
+    }
+
+    /// The RDATA of bytes of a record of this kind.
+    fn bytes_of_kind(&self, kind: u16) -> Option<&'a [u8]>
+        ensures { MatchOption result
+            ((bytes : List ℕ) → self.now.kind ≡ kind → self.now.rdata ≢ octets bytes)
+            (λ bytes. (self.now.kind ≡ kind) × (self.now.rdata ≡ octets bytes.now)) }
+    {
+        match &self.rdata {
+            Rdata::Bytes(bytes) if self.kind == kind => Some(*bytes),
+            _ => None,
+        }
+    }
+
+    /// The addresses of a NetBIOS name.
+    ///
+    /// None where the kind isn't NB, and where the RDATA isn't entries of six bytes alone.
+    /// RFC 1002 section 4.2.13.
+    pub fn address_entries(&self) -> Option<AddressEntries<'a>>
+        ensures { MatchOption result ((bytes : List ℕ) → ¬ HasEntries self.now bytes)
+            (λ entries. HasEntries self.now (flat_map entry_bytes entries)) }
+    {
+        let bytes = self.bytes_of_kind(NB)?;
+        if bytes.len() % ENTRY_LENGTH != 0 {
+            return None;
+        }
+        Some(AddressEntries::of_bytes(bytes))
+    }
+
+    /// The names of a node, and its statistics.
+    ///
+    /// None where the kind isn't NBSTAT, and where the RDATA has less than NUM_NAMES promises.
+    /// RFC 1002 section 4.2.18.
+    pub fn node_status(&self) -> Option<NodeStatus<'a>>
+        ensures { MatchOption result ((count : ℕ) (rest : List ℕ) → ¬ HasStatus self.now count rest)
+            (λ status. HasStatus self.now (length status.names) (after_count status)) }
+    {
+        let bytes = self.bytes_of_kind(NBSTAT)?;
+        let (count, rest) = bytes.split_first()?;
+        let size = NODE_NAME_LENGTH * *count as usize;
+        if rest.len() < size {
+            return None;
+        }
+        Some(NodeStatus::of_parts(&rest[..size], &rest[size..]))
     }
 
     /// The RDATA, a domain name exactly where the kind is NS.

@@ -1,0 +1,6 @@
+use Rattle.std.proofs.Common.{sym}
+use Rattle.nb_service.proofs.PiecesLemmas.{length-entries_of}
+use Rattle.nb_service.proofs.address_entries.AddressEntries.len.Goals as goal
+
+pub returns : goal.returns
+returns c = rw (← c.self.view_is) (sym (length-entries_of _))

@@ -1,0 +1,55 @@
+//! Lists of addresses, as they stand in RDATA.
+ghost use Rattle.std.specs.Prelude.{◌≡◌, ◌%◌, length, slice_get};
+ghost use Rattle.std.specs.List.{flat_map};
+ghost use Rattle.nb_service.specs.Views.{entry_bytes};
+ghost use Rattle.nb_service.specs.declared.limits.TheConstants.{ENTRY_LENGTH};
+
+use crate::address_entry::AddressEntry;
+use crate::limits::ENTRY_LENGTH;
+use std::marker::Model;
+
+/// The addresses of a NetBIOS name, which are read from RDATA where it stands.
+#[derive(Debug, Drop)]
+pub struct AddressEntries<'a> {
+    bytes: &'a [u8],
+}
+
+impl<'a> Model for AddressEntries<'a> {
+    ghost use Rattle.std.specs.Prelude.{List};
+    ghost use Rattle.nb_service.specs.declared.address_entry.AddressEntry.{AddressEntry};
+    ghost use Rattle.nb_service.specs.Pieces.{entries_of};
+
+    ghost Value = { List AddressEntry };
+
+    ghost view = { λ entries. entries_of entries.bytes.now };
+}
+
+impl<'a> AddressEntries<'a> {
+    /// The entries that these bytes are, one behind the other.
+    pub(crate) fn of_bytes(bytes: &'a [u8]) -> Self
+        requires { length bytes.now % ENTRY_LENGTH ≡ 0 }
+        ensures { flat_map entry_bytes result ≡ bytes.entry.now }
+    {
+        AddressEntries { bytes }
+    }
+
+    /// How many entries there are.
+    pub fn len(&self) -> usize
+        ensures { result ≡ length self.now }
+    {
+        self.bytes.len() / ENTRY_LENGTH
+    }
+
+    /// The entry at a place, counted from 0.
+    pub fn get(&self, place: usize) -> Option<AddressEntry>
+        ensures { result ≡ slice_get self.now place }
+    {
+        if place >= self.bytes.len() / ENTRY_LENGTH {
+            return None;
+        }
+        let at = ENTRY_LENGTH * place;
+        let mut bytes = [0; ENTRY_LENGTH];
+        bytes.copy_from_slice(&self.bytes[at..at + ENTRY_LENGTH]);
+        Some(AddressEntry::of_bytes(&bytes))
+    }
+}

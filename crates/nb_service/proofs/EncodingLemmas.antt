@@ -1,5 +1,5 @@
 -- The bytes of a packet are read as that packet, whatever follows them.
-use Rattle.std.proofs.Common.{◌≡◌, ◌==◌, ℕ, ◌+◌, ◌<◌, ◌≤◌, ◌^◌, Bool, true, false, if◌then◌else◌, List, [], ◌∷◌, ◌++◌, length, take, drop, refl, ap, sym, subst, ◌∙◌, arith, length-append}
+use Rattle.std.proofs.Common.{◌≡◌, ℕ, ◌+◌, ◌<◌, ◌≤◌, ◌^◌, Bool, true, false, if◌then◌else◌, List, [], ◌∷◌, ◌++◌, length, take, drop, refl, ap, sym, subst, ◌∙◌, arith, length-append}
 use Rattle.std.proofs.lemmas.List.{take-append-drop, length-take-le, take_at}
 use Rattle.std.specs.Int.{w16, w32, to_be_bytes}
 use Rattle.std.specs.List.{AllByRecursion, flat_map}
@@ -10,11 +10,10 @@ use Rattle.nb_names.specs.DomainName.{spelling, domain_eq, IsDomain}
 use Rattle.nb_names.specs.Labels.{StandsAt, pointer_bytes, NameAt, leads_to}
 use Rattle.nb_service.specs.declared.limits.TheConstants.{HEADER_LENGTH}
 use Rattle.nb_service.specs.declared.question.Question.{Question}
-use Rattle.nb_names.specs.Numbers.{NumberAt}
 use Rattle.nb_service.specs.Header.{PacketHeader, HasHeader}
 use Rattle.nb_service.specs.Record.{ResourceData, octets, target, ResourceRecord, IsDataOf}
 use Rattle.nb_service.specs.Packet.{QuestionAt, DataAt, bytes, domain, RecordAt, Row, none, more, ServicePacket, header_of, records_of, IsPacket}
-use Rattle.nb_service.specs.Encoding.{header_bytes, question_bytes, is_pointed, name_bytes, rdata_bytes, record_bytes, packet_bytes, IsQuestion, IsNamedData, IsRecord, IsWritable}
+use Rattle.nb_service.specs.Encoding.{header_bytes, question_bytes, name_bytes, rdata_bytes, record_bytes, packet_bytes, IsQuestion, IsNamedData, IsRecord, IsWritable}
 use Rattle.nb_names.specs.PacketFacts.{stands_fits}
 use Rattle.nb_service.proofs.StandingLemmas.{stands_before, stands_after}
 
@@ -193,10 +192,10 @@ packet_there same law p rest d =
     record {
       behind = behind;
       header = header_there b (header_of p) d.id d.word (omega (arith, d.counted.questions)) (omega (arith, d.counted.answers)) (omega (arith, d.counted.authorities)) (omega (arith, d.counted.additional))
-        (stands_before b 0 front (qs ++ rs) whole);
+          (stands_before b 0 front (qs ++ rs) whole);
       questions = row_there (QuestionAt b) question_bytes IsQuestion b 0 (λ at q le i h. question_there b read at q i h) HEADER_LENGTH p.questions (omega arith) d.questions questions;
       records = subst (λ (n : ℕ). Row (RecordAt b) behind (records_of p) n) long
-        (row_there (RecordAt b) (record_bytes p.questions) IsRecord b behind (λ at r le i h. record_there same b read behind p.questions first at r le i h) behind (records_of p) (omega arith) d.records records);
+          (row_there (RecordAt b) (record_bytes p.questions) IsRecord b behind (λ at r le i h. record_there same b read behind p.questions first at r le i h) behind (records_of p) (omega arith) d.records records);
     }
 
 pub all_append : {A : Type 0} (P : A → Type 0) (xs ys : List A) → AllByRecursion P xs → AllByRecursion P ys → AllByRecursion P (xs ++ ys)

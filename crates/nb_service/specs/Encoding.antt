@@ -3,7 +3,7 @@
 -- Own: a record's name that has a label and is the first question's is written as a pointer to where
 -- that name stands, at the first offset after the header. All other names are spelled, also the one in
 -- the RDATA of a record of kind NS.
-use Rattle.std.specs.Prelude.{ℕ, ◌<◌, ◌≤◌, ◌^◌, Bool, false, List, [], ◌∷◌, ◌++◌, length, if◌then◌else◌}
+use Rattle.std.specs.Prelude.{ℕ, ◌<◌, ◌^◌, Bool, false, List, [], ◌∷◌, ◌++◌, length, if◌then◌else◌}
 use Rattle.std.specs.Int.{w16, w32, to_be_bytes}
 use Rattle.std.specs.List.{AllByRecursion, flat_map}
 use Rattle.nb_names.specs.DomainName.{spelling, domain_eq, IsDomain}

@@ -94,10 +94,7 @@ fn write_record(
 }
 
 /// Writes questions, one behind the other.
-pub(crate) fn write_questions(
-    bytes: &mut Vec<u8>,
-    questions: &[Question],
-) -> Result<(), NoMemory>
+pub(crate) fn write_questions(bytes: &mut Vec<u8>, questions: &[Question]) -> Result<(), NoMemory>
     ensures written { OnOk result
         (bytes.new.items ≡ bytes.old.items ++ flat_map question_bytes questions.now) }
     ensures formed { OnOk result (AllByRecursion IsQuestion questions.now) }

@@ -1,7 +1,7 @@
 //! Packets built part by part.
 
-use crate::tests::decoded;
 use crate::tests::vectors::{FRED, NAME_SERVER};
+use crate::tests::{decoded, encoded};
 use crate::{
     Packet, PushFault, Question, Questions, Rdata, Record, RecordFault, Records, Section, classes,
     kinds,
@@ -82,6 +82,20 @@ fn a_packet_is_built_as_it_is_decoded(rt: HostRuntime) -> Result<(), Fail> {
     let (packet, _) = decoded(rt.alloc(), &bytes)?;
     expect_name_server(&rt, &packet);
     expect_name_server(&rt, &built);
+    let encoding = encoded(rt.alloc(), &built)?;
+    assert_eq!(rt; encoding.as_slice(), &bytes[..24]);
+    Ok(())
+}
+
+#[test]
+fn the_root_is_spelled(rt: HostRuntime) -> Result<(), Fail> {
+    let mut packet = Packet::new(rt.alloc(), 4, 0x8500);
+    assert!(rt; add_question(&mut packet) == Ok(()));
+    add_name_server(&mut packet, Section::Answer)?;
+    let bytes = encoded(rt.alloc(), &packet)?;
+    let want = b"\x00\x04\x85\x00\x00\x01\x00\x01\x00\x00\x00\x00\
+        \x00\x00\x20\x00\x01\x00\x00\x02\x00\x01\x00\x00\x00\x00\x00\x01\x00";
+    assert_eq!(rt; bytes.as_slice(), want.as_slice());
     Ok(())
 }
 

@@ -21,6 +21,6 @@ returns-clause-found c rest =
       counted = c.questions.ensures.counted;
       questions = questions;
       records = all_append IsRecord c.args.packet.now.answers (c.args.packet.now.authorities ++ c.args.packet.now.additional) answers
-      (all_append IsRecord c.args.packet.now.authorities c.args.packet.now.additional authorities additional);
+          (all_append IsRecord c.args.packet.now.authorities c.args.packet.now.additional authorities additional);
     } in
     rw value (c.encoding_is_read.ensures c.args.packet.now rest writable)

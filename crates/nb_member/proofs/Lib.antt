@@ -2,3 +2,4 @@ pub mod DigitsLemmas
 pub mod WordsLemmas
 pub mod MomentLemmas
 pub mod PayloadLemmas
+pub mod LineLemmas

@@ -30,7 +30,7 @@ decoded text bytes items h e =
     rw same h
 
 -- a payload's word is `empty`, or digits
-PayloadText-cases : (payload text : List ℕ) → PayloadText payload text
+pub PayloadText-cases : (payload text : List ℕ) → PayloadText payload text
     → ((payload ≡ []) × (text ≡ codes "empty")) ⊎ ((0 < length text) × HexText payload text)
 PayloadText-cases _ _ empty = inl (refl, refl)
 PayloadText-cases _ _ (digits payload text some h) = inr (some, h)

@@ -37,7 +37,7 @@ blank_if_empty [] h = nothing
 blank_if_empty (c ∷ line) h = absurd (cc)
 
 -- a blank line is empty, or a comment
-Blank-cases : (line : List ℕ) → Blank line
+pub Blank-cases : (line : List ℕ) → Blank line
     → (line ≡ []) ⊎ ((text : List ℕ) × (line ≡ 35 ∷ text) × (¬ Contains text 10))
 Blank-cases _ nothing = inl refl
 Blank-cases _ (comment text h) = inr (text, refl, h)
@@ -95,7 +95,7 @@ digits_no_space (c ∷ text) h n =
     digits_no_space text h.1 (Contains-behind c 32 text differ n)
 
 -- neither has a port's word
-port_no_space : (port : ℕ) (text : List ℕ) → PortText port text → ¬ Contains text 32
+pub port_no_space : (port : ℕ) (text : List ℕ) → PortText port text → ¬ Contains text 32
 port_no_space _ _ names n = digits_no_space (codes "137") (omega arith, (omega arith, (omega arith, tt))) n
 port_no_space _ _ datagrams n = digits_no_space (codes "138") (omega arith, (omega arith, (omega arith, tt))) n
 port_no_space _ _ sessions n = digits_no_space (codes "139") (omega arith, (omega arith, (omega arith, tt))) n
@@ -169,11 +169,11 @@ tick_no_port _ _ names e = absurd (cc)
 tick_no_port _ _ datagrams e = absurd (cc)
 tick_no_port _ _ sessions e = absurd (cc)
 
-tick_no_space : ¬ Contains (codes "tick") 32
+pub tick_no_space : ¬ Contains (codes "tick") 32
 tick_no_space (k, below, is) = absurd (grind (arith, nat_tests))
 
 -- moments have no space among them
-moment_no_space : (moment : ℕ) (text : List ℕ) → MomentText moment text → ¬ Contains text 32
+pub moment_no_space : (moment : ℕ) (text : List ℕ) → MomentText moment text → ¬ Contains text 32
 moment_no_space moment text h = digits_no_space text h.digits.1
 
 -- behind a port's word and a space stand a packet's words

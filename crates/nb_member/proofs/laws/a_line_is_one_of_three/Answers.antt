@@ -1,0 +1,5 @@
+use Rattle.nb_member.proofs.LineLemmas.{one_of_three}
+use Rattle.nb_member.proofs.laws.a_line_is_one_of_three.Goals as goal
+
+pub returns : goal.returns
+returns c = one_of_three

@@ -1,5 +1,5 @@
 //! Reading a line of a capture.
-ghost use Rattle.std.specs.Prelude.{◌≡◌, ℕ, ◌<◌, ◌++◌, ◌∷◌, List, length, Contains, IfOk, MatchOption, IsTrue, ◌↔◌, Result, Ok, Err};
+ghost use Rattle.std.specs.Prelude.{◌≡◌, ℕ, ◌<◌, ◌++◌, ◌∷◌, List, [], length, Contains, IfOk, MatchOption, IsTrue, ◌↔◌, Result, Ok, Err};
 ghost use Rattle.std.specs.List.{list_all};
 ghost use Rattle.std.specs.Char.{is_ascii_digit, is_ascii_hexdigit};
 ghost use Rattle.nb_names.specs.NameText.{IsHexDigit};
@@ -143,7 +143,7 @@ fn payload_of(alloc: Global, text: &[u8]) -> Result<Bytes, LineFault>
     ensures { ReadsBy (λ payload. PayloadText payload text.now) result }
 {
     if text == b"empty".as_slice() {
-        return Ok(Bytes::from_vec(Vec::new(alloc)));
+        return Ok(no_bytes(alloc));
     }
     if !is_hexadecimal(text) {
         return Err(LineFault::BadLine);
@@ -152,6 +152,13 @@ fn payload_of(alloc: Global, text: &[u8]) -> Result<Bytes, LineFault>
         Ok(payload) => Ok(Bytes::from_vec(payload)),
         Err(_) => Err(LineFault::NoMemory),
     }
+}
+
+/// An empty payload.
+fn no_bytes(alloc: Global) -> Bytes
+    ensures { result ≡ [] }
+{
+    Bytes::from_vec(Vec::new(alloc))
 }
 
 /// Whether a word is pairs of hexadecimal digits, at least one.

@@ -1,0 +1,5 @@
+mod BytesLemmas
+mod HeaderLemmas
+mod PacketLemmas
+mod ValueLemmas
+mod ParsingLemmas

@@ -1,0 +1,14 @@
+-- The texts of faults (own). Each fault's number is written in decimal.
+use Rattle.std.specs.Prelude.{ℕ, List, ◌++◌, codes}
+use Rattle.std.specs.Fmt.{decimal}
+use Rattle.nb_names.specs.FaultTexts.{name_fault_text}
+use Rattle.nb_session.specs.declared.fault.SessionFault.{SessionFault}
+use Rattle.nb_session.specs.declared.fault.SessionFault.TheVariants.{UnknownType, ReservedFlags, BadLength, Name, TrailingBytes}
+
+-- what is told of bytes that are no session packet
+abbrev pub session_fault_text : SessionFault → List ℕ
+session_fault_text UnknownType = codes "unknown type"
+session_fault_text ReservedFlags = codes "reserved flags"
+session_fault_text BadLength = codes "bad length"
+session_fault_text (Name fault) = codes "name: " ++ name_fault_text fault
+session_fault_text (TrailingBytes at) = codes "trailing bytes " ++ decimal at

@@ -1,0 +1,4 @@
+pub mod Header
+pub mod Packet
+pub mod Parsing
+pub mod FaultTexts

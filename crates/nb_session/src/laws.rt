@@ -1,0 +1,46 @@
+//! Laws of the definitions that the contracts cite. Each is proved; a call does nothing.
+ghost use Rattle.std.specs.Prelude.{◌≡◌, ◌-◌, ◌<◌, ◌≤◌, ℕ, List, ◌++◌, length, take};
+ghost use Rattle.nb_session.specs.declared.kind.Kind.TheVariants.{Message, Request, Positive, Negative, Retarget, Keepalive};
+ghost use Rattle.nb_session.specs.declared.limits.TheConstants.{HEADER_LENGTH, MAX_MESSAGE, MAX_PACKET, MIN_REQUEST, MAX_REQUEST};
+ghost use Rattle.nb_session.specs.declared.packet.Packet.{Packet};
+ghost use Rattle.nb_session.specs.declared.parsing.Parsed.{Parsed};
+ghost use Rattle.nb_session.specs.declared.parsing.Parsed.TheVariants.{Whole, More};
+ghost use Rattle.nb_session.specs.Header.{type_of};
+ghost use Rattle.nb_session.specs.Packet.{IsPacket};
+ghost use Rattle.nb_session.specs.Parsing.{Parses};
+
+use nb_names::laws::{one_netbios_fault, one_reading, spelling_is_read};
+
+/// At the front of bytes stands one thing: a packet of one length, the front of one that lacks one
+/// number of bytes, or one fault. So bytes are one packet at most.
+pub fn one_answer()
+    ensures one { (bytes : List ℕ) (parsed other : Parsed) →
+        Parses bytes parsed → Parses bytes other → parsed ≡ other }
+    ensures packet { (bytes : List ℕ) (packet other : Packet) →
+        IsPacket packet bytes → IsPacket other bytes → packet ≡ other }
+{
+    one_reading();
+    one_netbios_fault();
+    spelling_is_read();
+}
+
+/// A packet's bytes, whatever follows, are parsed as the packet, and of each shorter front of them
+/// bytes are lacking: those up to the end of the header where it isn't there whole, else those up
+/// to the end of the packet. So no packet begins another.
+pub fn packet_is_parsed()
+    ensures whole { (packet : Packet) (bytes rest : List ℕ) → IsPacket packet bytes →
+        Parses (bytes ++ rest) (Whole packet (length bytes)) }
+    ensures header { (packet : Packet) (bytes : List ℕ) (count : ℕ) → IsPacket packet bytes →
+        count < 4 → Parses (take count bytes) (More (4 - count)) }
+    ensures body { (packet : Packet) (bytes : List ℕ) (count : ℕ) → IsPacket packet bytes →
+        4 ≤ count → count < length bytes → Parses (take count bytes) (More (length bytes - count)) }
+{}
+
+/// The numbers that the definitions cite.
+pub fn numbers()
+    ensures types { (type_of Message ≡ 0) × (type_of Request ≡ 129) × (type_of Positive ≡ 130) ×
+        (type_of Negative ≡ 131) × (type_of Retarget ≡ 132) × (type_of Keepalive ≡ 133) }
+    ensures header { HEADER_LENGTH ≡ 4 }
+    ensures request { (MIN_REQUEST ≡ 68) × (MAX_REQUEST ≡ 510) }
+    ensures message { (MAX_MESSAGE ≡ 131071) × (MAX_PACKET ≡ 131075) }
+{}

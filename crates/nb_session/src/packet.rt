@@ -1,0 +1,145 @@
+//! Session packets as values.
+ghost use Rattle.std.specs.Prelude.{◌≡◌, ◌≤◌, ◌<◌, length, MatchResult};
+ghost use Rattle.nb_session.specs.declared.limits.TheConstants.{MAX_MESSAGE};
+ghost use Rattle.nb_session.specs.Packet.{kind_of};
+
+use crate::kind::Kind;
+use crate::limits::MAX_MESSAGE;
+use nb_names::Name;
+use std::error::Error;
+use std::fmt;
+use std::marker::Model;
+
+/// The data of a message: at most 131,071 bytes, lent.
+#[derive(Debug, Drop)]
+pub struct MessageData<'a> {
+    bytes: &'a [u8],
+}
+
+impl<'a> Model for MessageData<'a> {
+    ghost use Rattle.std.specs.Prelude.{ℕ, List, ◌≤◌, length};
+    ghost use Rattle.nb_session.specs.declared.limits.TheConstants.{MAX_MESSAGE};
+
+    ghost Value = { List ℕ };
+
+    ghost view = { λ m. m.bytes.now };
+
+    ghost invariant = { λ m. length m.bytes.now ≤ MAX_MESSAGE };
+}
+
+/// The bytes are more than a message has.
+#[derive(Clone, Copy, Debug, PartialEq, Eq)]
+pub struct TooLong;
+
+impl fmt::Display for TooLong {
+    ghost use Rattle.std.specs.Prelude.{Some, codes};
+
+    ghost output = { λ _. Some (codes "too long") };
+
+    fn fmt<W: fmt::Write>(&self, f: &mut fmt::Formatter<W>) -> fmt::Result {
+        f.write_str("too long")
+    }
+}
+
+impl Error for TooLong {}
+
+impl<'a> MessageData<'a> {
+    /// These bytes, as the data of a message.
+    ///
+    /// # Errors
+    ///
+    /// [`TooLong`] where they are more than 131,071.
+    pub fn new(bytes: &'a [u8]) -> Result<MessageData<'a>, TooLong>
+        ensures { MatchResult result
+            (λ message. (message ≡ bytes.entry.now) × (length bytes.entry.now ≤ MAX_MESSAGE))
+            (λ _. MAX_MESSAGE < length bytes.entry.now) }
+    {
+        if bytes.len() > MAX_MESSAGE {
+            return Err(TooLong);
+        }
+        Ok(MessageData::of(bytes))
+    }
+
+    /// Bytes that are at most 131,071.
+    pub(crate) fn of(bytes: &'a [u8]) -> MessageData<'a>
+        requires { length bytes.now ≤ MAX_MESSAGE }
+        ensures { result ≡ bytes.now }
+    {
+        MessageData { bytes }
+    }
+
+    /// The bytes.
+    pub fn bytes(&self) -> &'a [u8]
+        ensures value { result.now ≡ self.now }
+        ensures within { length self.now ≤ MAX_MESSAGE }
+    {
+        self.bytes
+    }
+}
+
+impl PartialEq for MessageData<'_> {
+    ghost use Rattle.std.specs.Prelude.{◌==◌};
+    ghost use Rattle.std.specs.Cmp.Lexicographic.{pointwise};
+    ghost use Rattle.std.proofs.Common.{rules};
+    ghost use Rattle.std.specs.Cmp.Rules.{comparing};
+
+    ghost eq = { pointwise ◌==◌ };
+
+    ghost laws = { Prim.search (comparing, rules) };
+
+    fn eq(&self, other: &Self) -> bool {
+        self.bytes == other.bytes
+    }
+}
+
+impl Eq for MessageData<'_> {
+    ghost use Rattle.std.proofs.Common.{rules};
+    ghost use Rattle.std.specs.Cmp.Rules.{comparing};
+
+    ghost laws = { Prim.search (comparing, rules) };
+}
+
+/// A session packet (RFC 1002 section 4.3).
+#[derive(Debug, Drop, PartialEq, Eq)]
+pub enum Packet<'a> {
+    /// Data of the session (section 4.3.6).
+    Message(MessageData<'a>),
+    /// A session is asked for (section 4.3.2).
+    Request {
+        /// Who is called.
+        called: Name,
+        /// Who calls.
+        calling: Name,
+    },
+    /// The session is established (section 4.3.3).
+    Positive,
+    /// The session is refused, for the reason of this code (section 4.3.4): hexadecimal 80 not
+    /// listening on the called name, 81 not listening for the calling name, 82 called name not
+    /// present, 83 insufficient resources, 8f unspecified. Other codes are kept.
+    Negative(u8),
+    /// The called name listens at another place (section 4.3.5).
+    Retarget {
+        /// The IPv4 address there.
+        address: [u8; 4],
+        /// The TCP port there.
+        port: u16,
+    },
+    /// The session is still there (section 4.3.7).
+    Keepalive,
+}
+
+impl Packet<'_> {
+    /// What the packet is for.
+    pub fn kind(&self) -> Kind
+        ensures { result ≡ kind_of self.now }
+    {
+        match self {
+            Packet::Message(_) => Kind::Message,
+            Packet::Request { .. } => Kind::Request,
+            Packet::Positive => Kind::Positive,
+            Packet::Negative(_) => Kind::Negative,
+            Packet::Retarget { .. } => Kind::Retarget,
+            Packet::Keepalive => Kind::Keepalive,
+        }
+    }
+}

@@ -1,0 +1,109 @@
+//! Packets, parsed from the front of bytes.
+ghost use Rattle.std.specs.Prelude.{◌≡◌, ◌+◌, ◌≤◌, length, IfOk, IfErr};
+ghost use Rattle.nb_session.specs.declared.kind.Kind.TheVariants.{Request};
+ghost use Rattle.nb_session.specs.declared.limits.TheConstants.{HEADER_LENGTH};
+ghost use Rattle.nb_session.specs.declared.parsing.Parsed.{Parsed};
+ghost use Rattle.nb_session.specs.Header.{HasHeader, IsGood, packet_length};
+ghost use Rattle.nb_session.specs.Packet.{IsPacket};
+ghost use Rattle.nb_session.specs.Parsing.{RequestFails, Parses};
+
+use crate::fault::SessionFault;
+use crate::header::{Header, read_header};
+use crate::kind::Kind;
+use crate::laws::one_answer;
+use crate::limits::HEADER_LENGTH;
+use crate::packet::{MessageData, Packet};
+use nb_names::numbers::number_16;
+use nb_names::{Pointers, read_name};
+
+/// What stands at the front of bytes.
+#[derive(Debug, Drop, PartialEq, Eq)]
+pub enum Parsed<'a> {
+    /// A packet, and how many of the bytes it takes up.
+    Whole(Packet<'a>, usize),
+    /// The front of a packet: this many bytes more, one at least, are needed to judge the header,
+    /// or to have the whole packet where its header is there.
+    More(usize),
+    /// Neither, for the first fault.
+    Refused(SessionFault),
+}
+
+/// The request that a packet of that kind is.
+fn read_request<'a>(header: Header, packet: &'a [u8]) -> Result<Packet<'a>, SessionFault>
+    requires header { HasHeader packet.now header }
+    requires good { IsGood header Request }
+    requires whole { length packet.now ≡ packet_length header }
+    ensures found { IfOk result (λ read. IsPacket read packet.now) }
+    ensures fault { IfErr result (RequestFails packet.now) }
+{
+    let (called, behind) = read_name(packet, HEADER_LENGTH, Pointers::Refused)?;
+    let (calling, end) = read_name(packet, behind, Pointers::Refused)?;
+    if end < packet.len() {
+        return Err(SessionFault::TrailingBytes(end));
+    }
+    Ok(Packet::Request { called, calling })
+}
+
+/// The packet that these bytes are, its header being of this kind.
+pub(crate) fn read_packet_of<'a>(
+    kind: Kind,
+    header: Header,
+    packet: &'a [u8],
+) -> Result<Packet<'a>, SessionFault>
+    requires header { HasHeader packet.now header }
+    requires good { IsGood header kind }
+    requires whole { length packet.now ≡ packet_length header }
+    ensures found { IfOk result (λ read. IsPacket read packet.now) }
+    ensures fault { IfErr result (λ fault. (kind ≡ Request) × RequestFails packet.now fault) }
+{
+    match kind {
+        Kind::Message => Ok(Packet::Message(MessageData::of(&packet[HEADER_LENGTH..]))),
+        Kind::Request => read_request(header, packet),
+        Kind::Positive => Ok(Packet::Positive),
+        Kind::Negative => Ok(Packet::Negative(packet[HEADER_LENGTH])),
+        Kind::Retarget => Ok(Packet::Retarget {
+            address: [packet[4], packet[5], packet[6], packet[7]],
+            port: number_16(packet, 8),
+        }),
+        Kind::Keepalive => Ok(Packet::Keepalive),
+    }
+}
+
+/// What stands at the front of bytes.
+fn parse_front<'a>(bytes: &'a [u8]) -> Parsed<'a>
+    ensures { Parses bytes.now result }
+{
+    if bytes.len() < HEADER_LENGTH {
+        return Parsed::More(HEADER_LENGTH - bytes.len());
+    }
+    let header = read_header(bytes);
+    let kind = match header.judge() {
+        Ok(kind) => kind,
+        Err(fault) => return Parsed::Refused(fault),
+    };
+    let used = header.packet_length();
+    if bytes.len() < used {
+        return Parsed::More(used - bytes.len());
+    }
+    match read_packet_of(kind, header, &bytes[..used]) {
+        Ok(packet) => Parsed::Whole(packet, used),
+        Err(fault) => Parsed::Refused(fault),
+    }
+}
+
+/// What stands at the front of bytes: a packet, the front of one, or neither.
+///
+/// A fault of the header is answered as soon as its four bytes are there, one of the body once it
+/// is there whole. Names are read from the packet alone, with pointers refused. Bytes behind a
+/// whole packet are left unread. No memory is taken: a message is lent from the bytes.
+///
+/// RFC 1002 section 4.3.
+pub fn parse<'a>(bytes: &'a [u8]) -> Parsed<'a>
+    // It stands there, and nothing else does.
+    ensures stands { Parses bytes.now result }
+    ensures only { (parsed : Parsed) → Parses bytes.now parsed → result ≡ parsed }
+{
+    // The law on which the clause `only` stands; the call does nothing.
+    one_answer();
+    parse_front(bytes)
+}

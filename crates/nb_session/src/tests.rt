@@ -1,0 +1,5 @@
+//! What no clause says: bytes from outside, and each call once on its happy path.
+
+mod encoding;
+mod parsing;
+mod vectors;

@@ -13,9 +13,10 @@ run:
 check:
 	rt all check
 
-# The merge gate.
+# The merge gate, and then the program that it built as a process of its own.
 test:
 	rt ci
+	tests/program.sh
 
 # Put the program that `make run` has built below PREFIX.
 install: run

@@ -4,16 +4,17 @@ use Rattle.std.specs.Fmt.{decimal}
 use Rattle.nb_names.specs.FaultTexts.{name_fault_text}
 use Rattle.nb_names.specs.TextFaults.{text_fault_text}
 use Rattle.nbt.specs.declared.fault.Fault.{Fault}
-use Rattle.nbt.specs.declared.fault.Fault.TheVariants.{Text, Name, BadHex, TrailingBytes, Read, Write, Memory}
+use Rattle.nbt.specs.declared.fault.Fault.TheVariants.{Text, Name, BadHex, TrailingBytes, Arguments, Read, Write, Memory}
 use Rattle.nbt.specs.declared.status.Status.{Status}
 use Rattle.nbt.specs.declared.status.Status.TheVariants.{Done, Refused, Failed}
 
--- what is told of a fault, behind `nbt: `
+-- what is reported of a fault, after `nbt: `
 abbrev pub fault_text : Fault → List ℕ
 fault_text (Text fault) = text_fault_text fault
 fault_text (Name fault) = name_fault_text fault
 fault_text BadHex = codes "bad hex"
 fault_text (TrailingBytes at) = codes "trailing bytes " ++ decimal at
+fault_text Arguments = codes "arguments"
 fault_text Read = codes "read"
 fault_text Write = codes "write"
 fault_text Memory = codes "memory"
@@ -24,6 +25,7 @@ status_of (Text fault) = Refused
 status_of (Name fault) = Refused
 status_of BadHex = Refused
 status_of (TrailingBytes at) = Refused
+status_of Arguments = Refused
 status_of Read = Failed
 status_of Write = Failed
 status_of Memory = Failed

@@ -1,3 +1,5 @@
 pub mod Printing
 pub mod Status
 pub mod FaultTexts
+pub mod ClapAnswer
+pub mod NameCommand

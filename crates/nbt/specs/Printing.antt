@@ -9,7 +9,7 @@ use Rattle.nb_names.specs.NameText.{IsText, IsFaultOf, written}
 use Rattle.nb_names.specs.Labels.{NameAt}
 use Rattle.nb_names.specs.NameFaults.{NetbiosFaultAt}
 use Rattle.nbt.specs.declared.fault.Fault.{Fault}
-use Rattle.nbt.specs.declared.fault.Fault.TheVariants.{Text, Name, BadHex, TrailingBytes, Read, Write, Memory}
+use Rattle.nbt.specs.declared.fault.Fault.TheVariants.{Text, Name, BadHex, TrailingBytes, Arguments, Read, Write, Memory}
 
 -- the text as a line
 abbrev pub line : List ℕ → List ℕ
@@ -32,6 +32,7 @@ IsSpellingFault text (Text fault) = IsFaultOf text fault
 IsSpellingFault text (Name fault) = ⊥
 IsSpellingFault text BadHex = ⊥
 IsSpellingFault text (TrailingBytes at) = ⊥
+IsSpellingFault text Arguments = ⊥
 IsSpellingFault text Read = ⊥
 IsSpellingFault text Write = Unit {0}
 IsSpellingFault text Memory = Unit {0}
@@ -56,6 +57,7 @@ IsNameFault digits (Text fault) = ⊥
 IsNameFault digits BadHex = IsErr (decode_of digits)
 IsNameFault digits (Name fault) = (bytes : List ℕ) × (decode_of digits ≡ Ok bytes) × NetbiosFaultAt bytes Refused 0 fault
 IsNameFault digits (TrailingBytes at) = (bytes : List ℕ) × (decode_of digits ≡ Ok bytes) × IsTrailing bytes at
+IsNameFault digits Arguments = ⊥
 IsNameFault digits Read = ⊥
 IsNameFault digits Write = Unit {0}
 IsNameFault digits Memory = Unit {0}
@@ -67,6 +69,7 @@ KeepsUnlessWrite old new (Text fault) = Keeps old new
 KeepsUnlessWrite old new (Name fault) = Keeps old new
 KeepsUnlessWrite old new BadHex = Keeps old new
 KeepsUnlessWrite old new (TrailingBytes at) = Keeps old new
+KeepsUnlessWrite old new Arguments = Keeps old new
 KeepsUnlessWrite old new Read = Keeps old new
 KeepsUnlessWrite old new Memory = Keeps old new
 

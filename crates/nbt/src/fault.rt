@@ -1,4 +1,4 @@
-//! What the program tells on standard error.
+//! What the program reports on standard error.
 ghost use Rattle.std.specs.Prelude.{◌≡◌};
 ghost use Rattle.nbt.specs.FaultTexts.{status_of};
 
@@ -17,6 +17,8 @@ pub enum Fault {
     BadHex,
     /// Bytes follow the name that should have been alone. The offset is that of the first of them.
     TrailingBytes(usize),
+    /// The words after the subcommand are none that it takes.
+    Arguments,
     /// The program's words couldn't be read.
     Read,
     /// The output failed.
@@ -31,9 +33,11 @@ impl Fault {
         ensures { result ≡ status_of self }
     {
         match self {
-            Fault::Text(_) | Fault::Name(_) | Fault::BadHex | Fault::TrailingBytes(_) => {
-                Status::Refused
-            }
+            Fault::Text(_)
+            | Fault::Name(_)
+            | Fault::BadHex
+            | Fault::TrailingBytes(_)
+            | Fault::Arguments => Status::Refused,
             Fault::Read | Fault::Write | Fault::Memory => Status::Failed,
         }
     }
@@ -51,6 +55,7 @@ impl fmt::Display for Fault {
             Fault::Name(fault) => write!(f, "{fault}"),
             Fault::BadHex => f.write_str("bad hex"),
             Fault::TrailingBytes(at) => write!(f, "trailing bytes {at}"),
+            Fault::Arguments => f.write_str("arguments"),
             Fault::Read => f.write_str("read"),
             Fault::Write => f.write_str("write"),
             Fault::Memory => f.write_str("memory"),
@@ -62,7 +67,7 @@ impl From<TextFault> for Fault {
     ghost use Rattle.std.specs.Prelude.{◌≡◌};
     ghost use Rattle.nbt.specs.declared.fault.Fault.TheVariants.{Text};
 
-    ghost from_gives = { λ fault told. told ≡ Text fault };
+    ghost from_gives = { λ fault made. made ≡ Text fault };
 
     fn from(fault: TextFault) -> Fault {
         Fault::Text(fault)
@@ -73,7 +78,7 @@ impl From<NameFault> for Fault {
     ghost use Rattle.std.specs.Prelude.{◌≡◌};
     ghost use Rattle.nbt.specs.declared.fault.Fault.TheVariants.{Name};
 
-    ghost from_gives = { λ fault told. told ≡ Name fault };
+    ghost from_gives = { λ fault made. made ≡ Name fault };
 
     fn from(fault: NameFault) -> Fault {
         Fault::Name(fault)
@@ -84,7 +89,7 @@ impl From<NoMemory> for Fault {
     ghost use Rattle.std.specs.Prelude.{◌≡◌};
     ghost use Rattle.nbt.specs.declared.fault.Fault.TheVariants.{Memory};
 
-    ghost from_gives = { λ _ told. told ≡ Memory };
+    ghost from_gives = { λ _ made. made ≡ Memory };
 
     fn from(_fault: NoMemory) -> Fault {
         Fault::Memory

@@ -1,6 +1,7 @@
 //! `nbt`: NetBIOS packets on the command line.
 #![tactic(auto)]
 
+mod clap_answer;
 mod command_line;
 mod fault;
 mod name;
@@ -8,7 +9,7 @@ mod program;
 mod status;
 
 use crate::fault::Fault;
-use crate::program::{ended, run};
+use crate::program::{report, run};
 use std::env;
 use std::io::ErrorKind;
 use std::process::ExitCode;
@@ -25,7 +26,7 @@ fn main(rt: HostRuntime) -> ExitCode {
             &mut output,
             &mut errors,
         ),
-        Err(fault) => ended(Err(fault), &mut errors).code(),
+        Err(fault) => report(Err(fault), &mut errors).code(),
     };
     ExitCode::from(code)
 }

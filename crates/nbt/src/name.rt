@@ -1,14 +1,44 @@
 //! `nbt name`: the spelling of a name's text, and the text of a spelling.
-ghost use Rattle.std.specs.Prelude.{◌≡◌, IfOk, IfErr, OnOk, Ok, IsErr, string_bytes};
+ghost use Rattle.std.specs.Prelude.{◌≡◌, ℕ, List, codes, IfOk, IfErr, OnOk, Ok, IsErr, string_bytes};
 ghost use Rattle.std.specs.Io.KnownBytes.{Keeps};
 ghost use Rattle.hex.specs.Hex.{decode_of};
+ghost use Rattle.nbt.specs.NameCommand.{IsValue, IsFlag, OutcomeOf};
 ghost use Rattle.nbt.specs.Printing.{PrintsLine, PrintsSpelling, PrintsName, IsSpellingOf, IsSpellingFault, IsNameOf, IsNameFault, KeepsUnlessWrite, IsDecodeFault, IsNoWrite};
 
 use crate::fault::Fault;
+use clap::ArgMatches;
 use hex::FromHexError;
 use nb_names::{Pointers, name_from_text, name_text, read_name, write_domain};
 use std::alloc::Global;
 use std::io::Write;
+
+/// `nbt name [--bytes] VALUE`.
+///
+/// # Errors
+///
+/// Those of [`print_spelling`], and with `--bytes` those of [`print_name`]. [`Fault::Arguments`]
+/// where there is no VALUE.
+pub fn run_name<W: Write>(
+    alloc: Global,
+    matches: &ArgMatches<'_>,
+    output: &mut W,
+) -> Result<(), Fault>
+    ensures spelling { (value : List ℕ) → IsValue matches.now value → IsFlag matches.now (codes "false")
+        → OutcomeOf PrintsSpelling IsSpellingFault value result
+        (W.contents output.old) (W.contents output.new) }
+    ensures name { (value : List ℕ) → IsValue matches.now value → IsFlag matches.now (codes "true")
+        → OutcomeOf PrintsName IsNameFault value result
+        (W.contents output.old) (W.contents output.new) }
+{
+    let Some(value) = matches.get_str("VALUE") else {
+        return Err(Fault::Arguments);
+    };
+    if matches.get_flag("bytes") {
+        print_name(alloc, value, output)
+    } else {
+        print_spelling(alloc, value, output)
+    }
+}
 
 /// Prints the spelling, in hexadecimal, of the name that a text stands for.
 ///

@@ -1,13 +1,15 @@
 //! The program over any input and output.
-ghost use Rattle.std.specs.Prelude.{◌≡◌, ◌≢◌, ◌≤◌};
+ghost use Rattle.std.specs.Prelude.{◌≡◌, ◌≤◌};
+ghost use Rattle.std.specs.Io.KnownBytes.{Keeps};
 ghost use Rattle.clap.specs.Words.{kind_of};
 ghost use Rattle.nbt.specs.FaultTexts.{status_after};
+ghost use Rattle.nbt.specs.ClapAnswer.{Reports, answer_to};
 
+use crate::clap_answer::ClapAnswer;
 use crate::command_line::command;
 use crate::fault::Fault;
-use crate::name::{print_name, print_spelling};
+use crate::name::run_name;
 use crate::status::Status;
-use clap::error::ErrorKind;
 use clap::{ArgMatches, Error};
 use std::alloc::Global;
 use std::io::{Read, Write};
@@ -15,46 +17,50 @@ use std::io::{Read, Write};
 /// Runs the program, and answers its exit status.
 ///
 /// The first of the words is the program's name. What is asked for goes to `output`, a fault to
-/// `errors` as one line behind `nbt: `; a fault in writing that line changes nothing. The status is
+/// `errors` as one line after `nbt: `; a fault in writing that line changes nothing. The status is
 /// 0 where all was done, 1 where input was refused, 2 where the command line was bad (with `clap`'s
-/// text on `errors`), 3 where a device or memory failed. `clap`'s help goes to `output`, with
-/// status 0.
+/// text on `errors`), 3 where a device failed or memory ran out. `clap`'s help and the version go to
+/// `output`, with status 0.
 pub fn run<R: Read, W: Write, E: Write>(
     alloc: Global,
     words: &[String],
-    _input: &mut R,
+    input: &mut R,
     output: &mut W,
     errors: &mut E,
 ) -> u8
-    ensures { result ≤ 3 }
+    ensures within { result ≤ 3 }
+    ensures unread { input.new ≡ input.old }
+    ensures usage { result ≡ 2 → Keeps (W.contents output.old) (W.contents output.new) }
 {
+    let _ = input;
     let status = match command(alloc) {
         Ok(command) => match command.try_get_matches_from(words) {
-            Ok(matches) => ended(acted(alloc, &matches, output), errors),
-            Err(error) => unread(&error, output, errors),
+            Ok(matches) => report(run_command(alloc, &matches, output), errors),
+            Err(error) => report_unmatched(&error, output, errors),
         },
-        Err(_) => ended(Err(Fault::Memory), errors),
+        Err(_) => report(Err(Fault::Memory), errors),
     };
     status.code()
 }
 
-/// Does what the words ask for.
-fn acted<W: Write>(alloc: Global, matches: &ArgMatches<'_>, output: &mut W) -> Result<(), Fault> {
+/// Runs the subcommand that the words name.
+///
+/// # Errors
+///
+/// Those of the subcommand, and [`Fault::Arguments`] for one that has no arm here.
+fn run_command<W: Write>(
+    alloc: Global,
+    matches: &ArgMatches<'_>,
+    output: &mut W,
+) -> Result<(), Fault> {
     match matches.subcommand() {
-        Some(("name", matches)) => {
-            let value = matches.get_str("VALUE").unwrap_or("");
-            if matches.get_flag("bytes") {
-                print_name(alloc, value, output)
-            } else {
-                print_spelling(alloc, value, output)
-            }
-        }
-        _ => Ok(()),
+        Some(("name", matches)) => run_name(alloc, matches, output),
+        _ => Err(Fault::Arguments),
     }
 }
 
-/// The status with which a command ended, its fault told.
-pub fn ended<E: Write>(outcome: Result<(), Fault>, errors: &mut E) -> Status
+/// The status with which a command ended. Its fault, if it has one, goes to `errors` as a line.
+pub fn report<E: Write>(outcome: Result<(), Fault>, errors: &mut E) -> Status
     ensures { result ≡ status_after outcome }
 {
     match outcome {
@@ -66,22 +72,21 @@ pub fn ended<E: Write>(outcome: Result<(), Fault>, errors: &mut E) -> Status
     }
 }
 
-/// The status where `clap` didn't read the words: it asks for help, or says what is wrong.
-fn unread<W: Write, E: Write>(error: &Error, output: &mut W, errors: &mut E) -> Status
-    ensures memory { kind_of error.now ≡ ErrorKind.OutOfMemory → result ≡ Status.Failed }
-    ensures help { kind_of error.now ≡ ErrorKind.DisplayHelp → result ≢ Status.BadUsage }
-    ensures usage { kind_of error.now ≢ ErrorKind.OutOfMemory →
-        kind_of error.now ≢ ErrorKind.DisplayHelp → result ≡ Status.BadUsage }
+/// The status where clap has no matches of the words. Its text goes to `output` where the help or
+/// the version is asked for, and to `errors` where the words are a bad command line.
+fn report_unmatched<W: Write, E: Write>(error: &Error, output: &mut W, errors: &mut E) -> Status
+    ensures { Reports (answer_to (kind_of error.now)) result
+        (W.contents output.old) (W.contents output.new) }
 {
-    match error.kind() {
-        ErrorKind::OutOfMemory => ended(Err(Fault::Memory), errors),
-        ErrorKind::DisplayHelp => {
+    match ClapAnswer::to(error.kind()) {
+        ClapAnswer::Asked => {
             let shown = write!(output, "{error}").map_err(|_| Fault::Write);
-            ended(shown, errors)
+            report(shown, errors)
         }
-        _ => {
+        ClapAnswer::Misused => {
             let _ = write!(errors, "{error}");
             Status::BadUsage
         }
+        ClapAnswer::NoMemory => report(Err(Fault::Memory), errors),
     }
 }

@@ -1,17 +1,17 @@
 //! Devices that fail.
 
 use crate::program::run;
-use crate::tests::fakes::{Failing, words};
+use crate::tests::fakes::{FRED, Failing, words};
 use std::test::Fail;
 
 #[test]
-fn a_failing_output_is_told(rt: HostRuntime) -> Result<(), Fail> {
+fn a_failing_output_is_reported(rt: HostRuntime) -> Result<(), Fail> {
     let alloc = rt.alloc();
-    let fred = "20454746434546454543414341434143414341434143414341434143414341434100";
-    let rows: [&[&str]; 3] = [
+    let rows: [&[&str]; 4] = [
         &["name", "FRED<20>"],
-        &["name", "--bytes", fred],
+        &["name", "--bytes", FRED],
         &["--help"],
+        &["--version"],
     ];
     for texts in rows {
         for room in [0, 7] {

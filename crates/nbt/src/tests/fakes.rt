@@ -5,6 +5,19 @@ use std::alloc::{AllocError, Global};
 use std::io;
 use std::io::{ErrorKind, Write};
 
+/// The spelling of `FRED<20>` in hexadecimal: 34 bytes, by the letters of RFC 1001 section 14.1.
+pub const FRED: &str = "20454746434546454543414341434143414341434143414341434143414341434100";
+
+/// Whether these bytes stand somewhere in the text.
+pub fn contains(text: &[u8], bytes: &[u8]) -> bool {
+    for start in 0..text.len() {
+        if text[start..].starts_with(bytes) {
+            return true;
+        }
+    }
+    false
+}
+
 /// A writer that takes this many bytes more, and then fails.
 #[derive(Drop)]
 pub struct Failing {

@@ -1,15 +1,12 @@
 //! `nbt name`, both ways.
 
-use crate::tests::fakes::run_on;
+use crate::tests::fakes::{FRED, run_on};
 use std::test::Fail;
 
 /// The spelling of `FRED<20>.NETBIOS.COM` in hexadecimal: 46 bytes, by the letters of RFC 1001
 /// section 14.1.
 const SPELLED: &str = "204547464345464545434143414341434143414341434143414341434143414341\
                        074e455442494f5303434f4d00";
-
-/// The spelling of `FRED<20>`, 34 bytes.
-const FRED: &str = "20454746434546454543414341434143414341434143414341434143414341434100";
 
 #[test]
 fn a_text_is_spelled(rt: HostRuntime) -> Result<(), Fail> {
@@ -24,7 +21,7 @@ fn a_text_is_spelled(rt: HostRuntime) -> Result<(), Fail> {
 }
 
 #[test]
-fn a_spelling_is_told(rt: HostRuntime) -> Result<(), Fail> {
+fn the_name_of_a_spelling_is_printed(rt: HostRuntime) -> Result<(), Fail> {
     let upper_case = "204547464345464545434143414341434143414341434143414341434143414341\
                       074E455442494F5303434F4D00";
     for digits in [SPELLED, upper_case] {
@@ -39,8 +36,11 @@ fn a_spelling_is_told(rt: HostRuntime) -> Result<(), Fail> {
 #[test]
 fn what_is_no_name_is_refused(rt: HostRuntime) -> Result<(), Fail> {
     let trailing = format!(in rt.alloc(); "{FRED}00")?;
-    let rows: [(&[&str], &str); 13] = [
+    let rows: [(&[&str], &str); 16] = [
         (&["name", "FRED"], "nbt: bad text 4\n"),
+        (&["name", " FRED<20>"], "nbt: bad text 0\n"),
+        (&["name", "FRED<20> "], "nbt: bad text 8\n"),
+        (&["name", "--bytes", " 20"], "nbt: bad hex\n"),
         (&["name", ""], "nbt: bad text 0\n"),
         (&["name", "ABCDEFGHIJKLMNOP<00>"], "nbt: too long\n"),
         (&["name", "--bytes", "2g"], "nbt: bad hex\n"),
@@ -57,11 +57,34 @@ fn what_is_no_name_is_refused(rt: HostRuntime) -> Result<(), Fail> {
             "nbt: trailing bytes 34\n",
         ),
     ];
-    for (words, told) in rows {
+    for (words, text) in rows {
         let ran = run_on(rt.alloc(), words)?;
         assert_eq!(rt; ran.status, 1);
         assert!(rt; ran.output.is_empty());
-        assert_eq!(rt; ran.errors.as_slice(), told.as_bytes());
+        assert_eq!(rt; ran.errors.as_slice(), text.as_bytes());
     }
+    Ok(())
+}
+
+/// A scope of three labels of 63 bytes and one of 28: with the 33 bytes of the front and the zero
+/// byte, 255 in all. One byte more is too long.
+#[test]
+fn a_name_may_have_255_bytes(rt: HostRuntime) -> Result<(), Fail> {
+    let alloc = rt.alloc();
+    let label = "ABCDEFGHIJKLMNOPQRSTUVWXYZABCDEFGHIJKLMNOPQRSTUVWXYZABCDEFGHIJK";
+    let last = "ABCDEFGHIJKLMNOPQRSTUVWXYZAB";
+    let longest = format!(in alloc; "FRED<20>.{label}.{label}.{label}.{last}")?;
+    let spelled = run_on(alloc, &["name", longest.as_str()])?;
+    assert_eq!(rt; spelled.status, 0);
+    assert_eq!(rt; spelled.output.len(), 2 * 255 + 1);
+    let digits = String::from_utf8(spelled.output)?;
+    let read = run_on(alloc, &["name", "--bytes", digits.as_str().trim_end()])?;
+    assert_eq!(rt; read.status, 0);
+    let want = format!(in alloc; "{longest}\n")?;
+    assert_eq!(rt; read.output.as_slice(), want.as_bytes());
+    let longer = format!(in alloc; "{longest}C")?;
+    let refused = run_on(alloc, &["name", longer.as_str()])?;
+    assert_eq!(rt; refused.status, 1);
+    assert_eq!(rt; refused.errors.as_slice(), b"nbt: too long\n".as_slice());
     Ok(())
 }

@@ -1,0 +1,21 @@
+-- `nbt name [--bytes] VALUE` by what clap's matches of the words hold.
+use Rattle.std.specs.Prelude.{◌≡◌, ℕ, List, Option, Some, codes, Result, Ok, Err}
+use Rattle.clap.specs.Words.{first_value, found_of, one_text}
+use Rattle.clap.specs.declared.parser.matches.ArgMatches.{ArgMatches}
+use Rattle.nbt.specs.declared.fault.Fault.{Fault}
+use Rattle.nbt.specs.Printing.{KeepsUnlessWrite}
+
+-- the matches hold this VALUE
+abbrev pub IsValue : ArgMatches → List ℕ → Type 0
+IsValue matches value = first_value (found_of matches) (codes "VALUE") ≡ Some value
+
+-- the matches hold this text, `true` or `false`, for `--bytes`
+abbrev pub IsFlag : ArgMatches → List ℕ → Type 0
+IsFlag matches text = one_text (found_of matches) (codes "bytes") ≡ Some text
+
+-- OutcomeOf Prints IsFault value result old new: the value's line is printed, or refused for a
+-- fault of the value's
+abbrev pub OutcomeOf : (List ℕ → Option (List ℕ) → Option (List ℕ) → Type 0) → (List ℕ → Fault → Type 0)
+    → List ℕ → Result Unit Fault → Option (List ℕ) → Option (List ℕ) → Type 0
+OutcomeOf Prints IsFault value (Ok _) old new = Prints value old new
+OutcomeOf Prints IsFault value (Err fault) old new = IsFault value fault × KeepsUnlessWrite old new fault

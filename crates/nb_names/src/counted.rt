@@ -65,6 +65,20 @@ impl<T> Counted<T> {
         }
     }
 
+    /// The reader or writer itself, its counts let go.
+    pub fn into_inner(self) -> T
+        ensures { result ≡ self.inner }
+    {
+        let Counted {
+            inner,
+            calls: _,
+            empty: _,
+            interrupted: _,
+            failed: _,
+        } = self;
+        inner
+    }
+
     /// Reads once, to the front of a buffer that isn't empty.
     pub fn read(&mut self, buf: &mut [u8]) -> Told
     where

@@ -3,3 +3,5 @@ pub mod Status
 pub mod FaultTexts
 pub mod ClapAnswer
 pub mod NameCommand
+pub mod Output
+pub mod Input

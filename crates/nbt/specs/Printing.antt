@@ -8,6 +8,7 @@ use Rattle.nb_names.specs.Name.{NetbiosName, labels_of_name}
 use Rattle.nb_names.specs.NameText.{IsText, IsFaultOf, written}
 use Rattle.nb_names.specs.Labels.{NameAt}
 use Rattle.nb_names.specs.NameFaults.{NetbiosFaultAt}
+use Rattle.nbt.specs.Output.{AppendsFront}
 use Rattle.nbt.specs.declared.fault.Fault.{Fault}
 use Rattle.nbt.specs.declared.fault.Fault.TheVariants.{Text, Name, BadHex, TrailingBytes, Arguments, Read, Write, Memory}
 
@@ -62,16 +63,11 @@ IsNameFault digits Read = ⊥
 IsNameFault digits Write = Unit {0}
 IsNameFault digits Memory = Unit {0}
 
--- KeepsUnlessWrite old new fault: a fault in writing aside, the output is as it was
-abbrev pub KeepsUnlessWrite : Option (List ℕ) → Option (List ℕ) → Fault → Type 0
-KeepsUnlessWrite old new Write = Unit {0}
-KeepsUnlessWrite old new (Text fault) = Keeps old new
-KeepsUnlessWrite old new (Name fault) = Keeps old new
-KeepsUnlessWrite old new BadHex = Keeps old new
-KeepsUnlessWrite old new (TrailingBytes at) = Keeps old new
-KeepsUnlessWrite old new Arguments = Keeps old new
-KeepsUnlessWrite old new Read = Keeps old new
-KeepsUnlessWrite old new Memory = Keeps old new
+-- Leaves IsText fault old new: a fault in writing leaves a front of the text's line after the bytes
+-- that the output held, and any other leaves the output as it was
+abbrev pub Leaves : (List ℕ → Type 0) → Option (List ℕ) → Option (List ℕ) → Fault → Type 0
+Leaves IsText old new Write = (text : List ℕ) × IsText text × AppendsFront old new (line text)
+Leaves IsText old new _ = Keeps old new
 
 -- the fault isn't one of writing
 abbrev pub IsNoWrite : Fault → Type 0

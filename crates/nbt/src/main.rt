@@ -4,11 +4,16 @@
 mod clap_answer;
 mod command_line;
 mod fault;
+mod input;
+mod lines;
 mod name;
+mod output;
 mod program;
 mod status;
+mod writing;
 
 use crate::fault::Fault;
+use crate::output::Output;
 use crate::program::{report, run};
 use std::env;
 use std::io::ErrorKind;
@@ -26,7 +31,7 @@ fn main(rt: HostRuntime) -> ExitCode {
             &mut output,
             &mut errors,
         ),
-        Err(fault) => report(Err(fault), &mut errors).code(),
+        Err(fault) => report(Err(fault), &mut Output::new(errors)).code(),
     };
     ExitCode::from(code)
 }

@@ -1,11 +1,12 @@
 //! `nbt name`: the spelling of a name's text, and the text of a spelling.
 ghost use Rattle.std.specs.Prelude.{◌≡◌, ℕ, List, codes, IfOk, IfErr, OnOk, Ok, IsErr, string_bytes};
-ghost use Rattle.std.specs.Io.KnownBytes.{Keeps};
 ghost use Rattle.hex.specs.Hex.{decode_of};
+ghost use Rattle.nbt.specs.Output.{ShowsFailing};
 ghost use Rattle.nbt.specs.NameCommand.{IsValue, IsFlag, OutcomeOf};
-ghost use Rattle.nbt.specs.Printing.{PrintsLine, PrintsSpelling, PrintsName, IsSpellingOf, IsSpellingFault, IsNameOf, IsNameFault, KeepsUnlessWrite, IsDecodeFault, IsNoWrite};
+ghost use Rattle.nbt.specs.Printing.{Leaves, line, PrintsSpelling, PrintsName, IsSpellingOf, IsSpellingFault, IsNameOf, IsNameFault, IsDecodeFault, IsNoWrite};
 
 use crate::fault::Fault;
+use crate::output::Output;
 use clap::ArgMatches;
 use hex::FromHexError;
 use nb_names::{Pointers, name_from_text, name_text, read_name, write_domain};
@@ -21,14 +22,18 @@ use std::io::Write;
 pub fn run_name<W: Write>(
     alloc: Global,
     matches: &ArgMatches<'_>,
-    output: &mut W,
+    output: &mut Output<W>,
 ) -> Result<(), Fault>
-    ensures spelling { (value : List ℕ) → IsValue matches.now value → IsFlag matches.now (codes "false")
-        → OutcomeOf PrintsSpelling IsSpellingFault value result
-        (W.contents output.old) (W.contents output.new) }
-    ensures name { (value : List ℕ) → IsValue matches.now value → IsFlag matches.now (codes "true")
-        → OutcomeOf PrintsName IsNameFault value result
-        (W.contents output.old) (W.contents output.new) }
+    ensures spelling { (value : List ℕ) → IsValue matches.now value
+        → IsFlag matches.now (codes "false")
+        → OutcomeOf PrintsSpelling IsSpellingFault IsSpellingOf value result
+        (W.contents output.old.inner) (W.contents output.new.inner) }
+    ensures name { (value : List ℕ) → IsValue matches.now value
+        → IsFlag matches.now (codes "true")
+        → OutcomeOf PrintsName IsNameFault IsNameOf value result
+        (W.contents output.old.inner) (W.contents output.new.inner) }
+    ensures why { IfErr result (λ fault. fault ≡ Fault.Write →
+        ShowsFailing output.old.counts output.new.counts) }
 {
     let Some(value) = matches.get_str("VALUE") else {
         return Err(Fault::Arguments);
@@ -46,14 +51,21 @@ pub fn run_name<W: Write>(
 ///
 /// [`Fault::Text`] where the text is no name's, [`Fault::Memory`] where memory ran out; nothing
 /// is printed then. [`Fault::Write`] where the output failed.
-pub fn print_spelling<W: Write>(alloc: Global, text: &str, output: &mut W) -> Result<(), Fault>
+pub fn print_spelling<W: Write>(
+    alloc: Global,
+    text: &str,
+    output: &mut Output<W>,
+) -> Result<(), Fault>
     ensures printed { OnOk result (PrintsSpelling text.now
-        (W.contents output.old) (W.contents output.new)) }
+        (W.contents output.old.inner) (W.contents output.new.inner)) }
     ensures fault { IfErr result (IsSpellingFault text.now) }
-    ensures kept { IfErr result (KeepsUnlessWrite (W.contents output.old) (W.contents output.new)) }
+    ensures err { IfErr result (Leaves (IsSpellingOf text.now)
+        (W.contents output.old.inner) (W.contents output.new.inner)) }
+    ensures why { IfErr result (λ fault. fault ≡ Fault.Write →
+        ShowsFailing output.old.counts output.new.counts) }
 {
-    let digits = spelling_of(alloc, text)?;
-    print_line(digits.as_str(), output)
+    let line = with_line_feed(spelling_of(alloc, text)?)?;
+    output.print(line.as_bytes())
 }
 
 /// Prints the text of the name whose spelling the digits are, in hexadecimal of either case.
@@ -63,14 +75,21 @@ pub fn print_spelling<W: Write>(alloc: Global, text: &str, output: &mut W) -> Re
 /// In this order: [`Fault::BadHex`]; [`Fault::Name`] where no name stands there, pointers refused;
 /// [`Fault::TrailingBytes`] where bytes follow it; [`Fault::Memory`] where memory ran out; nothing
 /// is printed then. [`Fault::Write`] where the output failed.
-pub fn print_name<W: Write>(alloc: Global, digits: &str, output: &mut W) -> Result<(), Fault>
+pub fn print_name<W: Write>(
+    alloc: Global,
+    digits: &str,
+    output: &mut Output<W>,
+) -> Result<(), Fault>
     ensures printed { OnOk result (PrintsName digits.now
-        (W.contents output.old) (W.contents output.new)) }
+        (W.contents output.old.inner) (W.contents output.new.inner)) }
     ensures fault { IfErr result (IsNameFault digits.now) }
-    ensures kept { IfErr result (KeepsUnlessWrite (W.contents output.old) (W.contents output.new)) }
+    ensures err { IfErr result (Leaves (IsNameOf digits.now)
+        (W.contents output.old.inner) (W.contents output.new.inner)) }
+    ensures why { IfErr result (λ fault. fault ≡ Fault.Write →
+        ShowsFailing output.old.counts output.new.counts) }
 {
-    let text = name_of(alloc, digits)?;
-    print_line(text.as_str(), output)
+    let line = with_line_feed(name_of(alloc, digits)?)?;
+    output.print(line.as_bytes())
 }
 
 /// The spelling, in hexadecimal, of the name that a text stands for.
@@ -108,11 +127,13 @@ fn decoded(alloc: Global, digits: &str) -> Result<Vec<u8>, Fault>
     }
 }
 
-/// Prints a text as a line.
-fn print_line<W: Write>(text: &str, output: &mut W) -> Result<(), Fault>
-    ensures printed { OnOk result (PrintsLine
-        (W.contents output.old) (W.contents output.new) text.now) }
-    ensures fault { IfErr result (λ fault. fault ≡ Fault.Write) }
+/// The text as a line.
+fn with_line_feed(mut text: String) -> Result<String, Fault>
+    ensures value { IfOk result (λ made. string_bytes made ≡ line (string_bytes text)) }
+    ensures fault { IfErr result (λ fault. fault ≡ Fault.Memory) }
 {
-    writeln!(output, "{text}").map_err(|_| Fault::Write)
+    match text.push('\n') {
+        Ok(()) => Ok(text),
+        Err(_) => Err(Fault::Memory),
+    }
 }

@@ -1,7 +1,8 @@
 //! The program over any input and output.
-ghost use Rattle.std.specs.Prelude.{◌≡◌, ◌≤◌};
+ghost use Rattle.std.specs.Prelude.{◌≡◌, ◌≢◌, ◌≤◌, IfErr};
 ghost use Rattle.std.specs.Io.KnownBytes.{Keeps};
 ghost use Rattle.clap.specs.Words.{kind_of};
+ghost use Rattle.nbt.specs.Output.{ShowsFailing};
 ghost use Rattle.nbt.specs.FaultTexts.{status_after};
 ghost use Rattle.nbt.specs.ClapAnswer.{Reports, answer_to};
 
@@ -9,8 +10,10 @@ use crate::clap_answer::ClapAnswer;
 use crate::command_line::command;
 use crate::fault::Fault;
 use crate::name::run_name;
+use crate::output::Output;
 use crate::status::Status;
 use clap::{ArgMatches, Error};
+use nb_names::Counted;
 use std::alloc::Global;
 use std::io::{Read, Write};
 
@@ -30,17 +33,36 @@ pub fn run<R: Read, W: Write, E: Write>(
 ) -> u8
     ensures within { result ≤ 3 }
     ensures unread { input.new ≡ input.old }
-    ensures usage { result ≡ 2 → Keeps (W.contents output.old) (W.contents output.new) }
 {
-    let _ = input;
-    let status = match command(alloc) {
+    let mut input = Counted::new(&mut *input);
+    let mut output = Output::new(&mut *output);
+    let mut errors = Output::new(&mut *errors);
+    let status = run_words(alloc, words, &mut input, &mut output, &mut errors);
+    let _ = errors.into_inner();
+    let _ = output.into_inner();
+    let _ = input.into_inner();
+    status.code()
+}
+
+/// Runs the program over streams whose calls are counted.
+fn run_words<R: Read, W: Write, E: Write>(
+    alloc: Global,
+    words: &[String],
+    input: &mut Counted<R>,
+    output: &mut Output<W>,
+    errors: &mut Output<E>,
+) -> Status
+    ensures unread { input.new ≡ input.old }
+    ensures usage { result ≡ Status.BadUsage →
+        Keeps (W.contents output.old.inner) (W.contents output.new.inner) }
+{
+    match command(alloc) {
         Ok(command) => match command.try_get_matches_from(words) {
-            Ok(matches) => report(run_command(alloc, &matches, output), errors),
+            Ok(matches) => report(run_command(alloc, &matches, input, output), errors),
             Err(error) => report_unmatched(&error, output, errors),
         },
         Err(_) => report(Err(Fault::Memory), errors),
-    };
-    status.code()
+    }
 }
 
 /// Runs the subcommand that the words name.
@@ -48,11 +70,17 @@ pub fn run<R: Read, W: Write, E: Write>(
 /// # Errors
 ///
 /// Those of the subcommand, and [`Fault::Arguments`] for one that has no arm here.
-fn run_command<W: Write>(
+fn run_command<R: Read, W: Write>(
     alloc: Global,
     matches: &ArgMatches<'_>,
-    output: &mut W,
-) -> Result<(), Fault> {
+    input: &mut Counted<R>,
+    output: &mut Output<W>,
+) -> Result<(), Fault>
+    ensures unread { input.new ≡ input.old }
+    ensures why { IfErr result (λ fault. fault ≡ Fault.Write →
+        ShowsFailing output.old.counts output.new.counts) }
+{
+    let _ = input;
     match matches.subcommand() {
         Some(("name", matches)) => run_name(alloc, matches, output),
         _ => Err(Fault::Arguments),
@@ -60,8 +88,9 @@ fn run_command<W: Write>(
 }
 
 /// The status with which a command ended. Its fault, if it has one, goes to `errors` as a line.
-pub fn report<E: Write>(outcome: Result<(), Fault>, errors: &mut E) -> Status
-    ensures { result ≡ status_after outcome }
+pub fn report<E: Write>(outcome: Result<(), Fault>, errors: &mut Output<E>) -> Status
+    ensures value { result ≡ status_after outcome }
+    ensures no_usage { result ≢ Status.BadUsage }
 {
     match outcome {
         Ok(()) => Status::Done,
@@ -74,9 +103,13 @@ pub fn report<E: Write>(outcome: Result<(), Fault>, errors: &mut E) -> Status
 
 /// The status where clap has no matches of the words. Its text goes to `output` where the help or
 /// the version is asked for, and to `errors` where the words are a bad command line.
-fn report_unmatched<W: Write, E: Write>(error: &Error, output: &mut W, errors: &mut E) -> Status
+fn report_unmatched<W: Write, E: Write>(
+    error: &Error,
+    output: &mut Output<W>,
+    errors: &mut Output<E>,
+) -> Status
     ensures { Reports (answer_to (kind_of error.now)) result
-        (W.contents output.old) (W.contents output.new) }
+        (W.contents output.old.inner) (W.contents output.new.inner) }
 {
     match ClapAnswer::to(error.kind()) {
         ClapAnswer::Asked => {

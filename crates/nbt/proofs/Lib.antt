@@ -1,0 +1,2 @@
+pub mod WritingTurns
+pub mod ReadingTurns

@@ -3,3 +3,5 @@ pub mod WordsLemmas
 pub mod MomentLemmas
 pub mod PayloadLemmas
 pub mod LineLemmas
+pub mod KeysLemmas
+pub mod LiveLemmas

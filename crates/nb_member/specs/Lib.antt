@@ -1,2 +1,6 @@
 pub mod Capture
 pub mod FaultTexts
+pub mod Hearing
+pub mod Live
+pub mod Handed
+pub mod Agreement

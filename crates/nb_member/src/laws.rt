@@ -1,10 +1,17 @@
 //! Laws of the definitions that the contracts cite. Each is proved; a call does nothing.
-ghost use Rattle.std.specs.Prelude.{◌≡◌, ◌⊎◌, ℕ, List, Option, Some, None, Result, Ok, Err};
-ghost use Rattle.nb_member.specs.declared.limits.TheConstants.{MAX_LINE, MAX_MOMENT_DIGITS};
+ghost use Rattle.std.specs.Prelude.{◌≡◌, ◌⊎◌, ℕ, List, [], Option, Some, None, Result, Ok, Err};
+ghost use Rattle.nb_member.specs.declared.limits.TheConstants.{MAX_LINE, MAX_MOMENT_DIGITS, FRAGMENT_TIMEOUT, MAX_NAMES};
 ghost use Rattle.nb_member.specs.declared.line.Line.{Line};
 ghost use Rattle.nb_member.specs.declared.line_fault.LineFault.{LineFault};
 ghost use Rattle.nb_member.specs.declared.line_fault.LineFault.TheVariants.{BadLine, NoMemory};
 ghost use Rattle.nb_member.specs.Capture.{HasValue, SaysNothing, IsMalformed, Reads};
+ghost use Rattle.nb_member.specs.declared.settings.Settings.{Settings};
+ghost use Rattle.nb_member.specs.Live.{Saying, cores, live, table_from};
+ghost use Rattle.nb_member.specs.Agreement.{valid_cores, NoneDropped, NoneFull, GiveTheSame};
+
+use nb_table::laws::{
+    same_cores_make_the_same_table, table_has_the_entry_of_its_list, table_of_two_lists_is_the_join,
+};
 
 /// A line of a capture says one thing at most, and none that says nothing.
 pub fn a_line_has_one_value()
@@ -31,8 +38,30 @@ pub fn a_line_has_one_answer()
         Reads line result → IsMalformed line → result ≡ Err BadLine }
 {}
 
-/// The limits of captures, as numbers.
+/// Where no look at the clock drops a key and no fragment meets the limit on keys, the fragments that
+/// are live are the valid ones.
+pub fn live_fragments_are_the_valid_ones()
+    ensures { (settings : Settings) (S : List Saying) →
+        NoneDropped settings [] S → NoneFull settings [] S → cores (live settings S) ≡ valid_cores S }
+{}
+
+/// Where events say the same fragments, whose keys are within the limit, and no look at the clock drops
+/// a key, no fragment meets the limit, and the tables of what is live are the same.
+pub fn the_same_fragments_make_the_same_table()
+    ensures room { (settings : Settings) (S T : List Saying) → GiveTheSame settings S T →
+        NoneFull settings [] S × NoneFull settings [] T }
+    ensures same { (settings : Settings) (S T : List Saying) → GiveTheSame settings S T →
+        table_from (live settings S) ≡ table_from (live settings T) }
+{
+    table_has_the_entry_of_its_list();
+    table_of_two_lists_is_the_join();
+    same_cores_make_the_same_table();
+}
+
+/// The limits, as numbers.
 pub fn limits_are_these_numbers()
     ensures line { MAX_LINE ≡ 262200 }
     ensures digits { MAX_MOMENT_DIGITS ≡ 20 }
+    ensures timeout { FRAGMENT_TIMEOUT ≡ 2000 }
+    ensures names { MAX_NAMES ≡ 254 }
 {}

@@ -2,14 +2,18 @@
 #![tactic(auto)]
 
 mod capture;
+mod event;
 pub mod laws;
 pub mod limits;
 mod line;
 mod line_fault;
+mod settings;
 
 pub use capture::capture_line;
+pub use event::Event;
 pub use line::Line;
 pub use line_fault::LineFault;
+pub use settings::Settings;
 
 #[cfg(test)]
 mod tests;

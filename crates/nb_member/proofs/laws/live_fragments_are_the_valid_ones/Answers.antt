@@ -1,0 +1,6 @@
+use Rattle.std.proofs.Common.{[]}
+use Rattle.nb_member.proofs.LiveLemmas.{live_is_valid}
+use Rattle.nb_member.proofs.laws.live_fragments_are_the_valid_ones.Goals as goal
+
+pub returns : goal.returns
+returns c = λ settings S kept room. live_is_valid settings [] S kept room

@@ -1,0 +1,55 @@
+-- The headline's premises: when two members given two lists of events are given the same fragments, within
+-- the limit on keys, and before any timer runs out (own).
+--
+-- S and T are what the events of the two lists say.
+use Rattle.std.specs.Prelude.{◌≡◌, ◌≤◌, ℕ, false, List, [], ◌∷◌}
+use Rattle.std.specs.FinMap as maps
+use Rattle.nb_datagram.specs.Fragment.{Core, core_of}
+use Rattle.nb_table.specs.Contents.{table_of}
+use Rattle.nb_table.specs.Join.{SameCores}
+use Rattle.nb_member.specs.declared.settings.Settings.{Settings}
+use Rattle.nb_member.specs.Live.{Saying, came, refused, another, clock, Timed, is_full, live_after}
+
+-- the cores of the valid fragments among S, in order
+abbrev pub valid_cores : List Saying → List Core
+valid_cores [] = []
+valid_cores (came moment f ∷ S) = core_of f ∷ valid_cores S
+valid_cores (refused error ∷ S) = valid_cores S
+valid_cores (another ∷ S) = valid_cores S
+valid_cores (clock now ∷ S) = valid_cores S
+
+-- DropsNone settings L s: it is no look at the clock that drops a key, where L are live
+abbrev pub DropsNone : Settings → List Timed → Saying → Type 0
+DropsNone settings L (came moment f) = Unit {0}
+DropsNone settings L (refused error) = Unit {0}
+DropsNone settings L another = Unit {0}
+DropsNone settings L (clock now) = live_after settings L (clock now) ≡ L
+
+-- NoneDropped settings L S: no look at the clock among S drops a key, where L are live before them
+abbrev pub NoneDropped : Settings → List Timed → List Saying → Type 0
+NoneDropped settings L [] = Unit {0}
+NoneDropped settings L (s ∷ S) = DropsNone settings L s × NoneDropped settings (live_after settings L s) S
+
+-- HasRoom settings L s: it is no fragment that meets the limit on keys, where L are live
+abbrev pub HasRoom : Settings → List Timed → Saying → Type 0
+HasRoom settings L (came moment f) = is_full settings L f.key ≡ false
+HasRoom settings L (refused error) = Unit {0}
+HasRoom settings L another = Unit {0}
+HasRoom settings L (clock now) = Unit {0}
+
+-- NoneFull settings L S: no fragment among S meets the limit on keys, where L are live before them
+abbrev pub NoneFull : Settings → List Timed → List Saying → Type 0
+NoneFull settings L [] = Unit {0}
+NoneFull settings L (s ∷ S) = HasRoom settings L s × NoneFull settings (live_after settings L s) S
+
+-- the valid fragments among S have at most as many keys as a table may hold
+abbrev pub IsWithinCapacity : Settings → List Saying → Type 0
+IsWithinCapacity settings S = maps.len (table_of (valid_cores S)) ≤ settings.keys
+
+-- the two lists have the same valid fragments, whose keys are within the limit, and no look at the clock
+-- among either drops a key
+pub record GiveTheSame (settings : Settings) (S T : List Saying) : Type 0 where
+  pub same_fragments : SameCores (valid_cores S) (valid_cores T)
+  pub within_capacity : IsWithinCapacity settings S
+  pub none_dropped : NoneDropped settings [] S
+  pub none_dropped_there : NoneDropped settings [] T

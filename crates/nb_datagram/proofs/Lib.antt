@@ -1,0 +1,4 @@
+mod StandsLemmas
+mod ReadingLemmas
+mod PacketLemmas
+mod FaultLemmas

@@ -3,4 +3,9 @@ pub mod KeyOrder
 pub mod Kind
 pub mod Fragment
 pub mod Datagram
+pub mod Header
+pub mod Packet
+pub mod DatagramFaults
+pub mod FaultTexts
+pub mod Reading
 pub mod Pieces

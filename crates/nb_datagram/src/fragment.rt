@@ -101,6 +101,38 @@ impl<'a> Fragment<'a> {
         })
     }
 
+    /// A fragment of these parts, which are known to fit.
+    pub(crate) fn with_parts(
+        kind: Kind,
+        flags: u8,
+        key: Key,
+        offset: u16,
+        source: Name,
+        destination: Name,
+        bytes: &'a [u8],
+    ) -> Fragment<'a>
+        requires { named_length source destination bytes.now ≤ MAX_LENGTH }
+        ensures { result ≡ record {
+          kind = kind;
+          flags = flags;
+          key = key;
+          offset = offset;
+          source = source;
+          destination = destination;
+          bytes = bytes.entry.now;
+        } }
+    {
+        Fragment {
+            kind,
+            flags,
+            key,
+            offset,
+            source,
+            destination,
+            bytes,
+        }
+    }
+
     /// Whom the datagram is for.
     pub fn kind(&self) -> Kind
         ensures { result ≡ self.now.kind }
@@ -150,6 +182,14 @@ impl<'a> Fragment<'a> {
             self.now.bytes ≤ MAX_LENGTH }
     {
         self.bytes
+    }
+
+    /// How many bytes both names, spelled plainly, and the data have: the packet's DGM_LENGTH.
+    pub(crate) fn named_length(&self) -> u16
+        ensures { result ≡ named_length self.now.source self.now.destination self.now.bytes }
+    {
+        let names = spelled_len(&self.source) + spelled_len(&self.destination);
+        (names + self.bytes.len()) as u16
     }
 
     /// Whether FLAGS says that this is the datagram's first fragment.

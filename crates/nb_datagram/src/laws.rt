@@ -1,9 +1,15 @@
 //! Laws of the definitions that the contracts cite. Each is proved; a call does nothing.
-ghost use Rattle.std.specs.Prelude.{◌≡◌, ◌↔◌, IsTrue};
+ghost use Rattle.std.specs.Prelude.{◌≡◌, ◌↔◌, ℕ, List, IsTrue};
 ghost use Rattle.std.specs.Cmp.{IsTotalOrder};
 ghost use Rattle.std.specs.declared.cmp.Ordering.TheVariants.{Equal};
+ghost use Rattle.nb_datagram.specs.declared.fault.DatagramFault.{DatagramFault};
 ghost use Rattle.nb_datagram.specs.declared.key.Key.{Key};
+ghost use Rattle.nb_datagram.specs.declared.packet.Packet.{Packet};
+ghost use Rattle.nb_datagram.specs.DatagramFaults.{PacketFails};
 ghost use Rattle.nb_datagram.specs.Key.{key_cmp, same_key};
+ghost use Rattle.nb_datagram.specs.Packet.{IsPacket};
+
+use nb_names::laws::{labels_tell_the_name, one_netbios_fault, one_reading, spelling_is_read};
 
 /// Keys have one order: of two keys one comes first or they tie, and those that tie are one key.
 pub fn keys_have_one_order()
@@ -11,3 +17,28 @@ pub fn keys_have_one_order()
     ensures exact { (a b : Key) → key_cmp a b ≡ Equal → a ≡ b }
     ensures same { (a b : Key) → IsTrue (same_key a b) ↔ (a ≡ b) }
 {}
+
+/// Bytes begin with one packet at most, which has one length.
+pub fn one_packet()
+    ensures { (bytes : List ℕ) (packet other : Packet) (used behind : ℕ) →
+        IsPacket bytes packet used → IsPacket bytes other behind →
+        (packet ≡ other) × (used ≡ behind) }
+{
+    one_reading();
+    one_netbios_fault();
+    spelling_is_read();
+    labels_tell_the_name();
+}
+
+/// Where bytes have a fault, they begin with no packet, and have no other fault.
+pub fn one_datagram_fault()
+    ensures alone { (bytes : List ℕ) (fault : DatagramFault) (packet : Packet) (used : ℕ) →
+        PacketFails bytes fault → ¬ IsPacket bytes packet used }
+    ensures one { (bytes : List ℕ) (fault other : DatagramFault) →
+        PacketFails bytes fault → PacketFails bytes other → fault ≡ other }
+{
+    one_reading();
+    one_netbios_fault();
+    spelling_is_read();
+    labels_tell_the_name();
+}

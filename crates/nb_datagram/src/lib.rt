@@ -2,8 +2,14 @@
 #![tactic(auto)]
 
 mod datagram;
+mod decoding;
+mod encoding;
 pub mod error_codes;
+mod fault;
+mod fitting;
+mod form;
 mod fragment;
+mod header;
 mod key;
 mod kind;
 pub mod laws;
@@ -13,11 +19,14 @@ mod packet;
 mod too_long;
 
 pub use datagram::Datagram;
+pub use decoding::decode;
+pub use encoding::encode;
+pub use fault::DatagramFault;
 pub use fragment::Fragment;
 pub use key::Key;
 pub use kind::Kind;
 pub use lists::{Datagrams, ErrorPackets, Pieces};
-pub use packet::ErrorPacket;
+pub use packet::{ErrorPacket, Packet, QueryKind, QueryPacket};
 pub use too_long::TooLong;
 
 #[cfg(test)]

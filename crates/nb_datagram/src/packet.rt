@@ -1,6 +1,21 @@
 //! Packets of the datagram service.
 
+use crate::fragment::Fragment;
 use crate::key::Key;
+use nb_names::Name;
+
+/// A packet of the datagram service (RFC 1002 section 4.4).
+///
+/// A fragment's data is lent. All eight bits of each packet's FLAGS are kept.
+#[derive(Drop)]
+pub enum Packet<'a> {
+    /// A datagram, or a part of one: MSG_TYPE 10, 11 or 12.
+    Direct(Fragment<'a>),
+    /// Why a datagram wasn't taken: MSG_TYPE 13.
+    Error(ErrorPacket),
+    /// A question to a distribution server, or its answer: MSG_TYPE 14, 15 or 16.
+    Query(QueryPacket),
+}
 
 /// An error packet: why a datagram wasn't taken (RFC 1002 section 4.4.3).
 #[derive(Clone, Copy, Debug, PartialEq, Eq)]
@@ -11,4 +26,29 @@ pub struct ErrorPacket {
     pub key: Key,
     /// ERROR_CODE, any number; those that the RFC names are in `error_codes`.
     pub code: u8,
+}
+
+/// A question to a distribution server, whether it has a name, or its answer (RFC 1002 section
+/// 4.4.4).
+#[derive(Drop)]
+pub struct QueryPacket {
+    /// The question, or which answer.
+    pub kind: QueryKind,
+    /// FLAGS, all eight bits.
+    pub flags: u8,
+    /// The sender's address and port, and the identifier.
+    pub key: Key,
+    /// The name asked for.
+    pub destination: Name,
+}
+
+/// What a query packet says (RFC 1002 section 4.4.1, MSG_TYPE 14 to 16).
+#[derive(Clone, Copy, Debug, PartialEq, Eq)]
+pub enum QueryKind {
+    /// The question: DATAGRAM QUERY REQUEST.
+    Request,
+    /// The server has the name: DATAGRAM POSITIVE QUERY RESPONSE.
+    Positive,
+    /// The server doesn't have it: DATAGRAM NEGATIVE QUERY RESPONSE.
+    Negative,
 }

@@ -121,3 +121,10 @@ pub fn place_in_spelling()
     ensures before { (labels : List (List ℕ)) (place before : ℕ) → IsUnlike labels place →
         0 < before → before < place → IsLetter (slice_index (spelling labels) before) }
 {}
+
+/// A name's labels make a domain name, and no other name has them.
+pub fn labels_tell_the_name()
+    ensures domain { (name : NetbiosName) → IsName name → IsDomain (labels_of_name name) }
+    ensures one { (name other : NetbiosName) → labels_of_name name ≡ labels_of_name other →
+        name ≡ other }
+{}

@@ -1,0 +1,13 @@
+-- The texts of faults (own). Each fault's number is written in decimal.
+use Rattle.std.specs.Prelude.{ℕ, List, ◌++◌, codes}
+use Rattle.std.specs.Fmt.{decimal}
+use Rattle.nb_names.specs.FaultTexts.{name_fault_text}
+use Rattle.nb_datagram.specs.declared.fault.DatagramFault.{DatagramFault}
+use Rattle.nb_datagram.specs.declared.fault.DatagramFault.TheVariants.{Truncated, UnknownType, SourceName, DestinationName}
+
+-- what is told of bytes that could not be decoded
+abbrev pub datagram_fault_text : DatagramFault → List ℕ
+datagram_fault_text (Truncated at) = codes "truncated " ++ decimal at
+datagram_fault_text UnknownType = codes "unknown type"
+datagram_fault_text (SourceName fault) = codes "source name: " ++ name_fault_text fault
+datagram_fault_text (DestinationName fault) = codes "destination name: " ++ name_fault_text fault

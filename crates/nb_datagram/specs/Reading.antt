@@ -1,0 +1,21 @@
+-- What the code's own functions say of a packet while it is read; no public contract cites this.
+use Rattle.std.specs.Prelude.{ℕ, ◌≤◌, List, length}
+use Rattle.nb_names.specs.Labels.{StandsAt}
+use Rattle.nb_datagram.specs.declared.form.Form.{Form}
+use Rattle.nb_datagram.specs.declared.form.Form.TheVariants.{Direct, Error, Query}
+use Rattle.nb_datagram.specs.declared.header.Header.{Header}
+use Rattle.nb_datagram.specs.declared.limits.TheConstants.{HEADER_LENGTH}
+use Rattle.nb_datagram.specs.Kind.{type_of}
+use Rattle.nb_datagram.specs.Header.{header_bytes, IsKey, error_type, query_type}
+
+-- the MSG_TYPE of packets of a form
+abbrev pub number_of : Form → ℕ
+number_of (Direct kind) = type_of kind
+number_of Error = error_type
+number_of (Query kind) = query_type kind
+
+-- these bytes begin with this header
+pub record HasHeader (bytes : List ℕ) (header : Header) : Type 0 where
+  pub key : IsKey header.key
+  pub whole : HEADER_LENGTH ≤ length bytes
+  pub stands : StandsAt bytes 0 (header_bytes (number_of header.form) header.flags header.key)

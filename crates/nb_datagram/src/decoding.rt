@@ -1,0 +1,134 @@
+//! Packets, decoded.
+ghost use Rattle.std.specs.Prelude.{◌≡◌, ◌≤◌, ℕ, length, IfOk, IfErr, IsOkAnd};
+ghost use Rattle.nb_datagram.specs.declared.packet.Packet.{Packet};
+ghost use Rattle.nb_datagram.specs.DatagramFaults.{DirectFails, PacketFails};
+ghost use Rattle.nb_datagram.specs.Packet.{IsPacket};
+ghost use Rattle.nb_datagram.specs.Reading.{HasHeader};
+
+use crate::fault::DatagramFault;
+use crate::form::Form;
+use crate::fragment::Fragment;
+use crate::header::{Header, read_header};
+use crate::kind::Kind;
+use crate::laws::{one_datagram_fault, one_packet};
+use crate::limits::{DIRECT_HEADER_LENGTH, ERROR_LENGTH, HEADER_LENGTH};
+use crate::packet::{ErrorPacket, Packet, QueryKind, QueryPacket};
+use nb_names::numbers::number_16;
+use nb_names::{Name, Pointers, read_name};
+
+/// The fragment behind a header, and its packet's length.
+fn read_direct<'a>(
+    bytes: &'a [u8],
+    header: &Header,
+    kind: Kind,
+) -> Result<(Packet<'a>, usize), DatagramFault>
+    requires header { HasHeader bytes.now header.now }
+    requires form { header.now.form ≡ Form.Direct kind }
+    ensures found { IfOk result (λ read. IsPacket bytes.now read.0 read.1) }
+    ensures fault { IfErr result (DirectFails bytes.now) }
+{
+    if bytes.len() < DIRECT_HEADER_LENGTH {
+        return Err(DatagramFault::Truncated(bytes.len()));
+    }
+    let end = DIRECT_HEADER_LENGTH + number_16(bytes, HEADER_LENGTH) as usize;
+    if bytes.len() < end {
+        return Err(DatagramFault::Truncated(bytes.len()));
+    }
+    let packet = &bytes[..end];
+    let (source, behind) = match read_name(packet, DIRECT_HEADER_LENGTH, Pointers::Refused) {
+        Ok(read) => read,
+        Err(fault) => return Err(DatagramFault::SourceName(fault)),
+    };
+    let (destination, start) = match read_name(packet, behind, Pointers::Refused) {
+        Ok(read) => read,
+        Err(fault) => return Err(DatagramFault::DestinationName(fault)),
+    };
+    let fragment = Fragment::with_parts(
+        kind,
+        header.flags,
+        header.key,
+        number_16(bytes, HEADER_LENGTH + 2),
+        source,
+        destination,
+        &packet[start..],
+    );
+    Ok((Packet::Direct(fragment), end))
+}
+
+/// The error packet behind a header, and its length.
+fn read_error<'a>(bytes: &'a [u8], header: &Header) -> Result<(Packet<'a>, usize), DatagramFault>
+    requires header { HasHeader bytes.now header.now }
+    requires form { header.now.form ≡ Form.Error }
+    ensures found { IfOk result (λ read. IsPacket bytes.now read.0 read.1) }
+    ensures fault { IfErr result (PacketFails bytes.now) }
+{
+    if bytes.len() < ERROR_LENGTH {
+        return Err(DatagramFault::Truncated(bytes.len()));
+    }
+    let error = ErrorPacket {
+        flags: header.flags,
+        key: header.key,
+        code: bytes[HEADER_LENGTH],
+    };
+    Ok((Packet::Error(error), ERROR_LENGTH))
+}
+
+/// The query packet behind a header, and its length.
+fn read_query<'a>(
+    bytes: &'a [u8],
+    header: &Header,
+    kind: QueryKind,
+) -> Result<(Packet<'a>, usize), DatagramFault>
+    requires header { HasHeader bytes.now header.now }
+    requires form { header.now.form ≡ Form.Query kind }
+    ensures found { IfOk result (λ read. IsPacket bytes.now read.0 read.1) }
+    ensures fault { IfErr result (PacketFails bytes.now) }
+{
+    match read_name(bytes, HEADER_LENGTH, Pointers::Refused) {
+        Ok((destination, used)) => {
+            let query = QueryPacket {
+                kind,
+                flags: header.flags,
+                key: header.key,
+                destination,
+            };
+            Ok((Packet::Query(query), used))
+        }
+        Err(fault) => Err(DatagramFault::DestinationName(fault)),
+    }
+}
+
+/// Decodes the packet at the front of bytes, and how many of them it takes up.
+///
+/// Offsets in faults count from the first byte, but for `NotNetbios`, whose place is one in the
+/// spelling. Bytes after the packet are left unread, and all bits of FLAGS are kept (our choice). A
+/// fragment's data is lent from the input. No memory is taken.
+///
+/// # Errors
+///
+/// The first step that fails, in [`DatagramFault`]'s order: the ten bytes of the header, its type,
+/// the bytes before the names, all bytes that DGM_LENGTH counts, then the names. These are read
+/// inside those bytes, a query packet's over all of the input, and pointers are refused.
+///
+/// RFC 1002 sections 4.4.1 to 4.4.4. That DGM_LENGTH counts one packet's names and data alone, and
+/// that each fragment carries both names, is our choice.
+pub fn decode<'a>(bytes: &'a [u8]) -> Result<(Packet<'a>, usize), DatagramFault>
+    // What is answered stands there, and what stands there is answered, whatever follows.
+    ensures found { IfOk result (λ read. IsPacket bytes.now read.0 read.1) }
+    ensures only { (packet : Packet) (used : ℕ) → IsPacket bytes.now packet used →
+        IsOkAnd result (λ read. (read.0 ≡ packet) × (read.1 ≡ used)) }
+    ensures within { IfOk result (λ read. read.1 ≤ length bytes.now) }
+
+    // Which fault it is, and where.
+    ensures fault { IfErr result (PacketFails bytes.now) }
+{
+    // The laws on which the clause `only` stands; the calls do nothing.
+    one_packet();
+    one_datagram_fault();
+    let header = read_header(bytes)?;
+    match header.form {
+        Form::Direct(kind) => read_direct(bytes, &header, kind),
+        Form::Error => read_error(bytes, &header),
+        Form::Query(kind) => read_query(bytes, &header, kind),
+    }
+}

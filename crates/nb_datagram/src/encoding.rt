@@ -1,0 +1,94 @@
+//! Packets, encoded.
+ghost use Rattle.std.specs.Prelude.{◌≡◌, ◌∷◌, ◌++◌, ℕ, List, length, IfOk, OnOk};
+ghost use Rattle.nb_datagram.specs.Header.{header_bytes};
+ghost use Rattle.nb_datagram.specs.Packet.{name_bytes, direct_bytes, packet_bytes, IsPacket};
+
+use crate::fitting::packet_fits;
+use crate::form::ERROR_TYPE;
+use crate::fragment::Fragment;
+use crate::key::Key;
+use crate::packet::Packet;
+use nb_names::{Bytes, Name, NoMemory};
+use std::alloc::Global;
+
+/// Adds a header behind the bytes.
+fn push_header(bytes: &mut Vec<u8>, message_type: u8, flags: u8, key: Key) -> Result<(), NoMemory>
+    ensures { OnOk result (bytes.new.items ≡
+        bytes.old.items ++ header_bytes message_type flags key) }
+{
+    bytes.push(message_type)?;
+    bytes.push(flags)?;
+    bytes.extend_from_slice(&key.id.to_be_bytes())?;
+    bytes.extend_from_slice(&key.ip)?;
+    bytes.extend_from_slice(&key.port.to_be_bytes())?;
+    Ok(())
+}
+
+/// Adds a name behind the bytes, as it is spelled.
+fn push_name(bytes: &mut Vec<u8>, name: &Name) -> Result<(), NoMemory>
+    ensures { OnOk result (bytes.new.items ≡ bytes.old.items ++ name_bytes name.now) }
+{
+    bytes.extend_from_slice(name.to_domain().spelling())?;
+    Ok(())
+}
+
+/// Adds what stands behind the header of a fragment's packet.
+fn push_direct(bytes: &mut Vec<u8>, fragment: &Fragment<'_>) -> Result<(), NoMemory>
+    ensures { OnOk result (bytes.new.items ≡ bytes.old.items ++ direct_bytes fragment.now) }
+{
+    bytes.extend_from_slice(&fragment.named_length().to_be_bytes())?;
+    bytes.extend_from_slice(&fragment.offset().to_be_bytes())?;
+    push_name(bytes, fragment.source())?;
+    push_name(bytes, fragment.destination())?;
+    bytes.extend_from_slice(fragment.bytes())?;
+    Ok(())
+}
+
+/// The bytes of a packet, in a vector.
+fn write_packet(alloc: Global, packet: &Packet<'_>) -> Result<Vec<u8>, NoMemory>
+    ensures { IfOk result (λ bytes. bytes.items ≡ packet_bytes packet.now) }
+{
+    let mut bytes = Vec::new(alloc);
+    match packet {
+        Packet::Direct(fragment) => {
+            let message_type = fragment.kind().message_type();
+            push_header(&mut bytes, message_type, fragment.flags(), fragment.key())?;
+            push_direct(&mut bytes, fragment)?;
+        }
+        Packet::Error(error) => {
+            push_header(&mut bytes, ERROR_TYPE, error.flags, error.key)?;
+            bytes.push(error.code)?;
+        }
+        Packet::Query(query) => {
+            push_header(
+                &mut bytes,
+                query.kind.message_type(),
+                query.flags,
+                query.key,
+            )?;
+            push_name(&mut bytes, &query.destination)?;
+        }
+    }
+    Ok(bytes)
+}
+
+/// Encodes a packet: the bytes that are decoded as it.
+///
+/// FLAGS are written as they are, names with no pointer.
+///
+/// # Errors
+///
+/// [`NoMemory`] where memory ran out.
+///
+/// RFC 1002 sections 4.4.1 to 4.4.4. That DGM_LENGTH counts one packet's names and data alone, and
+/// that each fragment carries both names, is our choice.
+pub fn encode(alloc: Global, packet: &Packet<'_>) -> Result<Bytes, NoMemory>
+    ensures written { IfOk result (λ bytes. bytes ≡ packet_bytes packet.now) }
+    // Whatever follows, the bytes are decoded as this packet.
+    ensures read_again { IfOk result (λ bytes. (rest : List ℕ) →
+        IsPacket (bytes ++ rest) packet.now (length bytes)) }
+{
+    // For the clause `read_again`; the call does nothing.
+    packet_fits(packet);
+    Ok(Bytes::from_vec(write_packet(alloc, packet)?))
+}

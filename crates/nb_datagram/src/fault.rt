@@ -1,0 +1,40 @@
+//! Why bytes begin with no packet.
+
+use nb_names::NameFault;
+use std::error::Error;
+use std::fmt;
+
+/// Why bytes could not be decoded, and where.
+///
+/// Offsets count from the packet's first byte. The variants stand in the order in which they are
+/// judged: the header, its type, the bytes that the type and DGM_LENGTH ask for, then the names.
+#[derive(Clone, Copy, Debug, PartialEq, Eq)]
+pub enum DatagramFault {
+    /// The bytes end inside the packet. The offset is that of the first missing byte, which is how
+    /// many there are.
+    Truncated(usize),
+    /// MSG_TYPE is none of 10 to 16.
+    UnknownType,
+    /// No NetBIOS name stands where the source's is to stand.
+    SourceName(NameFault),
+    /// No NetBIOS name stands where the destination's is to stand.
+    DestinationName(NameFault),
+}
+
+impl fmt::Display for DatagramFault {
+    ghost use Rattle.std.specs.Prelude.{Some};
+    ghost use Rattle.nb_datagram.specs.FaultTexts.{datagram_fault_text};
+
+    ghost output = { λ fault. Some (datagram_fault_text fault) };
+
+    fn fmt<W: fmt::Write>(&self, f: &mut fmt::Formatter<W>) -> fmt::Result {
+        match self {
+            DatagramFault::Truncated(at) => write!(f, "truncated {at}"),
+            DatagramFault::UnknownType => f.write_str("unknown type"),
+            DatagramFault::SourceName(fault) => write!(f, "source name: {fault}"),
+            DatagramFault::DestinationName(fault) => write!(f, "destination name: {fault}"),
+        }
+    }
+}
+
+impl Error for DatagramFault {}

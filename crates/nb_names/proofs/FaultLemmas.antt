@@ -7,9 +7,9 @@ use Rattle.nb_names.specs.declared.fault.NameFault.{NameFault}
 use Rattle.nb_names.specs.declared.fault.NameFault.TheVariants.{Truncated, ReservedLabel, PointerNotAllowed, BadPointer, TooLong, NotNetbios}
 use Rattle.nb_names.specs.DomainName.{spelling, IsLabel}
 use Rattle.nb_names.specs.Labels.{StandsAt, IsPointer, LabelsAt, ends, goes_on, leads_to, NameAt}
-use Rattle.nb_names.specs.NameFaults.{OnWay, begins, behind_label, along_pointer, IsCut, no_length_byte, short_label, half_pointer, IsReserved, FaultHere, cut, reserved, not_allowed, not_below, too_long, FaultAt, NetbiosFaultAt, on_way, unlike}
-use Rattle.nb_names.specs.FirstLevel.{IsFirstStranger}
-use Rattle.nb_names.specs.Name.{NetbiosName, IsName, IsUnlike, no_label, wrong_length, stranger, labels_of_name}
+use Rattle.nb_names.specs.NameFaults.{OnWay, begins, behind_label, along_pointer, IsCut, no_length_byte, short_label, half_pointer, IsReserved, FaultHere, cut, reserved, not_allowed, not_below, too_long, FaultAt, NetbiosFaultAt, on_way, not_netbios}
+use Rattle.nb_names.specs.FirstLevel.{IsFirstNonLetter}
+use Rattle.nb_names.specs.Name.{NetbiosName, IsName, IsNoName, no_label, wrong_length, non_letter, labels_of_name}
 use Rattle.std.proofs.lemmas.Bool.{cases_lt}
 use Rattle.nb_names.proofs.NameLemmas.{name_length, name_letters}
 use Rattle.nb_names.proofs.SpellingLemmas.{length-spelling-snoc}
@@ -201,36 +201,36 @@ no_name packet q at f h ls n r = fails_none packet q at at at [] ls f n (fails_a
 
 -- ---- faults of a NetBIOS name
 
-one_stranger : (label : List ℕ) (p q : ℕ) → IsFirstStranger label p → IsFirstStranger label q → p ≡ q
+one_stranger : (label : List ℕ) (p q : ℕ) → IsFirstNonLetter label p → IsFirstNonLetter label q → p ≡ q
 one_stranger label p q a b = elim (cases_lt p q) [
-  | inl less ↦ absurd (a.stranger (b.before p less))
+  | inl less ↦ absurd (a.non_letter (b.before p less))
   | inr more ↦ elim (cases_lt q p) [
-    | inl less ↦ absurd (b.stranger (a.before q less))
+    | inl less ↦ absurd (b.non_letter (a.before q less))
     | inr same ↦ omega arith
   ]
 ]
 
-pub one_unlike : (ls : List (List ℕ)) (p q : ℕ) → IsUnlike ls p → IsUnlike ls q → p ≡ q
+pub one_unlike : (ls : List (List ℕ)) (p q : ℕ) → IsNoName ls p → IsNoName ls q → p ≡ q
 one_unlike ls p q no_label no_label = refl
 one_unlike ls p q (wrong_length l r e) (wrong_length k t g) = refl
-one_unlike ls p q (wrong_length l r e) (stranger k t n g s) = absurd (e g)
-one_unlike ls p q (stranger k t n g s) (wrong_length l r e) = absurd (e g)
-one_unlike ls p q (stranger l r n e s) (stranger k t m g u) = ap (λ (x : ℕ). 1 + x) (one_stranger l n m s u)
+one_unlike ls p q (wrong_length l r e) (non_letter k t n g s) = absurd (e g)
+one_unlike ls p q (non_letter k t n g s) (wrong_length l r e) = absurd (e g)
+one_unlike ls p q (non_letter l r n e s) (non_letter k t m g u) = ap (λ (x : ℕ). 1 + x) (one_stranger l n m s u)
 
-unlike_none : (name : NetbiosName) (ls : List (List ℕ)) (place : ℕ) → IsName name → labels_of_name name ≡ ls → IsUnlike ls place → ⊥
+unlike_none : (name : NetbiosName) (ls : List (List ℕ)) (place : ℕ) → IsName name → labels_of_name name ≡ ls → IsNoName ls place → ⊥
 unlike_none name ls place formed is no_label = cc
 unlike_none name ls place formed is (wrong_length l r e) = e (name_length name l r formed is)
-unlike_none name ls place formed is (stranger l r n e s) = name_letters name l r n formed is s
+unlike_none name ls place formed is (non_letter l r n e s) = name_letters name l r n formed is s
 
 pub one_netbios : (packet : List ℕ) (q : Pointers) (at : ℕ) (f g : NameFault) → NetbiosFaultAt packet q at f → NetbiosFaultAt packet q at g → f ≡ g
 one_netbios packet q at f g (on_way a) (on_way b) = one_fault packet q at f g a b
-one_netbios packet q at f g (on_way a) (unlike ls n p r u) = absurd (no_name packet q at f a ls n r)
-one_netbios packet q at f g (unlike ls n p r u) (on_way a) = absurd (no_name packet q at g a ls n r)
-one_netbios packet q at f g (unlike ls n p r u) (unlike ms m o s v) =
+one_netbios packet q at f g (on_way a) (not_netbios ls n p r u) = absurd (no_name packet q at f a ls n r)
+one_netbios packet q at f g (not_netbios ls n p r u) (on_way a) = absurd (no_name packet q at g a ls n r)
+one_netbios packet q at f g (not_netbios ls n p r u) (not_netbios ms m o s v) =
     let same = one_reading packet q at at ls ms n m r s in
     ap NotNetbios (one_unlike ls p o u (rw same.0 v))
 
 pub no_netbios : (packet : List ℕ) (q : Pointers) (at : ℕ) (f : NameFault) (name : NetbiosName) (n : ℕ) → NetbiosFaultAt packet q at f → IsName name → NameAt packet q at (labels_of_name name) n → ⊥
 no_netbios packet q at f name n (on_way a) formed r = no_name packet q at f a (labels_of_name name) n r
-no_netbios packet q at f name n (unlike ms m o s v) formed r =
+no_netbios packet q at f name n (not_netbios ms m o s v) formed r =
     unlike_none name ms o formed (one_reading packet q at at (labels_of_name name) ms n m r s).0 v

@@ -24,7 +24,7 @@ take_two_more xs i h =
     ∙ ap (λ (r : List ℕ). r ++ get_or xs (2 * i + 1) 0 ∷ []) (take_more xs (2 * i) 0 (omega arith))
     ∙ append_assoc (take (2 * i) xs) (get_or xs (2 * i) 0 ∷ []) (get_or xs (2 * i + 1) 0 ∷ [])
 
--- two stores behind what is done
+-- two stores after what is done
 pub take_two_set : (xs : List ℕ) (i a b : ℕ) → 2 * i + 1 < length xs → take (2 * (i + 1)) (set (set xs (2 * i) a) (2 * i + 1) b) ≡ take (2 * i) xs ++ (a ∷ b ∷ [])
 take_two_set xs i a b h =
     let two : 2 * (i + 1) ≡ (2 * i + 1) + 1 = omega arith in

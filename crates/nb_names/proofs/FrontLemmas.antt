@@ -3,13 +3,13 @@ use Rattle.std.proofs.Common.{◌≡◌, ℕ, ◌+◌, ◌<◌, ◌≤◌, List,
 use Rattle.std.proofs.lemmas.List.{take-append-drop, take-take, take_more, take_all}
 use Rattle.nb_names.specs.declared.text_steps.Stage.{Stage}
 use Rattle.nb_names.specs.declared.text_steps.Stage.TheVariants.{Front, FrontEscape, FrontDigit, Suffix, SuffixDigit, SuffixEnd, Closed, LabelStart, Label, LabelEscape, LabelDigit}
-use Rattle.nb_names.specs.declared.text_steps.Event.{Event}
-use Rattle.nb_names.specs.declared.text_steps.Event.TheVariants.{LabelEnd}
+use Rattle.nb_names.specs.declared.text_steps.Added.{Added}
+use Rattle.nb_names.specs.declared.text_steps.Added.TheVariants.{LabelEnd}
 use Rattle.nb_names.specs.NameText.{Parts, IsFormed, IsFront, IsBad, IsText, IsFaultOf}
 use Rattle.nb_names.specs.Name.{NetbiosName}
 use Rattle.nb_names.specs.declared.text_fault.TextFault.{TextFault}
 use Rattle.nb_names.specs.declared.text_fault.TextFault.TheVariants.{BadText, TooLong}
-use Rattle.nb_names.specs.TextSteps.{Taken, nothing_taken, takes, step, run, parts_of, finish, parts_read}
+use Rattle.nb_names.specs.Code.TextSteps.{Taken, nothing_taken, takes, step, run, parts_of, finish, parts_read}
 use Rattle.nb_names.proofs.TextRunLemmas.{ended, run-append, parts_read-form}
 use Rattle.nb_names.proofs.TextReachLemmas.{form-parts_read}
 
@@ -78,13 +78,13 @@ run_more text i s t h e =
     ∙ run-append Front nothing_taken (take i text) (get_or text i 0 ∷ [])
     ∙ ap (option_and_then (λ (end : Stage × Taken). run end.0 end.1 (get_or text i 0 ∷ []))) e
 
-pub run_turn : (text : List ℕ) (i : ℕ) (s : Stage) (t : Taken) (next : Stage × Event) → i < length text → run Front nothing_taken (take i text) ≡ Some (s, t) → step s (get_or text i 0) ≡ Some next → run Front nothing_taken (take (i + 1) text) ≡ Some (next.0, takes t next.1)
-run_turn text i s t next h e f = run_more text i s t h e ∙ ap (option_and_then (λ (n : Stage × Event). Some (n.0, takes t n.1))) f
+pub run_turn : (text : List ℕ) (i : ℕ) (s : Stage) (t : Taken) (next : Stage × Added) → i < length text → run Front nothing_taken (take i text) ≡ Some (s, t) → step s (get_or text i 0) ≡ Some next → run Front nothing_taken (take (i + 1) text) ≡ Some (next.0, takes t next.1)
+run_turn text i s t next h e f = run_more text i s t h e ∙ ap (option_and_then (λ (n : Stage × Added). Some (n.0, takes t n.1))) f
 
 -- where the steps refuse a byte, the text is bad at its place
 pub bad_inside : (text : List ℕ) (i : ℕ) (s : Stage) (t : Taken) → i < length text → run Front nothing_taken (take i text) ≡ Some (s, t) → step s (get_or text i 0) ≡ None → (¬ IsFormed text) × IsBad text i
 bad_inside text i s t h e f =
-    let dead : run Front nothing_taken (take (i + 1) text) ≡ None = run_more text i s t h e ∙ ap (option_and_then (λ (n : Stage × Event). Some (n.0, takes t n.1))) f in (
+    let dead : run Front nothing_taken (take (i + 1) text) ≡ None = run_more text i s t h e ∙ ap (option_and_then (λ (n : Stage × Added). Some (n.0, takes t n.1))) f in (
       unformed_unless_read text (ap parts_read (sym (take-append-drop (i + 1) text)) ∙ none_behind (take (i + 1) text) (drop (i + 1) text) dead),
       record { within = omega arith; front = front_if_run text i s t e; longest = λ count above in_text. no_front text (i + 1) count dead (omega arith) },
     )
@@ -101,7 +101,7 @@ bad_at_end text i s t h e f =
 pub parts_at_end : (text : List ℕ) (i : ℕ) (s : Stage) (t : Taken) (parts : Parts) → length text ≤ i → run Front nothing_taken (take i text) ≡ Some (s, t) → finish s t ≡ Some parts → parts_read text ≡ Some parts
 parts_at_end text i s t parts h e f = ap parts_read (sym (take_all i text h)) ∙ ap ended e ∙ f
 
--- elsewhere than behind `>` or a label no text ends
+-- elsewhere than after `>` or a label no text ends
 pub not_ended : (s : Stage) (t : Taken) → ¬ (s ≡ Closed) → ¬ (s ≡ Label) → finish s t ≡ None
 not_ended Closed t c l = absurd (c refl)
 not_ended Label t c l = absurd (l refl)
@@ -115,7 +115,7 @@ not_ended LabelStart t c l = refl
 not_ended LabelEscape t c l = refl
 not_ended (LabelDigit _) t c l = refl
 
--- behind `>` or a label a text may end
+-- after `>` or a label a text may end
 pub formed_at_end : (text : List ℕ) (i : ℕ) (s : Stage) (t : Taken) → length text ≤ i → run Front nothing_taken (take i text) ≡ Some (s, t) → (s ≡ Closed) ⊎ (s ≡ Label) → IsFormed text
 formed_at_end text i s t h e (inl is) =
     formed_if_read text _ (parts_at_end text i s t (parts_of t) h e (ap (λ (s : Stage). finish s t) is))

@@ -80,7 +80,7 @@ one_reading packet q start at ls ms n m (leads_to t behind f p low r) (leads_to 
     let rest = one_reading packet q t t ls ms behind beyond r (subst (λ (x : ℕ). LabelsAt packet q x x ms beyond) (sym same) w) in
     (rest.0, refl)
 
--- a name's offset behind it is one of the packet, or its end
+-- a name's offset after it is one of the packet, or its end
 pub next_within : (packet : List ℕ) (pointers : Pointers) (start at : ℕ) (ls : List (List ℕ)) (n : ℕ) → LabelsAt packet pointers start at ls n → (at < n) × (n ≤ length packet)
 next_within packet q start at ls n (ends a) = let fits = stands_fits packet at _ a (omega arith) in (omega arith, omega arith)
 next_within packet q start at ls n (goes_on l more f b s r) =

@@ -1,9 +1,9 @@
 -- Names and their labels, both ways.
 use Rattle.std.proofs.Common.{◌≡◌, ◌<◌, ◌+◌, ◌/◌, ◌%◌, ◌^◌, ℕ, List, [], ◌∷◌, length, get_or, zero, suc, refl, ap, arith, length-append}
 use Rattle.std.specs.List.{AllByRecursion}
-use Rattle.nb_names.specs.FirstLevel.{letter, letters, IsLetter, IsFirstStranger}
+use Rattle.nb_names.specs.FirstLevel.{letter, letters, IsLetter, IsFirstNonLetter}
 use Rattle.nb_names.specs.DomainName.{spelling, IsDomain}
-use Rattle.nb_names.specs.Name.{NetbiosName, IsName, IsScope, IsUnlike, wrong_length, stranger, labels_of_name}
+use Rattle.nb_names.specs.Name.{NetbiosName, IsName, IsScope, IsNoName, wrong_length, non_letter, labels_of_name}
 use Rattle.nb_names.proofs.SpellingLemmas.{IsDomain-rest}
 use Rattle.nb_names.proofs.FirstLevelLemmas.{length-letters}
 
@@ -28,17 +28,17 @@ letters-injective (x ∷ xs) (y ∷ ys) e =
     let rest : letters xs ≡ letters ys = cc in
     cc (same_byte x y high low, letters-injective xs ys rest)
 
--- what stands behind a label of 32 bytes is a scope
+-- what stands after a label of 32 bytes is a scope
 pub IsScope-rest : (labels : List (List ℕ)) (first : List ℕ) (rest : List (List ℕ)) → labels ≡ first ∷ rest → length first ≡ 32 → IsDomain labels → IsScope rest
 IsScope-rest labels first rest is size domain =
     let whole = rw is at domain in
     record { domain = IsDomain-rest labels first rest is domain; short = omega (arith, whole.short, length-append first (spelling rest)) }
 
-pub unlike_length : (labels : List (List ℕ)) (first : List ℕ) (rest : List (List ℕ)) → labels ≡ first ∷ rest → (length first ≡ 32 → ⊥) → IsUnlike labels 0
-unlike_length labels first rest is wrong = rw is (wrong_length first rest wrong)
+pub no_name_length : (labels : List (List ℕ)) (first : List ℕ) (rest : List (List ℕ)) → labels ≡ first ∷ rest → (length first ≡ 32 → ⊥) → IsNoName labels 0
+no_name_length labels first rest is wrong = rw is (wrong_length first rest wrong)
 
-pub unlike_letter : (labels : List (List ℕ)) (first : List ℕ) (rest : List (List ℕ)) (place : ℕ) → labels ≡ first ∷ rest → length first ≡ 32 → IsFirstStranger first place → IsUnlike labels (1 + place)
-unlike_letter labels first rest place is size strange = rw is (stranger first rest place size strange)
+pub no_name_letter : (labels : List (List ℕ)) (first : List ℕ) (rest : List (List ℕ)) (place : ℕ) → labels ≡ first ∷ rest → length first ≡ 32 → IsFirstNonLetter first place → IsNoName labels (1 + place)
+no_name_letter labels first rest place is size strange = rw is (non_letter first rest place size strange)
 
 -- a name's labels begin with 32 bytes
 pub name_length : (name : NetbiosName) (first : List ℕ) (rest : List (List ℕ)) → IsName name → labels_of_name name ≡ first ∷ rest → length first ≡ 32
@@ -47,11 +47,11 @@ name_length name first rest formed is =
     omega (arith, formed.sixteen, length-letters name.bytes, ap length same)
 
 -- a name's labels begin with letters
-pub name_letters : (name : NetbiosName) (first : List ℕ) (rest : List (List ℕ)) (place : ℕ) → IsName name → labels_of_name name ≡ first ∷ rest → IsFirstStranger first place → ⊥
+pub name_letters : (name : NetbiosName) (first : List ℕ) (rest : List (List ℕ)) (place : ℕ) → IsName name → labels_of_name name ≡ first ∷ rest → IsFirstNonLetter first place → ⊥
 name_letters name first rest place formed is strange =
     let same : letters name.bytes ≡ first = cc in
     let within : place < length (letters name.bytes) = rw same strange.within in
-    strange.stranger (rw (← same) (letters_are name.bytes place formed.each within))
+    strange.non_letter (rw (← same) (letters_are name.bytes place formed.each within))
 
 -- labels are those of one name
 pub one_name : (m n : NetbiosName) → labels_of_name m ≡ labels_of_name n → m ≡ n

@@ -12,7 +12,7 @@ use Rattle.nb_names.specs.PacketFacts.{stands_fits}
 use Rattle.nb_names.specs.Labels.{StandsAt, IsPointer, LabelsAt, ends, goes_on, leads_to}
 use Rattle.nb_names.specs.NameFaults.{OnWay, begins, behind_label, along_pointer, FaultHere, cut, reserved, not_allowed, not_below, too_long, FaultAt}
 
--- ---- bytes behind a packet
+-- ---- bytes after a packet
 
 stands_more : (packet more : List ℕ) (at : ℕ) (bytes : List ℕ) → 0 < length bytes → StandsAt packet at bytes → StandsAt (packet ++ more) at bytes
 stands_more packet more at bytes some h =

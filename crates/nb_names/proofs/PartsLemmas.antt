@@ -6,14 +6,14 @@ use Rattle.std.proofs.lemmas.List.{drop-replicate, replicate_more, length-replic
 use Rattle.std.proofs.lemmas.Option.{option_and_then_some}
 use Rattle.nb_names.specs.declared.text_steps.Stage.{Stage}
 use Rattle.nb_names.specs.declared.text_steps.Stage.TheVariants.{Front, FrontEscape, FrontDigit, Suffix, SuffixDigit, SuffixEnd, Closed, LabelStart, Label, LabelEscape, LabelDigit}
-use Rattle.nb_names.specs.declared.text_steps.Event.{Event}
-use Rattle.nb_names.specs.declared.text_steps.Event.TheVariants.{Nothing, FrontByte, Last, LabelByte, LabelEnd}
+use Rattle.nb_names.specs.declared.text_steps.Added.{Added}
+use Rattle.nb_names.specs.declared.text_steps.Added.TheVariants.{Nothing, FrontByte, Last, LabelByte, LabelEnd}
 use Rattle.nb_names.specs.declared.text_fault.TextFault.{TextFault}
 use Rattle.nb_names.specs.DomainName.{IsLabel}
 use Rattle.nb_names.specs.Name.{NetbiosName, IsScope}
 use Rattle.nb_names.specs.NameText.{Parts, FitsLimits, filled, name_of, IsText, IsFormed}
-use Rattle.nb_names.specs.TextSteps.{Taken, nothing_taken, step, takes, run, parts_of, finish}
-use Rattle.nb_names.specs.Collected.{FitsSoFar}
+use Rattle.nb_names.specs.Code.TextSteps.{Taken, nothing_taken, step, takes, run, parts_of, finish}
+use Rattle.nb_names.specs.Code.Collected.{FitsSoFar}
 use Rattle.nb_names.proofs.SpellingLemmas.{length-spelling-snoc}
 use Rattle.nb_names.proofs.TextRunLemmas.{run-append, parts_read-form}
 use Rattle.nb_names.proofs.TextReachLemmas.{Reached, run_reached, start_reached, form-parts_read}
@@ -45,7 +45,7 @@ IsScope-front ls l scope = record {
   short = omega (arith, scope.short, length-spelling-snoc ls l);
 }
 
-fits_before : (t : Taken) (e : Event) → FitsSoFar (takes t e) → FitsSoFar t
+fits_before : (t : Taken) (e : Added) → FitsSoFar (takes t e) → FitsSoFar t
 fits_before t Nothing f = f
 fits_before t (FrontByte b) f = record { front_fits = omega (arith, f.front_fits, length-append t.front (b ∷ [])); label_fits = f.label_fits; scope_fits = f.scope_fits }
 fits_before t (Last b) f = record { front_fits = f.front_fits; label_fits = f.label_fits; scope_fits = f.scope_fits }

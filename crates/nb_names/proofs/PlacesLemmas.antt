@@ -1,4 +1,4 @@
--- What stands at a place, by what is left behind it.
+-- What stands at a place, by what is left after it.
 use Rattle.std.proofs.Common.{◌≡◌, ℕ, ◌<◌, ◌≤◌, List, [], ◌∷◌, length, drop, zero, suc, refl, arith, Some, None, slice_get}
 use Rattle.std.specs.List.{AllByRecursion}
 use Rattle.nb_names.specs.DomainName.{IsLabel}

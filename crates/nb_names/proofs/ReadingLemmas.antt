@@ -7,7 +7,7 @@ use Rattle.nb_names.specs.declared.fault.NameFault.TheVariants.{TooLong}
 use Rattle.nb_names.specs.declared.label_fault.LabelFault.{LabelFault}
 use Rattle.nb_names.specs.declared.label_fault.LabelFault.TheVariants.{EmptyLabel, LabelTooLong, TooLong as PastLimit}
 use Rattle.nb_names.specs.DomainName.{spelling, IsLabel, IsRefused}
-use Rattle.nb_names.specs.LengthByte.{HasLabel}
+use Rattle.nb_names.specs.Code.LengthByte.{HasLabel}
 use Rattle.nb_names.specs.Labels.{StandsAt, IsPointer, LabelsAt, ends, goes_on, leads_to, NameAt}
 use Rattle.nb_names.specs.NameFaults.{OnWay, begins, behind_label, along_pointer, FaultHere, too_long, FaultAt}
 use Rattle.nb_names.proofs.LabelsLemmas.{stands_label}
@@ -60,7 +60,7 @@ label_turn packet q at start here size ls new next r has short is =
           (r.rest (l ∷ more) n (goes_on l more there.1 there.2 within h) total);
     }))
 
--- a label behind which the spelling is too long
+-- a label after which the spelling is too long
 pub label_past : (packet : List ℕ) (q : Pointers) (at start here size : ℕ) (ls : List (List ℕ)) (why : LabelFault) → OnWay packet q at start here ls → HasLabel packet here size →
     IsRefused 255 ls (take size (drop (here + 1) packet)) why → FaultAt packet q at (TooLong here)
 label_past packet q at start here size ls EmptyLabel way has h = let there = label_there packet here size has in absurd (omega (arith, there.1.0))

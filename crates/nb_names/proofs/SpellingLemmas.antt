@@ -3,7 +3,7 @@ use Rattle.std.proofs.Common.{◌≡◌, ℕ, ◌+◌, ◌-◌, ◌<◌, ◌≤�
 use Rattle.std.specs.List.{AllByRecursion}
 use Rattle.std.proofs.Math.Seq.{take-append_seam, drop-append_seam}
 use Rattle.nb_names.specs.DomainName.{spelling, AreBytes, AreByteLabels, IsLabel, IsDomain}
-use Rattle.nb_names.specs.Spelled.{labels_within, labels_of, IsSpelled}
+use Rattle.nb_names.specs.Code.Spelled.{labels_within, labels_of, IsSpelled}
 
 -- with fuel for them all, the labels that a spelling has
 pub labels_within-spelling : (n : ℕ) (ls : List (List ℕ)) → AllByRecursion IsLabel ls → length (spelling ls) ≤ n → labels_within n (spelling ls) ≡ ls
@@ -45,7 +45,7 @@ pub length-spelling-snoc : (ls : List (List ℕ)) (l : List ℕ) → length (spe
 length-spelling-snoc [] l = omega (arith, length-append l (0 ∷ []))
 length-spelling-snoc (x ∷ xs) l = omega (arith, length-append x (spelling (xs ++ l ∷ [])), length-append x (spelling xs), length-spelling-snoc xs l)
 
--- the bytes without their zero, and a label and a zero behind them
+-- the bytes without their zero, and a label and a zero after them
 pub spelling-pushed : (ls : List (List ℕ)) (old popped new l : List ℕ) → old ≡ spelling ls → popped ≡ take (length old - 1) old → new ≡ ((popped ++ length l ∷ []) ++ l) ++ 0 ∷ [] → new ≡ spelling (ls ++ l ∷ [])
 spelling-pushed ls old popped new l e p n =
     let is : old ≡ body ls ++ 0 ∷ [] = e ∙ spelling-body ls in
@@ -53,7 +53,7 @@ spelling-pushed ls old popped new l e p n =
     let front : popped ≡ body ls = p ∙ (rw (count, is) (take-append_seam (body ls) (0 ∷ []))) in
     n ∙ rw (front, spelling-body, body-append) (cc (append_assoc (body ls) (length l ∷ []) l, append-nil l))
 
--- a label behind a domain's
+-- a label after a domain's
 pub IsDomain-pushed : (ls : List (List ℕ)) (l : List ℕ) → IsDomain ls → IsLabel l → length (spelling ls) + (length l + 1) ≤ 255 → IsDomain (ls ++ l ∷ [])
 IsDomain-pushed ls l d h short =
     record { each = AllByRecursion-snoc ls l d.each h; short = omega (arith, length-spelling-snoc ls l) }
@@ -69,7 +69,7 @@ none_spelled (l ∷ ls) size rest a e w =
     let others : rest ≡ l ++ spelling ls = cc in
     absurd (grind (arith, length-append l (spelling ls), ap length others, first, a, w))
 
--- a first byte that isn't 0 spells a label, which stands behind it
+-- a first byte that isn't 0 spells a label, which stands after it
 pub some_spelled : (ls : List (List ℕ)) (size : ℕ) (rest : List ℕ) → AllByRecursion IsLabel ls → size ∷ rest ≡ spelling ls → 0 < size → (more : List (List ℕ)) × (ls ≡ take size rest ∷ more) × (drop size rest ≡ spelling more)
 some_spelled [] size rest a e w = absurd (let zero_is : size ≡ 0 = cc in omega arith)
 some_spelled (l ∷ ls) size rest a e w =
@@ -81,7 +81,7 @@ pub spelling-not_empty : (ls : List (List ℕ)) → length (spelling ls) ≢ 0
 spelling-not_empty [] = omega arith
 spelling-not_empty (l ∷ ls) = omega arith
 
--- the labels behind a domain name's first are one
+-- the labels after a domain name's first are one
 pub IsDomain-rest : (ls : List (List ℕ)) (l : List ℕ) (rest : List (List ℕ)) → ls ≡ l ∷ rest → IsDomain ls → IsDomain rest
 IsDomain-rest ls l rest is d =
     let whole = rw is at d in

@@ -5,10 +5,10 @@ use Rattle.std.proofs.lemmas.Bool.{ltb-true, eqb-true}
 use Rattle.std.proofs.lemmas.List.{length-append}
 use Rattle.nb_names.specs.declared.text_steps.Stage.{Stage}
 use Rattle.nb_names.specs.declared.text_steps.Stage.TheVariants.{Front, FrontEscape, FrontDigit, Suffix, SuffixDigit, SuffixEnd, Closed, LabelStart, Label, LabelEscape, LabelDigit}
-use Rattle.nb_names.specs.declared.text_steps.Event.{Event}
-use Rattle.nb_names.specs.declared.text_steps.Event.TheVariants.{Nothing, FrontByte, Last, LabelByte, LabelEnd}
+use Rattle.nb_names.specs.declared.text_steps.Added.{Added}
+use Rattle.nb_names.specs.declared.text_steps.Added.TheVariants.{Nothing, FrontByte, Last, LabelByte, LabelEnd}
 use Rattle.nb_names.specs.NameText.{is_plain, IsHexDigit, byte_of, Item, plain, escaped, Items, no_item, more_items, ScopeText, no_label, more_labels, Parts, HasForm}
-use Rattle.nb_names.specs.TextSteps.{digit_step, step, step_in_front, step_in_label, Taken, nothing_taken, takes, run, parts_of, finish, parts_read}
+use Rattle.nb_names.specs.Code.TextSteps.{digit_step, step, step_in_front, step_in_label, Taken, nothing_taken, takes, run, parts_of, finish, parts_read}
 
 -- ---- items and labels at an end
 
@@ -34,7 +34,7 @@ pub record InFront (t : Taken) (done : List ℕ) : Type 0 where
   pub scope : t.scope ≡ []
   pub label : t.label ≡ []
 
--- the text has the form, with a label begun behind it
+-- the text has the form, with a label begun after it
 pub record InLabel (t : Taken) (done : List ℕ) : Type 0 where
   pub text : List ℕ
   pub items : List ℕ
@@ -70,14 +70,14 @@ some_if : {X : Type 0} (Q : X → Type 0) (b : Bool) (x : X) (o : Option X) → 
 some_if Q true x o p q = p refl
 some_if Q false x o p q = q
 
-some_digit : (Q : Stage × Event → Type 0) (c : ℕ) (next : ℕ → Stage × Event) → (IsHexDigit c → Q (next (digit_value c))) → IfSome (digit_step c next) Q
+some_digit : (Q : Stage × Added → Type 0) (c : ℕ) (next : ℕ → Stage × Added) → (IsHexDigit c → Q (next (digit_value c))) → IfSome (digit_step c next) Q
 some_digit Q c next p = some_if Q (nat_lt (digit_value c) 16) (next (digit_value c)) None (λ e. p (ltb-true (digit_value c) 16 e)) tt
 
 escaped_at : (value high low : ℕ) → Digit value high → IsHexDigit low → Item (value * 16 + digit_value low) (92 ∷ high ∷ low ∷ [])
 escaped_at value high low digit h = rw digit.is (escaped high low digit.hex h)
 
--- what is reached behind a byte
-abbrev After : Taken → List ℕ → ℕ → Stage × Event → Type 0
+-- what is reached after a byte
+abbrev After : Taken → List ℕ → ℕ → Stage × Added → Type 0
 After t done c next = Reached next.0 (takes t next.1) (done ++ c ∷ [])
 
 front_item : (t : Taken) (done : List ℕ) → InFront t done → (b : ℕ) (item : List ℕ) → Item b item → InFront (takes t (FrontByte b)) (done ++ item)

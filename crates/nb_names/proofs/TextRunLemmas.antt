@@ -4,14 +4,14 @@ use Rattle.std.specs.Char.{digit_value}
 use Rattle.std.proofs.lemmas.Bool.{lt-ltb}
 use Rattle.nb_names.specs.declared.text_steps.Stage.{Stage}
 use Rattle.nb_names.specs.declared.text_steps.Stage.TheVariants.{Front, FrontEscape, FrontDigit, Suffix, SuffixDigit, SuffixEnd, Closed, LabelStart, Label, LabelEscape, LabelDigit}
-use Rattle.nb_names.specs.declared.text_steps.Event.{Event}
-use Rattle.nb_names.specs.declared.text_steps.Event.TheVariants.{Nothing, FrontByte, Last, LabelByte, LabelEnd}
+use Rattle.nb_names.specs.declared.text_steps.Added.{Added}
+use Rattle.nb_names.specs.declared.text_steps.Added.TheVariants.{Nothing, FrontByte, Last, LabelByte, LabelEnd}
 use Rattle.nb_names.specs.NameText.{is_plain, IsHexDigit, byte_of, Item, plain, escaped, Items, no_item, more_items, ScopeText, no_label, more_labels, Parts, HasForm}
-use Rattle.nb_names.specs.TextSteps.{digit_step, step, step_in_front, step_in_label, Taken, nothing_taken, takes, run, finish, parts_read}
+use Rattle.nb_names.specs.Code.TextSteps.{digit_step, step, step_in_front, step_in_label, Taken, nothing_taken, takes, run, finish, parts_read}
 
 -- ---- runs
 
--- a run over two texts is one over the second behind one over the first
+-- a run over two texts is one over the second after one over the first
 pub run-append : (s : Stage) (t : Taken) (xs ys : List ℕ) → run s t (xs ++ ys) ≡ option_and_then (λ end. run end.0 end.1 ys) (run s t xs)
 run-append s t [] ys = refl
 run-append s t (x ∷ xs) ys =
@@ -24,13 +24,13 @@ run-append s t (x ∷ xs) ys =
 abbrev pub ended : Option (Stage × Taken) → Option Parts
 ended o = option_and_then (λ end. finish end.0 end.1) o
 
--- a run goes on behind a step
-pub run_on : (s : Stage) (t : Taken) (c : ℕ) (rest : List ℕ) (next : Stage × Event) → step s c ≡ Some next → run s t (c ∷ rest) ≡ run next.0 (takes t next.1) rest
-run_on s t c rest next e = ap (option_and_then (λ (n : Stage × Event). run n.0 (takes t n.1) rest)) e
+-- a run goes on after a step
+pub run_on : (s : Stage) (t : Taken) (c : ℕ) (rest : List ℕ) (next : Stage × Added) → step s c ≡ Some next → run s t (c ∷ rest) ≡ run next.0 (takes t next.1) rest
+run_on s t c rest next e = ap (option_and_then (λ (n : Stage × Added). run n.0 (takes t n.1) rest)) e
 
 -- ---- steps
 
-pub digit_step-hex : (c : ℕ) (next : ℕ → Stage × Event) → IsHexDigit c → digit_step c next ≡ Some (next (digit_value c))
+pub digit_step-hex : (c : ℕ) (next : ℕ → Stage × Added) → IsHexDigit c → digit_step c next ≡ Some (next (digit_value c))
 digit_step-hex c next h = rw (lt-ltb (digit_value c) 16 h) refl
 
 not_first : (a b c d e : Bool) → (if a || b || c || d then false else e) ≡ true → a ≡ false

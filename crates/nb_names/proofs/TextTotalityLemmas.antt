@@ -4,13 +4,13 @@ use Rattle.std.specs.List.{AllByRecursion}
 use Rattle.std.proofs.lemmas.Bool.{cases_lt}
 use Rattle.nb_names.specs.declared.text_steps.Stage.{Stage}
 use Rattle.nb_names.specs.declared.text_steps.Stage.TheVariants.{Front}
-use Rattle.nb_names.specs.declared.text_steps.Event.{Event}
+use Rattle.nb_names.specs.declared.text_steps.Added.{Added}
 use Rattle.nb_names.specs.declared.text_fault.TextFault.{TextFault}
 use Rattle.nb_names.specs.declared.text_fault.TextFault.TheVariants.{BadText, TooLong}
 use Rattle.nb_names.specs.DomainName.{spelling, IsLabel}
 use Rattle.nb_names.specs.Name.{NetbiosName, IsScope}
 use Rattle.nb_names.specs.NameText.{Parts, FitsLimits, name_of, IsText, IsFormed, IsBad, IsFaultOf}
-use Rattle.nb_names.specs.TextSteps.{Taken, nothing_taken, takes, step, run, finish, parts_read}
+use Rattle.nb_names.specs.Code.TextSteps.{Taken, nothing_taken, takes, step, run, finish, parts_read}
 use Rattle.nb_names.proofs.TextRunLemmas.{parts_read-form}
 use Rattle.nb_names.proofs.TextReachLemmas.{form-parts_read}
 use Rattle.nb_names.proofs.FrontLemmas.{run_turn, bad_inside, bad_at_end, parts_at_end}
@@ -27,7 +27,7 @@ at_end text i s t None past reading is = let bad = bad_at_end text i s t past re
 abbrev GoesOn : List ℕ → ℕ → Type 0
 GoesOn text i = (s : Stage) (t : Taken) → run Front nothing_taken (take i text) ≡ Some (s, t) → FormedOrBad text
 
-at_byte : (text : List ℕ) (i : ℕ) (s : Stage) (t : Taken) (next : Option (Stage × Event)) → GoesOn text (i + 1) → i < length text → run Front nothing_taken (take i text) ≡ Some (s, t) → step s (get_or text i 0) ≡ next → FormedOrBad text
+at_byte : (text : List ℕ) (i : ℕ) (s : Stage) (t : Taken) (next : Option (Stage × Added)) → GoesOn text (i + 1) → i < length text → run Front nothing_taken (take i text) ≡ Some (s, t) → step s (get_or text i 0) ≡ next → FormedOrBad text
 at_byte text i s t None goes within reading is = let bad = bad_inside text i s t within reading is in inr (i, bad.0, bad.1)
 at_byte text i s t (Some next) goes within reading is = goes next.0 (takes t next.1) (run_turn text i s t next within reading is)
 

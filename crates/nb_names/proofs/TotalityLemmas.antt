@@ -8,11 +8,11 @@ use Rattle.nb_names.specs.declared.fault.NameFault.TheVariants.{Truncated, Reser
 use Rattle.nb_names.specs.declared.length_byte.LengthByte.{LengthByte}
 use Rattle.nb_names.specs.declared.length_byte.LengthByte.TheVariants.{Cut, End, Label, Reserved, Pointer}
 use Rattle.nb_names.specs.DomainName.{spelling, AreBytes, IsDomain}
-use Rattle.nb_names.specs.FirstLevel.{letter, letters, IsLetter, IsFirstStranger}
-use Rattle.nb_names.specs.Name.{NetbiosName, IsName, IsUnlike, no_label, wrong_length, stranger, labels_of_name}
+use Rattle.nb_names.specs.FirstLevel.{letter, letters, IsLetter, IsFirstNonLetter}
+use Rattle.nb_names.specs.Name.{NetbiosName, IsName, IsNoName, no_label, wrong_length, non_letter, labels_of_name}
 use Rattle.nb_names.specs.Labels.{StandsAt, NameAt}
-use Rattle.nb_names.specs.LengthByte.{HasLabel, Begins}
-use Rattle.nb_names.specs.NameFaults.{short_label, half_pointer, no_length_byte, cut, reserved, not_allowed, not_below, too_long, FaultAt, NetbiosFaultAt, on_way, unlike}
+use Rattle.nb_names.specs.Code.LengthByte.{HasLabel, Begins}
+use Rattle.nb_names.specs.NameFaults.{short_label, half_pointer, no_length_byte, cut, reserved, not_allowed, not_below, too_long, FaultAt, NetbiosFaultAt, on_way, not_netbios}
 use Rattle.nb_names.proofs.SpellingLemmas.{length-spelling-snoc}
 use Rattle.nb_names.proofs.LabelsLemmas.{stands_one, pointer_made, IsDomain-read}
 use Rattle.nb_names.proofs.NameLemmas.{IsScope-rest}
@@ -121,13 +121,13 @@ letter_or_not : (byte : ℕ) → IsLetter byte ⊎ (¬ IsLetter byte)
 letter_or_not byte = elim (cases_lt byte 65) [
   | inl low ↦ inr (λ is. omega (arith, is.0))
   | inr high ↦ elim (cases_lt byte 81) [
-    | inl small ↦ inl (high, small)
+    | inl small ↦ inl (high, omega arith)
     | inr large ↦ inr (λ is. omega (arith, is.1))
   ]
 ]
 
-first_at_0 : (ls : List ℕ) (a : ℕ) → ¬ IsLetter a → IsFirstStranger (a ∷ ls) 0
-first_at_0 ls a h = record { within = omega arith; stranger = h; before = λ k below. absurd (omega arith) }
+first_at_0 : (ls : List ℕ) (a : ℕ) → ¬ IsLetter a → IsFirstNonLetter (a ∷ ls) 0
+first_at_0 ls a h = record { within = omega arith; non_letter = h; before = λ k below. absurd (omega arith) }
 
 letters_before : (a b : ℕ) (ls : List ℕ) (place : ℕ) → IsLetter a → IsLetter b → ((k : ℕ) → k < place → IsLetter (get_or ls k 0)) →
     (k : ℕ) → k < suc (suc place) → IsLetter (get_or (a ∷ b ∷ ls) k 0)
@@ -135,15 +135,15 @@ letters_before a b ls place f g before zero below = f
 letters_before a b ls place f g before (suc zero) below = g
 letters_before a b ls place f g before (suc (suc k)) below = before k (omega arith)
 
-first_at_1 : (ls : List ℕ) (a b : ℕ) → IsLetter a → ¬ IsLetter b → IsFirstStranger (a ∷ b ∷ ls) 1
-first_at_1 ls a b f h = record { within = omega arith; stranger = h; before = first } where
+first_at_1 : (ls : List ℕ) (a b : ℕ) → IsLetter a → ¬ IsLetter b → IsFirstNonLetter (a ∷ b ∷ ls) 1
+first_at_1 ls a b f h = record { within = omega arith; non_letter = h; before = first } where
   first : (k : ℕ) → k < 1 → IsLetter (get_or (a ∷ b ∷ ls) k 0)
   first zero below = f
   first (suc k) below = absurd (omega arith)
 
-first_behind : (ls : List ℕ) (a b place : ℕ) → IsLetter a → IsLetter b → IsFirstStranger ls place → IsFirstStranger (a ∷ b ∷ ls) (suc (suc place))
+first_behind : (ls : List ℕ) (a b place : ℕ) → IsLetter a → IsLetter b → IsFirstNonLetter ls place → IsFirstNonLetter (a ∷ b ∷ ls) (suc (suc place))
 first_behind ls a b place f g s =
-    record { within = omega (arith, s.within); stranger = s.stranger; before = letters_before a b ls place f g s.before }
+    record { within = omega (arith, s.within); non_letter = s.non_letter; before = letters_before a b ls place f g s.before }
 
 -- the bytes that letters spell
 record Halves (n : ℕ) (ls : List ℕ) : Type 0 where
@@ -160,7 +160,7 @@ halves_more n a b ls f g h =
     let small : (a - 65) * 16 + (b - 65) < 256 = omega (arith, f.0, f.1, g.0, g.1) in
     record { bytes = byte ∷ h.bytes; size = omega (arith, h.size); each = (small, h.each); spelled = cc (high, low, h.spelled) }
 
-halves_or_place : (n : ℕ) (ls : List ℕ) → length ls ≡ 2 * n → Halves n ls ⊎ ((place : ℕ) × IsFirstStranger ls place)
+halves_or_place : (n : ℕ) (ls : List ℕ) → length ls ≡ 2 * n → Halves n ls ⊎ ((place : ℕ) × IsFirstNonLetter ls place)
 halves_or_place zero [] e = inl (record { bytes = []; size = refl; each = tt; spelled = refl })
 halves_or_place zero (a ∷ ls) e = absurd (omega arith)
 halves_or_place (suc n) [] e = absurd (omega arith)
@@ -177,7 +177,7 @@ halves_or_place (suc n) (a ∷ b ∷ ls) e = elim (letter_or_not a) [
 ]
 
 abbrev Named : List (List ℕ) → Type 0
-Named labels = ((name : NetbiosName) × IsName name × (labels_of_name name ≡ labels)) ⊎ ((place : ℕ) × IsUnlike labels place)
+Named labels = ((name : NetbiosName) × IsName name × (labels_of_name name ≡ labels)) ⊎ ((place : ℕ) × IsNoName labels place)
 
 size_or_not : (n m : ℕ) → (n ≡ m) ⊎ (n ≡ m → ⊥)
 size_or_not n m = elim (cases_lt n m) [
@@ -193,7 +193,7 @@ named [] domain = inr (0, no_label)
 named (first ∷ rest) domain = elim (size_or_not (length first) 32) [
   | inr wrong ↦ inr (0, wrong_length first rest wrong)
   | inl size ↦ elim (halves_or_place 16 first (omega arith)) [
-    | inr strange ↦ inr (1 + strange.0, stranger first rest strange.0 size strange.1)
+    | inr strange ↦ inr (1 + strange.0, non_letter first rest strange.0 size strange.1)
     | inl h ↦ inl (
       record { bytes = h.bytes; scope = rest },
       record { sixteen = h.size; each = h.each; scope = IsScope-rest (first ∷ rest) first rest refl size domain },
@@ -211,7 +211,7 @@ pub named_or_fault : (packet : List ℕ) (q : Pointers) (at : ℕ) → AreBytes 
 named_or_fault packet q at bytes = elim (read_or_fault packet q at bytes) [
   | inr fault ↦ inr (fault.0, on_way fault.1)
   | inl read ↦ elim (named read.0 (IsDomain-read packet q at at read.0 read.1 read.2)) [
-    | inr other ↦ inr (NotNetbios other.0, unlike read.0 read.1 other.0 read.2 other.1)
+    | inr other ↦ inr (NotNetbios other.0, not_netbios read.0 read.1 other.0 read.2 other.1)
     | inl name ↦ inl (name.0, read.1, name.1, subst (λ (ls : List (List ℕ)). NameAt packet q at ls read.1) (sym name.2) read.2)
   ]
 ]

@@ -166,7 +166,7 @@ text_of_written name bytes scope text b s sixteen small is labels e =
 
 -- ---- a loop over labels
 
--- what stands at a place, before what is left behind it
+-- what stands at a place, before what is left after it
 pub dropped_label : (labels : List (List ℕ)) (place : ℕ) (label : List ℕ) → slice_get labels place ≡ Some label → drop place labels ≡ label ∷ drop (suc place) labels
 dropped_label [] zero label e = absurd (cc)
 dropped_label [] (suc place) label e = absurd (cc)

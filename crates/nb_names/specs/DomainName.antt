@@ -31,7 +31,7 @@ AreBytes = AllByRecursion (λ byte. byte < 2 ^ 8)
 abbrev pub AreByteLabels : List (List ℕ) → Type 0
 AreByteLabels = AllByRecursion AreBytes
 
--- IsRefused limit labels label fault: behind these labels, where a spelling may have `limit` bytes,
+-- IsRefused limit labels label fault: after these labels, where a spelling may have `limit` bytes,
 -- the label is refused with this fault; the three cases exclude one another
 abbrev pub IsRefused : ℕ → List (List ℕ) → List ℕ → LabelFault → Type 0
 IsRefused limit labels label EmptyLabel = length label ≡ 0
@@ -45,10 +45,10 @@ Pushes limit old new label (Ok _) =
     IsLabel label × (length (spelling (old ++ label ∷ [])) ≤ limit) × (new ≡ old ++ label ∷ [])
 Pushes limit old new label (Err fault) = IsRefused limit old label fault × (new ≡ old)
 
--- own: domain names are equal where the bytes of their spellings are
+-- our choice: domain names are equal where the bytes of their spellings are
 abbrev pub domain_eq : List (List ℕ) → List (List ℕ) → Bool
 domain_eq = on spelling (pointwise ◌==◌)
 
--- own: domain names stand in the order of the bytes of their spellings
+-- our choice: domain names stand in the order of the bytes of their spellings
 abbrev pub domain_cmp : List (List ℕ) → List (List ℕ) → Ordering
 domain_cmp = on spelling (slice_cmp nat_cmp)

@@ -1,10 +1,10 @@
--- The texts of faults (own). Each fault's number is written in decimal.
+-- The texts of faults (our choice). Each fault's number is written in decimal.
 use Rattle.std.specs.Prelude.{ℕ, List, ◌++◌, codes}
 use Rattle.std.specs.Fmt.{decimal}
 use Rattle.nb_names.specs.declared.fault.NameFault.{NameFault}
 use Rattle.nb_names.specs.declared.fault.NameFault.TheVariants.{Truncated, ReservedLabel, PointerNotAllowed, BadPointer, TooLong, NotNetbios}
 
--- what is told of a name that could not be read
+-- what is reported of a name that could not be read
 abbrev pub name_fault_text : NameFault → List ℕ
 name_fault_text (Truncated at) = codes "truncated " ++ decimal at
 name_fault_text (ReservedLabel at) = codes "reserved label " ++ decimal at

@@ -1,8 +1,8 @@
 -- The labels of a name, read where it stands in a packet (RFC 1002 section 4.1). All offsets count
 -- from the packet's first byte.
 --
--- A run is the labels that stand one behind the other. It ends in a zero byte, or in a pointer to
--- another run. Own: a pointer leads below the start of the run that it ends, so that each reading
+-- A run is the labels that stand one after the other. It ends in a zero byte, or in a pointer to
+-- another run. Our choice: a pointer leads below the start of the run that it ends, so that each reading
 -- comes to an end.
 use Rattle.std.specs.Prelude.{◌≡◌, ℕ, ◌+◌, ◌/◌, ◌%◌, ◌<◌, ◌≤◌, ◌^◌, List, [], ◌∷◌, length, take, drop}
 use Rattle.nb_names.specs.declared.limits.TheConstants.{MAX_SPELLING}
@@ -24,7 +24,7 @@ pub record IsPointer (packet : List ℕ) (at target : ℕ) : Type 0 where
   pub bytes : StandsAt packet at (pointer_bytes target)
 
 -- LabelsAt packet pointers start at labels next: in the run that began at `start`, these labels are
--- read from `at` on, and `next` is the offset behind the run's zero byte or pointer
+-- read from `at` on, and `next` is the offset after the run's zero byte or pointer
 pub data LabelsAt (packet : List ℕ) (pointers : Pointers) : ℕ → ℕ → List (List ℕ) → ℕ → Type 0 where
   ends : {start at : ℕ} → StandsAt packet at (0 ∷ []) → LabelsAt packet pointers start at [] (at + 1)
   goes_on : {start at next : ℕ} (label : List ℕ) (labels : List (List ℕ))
@@ -38,6 +38,6 @@ pub data LabelsAt (packet : List ℕ) (pointers : Pointers) : ℕ → ℕ → Li
       → LabelsAt packet pointers start at labels (at + 2)
 
 -- NameAt packet pointers at labels next: at this offset a name stands, with these labels, and `next`
--- is the offset behind it
+-- is the offset after it
 abbrev pub NameAt : List ℕ → Pointers → ℕ → List (List ℕ) → ℕ → Type 0
 NameAt packet pointers at = LabelsAt packet pointers at at

@@ -1,5 +1,5 @@
+pub mod Ascii
 pub mod DomainName
-pub mod Spelled
 pub mod FirstLevel
 pub mod Name
 pub mod NameFacts
@@ -8,10 +8,8 @@ pub mod NameFaults
 pub mod Numbers
 pub mod PacketFacts
 pub mod FaultTexts
-pub mod LengthByte
 pub mod NameText
 pub mod TextFaults
-pub mod TextSteps
-pub mod Collected
+pub mod Code
 pub mod Tally
 pub mod Counted

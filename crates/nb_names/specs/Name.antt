@@ -7,7 +7,7 @@ use Rattle.std.specs.Coded.{Coded, code_by, coded×, coded_ℕ, coded_list}
 use Rattle.std.specs.declared.cmp.Ordering.{Ordering}
 use Rattle.nb_names.specs.declared.limits.TheConstants.{NAME_LENGTH, LETTERS, MAX_SCOPE}
 use Rattle.nb_names.specs.DomainName.{spelling, AreBytes, AreByteLabels, IsDomain, domain_eq, domain_cmp}
-use Rattle.nb_names.specs.FirstLevel.{letters, IsFirstStranger}
+use Rattle.nb_names.specs.FirstLevel.{letters, IsFirstNonLetter}
 
 -- a NetBIOS name: its sixteen bytes, of which the last is the suffix, and the labels of its scope
 pub record NetbiosName : Type 0 where
@@ -40,19 +40,19 @@ IsByteName name = IsName name × AreByteLabels name.scope
 abbrev pub labels_of_name : NetbiosName → List (List ℕ)
 labels_of_name name = letters name.bytes ∷ name.scope
 
--- own: names are equal where their bytes and their scopes are
+-- our choice: names are equal where their bytes and their scopes are
 abbrev pub name_eq : NetbiosName → NetbiosName → Bool
 name_eq = eq_of_both (on (λ n. n.bytes) (pointwise ◌==◌)) (on (λ n. n.scope) domain_eq)
 
--- own: names stand in the order of their bytes, then of their scopes
+-- our choice: names stand in the order of their bytes, then of their scopes
 abbrev pub name_cmp : NetbiosName → NetbiosName → Ordering
 name_cmp = then_cmp (on (λ n. n.bytes) (slice_cmp nat_cmp)) (on (λ n. n.scope) domain_cmp)
 
--- IsUnlike labels place: why these labels are no name's, as a place in their spelling: its start, if the
+-- IsNoName labels place: why these labels are no name's, as a place in their spelling: its start, if the
 -- first label is missing or of another length than a name's letters; otherwise where the first label
 -- has its first byte that is no letter
-pub data IsUnlike : List (List ℕ) → ℕ → Type 0 where
-  no_label : IsUnlike [] 0
-  wrong_length : (first : List ℕ) (rest : List (List ℕ)) → length first ≢ LETTERS → IsUnlike (first ∷ rest) 0
-  stranger : (first : List ℕ) (rest : List (List ℕ)) (place : ℕ)
-      → length first ≡ LETTERS → IsFirstStranger first place → IsUnlike (first ∷ rest) (1 + place)
+pub data IsNoName : List (List ℕ) → ℕ → Type 0 where
+  no_label : IsNoName [] 0
+  wrong_length : (first : List ℕ) (rest : List (List ℕ)) → length first ≢ LETTERS → IsNoName (first ∷ rest) 0
+  non_letter : (first : List ℕ) (rest : List (List ℕ)) (place : ℕ)
+      → length first ≡ LETTERS → IsFirstNonLetter first place → IsNoName (first ∷ rest) (1 + place)

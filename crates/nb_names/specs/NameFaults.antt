@@ -2,8 +2,8 @@
 -- packet's first byte.
 --
 -- The way is the length bytes that a reading comes to, one after the other. The fault is that of the
--- first of them at which one applies. Own: of the faults at one length byte, a missing byte is told
--- first.
+-- first of them at which one applies. Our choice: of the faults at one length byte, a missing byte is
+-- reported first.
 use Rattle.std.specs.Prelude.{◌≡◌, ℕ, ◌+◌, ◌<◌, ◌≤◌, List, [], ◌∷◌, ◌++◌, length, max}
 use Rattle.nb_names.specs.declared.limits.TheConstants.{MAX_LABEL, MAX_SPELLING}
 use Rattle.nb_names.specs.declared.pointers.Pointers.{Pointers}
@@ -11,7 +11,7 @@ use Rattle.nb_names.specs.declared.pointers.Pointers.TheVariants.{Followed, Refu
 use Rattle.nb_names.specs.declared.fault.NameFault.{NameFault}
 use Rattle.nb_names.specs.declared.fault.NameFault.TheVariants.{Truncated, ReservedLabel, PointerNotAllowed, BadPointer, TooLong, NotNetbios}
 use Rattle.nb_names.specs.DomainName.{spelling, IsLabel}
-use Rattle.nb_names.specs.Name.{IsUnlike}
+use Rattle.nb_names.specs.Name.{IsNoName}
 use Rattle.nb_names.specs.Labels.{StandsAt, IsPointer, NameAt}
 
 -- OnWay packet pointers at start here labels: a reading from `at` comes to the length byte at `here`,
@@ -66,8 +66,8 @@ pub record FaultAt (packet : List ℕ) (pointers : Pointers) (at : ℕ) (fault :
   pub applies : FaultHere packet pointers at start here labels fault
 
 -- NetbiosFaultAt packet pointers at fault: why no NetBIOS name is read: the first fault on the way, or
--- what is unlike a name in the labels that stand there, as a place in their spelling
+-- what is not_netbios a name in the labels that stand there, as a place in their spelling
 pub data NetbiosFaultAt (packet : List ℕ) (pointers : Pointers) (at : ℕ) : NameFault → Type 0 where
   on_way : {fault : NameFault} → FaultAt packet pointers at fault → NetbiosFaultAt packet pointers at fault
-  unlike : (labels : List (List ℕ)) (next place : ℕ) → NameAt packet pointers at labels next
-      → IsUnlike labels place → NetbiosFaultAt packet pointers at (NotNetbios place)
+  not_netbios : (labels : List (List ℕ)) (next place : ℕ) → NameAt packet pointers at labels next
+      → IsNoName labels place → NetbiosFaultAt packet pointers at (NotNetbios place)

@@ -1,22 +1,23 @@
--- The text that people write NetBIOS names in (own). RFC 1001 section 14.1 has a name's sixteen
+-- The text that people write NetBIOS names in (our choice). RFC 1001 section 14.1 has a name's sixteen
 -- bytes, and section 14.2 its scope. Places in a text are counted in bytes, from its first.
 --
--- 32 is the space, 46 `.`, 60 `<`, 62 `>` and 92 `\`. Std's `digit_value` has the value of a digit
--- or a letter of either case, and its `digit_char` the digit, in lower case, of a value.
+-- Std's `digit_value` has the value of a digit or a letter of either case, and its `digit_char` the
+-- digit, in lower case, of a value.
 use Rattle.std.specs.Prelude.{◌≡◌, ◌==◌, ◌||◌, ℕ, ◌+◌, ◌-◌, ◌*◌, ◌/◌, ◌%◌, ◌<◌, ◌≤◌, Bool, false, IsTrue, List, [], ◌∷◌, ◌++◌, length, take, replicate, if◌then◌else◌, slice_index}
 use Rattle.std.specs.List.{flat_map}
 use Rattle.std.specs.Char.{digit_value, digit_char, is_ascii_graphic}
 use Rattle.nb_names.specs.declared.limits.TheConstants.{FRONT_LENGTH}
 use Rattle.nb_names.specs.declared.text_fault.TextFault.{TextFault}
 use Rattle.nb_names.specs.declared.text_fault.TextFault.TheVariants.{BadText, TooLong}
+use Rattle.nb_names.specs.Ascii.{space, dot, less_than, greater_than, backslash}
 use Rattle.nb_names.specs.Name.{NetbiosName, IsScope}
 
 -- ---- the form
 
--- whether a byte can stand for itself: 21 to 7e in hexadecimal, without `.`, `<`, `>` and `\`
+-- whether a byte is plain, that is, can stand for itself: 21 to 7e in hexadecimal, without `.`, `<`, `>` and `\`
 abbrev pub is_plain : ℕ → Bool
 is_plain byte =
-    if byte == 46 || byte == 60 || byte == 62 || byte == 92 then false else is_ascii_graphic byte
+    if byte == dot || byte == less_than || byte == greater_than || byte == backslash then false else is_ascii_graphic byte
 
 -- a hexadecimal digit, in either case
 abbrev pub IsHexDigit : ℕ → Type 0
@@ -30,7 +31,7 @@ byte_of high low = digit_value high * 16 + digit_value low
 pub data Item : ℕ → List ℕ → Type 0 where
   plain : (byte : ℕ) → IsTrue (is_plain byte) → Item byte (byte ∷ [])
   escaped : (high low : ℕ) → IsHexDigit high → IsHexDigit low
-      → Item (byte_of high low) (92 ∷ high ∷ low ∷ [])
+      → Item (byte_of high low) (backslash ∷ high ∷ low ∷ [])
 
 -- Items bytes text: the text is a row of items, which stand for the bytes in order
 pub data Items : List ℕ → List ℕ → Type 0 where
@@ -43,9 +44,9 @@ pub data ScopeText : List (List ℕ) → List ℕ → Type 0 where
   no_label : ScopeText [] []
   more_labels : (label : List ℕ) (labels : List (List ℕ)) (items text : List ℕ)
       → 0 < length label → Items label items → ScopeText labels text
-      → ScopeText (label ∷ labels) (46 ∷ items ++ text)
+      → ScopeText (label ∷ labels) (dot ∷ items ++ text)
 
--- what stands in a text: the bytes before `<`, the byte behind it, and the labels behind `>`
+-- what stands in a text: the bytes before `<`, the byte after it, and the labels after `>`
 pub record Parts : Type 0 where
   pub front : List ℕ
   pub last : ℕ
@@ -62,7 +63,7 @@ pub record HasForm (parts : Parts) (text : List ℕ) : Type 0 where
   pub low_digit : IsHexDigit low
   pub last : parts.last ≡ byte_of high low
   pub scope : ScopeText parts.scope behind
-  pub whole : text ≡ items ++ 60 ∷ high ∷ low ∷ 62 ∷ behind
+  pub whole : text ≡ items ++ less_than ∷ high ∷ low ∷ greater_than ∷ behind
 
 -- the parts make a name: at most fifteen bytes before `<`, and labels that make a scope
 pub record FitsLimits (parts : Parts) : Type 0 where
@@ -71,7 +72,7 @@ pub record FitsLimits (parts : Parts) : Type 0 where
 
 -- the bytes, filled up with spaces to fifteen
 abbrev pub filled : List ℕ → List ℕ
-filled bytes = bytes ++ replicate (FRONT_LENGTH - length bytes) 32
+filled bytes = bytes ++ replicate (FRONT_LENGTH - length bytes) space
 
 -- the name that the parts make
 abbrev pub name_of : Parts → NetbiosName
@@ -113,9 +114,9 @@ IsFaultOf text TooLong = IsFormed text × ((name : NetbiosName) → ¬ IsText na
 abbrev pub digits_of : ℕ → List ℕ
 digits_of byte = digit_char (byte / 16) ∷ digit_char (byte % 16) ∷ []
 
--- the item of a byte: the byte itself where it can stand plainly, else its escape
+-- the item of a byte: a plain byte itself, else its escape
 abbrev pub item_of : ℕ → List ℕ
-item_of byte = if is_plain byte then byte ∷ [] else 92 ∷ digits_of byte
+item_of byte = if is_plain byte then byte ∷ [] else backslash ∷ digits_of byte
 
 -- the items of the bytes, in order
 abbrev pub items_of : List ℕ → List ℕ
@@ -123,11 +124,11 @@ items_of = flat_map item_of
 
 -- `.` and the items of each label
 abbrev pub scope_text_of : List (List ℕ) → List ℕ
-scope_text_of = flat_map (λ label. 46 ∷ items_of label)
+scope_text_of = flat_map (λ label. dot ∷ items_of label)
 
--- the byte before those kept, unless it is a space with none behind it
+-- the byte before those kept, unless it is a space with none after it
 abbrev pub kept_before : ℕ → List ℕ → List ℕ
-kept_before byte [] = if byte == 32 then [] else byte ∷ []
+kept_before byte [] = if byte == space then [] else byte ∷ []
 kept_before byte (kept ∷ bytes) = byte ∷ kept ∷ bytes
 
 -- the bytes without the spaces at their end
@@ -139,7 +140,7 @@ trimmed (byte ∷ bytes) = kept_before byte (trimmed bytes)
 abbrev pub bytes_written : List ℕ → List ℕ
 bytes_written bytes =
     items_of (trimmed (take FRONT_LENGTH bytes))
-    ++ 60 ∷ digits_of (slice_index bytes FRONT_LENGTH) ++ 62 ∷ []
+    ++ less_than ∷ digits_of (slice_index bytes FRONT_LENGTH) ++ greater_than ∷ []
 
 -- the form in which a name is written
 abbrev pub written : NetbiosName → List ℕ
@@ -148,5 +149,5 @@ written name = bytes_written name.bytes ++ scope_text_of name.scope
 -- the form in which a domain name is written: the items of its labels with `.` between them, and
 -- `.` where it has none
 abbrev pub domain_written : List (List ℕ) → List ℕ
-domain_written [] = 46 ∷ []
+domain_written [] = dot ∷ []
 domain_written (label ∷ labels) = items_of label ++ scope_text_of labels

@@ -1,4 +1,4 @@
--- The texts of the faults of a name's text (own). AT is a place in decimal, counted in bytes.
+-- The texts of the faults of a name's text (our choice). AT is a place in decimal, counted in bytes.
 use Rattle.std.specs.Prelude.{ℕ, List, ◌++◌, codes}
 use Rattle.std.specs.Fmt.{decimal}
 use Rattle.nb_names.specs.declared.text_fault.TextFault.{TextFault}

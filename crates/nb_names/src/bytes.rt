@@ -1,4 +1,4 @@
-//! Lists of bytes, and want of memory.
+//! Lists of bytes, and the answer where memory ran out.
 ghost use Rattle.std.specs.Prelude.{◌≡◌, IfOk};
 
 use std::alloc::{AllocError, AllocFailed, Global};

@@ -2,13 +2,13 @@
 ghost use Rattle.std.specs.Prelude.{◌≡◌, OnSome, IfNone};
 ghost use Rattle.nb_names.specs.Name.{IsByteName};
 ghost use Rattle.nb_names.specs.NameText.{name_of, FitsLimits};
-ghost use Rattle.nb_names.specs.TextSteps.{nothing_taken, takes, parts_of};
-ghost use Rattle.nb_names.specs.Collected.{taken_of, FitsSoFar};
+ghost use Rattle.nb_names.specs.Code.TextSteps.{nothing_taken, takes, parts_of};
+ghost use Rattle.nb_names.specs.Code.Collected.{taken_of, FitsSoFar};
 
 use crate::limits::{FRONT_LENGTH, MAX_LABEL, NAME_LENGTH};
 use crate::name::Name;
 use crate::scope::Scope;
-use crate::text_steps::Event;
+use crate::text_steps::Added;
 use arrayvec::ArrayVec;
 
 /// What a reading of a name's text has taken so far, within the limits.
@@ -16,7 +16,7 @@ use arrayvec::ArrayVec;
 pub(crate) struct Collected {
     /// The bytes before `<`.
     front: ArrayVec<u8, FRONT_LENGTH>,
-    /// The byte behind it.
+    /// The byte after it.
     last: u8,
     /// The labels that have ended.
     scope: Scope,
@@ -38,27 +38,27 @@ impl Collected {
     }
 
     /// Takes what a byte adds, unless that passes a limit.
-    pub(crate) fn take(&mut self, event: Event) -> Option<()>
-        ensures taken { OnSome result (taken_of self.new ≡ takes (taken_of self.old) event) }
-        ensures none { IfNone result (¬ FitsSoFar (takes (taken_of self.old) event)) }
+    pub(crate) fn take(&mut self, added: Added) -> Option<()>
+        ensures taken { OnSome result (taken_of self.new ≡ takes (taken_of self.old) added) }
+        ensures none { IfNone result (¬ FitsSoFar (takes (taken_of self.old) added)) }
     {
-        match event {
-            Event::Nothing => Some(()),
-            Event::FrontByte(byte) => self.front.try_push(byte).ok(),
-            Event::Last(byte) => {
+        match added {
+            Added::Nothing => Some(()),
+            Added::FrontByte(byte) => self.front.try_push(byte).ok(),
+            Added::Last(byte) => {
                 self.last = byte;
                 Some(())
             }
-            Event::LabelByte(byte) => self.label.try_push(byte).ok(),
-            Event::LabelEnd => self.end_label(),
+            Added::LabelByte(byte) => self.label.try_push(byte).ok(),
+            Added::LabelEnd => self.end_label(),
         }
     }
 
     /// Ends the label, unless the scope has no room for it.
     fn end_label(&mut self) -> Option<()>
         ensures taken { OnSome result
-            (taken_of self.new ≡ takes (taken_of self.old) Event.LabelEnd) }
-        ensures none { IfNone result (¬ FitsSoFar (takes (taken_of self.old) Event.LabelEnd)) }
+            (taken_of self.new ≡ takes (taken_of self.old) Added.LabelEnd) }
+        ensures none { IfNone result (¬ FitsSoFar (takes (taken_of self.old) Added.LabelEnd)) }
     {
         match self.scope.push(self.label.as_slice()) {
             Ok(()) => {

@@ -1,11 +1,15 @@
 //! Domain names, held in place.
 ghost use Rattle.std.specs.Prelude.{◌≡◌, ◌≤◌, ◌<◌, ◌↔◌, [], ◌∷◌, length, slice_get, option_map, IsTrue, MatchOption};
-ghost use Rattle.nb_names.specs.DomainName.{spelling, AreBytes, AreByteLabels, IsLabel, IsDomain, Pushes};
+ghost use Rattle.std.proofs.Common.{rules};
+ghost use Rattle.std.specs.Cmp.{partial_order_from_own_ties};
+ghost use Rattle.std.specs.Cmp.Rules.{comparing};
+ghost use Rattle.std.specs.Ordering.{as_partial_cmp};
+ghost use Rattle.nb_names.specs.DomainName.{spelling, domain_eq, domain_cmp, AreBytes, AreByteLabels, IsLabel, IsDomain, Pushes};
 ghost use Rattle.nb_names.specs.declared.limits.TheConstants.{MAX_SPELLING};
 
 use crate::label_fault::LabelFault;
-use crate::labels::{count_labels, each_is_a_byte, label_at, split_label};
 use crate::limits::{MAX_LABEL, MAX_SPELLING};
+use crate::spellings::{count_labels, each_is_a_byte, label_at, split_label};
 use arrayvec::ArrayVec;
 use std::cmp::Ordering;
 use std::marker::Model;
@@ -13,7 +17,8 @@ use std::marker::Model;
 /// A domain name: labels of 1 to 63 bytes, whose spelling has at most 255 bytes.
 ///
 /// It is held in place, without memory. Names are equal, and ordered, by the bytes of their
-/// spellings, byte for byte (own: RFC 1001 leaves the case of a scope open).
+/// spellings, byte for byte. That is our choice, and a departure: RFC 1001 hands domain names over
+/// to RFC 883, which ignores the case of letters.
 #[derive(Clone, Debug, Drop)]
 pub struct DomainName {
     /// The spelling, its zero byte included.
@@ -22,7 +27,7 @@ pub struct DomainName {
 
 impl Model for DomainName {
     ghost use Rattle.std.specs.Prelude.{ℕ, List};
-    ghost use Rattle.nb_names.specs.Spelled.{labels_of, IsSpelled};
+    ghost use Rattle.nb_names.specs.Code.Spelled.{labels_of, IsSpelled};
 
     ghost Value = { List (List ℕ) };
 
@@ -31,7 +36,7 @@ impl Model for DomainName {
     ghost invariant = { λ name. IsSpelled name.bytes.items };
 
     ghost use Rattle.nb_names.specs.DomainName.{spelling};
-    ghost use Rattle.nb_names.specs.Spelled.{given_back};
+    ghost use Rattle.nb_names.specs.Code.Spelled.{given_back};
 
     ghost inverse = { λ labels. record { bytes = record { items = spelling labels } } };
 
@@ -69,7 +74,7 @@ impl DomainName {
         label_at(self.bytes.as_slice(), place)
     }
 
-    /// The spelling: the labels, each behind its length, and a zero byte.
+    /// The spelling: the labels, each after its length, and a zero byte.
     ///
     /// RFC 1001 section 14.2.
     pub fn spelling(&self) -> &[u8]
@@ -113,7 +118,7 @@ impl DomainName {
         DomainName { bytes }
     }
 
-    /// The first label, and the name of the labels behind it.
+    /// The first label, and the name of the labels after it.
     pub(crate) fn split_first(&self) -> Option<(&[u8], DomainName)>
         ensures split { MatchOption result (self.now ≡ [])
             (λ split. self.now ≡ split.0.now ∷ split.1) }
@@ -125,7 +130,7 @@ impl DomainName {
         Some((label, DomainName { bytes }))
     }
 
-    /// Adds a label behind the others.
+    /// Adds a label after the others.
     ///
     /// # Errors
     ///
@@ -135,13 +140,21 @@ impl DomainName {
     pub fn push(&mut self, label: &[u8]) -> Result<(), LabelFault>
         ensures { Pushes MAX_SPELLING self.old self.new label.now result }
     {
+        self.push_within(label, MAX_SPELLING)
+    }
+
+    /// Adds a label after the others, if the spelling then has at most this many bytes.
+    pub(crate) fn push_within(&mut self, label: &[u8], limit: usize) -> Result<(), LabelFault>
+        requires { limit ≤ MAX_SPELLING }
+        ensures { Pushes limit self.old self.new label.now result }
+    {
         if label.is_empty() {
             return Err(LabelFault::EmptyLabel);
         }
         if label.len() > MAX_LABEL {
             return Err(LabelFault::LabelTooLong);
         }
-        if self.bytes.len() + 1 + label.len() > MAX_SPELLING {
+        if self.bytes.len() + 1 + label.len() > limit {
             return Err(LabelFault::TooLong);
         }
         self.bytes.pop();
@@ -153,11 +166,6 @@ impl DomainName {
 }
 
 impl PartialEq for DomainName {
-    ghost use Rattle.std.specs.Prelude.{◌≡◌, ◌↔◌, IsTrue};
-    ghost use Rattle.std.proofs.Common.{rules};
-    ghost use Rattle.std.specs.Cmp.Rules.{comparing};
-    ghost use Rattle.nb_names.specs.DomainName.{domain_eq};
-
     ghost eq = { domain_eq };
 
     ghost laws = { Prim.search (comparing, rules) };
@@ -171,17 +179,10 @@ impl PartialEq for DomainName {
 }
 
 impl Eq for DomainName {
-    ghost use Rattle.std.proofs.Common.{rules};
-    ghost use Rattle.std.specs.Cmp.Rules.{comparing};
-
     ghost laws = { Prim.search (comparing, rules) };
 }
 
 impl Ord for DomainName {
-    ghost use Rattle.std.proofs.Common.{rules};
-    ghost use Rattle.std.specs.Cmp.Rules.{comparing};
-    ghost use Rattle.nb_names.specs.DomainName.{domain_cmp};
-
     ghost cmp = { domain_cmp };
 
     ghost total = { Prim.search (comparing, rules) };
@@ -196,12 +197,6 @@ impl Ord for DomainName {
 }
 
 impl PartialOrd for DomainName {
-    ghost use Rattle.std.proofs.Common.{rules};
-    ghost use Rattle.std.specs.Cmp.Rules.{comparing};
-    ghost use Rattle.std.specs.Cmp.{partial_order_from_own_ties};
-    ghost use Rattle.std.specs.Ordering.{as_partial_cmp};
-    ghost use Rattle.nb_names.specs.DomainName.{domain_cmp};
-
     ghost partial_cmp = { as_partial_cmp domain_cmp };
 
     ghost laws = { partial_order_from_own_ties (Prim.search (comparing, rules))

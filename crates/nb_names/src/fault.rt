@@ -18,7 +18,7 @@ pub enum NameFault {
     /// The length byte at this offset begins a pointer, and pointers are refused.
     PointerNotAllowed(usize),
     /// The pointer at this offset doesn't lead below the start of the run of labels that it ends
-    /// (own).
+    /// (our choice).
     BadPointer(usize),
     /// With the label at this offset the spelling passes 255 bytes, its zero byte included.
     TooLong(usize),

@@ -1,6 +1,6 @@
 //! The letters that spell a NetBIOS name's bytes.
 ghost use Rattle.std.specs.Prelude.{◌≡◌, ◌<◌, length, slice_index, IfOk, IfErr};
-ghost use Rattle.nb_names.specs.FirstLevel.{letter, letters as letters_of_bytes, IsLetter, IsFirstStranger};
+ghost use Rattle.nb_names.specs.FirstLevel.{letter, letters as letters_of_bytes, IsLetter, IsFirstNonLetter};
 ghost use Rattle.nb_names.specs.declared.limits.TheConstants.{LETTERS};
 
 use crate::limits::{LETTERS, NAME_LENGTH};
@@ -22,7 +22,7 @@ fn half_at(letters: &[u8], place: usize) -> Result<u8, usize>
     requires { place < length letters.now }
     ensures found { IfOk result (λ half.
         (half < 16) × (slice_index letters.now place ≡ letter half)) }
-    ensures stranger { IfErr result (λ at.
+    ensures non_letter { IfErr result (λ at.
         (at ≡ place) × ¬ IsLetter (slice_index letters.now place)) }
 {
     match letters[place] {
@@ -35,7 +35,7 @@ fn half_at(letters: &[u8], place: usize) -> Result<u8, usize>
 pub(crate) fn bytes_of(letters: &[u8]) -> Result<[u8; NAME_LENGTH], usize>
     requires { length letters.now ≡ LETTERS }
     ensures found { IfOk result (λ bytes. letters.now ≡ letters_of_bytes bytes) }
-    ensures stranger { IfErr result (IsFirstStranger letters.now) }
+    ensures non_letter { IfErr result (IsFirstNonLetter letters.now) }
 {
     let mut bytes = [0; NAME_LENGTH];
     for place in 0..NAME_LENGTH {

@@ -2,7 +2,8 @@
 
 use thiserror::Error;
 
-/// Why a label could not be added to a name. Where several apply, the first in this order is told.
+/// Why a label could not be added to a name. Where several apply, the first in this order is
+/// reported.
 #[derive(Clone, Copy, Debug, PartialEq, Eq, Error)]
 pub enum LabelFault {
     /// The label has no bytes.

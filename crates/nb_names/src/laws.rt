@@ -9,7 +9,7 @@ ghost use Rattle.nb_names.specs.declared.pointers.Pointers.{Pointers};
 ghost use Rattle.nb_names.specs.DomainName.{spelling, AreBytes, IsDomain};
 ghost use Rattle.nb_names.specs.FirstLevel.{letters, IsLetter};
 ghost use Rattle.nb_names.specs.Labels.{NameAt, pointer_bytes};
-ghost use Rattle.nb_names.specs.Name.{NetbiosName, IsName, IsScope, IsUnlike, labels_of_name};
+ghost use Rattle.nb_names.specs.Name.{NetbiosName, IsName, IsScope, IsNoName, labels_of_name};
 ghost use Rattle.nb_names.specs.NameFaults.{FaultAt, NetbiosFaultAt};
 
 /// The limits that the definitions cite, as numbers.
@@ -54,7 +54,7 @@ pub fn one_netbios_fault()
 {}
 
 /// A spelling that stands in a packet is read as the labels that it spells, whatever stands before
-/// and behind it, and whether or not pointers are followed.
+/// and after it, and whether or not pointers are followed.
 pub fn spelling_is_read()
     ensures { (front rest : List ℕ) (pointers : Pointers) (labels : List (List ℕ)) →
         IsDomain labels →
@@ -74,7 +74,7 @@ pub fn name_or_fault()
         ⊎ ((fault : NameFault) × NetbiosFaultAt packet pointers at fault) }
 {}
 
-/// Bytes behind a packet change neither a name that stands in it nor a fault, unless that was that
+/// Bytes after a packet change neither a name that stands in it nor a fault, but for the fault that
 /// bytes are missing.
 pub fn more_behind()
     ensures name { (packet more : List ℕ) (pointers : Pointers) (at : ℕ)
@@ -116,9 +116,9 @@ pub fn letters_by_place()
 /// At a place above 0 that is answered for labels that are no name's, the byte of their spelling
 /// is no letter, and those between the length byte and it are.
 pub fn place_in_spelling()
-    ensures there { (labels : List (List ℕ)) (place : ℕ) → IsUnlike labels place → 0 < place →
+    ensures there { (labels : List (List ℕ)) (place : ℕ) → IsNoName labels place → 0 < place →
         ¬ IsLetter (slice_index (spelling labels) place) }
-    ensures before { (labels : List (List ℕ)) (place before : ℕ) → IsUnlike labels place →
+    ensures before { (labels : List (List ℕ)) (place before : ℕ) → IsNoName labels place →
         0 < before → before < place → IsLetter (slice_index (spelling labels) before) }
 {}
 

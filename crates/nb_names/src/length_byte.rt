@@ -1,5 +1,5 @@
 //! What stands at a length byte.
-ghost use Rattle.nb_names.specs.LengthByte.{Begins};
+ghost use Rattle.nb_names.specs.Code.LengthByte.{Begins};
 
 use crate::limits::MAX_LABEL;
 
@@ -13,7 +13,7 @@ pub(crate) enum LengthByte {
     Cut,
     /// The end of the name.
     End,
-    /// A label of this many bytes, which stand behind it.
+    /// A label of this many bytes, which stand after it.
     Label(usize),
     /// Nothing: its first two bits are 01 or 10.
     Reserved,

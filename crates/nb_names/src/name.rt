@@ -1,18 +1,23 @@
 //! NetBIOS names.
-ghost use Rattle.std.specs.Prelude.{◌≡◌, IfOk, IfErr, IsOkAnd};
-ghost use Rattle.nb_names.specs.Name.{NetbiosName, IsName, IsByteName, IsUnlike, labels_of_name};
+ghost use Rattle.std.specs.Prelude.{◌≡◌, ◌↔◌, IfOk, IfErr, IsOkAnd, IsTrue};
+ghost use Rattle.std.proofs.Common.{rules};
+ghost use Rattle.std.specs.Cmp.{partial_order_from_own_ties};
+ghost use Rattle.std.specs.Cmp.Rules.{comparing};
+ghost use Rattle.std.specs.Ordering.{as_partial_cmp};
+ghost use Rattle.nb_names.specs.Name.{NetbiosName, IsName, IsByteName, IsNoName, labels_of_name, name_eq, name_cmp};
 
 use crate::domain_name::DomainName;
 use crate::first_level::{bytes_of, letters_of};
-use crate::labels::each_is_a_byte;
 use crate::limits::{LETTERS, NAME_LENGTH};
 use crate::scope::Scope;
+use crate::spellings::each_is_a_byte;
 use std::cmp::Ordering;
 use std::marker::Model;
 
 /// A NetBIOS name: sixteen bytes, of which the last is the suffix, and a scope.
 ///
-/// Names are equal, and ordered, byte for byte: by the sixteen bytes, then by the scope (own).
+/// Names are equal, and ordered, byte for byte: by the sixteen bytes, then by the scope. That is
+/// our choice, and for a scope a departure: [`DomainName`] says from what.
 ///
 /// RFC 1001 section 14.1.
 #[derive(Clone, Debug, Drop)]
@@ -96,7 +101,7 @@ impl Name {
     ///
     /// # Errors
     ///
-    /// [`NotNetbios`] where no name has them. A letter in lower case is none (own).
+    /// [`NotNetbios`] where no name has them. A letter in lower case is none (our choice).
     ///
     /// RFC 1001 section 14.1.
     pub fn from_domain(domain: &DomainName) -> Result<Name, NotNetbios>
@@ -104,7 +109,7 @@ impl Name {
         ensures name { IfOk result IsByteName }
         ensures only { (name : NetbiosName) → IsName name → labels_of_name name ≡ domain.now →
             IsOkAnd result (λ read. read ≡ name) }
-        ensures fault { IfErr result (λ fault. IsUnlike domain.now fault.place) }
+        ensures fault { IfErr result (λ fault. IsNoName domain.now fault.place) }
     {
         let Some((first, rest)) = domain.split_first() else {
             return Err(NotNetbios { place: 0 });
@@ -120,11 +125,6 @@ impl Name {
 }
 
 impl PartialEq for Name {
-    ghost use Rattle.std.specs.Prelude.{◌≡◌, ◌↔◌, IsTrue};
-    ghost use Rattle.std.proofs.Common.{rules};
-    ghost use Rattle.std.specs.Cmp.Rules.{comparing};
-    ghost use Rattle.nb_names.specs.Name.{name_eq};
-
     ghost eq = { name_eq };
 
     ghost laws = { Prim.search (comparing, rules) };
@@ -138,17 +138,10 @@ impl PartialEq for Name {
 }
 
 impl Eq for Name {
-    ghost use Rattle.std.proofs.Common.{rules};
-    ghost use Rattle.std.specs.Cmp.Rules.{comparing};
-
     ghost laws = { Prim.search (comparing, rules) };
 }
 
 impl Ord for Name {
-    ghost use Rattle.std.proofs.Common.{rules};
-    ghost use Rattle.std.specs.Cmp.Rules.{comparing};
-    ghost use Rattle.nb_names.specs.Name.{name_cmp};
-
     ghost cmp = { name_cmp };
 
     ghost total = { Prim.search (comparing, rules) };
@@ -165,12 +158,6 @@ impl Ord for Name {
 }
 
 impl PartialOrd for Name {
-    ghost use Rattle.std.proofs.Common.{rules};
-    ghost use Rattle.std.specs.Cmp.Rules.{comparing};
-    ghost use Rattle.std.specs.Cmp.{partial_order_from_own_ties};
-    ghost use Rattle.std.specs.Ordering.{as_partial_cmp};
-    ghost use Rattle.nb_names.specs.Name.{name_cmp};
-
     ghost partial_cmp = { as_partial_cmp name_cmp };
 
     ghost laws = { partial_order_from_own_ties (Prim.search (comparing, rules))

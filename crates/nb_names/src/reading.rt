@@ -10,10 +10,10 @@ use crate::length_byte::{LengthByte, length_byte_at};
 use crate::name::Name;
 use crate::pointers::Pointers;
 
-/// Reads the domain name that begins at an offset, and the offset behind it.
+/// Reads the domain name that begins at an offset, and the offset after it.
 ///
 /// `packet` is the whole packet, since pointers count from its first byte. Offsets are in bytes
-/// from there, and `at` may lie past the end. The offset answered is behind the zero byte or the
+/// from there, and `at` may lie past the end. The offset answered is after the zero byte or the
 /// first pointer, where the name itself stands. No memory is taken.
 ///
 /// # Errors
@@ -22,7 +22,7 @@ use crate::pointers::Pointers;
 /// never `NotNetbios`.
 ///
 /// RFC 1002 section 4.1. That a pointer leads below the start of the run of labels that it ends is
-/// our own rule.
+/// our choice.
 pub fn read_domain(
     packet: &[u8],
     at: usize,
@@ -69,7 +69,7 @@ pub fn read_domain(
     }
 }
 
-/// Reads the NetBIOS name that begins at an offset, and the offset behind it.
+/// Reads the NetBIOS name that begins at an offset, and the offset after it.
 ///
 /// It is read as by [`read_domain`], to the same offset. No memory is taken.
 ///
@@ -94,6 +94,6 @@ pub fn read_name(packet: &[u8], at: usize, pointers: Pointers) -> Result<(Name, 
     let (domain, next) = read_domain(packet, at, pointers)?;
     match Name::from_domain(&domain) {
         Ok(name) => Ok((name, next)),
-        Err(unlike) => Err(NameFault::NotNetbios(unlike.place)),
+        Err(fault) => Err(NameFault::NotNetbios(fault.place)),
     }
 }

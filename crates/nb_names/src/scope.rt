@@ -1,17 +1,21 @@
 //! Scopes of NetBIOS names.
-ghost use Rattle.std.specs.Prelude.{◌≡◌, []};
-ghost use Rattle.nb_names.specs.DomainName.{AreByteLabels, Pushes};
+ghost use Rattle.std.specs.Prelude.{◌≡◌, ◌↔◌, [], IsTrue};
+ghost use Rattle.std.proofs.Common.{rules};
+ghost use Rattle.std.specs.Cmp.{partial_order_from_own_ties};
+ghost use Rattle.std.specs.Cmp.Rules.{comparing};
+ghost use Rattle.std.specs.Ordering.{as_partial_cmp};
+ghost use Rattle.nb_names.specs.DomainName.{AreByteLabels, Pushes, domain_eq, domain_cmp};
 ghost use Rattle.nb_names.specs.Name.{IsScope};
 ghost use Rattle.nb_names.specs.declared.limits.TheConstants.{MAX_SCOPE};
 
 use crate::domain_name::DomainName;
 use crate::label_fault::LabelFault;
-use crate::limits::{MAX_LABEL, MAX_SCOPE};
+use crate::limits::MAX_SCOPE;
 use std::cmp::Ordering;
 use std::marker::Model;
 
 /// The scope of a NetBIOS name: a domain name whose spelling has at most 222 bytes, so that it has
-/// room behind a name's first label of 32 letters.
+/// room after a name's first label of 32 letters.
 ///
 /// Scopes are equal, and ordered, as the domain names that they are.
 #[derive(Clone, Debug, Drop)]
@@ -72,7 +76,7 @@ impl Scope {
         }
     }
 
-    /// Adds a label behind the others.
+    /// Adds a label after the others.
     ///
     /// # Errors
     ///
@@ -81,25 +85,11 @@ impl Scope {
     pub fn push(&mut self, label: &[u8]) -> Result<(), LabelFault>
         ensures { Pushes MAX_SCOPE self.old self.new label.now result }
     {
-        if label.is_empty() {
-            return Err(LabelFault::EmptyLabel);
-        }
-        if label.len() > MAX_LABEL {
-            return Err(LabelFault::LabelTooLong);
-        }
-        if self.domain.spelled_len() + 1 + label.len() > MAX_SCOPE {
-            return Err(LabelFault::TooLong);
-        }
-        self.domain.push(label)
+        self.domain.push_within(label, MAX_SCOPE)
     }
 }
 
 impl PartialEq for Scope {
-    ghost use Rattle.std.specs.Prelude.{◌≡◌, ◌↔◌, IsTrue};
-    ghost use Rattle.std.proofs.Common.{rules};
-    ghost use Rattle.std.specs.Cmp.Rules.{comparing};
-    ghost use Rattle.nb_names.specs.DomainName.{domain_eq};
-
     ghost eq = { domain_eq };
 
     ghost laws = { Prim.search (comparing, rules) };
@@ -113,17 +103,10 @@ impl PartialEq for Scope {
 }
 
 impl Eq for Scope {
-    ghost use Rattle.std.proofs.Common.{rules};
-    ghost use Rattle.std.specs.Cmp.Rules.{comparing};
-
     ghost laws = { Prim.search (comparing, rules) };
 }
 
 impl Ord for Scope {
-    ghost use Rattle.std.proofs.Common.{rules};
-    ghost use Rattle.std.specs.Cmp.Rules.{comparing};
-    ghost use Rattle.nb_names.specs.DomainName.{domain_cmp};
-
     ghost cmp = { domain_cmp };
 
     ghost total = { Prim.search (comparing, rules) };
@@ -138,12 +121,6 @@ impl Ord for Scope {
 }
 
 impl PartialOrd for Scope {
-    ghost use Rattle.std.proofs.Common.{rules};
-    ghost use Rattle.std.specs.Cmp.Rules.{comparing};
-    ghost use Rattle.std.specs.Cmp.{partial_order_from_own_ties};
-    ghost use Rattle.std.specs.Ordering.{as_partial_cmp};
-    ghost use Rattle.nb_names.specs.DomainName.{domain_cmp};
-
     ghost partial_cmp = { as_partial_cmp domain_cmp };
 
     ghost laws = { partial_order_from_own_ties (Prim.search (comparing, rules))

@@ -3,7 +3,8 @@
 mod counted;
 mod items;
 mod names;
-mod plain_reading;
 mod reading;
+mod slow_reading;
+mod slow_text;
 mod text;
 mod vectors;

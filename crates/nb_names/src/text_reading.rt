@@ -4,8 +4,8 @@ ghost use Rattle.nb_names.specs.Name.{NetbiosName, IsByteName};
 ghost use Rattle.nb_names.specs.NameText.{IsText, IsFaultOf};
 
 use crate::name::Name;
-use crate::plain;
 use crate::text_fault::TextFault;
+use crate::text_parsing::name_from_bytes;
 
 /// The name that a text stands for, such as `FRED<20>.NETBIOS.COM`.
 ///
@@ -20,7 +20,7 @@ use crate::text_fault::TextFault;
 /// The first that applies, in [`TextFault`]'s order: the form is judged over the whole text, and
 /// then the limits.
 ///
-/// The form is our own.
+/// The form is our choice.
 pub fn name_from_text(text: &str) -> Result<Name, TextFault>
     ensures found { IfOk result (λ name. IsText name text.now) }
     ensures name { IfOk result IsByteName }
@@ -28,5 +28,5 @@ pub fn name_from_text(text: &str) -> Result<Name, TextFault>
         IsOkAnd result (λ read. read ≡ name) }
     ensures fault { IfErr result (IsFaultOf text.now) }
 {
-    plain::name_from_bytes(text.as_bytes())
+    name_from_bytes(text.as_bytes())
 }

@@ -1,7 +1,7 @@
 //! The steps in which the text of a name is read, a byte at a time.
 ghost use Rattle.std.specs.Prelude.{◌≡◌, ◌<◌, IfSome};
 ghost use Rattle.nb_names.specs.NameText.{is_plain as is_plain_byte};
-ghost use Rattle.nb_names.specs.TextSteps.{step, step_in_front, step_in_label, digit_of, HasDigit};
+ghost use Rattle.nb_names.specs.Code.TextSteps.{step, step_in_front, step_in_label, digit_of, HasDigit};
 
 /// Where a reading stands: what the bytes read so far end in.
 #[derive(Clone, Copy, Debug, PartialEq, Eq)]
@@ -14,9 +14,9 @@ pub(crate) enum Stage {
     FrontDigit(u8),
     /// `<`.
     Suffix,
-    /// The first digit behind `<`, by its value.
+    /// The first digit after `<`, by its value.
     SuffixDigit(u8),
-    /// The second digit behind `<`.
+    /// The second digit after `<`.
     SuffixEnd,
     /// `>`.
     Closed,
@@ -32,12 +32,12 @@ pub(crate) enum Stage {
 
 /// What a byte of a text adds to the name.
 #[derive(Clone, Copy, Debug, PartialEq, Eq)]
-pub(crate) enum Event {
+pub(crate) enum Added {
     /// Nothing so far.
     Nothing,
     /// A byte before `<`.
     FrontByte(u8),
-    /// The byte behind `<`.
+    /// The byte after `<`.
     Last(u8),
     /// A byte of the label.
     LabelByte(u8),
@@ -45,7 +45,7 @@ pub(crate) enum Event {
     LabelEnd,
 }
 
-/// Whether a byte can stand for itself.
+/// Whether a byte is plain: it can stand for itself.
 pub(crate) fn is_plain(byte: u8) -> bool
     ensures { result ≡ is_plain_byte byte }
 {
@@ -67,56 +67,56 @@ fn hex_value(digit: u8) -> Option<u8>
 }
 
 /// A step before `<`: an item goes on with the byte, or `<` ends them.
-fn front_step(byte: u8) -> Option<(Stage, Event)>
+fn front_step(byte: u8) -> Option<(Stage, Added)>
     ensures { result ≡ step_in_front byte }
 {
     if is_plain(byte) {
-        return Some((Stage::Front, Event::FrontByte(byte)));
+        return Some((Stage::Front, Added::FrontByte(byte)));
     }
     match byte {
-        b'\\' => Some((Stage::FrontEscape, Event::Nothing)),
-        b'<' => Some((Stage::Suffix, Event::Nothing)),
+        b'\\' => Some((Stage::FrontEscape, Added::Nothing)),
+        b'<' => Some((Stage::Suffix, Added::Nothing)),
         _ => None,
     }
 }
 
 /// A step in a label: an item goes on with the byte.
-fn label_step(byte: u8) -> Option<(Stage, Event)>
+fn label_step(byte: u8) -> Option<(Stage, Added)>
     ensures { result ≡ step_in_label byte }
 {
     if is_plain(byte) {
-        return Some((Stage::Label, Event::LabelByte(byte)));
+        return Some((Stage::Label, Added::LabelByte(byte)));
     }
     match byte {
-        b'\\' => Some((Stage::LabelEscape, Event::Nothing)),
+        b'\\' => Some((Stage::LabelEscape, Added::Nothing)),
         _ => None,
     }
 }
 
-/// Where a reading stands behind a byte, and what the byte adds, or nothing where no text of the
+/// Where a reading stands after a byte, and what the byte adds, or nothing where no text of the
 /// form goes on with it.
-pub(crate) fn step_of(stage: Stage, byte: u8) -> Option<(Stage, Event)>
+pub(crate) fn step_of(stage: Stage, byte: u8) -> Option<(Stage, Added)>
     requires { HasDigit stage }
     ensures value { result ≡ step stage byte }
     ensures digit { IfSome result (λ next. HasDigit next.0) }
 {
     match stage {
         Stage::Front => front_step(byte),
-        Stage::FrontEscape => Some((Stage::FrontDigit(hex_value(byte)?), Event::Nothing)),
+        Stage::FrontEscape => Some((Stage::FrontDigit(hex_value(byte)?), Added::Nothing)),
         Stage::FrontDigit(high) => {
-            Some((Stage::Front, Event::FrontByte(high * 16 + hex_value(byte)?)))
+            Some((Stage::Front, Added::FrontByte(high * 16 + hex_value(byte)?)))
         }
-        Stage::Suffix => Some((Stage::SuffixDigit(hex_value(byte)?), Event::Nothing)),
+        Stage::Suffix => Some((Stage::SuffixDigit(hex_value(byte)?), Added::Nothing)),
         Stage::SuffixDigit(high) => {
-            Some((Stage::SuffixEnd, Event::Last(high * 16 + hex_value(byte)?)))
+            Some((Stage::SuffixEnd, Added::Last(high * 16 + hex_value(byte)?)))
         }
-        Stage::SuffixEnd if byte == b'>' => Some((Stage::Closed, Event::Nothing)),
-        Stage::Closed if byte == b'.' => Some((Stage::LabelStart, Event::Nothing)),
-        Stage::Label if byte == b'.' => Some((Stage::LabelStart, Event::LabelEnd)),
+        Stage::SuffixEnd if byte == b'>' => Some((Stage::Closed, Added::Nothing)),
+        Stage::Closed if byte == b'.' => Some((Stage::LabelStart, Added::Nothing)),
+        Stage::Label if byte == b'.' => Some((Stage::LabelStart, Added::LabelEnd)),
         Stage::LabelStart | Stage::Label => label_step(byte),
-        Stage::LabelEscape => Some((Stage::LabelDigit(hex_value(byte)?), Event::Nothing)),
+        Stage::LabelEscape => Some((Stage::LabelDigit(hex_value(byte)?), Added::Nothing)),
         Stage::LabelDigit(high) => {
-            Some((Stage::Label, Event::LabelByte(high * 16 + hex_value(byte)?)))
+            Some((Stage::Label, Added::LabelByte(high * 16 + hex_value(byte)?)))
         }
         Stage::SuffixEnd | Stage::Closed => None,
     }

@@ -13,13 +13,13 @@ use crate::text_steps::is_plain;
 use std::alloc::Global;
 
 /// The text of a name, as it is written: the spaces at the end of its first fifteen bytes are left
-/// out, a byte that may stand plainly does, and any other is `\` and two digits in lower case.
+/// out, a plain byte stands for itself, and any other is `\` and two digits in lower case.
 ///
 /// # Errors
 ///
 /// [`NoMemory`] where memory ran out.
 ///
-/// The form is our own.
+/// The form is our choice.
 pub fn name_text(alloc: Global, name: &Name) -> Result<String, NoMemory>
     ensures written { IfOk result (λ text. string_bytes text ≡ written name.now) }
     ensures read { IfOk result (λ text. IsText name.now (string_bytes text)) }
@@ -36,7 +36,7 @@ pub fn name_text(alloc: Global, name: &Name) -> Result<String, NoMemory>
 ///
 /// [`NoMemory`] where memory ran out.
 ///
-/// The form is our own.
+/// The form is our choice.
 pub fn domain_text(alloc: Global, domain: &DomainName) -> Result<String, NoMemory>
     ensures { IfOk result (λ text. string_bytes text ≡ domain_written domain.now) }
 {

@@ -6,7 +6,7 @@ use crate::bytes::{Bytes, NoMemory};
 use crate::domain_name::DomainName;
 use std::alloc::Global;
 
-/// The spelling of a domain name: its labels, each behind its length, and a zero byte.
+/// The spelling of a domain name: its labels, each after its length, and a zero byte.
 ///
 /// # Errors
 ///

@@ -35,7 +35,7 @@ fn names_are_spelled(rt: HostRuntime) {
 }
 
 #[test]
-fn a_scope_stands_behind_the_letters(rt: HostRuntime) -> Result<(), Fail> {
+fn a_scope_stands_after_the_letters(rt: HostRuntime) -> Result<(), Fail> {
     let mut scope = Scope::empty();
     scope.push(b"NETBIOS")?;
     scope.push(b"COM")?;

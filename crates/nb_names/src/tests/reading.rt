@@ -1,6 +1,6 @@
-//! Names in packets: examples, and the reading held against a plain one.
+//! Names in packets: examples, and the reading held against a slow one.
 
-use crate::tests::plain_reading::plain_reading;
+use crate::tests::slow_reading::slow_reading;
 use crate::tests::vectors::FRED;
 use crate::{Name, NameFault, Pointers, Scope, read_domain, read_name};
 use std::process::Abort;
@@ -34,7 +34,7 @@ fn front(bytes: &[u8; 256]) -> &[u8] {
     &bytes[..255]
 }
 
-/// Reads a domain name and compares its spelling and the offset behind it, or the fault.
+/// Reads a domain name and compares its spelling and the offset after it, or the fault.
 fn expect_domain(
     rt: &impl Abort,
     packet: &[u8],
@@ -90,7 +90,7 @@ fn a_part_of_a_name_is_truncated(rt: HostRuntime) {
 }
 
 #[test]
-fn faults_are_told_at_their_places(rt: HostRuntime) {
+fn faults_are_reported_at_their_places(rt: HostRuntime) {
     let followed = Pointers::Followed;
     let rows: [(&[u8], usize, NameFault); 12] = [
         // to itself, to the start of its own run, forward, past the packet
@@ -112,7 +112,7 @@ fn faults_are_told_at_their_places(rt: HostRuntime) {
     for (packet, at, fault) in rows {
         expect_domain(&rt, packet, at, followed, Err(fault));
     }
-    // The missing second byte is told before the pointer.
+    // The missing second byte is reported before the pointer.
     let cut = Err(NameFault::Truncated(2));
     expect_domain(&rt, b"\x00\xc0", 1, Pointers::Refused, cut);
 }
@@ -185,7 +185,7 @@ fn faults_have_texts(rt: HostRuntime) -> Result<(), Fail> {
 const BYTES: [u8; 16] = *b"\x00\x00\x00\x01\x01\x01\x02\x02\xc0\xc0\x3f\x40\x80\xc1\xffa";
 
 #[test]
-fn small_packets_are_read_as_by_the_plain_reading(rt: HostRuntime) -> Result<(), Fail> {
+fn small_packets_are_read_as_slowly(rt: HostRuntime) -> Result<(), Fail> {
     let mut seed = 1u32;
     let mut whole = 0u32;
     for count in 0..400 {
@@ -196,7 +196,7 @@ fn small_packets_are_read_as_by_the_plain_reading(rt: HostRuntime) -> Result<(),
         }
         for at in 0..22 {
             for pointers in [Pointers::Followed, Pointers::Refused] {
-                match plain_reading(rt.alloc(), &packet, at, pointers)? {
+                match slow_reading(rt.alloc(), &packet, at, pointers)? {
                     Ok((spelling, next)) => {
                         whole = whole.saturating_add(1);
                         expect_domain(&rt, &packet, at, pointers, Ok((&spelling, next)));

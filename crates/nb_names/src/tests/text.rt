@@ -1,10 +1,12 @@
 //! The text of names, and the spelling that is written.
 
+use crate::tests::slow_text::slow_text;
 use crate::tests::vectors::{FRED, WILDCARD};
 use crate::{
-    DomainName, Name, NoMemory, Scope, TextFault, domain_text, name_from_text, name_text, plain,
+    DomainName, Name, NoMemory, Scope, TextFault, domain_text, name_from_text, name_text,
     write_domain,
 };
+use arrayvec::ArrayVec;
 use std::alloc::Global;
 use std::process::Abort;
 use std::test::Fail;
@@ -46,11 +48,7 @@ fn texts_are_read(rt: HostRuntime) {
     ];
     for (text, bytes, labels) in rows {
         let want = name(&rt, bytes, labels);
-        assert!(rt; name_from_text(text) == Ok(want.copied()), "{text}");
-        assert!(rt;
-            plain::name_from_bytes(text.as_bytes()) == Ok(want),
-            "{text}"
-        );
+        assert!(rt; name_from_text(text) == Ok(want), "{text}");
     }
 }
 
@@ -81,6 +79,27 @@ fn other_texts_are_bad(rt: HostRuntime) {
             "{text}"
         );
     }
+}
+
+#[test]
+fn short_texts_are_read_as_slowly(rt: HostRuntime) -> Result<(), Fail> {
+    // Each text of up to three of these bytes, after each of these fronts.
+    let bytes = b"A2g<>.\\";
+    for front in ["", "\\4", "A<2", "A<20>.A"] {
+        for number in 0..512_usize {
+            let mut text: ArrayVec<u8, 10> = ArrayVec::new();
+            assert!(rt; text.try_extend_from_slice(front.as_bytes()).is_ok());
+            for place in [number / 64, number / 8 % 8, number % 8] {
+                if let Some(byte) = bytes.get(place) {
+                    assert!(rt; text.try_push(*byte).is_ok());
+                }
+            }
+            let want = slow_text(text.as_slice()).map_err(TextFault::BadText);
+            let text = std::str::from_utf8(text.as_slice())?;
+            assert!(rt; name_from_text(text) == want, "{text}");
+        }
+    }
+    Ok(())
 }
 
 #[test]

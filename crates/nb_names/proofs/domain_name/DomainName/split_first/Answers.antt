@@ -1,6 +1,6 @@
 use Rattle.std.proofs.Common.{◌≡◌, ◌∷◌, ◌∙◌, rules, sym, ap, List, ℕ}
 use Rattle.nb_names.specs.DomainName.{spelling, IsDomain}
-use Rattle.nb_names.specs.Spelled.{labels_of, BeginsWith}
+use Rattle.nb_names.specs.Code.Spelled.{labels_of, BeginsWith}
 use Rattle.nb_names.proofs.SpellingLemmas.{labels_of-spelled, spelled, IsDomain-rest}
 use Rattle.nb_names.proofs.domain_name.DomainName.split_first.Goals as goal
 

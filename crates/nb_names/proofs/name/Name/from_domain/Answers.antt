@@ -1,13 +1,13 @@
 use Rattle.std.proofs.Common.{◌≡◌, ◌∙◌}
 use Rattle.nb_names.specs.Name.{no_label, NetbiosName, labels_of_name}
-use Rattle.nb_names.proofs.NameLemmas.{IsScope-rest, unlike_length, unlike_letter, name_length, name_letters, one_name}
+use Rattle.nb_names.proofs.NameLemmas.{IsScope-rest, no_name_length, no_name_letter, name_length, name_letters, one_name}
 use Rattle.nb_names.proofs.name.Name.from_domain.Goals as goal
 
 pub returns-in_default-clause-fault : goal.returns-in_default-clause-fault
 returns-in_default-clause-fault c = rw c.in_default.ensures.split no_label
 
 pub returns-then-first-ne-LETTERS-clause-fault : goal.returns-then-first-ne-LETTERS-clause-fault
-returns-then-first-ne-LETTERS-clause-fault c = unlike_length _ _ _ c.in-Some.ensures.split c.if-first-ne-LETTERS.true
+returns-then-first-ne-LETTERS-clause-fault c = no_name_length _ _ _ c.in-Some.ensures.split c.if-first-ne-LETTERS.true
 
 pub returns-then-first-ne-LETTERS-clause-only : goal.returns-then-first-ne-LETTERS-clause-only
 returns-then-first-ne-LETTERS-clause-only c name formed is =
@@ -17,11 +17,11 @@ pub of_domain-requires : goal.of_domain-requires
 of_domain-requires c = IsScope-rest _ _ _ c.in-Some.ensures.split c.if-first-ne-LETTERS.false c.in-Some.ensures.domain
 
 pub returns-in-Err-clause-fault : goal.returns-in-Err-clause-fault
-returns-in-Err-clause-fault c = unlike_letter _ _ _ _ c.in-Some.ensures.split c.if-first-ne-LETTERS.false c.in-Err.ensures.stranger
+returns-in-Err-clause-fault c = no_name_letter _ _ _ _ c.in-Some.ensures.split c.if-first-ne-LETTERS.false c.in-Err.ensures.non_letter
 
 pub returns-in-Err-clause-only : goal.returns-in-Err-clause-only
 returns-in-Err-clause-only c name formed is =
-    name_letters name _ _ _ formed (is ∙ c.in-Some.ensures.split) c.in-Err.ensures.stranger
+    name_letters name _ _ _ formed (is ∙ c.in-Some.ensures.split) c.in-Err.ensures.non_letter
 
 pub returns-in-Ok-clause-only : goal.returns-in-Ok-clause-only
 returns-in-Ok-clause-only c name formed is =

@@ -5,3 +5,4 @@ pub mod PayloadLemmas
 pub mod LineLemmas
 pub mod KeysLemmas
 pub mod LiveLemmas
+pub mod NamesLemmas

@@ -1,5 +1,7 @@
 -- The texts of faults (own).
 use Rattle.std.specs.Prelude.{ℕ, List, codes}
+use Rattle.nb_member.specs.declared.local_names.AddFault.{AddFault}
+use Rattle.nb_member.specs.declared.local_names.AddFault.TheVariants as adding
 use Rattle.nb_member.specs.declared.line_fault.LineFault.{LineFault}
 use Rattle.nb_member.specs.declared.line_fault.LineFault.TheVariants.{BadLine, NoMemory}
 
@@ -7,3 +9,9 @@ use Rattle.nb_member.specs.declared.line_fault.LineFault.TheVariants.{BadLine, N
 abbrev pub line_fault_text : LineFault → List ℕ
 line_fault_text BadLine = codes "bad line"
 line_fault_text NoMemory = codes "memory"
+
+-- the text of the fault of a name that isn't added
+abbrev pub add_fault_text : AddFault → List ℕ
+add_fault_text adding.Present = codes "present"
+add_fault_text adding.TooMany = codes "too many names"
+add_fault_text adding.NoMemory = codes "memory"

@@ -4,7 +4,7 @@
 -- types it came by. A broadcast is heard by whoever holds a name of its destination's scope. Error packets
 -- are sent for direct unique datagrams alone. They have the flags 02, the datagram's identifier, and the
 -- station's own address and port.
-use Rattle.std.specs.Prelude.{ℕ, Bool, List, Option, Some, None}
+use Rattle.std.specs.Prelude.{◌≡◌, ℕ, Bool, List, Contains, Option, Some, None}
 use Rattle.std.specs.List.{list_any}
 use Rattle.nb_names.specs.DomainName.{domain_eq}
 use Rattle.nb_names.specs.Name.{NetbiosName, name_eq}
@@ -32,6 +32,22 @@ hears_as names Broadcast destination = holds_scope names destination.scope
 -- hears names d: a station with these names hears the datagram d
 abbrev pub hears : List NetbiosName → DatagramParts → Bool
 hears names d = hears_as names d.kind d.destination
+
+-- the same as relations
+
+-- HoldsScope names scope: some name has this scope
+abbrev pub HoldsScope : List NetbiosName → List (List ℕ) → Type 0
+HoldsScope names scope = (name : NetbiosName) × Contains names name × (name.scope ≡ scope)
+
+-- HearsAs names kind destination: a station with these names hears what is sent so
+abbrev pub HearsAs : List NetbiosName → Kind → NetbiosName → Type 0
+HearsAs names Unique destination = Contains names destination
+HearsAs names Group destination = Contains names destination
+HearsAs names Broadcast destination = HoldsScope names destination.scope
+
+-- Hears names d: a station with these names hears the datagram d
+abbrev pub Hears : List NetbiosName → DatagramParts → Type 0
+Hears names d = HearsAs names d.kind d.destination
 
 -- error_with settings id code: the error packet of this code about the datagram with this identifier
 abbrev pub error_with : Settings → ℕ → ℕ → ErrorPacket

@@ -1,5 +1,6 @@
 pub mod Capture
 pub mod FaultTexts
+pub mod Adding
 pub mod Hearing
 pub mod Live
 pub mod Handed

@@ -2,17 +2,20 @@
 #![tactic(auto)]
 
 mod capture;
+mod error_packets;
 mod event;
 pub mod laws;
 pub mod limits;
 mod line;
 mod line_fault;
+mod local_names;
 mod settings;
 
 pub use capture::capture_line;
 pub use event::Event;
 pub use line::Line;
 pub use line_fault::LineFault;
+pub use local_names::{AddFault, LocalNames};
 pub use settings::Settings;
 
 #[cfg(test)]

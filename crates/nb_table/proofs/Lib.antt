@@ -13,3 +13,5 @@ mod SenderLemmas
 mod TreeLemmas
 mod PutLemmas
 mod LimitsLemmas
+mod PlacesLemmas
+mod ChangeLemmas

@@ -12,5 +12,6 @@ pub mod Codes
 pub mod Whole
 pub mod Sender
 pub mod Plain
+pub mod Change
 pub mod FaultTexts
 pub mod Lemmas

@@ -1,9 +1,13 @@
 //! Entries: what is known of one datagram.
-ghost use Rattle.std.specs.Prelude.{◌≡◌, IfOk};
-ghost use Rattle.nb_datagram.specs.Fragment.{core_of};
-ghost use Rattle.nb_table.specs.Slot.{Held};
-ghost use Rattle.nb_table.specs.Entry.{facts_of};
+ghost use Rattle.std.specs.Prelude.{◌≡◌, ◌≢◌, ◌≤◌, IfOk, OnOk, OnErr, Some, None};
+ghost use Rattle.nb_datagram.specs.Fragment.{core_of, reach};
+ghost use Rattle.nb_datagram.specs.declared.limits.TheConstants.{MAX_LENGTH};
+ghost use Rattle.nb_table.specs.Slot.{Spoilt, Held};
+ghost use Rattle.nb_table.specs.Entry.{facts_of, join_entry};
+ghost use Rattle.nb_table.specs.Limits.{IsShort};
+ghost use Rattle.nb_table.specs.Change.{KeyChange};
 
+use crate::change::Change;
 use crate::facts::Facts;
 use nb_datagram::Fragment;
 use nb_names::NoMemory;
@@ -39,5 +43,48 @@ impl Entry {
     {
         let facts = Facts::of(alloc, fragment)?;
         Ok(Entry { facts: Some(facts) })
+    }
+
+    /// What one fragment says of its datagram, and what that changes at its key, which was new.
+    pub(crate) fn first(
+        alloc: Global,
+        fragment: &Fragment<'_>,
+    ) -> Result<(Entry, Change), NoMemory>
+        requires { reach (core_of fragment.now) ≤ MAX_LENGTH }
+        ensures entry { IfOk result (λ made. made.0 ≡ Held (facts_of (core_of fragment.now))) }
+        ensures change { IfOk result (λ made.
+            KeyChange fragment.now.key None (Some made.0) made.1) }
+    {
+        let (facts, change) = Facts::first(alloc, fragment)?;
+        Ok((Entry { facts: Some(facts) }, change))
+    }
+
+    /// Joins a fragment in place. All memory is taken before anything changes, and none where the
+    /// join is spoilt or adds nothing.
+    pub(crate) fn add(
+        &mut self,
+        alloc: Global,
+        fragment: &Fragment<'_>,
+    ) -> Result<Change, NoMemory>
+        requires entry { IsShort MAX_LENGTH self.old }
+        requires fragment { reach (core_of fragment.now) ≤ MAX_LENGTH }
+        ensures joined { OnOk result
+            (self.new ≡ join_entry self.old (Held (facts_of (core_of fragment.now)))) }
+        ensures change { IfOk result (λ change.
+            KeyChange fragment.now.key (Some self.old) (Some self.new) change) }
+        ensures kept { OnErr result (self.new ≡ self.old) }
+        ensures not_spoilt { OnErr result
+            (join_entry self.old (Held (facts_of (core_of fragment.now))) ≢ Spoilt) }
+        ensures more { OnErr result
+            (join_entry self.old (Held (facts_of (core_of fragment.now))) ≢ self.old) }
+    {
+        let Some(facts) = &mut self.facts else {
+            return Ok(Change::Same);
+        };
+        if !facts.agrees_with(fragment) {
+            self.facts = None;
+            return Ok(Change::Spoilt);
+        }
+        facts.grow(alloc, fragment)
     }
 }

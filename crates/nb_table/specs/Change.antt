@@ -1,0 +1,48 @@
+-- What an insert changes at a key (own).
+use Rattle.std.specs.Prelude.{◌≡◌, ◌≢◌, Option, Some, None, option_and_then}
+use Rattle.std.specs.FinMap as maps
+use Rattle.nb_datagram.specs.declared.key.Key.{Key}
+use Rattle.nb_datagram.specs.Datagram.{DatagramParts}
+use Rattle.nb_table.specs.declared.change.Change.{Change}
+use Rattle.nb_table.specs.declared.change.Change.TheVariants.{Spoilt, Whole, Same, Grown}
+use Rattle.nb_table.specs.Slot.{Spoilt as Clashed}
+use Rattle.nb_table.specs.Entry.{EntryValue}
+use Rattle.nb_table.specs.Contents.{Contents}
+use Rattle.nb_table.specs.Whole.{datagram_of, newly, newly_whole}
+
+-- IsSpoiltAt t k: the table t has the key k spoilt
+abbrev pub IsSpoiltAt : Contents → Key → Type 0
+IsSpoiltAt t k = maps.get t k ≡ Some Clashed
+
+-- the key k is spoilt after, and wasn't before
+pub record BecomesSpoilt (before after : Contents) (k : Key) : Type 0 where
+  pub not_yet : IsSpoiltAt before k → ⊥
+  pub spoilt : IsSpoiltAt after k
+
+-- more is known after, and the key k became neither spoilt nor whole
+pub record OnlyGrows (before after : Contents) (k : Key) : Type 0 where
+  pub differs : after ≢ before
+  pub not_spoilt : BecomesSpoilt before after k → ⊥
+  pub not_whole : newly_whole before after k ≡ None
+
+-- IsChange before after k c: where the table before became the table after, c is what changed at the
+-- key k
+abbrev pub IsChange : Contents → Contents → Key → Change → Type 0
+IsChange before after k Spoilt = BecomesSpoilt before after k
+IsChange before after k (Whole d) = newly_whole before after k ≡ Some d
+IsChange before after k Same = after ≡ before
+IsChange before after k Grown = OnlyGrows before after k
+
+-- KeyChange k a b c: the same of one key, which has a before, if anything, and b after
+abbrev pub KeyChange : Key → Option EntryValue → Option EntryValue → Change → Type 0
+KeyChange k a b Spoilt = (a ≢ Some Clashed) × (b ≡ Some Clashed)
+KeyChange k a b (Whole d) = newly (option_and_then (datagram_of k) a) (option_and_then (datagram_of k) b) ≡ Some d
+KeyChange k a b Same = b ≡ a
+KeyChange k a b Grown =
+    (b ≢ a) × (((a ≢ Some Clashed) × (b ≡ Some Clashed)) → ⊥)
+    × (newly (option_and_then (datagram_of k) a) (option_and_then (datagram_of k) b) ≡ None)
+
+-- what facts that grow come to: the datagram, if it is whole
+abbrev pub grown_to : Option DatagramParts → Change
+grown_to None = Grown
+grown_to (Some d) = Whole d

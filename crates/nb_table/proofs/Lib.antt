@@ -15,3 +15,4 @@ mod PutLemmas
 mod LimitsLemmas
 mod PlacesLemmas
 mod ChangeLemmas
+mod InsertLemmas

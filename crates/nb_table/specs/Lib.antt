@@ -13,5 +13,6 @@ pub mod Whole
 pub mod Sender
 pub mod Plain
 pub mod Change
+pub mod Insert
 pub mod FaultTexts
 pub mod Lemmas

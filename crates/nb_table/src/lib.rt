@@ -6,6 +6,7 @@ mod cover;
 mod entry;
 mod facts;
 mod fault;
+mod inserting;
 pub mod laws;
 mod placed;
 mod places;

@@ -1,0 +1,116 @@
+-- A fragment joined to a table that keeps to its limits.
+use Rattle.std.proofs.Common.{◌≡◌, ◌≢◌, ◌<◌, ◌≤◌, ℕ, ◌+◌, Bool, true, false, cond, [], ◌∷◌, Option, Some, None, refl, sym, ◌∙◌, ap, subst, arith, is_some, ◌⊎◌, inl, inr, Result, Ok, Err, IfErr, OnErr}
+use Rattle.std.specs.Result.{IsErrAnd}
+use Rattle.nb_table.specs.declared.fault.TableFault.{TableFault}
+use Rattle.nb_table.specs.declared.fault.TableFault.TheVariants.{NoMemory}
+use Rattle.std.specs.FinMap as maps
+use Rattle.nb_datagram.specs.declared.key.Key.{Key}
+use Rattle.nb_datagram.specs.Key.{same_key}
+use Rattle.nb_datagram.specs.Fragment.{Core, reach}
+use Rattle.nb_table.specs.declared.change.Change.{Change}
+use Rattle.nb_table.specs.declared.change.Change.TheVariants.{Whole, Same, Grown}
+use Rattle.nb_table.specs.declared.change.Change.TheVariants.{Spoilt as Spoils}
+use Rattle.nb_table.specs.Maps.{joined_onto}
+use Rattle.nb_table.specs.Slot.{Spoilt, Held}
+use Rattle.nb_table.specs.Entry.{EntryFacts, EntryValue, FactsFit, facts_agree, facts_of, facts_together, join_entry}
+use Rattle.nb_table.specs.Contents.{Contents, table_of}
+use Rattle.nb_table.specs.Join.{join}
+use Rattle.nb_table.specs.Limits.{Limits, TableValue, AreShort, IsShort, IsFull, KeepsLimits}
+use Rattle.nb_table.specs.Change.{KeyChange, IsChange}
+use Rattle.nb_table.specs.Insert.{NeedsNoMemory, spoilt, contradicts, held}
+use Rattle.nb_table.specs.Lemmas.MapsLemmas.{tied_self}
+use Rattle.nb_table.specs.Lemmas.SameLemmas.{key_cmp_total, key_cmp_exact, same_key_decides, not_le}
+use Rattle.nb_table.specs.Lemmas.CoverLemmas.{below_both, first_either}
+use Rattle.nb_table.specs.Lemmas.EntryLemmas.{facts_fit_of}
+use Rattle.nb_table.proofs.PlacedLemmas.{end_of_decides}
+use Rattle.nb_table.proofs.PlacesLemmas.{below_by_reach}
+use Rattle.nb_table.proofs.OrderFreeLemmas.{join_one}
+
+-- what stands at a key that was inserted
+pub insert_at : (t : Contents) (k : Key) (e : EntryValue) → maps.get (maps.insert t k e) k ≡ Some e
+insert_at t k e = maps.get-insert key_cmp_total t k e k ∙ ap (λ b. cond b (Some e) (maps.get t k)) (tied_self key_cmp_total k)
+
+-- ---- no memory is needed
+
+some_entry : (a b : EntryValue) → ◌≡◌ {A = Option EntryValue} (Some a) (Some b) → a ≡ b
+some_entry a b e = cc
+
+disagrees : (a b : EntryFacts) (t : Bool) → facts_agree a b ≡ t → (FactsFit a b → ⊥) → ◌≡◌ {A = EntryValue} (cond t (Held (facts_together a b)) Spoilt) Spoilt
+disagrees a b true e h = absurd (h (facts_fit_of a b e))
+disagrees a b false e h = refl
+
+pub needs_more : (t : Contents) (f : Core) (e : EntryValue) → maps.get t f.key ≡ Some e → (join_entry e (Held (facts_of f)) ≢ Spoilt) → (join_entry e (Held (facts_of f)) ≢ e) → NeedsNoMemory t f → ⊥
+needs_more t f e at clean more (spoilt s) =
+    let one = some_entry e Spoilt (sym at ∙ s) in
+    clean (ap (λ x. join_entry x (Held (facts_of f))) one)
+needs_more t f e at clean more (contradicts a h never) =
+    let one = some_entry e (Held a) (sym at ∙ h) in
+    clean (ap (λ x. join_entry x (Held (facts_of f))) one ∙ disagrees a (facts_of f) (facts_agree a (facts_of f)) refl never)
+needs_more t f e at clean more (held same) =
+    more (some_entry _ _ (
+      ap (λ o. Some (joined_onto join_entry o (Held (facts_of f)))) (sym at)
+      ∙ sym (insert_at t f.key (joined_onto join_entry (maps.get t f.key) (Held (facts_of f))))
+      ∙ ap (λ u. maps.get u f.key) (sym (join_one t f) ∙ same)
+      ∙ at))
+
+pub needs_new : (t : Contents) (f : Core) → maps.get t f.key ≡ None → NeedsNoMemory t f → ⊥
+needs_new t f none (spoilt s) = let clash = sym none ∙ s in absurd (cc clash)
+needs_new t f none (contradicts a h never) = let clash = sym none ∙ h in absurd (cc clash)
+needs_new t f none (held same) =
+    let clash = sym none ∙ ap (λ u. maps.get u f.key) (sym same ∙ join_one t f) ∙ insert_at t f.key (joined_onto join_entry (maps.get t f.key) (Held (facts_of f))) in
+    absurd (cc clash)
+
+-- ---- what changes
+
+pub change_from : (a b : Contents) (k : Key) (c : Change) → (maps.get b k ≡ maps.get a k → b ≡ a) → KeyChange k (maps.get a k) (maps.get b k) c → IsChange a b k c
+change_from a b k Spoils same p = record { not_yet = p.0; spoilt = p.1 }
+change_from a b k (Whole d) same p = p
+change_from a b k Same same p = same p
+change_from a b k Grown same p = record { differs = λ e. p.0 (ap (λ u. maps.get u k) e); not_spoilt = λ s. p.1 (s.not_yet, s.spoilt); not_whole = p.2 }
+
+-- an insert of what stands at the key changes nothing
+insert_same : (t : Contents) (k : Key) (e : EntryValue) → maps.get t k ≡ Some e → maps.insert t k e ≡ t
+insert_same t k e at = maps.same_map key_cmp_total key_cmp_exact _ _ (λ q. maps.get-insert key_cmp_total t k e q ∙ step q (same_key q k) refl)
+  where
+    step : (q : Key) (b : Bool) → same_key q k ≡ b → cond b (Some e) (maps.get t q) ≡ maps.get t q
+    step q true h = sym at ∙ ap (maps.get t) (sym ((same_key_decides q k).0 h))
+    step q false h = refl
+
+pub change_at : (t : Contents) (k : Key) (e : EntryValue) (c : Change) → KeyChange k (maps.get t k) (Some e) c → IsChange t (maps.insert t k e) k c
+change_at t k e c p = change_from t (maps.insert t k e) k c
+    (λ h. insert_same t k e (sym h ∙ insert_at t k e))
+    (subst (λ o. KeyChange k (maps.get t k) o c) (sym (insert_at t k e)) p)
+
+-- ---- the limits are kept
+
+pub short_of : (n : ℕ) (f : Core) → reach f ≤ n → AreShort n (facts_of f)
+short_of n f h = record {
+  below = below_by_reach f n h;
+  ends = λ m e. (let ends = ((end_of_decides f m).0 e).1 in omega (arith, h, ends));
+}
+
+short_join : (n : ℕ) (a b : EntryValue) → IsShort n a → IsShort n b → IsShort n (join_entry a b)
+short_join n Spoilt b p q = tt
+short_join n (Held a) Spoilt p q = tt
+short_join n (Held a) (Held b) p q = at (facts_agree a b)
+  where
+    at : (t : Bool) → IsShort n (cond t (Held (facts_together a b)) Spoilt)
+    at true = record {
+      below = below_both n a.cover b.cover p.below q.below;
+      ends = λ m e. elim (first_either a.cover.end b.cover.end m e) [ inl h ↦ p.ends m h | inr h ↦ q.ends m h ];
+    }
+    at false = tt
+
+short_onto : (n : ℕ) (o : Option EntryValue) (b : EntryValue) → ((e : EntryValue) → o ≡ Some e → IsShort n e) → IsShort n b → IsShort n (joined_onto join_entry o b)
+short_onto n None b p q = q
+short_onto n (Some a) b p q = short_join n a b (p a refl) q
+
+-- ---- want of memory
+
+pub memory_alone : {X : Type 0} (r : Result X TableFault) (P : TableFault → Type 0) → IsErrAnd r (λ e. e ≡ NoMemory) → P NoMemory → IfErr r P
+memory_alone (Ok x) P h p = tt
+memory_alone (Err e) P h p = subst P (sym h) p
+
+pub on_any_err : {X : Type 0} (r : Result X TableFault) (P : Type 0) → P → OnErr r P
+on_any_err (Ok x) P p = tt
+on_any_err (Err e) P p = p

@@ -1,0 +1,64 @@
+//! Inserting fragments into a table.
+ghost use Rattle.std.specs.Prelude.{◌≡◌, ◌≤◌, IfOk, IfErr, OnOk, OnErr, Some};
+ghost use Rattle.std.specs.FinMap as maps;
+ghost use Rattle.nb_datagram.specs.Key.{key_cmp};
+ghost use Rattle.nb_datagram.specs.Fragment.{core_of, reach};
+ghost use Rattle.nb_datagram.specs.declared.limits.TheConstants.{MAX_LENGTH};
+ghost use Rattle.nb_table.specs.Maps.{joined_onto};
+ghost use Rattle.nb_table.specs.Slot.{Held};
+ghost use Rattle.nb_table.specs.Entry.{EntryValue, facts_of, join_entry};
+ghost use Rattle.nb_table.specs.Limits.{Limits, IsShort, IsFull};
+ghost use Rattle.nb_table.specs.Change.{KeyChange, IsChange};
+ghost use Rattle.nb_table.specs.Insert.{Lacks, Refuses, Takes, with_fragment};
+
+use crate::change::Change;
+use crate::entry::Entry;
+use crate::fault::TableFault;
+use crate::table::Table;
+use nb_datagram::{Fragment, Key};
+use std::alloc::Global;
+use std::collections::BTreeMap;
+
+/// Joins a fragment to the entry of its key, in place where the key is held, if there is room.
+pub(crate) fn join_fragment(
+    entries: &mut BTreeMap<Key, Entry>,
+    alloc: Global,
+    keys: u32,
+    fragment: &Fragment<'_>,
+) -> Result<Change, TableFault>
+    requires fragment { reach (core_of fragment.now) ≤ MAX_LENGTH }
+    requires entry { (e : EntryValue)
+        → maps.get (maps.from_entries {R = key_cmp} entries.old.entries) fragment.now.key ≡ Some e
+        → IsShort MAX_LENGTH e }
+    ensures room { (l : Limits) → l.keys ≡ keys → OnOk result
+        (IsFull l (maps.from_entries {R = key_cmp} entries.old.entries) fragment.now.key → ⊥) }
+    ensures joined { OnOk result (maps.from_entries {R = key_cmp} entries.new.entries
+        ≡ maps.insert (maps.from_entries {R = key_cmp} entries.old.entries) fragment.now.key
+            (joined_onto join_entry
+                (maps.get (maps.from_entries {R = key_cmp} entries.old.entries) fragment.now.key)
+                (Held (facts_of (core_of fragment.now))))) }
+    ensures change { IfOk result (λ change. KeyChange fragment.now.key
+        (maps.get (maps.from_entries {R = key_cmp} entries.old.entries) fragment.now.key)
+        (Some (joined_onto join_entry
+            (maps.get (maps.from_entries {R = key_cmp} entries.old.entries) fragment.now.key)
+            (Held (facts_of (core_of fragment.now))))) change) }
+    ensures refused { (l : Limits) → l.keys ≡ keys → IfErr result
+        (Lacks l (maps.from_entries {R = key_cmp} entries.old.entries) fragment.now) }
+    ensures kept { OnErr result (maps.from_entries {R = key_cmp} entries.new.entries
+        ≡ maps.from_entries {R = key_cmp} entries.old.entries) }
+{
+    let key = fragment.key();
+    match entries.get_mut(&key) {
+        Some(entry) => Ok(entry.add(alloc, fragment)?),
+        None => {
+            if entries.len() >= keys as usize {
+                return Err(TableFault::Full(key));
+            }
+            let (entry, change) = Entry::first(alloc, fragment)?;
+            match entries.insert(key, entry) {
+                Ok(_) => Ok(change),
+                Err(_) => Err(TableFault::NoMemory),
+            }
+        }
+    }
+}

@@ -1,10 +1,7 @@
 -- What facts that grow change at their key.
-use Rattle.std.proofs.Common.{◌≡◌, ◌≢◌, ◌≤◌, ℕ, List, length, Option, Some, None, refl, sym, ◌∙◌, ap, ap₂, subst, arith, option_and_then, cond}
-use Rattle.std.specs.FinMap as maps
+use Rattle.std.proofs.Common.{◌≡◌, ◌≢◌, ◌≤◌, ℕ, List, length, Option, Some, None, refl, sym, ◌∙◌, ap, ap₂, arith, cond}
 use Rattle.nb_datagram.specs.declared.key.Key.{Key}
 use Rattle.nb_datagram.specs.Datagram.{DatagramParts}
-use Rattle.nb_table.specs.declared.change.Change.{Change}
-use Rattle.nb_table.specs.declared.change.Change.TheVariants.{Whole, Grown}
 use Rattle.nb_table.specs.Slot.{Spoilt, Held}
 use Rattle.nb_table.specs.Cover.{CoverFacts}
 use Rattle.nb_table.specs.Entry.{EntryFacts, EntryValue, FactsFit, facts_together, join_entry}

@@ -1,12 +1,14 @@
 -- A fragment joined to a table that keeps to its limits.
-use Rattle.std.proofs.Common.{◌≡◌, ◌≢◌, ◌<◌, ◌≤◌, ℕ, ◌+◌, Bool, true, false, cond, [], ◌∷◌, Option, Some, None, refl, sym, ◌∙◌, ap, subst, arith, is_some, ◌⊎◌, inl, inr, Result, Ok, Err, IfErr, OnErr}
+use Rattle.std.proofs.Common.{◌≡◌, ◌≢◌, ◌<◌, ◌≤◌, ℕ, ◌+◌, Bool, true, false, cond, [], ◌∷◌, Option, Some, None, refl, sym, ◌∙◌, ap, subst, arith, is_some, inl, inr, Result, Ok, Err, IfErr, OnOk, OnErr, IfOk, not}
+use Rattle.std.specs.Bool.{beq}
+use Rattle.std.specs.Cmp.{booleans_Decides}
 use Rattle.std.specs.Result.{IsErrAnd}
 use Rattle.nb_table.specs.declared.fault.TableFault.{TableFault}
-use Rattle.nb_table.specs.declared.fault.TableFault.TheVariants.{NoMemory}
+use Rattle.nb_table.specs.declared.fault.TableFault.TheVariants.{MisplacedFirst, TooLong, Full, NoMemory}
 use Rattle.std.specs.FinMap as maps
 use Rattle.nb_datagram.specs.declared.key.Key.{Key}
 use Rattle.nb_datagram.specs.Key.{same_key}
-use Rattle.nb_datagram.specs.Fragment.{Core, reach}
+use Rattle.nb_datagram.specs.Fragment.{FragmentParts, Core, reach}
 use Rattle.nb_table.specs.declared.change.Change.{Change}
 use Rattle.nb_table.specs.declared.change.Change.TheVariants.{Whole, Same, Grown}
 use Rattle.nb_table.specs.declared.change.Change.TheVariants.{Spoilt as Spoils}
@@ -14,17 +16,20 @@ use Rattle.nb_table.specs.Maps.{joined_onto}
 use Rattle.nb_table.specs.Slot.{Spoilt, Held}
 use Rattle.nb_table.specs.Entry.{EntryFacts, EntryValue, FactsFit, facts_agree, facts_of, facts_together, join_entry}
 use Rattle.nb_table.specs.Contents.{Contents, table_of}
-use Rattle.nb_table.specs.Join.{join}
-use Rattle.nb_table.specs.Limits.{Limits, TableValue, AreShort, IsShort, IsFull, KeepsLimits}
+use Rattle.nb_table.specs.Join.{IsTable}
+use Rattle.nb_table.specs.Limits.{TableValue, AreShort, IsShort, IsFull, KeepsLimits}
 use Rattle.nb_table.specs.Change.{KeyChange, IsChange}
-use Rattle.nb_table.specs.Insert.{NeedsNoMemory, spoilt, contradicts, held}
+use Rattle.nb_table.specs.Insert.{NeedsNoMemory, spoilt, contradicts, held, Passes, Lacks, Refuses}
 use Rattle.nb_table.specs.Lemmas.MapsLemmas.{tied_self}
-use Rattle.nb_table.specs.Lemmas.SameLemmas.{key_cmp_total, key_cmp_exact, same_key_decides, not_le}
+use Rattle.nb_table.specs.Lemmas.SameLemmas.{key_cmp_total, key_cmp_exact, same_key_decides}
 use Rattle.nb_table.specs.Lemmas.CoverLemmas.{below_both, first_either}
 use Rattle.nb_table.specs.Lemmas.EntryLemmas.{facts_fit_of}
 use Rattle.nb_table.proofs.PlacedLemmas.{end_of_decides}
 use Rattle.nb_table.proofs.PlacesLemmas.{below_by_reach}
+use Rattle.nb_table.specs.Lemmas.TableLemmas.{join_formed}
+use Rattle.nb_table.proofs.ContentsLemmas.{table_of_formed}
 use Rattle.nb_table.proofs.OrderFreeLemmas.{join_one}
+use Rattle.std.proofs.lemmas.Bool.{cases_lt}
 
 -- what stands at a key that was inserted
 pub insert_at : (t : Contents) (k : Key) (e : EntryValue) → maps.get (maps.insert t k e) k ≡ Some e
@@ -48,10 +53,10 @@ needs_more t f e at clean more (contradicts a h never) =
     clean (ap (λ x. join_entry x (Held (facts_of f))) one ∙ disagrees a (facts_of f) (facts_agree a (facts_of f)) refl never)
 needs_more t f e at clean more (held same) =
     more (some_entry _ _ (
-      ap (λ o. Some (joined_onto join_entry o (Held (facts_of f)))) (sym at)
-      ∙ sym (insert_at t f.key (joined_onto join_entry (maps.get t f.key) (Held (facts_of f))))
-      ∙ ap (λ u. maps.get u f.key) (sym (join_one t f) ∙ same)
-      ∙ at))
+    ap (λ o. Some (joined_onto join_entry o (Held (facts_of f)))) (sym at)
+    ∙ sym (insert_at t f.key (joined_onto join_entry (maps.get t f.key) (Held (facts_of f))))
+    ∙ ap (λ u. maps.get u f.key) (sym (join_one t f) ∙ same)
+    ∙ at))
 
 pub needs_new : (t : Contents) (f : Core) → maps.get t f.key ≡ None → NeedsNoMemory t f → ⊥
 needs_new t f none (spoilt s) = let clash = sym none ∙ s in absurd (cc clash)
@@ -114,3 +119,70 @@ memory_alone (Err e) P h p = subst P (sym h) p
 pub on_any_err : {X : Type 0} (r : Result X TableFault) (P : Type 0) → P → OnErr r P
 on_any_err (Ok x) P p = tt
 on_any_err (Err e) P p = p
+
+-- ---- the table that takes a fragment
+
+-- with one more entry, for which there is room, the table keeps to its limits
+pub insert_keeps : (t : TableValue) (f : Core) → KeepsLimits t → reach f ≤ t.limits.longest → (IsFull t.limits t.contents f.key → ⊥) →
+    KeepsLimits (record { contents = maps.insert t.contents f.key (joined_onto join_entry (maps.get t.contents f.key) (Held (facts_of f))); limits = t.limits })
+insert_keeps t f keeps short room =
+    let k = f.key in
+    let e = joined_onto join_entry (maps.get t.contents f.key) (Held (facts_of f)) in
+    record {
+      count = counted (maps.get t.contents k) refl (maps.len-insert key_cmp_total t.contents k e);
+      short = λ q d h. shorts q d (same_key q k) refl (sym (maps.get-insert key_cmp_total t.contents k e q) ∙ h);
+      formed = subst IsTable (join_one t.contents f) (join_formed t.contents (table_of (f ∷ [])) keeps.formed (table_of_formed (f ∷ [])));
+    }
+  where
+    counted : (o : Option EntryValue) → maps.get t.contents f.key ≡ o →
+        maps.len (maps.insert t.contents f.key (joined_onto join_entry (maps.get t.contents f.key) (Held (facts_of f)))) ≡ cond (is_some (maps.get t.contents f.key)) (maps.len t.contents) (maps.len t.contents + 1) →
+        maps.len (maps.insert t.contents f.key (joined_onto join_entry (maps.get t.contents f.key) (Held (facts_of f)))) ≤ t.limits.keys
+    counted (Some x) at size = let same = size ∙ ap (λ o. cond (is_some o) (maps.len t.contents) (maps.len t.contents + 1)) at in let most = keeps.count in omega (arith, same, most)
+    counted None at size =
+        let same = size ∙ ap (λ o. cond (is_some o) (maps.len t.contents) (maps.len t.contents + 1)) at in
+        let fewer : maps.len t.contents < t.limits.keys = elim (cases_lt (maps.len t.contents) t.limits.keys) [ inl h ↦ h | inr h ↦ absurd (room (record { is_new = at; no_room = omega (arith, h) })) ] in
+        omega (arith, same, fewer)
+
+    shorts : (q : Key) (d : EntryValue) (b : Bool) → same_key q f.key ≡ b → cond b (Some (joined_onto join_entry (maps.get t.contents f.key) (Held (facts_of f)))) (maps.get t.contents q) ≡ Some d → IsShort t.limits.longest d
+    shorts q d true s h = subst (IsShort t.limits.longest) (some_entry _ d h) (short_onto t.limits.longest (maps.get t.contents f.key) (Held (facts_of f)) (keeps.short f.key) (short_of t.limits.longest f short))
+    shorts q d false s h = keeps.short q d h
+
+-- what is short for a table is short for a datagram
+pub short_more : (m n : ℕ) (e : EntryValue) → m ≤ n → IsShort m e → IsShort n e
+short_more m n Spoilt h s = tt
+short_more m n (Held e) h s = record {
+  below = record { bytes = λ i x g. (let below = s.below.bytes i x g in omega (arith, h, below)) };
+  ends = λ k g. (let end = s.ends k g in omega (arith, h, end));
+}
+
+-- ---- results
+
+not_false : (b : Bool) → not b ≡ false → b ≡ true
+not_false true h = refl
+not_false false h = absurd (cc)
+
+-- tests that don't differ are the same
+pub same_test : (a b : Bool) → not (beq a b) ≡ false → a ≡ b
+same_test a b h = (booleans_Decides a b).0 (not_false (beq a b) h)
+
+-- what holds at either end holds
+pub settled : {X : Type 0} (r : Result X TableFault) (P : Type 0) → OnOk r P → OnErr r P → P
+settled (Ok x) P p q = p
+settled (Err e) P p q = q
+
+pub ok_both : {X : Type 0} (r : Result X TableFault) (P Q : Type 0) → OnOk r P → OnOk r Q → OnOk r (P × Q)
+ok_both (Ok x) P Q p q = (p, q)
+ok_both (Err e) P Q p q = tt
+
+-- what the limits refuse is refused, of a fragment that passes
+pub refused_from : {X : Type 0} (r : Result X TableFault) (t : TableValue) (f : FragmentParts) → Passes t.limits f → IfErr r (Lacks t.limits t.contents f) → IfErr r (Refuses t f)
+refused_from (Ok x) t f p h = tt
+refused_from (Err MisplacedFirst) t f p h = absurd h
+refused_from (Err TooLong) t f p h = absurd h
+refused_from (Err (Full k)) t f p h = (p, h)
+refused_from (Err NoMemory) t f p h = (p, h)
+
+-- what changed at the key is what changed in the table
+pub change_settled : (r : Result Change TableFault) (t u : Contents) (k : Key) (e : EntryValue) → OnOk r (u ≡ maps.insert t k e) → IfOk r (KeyChange k (maps.get t k) (Some e)) → IfOk r (IsChange t u k)
+change_settled (Ok c) t u k e same p = subst (λ v. IsChange t v k c) (sym same) (change_at t k e c p)
+change_settled (Err x) t u k e same p = tt

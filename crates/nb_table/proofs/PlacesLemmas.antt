@@ -1,6 +1,6 @@
 -- What the bytes of a fragment, one place after the other, say of the cover that they make; and what a
 -- cover holds of another.
-use Rattle.std.proofs.Common.{◌≡◌, ◌<◌, ◌≤◌, ℕ, zero, suc, ◌+◌, ◌-◌, slice_get, length, List, [], ◌∷◌, Bool, true, false, cond, Option, Some, None, refl, sym, ◌∙◌, ap, ap₂, subst, arith, ◌&&◌, ◌==◌, ◌⊎◌, inl, inr, is_some, get_or}
+use Rattle.std.proofs.Common.{◌≡◌, ◌<◌, ◌≤◌, ℕ, zero, suc, ◌+◌, ◌-◌, slice_get, length, List, [], ◌∷◌, Bool, true, false, cond, Option, Some, None, refl, sym, ◌∙◌, ap, ap₂, subst, arith, ◌==◌, inl, inr, is_some, get_or}
 use Rattle.std.specs.Ordering.{nat_cmp}
 use Rattle.std.specs.List.{list_all}
 use Rattle.std.specs.FinMap as maps
@@ -70,11 +70,11 @@ value_same (Some z) x h = is_eq z x (sym (h z refl))
 pub bytes_agree_is : (m : maps.FinMap nat_cmp ℕ) (look : ℕ → Option ℕ) (f : Core) → ((q : ℕ) → maps.get m q ≡ look q) → list_all (λ e. same_where (look e.0) e.1) (placed f.offset f.bytes) ≡ bytes_agree m (cover_of f).bytes
 bytes_agree_is m look f same = both_ways _ _
     (λ h. all_entries_from nat_cmp_total nat_cmp-IsAntisymmetric (λ i v. same_where (maps.get (cover_of f).bytes i) v) m
-        (λ q y e. value_same (maps.get (cover_of f).bytes q) y
-            (λ x g. sym (same_value (look q) x y (covered_from_all (λ i v. same_where (look i) v) f h q x g) (sym (same q) ∙ e)))))
+    (λ q y e. value_same (maps.get (cover_of f).bytes q) y
+    (λ x g. sym (same_value (look q) x y (covered_from_all (λ i v. same_where (look i) v) f h q x g) (sym (same q) ∙ e)))))
     (λ h. all_from_covered (λ i v. same_where (look i) v) f
-        (λ q x g. value_same (look q) x
-            (λ y e. sym (same_value (maps.get (cover_of f).bytes q) y x (all_entries_found nat_cmp-IsAntisymmetric (λ i v. same_where (maps.get (cover_of f).bytes i) v) m h q y (same q ∙ e)) g))))
+    (λ q x g. value_same (look q) x
+    (λ y e. sym (same_value (maps.get (cover_of f).bytes q) y x (all_entries_found nat_cmp-IsAntisymmetric (λ i v. same_where (maps.get (cover_of f).bytes i) v) m h q y (same q ∙ e)) g))))
 
 -- ---- bytes that are held
 

@@ -46,10 +46,7 @@ impl Entry {
     }
 
     /// What one fragment says of its datagram, and what that changes at its key, which was new.
-    pub(crate) fn first(
-        alloc: Global,
-        fragment: &Fragment<'_>,
-    ) -> Result<(Entry, Change), NoMemory>
+    pub(crate) fn first(alloc: Global, fragment: &Fragment<'_>) -> Result<(Entry, Change), NoMemory>
         requires { reach (core_of fragment.now) ≤ MAX_LENGTH }
         ensures entry { IfOk result (λ made. made.0 ≡ Held (facts_of (core_of fragment.now))) }
         ensures change { IfOk result (λ made.
@@ -61,11 +58,7 @@ impl Entry {
 
     /// Joins a fragment in place. All memory is taken before anything changes, and none where the
     /// join is spoilt or adds nothing.
-    pub(crate) fn add(
-        &mut self,
-        alloc: Global,
-        fragment: &Fragment<'_>,
-    ) -> Result<Change, NoMemory>
+    pub(crate) fn add(&mut self, alloc: Global, fragment: &Fragment<'_>) -> Result<Change, NoMemory>
         requires entry { IsShort MAX_LENGTH self.old }
         requires fragment { reach (core_of fragment.now) ≤ MAX_LENGTH }
         ensures joined { OnOk result

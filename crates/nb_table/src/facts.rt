@@ -138,10 +138,7 @@ impl Facts {
     }
 
     /// What one fragment says, and what that changes at its key, which was new.
-    pub(crate) fn first(
-        alloc: Global,
-        fragment: &Fragment<'_>,
-    ) -> Result<(Facts, Change), NoMemory>
+    pub(crate) fn first(alloc: Global, fragment: &Fragment<'_>) -> Result<(Facts, Change), NoMemory>
         requires { (n : ℕ) → (facts_of (core_of fragment.now)).cover.end ≡ Some n → n ≤ MAX_LENGTH }
         ensures facts { IfOk result (λ made. made.0 ≡ facts_of (core_of fragment.now)) }
         ensures change { IfOk result (λ made.

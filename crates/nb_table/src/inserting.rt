@@ -34,14 +34,14 @@ pub(crate) fn join_fragment(
         (IsFull l (maps.from_entries {R = key_cmp} entries.old.entries) fragment.now.key → ⊥) }
     ensures joined { OnOk result (maps.from_entries {R = key_cmp} entries.new.entries
         ≡ maps.insert (maps.from_entries {R = key_cmp} entries.old.entries) fragment.now.key
-            (joined_onto join_entry
-                (maps.get (maps.from_entries {R = key_cmp} entries.old.entries) fragment.now.key)
-                (Held (facts_of (core_of fragment.now))))) }
+        (joined_onto join_entry
+        (maps.get (maps.from_entries {R = key_cmp} entries.old.entries) fragment.now.key)
+        (Held (facts_of (core_of fragment.now))))) }
     ensures change { IfOk result (λ change. KeyChange fragment.now.key
         (maps.get (maps.from_entries {R = key_cmp} entries.old.entries) fragment.now.key)
         (Some (joined_onto join_entry
-            (maps.get (maps.from_entries {R = key_cmp} entries.old.entries) fragment.now.key)
-            (Held (facts_of (core_of fragment.now))))) change) }
+        (maps.get (maps.from_entries {R = key_cmp} entries.old.entries) fragment.now.key)
+        (Held (facts_of (core_of fragment.now))))) change) }
     ensures refused { (l : Limits) → l.keys ≡ keys → IfErr result
         (Lacks l (maps.from_entries {R = key_cmp} entries.old.entries) fragment.now) }
     ensures kept { OnErr result (maps.from_entries {R = key_cmp} entries.new.entries

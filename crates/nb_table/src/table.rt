@@ -1,10 +1,15 @@
 //! The reassembly table.
-ghost use Rattle.std.specs.Prelude.{◌≡◌};
+ghost use Rattle.std.specs.Prelude.{◌≡◌, IfOk, IfErr, OnOk, OnErr};
 ghost use Rattle.std.specs.FinMap as maps;
 ghost use Rattle.nb_table.specs.Limits.{KeepsLimits};
+ghost use Rattle.nb_table.specs.Change.{IsChange};
+ghost use Rattle.nb_table.specs.Insert.{Takes, Refuses, with_fragment};
 
+use crate::change::Change;
 use crate::entry::Entry;
-use nb_datagram::Key;
+use crate::fault::TableFault;
+use crate::inserting::join_fragment;
+use nb_datagram::{Fragment, Key};
 use std::alloc::Global;
 use std::collections::BTreeMap;
 use std::marker::Model;
@@ -65,5 +70,33 @@ impl Table {
         ensures bounded { KeepsLimits self.now }
     {
         self.entries.len()
+    }
+
+    /// Joins a fragment to what is known of its datagram, and says what that changed at its key.
+    ///
+    /// No memory is needed where the key is spoilt, or the fragment contradicts what is known of its
+    /// key or says nothing new. A table that refuses stays as it was.
+    ///
+    /// # Errors
+    ///
+    /// In this order: `MisplacedFirst` where the flag F is set otherwise than exactly at offset 0;
+    /// `TooLong` where the fragment reaches past the longest datagram, whatever is known of its
+    /// key; `Full` with the fragment's key where that is new and as many keys are held as may be;
+    /// `NoMemory` where memory ran out. RFC 1002 section 5.3; the rules on fragments are own.
+    pub fn insert(&mut self, fragment: &Fragment<'_>) -> Result<Change, TableFault>
+        ensures taken { OnOk result (Takes self.old fragment.now) }
+        ensures joined { OnOk result (self.new ≡ with_fragment self.old fragment.now) }
+        ensures change { IfOk result
+            (IsChange self.old.contents self.new.contents fragment.now.key) }
+        ensures refused { IfErr result (Refuses self.old fragment.now) }
+        ensures kept { OnErr result (self.new ≡ self.old) }
+    {
+        if fragment.is_first() != (fragment.offset() == 0) {
+            return Err(TableFault::MisplacedFirst);
+        }
+        if fragment.reach() > u32::from(self.longest) {
+            return Err(TableFault::TooLong);
+        }
+        join_fragment(&mut self.entries, self.alloc, self.keys, fragment)
     }
 }

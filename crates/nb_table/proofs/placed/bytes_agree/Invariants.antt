@@ -3,7 +3,6 @@ use Rattle.std.specs.Ordering.{nat_cmp}
 use Rattle.std.specs.List.{list_all}
 use Rattle.std.specs.BTreeMap.{get}
 use Rattle.nb_table.specs.Cover.{placed, same_where}
-use Rattle.nb_table.specs.Places.{is_there}
 use Rattle.nb_table.proofs.placed.bytes_agree.Given as goal
 
 abbrev pub invariant-loop-byte : goal.invariant-loop-byte

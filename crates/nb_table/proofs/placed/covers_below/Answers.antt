@@ -1,4 +1,4 @@
-use Rattle.std.proofs.Common.{◌≡◌, ◌∙◌, sym, ap, arith, Some, None}
+use Rattle.std.proofs.Common.{◌∙◌, sym}
 use Rattle.std.specs.Ordering.{nat_cmp}
 use Rattle.std.specs.BTreeMap.{get}
 use Rattle.nb_table.proofs.PlacesLemmas.{covered_more, covered_not, covered_none}

@@ -2,7 +2,7 @@ use Rattle.std.proofs.Common.{◌≡◌, ◌+◌, drop}
 use Rattle.std.specs.Ordering.{nat_cmp}
 use Rattle.std.specs.List.{list_all}
 use Rattle.std.specs.BTreeMap.{get}
-use Rattle.nb_table.specs.Cover.{placed, same_where}
+use Rattle.nb_table.specs.Cover.{placed}
 use Rattle.nb_table.specs.Places.{is_there}
 use Rattle.nb_table.proofs.placed.has_bytes.Given as goal
 

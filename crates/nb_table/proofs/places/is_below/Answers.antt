@@ -1,9 +1,9 @@
-use Rattle.std.proofs.Common.{arith, ap, sym, ◌∙◌, ◌≡◌, ◌<◌, ◌==◌, length, true, false}
+use Rattle.std.proofs.Common.{arith, ap, sym, ◌∙◌, ◌<◌, length}
 use Rattle.std.specs.Cmp.{both_ways}
 use Rattle.nb_datagram.specs.Fragment.{core_of}
 use Rattle.nb_table.specs.Cover.{cover_of, is_below_end, lies_below}
 use Rattle.nb_table.specs.Lemmas.CoverLemmas.{lies_below_decides}
-use Rattle.nb_table.specs.Lemmas.SameLemmas.{eq_is, is_eq, le_is, is_le}
+use Rattle.nb_table.specs.Lemmas.SameLemmas.{eq_is, le_is, is_le}
 use Rattle.nb_table.proofs.PlacesLemmas.{below_by_reach, below_if_empty, reach_by_below, not_empty}
 use Rattle.nb_table.proofs.places.is_below.Goals as goal
 

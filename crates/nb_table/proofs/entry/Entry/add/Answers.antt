@@ -1,7 +1,7 @@
 use Rattle.std.proofs.Common.{◌∙◌, sym, ap}
 use Rattle.std.proofs.lemmas.Result.{on_err_weaker}
 use Rattle.nb_datagram.specs.Fragment.{core_of}
-use Rattle.nb_table.specs.Entry.{FactsFit, facts_of}
+use Rattle.nb_table.specs.Entry.{facts_of}
 use Rattle.nb_table.specs.Codes.{slot_of}
 use Rattle.nb_table.specs.Lemmas.EntryLemmas.{facts_fit_of}
 use Rattle.nb_table.proofs.ChangeLemmas.{join_differs}

@@ -24,13 +24,13 @@ returns-clause-change c =
     let fit = subst (λ (x : EntryFacts). FactsFit x b) (sym c.self.view_is) c.requires.fits in
     let made = c.in_ok-places.ensures in
     let new : ◌≡◌ {A = EntryFacts} (record { kind = c.self.inside.kind; source = c.self.inside.source; destination = c.self.inside.destination; cover = c.in_ok-places.places }) (facts_together old b) =
-        λ i. record { kind = c.self.inside.kind; source = c.self.inside.source; destination = c.self.inside.destination; cover = made i } in
+    λ i. record { kind = c.self.inside.kind; source = c.self.inside.source; destination = c.self.inside.destination; cover = made i } in
     let datagram =
-        c.in_ok-datagram.ensures
-        ∙ ap (λ (x : EntryFacts). datagram_with c.key.result x (bytes_to c.in_ok-places.places.bytes c.in_ok-places.places.end)) (sym c.self.view_is)
-        ∙ ap (λ k. datagram_with k old (bytes_to c.in_ok-places.places.bytes c.in_ok-places.places.end)) c.key.ensures
-        ∙ ap (λ (m : CoverFacts). datagram_with k old (bytes_to m.bytes m.end)) made
-        ∙ with_together k old b (bytes_to (facts_together old b).cover.bytes (facts_together old b).cover.end) in
+    c.in_ok-datagram.ensures
+    ∙ ap (λ (x : EntryFacts). datagram_with c.key.result x (bytes_to c.in_ok-places.places.bytes c.in_ok-places.places.end)) (sym c.self.view_is)
+    ∙ ap (λ k. datagram_with k old (bytes_to c.in_ok-places.places.bytes c.in_ok-places.places.end)) c.key.ensures
+    ∙ ap (λ (m : CoverFacts). datagram_with k old (bytes_to m.bytes m.end)) made
+    ∙ with_together k old b (bytes_to (facts_together old b).cover.bytes (facts_together old b).cover.end) in
     let grown = key_grown k old b fit (refutes c.holds.result c.holds.ensures c.if-holds.false) in
     let told = c.grown_to.ensures ∙ ap grown_to datagram in
     subst (λ (x : EntryFacts). KeyChange k (Some (Held x)) (Some (Held (record { kind = c.self.inside.kind; source = c.self.inside.source; destination = c.self.inside.destination; cover = c.in_ok-places.places }))) c.grown_to.result) c.self.view_is

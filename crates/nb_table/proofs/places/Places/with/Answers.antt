@@ -1,4 +1,4 @@
-use Rattle.std.proofs.Common.{◌≡◌, ap, ap₂, sym, subst, ◌∙◌, Option, ℕ, List, rules}
+use Rattle.std.proofs.Common.{◌≡◌, ap, ap₂, sym, subst, ◌∙◌}
 use Rattle.std.specs.Ordering.{nat_cmp}
 use Rattle.std.specs.FinMap as maps
 use Rattle.std.specs.Option.{option_or}
@@ -22,9 +22,9 @@ unfolding before
 after c =
     let cloned : c.in_ok-bytes.bytes.entries ≡ c.self.inside.bytes.entries = entries_from_clone _ _ (λ x y h. h) (λ v w h. h) c.self.inside.bytes.entries c.in_ok-bytes.bytes.entries c.in_ok-bytes.ensures.cases in
     let bytes =
-        c.in_ok-put_bytes.ensures
-        ∙ ap (λ es. with_bytes (maps.from_entries {R = nat_cmp} es) c.from.result c.bytes.result.now) cloned
-        ∙ ap₂ (with_bytes (before c).bytes) (c.from.ensures ∙ c.offset.ensures) c.bytes.ensures.value in
+    c.in_ok-put_bytes.ensures
+    ∙ ap (λ es. with_bytes (maps.from_entries {R = nat_cmp} es) c.from.result c.bytes.result.now) cloned
+    ∙ ap₂ (with_bytes (before c).bytes) (c.from.ensures ∙ c.offset.ensures) c.bytes.ensures.value in
     let end = c.or-end.ensures ∙ ap (option_or c.self.inside.end) c.end_of.ensures in
     (λ i. record { bytes = bytes i; end = end i }) ∙ with_is (before c) (core_of c.args.fragment.now) (fit c)
 

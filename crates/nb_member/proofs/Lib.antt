@@ -6,3 +6,4 @@ pub mod LineLemmas
 pub mod KeysLemmas
 pub mod LiveLemmas
 pub mod NamesLemmas
+pub mod SayingLemmas

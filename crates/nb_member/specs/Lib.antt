@@ -3,5 +3,6 @@ pub mod FaultTexts
 pub mod Adding
 pub mod Hearing
 pub mod Live
+pub mod Saying
 pub mod Handed
 pub mod Agreement

@@ -1,9 +1,11 @@
 //! The error packets that a member answers with.
 ghost use Rattle.std.specs.Prelude.{◌≡◌};
 ghost use Rattle.nb_member.specs.Hearing.{error_about, unheard};
+ghost use Rattle.nb_member.specs.Saying.{bad_name, refusal};
 
 use crate::settings::Settings;
-use nb_datagram::{Datagram, ErrorPacket, Key, Kind, error_codes};
+use nb_datagram::limits::HEADER_LENGTH;
+use nb_datagram::{Datagram, DatagramFault, ErrorPacket, Key, Kind, error_codes};
 
 impl Settings {
     /// The error packet of this code about a datagram of this kind and identifier, which is sent only
@@ -37,5 +39,36 @@ impl Settings {
             datagram.key().id,
             error_codes::DESTINATION_NAME_NOT_PRESENT,
         )
+    }
+
+    /// The error packet about a payload that is refused with this fault, which is sent where a name of
+    /// a direct unique datagram is bad.
+    pub fn refusal(&self, payload: &[u8], fault: DatagramFault) -> Option<ErrorPacket>
+        ensures { result ≡ refusal self.now payload.now fault }
+    {
+        match fault {
+            DatagramFault::Truncated(_) => None,
+            DatagramFault::UnknownType => None,
+            DatagramFault::SourceName(_) => {
+                self.bad_name(payload, error_codes::INVALID_SOURCE_NAME_FORMAT)
+            }
+            DatagramFault::DestinationName(_) => {
+                self.bad_name(payload, error_codes::INVALID_DESTINATION_NAME_FORMAT)
+            }
+        }
+    }
+
+    /// The error packet of this code about a payload, if it begins as a direct unique datagram.
+    fn bad_name(&self, payload: &[u8], code: u8) -> Option<ErrorPacket>
+        ensures { result ≡ bad_name self.now payload.now code }
+    {
+        if payload.len() < HEADER_LENGTH {
+            return None;
+        }
+        if payload[0] != Kind::Unique.message_type() {
+            return None;
+        }
+        let id = u16::from_be_bytes([payload[2], payload[3]]);
+        self.error_about(Kind::Unique, id, code)
     }
 }

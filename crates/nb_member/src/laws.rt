@@ -6,9 +6,12 @@ ghost use Rattle.nb_member.specs.declared.line_fault.LineFault.{LineFault};
 ghost use Rattle.nb_member.specs.declared.line_fault.LineFault.TheVariants.{BadLine, NoMemory};
 ghost use Rattle.nb_member.specs.Capture.{HasValue, SaysNothing, IsMalformed, Reads};
 ghost use Rattle.nb_member.specs.declared.settings.Settings.{Settings};
+ghost use Rattle.nb_member.specs.declared.event.Event.{Event};
+ghost use Rattle.nb_member.specs.Saying.{Says, Say};
 ghost use Rattle.nb_member.specs.Live.{Saying, cores, live, table_from};
 ghost use Rattle.nb_member.specs.Agreement.{valid_cores, NoneDropped, NoneFull, GiveTheSame};
 
+use nb_datagram::laws::{one_datagram_fault, one_packet};
 use nb_table::laws::{
     same_cores_make_the_same_table, table_has_the_entry_of_its_list, table_of_two_lists_is_the_join,
 };
@@ -37,6 +40,17 @@ pub fn a_line_has_one_answer()
     ensures malformed { (line : List ℕ) (result : Result (Option Line) LineFault) →
         Reads line result → IsMalformed line → result ≡ Err BadLine }
 {}
+
+/// An event says one thing at most, and so do events in a row.
+pub fn an_event_says_one_thing()
+    ensures event { (settings : Settings) (event : Event) (s t : Saying) →
+        Says settings event s → Says settings event t → s ≡ t }
+    ensures events { (settings : Settings) (events : List Event) (S T : List Saying) →
+        Say settings events S → Say settings events T → S ≡ T }
+{
+    one_packet();
+    one_datagram_fault();
+}
 
 /// Where no look at the clock drops a key and no fragment meets the limit on keys, the fragments that
 /// are live are the valid ones.

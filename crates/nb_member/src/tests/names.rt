@@ -1,7 +1,7 @@
 //! The names of a station, what it hears, and the error packets that it answers with.
 
 use crate::{AddFault, LocalNames, Settings};
-use nb_datagram::{Datagram, ErrorPacket, Key, Kind};
+use nb_datagram::{Datagram, DatagramFault, ErrorPacket, Key, Kind, decode};
 use nb_names::{Bytes, Name, Scope};
 use std::alloc::Global;
 use std::process::Abort;
@@ -118,4 +118,39 @@ fn errors_are_about_direct_unique_datagrams(rt: HostRuntime) {
         Some((7, 0x84))
     );
     assert_eq!(rt; SETTINGS.error_about(Kind::Broadcast, 7, 0x84), None);
+}
+
+/// `10 02 1234 0a000005 008a 0044 0000`, then the names JOE<00> and FRED<20>: a direct unique datagram
+/// without data.
+const UNIQUE: &[u8] =
+    b"\x10\x02\x12\x34\x0a\x00\x00\x05\x00\x8a\x00\x44\x00\x00\x20EKEPEFCACACACACACACACACACACACAAA\x00\x20EGFCEFEECACACACACACACACACACACACA\x00";
+
+#[test]
+fn bad_names_of_direct_unique_datagrams_are_answered(rt: HostRuntime) -> Result<(), Fail> {
+    assert_eq!(rt; UNIQUE.len(), 82);
+    for (place, code) in [(14, 0x83), (48, 0x84)] {
+        let mut bad = Vec::from_slice(rt.alloc(), UNIQUE)?;
+        bad[place] = 0xc0;
+        let Err(fault) = decode(&bad) else {
+            assert!(rt; false);
+            continue;
+        };
+        let error = ErrorPacket {
+            flags: 0x02,
+            key: Key {
+                ip: [10, 0, 0, 9],
+                port: 139,
+                id: 0x1234,
+            },
+            code,
+        };
+        assert_eq!(rt; SETTINGS.refusal(&bad, fault), Some(error));
+        bad[0] = 0x11;
+        assert_eq!(rt; SETTINGS.refusal(&bad, fault), None);
+        bad[0] = 0x10;
+        assert_eq!(rt; SETTINGS.refusal(&bad[..9], fault), None);
+        assert_eq!(rt; SETTINGS.refusal(&bad, DatagramFault::Truncated(81)), None);
+        assert_eq!(rt; SETTINGS.refusal(&bad, DatagramFault::UnknownType), None);
+    }
+    Ok(())
 }

@@ -1,0 +1,129 @@
+-- Each event says one thing.
+use Rattle.std.proofs.Common.{◌≡◌, ◌≢◌, ℕ, List, [], ◌∷◌, refl, sym, ap, ◌∙◌, Option, Some, None, ◌⊎◌, inl, inr}
+use Rattle.nb_datagram.specs.declared.fault.DatagramFault.{DatagramFault}
+use Rattle.nb_datagram.specs.declared.packet.ErrorPacket.{ErrorPacket}
+use Rattle.nb_datagram.specs.declared.packet.QueryPacket.{QueryPacket}
+use Rattle.nb_datagram.specs.declared.packet.Packet.{Packet as AnyPacket}
+use Rattle.nb_datagram.specs.declared.packet.Packet.TheVariants.{Direct, Error, Query}
+use Rattle.nb_datagram.specs.Fragment.{FragmentParts}
+use Rattle.nb_datagram.specs.Packet.{IsPacket}
+use Rattle.nb_datagram.specs.DatagramFaults.{PacketFails}
+use Rattle.nb_member.specs.declared.event.Event.{Event}
+use Rattle.nb_member.specs.declared.event.Event.TheVariants.{Packet, Tick}
+use Rattle.nb_member.specs.declared.settings.Settings.{Settings}
+use Rattle.nb_member.specs.Live.{Saying, came, refused, another, clock}
+use Rattle.nb_member.specs.Saying.{IsValid, refusal, Says, fragment, invalid, no_packet, error, query, tick, Say, none, more}
+
+-- what the packets in bytes are known to be
+pub record PacketsKnown : Type 0 where
+  pub one : (bytes : List ℕ) (packet other : AnyPacket) (used behind : ℕ) → IsPacket bytes packet used
+      → IsPacket bytes other behind → (packet ≡ other) × (used ≡ behind)
+  pub alone : (bytes : List ℕ) (fault : DatagramFault) (packet : AnyPacket) (used : ℕ) → PacketFails bytes fault
+      → ¬ IsPacket bytes packet used
+  pub one_fault : (bytes : List ℕ) (fault another : DatagramFault) → PacketFails bytes fault
+      → PacketFails bytes another → fault ≡ another
+
+-- SaysOf settings payload moment s: what a payload says, by what it begins with
+pub data SaysOf (settings : Settings) (moment : ℕ) (payload : List ℕ) (s : Saying) : Type 0 where
+  of_fragment : (used : ℕ) (f : FragmentParts) → IsPacket payload (Direct f) used → IsValid settings.longest f
+      → s ≡ came moment f → SaysOf settings moment payload s
+  of_invalid : (used : ℕ) (f : FragmentParts) → IsPacket payload (Direct f) used → ¬ IsValid settings.longest f
+      → s ≡ refused None → SaysOf settings moment payload s
+  of_fault : (fault : DatagramFault) → PacketFails payload fault → s ≡ refused (refusal settings payload fault)
+      → SaysOf settings moment payload s
+  of_error : (used : ℕ) (e : ErrorPacket) → IsPacket payload (Error e) used → s ≡ another → SaysOf settings moment payload s
+  of_query : (used : ℕ) (q : QueryPacket) → IsPacket payload (Query q) used → s ≡ another → SaysOf settings moment payload s
+
+-- what an event's saying is, by the event
+abbrev SaysBy : Settings → Event → Saying → Type 0
+SaysBy settings (Packet moment payload) s = SaysOf settings moment payload s
+SaysBy settings (Tick now) s = s ≡ clock now
+
+pub says_by : (settings : Settings) (event : Event) (s : Saying) → Says settings event s → SaysBy settings event s
+says_by settings _ _ (fragment moment used payload f p v) = of_fragment used f p v refl
+says_by settings _ _ (invalid moment used payload f p v) = of_invalid used f p v refl
+says_by settings _ _ (no_packet moment payload fault p) = of_fault fault p refl
+says_by settings _ _ (error moment used payload e p) = of_error used e p refl
+says_by settings _ _ (query moment used payload q p) = of_query used q p refl
+says_by settings _ _ (tick now) = refl
+
+-- a payload says one thing
+one_of : PacketsKnown → (settings : Settings) (moment : ℕ) (payload : List ℕ) (s t : Saying)
+    → SaysOf settings moment payload s → SaysOf settings moment payload t → s ≡ t
+one_of known settings moment payload s t (of_fragment u f p v a) (of_fragment w g q x b) =
+    let same = (known.one payload (Direct f) (Direct g) u w p q).0 in
+    let parts : f ≡ g = cc in
+    a ∙ (ap (came moment) parts ∙ sym b)
+one_of known settings moment payload s t (of_fragment u f p v a) (of_invalid w g q x b) =
+    let same = (known.one payload (Direct f) (Direct g) u w p q).0 in
+    let parts : f ≡ g = cc in
+    absurd (x (rw parts at v))
+one_of known settings moment payload s t (of_fragment u f p v a) (of_fault fault q b) = absurd (known.alone payload fault (Direct f) u q p)
+one_of known settings moment payload s t (of_fragment u f p v a) (of_error w e q b) =
+    let same = (known.one payload (Direct f) (Error e) u w p q).0 in absurd (cc)
+one_of known settings moment payload s t (of_fragment u f p v a) (of_query w e q b) =
+    let same = (known.one payload (Direct f) (Query e) u w p q).0 in absurd (cc)
+one_of known settings moment payload s t (of_invalid u f p v a) (of_fragment w g q x b) =
+    let same = (known.one payload (Direct f) (Direct g) u w p q).0 in
+    let parts : g ≡ f = cc in
+    absurd (v (rw parts at x))
+one_of known settings moment payload s t (of_invalid u f p v a) (of_invalid w g q x b) = a ∙ sym b
+one_of known settings moment payload s t (of_invalid u f p v a) (of_fault fault q b) = absurd (known.alone payload fault (Direct f) u q p)
+one_of known settings moment payload s t (of_invalid u f p v a) (of_error w e q b) =
+    let same = (known.one payload (Direct f) (Error e) u w p q).0 in absurd (cc)
+one_of known settings moment payload s t (of_invalid u f p v a) (of_query w e q b) =
+    let same = (known.one payload (Direct f) (Query e) u w p q).0 in absurd (cc)
+one_of known settings moment payload s t (of_fault fault p a) (of_fragment w g q x b) = absurd (known.alone payload fault (Direct g) w p q)
+one_of known settings moment payload s t (of_fault fault p a) (of_invalid w g q x b) = absurd (known.alone payload fault (Direct g) w p q)
+one_of known settings moment payload s t (of_fault fault p a) (of_fault other q b) =
+    a ∙ (ap (λ (x : DatagramFault). refused (refusal settings payload x)) (known.one_fault payload fault other p q) ∙ sym b)
+one_of known settings moment payload s t (of_fault fault p a) (of_error w e q b) = absurd (known.alone payload fault (Error e) w p q)
+one_of known settings moment payload s t (of_fault fault p a) (of_query w e q b) = absurd (known.alone payload fault (Query e) w p q)
+one_of known settings moment payload s t (of_error u e p a) (of_fragment w g q x b) =
+    let same = (known.one payload (Error e) (Direct g) u w p q).0 in absurd (cc)
+one_of known settings moment payload s t (of_error u e p a) (of_invalid w g q x b) =
+    let same = (known.one payload (Error e) (Direct g) u w p q).0 in absurd (cc)
+one_of known settings moment payload s t (of_error u e p a) (of_fault fault q b) = absurd (known.alone payload fault (Error e) u q p)
+one_of known settings moment payload s t (of_error u e p a) (of_error w g q b) = a ∙ sym b
+one_of known settings moment payload s t (of_error u e p a) (of_query w g q b) = a ∙ sym b
+one_of known settings moment payload s t (of_query u e p a) (of_fragment w g q x b) =
+    let same = (known.one payload (Query e) (Direct g) u w p q).0 in absurd (cc)
+one_of known settings moment payload s t (of_query u e p a) (of_invalid w g q x b) =
+    let same = (known.one payload (Query e) (Direct g) u w p q).0 in absurd (cc)
+one_of known settings moment payload s t (of_query u e p a) (of_fault fault q b) = absurd (known.alone payload fault (Query e) u q p)
+one_of known settings moment payload s t (of_query u e p a) (of_error w g q b) = a ∙ sym b
+one_of known settings moment payload s t (of_query u e p a) (of_query w g q b) = a ∙ sym b
+
+one_by : PacketsKnown → (settings : Settings) (event : Event) (s t : Saying) → SaysBy settings event s → SaysBy settings event t → s ≡ t
+one_by known settings (Packet moment payload) s t h k = one_of known settings moment payload s t h k
+one_by known settings (Tick now) s t h k = h ∙ sym k
+
+-- an event says one thing
+pub one_saying : PacketsKnown → (settings : Settings) (event : Event) (s t : Saying) → Says settings event s
+    → Says settings event t → s ≡ t
+one_saying known settings event s t h k =
+    one_by known settings event s t (says_by settings event s h) (says_by settings event t k)
+
+-- lists of events, each of which says one thing
+abbrev SayEach : Settings → List Event → List Saying → Type 0
+SayEach settings [] S = S ≡ []
+SayEach settings (event ∷ events) S =
+    (s : Saying) × (rest : List Saying) × Says settings event s × SayEach settings events rest × (S ≡ s ∷ rest)
+
+say_each : (settings : Settings) (events : List Event) (S : List Saying) → Say settings events S → SayEach settings events S
+say_each settings _ _ none = refl
+say_each settings _ _ (more event s events rest h k) = (s, rest, h, say_each settings events rest k, refl)
+
+pub one_row : PacketsKnown → (settings : Settings) (events : List Event) (S T : List Saying)
+    → SayEach settings events S → SayEach settings events T → S ≡ T
+one_row known settings [] S T h k = h ∙ sym k
+one_row known settings (event ∷ events) S T h k =
+    let first = one_saying known settings event h.0 k.0 h.2 k.2 in
+    let rest = one_row known settings events h.1 k.1 h.3 k.3 in
+    h.4 ∙ (ap (λ (s : Saying). s ∷ h.1) first ∙ (ap (λ (r : List Saying). k.0 ∷ r) rest ∙ sym k.4))
+
+-- and so do many
+pub one_sayings : PacketsKnown → (settings : Settings) (events : List Event) (S T : List Saying)
+    → Say settings events S → Say settings events T → S ≡ T
+one_sayings known settings events S T h k =
+    one_row known settings events S T (say_each settings events S h) (say_each settings events T k)

@@ -16,3 +16,6 @@ mod LimitsLemmas
 mod PlacesLemmas
 mod ChangeLemmas
 mod InsertLemmas
+mod EachLemmas
+mod UnitingLemmas
+mod FittingLemmas

@@ -1,5 +1,5 @@
 -- Tables, joined (own).
-use Rattle.std.specs.Prelude.{◌≡◌, ◌↔◌, not, List, Some, Contains}
+use Rattle.std.specs.Prelude.{◌≡◌, ◌↔◌, not, List, [], ◌∷◌, Some, Contains}
 use Rattle.std.specs.FinMap as maps
 use Rattle.nb_datagram.specs.declared.key.Key.{Key}
 use Rattle.nb_datagram.specs.Key.{same_key}
@@ -24,3 +24,8 @@ SameCores L M = (f : Core) → (Contains L f ↔ Contains M f)
 -- without_key k L: the fragments of L whose key isn't k, in order
 abbrev pub without_key : Key → List Core → List Core
 without_key k = keyed (λ q. not (same_key k q))
+
+-- joined_all f x ys: x joined with each of ys in turn, from the left
+abbrev pub joined_all : {X : Type 0} → (X → X → X) → X → List X → X
+joined_all f x [] = x
+joined_all f x (y ∷ ys) = joined_all f (f x y) ys

@@ -8,6 +8,7 @@ pub mod Contents
 pub mod Join
 pub mod Places
 pub mod Limits
+pub mod Merging
 pub mod Codes
 pub mod Whole
 pub mod Sender

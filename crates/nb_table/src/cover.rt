@@ -4,6 +4,8 @@ ghost use Rattle.nb_datagram.specs.Fragment.{core_of};
 ghost use Rattle.nb_table.specs.Slot.{Held};
 ghost use Rattle.nb_table.specs.Cover.{cover_of};
 
+mod joining;
+
 use crate::places::Places;
 use nb_datagram::Fragment;
 use nb_names::NoMemory;
@@ -18,7 +20,7 @@ pub struct Cover {
 }
 
 impl Model for Cover {
-    ghost use Rattle.nb_table.specs.Cover.{CoverValue};
+    ghost use Rattle.nb_table.specs.Cover.{CoverValue, IsCover};
     ghost use Rattle.nb_table.specs.Codes.{slot_of, cover_code};
 
     ghost Value = { CoverValue };
@@ -26,6 +28,8 @@ impl Model for Cover {
     ghost coded = { cover_code };
 
     ghost view = { λ c. slot_of c.places };
+
+    ghost invariant = { λ c. IsCover (slot_of c.places) };
 }
 
 impl Cover {

@@ -7,6 +7,8 @@ ghost use Rattle.nb_table.specs.Entry.{facts_of, join_entry};
 ghost use Rattle.nb_table.specs.Limits.{IsShort};
 ghost use Rattle.nb_table.specs.Change.{KeyChange};
 
+mod joining;
+
 use crate::change::Change;
 use crate::facts::Facts;
 use nb_datagram::Fragment;
@@ -22,7 +24,7 @@ pub struct Entry {
 }
 
 impl Model for Entry {
-    ghost use Rattle.nb_table.specs.Entry.{EntryValue};
+    ghost use Rattle.nb_table.specs.Entry.{EntryValue, IsEntry};
     ghost use Rattle.nb_table.specs.Codes.{slot_of, entry_code};
 
     ghost Value = { EntryValue };
@@ -30,6 +32,8 @@ impl Model for Entry {
     ghost coded = { entry_code };
 
     ghost view = { λ e. slot_of e.facts };
+
+    ghost invariant = { λ e. IsEntry (slot_of e.facts) };
 }
 
 impl Entry {

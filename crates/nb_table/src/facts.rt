@@ -3,11 +3,13 @@ ghost use Rattle.std.specs.Prelude.{◌≡◌, ◌↔◌, ◌≤◌, ℕ, IfOk, 
 ghost use Rattle.nb_datagram.specs.Fragment.{core_of};
 ghost use Rattle.nb_datagram.specs.declared.limits.TheConstants.{MAX_LENGTH};
 ghost use Rattle.nb_table.specs.Slot.{Held};
-ghost use Rattle.nb_table.specs.Entry.{FactsFit, facts_agree, facts_of, facts_together};
+ghost use Rattle.nb_table.specs.Entry.{AreEntryFacts, FactsFit, facts_agree, facts_of, facts_together};
 ghost use Rattle.nb_table.specs.Places.{Holds};
 ghost use Rattle.nb_table.specs.Whole.{bytes_to, datagram_with};
 ghost use Rattle.nb_table.specs.Change.{KeyChange};
 ghost use Rattle.nb_table.specs.Change.{grown_to as grown};
+
+mod uniting;
 
 use crate::change::Change;
 use crate::places::Places;
@@ -28,6 +30,7 @@ pub(crate) struct Facts {
 impl Model for Facts {
     ghost use Rattle.nb_table.specs.Entry.{EntryFacts};
     ghost use Rattle.nb_table.specs.Codes.{entry_facts_code};
+    ghost use Rattle.nb_table.specs.Cover.{AreCoverFacts};
 
     ghost Value = { EntryFacts };
 
@@ -39,6 +42,8 @@ impl Model for Facts {
       destination = f.destination;
       cover = f.places;
     } };
+
+    ghost invariant = { λ f. AreCoverFacts f.places };
 }
 
 /// What facts that grow come to: the datagram, if they are whole.
@@ -124,6 +129,7 @@ impl Facts {
             (self.new ≡ facts_together self.old (facts_of (core_of fragment.now))) }
         ensures change { IfOk result (λ change.
             KeyChange fragment.now.key (Some (Held self.old)) (Some (Held self.new)) change) }
+        ensures formed { AreEntryFacts self.new }
         ensures kept { OnErr result (self.new ≡ self.old) }
         ensures more { OnErr result
             (Holds self.old.cover (facts_of (core_of fragment.now)).cover → ⊥) }

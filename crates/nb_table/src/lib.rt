@@ -7,6 +7,7 @@ mod entry;
 mod facts;
 mod fault;
 mod inserting;
+mod join;
 pub mod laws;
 mod placed;
 mod places;
@@ -14,9 +15,11 @@ pub mod plain;
 mod table;
 #[cfg(test)]
 mod tests;
+mod united;
 
 pub use change::Change;
 pub use cover::Cover;
 pub use entry::Entry;
 pub use fault::TableFault;
+pub use join::{Join, join_all};
 pub use table::Table;

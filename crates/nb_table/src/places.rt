@@ -8,6 +8,8 @@ ghost use Rattle.nb_table.specs.Cover.{bytes_agree as same_bytes};
 ghost use Rattle.nb_table.specs.Places.{Holds};
 ghost use Rattle.nb_table.specs.Whole.{bytes_to};
 
+mod uniting;
+
 use crate::placed::{bytes_agree, bytes_below, has_bytes, lies_below, put_bytes};
 use nb_datagram::Fragment;
 use nb_names::{Bytes, NoMemory};

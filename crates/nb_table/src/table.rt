@@ -5,6 +5,8 @@ ghost use Rattle.nb_table.specs.Limits.{KeepsLimits};
 ghost use Rattle.nb_table.specs.Change.{IsChange};
 ghost use Rattle.nb_table.specs.Insert.{Takes, Refuses, with_fragment};
 
+mod fitting;
+
 use crate::change::Change;
 use crate::entry::Entry;
 use crate::fault::TableFault;

@@ -139,7 +139,7 @@ first_itself : (o : Option ℕ) → first_of o o ≡ o
 first_itself None = refl
 first_itself (Some x) = refl
 
-together-comm : (a b : CoverFacts) → CoversFit a b → covers_together a b ≡ covers_together b a
+pub together-comm : (a b : CoverFacts) → CoversFit a b → covers_together a b ≡ covers_together b a
 together-comm a b f = same_cover _ _ (λ q. in_union a b q ∙ either_first _ _ (f.bytes q) ∙ sym (in_union b a q)) (either_first _ _ f.ends)
 
 together-assoc : (a b c : CoverFacts) → covers_together (covers_together a b) c ≡ covers_together a (covers_together b c)

@@ -158,20 +158,20 @@ all_found {R = R} exact P (e ∷ es) h q x f = step (eq_by_cmp R q e.0) refl f (
     step true k f rec = let same = same_Some e.1 x f in subst (λ y. P q y ≡ true) same (subst (λ k. P k e.1 ≡ true) (sym (one_key exact q e.0 k)) (and_left _ _ h))
     step false k f rec = rec f
 
-lt_not_eq : (r : Ordering) → T (is_lt r) → is_eq r ≡ false
+pub lt_not_eq : (r : Ordering) → T (is_lt r) → is_eq r ≡ false
 lt_not_eq Less h = refl
 lt_not_eq Equal h = absurd h
 lt_not_eq Greater h = absurd h
 
-T_left : (a b : Bool) → T (a && b) → T a
+pub T_left : (a b : Bool) → T (a && b) → T a
 T_left true b h = tt
 T_left false b h = absurd h
 
-T_right : (a b : Bool) → T (a && b) → T b
+pub T_right : (a b : Bool) → T (a && b) → T b
 T_right true b h = h
 T_right false b h = absurd h
 
-below_none : {K X : Type 0} (R : K → K → Ordering) (q : K) (es : List (K × X)) → T (below_all R q es) → map.find R q es ≡ None
+pub below_none : {K X : Type 0} (R : K → K → Ordering) (q : K) (es : List (K × X)) → T (below_all R q es) → map.find R q es ≡ None
 below_none R q [] h = refl
 below_none R q (e ∷ es) h = ap (λ b. cond b (Some e.1) (map.find R q es)) (lt_not_eq (R q e.0) (T_left _ _ h)) ∙ below_none R q es (T_right _ _ h)
 

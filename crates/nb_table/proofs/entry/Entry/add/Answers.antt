@@ -15,3 +15,6 @@ returns-clause-more c =
     let b = facts_of (core_of c.args.fragment.now) in
     let fit = facts_fit_of c.in-Some.facts b (sym c.agrees_with.ensures ∙ c.if-not-agrees_with.false) in
     on_err_weaker c.grow.result (λ more. join_differs c.args.self.now c.in-Some.facts b (ap slot_of (sym c.in-Some.is) ∙ c.self.view_is) fit more) c.grow.ensures.more
+
+pub invariant_of-self-2 : goal.invariant_of-self-2
+invariant_of-self-2 c = c.grow.ensures.formed

@@ -1,0 +1,63 @@
+-- What a table takes in of another under its limits, and the datagrams that this gives (own).
+use Rattle.std.specs.Prelude.{◌≡◌, ◌&&◌, ◌-◌, ℕ, nat_le, Bool, true, List, filter, length, slice_get, is_none, Option, Some, None}
+use Rattle.std.specs.List.{filter_map}
+use Rattle.std.specs.FinMap as maps
+use Rattle.nb_datagram.specs.declared.key.Key.{Key}
+use Rattle.nb_datagram.specs.Datagram.{DatagramParts}
+use Rattle.nb_table.specs.declared.fault.TableFault.{TableFault}
+use Rattle.nb_table.specs.declared.fault.TableFault.TheVariants.{MisplacedFirst, TooLong, Full, NoMemory}
+use Rattle.nb_table.specs.Slot.{Spoilt, Held}
+use Rattle.nb_table.specs.Cover.{lies_below}
+use Rattle.nb_table.specs.Entry.{EntryValue}
+use Rattle.nb_table.specs.Contents.{Contents}
+use Rattle.nb_table.specs.Limits.{Limits, IsShort}
+use Rattle.nb_table.specs.Whole.{newly_whole}
+
+-- AllShort n t: each entry of t is spoilt, or lies below n and ends at most there
+abbrev pub AllShort : ℕ → Contents → Type 0
+AllShort n t = (k : Key) (e : EntryValue) → maps.get t k ≡ Some e → IsShort n e
+
+-- the group of all keys
+abbrev pub every_key : Key → Bool
+every_key k = true
+
+-- held_keys p s: how many keys of s are in the group p
+abbrev pub held_keys : (Key → Bool) → Contents → ℕ
+held_keys p s = length (filter p (maps.keys s))
+
+-- new_keys p s t: the keys of t that are in the group p and that s lacks, ascending
+abbrev pub new_keys : (Key → Bool) → Contents → Contents → List Key
+new_keys p s t = filter (λ k. p k && is_none (maps.get s k)) (maps.keys t)
+
+-- first_unfit n p s t: where at most n keys of the group p may be held, the least key of t that doesn't
+-- fit when the keys of t are added to s, ascending: the one at which n are held
+abbrev pub first_unfit : ℕ → (Key → Bool) → Contents → Contents → Option Key
+first_unfit n p s t = slice_get (new_keys p s t) (n - held_keys p s)
+
+-- Fits l s t: the table s takes in t under the limits l: each entry of t is short, and each key fits
+pub record Fits (l : Limits) (s t : Contents) : Type 0 where
+  pub short : AllShort l.longest t
+  pub room : first_unfit l.keys every_key s t ≡ None
+
+-- IsRefused l s t fault: the table s doesn't take in t under the limits l, for this reason; for want of
+-- memory only what fits
+abbrev pub IsRefused : Limits → Contents → Contents → TableFault → Type 0
+IsRefused l s t MisplacedFirst = ⊥
+IsRefused l s t TooLong = AllShort l.longest t → ⊥
+IsRefused l s t (Full k) = AllShort l.longest t × (first_unfit l.keys every_key s t ≡ Some k)
+IsRefused l s t NoMemory = Fits l s t
+
+-- newly_handed before after: the datagrams of the keys that are whole in the table after, and weren't in
+-- the one before, by ascending key
+abbrev pub newly_handed : Contents → Contents → List DatagramParts
+newly_handed before after = filter_map (newly_whole before after) (maps.keys after)
+
+-- it ends at most at n, if it ends, as a test
+abbrev pub ends_by : ℕ → Option ℕ → Bool
+ends_by n None = true
+ends_by n (Some end) = nat_le end n
+
+-- IsShort n e, as a test
+abbrev pub is_short : ℕ → EntryValue → Bool
+is_short n Spoilt = true
+is_short n (Held e) = lies_below n e.cover && ends_by n e.cover.end

@@ -1,0 +1,92 @@
+//! Whether a table takes in another under its limits.
+ghost use Rattle.std.specs.Prelude.{◌≡◌, ◌≢◌, ◌↔◌, OnOk, IfErr, IsTrue, filter, map, slice_get, is_none};
+ghost use Rattle.std.specs.List.{list_all};
+ghost use Rattle.std.specs.BTreeMap.{get, IsOrdered};
+ghost use Rattle.std.specs.FinMap as maps;
+ghost use Rattle.nb_datagram.specs.Key.{key_cmp};
+ghost use Rattle.nb_table.specs.Merging.{AllShort, Fits, IsRefused, every_key, is_short};
+ghost use Rattle.nb_table.specs.Merging.{first_unfit as least_unfit};
+
+use super::Table;
+use crate::entry::Entry;
+use crate::fault::TableFault;
+use nb_datagram::Key;
+use std::collections::BTreeMap;
+
+/// Whether each entry is spoilt, or has its places below this one and ends at most there.
+fn are_short(entries: &BTreeMap<Key, Entry>, longest: u16) -> bool
+    ensures value { result ≡ list_all (λ e. is_short longest e.1) entries.now.entries }
+    ensures ordered { IsOrdered key_cmp entries.now }
+{
+    for (_key, entry) in entries {
+        if !entry.is_short(longest) {
+            return false;
+        }
+    }
+    true
+}
+
+/// The first key of the others that the entries lack, once there is no room for one more.
+fn first_without_room(
+    entries: &BTreeMap<Key, Entry>,
+    others: &BTreeMap<Key, Entry>,
+    room: usize,
+) -> Option<Key>
+    ensures value { result ≡ slice_get (filter (λ k. is_none (get key_cmp entries.now k))
+        (map (λ e. e.0) others.now.entries)) room }
+    ensures ordered { IsOrdered key_cmp others.now }
+{
+    let mut left = room;
+    for (key, _entry) in others {
+        if entries.contains_key(key) {
+            continue;
+        }
+        if left == 0 {
+            return Some(*key);
+        }
+        left -= 1;
+    }
+    None
+}
+
+impl Table {
+    /// Whether no entry is too long for the other limit.
+    fn is_short(&self, longest: u16) -> bool
+        ensures { IsTrue result ↔ AllShort longest self.now.contents }
+    {
+        are_short(&self.entries, longest)
+    }
+
+    /// The least key that doesn't fit when the other's keys are added, ascending.
+    fn first_unfit(&self, other: &Table) -> Option<Key>
+        ensures { result ≡ least_unfit self.now.limits.keys every_key
+            self.now.contents other.now.contents }
+    {
+        let room = self.keys as usize - self.len();
+        first_without_room(&self.entries, &other.entries, room)
+    }
+
+    /// Whether the other table can be merged into this one as far as the limits go. No memory is
+    /// taken.
+    ///
+    /// # Errors
+    ///
+    /// `TooLong` where an entry of the other that isn't spoilt has a byte at or past this table's
+    /// limit for a datagram, or ends past it. Else `Full` with the least key that doesn't fit: the
+    /// first of the other's keys that are new here, ascending, at which as many keys are held as
+    /// may be. There is no other.
+    pub fn fits(&self, other: &Table) -> Result<(), TableFault>
+        ensures fits { OnOk result (Fits self.now.limits self.now.contents other.now.contents) }
+        ensures fault { IfErr result (IsRefused self.now.limits self.now.contents
+            other.now.contents) }
+        ensures no_memory_needed { IfErr result (λ fault. fault ≢ TableFault.NoMemory) }
+    {
+        if !other.is_short(self.longest) {
+            return Err(TableFault::TooLong);
+        }
+        match self.first_unfit(other) {
+            Some(key) => Err(TableFault::Full(key)),
+            None => Ok(()),
+        }
+    }
+}

@@ -2,3 +2,4 @@ mod StandsLemmas
 mod ReadingLemmas
 mod PacketLemmas
 mod FaultLemmas
+mod PiecesLemmas

@@ -1,13 +1,16 @@
 //! Laws of the definitions that the contracts cite. Each is proved; a call does nothing.
-ghost use Rattle.std.specs.Prelude.{◌≡◌, ◌↔◌, ℕ, List, IsTrue};
+ghost use Rattle.std.specs.Prelude.{◌≡◌, ◌↔◌, ◌≤◌, ◌<◌, ℕ, false, List, length, IsTrue, Contains};
 ghost use Rattle.std.specs.Cmp.{IsTotalOrder};
 ghost use Rattle.std.specs.declared.cmp.Ordering.TheVariants.{Equal};
 ghost use Rattle.nb_datagram.specs.declared.fault.DatagramFault.{DatagramFault};
 ghost use Rattle.nb_datagram.specs.declared.key.Key.{Key};
 ghost use Rattle.nb_datagram.specs.declared.packet.Packet.{Packet};
 ghost use Rattle.nb_datagram.specs.DatagramFaults.{PacketFails};
+ghost use Rattle.nb_datagram.specs.Datagram.{DatagramParts};
+ghost use Rattle.nb_datagram.specs.Fragment.{Core, Covers, cores_of};
 ghost use Rattle.nb_datagram.specs.Key.{key_cmp, same_key};
 ghost use Rattle.nb_datagram.specs.Packet.{IsPacket};
+ghost use Rattle.nb_datagram.specs.Pieces.{IsPart, pieces};
 
 use nb_names::laws::{labels_tell_the_name, one_netbios_fault, one_reading, spelling_is_read};
 
@@ -42,3 +45,14 @@ pub fn one_datagram_fault()
     spelling_is_read();
     labels_tell_the_name();
 }
+
+/// The pieces of a datagram are parts of it, each of its places is covered by one, and one of them
+/// ends.
+pub fn pieces_are_parts()
+    ensures parts { (d : DatagramParts) (m : ℕ) (f : Core) → 1 ≤ m →
+        Contains (cores_of (pieces d m)) f → IsPart f d }
+    ensures covered { (d : DatagramParts) (m i : ℕ) → 1 ≤ m → i < length d.bytes →
+        (f : Core) × Contains (cores_of (pieces d m)) f × ((x : ℕ) × Covers f i x) }
+    ensures ends { (d : DatagramParts) (m : ℕ) → 1 ≤ m →
+        (f : Core) × Contains (cores_of (pieces d m)) f × (f.more ≡ false) }
+{}

@@ -8,7 +8,6 @@ mod WholeLemmas
 mod PlainLemmas
 mod PlainWholeLemmas
 mod PartsLemmas
-mod PiecesLemmas
 mod SenderLemmas
 mod TreeLemmas
 mod PutLemmas

@@ -1,10 +1,10 @@
 -- A list whose fragments with a datagram's key are parts of it: what its table has at that key.
-use Rattle.std.proofs.Common.{◌≡◌, ◌<◌, ℕ, Contains, List, map, slice_get, Option, Some, None, refl, sym, ◌∙◌, ap, subst, ◌≤◌, option_and_then}
+use Rattle.std.proofs.Common.{◌≡◌, ◌<◌, Contains, List, slice_get, Option, Some, None, refl, sym, ◌∙◌, ap, subst, option_and_then}
 use Rattle.std.proofs.lemmas.Option.{slice_get_within, get_or_from_slice_get}
 use Rattle.std.specs.FinMap as maps
-use Rattle.nb_datagram.specs.Fragment.{Core, reach, core_of}
+use Rattle.nb_datagram.specs.Fragment.{Core, reach}
 use Rattle.nb_datagram.specs.Datagram.{DatagramParts}
-use Rattle.nb_datagram.specs.Pieces.{IsPart, pieces}
+use Rattle.nb_datagram.specs.Pieces.{IsPart}
 use Rattle.nb_table.specs.Slot.{Spoilt, Held}
 use Rattle.nb_table.specs.Entry.{EntryFacts, EntryValue}
 use Rattle.nb_table.specs.ConflictTests.{with_key}
@@ -16,7 +16,6 @@ use Rattle.nb_table.proofs.SayingLemmas.{absent_exactly, spoilt_exactly, held_sa
 use Rattle.nb_table.proofs.WholeLemmas.{datagram_from}
 use Rattle.nb_table.proofs.FirstLemmas.{first_byte_from, first_end_from, first_byte_there, first_end_there}
 use Rattle.nb_table.proofs.PartsLemmas.{parts_not_spoilt, byte_of_parts, end_of_parts}
-use Rattle.nb_table.proofs.PiecesLemmas.{pieces_alone, pieces_all}
 
 -- ---- the entry of parts
 
@@ -108,7 +107,3 @@ gives_where_all L d h all =
           let x = whole.covered i (subst (λ n. i < n) (sym end_is) below) in
           x.1 ∙ sym (byte_of_parts (with_key d.key L) d (of_key L d h) i x.0 (sym (says.bytes i) ∙ x.1)));
     })
-
--- the pieces of d give d
-pub pieces_give : (d : DatagramParts) (m : ℕ) → 1 ≤ m → Gives (table_of (map core_of (pieces d m))) d
-pieces_give d m h = gives_where_all (map core_of (pieces d m)) d (pieces_alone d m h) (pieces_all d m h)

@@ -10,6 +10,8 @@ ghost use Rattle.nb_table.specs.Contents.{table_of};
 ghost use Rattle.nb_table.specs.Sender.{HasPartsAlone, HasAll, Gives};
 ghost use Rattle.nb_table.specs.Whole.{IsWholeAt};
 
+use nb_datagram::laws::pieces_are_parts;
+
 /// Where all fragments of a list with a datagram's key are parts of it, the key is spoilt neither
 /// in the list nor in the list's table.
 pub fn parts_are_not_spoilt()
@@ -40,4 +42,6 @@ pub fn pieces_are_all_parts()
     ensures all { (d : DatagramParts) (m : ℕ) → 1 ≤ m → HasAll (map core_of (pieces d m)) d }
     ensures gives { (d : DatagramParts) (m : ℕ) → 1 ≤ m →
         Gives (table_of (map core_of (pieces d m))) d }
-{}
+{
+    pieces_are_parts();
+}

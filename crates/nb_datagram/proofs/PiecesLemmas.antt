@@ -1,20 +1,27 @@
 -- The pieces of a datagram are parts of it, which cover all its places, and the last of which ends.
-use Rattle.std.proofs.Common.{◌≡◌, ◌==◌, ◌<◌, ◌≤◌, ◌+◌, ◌-◌, ◌*◌, ◌/◌, inl, inr, ℕ, zero, suc, Bool, true, false, cond, min, List, [], ◌∷◌, map, length, slice_get, get_or, drop, nat_lt, Some, refl, sym, ◌∙◌, ap, subst, arith}
+use Rattle.std.proofs.Common.{◌≡◌, ◌==◌, ◌<◌, ◌≤◌, ◌+◌, ◌-◌, ◌*◌, ◌/◌, inl, inr, ℕ, zero, suc, Bool, true, false, cond, min, List, map, length, slice_get, get_or, drop, nat_lt, Some, refl, sym, ◌∙◌, ap, subst, arith}
+use Rattle.std.proofs.Math.ListN.{get_or-map}
 use Rattle.std.proofs.Math.Nat.{add-mul, one-mul, le-div_iff_mul-le, div-lt_iff_lt-mul, div-mul-le_self, lt-div-mul-add}
 use Rattle.std.proofs.lemmas.Bool.{cases_lt}
-use Rattle.std.proofs.lemmas.List.{length-take, length-drop, get_or-take, get_or-drop}
+use Rattle.std.proofs.lemmas.Bool.Decides.{nat_tests}
+use Rattle.std.proofs.lemmas.List.{length-take, length-drop, length-map, get_or-take, get_or-drop}
 use Rattle.std.proofs.lemmas.List.FromFn.{length-range_with_len, get_or-range_with_len}
 use Rattle.std.proofs.lemmas.List.Elements.{All-map, All-contains}
 use Rattle.std.proofs.lemmas.Option.{slice_get-get_or, get_or_from_slice_get, slice_get_within}
 use Rattle.std.specs.Cmp.{both_ways}
 use Rattle.std.specs.List.{Contains, All, range_with_len, slice_range}
 use Rattle.nb_datagram.specs.declared.limits.TheConstants.{MORE, FIRST}
-use Rattle.nb_datagram.specs.Fragment.{Covers, core_of, has_more, reach}
+use Rattle.nb_datagram.specs.Fragment.{Core, Covers, cores_of, core_of, has_more, reach}
 use Rattle.nb_datagram.specs.Datagram.{DatagramParts}
 use Rattle.nb_datagram.specs.Pieces.{IsPart, piece_count, piece, pieces}
-use Rattle.nb_table.specs.Sender.{HasPartsAlone, HasAll}
-use Rattle.nb_table.specs.Lemmas.SameLemmas.{lt_is, is_lt}
-use Rattle.nb_table.proofs.OrderFreeLemmas.{in_none, in_first, in_rest, in_cons}
+
+-- ---- tests of numbers
+
+lt_is : (x y : ℕ) → nat_lt x y ≡ true → x < y
+lt_is x y h = grind (arith, nat_tests)
+
+is_lt : (x y : ℕ) → x < y → nat_lt x y ≡ true
+is_lt x y h = grind (arith, nat_tests)
 
 -- ---- how many pieces there are
 
@@ -78,11 +85,7 @@ into_range xs a b k before within =
 -- ---- elements
 
 mapped_in : {X Y : Type 0} (g : X → Y) (xs : List X) (x : X) → Contains xs x → Contains (map g xs) (g x)
-mapped_in g [] x h = absurd (in_none x h)
-mapped_in g (z ∷ zs) x h = elim (in_cons z zs x h) [
-  | inl same ↦ subst (λ y. Contains (map g (z ∷ zs)) (g y)) same (in_first (g z) (map g zs))
-  | inr there ↦ in_rest (g z) (map g zs) (g x) (mapped_in g zs x there)
-]
+mapped_in g xs x (k, inside, there) = (k, omega (arith, inside, length-map xs g), get_or-map g xs k x ∙ ap g there)
 
 from_zero : (n j d : ℕ) → j < n → get_or (range_with_len 0 n) j d ≡ j
 from_zero n j d h = get_or-range_with_len 0 n j d h ∙ omega arith
@@ -144,14 +147,15 @@ piece_is_part d m j h below = record {
 
 -- ---- all pieces
 
-piece_in : (d : DatagramParts) (m j : ℕ) → j < piece_count (length d.bytes) m → Contains (map core_of (pieces d m)) (core_of (piece d m j))
+piece_in : (d : DatagramParts) (m j : ℕ) → j < piece_count (length d.bytes) m → Contains (cores_of (pieces d m)) (core_of (piece d m j))
 piece_in d m j below =
     mapped_in core_of (pieces d m) (piece d m j)
     (mapped_in (piece d m) (range_with_len 0 (piece_count (length d.bytes) m)) j (in_range (piece_count (length d.bytes) m) j below))
 
-pub pieces_alone : (d : DatagramParts) (m : ℕ) → 1 ≤ m → HasPartsAlone (map core_of (pieces d m)) d
-pieces_alone d m h f has of_key =
-    All-contains (λ c. IsPart c d) (map core_of (pieces d m)) f
+-- each piece is a part
+pub pieces_are_parts : (d : DatagramParts) (m : ℕ) (f : Core) → 1 ≤ m → Contains (cores_of (pieces d m)) f → IsPart f d
+pieces_are_parts d m f h has =
+    All-contains (λ c. IsPart c d) (cores_of (pieces d m)) f
     (All-map (λ c. IsPart c d) core_of (pieces d m)
     (All-map (λ p. IsPart (core_of p) d) (piece d m) (range_with_len 0 (piece_count (length d.bytes) m))
     (all_of_range (λ j. IsPart (core_of (piece d m j)) d) (piece_count (length d.bytes) m) (λ j below. piece_is_part d m j h below))))
@@ -167,21 +171,18 @@ piece_covers d m i h inside =
     let place : i / m * m + (i - i / m * m) ≡ i = omega arith in
     (get_or d.bytes (i / m * m + (i - i / m * m)) 0, (start, into_range d.bytes (i / m * m) ((i / m + 1) * m) (i - i / m * m) (omega arith) (omega arith)))
 
-pub pieces_all : (d : DatagramParts) (m : ℕ) → 1 ≤ m → HasAll (map core_of (pieces d m)) d
-pieces_all d m h =
+-- each place is covered by a piece
+pub pieces_cover : (d : DatagramParts) (m i : ℕ) → 1 ≤ m → i < length d.bytes → (f : Core) × Contains (cores_of (pieces d m)) f × ((x : ℕ) × Covers f i x)
+pieces_cover d m i h inside =
+    (core_of (piece d m (i / m)), piece_in d m (i / m) (count_place (length d.bytes) m i h inside), piece_covers d m i h inside)
+
+-- a piece ends
+pub pieces_end : (d : DatagramParts) (m : ℕ) → 1 ≤ m → (f : Core) × Contains (cores_of (pieces d m)) f × (f.more ≡ false)
+pieces_end d m h =
     let count : ℕ = piece_count (length d.bytes) m in
     let some : 1 ≤ count = omega arith in
     let last : count - 1 < count = omega arith in
-    record {
-      places = λ i inside. (
-          let of_place = count_place (length d.bytes) m i h inside in
-          (core_of (piece d m (i / m)), (piece_in d m (i / m) of_place, refl), piece_covers d m i h inside));
-      last = (
-        core_of (piece d m (count - 1)),
-        (piece_in d m (count - 1) last, refl),
-        more_set (count - 1 == 0) (nat_lt (count - 1 + 1) count) ∙ none_after count some,
-      );
-    }
+    (core_of (piece d m (count - 1)), piece_in d m (count - 1) last, more_set (count - 1 == 0) (nat_lt (count - 1 + 1) count) ∙ none_after count some)
   where
     none_after : (n : ℕ) → 1 ≤ n → nat_lt (n - 1 + 1) n ≡ false
     none_after n h = both_ways _ _ (λ e. let below = lt_is (n - 1 + 1) n e in absurd (omega arith)) (λ e. absurd (cc))

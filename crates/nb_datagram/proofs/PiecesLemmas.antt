@@ -1,19 +1,20 @@
 -- The pieces of a datagram are parts of it, which cover all its places, and the last of which ends.
-use Rattle.std.proofs.Common.{◌≡◌, ◌==◌, ◌<◌, ◌≤◌, ◌+◌, ◌-◌, ◌*◌, ◌/◌, inl, inr, ℕ, zero, suc, Bool, true, false, cond, min, List, map, length, slice_get, get_or, drop, nat_lt, Some, refl, sym, ◌∙◌, ap, subst, arith}
+use Rattle.std.proofs.Common.{◌≡◌, ◌==◌, ◌<◌, ◌≤◌, ◌+◌, ◌-◌, ◌*◌, ◌/◌, inl, inr, ℕ, zero, suc, Bool, true, false, cond, min, List, [], ◌∷◌, ◌++◌, map, length, slice_get, get_or, drop, nat_lt, Some, refl, sym, ◌∙◌, ap, subst, arith}
 use Rattle.std.proofs.Math.ListN.{get_or-map}
 use Rattle.std.proofs.Math.Nat.{add-mul, one-mul, le-div_iff_mul-le, div-lt_iff_lt-mul, div-mul-le_self, lt-div-mul-add}
 use Rattle.std.proofs.lemmas.Bool.{cases_lt}
 use Rattle.std.proofs.lemmas.Bool.Decides.{nat_tests}
 use Rattle.std.proofs.lemmas.List.{length-take, length-drop, length-map, get_or-take, get_or-drop}
-use Rattle.std.proofs.lemmas.List.FromFn.{length-range_with_len, get_or-range_with_len}
+use Rattle.std.proofs.lemmas.List.FromFn.{length-range_with_len, get_or-range_with_len, map-range_with_len_more}
 use Rattle.std.proofs.lemmas.List.Elements.{All-map, All-contains}
 use Rattle.std.proofs.lemmas.Option.{slice_get-get_or, get_or_from_slice_get, slice_get_within}
 use Rattle.std.specs.Cmp.{both_ways}
 use Rattle.std.specs.List.{Contains, All, range_with_len, slice_range}
-use Rattle.nb_datagram.specs.declared.limits.TheConstants.{MORE, FIRST}
-use Rattle.nb_datagram.specs.Fragment.{Core, Covers, cores_of, core_of, has_more, reach}
+use Rattle.nb_datagram.specs.declared.limits.TheConstants.{MAX_LENGTH, MORE, FIRST}
+use Rattle.nb_datagram.specs.Fragment.{Core, Covers, named_length, cores_of, core_of, has_more, reach}
 use Rattle.nb_datagram.specs.Datagram.{DatagramParts}
-use Rattle.nb_datagram.specs.Pieces.{IsPart, piece_count, piece, pieces}
+use Rattle.nb_datagram.specs.Packet.{name_bytes}
+use Rattle.nb_datagram.specs.Pieces.{IsPart, piece_count, piece, pieces, AreTooLong}
 
 -- ---- tests of numbers
 
@@ -186,3 +187,42 @@ pieces_end d m h =
   where
     none_after : (n : ℕ) → 1 ≤ n → nat_lt (n - 1 + 1) n ≡ false
     none_after n h = both_ways _ _ (λ e. let below = lt_is (n - 1 + 1) n e in absurd (omega arith)) (λ e. absurd (cc))
+
+-- ---- pieces that are too long
+
+-- a piece has no more bytes than are asked for, nor than there are
+piece_short : (d : DatagramParts) (m j : ℕ) → length (piece d m j).bytes ≤ min (length d.bytes) m
+piece_short d m j =
+    let long = length-slice_range d.bytes (j * m) ((j + 1) * m) in
+    let split = add-mul j 1 m in
+    let single = one-mul m in
+    omega arith
+
+-- the first has as many
+first_long : (d : DatagramParts) (m : ℕ) → length (piece d m 0).bytes ≡ min (length d.bytes) m
+first_long d m =
+    let long = length-slice_range d.bytes (0 * m) ((0 + 1) * m) in
+    let none : 0 * m ≡ 0 = omega arith in
+    let single = one-mul m in
+    omega arith
+
+pub pieces_too_long : (d : DatagramParts) (m : ℕ) → 1 ≤ m → MAX_LENGTH < length (name_bytes d.source) + length (name_bytes d.destination) + min (length d.bytes) m → AreTooLong d m
+pieces_too_long d m h above =
+    let long = first_long d m in (
+      piece d m 0,
+      mapped_in (piece d m) (range_with_len 0 (piece_count (length d.bytes) m)) 0 (in_range (piece_count (length d.bytes) m) 0 (omega arith)),
+      omega (arith, long, above),
+    )
+
+pub pieces_not_too_long : (d : DatagramParts) (m : ℕ) → length (name_bytes d.source) + length (name_bytes d.destination) + min (length d.bytes) m ≤ MAX_LENGTH → AreTooLong d m → ⊥
+pieces_not_too_long d m low (f, has, above) =
+    let each = All-contains (λ p. named_length p.source p.destination p.bytes ≤ MAX_LENGTH) (pieces d m) f
+    (All-map (λ p. named_length p.source p.destination p.bytes ≤ MAX_LENGTH) (piece d m) (range_with_len 0 (piece_count (length d.bytes) m))
+    (all_of_range (λ j. named_length d.source d.destination (piece d m j).bytes ≤ MAX_LENGTH) (piece_count (length d.bytes) m) (λ j below. let short = piece_short d m j in omega (arith, short, low))))
+    has in
+    omega (arith, each, above)
+
+-- ---- pieces in turn
+
+pub pieces_more : (d : DatagramParts) (m j : ℕ) → map (piece d m) (range_with_len 0 (j + 1)) ≡ map (piece d m) (range_with_len 0 j) ++ piece d m j ∷ []
+pieces_more d m j = map-range_with_len_more (piece d m) 0 j j (omega arith)

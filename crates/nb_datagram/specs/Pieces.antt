@@ -3,9 +3,10 @@
 --
 -- Own, and other than RFC 1002 section 5.3: all pieces but the last have one length, no flag but F and M
 -- is set (SNT is 00), and a datagram without data still has a piece.
-use Rattle.std.specs.Prelude.{◌≡◌, ◌==◌, ℕ, ◌+◌, ◌-◌, ◌*◌, ◌/◌, ◌≤◌, max, cond, List, map, length, slice_get, slice_range, nat_lt, Some}
+use Rattle.std.specs.Prelude.{◌≡◌, ◌==◌, ℕ, ◌+◌, ◌-◌, ◌*◌, ◌/◌, ◌≤◌, max, cond, ◌<◌, List, map, length, slice_get, slice_range, nat_lt, Some, Contains}
 use Rattle.std.specs.List.{range_with_len}
-use Rattle.nb_datagram.specs.Fragment.{FragmentParts, Core, Covers, reach}
+use Rattle.nb_datagram.specs.declared.limits.TheConstants.{MAX_LENGTH}
+use Rattle.nb_datagram.specs.Fragment.{FragmentParts, Core, Covers, reach, named_length}
 use Rattle.nb_datagram.specs.Datagram.{DatagramParts}
 
 -- f is a part of d: what it says is true of d, and it says that more follows exactly where more does
@@ -39,3 +40,8 @@ piece d m j = record {
 -- the pieces of d by m, m at least 1, in order
 abbrev pub pieces : DatagramParts → ℕ → List FragmentParts
 pieces d m = map (piece d m) (range_with_len 0 (piece_count (length d.bytes) m))
+
+-- AreTooLong d m: one of the pieces of d by m has, with its names, more bytes than DGM_LENGTH can count
+abbrev pub AreTooLong : DatagramParts → ℕ → Type 0
+AreTooLong d m =
+    (f : FragmentParts) × Contains (pieces d m) f × (MAX_LENGTH < named_length f.source f.destination f.bytes)

@@ -2,7 +2,13 @@
 ghost use Rattle.std.specs.Prelude.{◌≡◌, ◌↔◌, ◌≤◌, ◌<◌, ℕ, false, List, length, IsTrue, Contains};
 ghost use Rattle.std.specs.Cmp.{IsTotalOrder};
 ghost use Rattle.std.specs.declared.cmp.Ordering.TheVariants.{Equal};
+ghost use Rattle.nb_datagram.specs.declared.error_codes.TheConstants.{DESTINATION_NAME_NOT_PRESENT, INVALID_SOURCE_NAME_FORMAT, INVALID_DESTINATION_NAME_FORMAT};
 ghost use Rattle.nb_datagram.specs.declared.fault.DatagramFault.{DatagramFault};
+ghost use Rattle.nb_datagram.specs.declared.kind.Kind.TheVariants.{Unique, Group, Broadcast};
+ghost use Rattle.nb_datagram.specs.declared.limits.TheConstants.{MAX_LENGTH, HEADER_LENGTH, ERROR_LENGTH, DIRECT_HEADER_LENGTH, MORE, FIRST};
+ghost use Rattle.nb_datagram.specs.declared.packet.QueryKind.TheVariants.{Request, Positive, Negative};
+ghost use Rattle.nb_datagram.specs.Header.{error_type, query_type};
+ghost use Rattle.nb_datagram.specs.Kind.{type_of};
 ghost use Rattle.nb_datagram.specs.declared.key.Key.{Key};
 ghost use Rattle.nb_datagram.specs.declared.packet.Packet.{Packet};
 ghost use Rattle.nb_datagram.specs.DatagramFaults.{PacketFails};
@@ -13,6 +19,19 @@ ghost use Rattle.nb_datagram.specs.Packet.{IsPacket};
 ghost use Rattle.nb_datagram.specs.Pieces.{IsPart, pieces};
 
 use nb_names::laws::{labels_tell_the_name, one_netbios_fault, one_reading, spelling_is_read};
+
+/// The numbers that the definitions cite.
+pub fn numbers()
+    ensures lengths { (MAX_LENGTH ≡ 65535) × (HEADER_LENGTH ≡ 10) × (ERROR_LENGTH ≡ 11)
+        × (DIRECT_HEADER_LENGTH ≡ 14) }
+    ensures flags { (MORE ≡ 1) × (FIRST ≡ 2) }
+    ensures codes { (DESTINATION_NAME_NOT_PRESENT ≡ 130) × (INVALID_SOURCE_NAME_FORMAT ≡ 131)
+        × (INVALID_DESTINATION_NAME_FORMAT ≡ 132) }
+    ensures direct_types { (type_of Unique ≡ 16) × (type_of Group ≡ 17)
+        × (type_of Broadcast ≡ 18) }
+    ensures other_types { (error_type ≡ 19) × (query_type Request ≡ 20)
+        × (query_type Positive ≡ 21) × (query_type Negative ≡ 22) }
+{}
 
 /// Keys have one order: of two keys one comes first or they tie, and those that tie are one key.
 pub fn keys_have_one_order()

@@ -1,6 +1,8 @@
 //! The datagram service's fragments and datagrams (RFC 1002 section 4.4).
 #![tactic(auto)]
 
+mod cut_fault;
+mod cutting;
 mod datagram;
 mod decoding;
 mod encoding;
@@ -18,6 +20,8 @@ mod lists;
 mod packet;
 mod too_long;
 
+pub use cut_fault::CutFault;
+pub use cutting::cut;
 pub use datagram::Datagram;
 pub use decoding::decode;
 pub use encoding::encode;

@@ -6,14 +6,14 @@ use std::cmp::Ordering;
 use std::process::Abort;
 use std::test::Fail;
 
-const KEY: Key = Key {
+pub const KEY: Key = Key {
     ip: [10, 0, 0, 5],
     port: 138,
     id: 1,
 };
 
 /// More bytes than fit a packet or a datagram.
-const MANY: &[u8; 65_536] = &[7; 65_536];
+pub const MANY: &[u8; 65_536] = &[7; 65_536];
 
 pub fn joe() -> Name {
     Name::new(*b"JOE            \x00", Scope::empty())

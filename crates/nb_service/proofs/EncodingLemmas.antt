@@ -11,8 +11,8 @@ use Rattle.nb_names.specs.Labels.{StandsAt, pointer_bytes, NameAt, leads_to}
 use Rattle.nb_service.specs.declared.limits.TheConstants.{HEADER_LENGTH}
 use Rattle.nb_service.specs.declared.question.Question.{Question}
 use Rattle.nb_service.specs.Header.{PacketHeader, HasHeader}
-use Rattle.nb_service.specs.Record.{ResourceData, octets, target, ResourceRecord, IsDataOf}
-use Rattle.nb_service.specs.Packet.{QuestionAt, DataAt, bytes, domain, RecordAt, Row, none, more, ServicePacket, header_of, records_of, IsPacket}
+use Rattle.nb_service.specs.Record.{ResourceData, of_bytes, of_domain, ResourceRecord, IsRdataOf}
+use Rattle.nb_service.specs.Packet.{QuestionAt, RdataAt, bytes_there, domain_there, RecordAt, Row, none, more, ServicePacket, header_of, records_of, IsPacket}
 use Rattle.nb_service.specs.Encoding.{header_bytes, question_bytes, name_bytes, rdata_bytes, record_bytes, packet_bytes, IsQuestion, IsNamedData, IsRecord, IsWritable}
 use Rattle.nb_names.specs.PacketFacts.{stands_fits}
 use Rattle.nb_service.proofs.StandingLemmas.{stands_before, stands_after}
@@ -57,7 +57,7 @@ same_names one law ls ms d e is =
     let moved : NameAt (spelling ms ++ []) Followed 0 ls (0 + length (spelling ls)) = subst (λ (x : List ℕ). NameAt (x ++ []) Followed 0 ls (0 + length (spelling ls))) same first in
     (one (spelling ms ++ []) Followed 0 ls ms (0 + length (spelling ls)) (0 + length (spelling ms)) moved (law [] [] Followed ms e)).0
 
--- FirstAt b low questions: the first question's name stands behind the header, below `low`
+-- FirstAt b low questions: the first question's name stands after the header, below `low`
 abbrev pub FirstAt : List ℕ → ℕ → List Question → Type 0
 FirstAt b low [] = Unit {0}
 FirstAt b low (q ∷ qs) = (HEADER_LENGTH < low) × IsDomain q.name × NameAt b Followed HEADER_LENGTH q.name (HEADER_LENGTH + length (spelling q.name))
@@ -81,23 +81,23 @@ name_there same b read low at (q ∷ qs) (l ∷ ls) le f d h =
 
 pub question_there : (b : List ℕ) → AreRead b → (at : ℕ) (q : Question) → IsQuestion q → StandsAt b at (question_bytes q) → QuestionAt b at q (at + length (question_bytes q))
 question_there b read at q d h =
-    let behind : ℕ = at + length (spelling q.name) in
+    let after : ℕ = at + length (spelling q.name) in
     let rest = stands_after b at (spelling q.name) (to_be_bytes w16 q.kind ++ to_be_bytes w16 q.class) h in
     record {
-      behind = behind;
+      after = after;
       name = read at q.name d.name (stands_before b at (spelling q.name) (to_be_bytes w16 q.kind ++ to_be_bytes w16 q.class) h);
-      kind = record { fits = d.kind; bytes = stands_before b behind (to_be_bytes w16 q.kind) (to_be_bytes w16 q.class) rest };
-      class = record { fits = d.class; bytes = stands_after b behind (to_be_bytes w16 q.kind) (to_be_bytes w16 q.class) rest };
+      kind = record { fits = d.kind; bytes = stands_before b after (to_be_bytes w16 q.kind) (to_be_bytes w16 q.class) rest };
+      class = record { fits = d.class; bytes = stands_after b after (to_be_bytes w16 q.kind) (to_be_bytes w16 q.class) rest };
       end = omega (arith, length-append (spelling q.name) (to_be_bytes w16 q.kind ++ to_be_bytes w16 q.class));
     }
 
-data_there : (b : List ℕ) → AreRead b → (at kind : ℕ) (d : ResourceData) → IsDataOf kind d → IsNamedData d → StandsAt b at (rdata_bytes d) → DataAt b at (length (rdata_bytes d)) kind d
-data_there b read at kind (octets xs) i n h = bytes xs i.0 refl h
-data_there b read at kind (target ls) i n h = domain ls i (read at ls n h)
+data_there : (b : List ℕ) → AreRead b → (at kind : ℕ) (d : ResourceData) → IsRdataOf kind d → IsNamedData d → StandsAt b at (rdata_bytes d) → RdataAt b at (length (rdata_bytes d)) kind d
+data_there b read at kind (of_bytes xs) i n h = bytes_there xs i.0 refl h
+data_there b read at kind (of_domain ls) i n h = domain_there ls i (read at ls n h)
 
-data_fits : (kind : ℕ) (d : ResourceData) → IsDataOf kind d → IsNamedData d → length (rdata_bytes d) < 2 ^ 16
-data_fits kind (octets xs) i n = omega (arith, i.1)
-data_fits kind (target ls) i n = omega (arith, n.short)
+data_fits : (kind : ℕ) (d : ResourceData) → IsRdataOf kind d → IsNamedData d → length (rdata_bytes d) < 2 ^ 16
+data_fits kind (of_bytes xs) i n = omega (arith, i.1)
+data_fits kind (of_domain ls) i n = omega (arith, n.short)
 
 pub record_there : SameLaw → (b : List ℕ) → AreRead b → (low : ℕ) (qs : List Question) → FirstAt b low qs → (at : ℕ) (r : ResourceRecord) → low ≤ at → IsRecord r →
     StandsAt b at (record_bytes qs r) → RecordAt b at r (at + length (record_bytes qs r))
@@ -108,28 +108,28 @@ record_there same b read low qs f at r le d h =
     let timed : List ℕ = to_be_bytes w32 r.ttl ++ sized in
     let classed : List ℕ = to_be_bytes w16 r.class ++ timed in
     let kinded : List ℕ = to_be_bytes w16 r.kind ++ classed in
-    let behind : ℕ = at + length name in
-    let s1 : StandsAt b behind kinded = stands_after b at name kinded h in
-    let s2 : StandsAt b (behind + 2) classed = stands_after b behind (to_be_bytes w16 r.kind) classed s1 in
-    let s3 : StandsAt b (behind + 4) timed = subst (λ (n : ℕ). StandsAt b n timed) (omega arith) (stands_after b (behind + 2) (to_be_bytes w16 r.class) timed s2) in
-    let s4 : StandsAt b (behind + 8) sized = subst (λ (n : ℕ). StandsAt b n sized) (omega arith) (stands_after b (behind + 4) (to_be_bytes w32 r.ttl) sized s3) in
-    let s5 : StandsAt b (behind + 10) rdata = subst (λ (n : ℕ). StandsAt b n rdata) (omega arith) (stands_after b (behind + 8) (to_be_bytes w16 (length rdata)) rdata s4) in
+    let after : ℕ = at + length name in
+    let s1 : StandsAt b after kinded = stands_after b at name kinded h in
+    let s2 : StandsAt b (after + 2) classed = stands_after b after (to_be_bytes w16 r.kind) classed s1 in
+    let s3 : StandsAt b (after + 4) timed = subst (λ (n : ℕ). StandsAt b n timed) (omega arith) (stands_after b (after + 2) (to_be_bytes w16 r.class) timed s2) in
+    let s4 : StandsAt b (after + 8) sized = subst (λ (n : ℕ). StandsAt b n sized) (omega arith) (stands_after b (after + 4) (to_be_bytes w32 r.ttl) sized s3) in
+    let s5 : StandsAt b (after + 10) rdata = subst (λ (n : ℕ). StandsAt b n rdata) (omega arith) (stands_after b (after + 8) (to_be_bytes w16 (length rdata)) rdata s4) in
     record {
-      behind = behind;
+      after = after;
       size = length rdata;
       name = name_there same b read low at qs r.name le f d.name (stands_before b at name kinded h);
-      kind = record { fits = d.kind; bytes = stands_before b behind (to_be_bytes w16 r.kind) classed s1 };
-      class = record { fits = d.class; bytes = stands_before b (behind + 2) (to_be_bytes w16 r.class) timed s2 };
-      ttl = record { fits = d.ttl; bytes = stands_before b (behind + 4) (to_be_bytes w32 r.ttl) sized s3 };
-      rdlength = record { fits = data_fits r.kind r.rdata d.rdata d.named; bytes = stands_before b (behind + 8) (to_be_bytes w16 (length rdata)) rdata s4 };
-      whole = omega (arith, stands_fits b (behind + 8) sized s4 (omega arith));
-      rdata = data_there b read (behind + 10) r.kind r.rdata d.rdata d.named s5;
+      kind = record { fits = d.kind; bytes = stands_before b after (to_be_bytes w16 r.kind) classed s1 };
+      class = record { fits = d.class; bytes = stands_before b (after + 2) (to_be_bytes w16 r.class) timed s2 };
+      ttl = record { fits = d.ttl; bytes = stands_before b (after + 4) (to_be_bytes w32 r.ttl) sized s3 };
+      rdlength = record { fits = data_fits r.kind r.rdata d.rdata d.named; bytes = stands_before b (after + 8) (to_be_bytes w16 (length rdata)) rdata s4 };
+      whole = omega (arith, stands_fits b (after + 8) sized s4 (omega arith));
+      rdata = data_there b read (after + 10) r.kind r.rdata d.rdata d.named s5;
       end = omega (arith, length-append name kinded);
     }
 
 -- ---- rows
 
--- items whose bytes stand one behind the other make a row
+-- items whose bytes stand one after the other make a row
 pub row_there : {A : Type 0} (S : ℕ → A → ℕ → Type 0) (f : A → List ℕ) (P : A → Type 0) (b : List ℕ) (low : ℕ) →
     ((at : ℕ) (x : A) → low ≤ at → P x → StandsAt b at (f x) → S at x (at + length (f x))) →
     (at : ℕ) (xs : List A) → low ≤ at → AllByRecursion P xs → StandsAt b at (flat_map f xs) → Row S at xs (at + length (flat_map f xs))
@@ -182,20 +182,20 @@ packet_there same law p rest d =
     let front : List ℕ = header_bytes (header_of p) in
     let qs : List ℕ = flat_map question_bytes p.questions in
     let rs : List ℕ = flat_map (record_bytes p.questions) (records_of p) in
-    let behind : ℕ = HEADER_LENGTH + length qs in
+    let after : ℕ = HEADER_LENGTH + length qs in
     let whole : StandsAt b 0 (packet_bytes p) = take_at (packet_bytes p) rest (length (packet_bytes p)) refl in
-    let after : StandsAt b HEADER_LENGTH (qs ++ rs) = stands_after b 0 front (qs ++ rs) whole in
-    let questions : StandsAt b HEADER_LENGTH qs = stands_before b HEADER_LENGTH qs rs after in
-    let records : StandsAt b behind rs = stands_after b HEADER_LENGTH qs rs after in
+    let rest_there : StandsAt b HEADER_LENGTH (qs ++ rs) = stands_after b 0 front (qs ++ rs) whole in
+    let questions : StandsAt b HEADER_LENGTH qs = stands_before b HEADER_LENGTH qs rs rest_there in
+    let records : StandsAt b after rs = stands_after b HEADER_LENGTH qs rs rest_there in
     let first = first_at b read p.questions d.questions questions in
-    let long : behind + length rs ≡ length (packet_bytes p) = omega (arith, length-append qs rs) in
+    let long : after + length rs ≡ length (packet_bytes p) = omega (arith, length-append qs rs) in
     record {
-      behind = behind;
+      after = after;
       header = header_there b (header_of p) d.id d.word (omega (arith, d.counted.questions)) (omega (arith, d.counted.answers)) (omega (arith, d.counted.authorities)) (omega (arith, d.counted.additional))
           (stands_before b 0 front (qs ++ rs) whole);
       questions = row_there (QuestionAt b) question_bytes IsQuestion b 0 (λ at q le i h. question_there b read at q i h) HEADER_LENGTH p.questions (omega arith) d.questions questions;
-      records = subst (λ (n : ℕ). Row (RecordAt b) behind (records_of p) n) long
-          (row_there (RecordAt b) (record_bytes p.questions) IsRecord b behind (λ at r le i h. record_there same b read behind p.questions first at r le i h) behind (records_of p) (omega arith) d.records records);
+      records = subst (λ (n : ℕ). Row (RecordAt b) after (records_of p) n) long
+          (row_there (RecordAt b) (record_bytes p.questions) IsRecord b after (λ at r le i h. record_there same b read after p.questions first at r le i h) after (records_of p) (omega arith) d.records records);
     }
 
 pub all_append : {A : Type 0} (P : A → Type 0) (xs ys : List A) → AllByRecursion P xs → AllByRecursion P ys → AllByRecursion P (xs ++ ys)

@@ -10,9 +10,9 @@ use Rattle.nb_service.specs.declared.fault.ServiceFault.TheVariants.{Name}
 use Rattle.nb_service.specs.declared.kinds.TheConstants.{NS}
 use Rattle.nb_service.specs.declared.question.Question.{Question}
 use Rattle.nb_names.specs.Numbers.{NumberAt}
-use Rattle.nb_service.specs.Record.{ResourceData, octets, target, ResourceRecord}
-use Rattle.nb_service.specs.Packet.{QuestionAt, DataAt, bytes, domain, RecordAt}
-use Rattle.nb_service.specs.ServiceFaults.{QuestionFails, question_name, question_cut, DataBegins, TargetFails, target_name, target_end, RecordFails, record_name, record_cut, rdata_cut, rdata_fails}
+use Rattle.nb_service.specs.Record.{ResourceData, of_bytes, of_domain, ResourceRecord}
+use Rattle.nb_service.specs.Packet.{QuestionAt, RdataAt, bytes_there, domain_there, RecordAt}
+use Rattle.nb_service.specs.ServiceFaults.{QuestionFails, question_name, question_cut, RdataBegins, DomainFails, domain_name, domain_end, RecordFails, record_name, record_cut, rdata_cut, rdata_fails}
 use Rattle.nb_names.specs.PacketFacts.{stands_same, one_number_16, one_number_32, within_16}
 use Rattle.nb_service.proofs.RowLemmas.{Single}
 
@@ -26,21 +26,21 @@ pub record NameLaws (packet : List ℕ) : Type 0 where
 
 pub one_question : (packet : List ℕ) → NameLaws packet → (at : ℕ) (q r : Question) (m n : ℕ) → QuestionAt packet at q m → QuestionAt packet at r n → (q ≡ r) × (m ≡ n)
 one_question packet laws at q r m n a b =
-    let same = laws.one at q.name r.name a.behind b.behind a.name b.name in
-    let kind : q.kind ≡ r.kind = one_number_16 packet a.behind q.kind r.kind a.kind (subst (λ (x : ℕ). NumberAt packet x w16 r.kind) (sym same.1) b.kind) in
-    let class : q.class ≡ r.class = one_number_16 packet (a.behind + 2) q.class r.class a.class (subst (λ (x : ℕ). NumberAt packet (x + 2) w16 r.class) (sym same.1) b.class) in
+    let same = laws.one at q.name r.name a.after b.after a.name b.name in
+    let kind : q.kind ≡ r.kind = one_number_16 packet a.after q.kind r.kind a.kind (subst (λ (x : ℕ). NumberAt packet x w16 r.kind) (sym same.1) b.kind) in
+    let class : q.class ≡ r.class = one_number_16 packet (a.after + 2) q.class r.class a.class (subst (λ (x : ℕ). NumberAt packet (x + 2) w16 r.class) (sym same.1) b.class) in
     (λ i. record { name = same.0 i; kind = kind i; class = class i }, a.end ∙ ap (λ (x : ℕ). x + 4) same.1 ∙ sym b.end)
 
 pub question_no_fault : (packet : List ℕ) → NameLaws packet → (at : ℕ) (q : Question) (n : ℕ) (f : ServiceFault) → QuestionAt packet at q n → QuestionFails packet at f → ⊥
-question_no_fault packet laws at q n f a (question_name g h) = laws.apart at q.name a.behind g a.name h
-question_no_fault packet laws at q n f a (question_cut ls behind h low) =
-    omega (arith, laws.one at q.name ls a.behind behind a.name h, within_16 packet (a.behind + 2) q.class a.class)
+question_no_fault packet laws at q n f a (question_name g h) = laws.apart at q.name a.after g a.name h
+question_no_fault packet laws at q n f a (question_cut ls after h low) =
+    omega (arith, laws.one at q.name ls a.after after a.name h, within_16 packet (a.after + 2) q.class a.class)
 
 pub one_question_fault : (packet : List ℕ) → NameLaws packet → (at : ℕ) (f g : ServiceFault) → QuestionFails packet at f → QuestionFails packet at g → f ≡ g
 one_question_fault packet laws at f g (question_name x h) (question_name y i) = ap Name (laws.one_fault at x y h i)
-one_question_fault packet laws at f g (question_name x h) (question_cut ls behind i low) = absurd (laws.apart at ls behind x i h)
-one_question_fault packet laws at f g (question_cut ls behind h low) (question_name y i) = absurd (laws.apart at ls behind y h i)
-one_question_fault packet laws at f g (question_cut ls behind h low) (question_cut ms next i few) = refl
+one_question_fault packet laws at f g (question_name x h) (question_cut ls after i low) = absurd (laws.apart at ls after x i h)
+one_question_fault packet laws at f g (question_cut ls after h low) (question_name y i) = absurd (laws.apart at ls after y h i)
+one_question_fault packet laws at f g (question_cut ls after h low) (question_cut ms next i few) = refl
 
 pub single_question : (packet : List ℕ) → NameLaws packet → Single (QuestionAt packet) (QuestionFails packet)
 single_question packet laws =
@@ -48,91 +48,91 @@ single_question packet laws =
 
 -- ---- records
 
-pub one_data : (packet : List ℕ) → NameLaws packet → (at size kind : ℕ) (d e : ResourceData) → DataAt packet at size kind d → DataAt packet at size kind e → d ≡ e
-one_data packet laws at size kind d e (bytes xs unlike long there) (bytes ys differs short stands) = ap octets (stands_same packet at xs ys there stands (long ∙ sym short))
-one_data packet laws at size kind d e (bytes xs unlike long there) (domain ls is h) = absurd (unlike is)
-one_data packet laws at size kind d e (domain ls is h) (bytes xs unlike long there) = absurd (unlike is)
-one_data packet laws at size kind d e (domain ls is h) (domain ms are i) = ap target (laws.one at ls ms (at + size) (at + size) h i).0
+pub one_data : (packet : List ℕ) → NameLaws packet → (at size kind : ℕ) (d e : ResourceData) → RdataAt packet at size kind d → RdataAt packet at size kind e → d ≡ e
+one_data packet laws at size kind d e (bytes_there xs unlike long there) (bytes_there ys differs short stands) = ap of_bytes (stands_same packet at xs ys there stands (long ∙ sym short))
+one_data packet laws at size kind d e (bytes_there xs unlike long there) (domain_there ls is h) = absurd (unlike is)
+one_data packet laws at size kind d e (domain_there ls is h) (bytes_there xs unlike long there) = absurd (unlike is)
+one_data packet laws at size kind d e (domain_there ls is h) (domain_there ms are i) = ap of_domain (laws.one at ls ms (at + size) (at + size) h i).0
 
 pub one_record : (packet : List ℕ) → NameLaws packet → (at : ℕ) (q r : ResourceRecord) (m n : ℕ) → RecordAt packet at q m → RecordAt packet at r n → (q ≡ r) × (m ≡ n)
 one_record packet laws at q r m n a b =
-    let same = laws.one at q.name r.name a.behind b.behind a.name b.name in
-    let kind : q.kind ≡ r.kind = one_number_16 packet a.behind q.kind r.kind a.kind (subst (λ (x : ℕ). NumberAt packet x w16 r.kind) (sym same.1) b.kind) in
-    let class : q.class ≡ r.class = one_number_16 packet (a.behind + 2) q.class r.class a.class (subst (λ (x : ℕ). NumberAt packet (x + 2) w16 r.class) (sym same.1) b.class) in
-    let ttl : q.ttl ≡ r.ttl = one_number_32 packet (a.behind + 4) q.ttl r.ttl a.ttl (subst (λ (x : ℕ). NumberAt packet (x + 4) w32 r.ttl) (sym same.1) b.ttl) in
-    let size : a.size ≡ b.size = one_number_16 packet (a.behind + 8) a.size b.size a.rdlength (subst (λ (x : ℕ). NumberAt packet (x + 8) w16 b.size) (sym same.1) b.rdlength) in
-    let moved : DataAt packet (a.behind + 10) b.size r.kind r.rdata = subst (λ (x : ℕ). DataAt packet (x + 10) b.size r.kind r.rdata) (sym same.1) b.rdata in
-    let sized : DataAt packet (a.behind + 10) a.size r.kind r.rdata = subst (λ (x : ℕ). DataAt packet (a.behind + 10) x r.kind r.rdata) (sym size) moved in
-    let other : DataAt packet (a.behind + 10) a.size q.kind r.rdata = subst (λ (x : ℕ). DataAt packet (a.behind + 10) a.size x r.rdata) (sym kind) sized in
-    let rdata : q.rdata ≡ r.rdata = one_data packet laws (a.behind + 10) a.size q.kind q.rdata r.rdata a.rdata other in
+    let same = laws.one at q.name r.name a.after b.after a.name b.name in
+    let kind : q.kind ≡ r.kind = one_number_16 packet a.after q.kind r.kind a.kind (subst (λ (x : ℕ). NumberAt packet x w16 r.kind) (sym same.1) b.kind) in
+    let class : q.class ≡ r.class = one_number_16 packet (a.after + 2) q.class r.class a.class (subst (λ (x : ℕ). NumberAt packet (x + 2) w16 r.class) (sym same.1) b.class) in
+    let ttl : q.ttl ≡ r.ttl = one_number_32 packet (a.after + 4) q.ttl r.ttl a.ttl (subst (λ (x : ℕ). NumberAt packet (x + 4) w32 r.ttl) (sym same.1) b.ttl) in
+    let size : a.size ≡ b.size = one_number_16 packet (a.after + 8) a.size b.size a.rdlength (subst (λ (x : ℕ). NumberAt packet (x + 8) w16 b.size) (sym same.1) b.rdlength) in
+    let moved : RdataAt packet (a.after + 10) b.size r.kind r.rdata = subst (λ (x : ℕ). RdataAt packet (x + 10) b.size r.kind r.rdata) (sym same.1) b.rdata in
+    let sized : RdataAt packet (a.after + 10) a.size r.kind r.rdata = subst (λ (x : ℕ). RdataAt packet (a.after + 10) x r.kind r.rdata) (sym size) moved in
+    let other : RdataAt packet (a.after + 10) a.size q.kind r.rdata = subst (λ (x : ℕ). RdataAt packet (a.after + 10) a.size x r.rdata) (sym kind) sized in
+    let rdata : q.rdata ≡ r.rdata = one_data packet laws (a.after + 10) a.size q.kind q.rdata r.rdata a.rdata other in
     (λ i. record { name = same.0 i; kind = kind i; class = class i; ttl = ttl i; rdata = rdata i }, omega (arith, a.end, b.end, same.1, size))
 
 -- where a record's RDATA begins, and how long it is
-pub record_begins : (packet : List ℕ) → NameLaws packet → (at : ℕ) (r : ResourceRecord) (n kind size begin : ℕ) → (a : RecordAt packet at r n) → DataBegins packet at kind size begin →
-    (a.behind + 10 ≡ begin) × (r.kind ≡ kind) × (a.size ≡ size)
+pub record_begins : (packet : List ℕ) → NameLaws packet → (at : ℕ) (r : ResourceRecord) (n kind size begin : ℕ) → (a : RecordAt packet at r n) → RdataBegins packet at kind size begin →
+    (a.after + 10 ≡ begin) × (r.kind ≡ kind) × (a.size ≡ size)
 record_begins packet laws at r n kind size begin a d =
-    let same = laws.one at r.name d.labels a.behind d.behind a.name d.name in (
+    let same = laws.one at r.name d.labels a.after d.after a.name d.name in (
       omega (arith, same.1, d.begin),
-      one_number_16 packet a.behind r.kind kind a.kind (subst (λ (x : ℕ). NumberAt packet x w16 kind) (sym same.1) d.kind_there),
-      one_number_16 packet (a.behind + 8) a.size size a.rdlength (subst (λ (x : ℕ). NumberAt packet (x + 8) w16 size) (sym same.1) d.size_there),
+      one_number_16 packet a.after r.kind kind a.kind (subst (λ (x : ℕ). NumberAt packet x w16 kind) (sym same.1) d.kind_there),
+      one_number_16 packet (a.after + 8) a.size size a.rdlength (subst (λ (x : ℕ). NumberAt packet (x + 8) w16 size) (sym same.1) d.size_there),
     )
 
-pub target_no_fault : (packet : List ℕ) → NameLaws packet → (at size kind : ℕ) (d : ResourceData) (f : ServiceFault) → DataAt packet at size kind d → kind ≡ NS → TargetFails packet at size f → ⊥
-target_no_fault packet laws at size kind d f (bytes xs unlike long there) is h = unlike is
-target_no_fault packet laws at size kind d f (domain ls are h) is (target_name g i) = laws.apart at ls (at + size) g h i
-target_no_fault packet laws at size kind d f (domain ls are h) is (target_end ms n i other) = other (sym (laws.one at ls ms (at + size) n h i).1)
+pub domain_no_fault : (packet : List ℕ) → NameLaws packet → (at size kind : ℕ) (d : ResourceData) (f : ServiceFault) → RdataAt packet at size kind d → kind ≡ NS → DomainFails packet at size f → ⊥
+domain_no_fault packet laws at size kind d f (bytes_there xs unlike long there) is h = unlike is
+domain_no_fault packet laws at size kind d f (domain_there ls are h) is (domain_name g i) = laws.apart at ls (at + size) g h i
+domain_no_fault packet laws at size kind d f (domain_there ls are h) is (domain_end ms n i other) = other (sym (laws.one at ls ms (at + size) n h i).1)
 
 pub record_no_fault : (packet : List ℕ) → NameLaws packet → (at : ℕ) (r : ResourceRecord) (n : ℕ) (f : ServiceFault) → RecordAt packet at r n → RecordFails packet at f → ⊥
-record_no_fault packet laws at r n f a (record_name g h) = laws.apart at r.name a.behind g a.name h
-record_no_fault packet laws at r n f a (record_cut ls behind h low) =
-    omega (arith, laws.one at r.name ls a.behind behind a.name h, within_16 packet (a.behind + 8) a.size a.rdlength)
+record_no_fault packet laws at r n f a (record_name g h) = laws.apart at r.name a.after g a.name h
+record_no_fault packet laws at r n f a (record_cut ls after h low) =
+    omega (arith, laws.one at r.name ls a.after after a.name h, within_16 packet (a.after + 8) a.size a.rdlength)
 record_no_fault packet laws at r n f a (rdata_cut kind size begin d low) =
     omega (arith, record_begins packet laws at r n kind size begin a d, a.whole)
 record_no_fault packet laws at r n f a (rdata_fails size begin d fits h) =
     let same = record_begins packet laws at r n NS size begin a d in
-    let moved : DataAt packet begin a.size r.kind r.rdata = subst (λ (x : ℕ). DataAt packet x a.size r.kind r.rdata) same.0 a.rdata in
-    let sized : DataAt packet begin size r.kind r.rdata = subst (λ (x : ℕ). DataAt packet begin x r.kind r.rdata) same.2 moved in
-    target_no_fault packet laws begin size r.kind r.rdata f sized same.1 h
+    let moved : RdataAt packet begin a.size r.kind r.rdata = subst (λ (x : ℕ). RdataAt packet x a.size r.kind r.rdata) same.0 a.rdata in
+    let sized : RdataAt packet begin size r.kind r.rdata = subst (λ (x : ℕ). RdataAt packet begin x r.kind r.rdata) same.2 moved in
+    domain_no_fault packet laws begin size r.kind r.rdata f sized same.1 h
 
-pub one_target_fault : (packet : List ℕ) → NameLaws packet → (at size : ℕ) (f g : ServiceFault) → TargetFails packet at size f → TargetFails packet at size g → f ≡ g
-one_target_fault packet laws at size f g (target_name x h) (target_name y i) = ap Name (laws.one_fault at x y h i)
-one_target_fault packet laws at size f g (target_name x h) (target_end ls n i other) = absurd (laws.apart at ls n x i h)
-one_target_fault packet laws at size f g (target_end ls n h other) (target_name y i) = absurd (laws.apart at ls n y h i)
-one_target_fault packet laws at size f g (target_end ls n h other) (target_end ms m i others) = refl
+pub one_domain_fault : (packet : List ℕ) → NameLaws packet → (at size : ℕ) (f g : ServiceFault) → DomainFails packet at size f → DomainFails packet at size g → f ≡ g
+one_domain_fault packet laws at size f g (domain_name x h) (domain_name y i) = ap Name (laws.one_fault at x y h i)
+one_domain_fault packet laws at size f g (domain_name x h) (domain_end ls n i other) = absurd (laws.apart at ls n x i h)
+one_domain_fault packet laws at size f g (domain_end ls n h other) (domain_name y i) = absurd (laws.apart at ls n y h i)
+one_domain_fault packet laws at size f g (domain_end ls n h other) (domain_end ms m i others) = refl
 
-pub one_begin : (packet : List ℕ) → NameLaws packet → (at kind size begin kind' size' begin' : ℕ) → DataBegins packet at kind size begin → DataBegins packet at kind' size' begin' → (size ≡ size') × (begin ≡ begin')
+pub one_begin : (packet : List ℕ) → NameLaws packet → (at kind size begin kind' size' begin' : ℕ) → RdataBegins packet at kind size begin → RdataBegins packet at kind' size' begin' → (size ≡ size') × (begin ≡ begin')
 one_begin packet laws at kind size begin kind' size' begin' d e =
-    let same = laws.one at d.labels e.labels d.behind e.behind d.name e.name in (
-      one_number_16 packet (d.behind + 8) size size' d.size_there (subst (λ (x : ℕ). NumberAt packet (x + 8) w16 size') (sym same.1) e.size_there),
+    let same = laws.one at d.labels e.labels d.after e.after d.name e.name in (
+      one_number_16 packet (d.after + 8) size size' d.size_there (subst (λ (x : ℕ). NumberAt packet (x + 8) w16 size') (sym same.1) e.size_there),
       omega (arith, same.1, d.begin, e.begin),
     )
 
-begin_uncut : (packet : List ℕ) → NameLaws packet → (at kind size begin behind : ℕ) (ls : List (List ℕ)) → DataBegins packet at kind size begin → NameAt packet Followed at ls behind → length packet < behind + 10 → ⊥
-begin_uncut packet laws at kind size begin behind ls d h low =
-    omega (arith, laws.one at d.labels ls d.behind behind d.name h, within_16 packet (d.behind + 8) size d.size_there)
+begin_uncut : (packet : List ℕ) → NameLaws packet → (at kind size begin after : ℕ) (ls : List (List ℕ)) → RdataBegins packet at kind size begin → NameAt packet Followed at ls after → length packet < after + 10 → ⊥
+begin_uncut packet laws at kind size begin after ls d h low =
+    omega (arith, laws.one at d.labels ls d.after after d.name h, within_16 packet (d.after + 8) size d.size_there)
 
 pub one_record_fault : (packet : List ℕ) → NameLaws packet → (at : ℕ) (f g : ServiceFault) → RecordFails packet at f → RecordFails packet at g → f ≡ g
 one_record_fault packet laws at f g (record_name x h) (record_name y i) = ap Name (laws.one_fault at x y h i)
 one_record_fault packet laws at f g (record_name x h) (record_cut ls b i low) = absurd (laws.apart at ls b x i h)
-one_record_fault packet laws at f g (record_name x h) (rdata_cut k s b d low) = absurd (laws.apart at d.labels d.behind x d.name h)
-one_record_fault packet laws at f g (record_name x h) (rdata_fails s b d fits i) = absurd (laws.apart at d.labels d.behind x d.name h)
+one_record_fault packet laws at f g (record_name x h) (rdata_cut k s b d low) = absurd (laws.apart at d.labels d.after x d.name h)
+one_record_fault packet laws at f g (record_name x h) (rdata_fails s b d fits i) = absurd (laws.apart at d.labels d.after x d.name h)
 one_record_fault packet laws at f g (record_cut ls b h low) (record_name y i) = absurd (laws.apart at ls b y h i)
 one_record_fault packet laws at f g (record_cut ls b h low) (record_cut ms c i few) = refl
 one_record_fault packet laws at f g (record_cut ls b h low) (rdata_cut k s c d few) = refl
 one_record_fault packet laws at f g (record_cut ls b h low) (rdata_fails s c d fits i) = absurd (begin_uncut packet laws at NS s c b ls d h low)
-one_record_fault packet laws at f g (rdata_cut k s b d low) (record_name y i) = absurd (laws.apart at d.labels d.behind y d.name i)
+one_record_fault packet laws at f g (rdata_cut k s b d low) (record_name y i) = absurd (laws.apart at d.labels d.after y d.name i)
 one_record_fault packet laws at f g (rdata_cut k s b d low) (record_cut ls c i few) = refl
 one_record_fault packet laws at f g (rdata_cut k s b d low) (rdata_cut l t c e few) = refl
 one_record_fault packet laws at f g (rdata_cut k s b d low) (rdata_fails t c e fits i) =
     absurd (omega (arith, one_begin packet laws at k s b NS t c d e))
-one_record_fault packet laws at f g (rdata_fails s b d fits h) (record_name y i) = absurd (laws.apart at d.labels d.behind y d.name i)
+one_record_fault packet laws at f g (rdata_fails s b d fits h) (record_name y i) = absurd (laws.apart at d.labels d.after y d.name i)
 one_record_fault packet laws at f g (rdata_fails s b d fits h) (record_cut ls c i few) = absurd (begin_uncut packet laws at NS s b c ls d i few)
 one_record_fault packet laws at f g (rdata_fails s b d fits h) (rdata_cut l t c e few) =
     absurd (omega (arith, one_begin packet laws at NS s b l t c d e))
 one_record_fault packet laws at f g (rdata_fails s b d fits h) (rdata_fails t c e room i) =
     let same = one_begin packet laws at NS s b NS t c d e in
-    let moved : TargetFails packet b t g = subst (λ (x : ℕ). TargetFails packet x t g) (sym same.1) i in
-    one_target_fault packet laws b s f g h (subst (λ (x : ℕ). TargetFails packet b x g) (sym same.0) moved)
+    let moved : DomainFails packet b t g = subst (λ (x : ℕ). DomainFails packet x t g) (sym same.1) i in
+    one_domain_fault packet laws b s f g h (subst (λ (x : ℕ). DomainFails packet b x g) (sym same.0) moved)
 
 pub single_record : (packet : List ℕ) → NameLaws packet → Single (RecordAt packet) (RecordFails packet)
 single_record packet laws =

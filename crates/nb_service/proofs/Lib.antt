@@ -1,7 +1,9 @@
 pub mod RowLemmas
 pub mod ItemLemmas
 pub mod PacketLemmas
-pub mod ReadingLemmas
+pub mod StepLemmas
 pub mod EncodingLemmas
 pub mod PiecesLemmas
 pub mod StandingLemmas
+pub mod SectionLemmas
+pub mod TotalityLemmas

@@ -38,9 +38,9 @@ one_packet b laws p q m n x y =
     let header : header_of p ≡ header_of q = one_header b (header_of p) (header_of q) x.header y.header in
     let counts : record_count (header_of p) ≡ record_count (header_of q) = ap record_count header in
     let few : length p.questions ≡ length q.questions = ap (λ (h : PacketHeader). h.questions) header in
-    let questions = one_row (QuestionAt b) (QuestionFails b) (single_question b laws) HEADER_LENGTH x.behind y.behind p.questions q.questions x.questions y.questions few in
-    let rest : Row (RecordAt b) x.behind (records_of q) n = subst (λ (k : ℕ). Row (RecordAt b) k (records_of q) n) (sym questions.1) y.records in
-    let records = one_row (RecordAt b) (RecordFails b) (single_record b laws) x.behind m n (records_of p) (records_of q) x.records rest (length-records_of p ∙ counts ∙ sym (length-records_of q)) in
+    let questions = one_row (QuestionAt b) (QuestionFails b) (single_question b laws) HEADER_LENGTH x.after y.after p.questions q.questions x.questions y.questions few in
+    let rest : Row (RecordAt b) x.after (records_of q) n = subst (λ (k : ℕ). Row (RecordAt b) k (records_of q) n) (sym questions.1) y.records in
+    let records = one_row (RecordAt b) (RecordFails b) (single_record b laws) x.after m n (records_of p) (records_of q) x.records rest (length-records_of p ∙ counts ∙ sym (length-records_of q)) in
     let first = append_cancel p.answers (p.authorities ++ p.additional) q.answers (q.authorities ++ q.additional) records.0 (ap (λ (h : PacketHeader). h.answers) header) in
     let second = append_cancel p.authorities p.additional q.authorities q.additional first.1 (ap (λ (h : PacketHeader). h.authorities) header) in (
       λ i. record {
@@ -58,23 +58,23 @@ pub no_packet : (b : List ℕ) → NameLaws b → (p : ServicePacket) (n : ℕ) 
 no_packet b laws p n f x (cut_header low) = omega (arith, header_within b (header_of p) x.header)
 no_packet b laws p n f x (in_questions h g r) =
     let same : length p.questions ≡ h.questions = ap (λ (k : PacketHeader). k.questions) (one_header b (header_of p) h x.header g) in
-    no_row (QuestionAt b) (QuestionFails b) (single_question b laws) HEADER_LENGTH x.behind p.questions f x.questions
+    no_row (QuestionAt b) (QuestionFails b) (single_question b laws) HEADER_LENGTH x.after p.questions f x.questions
     (subst (λ (k : ℕ). RowFails (QuestionAt b) (QuestionFails b) HEADER_LENGTH k f) (sym same) r)
-no_packet b laws p n f x (in_records h qs behind g before count r) =
+no_packet b laws p n f x (in_records h qs after g before count r) =
     let header : header_of p ≡ h = one_header b (header_of p) h x.header g in
     let few : length p.questions ≡ length qs = ap (λ (k : PacketHeader). k.questions) header ∙ sym count in
-    let questions = one_row (QuestionAt b) (QuestionFails b) (single_question b laws) HEADER_LENGTH x.behind behind p.questions qs x.questions before few in
+    let questions = one_row (QuestionAt b) (QuestionFails b) (single_question b laws) HEADER_LENGTH x.after after p.questions qs x.questions before few in
     let same : length (records_of p) ≡ record_count h = length-records_of p ∙ ap record_count header in
-    let moved : RowFails (RecordAt b) (RecordFails b) x.behind (record_count h) f = subst (λ (k : ℕ). RowFails (RecordAt b) (RecordFails b) k (record_count h) f) (sym questions.1) r in
-    no_row (RecordAt b) (RecordFails b) (single_record b laws) x.behind n (records_of p) f x.records
-    (subst (λ (k : ℕ). RowFails (RecordAt b) (RecordFails b) x.behind k f) (sym same) moved)
+    let moved : RowFails (RecordAt b) (RecordFails b) x.after (record_count h) f = subst (λ (k : ℕ). RowFails (RecordAt b) (RecordFails b) k (record_count h) f) (sym questions.1) r in
+    no_row (RecordAt b) (RecordFails b) (single_record b laws) x.after n (records_of p) f x.records
+    (subst (λ (k : ℕ). RowFails (RecordAt b) (RecordFails b) x.after k f) (sym same) moved)
 
--- a fault in the questions and one behind them
-questions_apart : (b : List ℕ) → NameLaws b → (f : ServiceFault) (h g : PacketHeader) (qs : List Question) (behind : ℕ) → HasHeader b h → HasHeader b g →
-    RowFails (QuestionAt b) (QuestionFails b) HEADER_LENGTH h.questions f → Row (QuestionAt b) HEADER_LENGTH qs behind → length qs ≡ g.questions → ⊥
-questions_apart b laws f h g qs behind x y r before count =
+-- a fault in the questions and one after them
+questions_apart : (b : List ℕ) → NameLaws b → (f : ServiceFault) (h g : PacketHeader) (qs : List Question) (after : ℕ) → HasHeader b h → HasHeader b g →
+    RowFails (QuestionAt b) (QuestionFails b) HEADER_LENGTH h.questions f → Row (QuestionAt b) HEADER_LENGTH qs after → length qs ≡ g.questions → ⊥
+questions_apart b laws f h g qs after x y r before count =
     let same : length qs ≡ h.questions = count ∙ ap (λ (k : PacketHeader). k.questions) (one_header b g h y x) in
-    no_row (QuestionAt b) (QuestionFails b) (single_question b laws) HEADER_LENGTH behind qs f before
+    no_row (QuestionAt b) (QuestionFails b) (single_question b laws) HEADER_LENGTH after qs f before
     (subst (λ (k : ℕ). RowFails (QuestionAt b) (QuestionFails b) HEADER_LENGTH k f) (sym same) r)
 
 pub one_packet_fault : (b : List ℕ) → NameLaws b → (f g : ServiceFault) → PacketFails b f → PacketFails b g → f ≡ g
@@ -87,8 +87,8 @@ one_packet_fault b laws f g (in_questions h x r) (in_questions k y s) =
 one_packet_fault b laws f g (in_questions h x r) (in_records k qs n y before count s) = absurd (questions_apart b laws f h k qs n x y r before count)
 one_packet_fault b laws f g (in_records h qs n x before count r) (cut_header few) = absurd (omega (arith, header_within b h x))
 one_packet_fault b laws f g (in_records h qs n x before count r) (in_questions k y s) = absurd (questions_apart b laws g k h qs n y x s before count)
-one_packet_fault b laws f g (in_records h qs n x before count r) (in_records k rs m y behind counts s) =
+one_packet_fault b laws f g (in_records h qs n x before count r) (in_records k rs m y after counts s) =
     let few : length qs ≡ length rs = count ∙ ap (λ (z : PacketHeader). z.questions) (one_header b h k x y) ∙ sym counts in
-    let same = one_row (QuestionAt b) (QuestionFails b) (single_question b laws) HEADER_LENGTH n m qs rs before behind few in
+    let same = one_row (QuestionAt b) (QuestionFails b) (single_question b laws) HEADER_LENGTH n m qs rs before after few in
     one_row_fault (RecordAt b) (RecordFails b) (single_record b laws) n (record_count h) (record_count k) f g r
     (subst (λ (z : ℕ). RowFails (RecordAt b) (RecordFails b) z (record_count k) g) (sym same.1) s)

@@ -1,4 +1,4 @@
--- Bytes cut into pieces of one size, one behind the other.
+-- Bytes cut into pieces of one size, one after the other.
 use Rattle.std.proofs.Common.{◌≡◌, ℕ, ◌+◌, ◌*◌, ◌/◌, ◌%◌, ◌<◌, ◌≤◌, List, [], ◌∷◌, ◌++◌, length, take, drop, get_or, zero, suc, refl, ap, sym, ◌∙◌, arith, length-drop}
 use Rattle.std.proofs.Math.Nat.{mul-suc}
 use Rattle.std.proofs.lemmas.List.{take-append-drop, length-take-le, drop-drop, get_or-drop}
@@ -17,13 +17,13 @@ AreSmall bs = (i : ℕ) → get_or bs i 0 < 256
 none_small : AreSmall []
 none_small i = omega arith
 
-small_take : (n : ℕ) (bs : List ℕ) → AreSmall bs → AreSmall (take n bs)
+pub small_take : (n : ℕ) (bs : List ℕ) → AreSmall bs → AreSmall (take n bs)
 small_take zero bs s i = none_small i
 small_take (suc n) [] s i = none_small i
 small_take (suc n) (b ∷ bs) s zero = s 0
 small_take (suc n) (b ∷ bs) s (suc i) = small_take n bs (λ j. s (suc j)) i
 
-small_drop : (n : ℕ) (bs : List ℕ) → AreSmall bs → AreSmall (drop n bs)
+pub small_drop : (n : ℕ) (bs : List ℕ) → AreSmall bs → AreSmall (drop n bs)
 small_drop n bs s i = rw (get_or-drop n bs i 0) (s (n + i))
 
 pub length-pieces : {A : Type 0} (size : ℕ) (item : List ℕ → A) (n : ℕ) (bs : List ℕ) → length (pieces size item n bs) ≡ n

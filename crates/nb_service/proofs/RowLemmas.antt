@@ -20,9 +20,9 @@ row-snoc S at m n xs x r h = row-append S at m n xs (x ∷ []) r (row_one S m n 
 pub fails_longer : {A : Type 0} (S : ℕ → A → ℕ → Type 0) (F : ℕ → ServiceFault → Type 0) (at m n : ℕ) (f : ServiceFault) → RowFails S F at m f → m ≤ n → RowFails S F at n f
 fails_longer S F at m n f h le = record { items = h.items; here = h.here; before = h.before; fewer = omega (arith, h.fewer); fails = h.fails }
 
--- a fault behind some items is one of the whole row
-pub fails_behind : {A : Type 0} (S : ℕ → A → ℕ → Type 0) (F : ℕ → ServiceFault → Type 0) (at m n : ℕ) (xs : List A) (f : ServiceFault) → Row S at xs m → RowFails S F m n f → RowFails S F at (length xs + n) f
-fails_behind S F at m n xs f r h =
+-- a fault after some items is one of the whole row
+pub fails_after : {A : Type 0} (S : ℕ → A → ℕ → Type 0) (F : ℕ → ServiceFault → Type 0) (at m n : ℕ) (xs : List A) (f : ServiceFault) → Row S at xs m → RowFails S F m n f → RowFails S F at (length xs + n) f
+fails_after S F at m n xs f r h =
     record {
       items = xs ++ h.items;
       here = h.here;
@@ -58,13 +58,13 @@ row_no_fault S F s at m n (x ∷ xs) (y ∷ ys) f (more b k ks i r) (more c l ls
 pub no_row : {A : Type 0} (S : ℕ → A → ℕ → Type 0) (F : ℕ → ServiceFault → Type 0) → Single S F → (at m : ℕ) (xs : List A) (f : ServiceFault) → Row S at xs m → RowFails S F at (length xs) f → ⊥
 no_row S F s at m xs f r h = row_no_fault S F s at m h.here xs h.items f r h.before h.fewer h.fails
 
-pub one_fault_behind : {A : Type 0} (S : ℕ → A → ℕ → Type 0) (F : ℕ → ServiceFault → Type 0) → Single S F → (at m n : ℕ) (xs ys : List A) (f g : ServiceFault) → Row S at xs m → Row S at ys n → F m f → F n g → f ≡ g
-one_fault_behind S F s at m n [] [] f g none none h i = s.one_fault at f g h i
-one_fault_behind S F s at m n [] (y ∷ ys) f g none (more b k ks j r) h i = absurd (s.apart at k b f j h)
-one_fault_behind S F s at m n (x ∷ xs) [] f g (more b k ks j r) none h i = absurd (s.apart at k b g j i)
-one_fault_behind S F s at m n (x ∷ xs) (y ∷ ys) f g (more b k ks j r) (more c l ls o t) h i =
+pub one_fault_after : {A : Type 0} (S : ℕ → A → ℕ → Type 0) (F : ℕ → ServiceFault → Type 0) → Single S F → (at m n : ℕ) (xs ys : List A) (f g : ServiceFault) → Row S at xs m → Row S at ys n → F m f → F n g → f ≡ g
+one_fault_after S F s at m n [] [] f g none none h i = s.one_fault at f g h i
+one_fault_after S F s at m n [] (y ∷ ys) f g none (more b k ks j r) h i = absurd (s.apart at k b f j h)
+one_fault_after S F s at m n (x ∷ xs) [] f g (more b k ks j r) none h i = absurd (s.apart at k b g j i)
+one_fault_after S F s at m n (x ∷ xs) (y ∷ ys) f g (more b k ks j r) (more c l ls o t) h i =
     let same = s.one at k l b c j o in
-    one_fault_behind S F s b m n ks ls f g r (subst (λ (z : ℕ). Row S z ls n) (sym same.1) t) h i
+    one_fault_after S F s b m n ks ls f g r (subst (λ (z : ℕ). Row S z ls n) (sym same.1) t) h i
 
 pub one_row_fault : {A : Type 0} (S : ℕ → A → ℕ → Type 0) (F : ℕ → ServiceFault → Type 0) → Single S F → (at m n : ℕ) (f g : ServiceFault) → RowFails S F at m f → RowFails S F at n g → f ≡ g
-one_row_fault S F s at m n f g a b = one_fault_behind S F s at a.here b.here a.items b.items f g a.before b.before a.fails b.fails
+one_row_fault S F s at m n f g a b = one_fault_after S F s at a.here b.here a.items b.items f g a.before b.before a.fails b.fails

@@ -23,11 +23,11 @@ packet_of id word questions answers authorities additional =
 abbrev pub empty_packet : ℕ → ℕ → ServicePacket
 empty_packet id word = packet_of id word [] [] [] []
 
--- the packet with one more question, behind the others
+-- the packet with one more question, after the others
 abbrev pub with_question : ServicePacket → Question → ServicePacket
 with_question packet question = record packet { questions = packet.questions ++ question ∷ [] }
 
--- with_record packet section entry: the packet with one more record in this section, behind the others
+-- with_record packet section entry: the packet with one more record in this section, after the others
 abbrev pub with_record : ServicePacket → Section → ResourceRecord → ServicePacket
 with_record packet Answer entry = record packet { answers = packet.answers ++ entry ∷ [] }
 with_record packet Authority entry = record packet { authorities = packet.authorities ++ entry ∷ [] }

@@ -11,7 +11,7 @@ use Rattle.nb_names.specs.Labels.{pointer_bytes}
 use Rattle.nb_service.specs.declared.limits.TheConstants.{HEADER_LENGTH}
 use Rattle.nb_service.specs.declared.question.Question.{Question}
 use Rattle.nb_service.specs.Header.{PacketHeader}
-use Rattle.nb_service.specs.Record.{ResourceData, octets, target, ResourceRecord, IsDataOf}
+use Rattle.nb_service.specs.Record.{ResourceData, of_bytes, of_domain, ResourceRecord, IsRdataOf}
 use Rattle.nb_service.specs.Packet.{ServicePacket, header_of, records_of}
 use Rattle.nb_service.specs.Building.{IsCounted}
 
@@ -42,8 +42,8 @@ name_bytes questions name =
 
 -- the bytes of RDATA
 abbrev pub rdata_bytes : ResourceData → List ℕ
-rdata_bytes (octets bytes) = bytes
-rdata_bytes (target labels) = spelling labels
+rdata_bytes (of_bytes bytes) = bytes
+rdata_bytes (of_domain labels) = spelling labels
 
 -- record_bytes questions entry: the bytes of a record, where these are the packet's questions: RR_NAME,
 -- RR_TYPE, RR_CLASS, TTL, RDLENGTH, RDATA
@@ -72,8 +72,8 @@ pub record IsQuestion (question : Question) : Type 0 where
 
 -- a name in RDATA is one
 abbrev pub IsNamedData : ResourceData → Type 0
-IsNamedData (octets bytes) = Unit {0}
-IsNamedData (target labels) = IsDomain labels
+IsNamedData (of_bytes bytes) = Unit {0}
+IsNamedData (of_domain labels) = IsDomain labels
 
 -- the numbers of a record fit their fields, its labels make a name, and its kind has such RDATA
 pub record IsRecord (entry : ResourceRecord) : Type 0 where
@@ -81,7 +81,7 @@ pub record IsRecord (entry : ResourceRecord) : Type 0 where
   pub kind : entry.kind < 2 ^ 16
   pub class : entry.class < 2 ^ 16
   pub ttl : entry.ttl < 2 ^ 32
-  pub rdata : IsDataOf entry.kind entry.rdata
+  pub rdata : IsRdataOf entry.kind entry.rdata
   pub named : IsNamedData entry.rdata
 
 -- each part of a packet fits its field

@@ -1,11 +1,11 @@
--- The texts of faults (own). Each fault's number is written in decimal.
+-- The texts of faults (our choice). Each fault's number is written in decimal.
 use Rattle.std.specs.Prelude.{ℕ, List, ◌++◌, codes}
 use Rattle.std.specs.Fmt.{decimal}
 use Rattle.nb_names.specs.FaultTexts.{name_fault_text}
 use Rattle.nb_service.specs.declared.fault.ServiceFault.{ServiceFault}
 use Rattle.nb_service.specs.declared.fault.ServiceFault.TheVariants.{Truncated, Name, NameRdata, NoMemory}
 
--- what is told of bytes that could not be decoded
+-- what is reported of bytes that could not be decoded
 abbrev pub service_fault_text : ServiceFault → List ℕ
 service_fault_text (Truncated at) = codes "truncated " ++ decimal at
 service_fault_text (Name fault) = codes "name: " ++ name_fault_text fault

@@ -1,5 +1,5 @@
 -- The header of a name service packet (RFC 1002 section 4.2.1.1), twelve bytes. All offsets count
--- from the packet's first byte; the numbers behind the names of fields are their widths in bytes.
+-- from the packet's first byte; the numbers after the names of fields are their widths in bytes.
 --   at 0  NAME_TRN_ID 2 · at 2  R, OPCODE, NM_FLAGS and RCODE 2 · at 4  QDCOUNT 2 · at 6  ANCOUNT 2
 --   at 8  NSCOUNT 2 · at 10  ARCOUNT 2
 use Rattle.std.specs.Prelude.{ℕ, List}

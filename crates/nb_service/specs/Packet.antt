@@ -1,10 +1,13 @@
 -- Name service packets, and how they stand in bytes (RFC 1002 section 4.2.1). All offsets count from
--- the packet's first byte. Numbers behind the names of fields are their widths in bytes, and a field
--- `behind` is the offset behind a name.
+-- the packet's first byte. Numbers after the names of fields are their widths in bytes, and a field
+-- `after` is the offset after a name.
 --
--- Names are read over all of the bytes, their pointers followed, so a label may reach into bytes behind
--- the last record. Those bytes count as no part of the packet (own). Own: the RDATA of a record of kind NS is a domain name, which ends
--- where the RDATA does.
+-- Names are read over all of the bytes, their pointers followed, so a label may reach into bytes after
+-- the last record.
+--
+-- Own: those bytes count as no part of the packet.
+--
+-- Own: the RDATA of a record of kind NS is a domain name, which ends where the RDATA does.
 use Rattle.std.specs.Prelude.{◌≡◌, ◌≢◌, ℕ, ◌+◌, ◌≤◌, List, [], ◌∷◌, ◌++◌, length}
 use Rattle.std.specs.Int.{w16, w32}
 use Rattle.nb_names.specs.declared.pointers.Pointers.TheVariants.{Followed}
@@ -14,40 +17,40 @@ use Rattle.nb_service.specs.declared.limits.TheConstants.{HEADER_LENGTH}
 use Rattle.nb_service.specs.declared.question.Question.{Question}
 use Rattle.nb_names.specs.Numbers.{NumberAt}
 use Rattle.nb_service.specs.Header.{PacketHeader, HasHeader}
-use Rattle.nb_service.specs.Record.{ResourceData, octets, target, ResourceRecord}
+use Rattle.nb_service.specs.Record.{ResourceData, of_bytes, of_domain, ResourceRecord}
 
 -- QuestionAt packet at question next: at this offset the question stands (RFC 1002 section 4.2.1.2):
 -- QUESTION_NAME, then QUESTION_TYPE 2, QUESTION_CLASS 2
 pub record QuestionAt (packet : List ℕ) (at : ℕ) (question : Question) (next : ℕ) : Type 0 where
-  pub behind : ℕ
-  pub name : NameAt packet Followed at question.name behind
-  pub kind : NumberAt packet behind w16 question.kind
-  pub class : NumberAt packet (behind + 2) w16 question.class
-  pub end : next ≡ behind + 4
+  pub after : ℕ
+  pub name : NameAt packet Followed at question.name after
+  pub kind : NumberAt packet after w16 question.kind
+  pub class : NumberAt packet (after + 2) w16 question.class
+  pub end : next ≡ after + 4
 
--- DataAt packet at size kind rdata: at this offset stand `size` bytes, which are this RDATA of a record
+-- RdataAt packet at size kind rdata: at this offset stand `size` bytes, which are this RDATA of a record
 -- of this kind
-pub data DataAt (packet : List ℕ) (at size kind : ℕ) : ResourceData → Type 0 where
-  bytes : (bytes : List ℕ) → kind ≢ NS → length bytes ≡ size → StandsAt packet at bytes
-      → DataAt packet at size kind (octets bytes)
-  domain : (labels : List (List ℕ)) → kind ≡ NS → NameAt packet Followed at labels (at + size)
-      → DataAt packet at size kind (target labels)
+pub data RdataAt (packet : List ℕ) (at size kind : ℕ) : ResourceData → Type 0 where
+  bytes_there : (bytes : List ℕ) → kind ≢ NS → length bytes ≡ size → StandsAt packet at bytes
+      → RdataAt packet at size kind (of_bytes bytes)
+  domain_there : (labels : List (List ℕ)) → kind ≡ NS → NameAt packet Followed at labels (at + size)
+      → RdataAt packet at size kind (of_domain labels)
 
 -- RecordAt packet at entry next: at this offset the record stands (RFC 1002 section 4.2.1.3): RR_NAME,
 -- then RR_TYPE 2, RR_CLASS 2, TTL 4, RDLENGTH 2, and RDATA of RDLENGTH bytes
 pub record RecordAt (packet : List ℕ) (at : ℕ) (entry : ResourceRecord) (next : ℕ) : Type 0 where
-  pub behind : ℕ
+  pub after : ℕ
   pub size : ℕ
-  pub name : NameAt packet Followed at entry.name behind
-  pub kind : NumberAt packet behind w16 entry.kind
-  pub class : NumberAt packet (behind + 2) w16 entry.class
-  pub ttl : NumberAt packet (behind + 4) w32 entry.ttl
-  pub rdlength : NumberAt packet (behind + 8) w16 size
-  pub whole : behind + 10 + size ≤ length packet
-  pub rdata : DataAt packet (behind + 10) size entry.kind entry.rdata
-  pub end : next ≡ behind + 10 + size
+  pub name : NameAt packet Followed at entry.name after
+  pub kind : NumberAt packet after w16 entry.kind
+  pub class : NumberAt packet (after + 2) w16 entry.class
+  pub ttl : NumberAt packet (after + 4) w32 entry.ttl
+  pub rdlength : NumberAt packet (after + 8) w16 size
+  pub whole : after + 10 + size ≤ length packet
+  pub rdata : RdataAt packet (after + 10) size entry.kind entry.rdata
+  pub end : next ≡ after + 10 + size
 
--- Row Stands at items next: from this offset on the items stand, one behind the other
+-- Row Stands at items next: from this offset on the items stand, one after the other
 pub data Row {A : Type 0} (Stands : ℕ → A → ℕ → Type 0) : ℕ → List A → ℕ → Type 0 where
   none : {at : ℕ} → Row Stands at [] at
   more : {at next : ℕ} (between : ℕ) (item : A) (items : List A)
@@ -81,7 +84,18 @@ records_of packet = packet.answers ++ (packet.authorities ++ packet.additional)
 -- IsPacket bytes packet used: these bytes begin with this packet, which takes up `used` of them: its
 -- header, its questions, then its records
 pub record IsPacket (bytes : List ℕ) (packet : ServicePacket) (used : ℕ) : Type 0 where
-  pub behind : ℕ
+  pub after : ℕ
   pub header : HasHeader bytes (header_of packet)
-  pub questions : Row (QuestionAt bytes) HEADER_LENGTH packet.questions behind
-  pub records : Row (RecordAt bytes) behind (records_of packet) used
+  pub questions : Row (QuestionAt bytes) HEADER_LENGTH packet.questions after
+  pub records : Row (RecordAt bytes) after (records_of packet) used
+
+-- HasSections bytes packet used: the questions stand after the header, and the answers, the authorities
+-- and the additional records one after the other from where the questions end
+pub record HasSections (bytes : List ℕ) (packet : ServicePacket) (used : ℕ) : Type 0 where
+  pub answers : ℕ
+  pub authorities : ℕ
+  pub additional : ℕ
+  pub first : Row (QuestionAt bytes) HEADER_LENGTH packet.questions answers
+  pub second : Row (RecordAt bytes) answers packet.answers authorities
+  pub third : Row (RecordAt bytes) authorities packet.authorities additional
+  pub last : Row (RecordAt bytes) additional packet.additional used

@@ -7,8 +7,8 @@ use Rattle.nb_service.specs.declared.rdata.Rdata.TheVariants.{Bytes, Domain}
 
 -- the RDATA of a record: bytes, or the labels of a domain name
 pub data ResourceData : Type 0 where
-  octets : List ℕ → ResourceData
-  target : List (List ℕ) → ResourceData
+  of_bytes : List ℕ → ResourceData
+  of_domain : List (List ℕ) → ResourceData
 
 -- a record: the labels of its name, its kind, class, time to live in seconds, and RDATA
 pub record ResourceRecord : Type 0 where
@@ -23,13 +23,13 @@ abbrev pub record_of : List (List ℕ) → ℕ → ℕ → ℕ → ResourceData 
 record_of name kind class ttl rdata =
     record { name = name; kind = kind; class = class; ttl = ttl; rdata = rdata }
 
--- IsDataOf kind rdata: records of this kind may have this RDATA: a domain name where the kind is NS, and
--- elsewhere bytes, up to the 65,535 that RDLENGTH can tell
-abbrev pub IsDataOf : ℕ → ResourceData → Type 0
-IsDataOf kind (octets bytes) = (kind ≢ NS) × (length bytes ≤ MAX_RDATA)
-IsDataOf kind (target labels) = kind ≡ NS
+-- IsRdataOf kind rdata: records of this kind may have this RDATA: a domain name where the kind is NS, and
+-- elsewhere bytes, up to the 65,535 that RDLENGTH can hold
+abbrev pub IsRdataOf : ℕ → ResourceData → Type 0
+IsRdataOf kind (of_bytes bytes) = (kind ≢ NS) × (length bytes ≤ MAX_RDATA)
+IsRdataOf kind (of_domain labels) = kind ≡ NS
 
 -- the RDATA that a value of the code stands for
-abbrev pub data_of : Rdata → ResourceData
-data_of (Bytes bytes) = octets bytes.now
-data_of (Domain name) = target name
+abbrev pub rdata_of : Rdata → ResourceData
+rdata_of (Bytes bytes) = of_bytes bytes.now
+rdata_of (Domain name) = of_domain name

@@ -7,11 +7,11 @@ use Rattle.nb_names.specs.Name.{NetbiosName, labels_of_name}
 use Rattle.nb_service.specs.declared.classes.TheConstants.{IN}
 use Rattle.nb_service.specs.declared.kinds.TheConstants.{NB, NBSTAT}
 use Rattle.nb_service.specs.declared.question.Question.{Question}
-use Rattle.nb_service.specs.Record.{octets, record_of}
+use Rattle.nb_service.specs.Record.{of_bytes, record_of}
 use Rattle.nb_service.specs.Packet.{ServicePacket}
 use Rattle.nb_service.specs.Building.{packet_of}
 
--- request_word opcode desired broadcast: a flag word with this OPCODE, and RD and B as told
+-- request_word opcode desired broadcast: a flag word with this OPCODE, and RD and B as asked
 abbrev pub request_word : ℕ → ℕ → Bool → ℕ
 request_word opcode desired true = opcode * 2 ^ 11 + desired * 2 ^ 8 + 2 ^ 4
 request_word opcode desired false = opcode * 2 ^ 11 + desired * 2 ^ 8
@@ -28,7 +28,7 @@ inquiry id word kind name = packet_of id word (asking kind name ∷ []) [] [] []
 abbrev pub claim : ℕ → ℕ → NetbiosName → ℕ → List ℕ → ServicePacket
 claim id word name ttl entry =
     packet_of id word (asking NB name ∷ []) [] []
-    (record_of (labels_of_name name) NB IN ttl (octets entry) ∷ [])
+    (record_of (labels_of_name name) NB IN ttl (of_bytes entry) ∷ [])
 
 -- a name query: opcode 0, RD set
 abbrev pub query_packet : ℕ → NetbiosName → Bool → ServicePacket

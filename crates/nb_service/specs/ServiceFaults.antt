@@ -1,8 +1,8 @@
 -- Why bytes begin with no name service packet, and where: the first fault in reading order (own). All
 -- offsets count from the first byte.
 --
--- A missing byte is told by the number of bytes that are there, which is the first missing one's
--- offset. A name's own fault is told as the name's.
+-- A missing byte is reported by the number of bytes that are there, which is the first missing one's
+-- offset. A name's own fault is reported as the name's.
 use Rattle.std.specs.Prelude.{◌≡◌, ◌≢◌, ℕ, ◌+◌, ◌<◌, ◌≤◌, List, length}
 use Rattle.std.specs.Int.{w16}
 use Rattle.nb_names.specs.declared.pointers.Pointers.TheVariants.{Followed}
@@ -16,46 +16,46 @@ use Rattle.nb_service.specs.declared.limits.TheConstants.{HEADER_LENGTH}
 use Rattle.nb_service.specs.declared.question.Question.{Question}
 use Rattle.nb_names.specs.Numbers.{NumberAt}
 use Rattle.nb_service.specs.Header.{PacketHeader, HasHeader}
-use Rattle.nb_service.specs.Packet.{QuestionAt, RecordAt, Row, ServicePacket, IsPacket}
+use Rattle.nb_service.specs.Packet.{QuestionAt, RecordAt, Row, ServicePacket, records_of, IsPacket}
 
 -- QuestionFails packet at fault: no question stands at this offset, and this is its first fault
 pub data QuestionFails (packet : List ℕ) (at : ℕ) : ServiceFault → Type 0 where
   question_name : (fault : NameFault) → FaultAt packet Followed at fault
       → QuestionFails packet at (Name fault)
-  question_cut : (labels : List (List ℕ)) (behind : ℕ) → NameAt packet Followed at labels behind
-      → length packet < behind + 4 → QuestionFails packet at (Truncated (length packet))
+  question_cut : (labels : List (List ℕ)) (after : ℕ) → NameAt packet Followed at labels after
+      → length packet < after + 4 → QuestionFails packet at (Truncated (length packet))
 
--- DataBegins packet at kind size rdata: a record at this offset is of this kind, and has `size` bytes
+-- RdataBegins packet at kind size rdata: a record at this offset is of this kind, and has `size` bytes
 -- of RDATA, to begin at `rdata`
-pub record DataBegins (packet : List ℕ) (at kind size rdata : ℕ) : Type 0 where
+pub record RdataBegins (packet : List ℕ) (at kind size rdata : ℕ) : Type 0 where
   pub labels : List (List ℕ)
-  pub behind : ℕ
-  pub name : NameAt packet Followed at labels behind
-  pub kind_there : NumberAt packet behind w16 kind
-  pub size_there : NumberAt packet (behind + 8) w16 size
-  pub begin : rdata ≡ behind + 10
+  pub after : ℕ
+  pub name : NameAt packet Followed at labels after
+  pub kind_there : NumberAt packet after w16 kind
+  pub size_there : NumberAt packet (after + 8) w16 size
+  pub begin : rdata ≡ after + 10
 
--- TargetFails packet at size fault: the `size` bytes at this offset are no domain name, and this is the
+-- DomainFails packet at size fault: the `size` bytes at this offset are no domain name, and this is the
 -- first fault
-pub data TargetFails (packet : List ℕ) (at size : ℕ) : ServiceFault → Type 0 where
-  target_name : (fault : NameFault) → FaultAt packet Followed at fault
-      → TargetFails packet at size (Name fault)
-  target_end : (labels : List (List ℕ)) (next : ℕ) → NameAt packet Followed at labels next
-      → next ≢ at + size → TargetFails packet at size (NameRdata at)
+pub data DomainFails (packet : List ℕ) (at size : ℕ) : ServiceFault → Type 0 where
+  domain_name : (fault : NameFault) → FaultAt packet Followed at fault
+      → DomainFails packet at size (Name fault)
+  domain_end : (labels : List (List ℕ)) (next : ℕ) → NameAt packet Followed at labels next
+      → next ≢ at + size → DomainFails packet at size (NameRdata at)
 
 -- RecordFails packet at fault: no record stands at this offset, and this is its first fault
 pub data RecordFails (packet : List ℕ) (at : ℕ) : ServiceFault → Type 0 where
   record_name : (fault : NameFault) → FaultAt packet Followed at fault
       → RecordFails packet at (Name fault)
-  record_cut : (labels : List (List ℕ)) (behind : ℕ) → NameAt packet Followed at labels behind
-      → length packet < behind + 10 → RecordFails packet at (Truncated (length packet))
-  rdata_cut : (kind size rdata : ℕ) → DataBegins packet at kind size rdata
+  record_cut : (labels : List (List ℕ)) (after : ℕ) → NameAt packet Followed at labels after
+      → length packet < after + 10 → RecordFails packet at (Truncated (length packet))
+  rdata_cut : (kind size rdata : ℕ) → RdataBegins packet at kind size rdata
       → length packet < rdata + size → RecordFails packet at (Truncated (length packet))
-  rdata_fails : {fault : ServiceFault} (size rdata : ℕ) → DataBegins packet at NS size rdata
-      → rdata + size ≤ length packet → TargetFails packet rdata size fault → RecordFails packet at fault
+  rdata_fails : {fault : ServiceFault} (size rdata : ℕ) → RdataBegins packet at NS size rdata
+      → rdata + size ≤ length packet → DomainFails packet rdata size fault → RecordFails packet at fault
 
 -- RowFails Stands Fails at count fault: from this offset on some items stand, fewer than the count, and
--- behind them the fault is told
+-- after them the fault applies
 pub record RowFails {A : Type 0} (Stands : ℕ → A → ℕ → Type 0) (Fails : ℕ → ServiceFault → Type 0) (at count : ℕ) (fault : ServiceFault) : Type 0 where
   pub items : List A
   pub here : ℕ
@@ -81,14 +81,15 @@ pub data PacketFails (bytes : List ℕ) : ServiceFault → Type 0 where
   in_questions : {fault : ServiceFault} (header : PacketHeader) → HasHeader bytes header
       → QuestionsFail bytes HEADER_LENGTH header.questions fault
       → PacketFails bytes fault
-  in_records : {fault : ServiceFault} (header : PacketHeader) (questions : List Question) (behind : ℕ)
-      → HasHeader bytes header → Row (QuestionAt bytes) HEADER_LENGTH questions behind
+  in_records : {fault : ServiceFault} (header : PacketHeader) (questions : List Question) (after : ℕ)
+      → HasHeader bytes header → Row (QuestionAt bytes) HEADER_LENGTH questions after
       → length questions ≡ header.questions
-      → RecordsFail bytes behind (record_count header) fault
+      → RecordsFail bytes after (record_count header) fault
       → PacketFails bytes fault
 
 -- IsRefused bytes fault: the answer for these bytes: the first fault where they begin with no packet,
--- want of memory only where they begin with one
+-- that memory ran out only where they begin with one that has an item
 pub data IsRefused (bytes : List ℕ) : ServiceFault → Type 0 where
   malformed : {fault : ServiceFault} → PacketFails bytes fault → IsRefused bytes fault
-  no_memory : (packet : ServicePacket) (used : ℕ) → IsPacket bytes packet used → IsRefused bytes NoMemory
+  no_memory : (packet : ServicePacket) (used : ℕ) → IsPacket bytes packet used
+      → 0 < length packet.questions + length (records_of packet) → IsRefused bytes NoMemory

@@ -9,7 +9,7 @@ use Rattle.nb_service.specs.declared.kinds.TheConstants.{NB, NBSTAT}
 use Rattle.nb_service.specs.declared.limits.TheConstants.{ENTRY_LENGTH, NODE_NAME_LENGTH}
 use Rattle.nb_service.specs.declared.address_entry.AddressEntry.{AddressEntry}
 use Rattle.nb_service.specs.declared.node_name.NodeName.{NodeName}
-use Rattle.nb_service.specs.Record.{octets, ResourceRecord}
+use Rattle.nb_service.specs.Record.{of_bytes, ResourceRecord}
 
 -- the bytes of an entry: NB_FLAGS 2, NB_ADDRESS 4
 abbrev pub entry_bytes : AddressEntry → List ℕ
@@ -19,7 +19,7 @@ entry_bytes entry = to_be_bytes w16 entry.flags ++ entry.address
 -- have
 pub record HasEntries (entry : ResourceRecord) (bytes : List ℕ) : Type 0 where
   pub kind : entry.kind ≡ NB
-  pub rdata : entry.rdata ≡ octets bytes
+  pub rdata : entry.rdata ≡ of_bytes bytes
   pub whole : length bytes % ENTRY_LENGTH ≡ 0
 
 -- the bytes of one of a node's names: its sixteen bytes, then NAME_FLAGS 2
@@ -39,5 +39,5 @@ after_count status = flat_map node_name_bytes status.names ++ status.statistics
 -- count, and then these bytes, enough of them for so many names
 pub record HasStatus (entry : ResourceRecord) (count : ℕ) (rest : List ℕ) : Type 0 where
   pub kind : entry.kind ≡ NBSTAT
-  pub rdata : entry.rdata ≡ octets (count ∷ rest)
+  pub rdata : entry.rdata ≡ of_bytes (count ∷ rest)
   pub room : NODE_NAME_LENGTH * count ≤ length rest

@@ -25,7 +25,7 @@ impl<'a> Model for AddressEntries<'a> {
 }
 
 impl<'a> AddressEntries<'a> {
-    /// The entries that these bytes are, one behind the other.
+    /// The entries that these bytes are, one after the other.
     pub(crate) fn of_bytes(bytes: &'a [u8]) -> Self
         requires { length bytes.now % ENTRY_LENGTH ≡ 0 }
         ensures { flat_map entry_bytes result ≡ bytes.entry.now }

@@ -2,33 +2,33 @@
 ghost use Rattle.std.specs.Prelude.{◌≡◌, ◌≤◌, ℕ, length, IfOk, IfErr, OnOk, MatchResult};
 ghost use Rattle.nb_service.specs.declared.fault.ServiceFault.TheVariants.{NoMemory};
 ghost use Rattle.nb_service.specs.Header.{HasHeader};
-ghost use Rattle.nb_service.specs.Packet.{ServicePacket, IsPacket};
-ghost use Rattle.nb_service.specs.Reading.{header_value, HasPacket, OrMemory};
+ghost use Rattle.nb_service.specs.Packet.{ServicePacket, IsPacket, HasSections};
+ghost use Rattle.nb_service.specs.Steps.{header_value, item_count, HasPacket, OrMemory};
 ghost use Rattle.nb_service.specs.ServiceFaults.{PacketFails, IsRefused};
 
 use crate::checking::{skip_questions, skip_records};
 use crate::fault::ServiceFault;
 use crate::header::{Header, read_header};
-use crate::laws::{one_packet, one_service_fault};
+use crate::laws::{one_packet, one_service_fault, sections_in_order};
 use crate::limits::HEADER_LENGTH;
 use crate::listing::{list_questions, list_records};
 use crate::packet::Packet;
 use std::alloc::Global;
 
-/// Checks the questions and records behind a header, without memory.
+/// Checks the questions and records after a header, without memory.
 fn check(bytes: &[u8], header: &Header) -> Result<(), ServiceFault>
     requires { HasHeader bytes.now (header_value header.now) }
     ensures found { OnOk result (HasPacket bytes.now) }
     ensures fault { IfErr result (PacketFails bytes.now) }
 {
-    let behind = skip_questions(bytes, HEADER_LENGTH, header.questions as usize)?;
+    let after = skip_questions(bytes, HEADER_LENGTH, header.questions as usize)?;
     let records = header.answers as usize
         + (header.authorities as usize + header.additional as usize);
-    skip_records(bytes, behind, records)?;
+    skip_records(bytes, after, records)?;
     Ok(())
 }
 
-/// Builds the packet behind a header, and its length.
+/// Builds the packet after a header, and its length.
 fn build<'a>(
     alloc: Global,
     bytes: &'a [u8],
@@ -36,7 +36,7 @@ fn build<'a>(
 ) -> Result<(Packet<'a>, usize), ServiceFault>
     requires { HasHeader bytes.now (header_value header.now) }
     ensures found { IfOk result (λ read. IsPacket bytes.now read.0 read.1) }
-    ensures fault { IfErr result (OrMemory (PacketFails bytes.now)) }
+    ensures fault { IfErr result (OrMemory (item_count (header_value header.now)) (PacketFails bytes.now)) }
 {
     let (questions, at) = list_questions(alloc, bytes, HEADER_LENGTH, header.questions)?;
     let (answers, at) = list_records(alloc, bytes, at, header.answers)?;
@@ -56,14 +56,15 @@ fn build<'a>(
 /// Decodes the packet at the front of bytes, and how many of them it takes up.
 ///
 /// Names are read over all of the bytes, with pointers followed; offsets in pointers and in faults
-/// count from the first byte. What stands behind the last record doesn't count towards the length
+/// count from the first byte. What stands after the last record doesn't count towards the length
 /// (own); only a label that a pointer leads to can reach into it. Numbers and bits without a
 /// meaning here come through unchanged. A record's bytes are lent from the input. Memory is taken
 /// for the four lists alone, once the whole packet has been checked.
 ///
 /// # Errors
 ///
-/// What is wrong first, read from the front; `NoMemory` only where the bytes begin with a packet.
+/// What is wrong first, read from the front; `NoMemory` only where the bytes begin with a packet
+/// that has a question or a record.
 ///
 /// RFC 1002 section 4.2.1. That the RDATA of an NS record is a domain name, with pointers followed,
 /// which ends where the RDATA does, is our own rule.
@@ -73,14 +74,16 @@ pub fn decode<'a>(alloc: Global, bytes: &'a [u8]) -> Result<(Packet<'a>, usize),
     ensures only { (packet : ServicePacket) (used : ℕ) → IsPacket bytes.now packet used →
         MatchResult result (λ read. (read.0 ≡ packet) × (read.1 ≡ used))
         (λ fault. fault ≡ NoMemory) }
+    ensures sections { IfOk result (λ read. HasSections bytes.now read.0 read.1) }
     ensures within { IfOk result (λ read. read.1 ≤ length bytes.now) }
 
-    // Which fault it is, and where; want of memory only where a packet stands.
+    // Which fault it is, and where; NoMemory only where a packet with an item stands.
     ensures fault { IfErr result (IsRefused bytes.now) }
 {
-    // The laws on which the clause `only` stands; the calls do nothing.
+    // The laws on which the clauses `only` and `sections` stand; the calls do nothing.
     one_packet();
     one_service_fault();
+    sections_in_order();
     let header = read_header(bytes)?;
     check(bytes, &header)?;
     build(alloc, bytes, &header)

@@ -7,10 +7,11 @@ use std::fmt;
 
 /// Why a name service packet could not be decoded, and where.
 ///
-/// Offsets count from the packet's first byte. Of several faults the one nearest the front is told.
+/// Offsets count from the packet's first byte. Of several faults the first in
+/// reading order is answered: RDATA is there whole before the name in it is read.
 #[derive(Clone, Copy, Debug, PartialEq, Eq)]
 pub enum ServiceFault {
-    /// A byte of the header, of the numbers behind a name, or of a record's RDATA is missing. The
+    /// A byte of the header, of the numbers after a name, or of a record's RDATA is missing. The
     /// number is how many bytes there are: the place where one is missing.
     Truncated(usize),
     /// A name could not be read: that of a question or a record, or the one in the RDATA of an NS
@@ -18,7 +19,7 @@ pub enum ServiceFault {
     Name(NameFault),
     /// The name in the RDATA at this offset doesn't end where the RDATA does (own).
     NameRdata(usize),
-    /// Memory ran out. The bytes begin with a packet.
+    /// Memory ran out. The bytes begin with a packet that has a question or a record.
     NoMemory,
 }
 

@@ -1,17 +1,68 @@
 //! Laws of the definitions that the contracts cite. Each is proved; a call does nothing.
-ghost use Rattle.std.specs.Prelude.{◌≡◌, ℕ, List, ◌++◌, length};
+ghost use Rattle.std.specs.Prelude.{◌≡◌, ◌⊎◌, ℕ, ◌+◌, ◌*◌, ◌/◌, ◌%◌, ◌<◌, List, ◌++◌, length};
+ghost use Rattle.nb_names.specs.declared.pointers.Pointers.TheVariants.{Followed};
+ghost use Rattle.nb_names.specs.DomainName.{AreBytes};
+ghost use Rattle.nb_names.specs.Labels.{NameAt};
+ghost use Rattle.nb_service.specs.declared.classes.TheConstants.{IN};
+ghost use Rattle.nb_service.specs.declared.kinds.TheConstants.{A, NS, NULL, NB, NBSTAT};
+ghost use Rattle.nb_service.specs.declared.limits.TheConstants.{HEADER_LENGTH, MAX_ENTRIES, MAX_RDATA, ENTRY_LENGTH, NODE_NAME_LENGTH, UNIT_ID_LENGTH};
 ghost use Rattle.nb_service.specs.declared.fault.ServiceFault.{ServiceFault};
 ghost use Rattle.nb_service.specs.Encoding.{packet_bytes, IsWritable};
-ghost use Rattle.nb_service.specs.Packet.{ServicePacket, IsPacket};
+ghost use Rattle.nb_service.specs.Flags.{opcode_of, rcode_of};
+ghost use Rattle.nb_service.specs.Packet.{RecordAt, ServicePacket, IsPacket, HasSections};
+ghost use Rattle.nb_service.specs.Record.{ResourceRecord, of_domain};
 ghost use Rattle.nb_service.specs.ServiceFaults.{PacketFails};
 
-use nb_names::laws::{one_fault, one_reading, spelling_is_read};
+use nb_names::laws::{name_or_fault, one_fault, one_reading, spelling_is_read};
+
+/// The numbers that the definitions cite.
+pub fn numbers()
+    ensures kinds { (A ≡ 1) × (NS ≡ 2) × (NULL ≡ 10) × (NB ≡ 32) × (NBSTAT ≡ 33) }
+    ensures class { IN ≡ 1 }
+    ensures header { HEADER_LENGTH ≡ 12 }
+    ensures entries { MAX_ENTRIES ≡ 65535 }
+    ensures rdata { MAX_RDATA ≡ 65535 }
+    ensures views { (ENTRY_LENGTH ≡ 6) × (NODE_NAME_LENGTH ≡ 18) × (UNIT_ID_LENGTH ≡ 6) }
+{}
+
+/// A flag word is the sum of its fields: R, OPCODE, the seven bits of NM_FLAGS, and RCODE.
+pub fn word_is_its_fields()
+    ensures sum { (word : ℕ) → word ≡ word / 32768 * 32768
+        + (opcode_of word * 2048 + (word / 16 % 128 * 16 + rcode_of word)) }
+    ensures opcode { (word : ℕ) → opcode_of word < 16 }
+    ensures rcode { (word : ℕ) → rcode_of word < 16 }
+{}
+
+/// Where a record's RDATA is a domain name, its kind is 2, and that name is read ten bytes after the
+/// record's own, its pointers followed, up to where the record ends.
+pub fn name_in_rdata()
+    ensures { (bytes : List ℕ) (at next : ℕ) (entry : ResourceRecord) (labels : List (List ℕ)) →
+        RecordAt bytes at entry next → entry.rdata ≡ of_domain labels →
+        (entry.kind ≡ 2) × ((after : ℕ) × NameAt bytes Followed at entry.name after
+        × NameAt bytes Followed (after + 10) labels next) }
+{}
+
+/// The answers of a packet, its authorities and its additional records stand one after the other
+/// from where its questions end.
+pub fn sections_in_order()
+    ensures { (bytes : List ℕ) (packet : ServicePacket) (used : ℕ) →
+        IsPacket bytes packet used → HasSections bytes packet used }
+{}
+
+/// Bytes begin with a packet, or have a fault. By [`one_service_fault`] it is never both.
+pub fn packet_or_fault()
+    ensures { (bytes : List ℕ) → AreBytes bytes →
+        ((packet : ServicePacket) × (used : ℕ) × IsPacket bytes packet used)
+        ⊎ ((fault : ServiceFault) × PacketFails bytes fault) }
+{
+    name_or_fault();
+}
 
 /// Bytes begin with one packet at most, which has one length.
 pub fn one_packet()
-    ensures { (bytes : List ℕ) (packet other : ServicePacket) (used behind : ℕ) →
-        IsPacket bytes packet used → IsPacket bytes other behind →
-        (packet ≡ other) × (used ≡ behind) }
+    ensures { (bytes : List ℕ) (packet other : ServicePacket) (used after : ℕ) →
+        IsPacket bytes packet used → IsPacket bytes other after →
+        (packet ≡ other) × (used ≡ after) }
 {
     one_reading();
     one_fault();

@@ -1,7 +1,7 @@
 //! Rows of questions and records, read into lists.
 ghost use Rattle.std.specs.Prelude.{IfOk, IfErr};
 ghost use Rattle.nb_service.specs.Packet.{QuestionAt, RecordAt};
-ghost use Rattle.nb_service.specs.Reading.{RowOf, OrMemory};
+ghost use Rattle.nb_service.specs.Steps.{RowOf, OrMemory};
 ghost use Rattle.nb_service.specs.ServiceFaults.{QuestionsFail, RecordsFail};
 
 use crate::fault::ServiceFault;
@@ -10,7 +10,7 @@ use crate::reading::{read_question, read_record};
 use crate::records::Records;
 use std::alloc::Global;
 
-/// The questions of a row, which begins at `at`, and the offset behind it.
+/// The questions of a row, which begins at `at`, and the offset after it.
 pub(crate) fn list_questions(
     alloc: Global,
     packet: &[u8],
@@ -18,19 +18,19 @@ pub(crate) fn list_questions(
     count: u16,
 ) -> Result<(Questions, usize), ServiceFault>
     ensures found { IfOk result (λ read. RowOf (QuestionAt packet.now) at count read.0 read.1) }
-    ensures fault { IfErr result (OrMemory (QuestionsFail packet.now at count)) }
+    ensures fault { IfErr result (OrMemory count (QuestionsFail packet.now at count)) }
 {
     let mut questions = Vec::new(alloc);
     let mut next = at;
     for _ in 0..count {
-        let (question, behind) = read_question(packet, next)?;
+        let (question, after) = read_question(packet, next)?;
         questions.push(question)?;
-        next = behind;
+        next = after;
     }
     Ok((Questions::from_vec(questions), next))
 }
 
-/// The records of a row, which begins at `at`, and the offset behind it.
+/// The records of a row, which begins at `at`, and the offset after it.
 pub(crate) fn list_records<'a>(
     alloc: Global,
     packet: &'a [u8],
@@ -38,14 +38,14 @@ pub(crate) fn list_records<'a>(
     count: u16,
 ) -> Result<(Records<'a>, usize), ServiceFault>
     ensures found { IfOk result (λ read. RowOf (RecordAt packet.now) at count read.0 read.1) }
-    ensures fault { IfErr result (OrMemory (RecordsFail packet.now at count)) }
+    ensures fault { IfErr result (OrMemory count (RecordsFail packet.now at count)) }
 {
     let mut records = Vec::new(alloc);
     let mut next = at;
     for _ in 0..count {
-        let (record, behind) = read_record(packet, next)?;
+        let (record, after) = read_record(packet, next)?;
         records.push(record)?;
-        next = behind;
+        next = after;
     }
     Ok((Records::from_vec(records), next))
 }

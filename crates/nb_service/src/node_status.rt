@@ -28,7 +28,7 @@ impl<'a> Model for NodeStatus<'a> {
 }
 
 impl<'a> NodeStatus<'a> {
-    /// The names that these bytes are, one behind the other, and the statistics.
+    /// The names that these bytes are, one after the other, and the statistics.
     pub(crate) fn of_parts(names: &'a [u8], statistics: &'a [u8]) -> Self
         requires { length names.now % NODE_NAME_LENGTH ≡ 0 }
         ensures names { flat_map node_name_bytes result.names ≡ names.entry.now }

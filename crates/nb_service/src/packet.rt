@@ -148,7 +148,7 @@ impl<'a> Packet<'a> {
         &self.additional
     }
 
-    /// Adds a question behind the others.
+    /// Adds a question after the others.
     ///
     /// # Errors
     ///
@@ -162,7 +162,7 @@ impl<'a> Packet<'a> {
         self.questions.push(question)
     }
 
-    /// Adds a record to a section, behind the others there.
+    /// Adds a record to a section, after the others there.
     ///
     /// # Errors
     ///

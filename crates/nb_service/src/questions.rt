@@ -44,7 +44,7 @@ impl Questions {
         self.items.as_slice()
     }
 
-    /// Adds a question behind the others.
+    /// Adds a question after the others.
     pub(crate) fn push(&mut self, question: Question) -> Result<(), PushFault>
         ensures pushed { OnOk result (self.new ≡ self.old ++ question ∷ []) }
         ensures room { OnOk result (length self.old < MAX_ENTRIES) }

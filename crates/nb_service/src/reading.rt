@@ -1,8 +1,8 @@
 //! Questions and records, read where they stand in a packet.
 ghost use Rattle.std.specs.Prelude.{◌≡◌, ◌≤◌, ◌+◌, length, IfOk, IfErr};
-ghost use Rattle.nb_service.specs.Packet.{QuestionAt, DataAt, RecordAt};
-ghost use Rattle.nb_service.specs.Record.{data_of};
-ghost use Rattle.nb_service.specs.ServiceFaults.{QuestionFails, TargetFails, RecordFails};
+ghost use Rattle.nb_service.specs.Packet.{QuestionAt, RdataAt, RecordAt};
+ghost use Rattle.nb_service.specs.Record.{rdata_of};
+ghost use Rattle.nb_service.specs.ServiceFaults.{QuestionFails, DomainFails, RecordFails};
 
 use crate::fault::ServiceFault;
 use crate::kinds::NS;
@@ -12,28 +12,28 @@ use crate::record::Record;
 use nb_names::numbers::{number_16, number_32};
 use nb_names::{Pointers, read_domain};
 
-/// The bytes of a question behind its name: QUESTION_TYPE, QUESTION_CLASS.
+/// The bytes of a question after its name: QUESTION_TYPE, QUESTION_CLASS.
 const QUESTION_FIELDS: usize = 4;
 
 /// The bytes of a record between its name and its RDATA: RR_TYPE, RR_CLASS, TTL, RDLENGTH.
 const RECORD_FIELDS: usize = 10;
 
-/// The question that stands at an offset, and the offset behind it. No memory is taken.
+/// The question that stands at an offset, and the offset after it. No memory is taken.
 pub(crate) fn read_question(packet: &[u8], at: usize) -> Result<(Question, usize), ServiceFault>
     ensures found { IfOk result (λ read. QuestionAt packet.now at read.0 read.1) }
     ensures within { IfOk result (λ read. read.1 ≤ length packet.now) }
     ensures fault { IfErr result (QuestionFails packet.now at) }
 {
-    let (name, behind) = read_domain(packet, at, Pointers::Followed)?;
-    if packet.len() - behind < QUESTION_FIELDS {
+    let (name, after) = read_domain(packet, at, Pointers::Followed)?;
+    if packet.len() - after < QUESTION_FIELDS {
         return Err(ServiceFault::Truncated(packet.len()));
     }
     let question = Question {
         name,
-        kind: number_16(packet, behind),
-        class: number_16(packet, behind + 2),
+        kind: number_16(packet, after),
+        class: number_16(packet, after + 2),
     };
-    Ok((question, behind + QUESTION_FIELDS))
+    Ok((question, after + QUESTION_FIELDS))
 }
 
 /// The RDATA of a record of a kind: the `size` bytes at `begin`.
@@ -44,8 +44,8 @@ fn read_rdata<'a>(
     kind: u16,
 ) -> Result<Rdata<'a>, ServiceFault>
     requires { begin + size ≤ length packet.now }
-    ensures found { IfOk result (λ rdata. DataAt packet.now begin size kind (data_of rdata)) }
-    ensures fault { IfErr result (λ fault. (kind ≡ NS) × TargetFails packet.now begin size fault) }
+    ensures found { IfOk result (λ rdata. RdataAt packet.now begin size kind (rdata_of rdata)) }
+    ensures fault { IfErr result (λ fault. (kind ≡ NS) × DomainFails packet.now begin size fault) }
 {
     if kind != NS {
         return Ok(Rdata::Bytes(&packet[begin..begin + size]));
@@ -57,7 +57,7 @@ fn read_rdata<'a>(
     Ok(Rdata::Domain(name))
 }
 
-/// The record that stands at an offset, and the offset behind it. No memory is taken.
+/// The record that stands at an offset, and the offset after it. No memory is taken.
 pub(crate) fn read_record<'a>(
     packet: &'a [u8],
     at: usize,
@@ -66,15 +66,15 @@ pub(crate) fn read_record<'a>(
     ensures within { IfOk result (λ read. read.1 ≤ length packet.now) }
     ensures fault { IfErr result (RecordFails packet.now at) }
 {
-    let (name, behind) = read_domain(packet, at, Pointers::Followed)?;
-    if packet.len() - behind < RECORD_FIELDS {
+    let (name, after) = read_domain(packet, at, Pointers::Followed)?;
+    if packet.len() - after < RECORD_FIELDS {
         return Err(ServiceFault::Truncated(packet.len()));
     }
-    let kind = number_16(packet, behind);
-    let class = number_16(packet, behind + 2);
-    let ttl = number_32(packet, behind + 4);
-    let size = number_16(packet, behind + 8) as usize;
-    let begin = behind + RECORD_FIELDS;
+    let kind = number_16(packet, after);
+    let class = number_16(packet, after + 2);
+    let ttl = number_32(packet, after + 4);
+    let size = number_16(packet, after + 8) as usize;
+    let begin = after + RECORD_FIELDS;
     if packet.len() - begin < size {
         return Err(ServiceFault::Truncated(packet.len()));
     }

@@ -1,7 +1,7 @@
 //! Resource records.
 ghost use Rattle.std.specs.Prelude.{◌≡◌, ◌≢◌, ◌<◌, ◌↔◌, ℕ, List, length, IfOk, IsErrOf, MatchOption};
 ghost use Rattle.std.specs.List.{flat_map};
-ghost use Rattle.nb_service.specs.Record.{octets, target, record_of, data_of, IsDataOf};
+ghost use Rattle.nb_service.specs.Record.{of_bytes, of_domain, record_of, rdata_of, IsRdataOf};
 ghost use Rattle.nb_service.specs.Views.{HasEntries, HasStatus, entry_bytes, after_count};
 
 use crate::address_entries::AddressEntries;
@@ -37,13 +37,13 @@ pub struct Record<'a> {
 }
 
 impl<'a> Model for Record<'a> {
-    ghost use Rattle.nb_service.specs.Record.{ResourceRecord, record_of, data_of, IsDataOf};
+    ghost use Rattle.nb_service.specs.Record.{ResourceRecord, record_of, rdata_of, IsRdataOf};
 
     ghost Value = { ResourceRecord };
 
-    ghost view = { λ r. record_of r.name r.kind r.class r.ttl (data_of r.rdata) };
+    ghost view = { λ r. record_of r.name r.kind r.class r.ttl (rdata_of r.rdata) };
 
-    ghost invariant = { λ r. IsDataOf r.kind (data_of r.rdata) };
+    ghost invariant = { λ r. IsRdataOf r.kind (rdata_of r.rdata) };
 }
 
 impl<'a> Record<'a> {
@@ -55,8 +55,8 @@ impl<'a> Record<'a> {
         ttl: u32,
         rdata: Rdata<'a>,
     ) -> Record<'a>
-        requires { IsDataOf kind (data_of rdata) }
-        ensures { result ≡ record_of name kind class ttl (data_of rdata.entry) }
+        requires { IsRdataOf kind (rdata_of rdata) }
+        ensures { result ≡ record_of name kind class ttl (rdata_of rdata.entry) }
     {
         Record {
             name,
@@ -80,7 +80,7 @@ impl<'a> Record<'a> {
         rdata: &'a [u8],
     ) -> Result<Record<'a>, RecordFault>
         ensures value { IfOk result (λ made.
-            made ≡ record_of name kind class ttl (octets rdata.entry.now)) }
+            made ≡ record_of name kind class ttl (of_bytes rdata.entry.now)) }
         ensures kind_is_ns { IsErrOf result RecordFault.KindIsNs ↔ (kind ≡ NS) }
         ensures too_long { IsErrOf result RecordFault.TooLong ↔
             ((kind ≢ NS) × (MAX_RDATA < length rdata.entry.now)) }
@@ -96,7 +96,7 @@ impl<'a> Record<'a> {
 
     /// A record of kind NS, with the domain name of a name server. No memory is taken.
     pub fn ns(name: DomainName, class: u16, ttl: u32, domain: DomainName) -> Record<'a>
-        ensures { result ≡ record_of name NS class ttl (target domain) }
+        ensures { result ≡ record_of name NS class ttl (of_domain domain) }
     {
         Record::new(name, NS, class, ttl, Rdata::Domain(domain))
     }
@@ -132,8 +132,8 @@ impl<'a> Record<'a> {
     /// The RDATA of bytes of a record of this kind.
     fn bytes_of_kind(&self, kind: u16) -> Option<&'a [u8]>
         ensures { MatchOption result
-            ((bytes : List ℕ) → self.now.kind ≡ kind → self.now.rdata ≢ octets bytes)
-            (λ bytes. (self.now.kind ≡ kind) × (self.now.rdata ≡ octets bytes.now)) }
+            ((bytes : List ℕ) → self.now.kind ≡ kind → self.now.rdata ≢ of_bytes bytes)
+            (λ bytes. (self.now.kind ≡ kind) × (self.now.rdata ≡ of_bytes bytes.now)) }
     {
         match &self.rdata {
             Rdata::Bytes(bytes) if self.kind == kind => Some(*bytes),
@@ -175,8 +175,8 @@ impl<'a> Record<'a> {
 
     /// The RDATA, a domain name exactly where the kind is NS.
     pub fn rdata(&self) -> &Rdata<'a>
-        ensures value { data_of result.now ≡ self.now.rdata }
-        ensures kept { IsDataOf self.now.kind self.now.rdata }
+        ensures value { rdata_of result.now ≡ self.now.rdata }
+        ensures kept { IsRdataOf self.now.kind self.now.rdata }
     {
         &self.rdata
     }

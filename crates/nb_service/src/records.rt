@@ -44,7 +44,7 @@ impl<'a> Records<'a> {
         self.items.as_slice()
     }
 
-    /// Adds a record behind the others.
+    /// Adds a record after the others.
     pub(crate) fn push(&mut self, entry: Record<'a>) -> Result<(), PushFault>
         ensures pushed { OnOk result (self.new ≡ self.old ++ entry.entry ∷ []) }
         ensures room { OnOk result (length self.old < MAX_ENTRIES) }

@@ -1,4 +1,4 @@
-//! Questions and records, written behind other bytes.
+//! Questions and records, written after other bytes.
 ghost use Rattle.std.specs.Prelude.{◌≡◌, ◌++◌, ◌^◌, ◌<◌, length, OnOk};
 ghost use Rattle.std.specs.Int.{w16, w32, to_be_bytes};
 ghost use Rattle.std.specs.List.{AllByRecursion, flat_map};
@@ -51,7 +51,7 @@ fn write_question(bytes: &mut Vec<u8>, question: &Question) -> Result<(), NoMemo
     write_16(bytes, question.class)
 }
 
-/// Writes the name of a record behind these questions.
+/// Writes the name of a record after these questions.
 fn write_name(
     bytes: &mut Vec<u8>,
     questions: &[Question],
@@ -93,7 +93,7 @@ fn write_record(
     Ok(())
 }
 
-/// Writes questions, one behind the other.
+/// Writes questions, one after the other.
 pub(crate) fn write_questions(bytes: &mut Vec<u8>, questions: &[Question]) -> Result<(), NoMemory>
     ensures written { OnOk result
         (bytes.new.items ≡ bytes.old.items ++ flat_map question_bytes questions.now) }
@@ -105,7 +105,7 @@ pub(crate) fn write_questions(bytes: &mut Vec<u8>, questions: &[Question]) -> Re
     Ok(())
 }
 
-/// Writes records of a packet with these questions, one behind the other.
+/// Writes records of a packet with these questions, one after the other.
 pub(crate) fn write_records(
     bytes: &mut Vec<u8>,
     questions: &[Question],

@@ -22,7 +22,7 @@ fn name(rt: &impl Abort, spelling: &[u8]) -> Name {
     }
 }
 
-/// Compares the bytes of a packet, and reads them again with others behind them.
+/// Compares the bytes of a packet, and reads them again with others after them.
 fn expect_bytes(
     rt: &impl Abort,
     alloc: Global,

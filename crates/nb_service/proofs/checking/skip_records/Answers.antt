@@ -2,16 +2,16 @@ use Rattle.std.proofs.Common.{[], arith}
 use Rattle.std.proofs.lemmas.Result.{err_from_is_err_and}
 use Rattle.nb_service.specs.Packet.{RecordAt}
 use Rattle.nb_service.specs.ServiceFaults.{RecordFails}
-use Rattle.nb_service.proofs.ReadingLemmas.{row_begun, row_turn, row_stopped}
+use Rattle.nb_service.proofs.StepLemmas.{row_begun, row_turn, row_stopped}
 use Rattle.nb_service.proofs.checking.skip_records.Goals as goal
 
 pub loop-init : goal.loop-init
 loop-init c = ([], row_begun (RecordAt c.args.packet.now) c.args.at)
 
-pub returns-in_err-behind-clause-fault : goal.returns-in_err-behind-clause-fault
-returns-in_err-behind-clause-fault c =
+pub returns-in_err-after-clause-fault : goal.returns-in_err-after-clause-fault
+returns-in_err-after-clause-fault c =
     let p = err_from_is_err_and c.from_residual.result c.from_residual.ensures.1 in
-    rw (p.1, p.2) (row_stopped (RecordAt c.args.packet.now) (RecordFails c.args.packet.now) _ _ _ _ _ _ c.loop.invariant.1 (omega arith) c.in_err-behind.ensures.fault)
+    rw (p.1, p.2) (row_stopped (RecordAt c.args.packet.now) (RecordFails c.args.packet.now) _ _ _ _ _ _ c.loop.invariant.1 (omega arith) c.in_err-after.ensures.fault)
 
 pub loop-preserved : goal.loop-preserved
-loop-preserved c = (_, row_turn (RecordAt c.args.packet.now) _ _ _ _ c.loop.invariant.0 _ c.loop.invariant.1 c.in_ok-behind.ensures.found)
+loop-preserved c = (_, row_turn (RecordAt c.args.packet.now) _ _ _ _ c.loop.invariant.0 _ c.loop.invariant.1 c.in_ok-after.ensures.found)

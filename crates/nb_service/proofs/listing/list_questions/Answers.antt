@@ -1,9 +1,9 @@
 use Rattle.std.proofs.Common.{arith}
 use Rattle.std.proofs.lemmas.Result.{err_from_is_err_and}
 use Rattle.nb_service.specs.Packet.{QuestionAt}
-use Rattle.nb_service.specs.Reading.{fails, memory}
+use Rattle.nb_service.specs.Steps.{fails, memory}
 use Rattle.nb_service.specs.ServiceFaults.{QuestionFails}
-use Rattle.nb_service.proofs.ReadingLemmas.{row_begun, row_turn, row_stopped}
+use Rattle.nb_service.proofs.StepLemmas.{row_begun, row_turn, row_stopped}
 use Rattle.nb_service.proofs.listing.list_questions.Goals as goal
 
 pub loop-init : goal.loop-init
@@ -16,7 +16,7 @@ returns-in_err-question-clause-fault c =
 
 pub returns-in_err-push-clause-fault : goal.returns-in_err-push-clause-fault
 returns-in_err-push-clause-fault c =
-    let p = err_from_is_err_and c.from_residual-in_err-push.result c.from_residual-in_err-push.ensures.1 in rw (p.1, p.2) memory
+    let p = err_from_is_err_and c.from_residual-in_err-push.result c.from_residual-in_err-push.ensures.1 in rw (p.1, p.2) (memory (omega arith))
 
 pub loop-preserved : goal.loop-preserved
 loop-preserved c = rw c.in_ok-push.ensures.items (row_turn (QuestionAt c.args.packet.now) _ _ _ _ _ _ c.loop.invariant c.in_ok-question.ensures.found)

@@ -7,5 +7,5 @@ pub returns-in_err-name-clause-fault : goal.returns-in_err-name-clause-fault
 returns-in_err-name-clause-fault c =
     let p = err_from_is_err_and c.from_residual.result c.from_residual.ensures.1 in rw (p.1, p.2) (question_name _ c.in_err-name.ensures.fault)
 
-pub returns-then-packet-behind-lt-QUESTION_FIELDS-clause-fault : goal.returns-then-packet-behind-lt-QUESTION_FIELDS-clause-fault
-returns-then-packet-behind-lt-QUESTION_FIELDS-clause-fault c = question_cut _ _ c.in_ok-name.ensures.found (omega arith)
+pub returns-then-packet-after-lt-QUESTION_FIELDS-clause-fault : goal.returns-then-packet-after-lt-QUESTION_FIELDS-clause-fault
+returns-then-packet-after-lt-QUESTION_FIELDS-clause-fault c = question_cut _ _ c.in_ok-name.ensures.found (omega arith)

@@ -1,6 +1,7 @@
 //! Lists of values.
-ghost use Rattle.std.specs.Prelude.{◌≡◌};
+ghost use Rattle.std.specs.Prelude.{◌≡◌, [], ◌∷◌, ◌++◌, OnOk, OnErr};
 
+use crate::bytes::NoMemory;
 use std::marker::Model;
 
 /// A list of values, which contracts see as the list of what the values stand for.
@@ -40,6 +41,21 @@ impl<T> Items<T> {
         ensures { result.now ≡ self.now }
     {
         self.items.as_slice()
+    }
+}
+
+impl<T: Drop> Items<T> {
+    /// Adds a value after the others.
+    ///
+    /// # Errors
+    ///
+    /// [`NoMemory`] where memory ran out. The list is then as it was, and the value is dropped.
+    pub fn push(&mut self, value: T) -> Result<(), NoMemory>
+        ensures pushed { OnOk result (self.new ≡ self.old ++ value ∷ []) }
+        ensures err { OnErr result (self.new ≡ self.old) }
+    {
+        self.items.push(value)?;
+        Ok(())
     }
 }
 

@@ -67,9 +67,9 @@ question_named : (b : List ℕ) → AreSmall b → (at after : ℕ) (ls : List (
 question_named b s at after ls named = elim (cases_lt (length b) (after + 4)) [
   | inl low ↦ inr (Truncated (length b), question_cut ls after named low)
   | inr fits ↦
-    let kind = number_16 b after s (omega arith) in
-    let class = number_16 b (after + 2) s (omega arith) in
-    inl (record { name = ls; kind = kind.0; class = class.0 }, after + 4, record { after = after; name = named; kind = kind.1; class = class.1; end = refl })
+      let kind = number_16 b after s (omega arith) in
+      let class = number_16 b (after + 2) s (omega arith) in
+      inl (record { name = ls; kind = kind.0; class = class.0 }, after + 4, record { after = after; name = named; kind = kind.1; class = class.1; end = refl })
 ]
 
 question_or_fault : (b : List ℕ) → AreSmall b → NameOrFault b → SomeOr (QuestionAt b) (QuestionFails b)
@@ -82,9 +82,9 @@ rdata_or_fault : (b : List ℕ) → NameOrFault b → (at size kind : ℕ) → a
     ((d : ResourceData) × RdataAt b at size kind d) ⊎ ((kind ≡ NS) × ((f : ServiceFault) × DomainFails b at size f))
 rdata_or_fault b names at size kind fits = elim (same_or_not kind NS) [
   | inr other ↦
-    let bytes : List ℕ = take size (drop at b) in
-    let long : length bytes ≡ size = length-take-le size (drop at b) (omega (arith, length-drop at b)) in
-    inl (of_bytes bytes, bytes_there bytes other long (subst (λ (n : ℕ). take n (drop at b) ≡ bytes) (sym long) refl))
+      let bytes : List ℕ = take size (drop at b) in
+      let long : length bytes ≡ size = length-take-le size (drop at b) (omega (arith, length-drop at b)) in
+      inl (of_bytes bytes, bytes_there bytes other long (subst (λ (n : ℕ). take n (drop at b) ≡ bytes) (sym long) refl))
   | inl is ↦ elim (names at) [
     | inr f ↦ inr (is, (Name f.0, domain_name f.0 f.1))
     | inl h ↦ elim (same_or_not h.1 (at + size)) [
@@ -119,11 +119,11 @@ record_named : (b : List ℕ) → AreSmall b → NameOrFault b → (at after : �
 record_named b s names at after ls named = elim (cases_lt (length b) (after + 10)) [
   | inl low ↦ inr (Truncated (length b), record_cut ls after named low)
   | inr fits ↦
-    let kind = number_16 b after s (omega arith) in
-    let class = number_16 b (after + 2) s (omega arith) in
-    let ttl = number_32 b (after + 4) s (omega arith) in
-    let size = number_16 b (after + 8) s (omega arith) in
-    record_sized b names at after kind.0 class.0 ttl.0 size.0 ls named kind.1 class.1 ttl.1 size.1
+      let kind = number_16 b after s (omega arith) in
+      let class = number_16 b (after + 2) s (omega arith) in
+      let ttl = number_32 b (after + 4) s (omega arith) in
+      let size = number_16 b (after + 8) s (omega arith) in
+      record_sized b names at after kind.0 class.0 ttl.0 size.0 ls named kind.1 class.1 ttl.1 size.1
 ]
 
 record_or_fault : (b : List ℕ) → AreSmall b → NameOrFault b → SomeOr (RecordAt b) (RecordFails b)

@@ -10,3 +10,5 @@ pub mod Encoding
 pub mod Views
 pub mod Pieces
 pub mod Requests
+pub mod Equality
+pub mod EqualityFacts

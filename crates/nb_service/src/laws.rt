@@ -1,5 +1,5 @@
 //! Laws of the definitions that the contracts cite. Each is proved; a call does nothing.
-ghost use Rattle.std.specs.Prelude.{◌≡◌, ◌⊎◌, ℕ, ◌+◌, ◌*◌, ◌/◌, ◌%◌, ◌<◌, List, ◌++◌, length};
+ghost use Rattle.std.specs.Prelude.{◌≡◌, ◌⊎◌, ◌↔◌, IsTrue, ℕ, ◌+◌, ◌*◌, ◌/◌, ◌%◌, ◌<◌, List, ◌++◌, length};
 ghost use Rattle.nb_names.specs.declared.pointers.Pointers.TheVariants.{Followed};
 ghost use Rattle.nb_names.specs.DomainName.{AreBytes};
 ghost use Rattle.nb_names.specs.Labels.{NameAt};
@@ -8,6 +8,8 @@ ghost use Rattle.nb_service.specs.declared.kinds.TheConstants.{A, NS, NULL, NB, 
 ghost use Rattle.nb_service.specs.declared.limits.TheConstants.{HEADER_LENGTH, MAX_ENTRIES, MAX_RDATA, ENTRY_LENGTH, NODE_NAME_LENGTH, UNIT_ID_LENGTH};
 ghost use Rattle.nb_service.specs.declared.fault.ServiceFault.{ServiceFault};
 ghost use Rattle.nb_service.specs.Encoding.{packet_bytes, IsWritable};
+ghost use Rattle.nb_service.specs.declared.question.Question.{Question};
+ghost use Rattle.nb_service.specs.Equality.{question_eq, record_eq, packet_eq};
 ghost use Rattle.nb_service.specs.Flags.{opcode_of, rcode_of};
 ghost use Rattle.nb_service.specs.Packet.{RecordAt, ServicePacket, IsPacket, HasSections};
 ghost use Rattle.nb_service.specs.Record.{ResourceRecord, of_domain};
@@ -31,6 +33,13 @@ pub fn word_is_its_fields()
         + (opcode_of word * 2048 + (word / 16 % 128 * 16 + rcode_of word)) }
     ensures opcode { (word : ℕ) → opcode_of word < 16 }
     ensures rcode { (word : ℕ) → rcode_of word < 16 }
+{}
+
+/// Questions, records and packets are equal exactly where they are the same.
+pub fn equal_is_same()
+    ensures questions { (a b : Question) → IsTrue (question_eq a b) ↔ (a ≡ b) }
+    ensures records { (a b : ResourceRecord) → IsTrue (record_eq a b) ↔ (a ≡ b) }
+    ensures packets { (a b : ServicePacket) → IsTrue (packet_eq a b) ↔ (a ≡ b) }
 {}
 
 /// Where a record's RDATA is a domain name, its kind is 2, and that name is read ten bytes after the

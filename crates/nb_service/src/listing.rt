@@ -5,9 +5,8 @@ ghost use Rattle.nb_service.specs.Steps.{RowOf, OrMemory};
 ghost use Rattle.nb_service.specs.ServiceFaults.{QuestionsFail, RecordsFail};
 
 use crate::fault::ServiceFault;
-use crate::questions::Questions;
+use crate::lists::{Questions, Records};
 use crate::reading::{read_question, read_record};
-use crate::records::Records;
 use std::alloc::Global;
 
 /// The questions of a row, which begins at `at`, and the offset after it.

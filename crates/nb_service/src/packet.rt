@@ -6,11 +6,10 @@ ghost use Rattle.nb_service.specs.Flags.{opcode_of, rcode_of, nm_bits, nm_bits_o
 
 use crate::flags::{NmFlags, nm_flags_of};
 use crate::limits::MAX_ENTRIES;
+use crate::lists::{Questions, Records, add};
 use crate::push_fault::PushFault;
 use crate::question::Question;
-use crate::questions::Questions;
 use crate::record::Record;
-use crate::records::Records;
 use crate::section::Section;
 use std::alloc::Global;
 use std::marker::Model;
@@ -159,7 +158,7 @@ impl<'a> Packet<'a> {
         ensures too_many { IsErrOf result PushFault.TooMany ↔ IsFull self.old.questions }
         ensures err { OnErr result (self.new ≡ self.old) }
     {
-        self.questions.push(question)
+        add(&mut self.questions, question)
     }
 
     /// Adds a record to a section, after the others there.
@@ -174,9 +173,38 @@ impl<'a> Packet<'a> {
         ensures err { OnErr result (self.new ≡ self.old) }
     {
         match section {
-            Section::Answer => self.answers.push(entry),
-            Section::Authority => self.authorities.push(entry),
-            Section::Additional => self.additional.push(entry),
+            Section::Answer => add(&mut self.answers, entry),
+            Section::Authority => add(&mut self.authorities, entry),
+            Section::Additional => add(&mut self.additional, entry),
         }
     }
+}
+
+impl<'a> PartialEq for Packet<'a> {
+    ghost use Rattle.std.specs.Prelude.{◌≡◌};
+    ghost use Rattle.std.specs.Cmp.{partial_equiv_from_equiv};
+    ghost use Rattle.nb_service.specs.Equality.{packet_eq};
+    ghost use Rattle.nb_service.specs.EqualityFacts.{decides_equiv, packet_eq_decides};
+
+    ghost eq = { packet_eq };
+
+    ghost laws = { partial_equiv_from_equiv (decides_equiv packet_eq packet_eq_decides) };
+
+    fn eq(&self, other: &Self) -> bool
+        ensures { result ≡ packet_eq self.now other.now }
+    {
+        self.id == other.id
+            && self.word == other.word
+            && self.questions == other.questions
+            && self.answers == other.answers
+            && self.authorities == other.authorities
+            && self.additional == other.additional
+    }
+}
+
+impl<'a> Eq for Packet<'a> {
+    ghost use Rattle.nb_service.specs.Equality.{packet_eq};
+    ghost use Rattle.nb_service.specs.EqualityFacts.{decides_equiv, packet_eq_decides};
+
+    ghost laws = { decides_equiv packet_eq packet_eq_decides };
 }

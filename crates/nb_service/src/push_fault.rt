@@ -1,6 +1,6 @@
 //! Why a list of a packet could not grow.
 
-use std::alloc::AllocFailed;
+use nb_names::NoMemory;
 use thiserror::Error;
 
 /// Why a question or a record could not be added to a packet.
@@ -16,13 +16,13 @@ pub enum PushFault {
     NoMemory,
 }
 
-impl<T: Drop> From<AllocFailed<T>> for PushFault {
+impl From<NoMemory> for PushFault {
     ghost use Rattle.std.specs.Prelude.{◌≡◌};
     ghost use Rattle.nb_service.specs.declared.push_fault.PushFault.TheVariants.{NoMemory};
 
     ghost from_gives = { λ _ e. e ≡ NoMemory };
 
-    fn from(_e: AllocFailed<T>) -> PushFault {
+    fn from(_e: NoMemory) -> PushFault {
         PushFault::NoMemory
     }
 }

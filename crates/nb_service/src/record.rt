@@ -181,3 +181,31 @@ impl<'a> Record<'a> {
         &self.rdata
     }
 }
+
+impl<'a> PartialEq for Record<'a> {
+    ghost use Rattle.std.specs.Prelude.{◌≡◌};
+    ghost use Rattle.std.specs.Cmp.{partial_equiv_from_equiv};
+    ghost use Rattle.nb_service.specs.Equality.{record_eq};
+    ghost use Rattle.nb_service.specs.EqualityFacts.{decides_equiv, record_eq_decides};
+
+    ghost eq = { record_eq };
+
+    ghost laws = { partial_equiv_from_equiv (decides_equiv record_eq record_eq_decides) };
+
+    fn eq(&self, other: &Self) -> bool
+        ensures { result ≡ record_eq self.now other.now }
+    {
+        self.name == other.name
+            && self.kind == other.kind
+            && self.class == other.class
+            && self.ttl == other.ttl
+            && self.rdata.is_same(&other.rdata)
+    }
+}
+
+impl<'a> Eq for Record<'a> {
+    ghost use Rattle.nb_service.specs.Equality.{record_eq};
+    ghost use Rattle.nb_service.specs.EqualityFacts.{decides_equiv, record_eq_decides};
+
+    ghost laws = { decides_equiv record_eq record_eq_decides };
+}

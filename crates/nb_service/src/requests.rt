@@ -7,12 +7,11 @@ ghost use Rattle.nb_service.specs.Requests.{registration_packet, refresh_packet,
 use crate::classes::IN;
 use crate::kinds::{NB, NBSTAT};
 use crate::limits::ENTRY_LENGTH;
+use crate::lists::{Questions, Records};
 use crate::packet::Packet;
 use crate::question::Question;
-use crate::questions::Questions;
 use crate::rdata::Rdata;
 use crate::record::Record;
-use crate::records::Records;
 use nb_names::{Name, NoMemory};
 use std::alloc::Global;
 

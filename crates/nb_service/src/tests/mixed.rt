@@ -137,6 +137,9 @@ fn each_part_is_pushed_to_its_place(rt: HostRuntime) -> Result<(), Fail> {
     expect_mixed(&rt, &packet);
     let bytes = encoded(rt.alloc(), &packet)?;
     assert_eq!(rt; bytes.as_slice(), SPELLED.as_slice());
+    let (read, _) = decoded(rt.alloc(), MIXED)?;
+    assert!(rt; packet == read);
+    assert!(rt; packet != Packet::new(rt.alloc(), 0x1234, 0x8593));
     Ok(())
 }
 

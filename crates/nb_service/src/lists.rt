@@ -1,0 +1,29 @@
+//! Lists of questions and of records.
+ghost use Rattle.std.specs.Prelude.{◌≡◌, ◌<◌, ◌↔◌, [], ◌∷◌, ◌++◌, length, OnOk, OnErr, IsErrOf};
+ghost use Rattle.nb_service.specs.Building.{IsFull};
+
+use crate::limits::MAX_ENTRIES;
+use crate::push_fault::PushFault;
+use crate::question::Question;
+use crate::record::Record;
+use nb_names::Items;
+
+/// A list of questions.
+pub type Questions = Items<Question>;
+
+/// A list of records, whose RDATA is lent.
+pub type Records<'a> = Items<Record<'a>>;
+
+/// Adds an item after the others of a packet's list.
+pub(crate) fn add<T: Drop>(list: &mut Items<T>, item: T) -> Result<(), PushFault>
+    ensures pushed { OnOk result (list.new ≡ list.old ++ item ∷ []) }
+    ensures room { OnOk result (length list.old < MAX_ENTRIES) }
+    ensures too_many { IsErrOf result PushFault.TooMany ↔ IsFull list.old }
+    ensures err { OnErr result (list.new ≡ list.old) }
+{
+    if list.as_slice().len() >= MAX_ENTRIES {
+        return Err(PushFault::TooMany);
+    }
+    list.push(item)?;
+    Ok(())
+}

@@ -5,6 +5,7 @@ use Rattle.std.proofs.lemmas.Bool.{cases_lt}
 use Rattle.nb_names.specs.declared.text_steps.Stage.{Stage}
 use Rattle.nb_names.specs.declared.text_steps.Stage.TheVariants.{Front}
 use Rattle.nb_names.specs.declared.text_steps.Added.{Added}
+use Rattle.nb_names.specs.declared.limits.TheConstants.{MAX_LABEL}
 use Rattle.nb_names.specs.declared.text_fault.TextFault.{TextFault}
 use Rattle.nb_names.specs.declared.text_fault.TextFault.TheVariants.{BadText, TooLong}
 use Rattle.nb_names.specs.DomainName.{spelling, IsLabel}
@@ -49,7 +50,7 @@ labels_or_not (l ∷ ls) = elim (labels_or_not ls) [
   | inr h ↦ inr (λ all. h all.1)
   | inl rest ↦ elim (cases_lt 0 (length l)) [
     | inr none ↦ inr (λ all. omega (arith, all.0.0))
-    | inl some ↦ elim (cases_lt 63 (length l)) [
+    | inl some ↦ elim (cases_lt MAX_LABEL (length l)) [
       | inl past ↦ inr (λ all. omega (arith, all.0.1))
       | inr short ↦ inl ((some, short), rest)
     ]

@@ -6,6 +6,7 @@ use Rattle.nb_names.specs.declared.pointers.Pointers.TheVariants.{Followed, Refu
 use Rattle.nb_names.specs.declared.fault.NameFault.{NameFault}
 use Rattle.nb_names.specs.declared.fault.NameFault.TheVariants.{Truncated, ReservedLabel, PointerNotAllowed, BadPointer, TooLong, NotNetbios}
 use Rattle.nb_names.specs.declared.length_byte.LengthByte.{LengthByte}
+use Rattle.nb_names.specs.declared.limits.TheConstants.{MAX_LABEL}
 use Rattle.nb_names.specs.declared.length_byte.LengthByte.TheVariants.{Cut, End, Label, Reserved, Pointer}
 use Rattle.nb_names.specs.DomainName.{spelling, AreBytes, IsDomain}
 use Rattle.nb_names.specs.FirstLevel.{letter, letters, IsLetter, IsFirstNonLetter}
@@ -40,13 +41,13 @@ begins_pointer packet here bytes fits high = elim (cases_lt (here + 1) (length p
   | inr less ↦ (Cut, half_pointer _ (stands_one packet here fits) high (omega arith))
 ]
 
-begins_above : (packet : List ℕ) (here : ℕ) → AreBytes packet → here < length packet → 63 < get_or packet here 0 → BeginsSome packet here
+begins_above : (packet : List ℕ) (here : ℕ) → AreBytes packet → here < length packet → MAX_LABEL < get_or packet here 0 → BeginsSome packet here
 begins_above packet here bytes fits large = elim (cases_lt (get_or packet here 0) 192) [
   | inl low ↦ (Reserved, record { first = get_or packet here 0; there = stands_one packet here fits; low = omega arith; high = low })
   | inr high ↦ begins_pointer packet here bytes fits high
 ]
 
-begins_label : (packet : List ℕ) (here : ℕ) → here < length packet → 0 < get_or packet here 0 → get_or packet here 0 ≤ 63 → BeginsSome packet here
+begins_label : (packet : List ℕ) (here : ℕ) → here < length packet → 0 < get_or packet here 0 → get_or packet here 0 ≤ MAX_LABEL → BeginsSome packet here
 begins_label packet here fits some small = elim (cases_lt (length packet) (here + 1 + get_or packet here 0)) [
   | inl past ↦ (Cut, short_label _ (stands_one packet here fits) some small past)
   | inr whole ↦ (Label (get_or packet here 0), record { first = refl; some = some; short = small; whole = whole })
@@ -57,7 +58,7 @@ begins_some packet here bytes = elim (cases_lt here (length packet)) [
   | inr past ↦ (Cut, no_length_byte past)
   | inl fits ↦ elim (cases_lt 0 (get_or packet here 0)) [
     | inr none ↦ (End, ends_here packet here fits (omega arith))
-    | inl some ↦ elim (cases_lt 63 (get_or packet here 0)) [
+    | inl some ↦ elim (cases_lt MAX_LABEL (get_or packet here 0)) [
       | inl large ↦ begins_above packet here bytes fits large
       | inr small ↦ begins_label packet here fits some small
     ]

@@ -1,9 +1,9 @@
--- The labels of a name, read where it stands in a packet (RFC 1002 section 4.1). All offsets count
--- from the packet's first byte.
+-- What is read as a name's labels at an offset of a packet (RFC 1002 section 4.1). Offsets are counted
+-- in bytes from the packet's start.
 --
--- A run is the labels that stand one after the other. It ends in a zero byte, or in a pointer to
--- another run. Our choice: a pointer leads below the start of the run that it ends, so that each reading
--- comes to an end.
+-- A run is a row of labels without a gap, which a zero byte or a pointer closes. A pointer goes on with
+-- another run. Our choice: that run starts lower than the one that the pointer closes, so that no
+-- reading goes round for ever.
 use Rattle.std.specs.Prelude.{◌≡◌, ℕ, ◌+◌, ◌/◌, ◌%◌, ◌<◌, ◌≤◌, ◌^◌, List, [], ◌∷◌, length, take, drop}
 use Rattle.nb_names.specs.declared.limits.TheConstants.{MAX_SPELLING}
 use Rattle.nb_names.specs.declared.pointers.Pointers.{Pointers}
@@ -23,8 +23,8 @@ pub record IsPointer (packet : List ℕ) (at target : ℕ) : Type 0 where
   pub fits : target < 2 ^ 14
   pub bytes : StandsAt packet at (pointer_bytes target)
 
--- LabelsAt packet pointers start at labels next: in the run that began at `start`, these labels are
--- read from `at` on, and `next` is the offset after the run's zero byte or pointer
+-- LabelsAt packet pointers start at labels next: read from `at`, inside the run whose first length byte
+-- is at `start`, the packet has these labels, and that run is closed just before `next`
 pub data LabelsAt (packet : List ℕ) (pointers : Pointers) : ℕ → ℕ → List (List ℕ) → ℕ → Type 0 where
   ends : {start at : ℕ} → StandsAt packet at (0 ∷ []) → LabelsAt packet pointers start at [] (at + 1)
   goes_on : {start at next : ℕ} (label : List ℕ) (labels : List (List ℕ))

@@ -3,28 +3,28 @@
 use std::error::Error;
 use std::fmt;
 
-/// Why a name could not be read, and where.
+/// Why no name was read at an offset.
 ///
-/// Offsets count from the packet's first byte. The fault at the first length byte that has one is
-/// answered, and where several apply at one length byte, the first in this order.
+/// Each number but the last is an offset in bytes from the packet's start. A reading ends at the
+/// first length byte with which something is wrong; if several things are, the one that stands
+/// first here is answered.
 #[derive(Clone, Copy, Debug, PartialEq, Eq)]
 pub enum NameFault {
-    /// A length byte, or a byte of a label or of a pointer, is missing. The offset is that of the
-    /// first missing byte: the packet's length, or the name's offset where that is past it.
+    /// The packet ends before a length byte, or inside a label or a pointer. The number is where it
+    /// ends, or where the name was to begin if that is later.
     Truncated(usize),
-    /// The length byte at this offset begins with the bits 01 or 10, which RFC 1002 section 4.1
-    /// reserves.
+    /// The first bits of the length byte here are 01 or 10, which mean nothing yet (RFC 1002
+    /// section 4.1).
     ReservedLabel(usize),
-    /// The length byte at this offset begins a pointer, and pointers are refused.
+    /// The length byte here begins a pointer, and pointers are refused.
     PointerNotAllowed(usize),
-    /// The pointer at this offset doesn't lead below the start of the run of labels that it ends
-    /// (our choice).
+    /// The pointer here doesn't go back before the run that holds it (our choice).
     BadPointer(usize),
-    /// With the label at this offset the spelling passes 255 bytes, its zero byte included.
+    /// The label here makes the spelling longer than 255 bytes, counted with its zero byte.
     TooLong(usize),
-    /// The labels are no NetBIOS name's. The place is one in their spelling, not in the packet: its
-    /// start, where there is no first label of 32 bytes, else that of its first byte outside `A` to
-    /// `P`.
+    /// Labels were read, but no NetBIOS name has them. The number is a place in their spelling, not
+    /// in the packet: 0 unless the first label has 32 bytes, and then that of its first byte that
+    /// is none of `A` to `P`.
     NotNetbios(usize),
 }
 

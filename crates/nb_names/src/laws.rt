@@ -1,5 +1,5 @@
 //! Laws of the definitions that the contracts cite. Each is proved; a call does nothing.
-ghost use Rattle.std.specs.Prelude.{◌≡◌, ◌≢◌, ◌↔◌, ◌⊎◌, ℕ, ◌+◌, ◌*◌, ◌/◌, ◌%◌, ◌<◌, List, ◌∷◌, ◌++◌, length, slice_index};
+ghost use Rattle.std.specs.Prelude.{◌≡◌, ◌≢◌, ◌↔◌, ◌⊎◌, ℕ, ◌+◌, ◌*◌, ◌/◌, ◌%◌, ◌<◌, List, [], ◌∷◌, ◌++◌, length, slice_index};
 ghost use Rattle.std.specs.List.{sum_by};
 ghost use Rattle.std.specs.Int.{w16, to_be_bytes};
 ghost use Rattle.nb_names.specs.declared.fault.NameFault.{NameFault};
@@ -12,7 +12,7 @@ ghost use Rattle.nb_names.specs.Labels.{NameAt, pointer_bytes};
 ghost use Rattle.nb_names.specs.Name.{NetbiosName, IsName, IsScope, IsNoName, labels_of_name};
 ghost use Rattle.nb_names.specs.NameFaults.{FaultAt, NetbiosFaultAt};
 
-/// The limits that the definitions cite, as numbers.
+/// The limits of the definitions, as numbers.
 pub fn numbers()
     ensures label { MAX_LABEL ≡ 63 }
     ensures spelling { MAX_SPELLING ≡ 255 }
@@ -20,6 +20,7 @@ pub fn numbers()
     ensures bytes { NAME_LENGTH ≡ 16 }
     ensures front { FRONT_LENGTH ≡ 15 }
     ensures letters { LETTERS ≡ 32 }
+    ensures byte { (byte : ℕ) → AreBytes (byte ∷ []) ↔ (byte < 256) }
 {}
 
 /// Where labels stand they make a domain name, and no other labels and no other offset stand there.

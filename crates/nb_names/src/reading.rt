@@ -10,19 +10,18 @@ use crate::length_byte::{LengthByte, length_byte_at};
 use crate::name::Name;
 use crate::pointers::Pointers;
 
-/// Reads the domain name that begins at an offset, and the offset after it.
+/// Reads the domain name at an offset of a packet, and answers it with the offset that follows it.
 ///
-/// `packet` is the whole packet, since pointers count from its first byte. Offsets are in bytes
-/// from there, and `at` may lie past the end. The offset answered is after the zero byte or the
-/// first pointer, where the name itself stands. No memory is taken.
+/// Hand over all of the packet: pointers in it count from its start. Offsets are in bytes, and `at`
+/// may be past the end. What follows a name is what comes after its zero byte or after its first
+/// pointer, in the place where the name itself stands. No memory is taken.
 ///
 /// # Errors
 ///
-/// The first fault in reading order, and at one length byte the first in [`NameFault`]'s order;
-/// never `NotNetbios`.
+/// The first fault on the way, as [`NameFault`] orders them; never `NotNetbios`.
 ///
-/// RFC 1002 section 4.1. That a pointer leads below the start of the run of labels that it ends is
-/// our choice.
+/// RFC 1002 section 4.1. Which pointers are good is our choice: those that go back before the run
+/// that holds them.
 pub fn read_domain(
     packet: &[u8],
     at: usize,
@@ -69,7 +68,7 @@ pub fn read_domain(
     }
 }
 
-/// Reads the NetBIOS name that begins at an offset, and the offset after it.
+/// Reads the NetBIOS name at an offset of a packet, and answers it with the offset that follows it.
 ///
 /// It is read as by [`read_domain`], to the same offset. No memory is taken.
 ///

@@ -3,6 +3,7 @@
 mod counted;
 mod items;
 mod names;
+mod numbers;
 mod reading;
 mod slow_reading;
 mod slow_text;

@@ -9,7 +9,7 @@ use std::test::Fail;
 /// The spelling of `FRED<20>.NETBIOS.COM`, by the letters of RFC 1001 section 14.1.
 const FRED_NETBIOS_COM: &[u8] = b"\x20EGFCEFEECACACACACACACACACACACACA\x07NETBIOS\x03COM\x00";
 
-/// `FRED` with its fifth letter in lower case: the byte at 5 is none of `A` to `P`.
+/// The spelling of `FRED`, but for the small `e` at place 5.
 const FRED_LOWER_CASE_AT_5: &[u8] = b"\x20EGFCeFEECACACACACACACACACACACACA\x00";
 
 /// A spelling of 255 bytes, and a byte: `FRED`, three labels of 63 bytes, one of this size.

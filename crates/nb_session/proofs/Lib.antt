@@ -3,3 +3,5 @@ mod HeaderLemmas
 mod PacketLemmas
 mod ValueLemmas
 mod ParsingLemmas
+mod FillingLemmas
+mod PacketReadingLemmas

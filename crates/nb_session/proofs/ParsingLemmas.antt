@@ -1,6 +1,7 @@
 -- What stands at the front of bytes is one: a packet, the front of one, or a fault.
-use Rattle.std.proofs.Common.{◌≡◌, ℕ, ◌-◌, ◌<◌, ◌≤◌, List, ◌++◌, length, take, refl, ap, sym, subst, ◌∙◌, arith, length-append}
-use Rattle.std.proofs.lemmas.List.{take_at, length-take-le}
+use Rattle.std.proofs.Common.{◌≡◌, ℕ, ◌-◌, ◌<◌, ◌≤◌, List, ◌++◌, length, take, drop, refl, ap, sym, subst, ◌∙◌, arith, length-append, ◌⊎◌, inl, inr}
+use Rattle.std.proofs.lemmas.List.{take_at, take_all, take_rest, length-take-le}
+use Rattle.std.proofs.lemmas.Bool.{cases_lt}
 use Rattle.nb_names.specs.declared.pointers.Pointers.TheVariants.{Refused as refused}
 use Rattle.nb_names.specs.Labels.{NameAt}
 use Rattle.nb_names.specs.Name.{NetbiosName, labels_of_name}
@@ -15,7 +16,7 @@ use Rattle.nb_session.specs.declared.parsing.Parsed.{Parsed}
 use Rattle.nb_session.specs.declared.parsing.Parsed.TheVariants.{Whole, More, Refused}
 use Rattle.nb_session.specs.Header.{MayHave, HasHeader, body_length, packet_length, IsGood}
 use Rattle.nb_session.specs.Packet.{kind_of, IsPacket}
-use Rattle.nb_session.specs.Parsing.{HeaderFails, unknown_type, reserved_flags, bad_length, RequestFails, called_fails, calling_fails, bytes_trail, Parses, header_lacks, header_fails, body_lacks, body_fails, whole}
+use Rattle.nb_session.specs.Parsing.{Lacks, HeaderFails, unknown_type, reserved_flags, bad_length, RequestFails, called_fails, calling_fails, bytes_trail, Parses, header_lacks, header_fails, body_lacks, body_fails, whole}
 use Rattle.nb_session.proofs.HeaderLemmas.{header_within, one_header, one_kind, header_in_front, header_in_all}
 use Rattle.nb_session.proofs.PacketLemmas.{packet_headed}
 use Rattle.nb_session.proofs.ValueLemmas.{NameLaws, request_read, one_value}
@@ -162,3 +163,39 @@ front_lacks_body v bytes count is four few =
     body_lacks x.header (kind_of v) (header_in_front bytes count x.header four x.has) x.good (omega (arith, few, long, x.long)) in
     subst (λ (n : ℕ). Parses (take count bytes) (More (n - count))) (sym x.long)
     (subst (λ (n : ℕ). Parses (take count bytes) (More (packet_length x.header - n))) long lacks)
+
+-- ---- a packet that stands
+
+pub parses_whole : (bytes : List ℕ) (v : Packet) (used : ℕ) → Parses bytes (Whole v used) → (used ≤ length bytes) × IsPacket v (take used bytes)
+parses_whole bytes v used (whole w n fits is) = (fits, is)
+
+pub packet_parses_alone : (v : Packet) (bytes : List ℕ) → IsPacket v bytes → Parses bytes (Whole v (length bytes))
+packet_parses_alone v bytes is = whole v (length bytes) (omega arith) (subst (IsPacket v) (sym (take_all (length bytes) bytes (omega arith))) is)
+
+-- the same for the bytes from a place on
+pub taken_whole : (bytes : List ℕ) (start used : ℕ) (v : Packet) → Parses (take (length bytes - start) (drop start bytes)) (Whole v used) → IsPacket v (take used (drop start bytes))
+taken_whole bytes start used v stands =
+    (parses_whole (drop start bytes) v used (subst (λ (b : List ℕ). Parses b (Whole v used)) (take_rest bytes start) stands)).1
+
+-- ---- bytes that are read up to what judges them
+
+-- bytes that don't hold the header lack some of it
+pub short_lacks : (bytes : List ℕ) → length bytes < 4 → Lacks bytes
+short_lacks bytes few = (_, header_lacks few)
+
+-- the front of bytes with a good header lacks some, up to the packet's end
+pub front_lacks : (bytes : List ℕ) (h : Header) (k : Kind) (count : ℕ) → HasHeader bytes h → IsGood h k → length bytes ≤ packet_length h → count < length bytes → Lacks (take count bytes)
+front_lacks bytes h k count has good fits few =
+    let same : length (take count bytes) ≡ count = length-take-le count bytes (omega (arith, few)) in
+    front_lacks_by bytes h k count has good fits few same (cases_lt count 4) where
+      front_lacks_by : (bytes : List ℕ) (h : Header) (k : Kind) (count : ℕ) → HasHeader bytes h → IsGood h k → length bytes ≤ packet_length h → count < length bytes → length (take count bytes) ≡ count → (count < 4) ⊎ (4 ≤ count) → Lacks (take count bytes)
+      front_lacks_by bytes h k count has good fits few same (inl low) = short_lacks (take count bytes) (omega (arith, same, low))
+      front_lacks_by bytes h k count has good fits few same (inr high) = (_, body_lacks h k (header_in_front bytes count h high has) good (omega (arith, same, few, fits)))
+
+-- the bytes of a packet are judged by their last one
+pub packet_judged : (bytes : List ℕ) (h : Header) (k : Kind) → HasHeader bytes h → IsGood h k → length bytes ≡ packet_length h → (count : ℕ) → count < length bytes → Lacks (take count bytes)
+packet_judged bytes h k has good same count few = front_lacks bytes h k count has good (omega (arith, same)) few
+
+-- so are those of a header alone
+pub header_judged : (bytes : List ℕ) → length bytes ≡ 4 → (count : ℕ) → count < length bytes → Lacks (take count bytes)
+header_judged bytes same count few = short_lacks (take count bytes) (omega (arith, same, few, length-take-le count bytes (omega (arith, few))))

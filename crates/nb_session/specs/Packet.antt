@@ -45,3 +45,7 @@ IsFormed Keepalive = ⊤
 pub record IsPacket (packet : Packet) (bytes : List ℕ) : Type 0 where
   pub formed : IsFormed packet
   pub exact : bytes ≡ header_bytes (kind_of packet) (length (body_of packet)) ++ body_of packet
+
+-- IsWhole bytes: these bytes are a packet
+abbrev pub IsWhole : List ℕ → Type 0
+IsWhole bytes = (packet : Packet) × IsPacket packet bytes

@@ -3,7 +3,7 @@
 --
 -- Own: the header is judged as soon as it is there, before more is asked for; its faults come in the
 -- order of the cases here, and before those of the body.
-use Rattle.std.specs.Prelude.{◌≡◌, ℕ, ◌-◌, ◌<◌, ◌≤◌, List, length, take}
+use Rattle.std.specs.Prelude.{◌≡◌, ℕ, ◌-◌, ◌<◌, ◌≤◌, List, length, take, Option, Some, None}
 use Rattle.nb_names.specs.declared.pointers.Pointers.TheVariants.{Refused as refused}
 use Rattle.nb_names.specs.declared.fault.NameFault.{NameFault}
 use Rattle.nb_names.specs.Labels.{NameAt}
@@ -56,3 +56,17 @@ pub data Parses (bytes : List ℕ) : Parsed → Type 0 where
       → Parses bytes (Refused fault)
   whole : (packet : Packet) (used : ℕ) → used ≤ length bytes → IsPacket packet (take used bytes)
       → Parses bytes (Whole packet used)
+
+-- more bytes are needed to judge these
+abbrev pub Lacks : List ℕ → Type 0
+Lacks bytes = (needed : ℕ) × Parses bytes (More needed)
+
+-- how many bytes the packet takes up that stands there, if one does
+abbrev pub taken_by : Parsed → Option ℕ
+taken_by (Whole packet used) = Some used
+taken_by (More needed) = None
+taken_by (Refused fault) = None
+
+-- AreOnePacket bytes: what stands at the front of these bytes is a packet that takes up all of them
+abbrev pub AreOnePacket : List ℕ → Type 0
+AreOnePacket bytes = (parsed : Parsed) → Parses bytes parsed → taken_by parsed ≡ Some (length bytes)

@@ -3,18 +3,27 @@
 
 mod encoding;
 mod fault;
+mod filling;
 mod header;
 mod kind;
 pub mod laws;
 pub mod limits;
 mod packet;
+mod packet_bytes;
+mod packet_reading;
 mod parsing;
+mod room;
+mod stream;
 
 pub use encoding::encode;
 pub use fault::SessionFault;
 pub use kind::Kind;
 pub use packet::{MessageData, Packet, TooLong};
+pub use packet_bytes::PacketBytes;
+pub use packet_reading::{ReadFault, read_packet};
 pub use parsing::{Parsed, parse};
+pub use room::Room;
+pub use stream::{FeedFault, Next, Stream};
 
 #[cfg(test)]
 mod tests;

@@ -2,4 +2,6 @@
 
 mod encoding;
 mod parsing;
+mod reading;
+mod stream;
 mod vectors;

@@ -1,0 +1,107 @@
+//! One packet, read from a reader.
+ghost use Rattle.std.specs.Prelude.{◌≡◌, ◌<◌, ◌≤◌, ◌+◌, ◌-◌, ℕ, List, length, IfOk, IfErr};
+ghost use Rattle.std.specs.Io.KnownBytes.{Consumes};
+ghost use Rattle.nb_names.specs.Counted.{between};
+ghost use Rattle.nb_session.specs.declared.parsing.Parsed.TheVariants.{Refused as refused};
+ghost use Rattle.nb_session.specs.Header.{HasHeader, IsGood, packet_length};
+ghost use Rattle.nb_session.specs.Packet.{IsPacket};
+ghost use Rattle.nb_session.specs.PacketReading.{IsEarliest, Reads, Tells};
+ghost use Rattle.nb_session.specs.Parsing.{Parses};
+
+use crate::fault::SessionFault;
+use crate::filling::{Fill, read_full};
+use crate::header::{Header, read_header};
+use crate::kind::Kind;
+use crate::limits::HEADER_LENGTH;
+use crate::packet::Packet;
+use crate::parsing::read_packet_of;
+use crate::room::Room;
+use nb_names::Counted;
+use std::io::Read;
+use thiserror::Error;
+
+/// Why no packet was read.
+///
+/// The first that is met is answered. The reader stands where it was read to.
+#[derive(Clone, Copy, Debug, PartialEq, Eq, Error)]
+pub enum ReadFault {
+    /// The bytes read are no packet, nor begin one.
+    #[error("{0}")]
+    Refused(SessionFault),
+    /// The reader came to its end inside a packet, of which it gave this many bytes, one at least.
+    #[error("the end after {0} bytes of a packet")]
+    EndInside(usize),
+    /// A read failed otherwise than by an interrupt.
+    #[error("read")]
+    Device,
+    /// A read was interrupted, the 1,024th one of this call (own).
+    #[error("interrupted too often")]
+    TooManyInterrupts,
+    /// Memory ran out behind the header.
+    #[error("memory")]
+    NoMemory,
+}
+
+/// The packet that these bytes are, up to the last of which they were read.
+fn read_whole<'a>(kind: Kind, header: Header, bytes: &'a [u8]) -> Result<Packet<'a>, SessionFault>
+    requires header { HasHeader bytes.now header }
+    requires good { IsGood header kind }
+    requires whole { length bytes.now ≡ packet_length header }
+    ensures found { IfOk result (λ packet. IsPacket packet bytes.now) }
+    ensures fault { IfErr result (λ fault.
+        Parses bytes.now (refused fault) × IsEarliest bytes.now) }
+{
+    read_packet_of(kind, header, bytes)
+}
+
+/// Reads one packet, and no byte behind it, or answers `None` at the end before its first byte.
+///
+/// The header is read and judged, then room is made for the whole packet, then its body is read.
+/// A read that is interrupted is made again. A message is lent from the room.
+///
+/// # Errors
+///
+/// The first that is met. The room may be used again.
+///
+/// RFC 1002 section 4.3.
+pub fn read_packet<'a, R: Read>(
+    reader: &mut Counted<R>,
+    room: &'a mut Room,
+) -> Result<Option<Packet<'a>>, ReadFault>
+    // The bytes that this call took from the reader, and what they are.
+    ensures reads { (bytes : List ℕ) ×
+        Consumes (R.remaining reader.old.inner) (R.remaining reader.new.inner) bytes ×
+        Reads bytes (R.remaining reader.new.inner) result }
+
+    // What the calls told that it made of the reader.
+    ensures tells { Tells (between reader.old.counts reader.new.counts) result }
+{
+    let mut header = [0; HEADER_LENGTH];
+    let mut interrupts = 0;
+    match read_full(reader, &mut header, &mut interrupts) {
+        Fill::Whole => {}
+        Fill::End(0) => return Ok(None),
+        Fill::End(count) => return Err(ReadFault::EndInside(count)),
+        Fill::Device => return Err(ReadFault::Device),
+        Fill::TooManyInterrupts => return Err(ReadFault::TooManyInterrupts),
+    }
+    let judged = read_header(&header);
+    let kind = match judged.judge() {
+        Ok(kind) => kind,
+        Err(fault) => return Err(ReadFault::Refused(fault)),
+    };
+    match room.begin(&header, judged.packet_length()) {
+        Ok(()) => {}
+        Err(_) => return Err(ReadFault::NoMemory),
+    }
+    match read_full(reader, &mut room.bytes[HEADER_LENGTH..], &mut interrupts) {
+        Fill::Whole => {}
+        Fill::End(count) => return Err(ReadFault::EndInside(HEADER_LENGTH + count)),
+        Fill::Device => return Err(ReadFault::Device),
+        Fill::TooManyInterrupts => return Err(ReadFault::TooManyInterrupts),
+    }
+    match read_whole(kind, judged, room.as_slice()) {
+        Ok(packet) => Ok(Some(packet)),
+        Err(fault) => Err(ReadFault::Refused(fault)),
+    }
+}

@@ -88,13 +88,45 @@ expect 0 '*' '' --help
 expect 0 '*' '' name --help
 expect 0 $'nbt 0.1.0\n' '' --version
 
+# Packets built, and shown.
+claim=000229100001000000000001${fred}00200001c00c00200001000493e0000600000a000005
+expect 0 "137 0 $claim"$'\n' '' build --broadcast registration 0002 'FRED<20>' 300000 0000 10.0.0.5
+expect 0 $'139 0 85000000\n' '' build keepalive
+expect 1 '' $'nbt: arguments\n' build nonsense
+expect 1 '' $'nbt: arguments\n' build query
+expect 1 '' $'nbt: bad text 4\n' build query 0001 FRED
+expect 2 '' '*' build
+expect 2 '' '*' build --nonsense query 0001 'FRED<20>'
+expect 2 '' '*' show capture
+expect 0 '' '' show
+input=$room/input
+printf '139 0 840000060a000007008b\n# a comment\n139 0 00\ntick 7' >"$input"
+expect 0 $'1 139 retarget address=10.0.0.7 port=139 used=10\n3 139 more 3\n4 tick 7\n' '' show
+printf 'tick 1\nx\ntick 3\n' >"$input"
+expect 1 $'1 tick 1\n' $'nbt: line 2\n' show
+input=/dev/null
+"$program" build --broadcast registration 0002 'FRED<20>' 300000 0000 10.0.0.5 | "$program" show >"$room/output" 2>"$room/errors"
+holds "$room/output" $'1 137 id=0002 word=2910 op=registration flags=RD+B rcode=ok qd=1 an=0 ns=0 ar=1 used=68
+  question FRED<20> type=0020 class=0001
+  additional FRED<20> type=0020 class=0001 ttl=300000 data=00000a000005
+    entry flags=0000 ont=0 address=10.0.0.5\n' && holds "$room/errors" ''
+count $? 'nbt build into nbt show'
+
+# An input that can't be read.
+"$program" show <&- >"$room/output" 2>"$room/errors"
+[ $? -eq 3 ] && holds "$room/output" '' && holds "$room/errors" $'nbt: read\n'
+count $? 'nbt show, standard input closed'
+"$program" show <"$room" >"$room/output" 2>"$room/errors"
+[ $? -eq 3 ] && holds "$room/output" '' && holds "$room/errors" $'nbt: read\n'
+count $? 'nbt show, a folder as standard input'
+
 # A word that isn't UTF-8, wherever it stands.
 expect 3 '' $'nbt: read\n' $'\xff'
 expect 3 '' $'nbt: read\n' name $'FRED<20>\xff'
 expect 3 '' $'nbt: read\n' name --bytes "$fred" $'\xc3'
 
 # Outputs that are full or closed; a closed standard error changes nothing.
-for words in 'name FRED<20>' "name --bytes $fred" --help --version; do
+for words in 'name FRED<20>' "name --bytes $fred" 'build keepalive' --help --version; do
     "$program" $words >/dev/full 2>"$room/errors"
     [ $? -eq 3 ] && holds "$room/errors" $'nbt: write\n'
     count $? "nbt $words, standard output full"
@@ -102,6 +134,10 @@ for words in 'name FRED<20>' "name --bytes $fred" --help --version; do
     [ $? -eq 3 ] && holds "$room/errors" $'nbt: write\n'
     count $? "nbt $words, standard output closed"
 done
+printf 'tick 1\nx\n' >"$room/input"
+"$program" show <"$room/input" >/dev/full 2>"$room/errors"
+[ $? -eq 3 ] && holds "$room/errors" $'nbt: write\n'
+count $? 'nbt show, standard output full, a malformed line behind it'
 "$program" name FRED >"$room/output" 2>/dev/full
 [ $? -eq 1 ] && holds "$room/output" ''
 count $? 'nbt name FRED, standard error full'
@@ -109,11 +145,13 @@ count $? 'nbt name FRED, standard error full'
 [ $? -eq 2 ] && holds "$room/output" ''
 count $? 'nbt nonsense, standard error closed'
 
-# `name` reads nothing.
+# `name` and `build` read nothing.
 printf 'left' >"$room/input"
-{ "$program" name 'FRED<20>' >/dev/null && head -c 4 >"$room/left"; } <"$room/input"
-holds "$room/left" left
-count $? 'nbt name leaves its input unread'
+for words in 'name FRED<20>' 'build keepalive'; do
+    { "$program" $words >/dev/null && head -c 4 >"$room/left"; } <"$room/input"
+    holds "$room/left" left
+    count $? "nbt $words leaves its input unread"
+done
 
 # Each request for memory refused.
 if ${CC:-cc} -shared -fPIC -O1 -o "$room/refuse.so" "$here/refuse_memory.c" -ldl; then
@@ -122,6 +160,12 @@ if ${CC:-cc} -shared -fPIC -O1 -o "$room/refuse.so" "$here/refuse_memory.c" -ldl
     remembers name FRED
     remembers name
     remembers name --help
+    remembers build registration 0002 'FRED<20>' 300000 0000 10.0.0.5
+    remembers build message 616263
+    remembers build query 0001 FRED
+    { "$program" build query 0001 'FRED<20>.A' && printf 'tick 2\n139 0 00000003616263\nx\n'; } >"$room/input"
+    input=$room/input
+    remembers show
 else
     count 1 'tests/refuse_memory.c: no C compiler'
 fi

@@ -4,7 +4,7 @@ use Rattle.std.specs.Fmt.{decimal}
 use Rattle.nb_names.specs.FaultTexts.{name_fault_text}
 use Rattle.nb_names.specs.TextFaults.{text_fault_text}
 use Rattle.nbt.specs.declared.fault.Fault.{Fault}
-use Rattle.nbt.specs.declared.fault.Fault.TheVariants.{Text, Name, BadHex, TrailingBytes, Arguments, Read, Write, Memory}
+use Rattle.nbt.specs.declared.fault.Fault.TheVariants.{Text, Name, BadHex, TrailingBytes, Arguments, TooLong, Line, Read, Write, Memory}
 use Rattle.nbt.specs.declared.status.Status.{Status}
 use Rattle.nbt.specs.declared.status.Status.TheVariants.{Done, Refused, Failed}
 
@@ -15,6 +15,8 @@ fault_text (Name fault) = name_fault_text fault
 fault_text BadHex = codes "bad hex"
 fault_text (TrailingBytes at) = codes "trailing bytes " ++ decimal at
 fault_text Arguments = codes "arguments"
+fault_text TooLong = codes "too long"
+fault_text (Line number) = codes "line " ++ decimal number
 fault_text Read = codes "read"
 fault_text Write = codes "write"
 fault_text Memory = codes "memory"
@@ -26,6 +28,8 @@ status_of (Name fault) = Refused
 status_of BadHex = Refused
 status_of (TrailingBytes at) = Refused
 status_of Arguments = Refused
+status_of TooLong = Refused
+status_of (Line number) = Refused
 status_of Read = Failed
 status_of Write = Failed
 status_of Memory = Failed

@@ -10,7 +10,7 @@ use Rattle.nb_names.specs.Labels.{NameAt}
 use Rattle.nb_names.specs.NameFaults.{NetbiosFaultAt}
 use Rattle.nbt.specs.Output.{AppendsFront}
 use Rattle.nbt.specs.declared.fault.Fault.{Fault}
-use Rattle.nbt.specs.declared.fault.Fault.TheVariants.{Text, Name, BadHex, TrailingBytes, Arguments, Read, Write, Memory}
+use Rattle.nbt.specs.declared.fault.Fault.TheVariants.{Text, Name, BadHex, TrailingBytes, Arguments, TooLong, Line, Read, Write, Memory}
 
 -- the text as a line
 abbrev pub line : List ℕ → List ℕ
@@ -34,6 +34,8 @@ IsSpellingFault text (Name fault) = ⊥
 IsSpellingFault text BadHex = ⊥
 IsSpellingFault text (TrailingBytes at) = ⊥
 IsSpellingFault text Arguments = ⊥
+IsSpellingFault text TooLong = ⊥
+IsSpellingFault text (Line number) = ⊥
 IsSpellingFault text Read = ⊥
 IsSpellingFault text Write = Unit {0}
 IsSpellingFault text Memory = Unit {0}
@@ -59,6 +61,8 @@ IsNameFault digits BadHex = IsErr (decode_of digits)
 IsNameFault digits (Name fault) = (bytes : List ℕ) × (decode_of digits ≡ Ok bytes) × NetbiosFaultAt bytes Refused 0 fault
 IsNameFault digits (TrailingBytes at) = (bytes : List ℕ) × (decode_of digits ≡ Ok bytes) × IsTrailing bytes at
 IsNameFault digits Arguments = ⊥
+IsNameFault digits TooLong = ⊥
+IsNameFault digits (Line number) = ⊥
 IsNameFault digits Read = ⊥
 IsNameFault digits Write = Unit {0}
 IsNameFault digits Memory = Unit {0}

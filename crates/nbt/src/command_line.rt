@@ -21,6 +21,30 @@ const NAME_HELP: &str = "The text of a name: up to 15 bytes, the last byte as tw
                          memory{n}ran out. With 1 and 3 one line, `nbt: ` and the reason, goes to \
                          standard error.";
 
+/// The lines of a capture, and how the program ends.
+const SHOW_HELP: &str = "A capture is lines: `137 MOMENT HEX`, `138 MOMENT HEX` or `139 MOMENT \
+                         HEX` for a payload of that port, `tick MOMENT`{n}for the clock, and \
+                         empty lines and comments that begin with `#`. MOMENT is in \
+                         milliseconds; HEX is the payload,{n}two digits a byte, or the word \
+                         `empty`.{n}{n}Example: nbt build query 0001 'FRED<20>' | nbt \
+                         show{n}{n}Exit status: 0 all was shown, 1 a line is malformed, 2 the \
+                         command line was bad, 3 a device failed or memory{n}ran out. With 1 and \
+                         3 one line, `nbt: ` and the reason, goes to standard error, and what \
+                         stands before it is shown.";
+
+/// The packets that can be built, and how the program ends.
+const BUILD_HELP: &str = "Port 137: query ID NAME, status ID NAME, registration ID NAME TTL FLAGS \
+                          ADDRESS, refresh (the same), release ID NAME{n}FLAGS ADDRESS{n}Port \
+                          139: request CALLED CALLING, message HEX, positive, negative CODE, \
+                          retarget ADDRESS PORT, keepalive{n}{n}ID and FLAGS are four \
+                          hexadecimal digits, CODE two; TTL and PORT decimal numbers; ADDRESS \
+                          four decimal numbers{n}with dots; HEX two digits a byte, or the word \
+                          `empty`. Names are as `nbt name` takes them.{n}{n}Example: nbt build \
+                          --broadcast registration 0002 'FRED<20>' 300000 0000 10.0.0.5{n}{n}Exit \
+                          status: 0 all was done, 1 an argument was refused, 2 the command line \
+                          was bad, 3 a device failed or{n}memory ran out. With 1 and 3 one line, \
+                          `nbt: ` and the reason, goes to standard error.";
+
 /// The command line: a subcommand and its arguments.
 ///
 /// # Errors
@@ -32,7 +56,9 @@ pub fn command<'a>(alloc: Global) -> Result<Command<'a>, AllocError> {
         .version(VERSION)
         .after_help(STATUSES)
         .subcommand_required(true);
-    Ok(top.subcommand(name_command(alloc)?)?)
+    let top = top.subcommand(name_command(alloc)?)?;
+    let top = top.subcommand(show_command(alloc))?;
+    Ok(top.subcommand(build_command(alloc)?)?)
 }
 
 /// `name [--bytes] VALUE`.
@@ -49,4 +75,31 @@ fn name_command<'a>(alloc: Global) -> Result<Command<'a>, AllocError> {
         .about("Print the spelling of a name, or with --bytes the text of a spelling")
         .after_help(NAME_HELP);
     Ok(name.arg(bytes)?.arg(value)?)
+}
+
+/// `show`.
+fn show_command<'a>(alloc: Global) -> Command<'a> {
+    Command::new(alloc, "show")
+        .about("Show the packets of the capture on standard input")
+        .after_help(SHOW_HELP)
+}
+
+/// `build [--broadcast] WHAT ARG..`.
+fn build_command<'a>(alloc: Global) -> Result<Command<'a>, AllocError> {
+    let broadcast = Arg::new(alloc, "broadcast")
+        .long("broadcast")
+        .help("The packet of port 137 is broadcast")
+        .action(ArgAction::SetTrue);
+    let what = Arg::new(alloc, "WHAT")
+        .help("The packet to build")
+        .required(true)
+        .action(ArgAction::Set);
+    let words = Arg::new(alloc, "ARG")
+        .help("What the packet has, as listed below")
+        .num_args(0..)
+        .action(ArgAction::Append);
+    let build = Command::new(alloc, "build")
+        .about("Print the capture line of a packet")
+        .after_help(BUILD_HELP);
+    Ok(build.arg(broadcast)?.arg(what)?.arg(words)?)
 }

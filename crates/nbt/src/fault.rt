@@ -4,7 +4,7 @@ ghost use Rattle.nbt.specs.FaultTexts.{status_of};
 
 use crate::status::Status;
 use nb_names::{NameFault, NoMemory, TextFault};
-use std::fmt;
+use std::{fmt, io};
 
 /// Why a command ended before it was done.
 #[derive(Clone, Copy, Debug, PartialEq, Eq)]
@@ -19,7 +19,11 @@ pub enum Fault {
     TrailingBytes(usize),
     /// The words after the subcommand are none that it takes.
     Arguments,
-    /// The program's words couldn't be read.
+    /// The data is more than a packet takes.
+    TooLong,
+    /// A line of a capture is malformed. The number is the line's, the first being 1.
+    Line(usize),
+    /// The program's words couldn't be read, or its input not to its end.
     Read,
     /// The output failed.
     Write,
@@ -37,7 +41,9 @@ impl Fault {
             | Fault::Name(_)
             | Fault::BadHex
             | Fault::TrailingBytes(_)
-            | Fault::Arguments => Status::Refused,
+            | Fault::Arguments
+            | Fault::TooLong
+            | Fault::Line(_) => Status::Refused,
             Fault::Read | Fault::Write | Fault::Memory => Status::Failed,
         }
     }
@@ -56,6 +62,8 @@ impl fmt::Display for Fault {
             Fault::BadHex => f.write_str("bad hex"),
             Fault::TrailingBytes(at) => write!(f, "trailing bytes {at}"),
             Fault::Arguments => f.write_str("arguments"),
+            Fault::TooLong => f.write_str("too long"),
+            Fault::Line(number) => write!(f, "line {number}"),
             Fault::Read => f.write_str("read"),
             Fault::Write => f.write_str("write"),
             Fault::Memory => f.write_str("memory"),
@@ -93,5 +101,16 @@ impl From<NoMemory> for Fault {
 
     fn from(_fault: NoMemory) -> Fault {
         Fault::Memory
+    }
+}
+
+impl From<io::Error> for Fault {
+    ghost use Rattle.std.specs.Prelude.{◌≡◌};
+    ghost use Rattle.nbt.specs.declared.fault.Fault.TheVariants.{Write};
+
+    ghost from_gives = { λ _ made. made ≡ Write };
+
+    fn from(_error: io::Error) -> Fault {
+        Fault::Write
     }
 }

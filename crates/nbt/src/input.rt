@@ -25,6 +25,21 @@ pub struct Input {
     pub is_whole: bool,
 }
 
+impl Input {
+    /// The bytes that are looked at: [`MAX_INPUT`] at most.
+    pub fn front(&self) -> &[u8]
+        ensures value { result.now ≡ take 16777216 self.now.bytes.items }
+        ensures within { length result.now ≤ 16777216 }
+    {
+        let bytes = self.bytes.as_slice();
+        if bytes.len() <= MAX_INPUT {
+            bytes
+        } else {
+            &bytes[..MAX_INPUT]
+        }
+    }
+}
+
 /// Reads an input to its end, to a read that fails, or past [`MAX_INPUT`] bytes.
 ///
 /// A read fails here too where it is interrupted 1,024 times in a row.

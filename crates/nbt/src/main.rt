@@ -1,6 +1,7 @@
 //! `nbt`: NetBIOS packets on the command line.
 #![tactic(auto)]
 
+mod build;
 mod clap_answer;
 mod command_line;
 mod fault;
@@ -9,6 +10,7 @@ mod lines;
 mod name;
 mod output;
 mod program;
+mod show;
 mod status;
 mod writing;
 

@@ -77,7 +77,7 @@ impl<W> Output<W> {
         ensures fault { IfErr result (λ fault. fault ≡ Fault.Write) }
         ensures err { OnErr result (AppendsFront (W.contents self.old.inner)
             (W.contents self.new.inner) bytes.now) }
-        ensures why { OnErr result (ShowsFailing self.old.counts self.new.counts) }
+        ensures why { OnErr result (ShowsFailing no_calls self.new.counts) }
     {
         match write_whole(&mut self.device, bytes) {
             Ok(()) => Ok(()),

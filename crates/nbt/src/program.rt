@@ -2,15 +2,18 @@
 ghost use Rattle.std.specs.Prelude.{◌≡◌, ◌≢◌, ◌≤◌, IfErr};
 ghost use Rattle.std.specs.Io.KnownBytes.{Keeps};
 ghost use Rattle.clap.specs.Words.{kind_of};
+ghost use Rattle.nb_names.specs.Counted.{no_calls};
 ghost use Rattle.nbt.specs.Output.{ShowsFailing};
 ghost use Rattle.nbt.specs.FaultTexts.{status_after};
 ghost use Rattle.nbt.specs.ClapAnswer.{Reports, answer_to};
 
+use crate::build::run_build;
 use crate::clap_answer::ClapAnswer;
 use crate::command_line::command;
 use crate::fault::Fault;
 use crate::name::run_name;
 use crate::output::Output;
+use crate::show::run_show;
 use crate::status::Status;
 use clap::{ArgMatches, Error};
 use nb_names::Counted;
@@ -32,7 +35,6 @@ pub fn run<R: Read, W: Write, E: Write>(
     errors: &mut E,
 ) -> u8
     ensures within { result ≤ 3 }
-    ensures unread { input.new ≡ input.old }
 {
     let mut input = Counted::new(&mut *input);
     let mut output = Output::new(&mut *output);
@@ -52,7 +54,6 @@ fn run_words<R: Read, W: Write, E: Write>(
     output: &mut Output<W>,
     errors: &mut Output<E>,
 ) -> Status
-    ensures unread { input.new ≡ input.old }
     ensures usage { result ≡ Status.BadUsage →
         Keeps (W.contents output.old.inner) (W.contents output.new.inner) }
 {
@@ -76,13 +77,13 @@ fn run_command<R: Read, W: Write>(
     input: &mut Counted<R>,
     output: &mut Output<W>,
 ) -> Result<(), Fault>
-    ensures unread { input.new ≡ input.old }
     ensures why { IfErr result (λ fault. fault ≡ Fault.Write →
-        ShowsFailing output.old.counts output.new.counts) }
+        ShowsFailing no_calls output.new.counts) }
 {
-    let _ = input;
     match matches.subcommand() {
         Some(("name", matches)) => run_name(alloc, matches, output),
+        Some(("show", _)) => run_show(alloc, input, output),
+        Some(("build", matches)) => run_build(alloc, matches, output),
         _ => Err(Fault::Arguments),
     }
 }

@@ -1,16 +1,11 @@
 //! `nbt name`, both ways.
 
-use crate::tests::fakes::{FRED, run_on};
+use crate::tests::fakes::{FRED, SCOPED, run_on};
 use std::test::Fail;
-
-/// The spelling of `FRED<20>.NETBIOS.COM` in hexadecimal: 46 bytes, by the letters of RFC 1001
-/// section 14.1.
-const SPELLED: &str = "204547464345464545434143414341434143414341434143414341434143414341\
-                       074e455442494f5303434f4d00";
 
 #[test]
 fn a_text_is_spelled(rt: HostRuntime) -> Result<(), Fail> {
-    for (text, digits) in [("FRED<20>.NETBIOS.COM", SPELLED), ("\\46RED<20>", FRED)] {
+    for (text, digits) in [("FRED<20>.NETBIOS.COM", SCOPED), ("\\46RED<20>", FRED)] {
         let ran = run_on(rt.alloc(), &["name", text])?;
         assert_eq!(rt; ran.status, 0);
         let want = format!(in rt.alloc(); "{digits}\n")?;
@@ -24,7 +19,7 @@ fn a_text_is_spelled(rt: HostRuntime) -> Result<(), Fail> {
 fn the_name_of_a_spelling_is_printed(rt: HostRuntime) -> Result<(), Fail> {
     let upper_case = "204547464345464545434143414341434143414341434143414341434143414341\
                       074E455442494F5303434F4D00";
-    for digits in [SPELLED, upper_case] {
+    for digits in [SCOPED, upper_case] {
         let ran = run_on(rt.alloc(), &["name", "--bytes", digits])?;
         assert_eq!(rt; ran.status, 0);
         assert_eq!(rt; ran.output.as_slice(), b"FRED<20>.NETBIOS.COM\n".as_slice());

@@ -1,0 +1,69 @@
+//! `nbt build`: packets as the lines of a capture.
+ghost use Rattle.std.specs.Prelude.{◌≡◌, ◌≢◌, IfErr};
+ghost use Rattle.std.specs.Io.KnownBytes.{Keeps};
+ghost use Rattle.nb_names.specs.Counted.{no_calls};
+ghost use Rattle.nbt.specs.Output.{ShowsFailing};
+
+mod arguments;
+mod build_fault;
+mod service;
+mod session;
+
+use crate::build::build_fault::BuildFault;
+use crate::fault::Fault;
+use crate::output::Output;
+use clap::ArgMatches;
+use nb_names::{Bytes, NoMemory};
+use std::alloc::Global;
+use std::io::Write;
+
+/// `nbt build [--broadcast] WHAT ARG..`: prints a capture line for each packet built.
+///
+/// WHAT is judged before the number of arguments, and that before each of them from left to right.
+///
+/// # Errors
+///
+/// [`Fault::Text`] for a bad name; [`Fault::Arguments`] for another WHAT, another number of
+/// arguments, or another bad one; [`Fault::TooLong`] for more data than a packet takes;
+/// [`Fault::Memory`]. Nothing is printed then. [`Fault::Write`] where the output failed.
+pub fn run_build<W: Write>(
+    alloc: Global,
+    matches: &ArgMatches<'_>,
+    output: &mut Output<W>,
+) -> Result<(), Fault>
+    ensures err { IfErr result (λ fault. fault ≢ Fault.Write →
+        Keeps (W.contents output.old.inner) (W.contents output.new.inner)) }
+    ensures why { IfErr result (λ fault. fault ≡ Fault.Write →
+        ShowsFailing no_calls output.new.counts) }
+{
+    match build(alloc, matches) {
+        Ok(lines) => output.print(lines.as_bytes()),
+        Err(BuildFault::Text(fault)) => Err(Fault::Text(fault)),
+        Err(BuildFault::Arguments) => Err(Fault::Arguments),
+        Err(BuildFault::TooLong) => Err(Fault::TooLong),
+        Err(BuildFault::Memory) => Err(Fault::Memory),
+    }
+}
+
+/// The lines of the packets that the words ask for.
+fn build(alloc: Global, matches: &ArgMatches<'_>) -> Result<String, BuildFault> {
+    let what = matches.get_str("WHAT").unwrap_or("");
+    let words = matches.get_strs("ARG").unwrap_or(&[]);
+    match what {
+        "query" | "status" | "registration" | "refresh" | "release" => {
+            let packet = service::build(alloc, what, words, matches.get_flag("broadcast"))?;
+            Ok(line(alloc, 137, &packet)?)
+        }
+        "request" | "message" | "positive" | "negative" | "retarget" | "keepalive" => {
+            let packet = session::build(alloc, what, words)?;
+            Ok(line(alloc, 139, &packet)?)
+        }
+        _ => Err(BuildFault::Arguments),
+    }
+}
+
+/// The capture line of a payload, at moment 0.
+fn line(alloc: Global, port: u16, payload: &Bytes) -> Result<String, NoMemory> {
+    let digits = hex::encode(alloc, payload.as_slice())?;
+    Ok(format!(in alloc; "{port} 0 {digits}\n")?)
+}

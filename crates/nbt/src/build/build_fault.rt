@@ -1,0 +1,35 @@
+//! Why no packet is built.
+
+use nb_names::{NoMemory, TextFault};
+use std::alloc::AllocError;
+
+/// Why no packet is built.
+#[derive(Clone, Copy, Debug, PartialEq, Eq)]
+pub enum BuildFault {
+    /// The text of a name was refused.
+    Text(TextFault),
+    /// There is no such packet, or it takes other arguments.
+    Arguments,
+    /// The packet takes fewer bytes.
+    TooLong,
+    /// Memory ran out.
+    Memory,
+}
+
+impl From<TextFault> for BuildFault {
+    fn from(fault: TextFault) -> BuildFault {
+        BuildFault::Text(fault)
+    }
+}
+
+impl From<NoMemory> for BuildFault {
+    fn from(_fault: NoMemory) -> BuildFault {
+        BuildFault::Memory
+    }
+}
+
+impl From<AllocError> for BuildFault {
+    fn from(_fault: AllocError) -> BuildFault {
+        BuildFault::Memory
+    }
+}

@@ -1,0 +1,125 @@
+//! `nbt show`: the packets of a capture as text.
+ghost use Rattle.std.specs.Prelude.{◌≡◌, IfErr};
+ghost use Rattle.nb_names.specs.Counted.{no_calls};
+ghost use Rattle.nbt.specs.Output.{ShowsFailing};
+
+mod service;
+mod session;
+mod texts;
+
+use crate::fault::Fault;
+use crate::input::{Input, read_input};
+use crate::lines::next_line;
+use crate::output::Output;
+use nb_member::limits::MAX_LINE;
+use nb_member::{Line, LineFault, capture_line};
+use nb_names::{Counted, NoMemory};
+use std::alloc::Global;
+use std::io::{BufWriter, Read, Write};
+
+/// `nbt show`: reads the whole input, and shows its packets in order.
+///
+/// # Errors
+///
+/// The first that is met: [`Fault::Write`] where a line can't be written, [`Fault::Line`] for a
+/// malformed line, [`Fault::Read`] where the input couldn't be read to its end, [`Fault::Memory`]
+/// where memory ran out. What stands before it is shown.
+pub fn run_show<R: Read, W: Write>(
+    alloc: Global,
+    input: &mut Counted<R>,
+    output: &mut Output<W>,
+) -> Result<(), Fault>
+    ensures why { IfErr result (λ fault. fault ≡ Fault.Write →
+        ShowsFailing no_calls output.new.counts) }
+{
+    let input = read_input(alloc, input)?;
+    let shown = show_input(alloc, &input, output);
+    if output.has_failed() {
+        return Err(Fault::Write);
+    }
+    match shown {
+        // No write came to nothing, so it is the buffer that there was no memory for.
+        Err(Fault::Write) => Err(Fault::Memory),
+        shown => shown,
+    }
+}
+
+/// Shows an input through a buffer of fixed size, which is written out in the end.
+fn show_input<W: Write>(alloc: Global, input: &Input, output: &mut Output<W>) -> Result<(), Fault> {
+    let mut buffer = BufWriter::new(alloc, output)?;
+    let shown = show_lines(alloc, input, &mut buffer);
+    buffer.flush()?;
+    shown
+}
+
+/// Shows the lines that are finished, and the rest.
+fn show_lines<W: Write>(alloc: Global, input: &Input, output: &mut W) -> Result<(), Fault> {
+    let mut rest = input.front();
+    let mut number = 1;
+    while let Some((line, after)) = next_line(rest) {
+        show_line(alloc, number, line, output)?;
+        rest = after;
+        number += 1;
+    }
+    show_rest(alloc, number, rest, input.is_whole, output)
+}
+
+/// Shows what follows the last line feed: a line, where the input ends there. Else only its length
+/// is judged.
+fn show_rest<W: Write>(
+    alloc: Global,
+    number: usize,
+    rest: &[u8],
+    is_whole: bool,
+    output: &mut W,
+) -> Result<(), Fault> {
+    if MAX_LINE < rest.len() {
+        return Err(Fault::Line(number));
+    }
+    if !is_whole {
+        return Err(Fault::Read);
+    }
+    if rest.is_empty() {
+        return Ok(());
+    }
+    show_line(alloc, number, rest, output)
+}
+
+/// Shows what one line says, whole or not at all.
+fn show_line<W: Write>(
+    alloc: Global,
+    number: usize,
+    line: &[u8],
+    output: &mut W,
+) -> Result<(), Fault> {
+    let said = match capture_line(alloc, line) {
+        Ok(Some(said)) => said,
+        Ok(None) => return Ok(()),
+        Err(LineFault::BadLine) => return Err(Fault::Line(number)),
+        Err(LineFault::NoMemory) => return Err(Fault::Memory),
+    };
+    let mut text = String::new(alloc);
+    push_line(alloc, number, &said, &mut text)?;
+    output.write_all(text.as_bytes())?;
+    Ok(())
+}
+
+/// Adds the text of what a line says.
+fn push_line(alloc: Global, number: usize, said: &Line, text: &mut String) -> Result<(), NoMemory> {
+    match said {
+        Line::Tick { now } => writeln!(text, "{number} tick {now}")?,
+        Line::Packet {
+            port,
+            moment: _,
+            payload,
+        } => {
+            write!(text, "{number} {port} ")?;
+            match *port {
+                137 => service::push_packet(alloc, payload.as_slice(), text)?,
+                139 => session::push_packet(alloc, payload.as_slice(), text)?,
+                _ => writeln!(text, "passed")?,
+            }
+        }
+    }
+    Ok(())
+}

@@ -1,0 +1,205 @@
+//! `nbt build`: the packets by the layouts of RFC 1002.
+
+use crate::tests::fakes::{FRED, JOE, expect_printed, expect_refused, expect_shown};
+use std::alloc::Global;
+use std::process::Abort;
+use std::test::Fail;
+
+/// Each WHAT of port 137 with B clear, and with B set.
+#[test]
+fn name_service_packets_are_built(rt: HostRuntime) -> Result<(), Fail> {
+    let alloc = rt.alloc();
+    let ask = format!(in alloc; "0001000000000000{FRED}")?;
+    let claim = format!(in alloc; "0001000000000001{FRED}00200001c00c00200001")?;
+    let query = format!(in alloc; "{ask}00200001")?;
+    let status = format!(in alloc; "{ask}00210001")?;
+    let registration = format!(in alloc; "{claim}000493e0000600000a000005")?;
+    let refresh = format!(in alloc; "{claim}ffffffff0006e000ff000a01")?;
+    let release = format!(in alloc; "{claim}00000000000660000a000005")?;
+    let rows = [
+        ("query 0003 FRED<20>", "0003", ["0100", "0110"], query),
+        ("status a1B2 FRED<20>", "a1b2", ["0000", "0010"], status),
+        (
+            "registration 0002 FRED<20> 300000 0000 10.0.0.5",
+            "0002",
+            ["2900", "2910"],
+            registration,
+        ),
+        (
+            "refresh 0002 FRED<20> 4294967295 e000 255.0.10.1",
+            "0002",
+            ["4000", "4010"],
+            refresh,
+        ),
+        (
+            "release 0002 FRED<20> 6000 10.0.0.5",
+            "0002",
+            ["3000", "3010"],
+            release,
+        ),
+    ];
+    for (words, id, [clear, set], rest) in rows {
+        let plain = format!(in alloc; "137 0 {id}{clear}{rest}\n")?;
+        expect_built(&rt, alloc, words, plain.as_str())?;
+        let words = format!(in alloc; "--broadcast {words}")?;
+        let broadcast = format!(in alloc; "137 0 {id}{set}{rest}\n")?;
+        expect_built(&rt, alloc, words.as_str(), broadcast.as_str())?;
+    }
+    Ok(())
+}
+
+/// Compares what `nbt build` prints for these words, which have no spaces in them.
+fn expect_built(rt: &impl Abort, alloc: Global, words: &str, want: &str) -> Result<(), Fail> {
+    let mut given: Vec<&str> = Vec::new(alloc);
+    given.push("build")?;
+    for word in words.split(' ') {
+        given.push(word)?;
+    }
+    expect_printed(rt, alloc, given.as_slice(), want)
+}
+
+#[test]
+fn session_packets_are_built(rt: HostRuntime) -> Result<(), Fail> {
+    let alloc = rt.alloc();
+    let request = format!(in alloc; "81000044{JOE}{FRED}")?;
+    let rows: [(&[&str], &str); 8] = [
+        (
+            &["build", "request", "JOE<00>", "FRED<20>"],
+            request.as_str(),
+        ),
+        (&["build", "message", "616263"], "00000003616263"),
+        (&["build", "message", "empty"], "00000000"),
+        (&["build", "positive"], "82000000"),
+        (&["build", "negative", "8F"], "830000018f"),
+        (
+            &["build", "retarget", "10.0.0.7", "139"],
+            "840000060a000007008b",
+        ),
+        (&["build", "keepalive"], "85000000"),
+        (&["build", "--broadcast", "keepalive"], "85000000"),
+    ];
+    for (words, payload) in rows {
+        let want = format!(in alloc; "139 0 {payload}\n")?;
+        expect_printed(&rt, alloc, words, want.as_str())?;
+    }
+    Ok(())
+}
+
+/// The longest message has 131,071 bytes.
+#[test]
+fn a_message_may_be_too_long(rt: HostRuntime) -> Result<(), Fail> {
+    let alloc = rt.alloc();
+    let digits = String::from_utf8(vec![in alloc; b'6'; 2 * 131_071]?)?;
+    let want = format!(in alloc; "139 0 0001ffff{digits}\n")?;
+    expect_printed(
+        &rt,
+        alloc,
+        &["build", "message", digits.as_str()],
+        want.as_str(),
+    )?;
+    let longer = format!(in alloc; "{digits}66")?;
+    expect_refused(
+        &rt,
+        alloc,
+        &["build", "message", longer.as_str()],
+        "too long",
+    )
+}
+
+/// WHAT is judged first, then the number of arguments, then each from left to right.
+#[test]
+fn bad_arguments_are_refused_in_order(rt: HostRuntime) -> Result<(), Fail> {
+    let rows: [(&[&str], &str); 34] = [
+        (&["nonsense"], "arguments"),
+        (&["nonsense", "0001", "FRED"], "arguments"),
+        (&["Query", "0001", "FRED<20>"], "arguments"),
+        (&["query"], "arguments"),
+        (&["query", "0001"], "arguments"),
+        (&["query", "0001", "FRED", "0000"], "arguments"),
+        (&["query", "1", "FRED"], "arguments"),
+        (&["query", "00001", "FRED<20>"], "arguments"),
+        (&["query", "+001", "FRED<20>"], "arguments"),
+        (&["query", "0x01", "FRED<20>"], "arguments"),
+        (&["query", "0001", "FRED"], "bad text 4"),
+        (&["query", "0001", " FRED<20>"], "bad text 0"),
+        (&["status", "0001", "ABCDEFGHIJKLMNOP<00>"], "too long"),
+        (
+            &["registration", "0001", "FRED", "x", "x", "x"],
+            "bad text 4",
+        ),
+        (
+            &[
+                "registration",
+                "0001",
+                "FRED<20>",
+                "4294967296",
+                "0000",
+                "10.0.0.5",
+            ],
+            "arguments",
+        ),
+        (
+            &["registration", "0001", "FRED<20>", "01", "0000", "10.0.0.5"],
+            "arguments",
+        ),
+        (
+            &["registration", "0001", "FRED<20>", "+1", "0000", "10.0.0.5"],
+            "arguments",
+        ),
+        (
+            &["registration", "0001", "FRED<20>", "", "0000", "10.0.0.5"],
+            "arguments",
+        ),
+        (
+            &["refresh", "0001", "FRED<20>", "1", "000", "10.0.0.5"],
+            "arguments",
+        ),
+        (
+            &["refresh", "0001", "FRED<20>", "1", "0000", "10.0.0"],
+            "arguments",
+        ),
+        (
+            &["refresh", "0001", "FRED<20>", "1", "0000", "10.0.0.5.6"],
+            "arguments",
+        ),
+        (
+            &["refresh", "0001", "FRED<20>", "1", "0000", "10.0.0.256"],
+            "arguments",
+        ),
+        (
+            &["release", "0001", "FRED<20>", "0000", "10.0.0.05"],
+            "arguments",
+        ),
+        (
+            &["release", "0001", "FRED<20>", "1", "0000", "10.0.0.5"],
+            "arguments",
+        ),
+        (&["request", "JOE<00>"], "arguments"),
+        (&["request", "JOE", "FRED"], "bad text 3"),
+        (&["request", "JOE<00>", "FRED"], "bad text 4"),
+        (&["message", ""], "arguments"),
+        (&["message", "616"], "arguments"),
+        (&["message", "Empty"], "arguments"),
+        (&["positive", "00"], "arguments"),
+        (&["negative", "8"], "arguments"),
+        (&["retarget", "10.0.0.7", "65536"], "arguments"),
+        (&["keepalive", "00"], "arguments"),
+    ];
+    for (words, fault) in rows {
+        let mut given: Vec<&str> = Vec::new(rt.alloc());
+        given.push("build")?;
+        given.extend_from_slice(words)?;
+        expect_refused(&rt, rt.alloc(), given.as_slice(), fault)?;
+    }
+    Ok(())
+}
+
+#[test]
+fn what_is_built_is_shown(rt: HostRuntime) -> Result<(), Fail> {
+    let alloc = rt.alloc();
+    let built = crate::tests::fakes::run_on(alloc, &["build", "query", "0003", "FRED<20>"])?;
+    let input = String::from_utf8(built.output)?;
+    let want = "1 137 id=0003 word=0100 op=query flags=RD rcode=ok qd=1 an=0 ns=0 ar=0 used=50\n\
+                \x20 question FRED<20> type=0020 class=0001\n";
+    expect_shown(&rt, alloc, input.as_str(), want)
+}

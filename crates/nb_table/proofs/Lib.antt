@@ -18,3 +18,4 @@ mod InsertLemmas
 mod EachLemmas
 mod UnitingLemmas
 mod FittingLemmas
+mod MergingLemmas

@@ -1,16 +1,18 @@
 -- An entry is whole exactly where it has a datagram, and which one that is.
-use Rattle.std.proofs.Common.{◌≡◌, ◌↔◌, ◌<◌, ◌≤◌, ◌+◌, ◌++◌, inl, inr, ℕ, zero, suc, List, [], ◌∷◌, length, take, slice_get, get_or, option_and_then, Option, Some, None, refl, sym, ◌∙◌, ap, ap₂, arith, length-append, add-one}
+use Rattle.std.proofs.Common.{◌≡◌, ◌↔◌, ◌<◌, ◌≤◌, ◌+◌, ◌++◌, inl, inr, ℕ, zero, suc, List, [], ◌∷◌, length, take, slice_get, get_or, option_and_then, Option, Some, None, refl, sym, ◌∙◌, ap, ap₂, subst, arith, length-append, add-one}
 use Rattle.std.proofs.lemmas.Bool.{cases_lt}
 use Rattle.std.proofs.lemmas.List.{take_more, take_all}
-use Rattle.std.proofs.lemmas.Option.{slice_get-get_or}
+use Rattle.std.proofs.lemmas.Option.{same_Some, slice_get-get_or}
 use Rattle.std.specs.Ordering.{nat_cmp}
 use Rattle.std.specs.FinMap as maps
 use Rattle.nb_datagram.specs.declared.key.Key.{Key}
 use Rattle.nb_datagram.specs.Datagram.{DatagramParts}
 use Rattle.nb_table.specs.Slot.{Spoilt, Held}
+use Rattle.nb_table.specs.Cover.{CoverFacts}
+use Rattle.nb_table.specs.Places.{AreCovered}
 use Rattle.nb_table.specs.Entry.{EntryFacts, EntryValue}
 use Rattle.nb_table.specs.Contents.{Contents}
-use Rattle.nb_table.specs.Whole.{IsWhole, IsWholeAt, newly, newly_whole, datagram_at, with_last, bytes_below, bytes_to, datagram_with, datagram_of, IsDatagram}
+use Rattle.nb_table.specs.Whole.{IsWholeCover, IsWhole, IsWholeAt, newly, newly_whole, datagram_at, with_last, bytes_below, bytes_to, datagram_with, datagram_of, IsDatagram}
 
 -- ---- the bytes below a place
 
@@ -170,7 +172,7 @@ newly_from (Some x) p d h = let clash = h.0 in absurd (cc)
 none_whole : (t : Contents) (k : Key) → datagram_at t k ≡ None → IsWholeAt t k → ⊥
 none_whole t k h w = let d = (whole_at_exactly t k).0 w in let both : None ≡ Some d.0 = sym h ∙ d.1 in cc both
 
-whole_none : (t : Contents) (k : Key) (o : Option DatagramParts) → datagram_at t k ≡ o → (IsWholeAt t k → ⊥) → o ≡ None
+pub whole_none : (t : Contents) (k : Key) (o : Option DatagramParts) → datagram_at t k ≡ o → (IsWholeAt t k → ⊥) → o ≡ None
 whole_none t k None h n = refl
 whole_none t k (Some d) h n = absurd (n ((whole_at_exactly t k).1 (d, h)))
 
@@ -178,4 +180,13 @@ pub newly_exactly : (s t : Contents) (k : Key) (d : DatagramParts) → (newly_wh
 newly_exactly s t k d = (
   λ h. let w = newly_found (datagram_at s k) (datagram_at t k) d h in (none_whole s k w.0, w.1),
   λ h. newly_from (datagram_at s k) (datagram_at t k) d (whole_none s k (datagram_at s k) refl h.0, h.1),
+)
+
+-- ---- covers whose end is known
+
+-- a cover that ends is whole where each place below its end is covered
+pub whole_below_end : (c : CoverFacts) (look : ℕ → Option ℕ) → ((q : ℕ) → maps.get c.bytes q ≡ look q) → (n : ℕ) → c.end ≡ Some n → (AreCovered look n → IsWholeCover c) × (IsWholeCover c → AreCovered look n)
+whole_below_end c look same n ends = (
+  λ all. record { length = n; ends = ends; covered = λ i h. (let w = all i h in (w.0, same i ∙ w.1)) },
+  λ w i h. (let one : w.length ≡ n = same_Some w.length n (sym w.ends ∙ ends) in let x = w.covered i (subst (λ m. i < m) (sym one) h) in (x.0, sym (same i) ∙ x.1)),
 )

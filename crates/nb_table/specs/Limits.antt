@@ -39,3 +39,7 @@ pub record KeepsLimits (t : TableValue) : Type 0 where
   pub count : maps.len t.contents ≤ t.limits.keys
   pub short : (k : Key) (e : EntryValue) → maps.get t.contents k ≡ Some e → IsShort t.limits.longest e
   pub formed : IsTable t.contents
+
+-- with_contents t c: the table with these contents; its limits stay
+abbrev pub with_contents : TableValue → Contents → TableValue
+with_contents t c = record { contents = c; limits = t.limits }

@@ -8,6 +8,7 @@ ghost use Rattle.nb_table.specs.Limits.{IsShort};
 ghost use Rattle.nb_table.specs.Change.{KeyChange};
 
 mod joining;
+mod whole;
 
 use crate::change::Change;
 use crate::facts::Facts;

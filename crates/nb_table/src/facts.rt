@@ -5,7 +5,7 @@ ghost use Rattle.nb_datagram.specs.declared.limits.TheConstants.{MAX_LENGTH};
 ghost use Rattle.nb_table.specs.Slot.{Held};
 ghost use Rattle.nb_table.specs.Entry.{AreEntryFacts, FactsFit, facts_agree, facts_of, facts_together};
 ghost use Rattle.nb_table.specs.Places.{Holds};
-ghost use Rattle.nb_table.specs.Whole.{bytes_to, datagram_with};
+ghost use Rattle.nb_table.specs.Whole.{IsWholeCover, bytes_to, datagram_with};
 ghost use Rattle.nb_table.specs.Change.{KeyChange};
 ghost use Rattle.nb_table.specs.Change.{grown_to as grown};
 
@@ -153,5 +153,12 @@ impl Facts {
         let facts = Facts::of(alloc, fragment)?;
         let datagram = facts.datagram(alloc, fragment.key(), &facts.places)?;
         Ok((facts, grown_to(datagram)))
+    }
+
+    /// Whether the end and each byte before it are known.
+    pub(crate) fn is_whole(&self) -> bool
+        ensures { IsTrue result ↔ IsWholeCover self.now.cover }
+    {
+        self.places.is_whole()
     }
 }

@@ -93,7 +93,7 @@ pub(crate) fn lies_below(map: &BTreeMap<u32, u8>, end: u32) -> bool
 }
 
 /// Whether each place below the end is covered.
-fn covers_below(map: &BTreeMap<u32, u8>, end: u32) -> bool
+pub(crate) fn covers_below(map: &BTreeMap<u32, u8>, end: u32) -> bool
     ensures { IsTrue result ↔ AreCovered (get nat_cmp map.now) end }
 {
     for place in 0..end {

@@ -6,11 +6,11 @@ ghost use Rattle.nb_table.specs.Cover.{CoversFit, cover_of, covers_agree, covers
 ghost use Rattle.nb_table.specs.Cover.{ends_agree as same_ends};
 ghost use Rattle.nb_table.specs.Cover.{bytes_agree as same_bytes};
 ghost use Rattle.nb_table.specs.Places.{Holds};
-ghost use Rattle.nb_table.specs.Whole.{bytes_to};
+ghost use Rattle.nb_table.specs.Whole.{bytes_to, IsWholeCover};
 
 mod uniting;
 
-use crate::placed::{bytes_agree, bytes_below, has_bytes, lies_below, put_bytes};
+use crate::placed::{bytes_agree, bytes_below, covers_below, has_bytes, lies_below, put_bytes};
 use nb_datagram::Fragment;
 use nb_names::{Bytes, NoMemory};
 use std::alloc::Global;
@@ -164,6 +164,16 @@ impl Places {
         match self.end {
             Some(end) => bytes_below(alloc, &self.bytes, end),
             None => Ok(None),
+        }
+    }
+
+    /// Whether the end and each byte before it are known.
+    pub(crate) fn is_whole(&self) -> bool
+        ensures { IsTrue result ↔ IsWholeCover self.now }
+    {
+        match self.end {
+            Some(end) => covers_below(&self.bytes, end),
+            None => false,
         }
     }
 }

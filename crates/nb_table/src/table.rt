@@ -6,6 +6,7 @@ ghost use Rattle.nb_table.specs.Change.{IsChange};
 ghost use Rattle.nb_table.specs.Insert.{Takes, Refuses, with_fragment};
 
 mod fitting;
+mod merging;
 
 use crate::change::Change;
 use crate::entry::Entry;

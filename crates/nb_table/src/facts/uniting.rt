@@ -2,10 +2,15 @@
 ghost use Rattle.std.specs.Prelude.{◌≡◌, ◌&&◌, IfOk};
 ghost use Rattle.nb_table.specs.Cover.{lies_below};
 ghost use Rattle.nb_table.specs.Merging.{ends_by};
+ghost use Rattle.nb_table.specs.Limits.{AreShort};
+ghost use Rattle.nb_table.specs.Whole.{bytes_to, datagram_with};
+ghost use Rattle.nb_datagram.specs.declared.limits.TheConstants.{MAX_LENGTH};
 ghost use Rattle.nb_table.specs.Entry.{FactsFit, facts_agree, facts_together};
 
 use super::Facts;
+use nb_datagram::{Datagram, Key};
 use nb_names::NoMemory;
+use std::alloc::Global;
 
 impl Facts {
     /// Whether the two don't contradict each other.
@@ -56,5 +61,14 @@ impl Facts {
             destination: self.destination.copied(),
             places,
         })
+    }
+
+    /// The datagram of the key, if the facts are whole. No memory is taken where they aren't.
+    pub(crate) fn datagram_of(&self, alloc: Global, key: Key) -> Result<Option<Datagram>, NoMemory>
+        requires { AreShort MAX_LENGTH self.now }
+        ensures { IfOk result (λ datagram.
+            datagram ≡ datagram_with key self.now (bytes_to self.now.cover.bytes self.now.cover.end)) }
+    {
+        self.datagram(alloc, key, &self.places)
     }
 }

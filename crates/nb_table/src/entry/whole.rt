@@ -1,0 +1,34 @@
+//! Entries that are whole, and their datagrams.
+ghost use Rattle.std.specs.Prelude.{◌≡◌, ◌↔◌, IsTrue, IfOk};
+ghost use Rattle.nb_datagram.specs.declared.limits.TheConstants.{MAX_LENGTH};
+ghost use Rattle.nb_table.specs.Limits.{IsShort};
+ghost use Rattle.nb_table.specs.Whole.{IsWhole};
+ghost use Rattle.nb_table.specs.Whole.{datagram_of as entry_datagram};
+
+use super::Entry;
+use nb_datagram::{Datagram, Key};
+use nb_names::NoMemory;
+use std::alloc::Global;
+
+impl Entry {
+    /// Whether it isn't spoilt, and its end and each byte before it are known.
+    pub(crate) fn is_whole(&self) -> bool
+        ensures { IsTrue result ↔ IsWhole self.now }
+    {
+        match &self.facts {
+            Some(facts) => facts.is_whole(),
+            None => false,
+        }
+    }
+
+    /// The datagram of the key, if the entry is whole. No memory is taken where it isn't.
+    pub(crate) fn datagram_of(&self, alloc: Global, key: Key) -> Result<Option<Datagram>, NoMemory>
+        requires { IsShort MAX_LENGTH self.now }
+        ensures { IfOk result (λ datagram. datagram ≡ entry_datagram key self.now) }
+    {
+        match &self.facts {
+            Some(facts) => facts.datagram_of(alloc, key),
+            None => Ok(None),
+        }
+    }
+}

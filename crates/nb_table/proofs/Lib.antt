@@ -19,3 +19,6 @@ mod EachLemmas
 mod UnitingLemmas
 mod FittingLemmas
 mod MergingLemmas
+mod EqualLemmas
+mod ReadingLemmas
+mod OneLemmas

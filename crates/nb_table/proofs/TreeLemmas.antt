@@ -76,3 +76,7 @@ entries_are {R = R} o exact m h =
 -- and it has as many
 pub len_is : {K X : Type 0} {R : K → K → Ordering} → IsTotalOrder R → map.IsAntisymmetric R → (m : BTreeMap K X) → tree.IsOrdered R m → map.len (map.from_entries {R = R} m.entries) ≡ tree.btree_map_len m
 len_is {R = R} o exact m h = map.len-entries (map.from_entries {R = R} m.entries) ∙ ap length (entries_are o exact m h)
+
+-- trees of one finite map have the same entries
+pub same_list : {K X : Type 0} {R : K → K → Ordering} → IsTotalOrder R → map.IsAntisymmetric R → (m n : BTreeMap K X) → tree.IsOrdered R m → tree.IsOrdered R n → map.from_entries {R = R} m.entries ≡ map.from_entries n.entries → m.entries ≡ n.entries
+same_list o exact m n f g e = sym (entries_are o exact m f) ∙ ap map.entries e ∙ entries_are o exact n g

@@ -6,3 +6,4 @@ pub mod SlotLemmas
 pub mod CoverLemmas
 pub mod EntryLemmas
 pub mod TableLemmas
+pub mod EqualLemmas

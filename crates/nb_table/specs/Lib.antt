@@ -15,5 +15,7 @@ pub mod Sender
 pub mod Plain
 pub mod Change
 pub mod Insert
+pub mod State
+pub mod Equal
 pub mod FaultTexts
 pub mod Lemmas

@@ -47,3 +47,22 @@ impl Cover {
         })
     }
 }
+
+impl PartialEq for Cover {
+    ghost use Rattle.nb_table.specs.Lemmas.EqualLemmas.{cover_per};
+    ghost use Rattle.nb_table.specs.Equal.{same_cover};
+
+    ghost eq = { same_cover };
+
+    ghost laws = { cover_per };
+
+    fn eq(&self, other: &Self) -> bool {
+        self.places == other.places
+    }
+}
+
+impl Eq for Cover {
+    ghost use Rattle.nb_table.specs.Lemmas.EqualLemmas.{cover_equiv};
+
+    ghost laws = { cover_equiv };
+}

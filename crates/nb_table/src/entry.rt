@@ -6,12 +6,14 @@ ghost use Rattle.nb_table.specs.Slot.{Spoilt, Held};
 ghost use Rattle.nb_table.specs.Entry.{facts_of, join_entry};
 ghost use Rattle.nb_table.specs.Limits.{IsShort};
 ghost use Rattle.nb_table.specs.Change.{KeyChange};
+ghost use Rattle.nb_table.specs.State.{IsEntryState};
 
 mod joining;
 mod whole;
 
 use crate::change::Change;
 use crate::facts::Facts;
+use crate::state::State;
 use nb_datagram::Fragment;
 use nb_names::NoMemory;
 use std::alloc::Global;
@@ -85,4 +87,39 @@ impl Entry {
         }
         facts.grow(alloc, fragment)
     }
+
+    /// What is known of the datagram. No memory is taken.
+    pub(crate) fn state(&self) -> State
+        ensures { IsEntryState self.now result }
+    {
+        match &self.facts {
+            None => State::Spoilt,
+            Some(facts) => {
+                if facts.is_whole() {
+                    State::Whole
+                } else {
+                    State::Partial
+                }
+            }
+        }
+    }
+}
+
+impl PartialEq for Entry {
+    ghost use Rattle.nb_table.specs.Lemmas.EqualLemmas.{entry_per};
+    ghost use Rattle.nb_table.specs.Equal.{same_entry};
+
+    ghost eq = { same_entry };
+
+    ghost laws = { entry_per };
+
+    fn eq(&self, other: &Self) -> bool {
+        self.facts == other.facts
+    }
+}
+
+impl Eq for Entry {
+    ghost use Rattle.nb_table.specs.Lemmas.EqualLemmas.{entry_equiv};
+
+    ghost laws = { entry_equiv };
 }

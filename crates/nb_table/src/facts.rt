@@ -162,3 +162,19 @@ impl Facts {
         self.places.is_whole()
     }
 }
+
+impl PartialEq for Facts {
+    ghost use Rattle.nb_table.specs.Lemmas.EqualLemmas.{entry_facts_per};
+    ghost use Rattle.nb_table.specs.Equal.{same_entry_facts};
+
+    ghost eq = { same_entry_facts };
+
+    ghost laws = { entry_facts_per };
+
+    fn eq(&self, other: &Self) -> bool {
+        self.kind == other.kind
+            && self.source == other.source
+            && self.destination == other.destination
+            && self.places == other.places
+    }
+}

@@ -1,5 +1,5 @@
 //! Inserting fragments into a table.
-ghost use Rattle.std.specs.Prelude.{◌≡◌, ◌≤◌, IfOk, IfErr, OnOk, OnErr, Some};
+ghost use Rattle.std.specs.Prelude.{◌≡◌, ◌↔◌, IsTrue, ◌≤◌, IfOk, IfErr, OnOk, OnErr, Some};
 ghost use Rattle.std.specs.FinMap as maps;
 ghost use Rattle.nb_datagram.specs.Key.{key_cmp};
 ghost use Rattle.nb_datagram.specs.Fragment.{core_of, reach};
@@ -61,4 +61,15 @@ pub(crate) fn join_fragment(
             }
         }
     }
+}
+
+/// Whether the two maps have the same entries at the same keys.
+pub(crate) fn are_equal(one: &BTreeMap<Key, Entry>, other: &BTreeMap<Key, Entry>) -> bool
+    ensures { IsTrue result ↔ (maps.from_entries {R = key_cmp} one.now.entries
+        ≡ maps.from_entries {R = key_cmp} other.now.entries) }
+{
+    if one.len() != other.len() {
+        return false;
+    }
+    one == other
 }

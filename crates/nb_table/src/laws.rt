@@ -5,6 +5,7 @@
 
 mod completing;
 mod conflicting;
+mod equality;
 mod gathering;
 mod joining;
 mod parts;
@@ -17,6 +18,10 @@ pub use conflicting::{
     a_byte_at_an_end_conflicts, byte_is_that_which_covers, conflict_test_is_the_relation,
     cover_agreement_is_the_relation, end_is_where_it_ends, entry_agreement_is_the_relation,
     past_an_end_a_place_is_covered, spoilt_test_is_the_relation,
+};
+pub use equality::{
+    a_change_is_one, a_state_is_one, covers_are_equal_where_contents_are,
+    entries_are_equal_where_contents_are,
 };
 pub use gathering::{
     dropping_a_key_drops_its_fragments, keeping_keys_keeps_their_fragments,

@@ -126,3 +126,14 @@ pub(crate) fn bytes_below(
     }
     Ok(Some(Bytes::from_vec(bytes)))
 }
+
+/// Whether the two maps have the same bytes at the same places.
+pub(crate) fn are_equal(one: &BTreeMap<u32, u8>, other: &BTreeMap<u32, u8>) -> bool
+    ensures { IsTrue result ↔ (maps.from_entries {R = nat_cmp} one.now.entries
+        ≡ maps.from_entries {R = nat_cmp} other.now.entries) }
+{
+    if one.len() != other.len() {
+        return false;
+    }
+    one == other
+}

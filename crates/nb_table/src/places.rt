@@ -10,7 +10,9 @@ ghost use Rattle.nb_table.specs.Whole.{bytes_to, IsWholeCover};
 
 mod uniting;
 
-use crate::placed::{bytes_agree, bytes_below, covers_below, has_bytes, lies_below, put_bytes};
+use crate::placed::{
+    are_equal, bytes_agree, bytes_below, covers_below, has_bytes, lies_below, put_bytes,
+};
 use nb_datagram::Fragment;
 use nb_names::{Bytes, NoMemory};
 use std::alloc::Global;
@@ -175,5 +177,18 @@ impl Places {
             Some(end) => covers_below(&self.bytes, end),
             None => false,
         }
+    }
+}
+
+impl PartialEq for Places {
+    ghost use Rattle.nb_table.specs.Lemmas.EqualLemmas.{cover_facts_per};
+    ghost use Rattle.nb_table.specs.Equal.{same_cover_facts};
+
+    ghost eq = { same_cover_facts };
+
+    ghost laws = { cover_facts_per };
+
+    fn eq(&self, other: &Self) -> bool {
+        are_equal(&self.bytes, &other.bytes) && self.end == other.end
     }
 }

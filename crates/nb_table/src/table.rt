@@ -1,8 +1,9 @@
 //! The reassembly table.
-ghost use Rattle.std.specs.Prelude.{◌≡◌, IfOk, IfErr, OnOk, OnErr};
+ghost use Rattle.std.specs.Prelude.{◌≡◌, ◌↔◌, IsTrue, IfOk, IfErr, OnOk, OnErr};
 ghost use Rattle.std.specs.FinMap as maps;
 ghost use Rattle.nb_table.specs.Limits.{KeepsLimits};
 ghost use Rattle.nb_table.specs.Change.{IsChange};
+ghost use Rattle.nb_table.specs.State.{IsState};
 ghost use Rattle.nb_table.specs.Insert.{Takes, Refuses, with_fragment};
 
 mod fitting;
@@ -11,7 +12,9 @@ mod merging;
 use crate::change::Change;
 use crate::entry::Entry;
 use crate::fault::TableFault;
-use crate::inserting::join_fragment;
+use crate::inserting::{are_equal, join_fragment};
+use crate::keys::Keys;
+use crate::state::State;
 use nb_datagram::{Fragment, Key};
 use std::alloc::Global;
 use std::collections::BTreeMap;
@@ -101,5 +104,41 @@ impl Table {
             return Err(TableFault::TooLong);
         }
         join_fragment(&mut self.entries, self.alloc, self.keys, fragment)
+    }
+
+    /// Takes a key out, and says whether it was held. No memory is taken.
+    pub fn drop_key(&mut self, key: &Key) -> bool
+        ensures held { result ≡ maps.contains_key self.old.contents key.now }
+        ensures dropped { self.new ≡ record {
+          contents = maps.remove self.old.contents key.now;
+          limits = self.old.limits;
+        } }
+    {
+        self.entries.remove(key).is_some()
+    }
+
+    /// What is known of a key's datagram. No memory is taken.
+    pub fn state(&self, key: &Key) -> State
+        ensures { IsState self.now.contents key.now result }
+    {
+        match self.entries.get(key) {
+            Some(entry) => entry.state(),
+            None => State::Absent,
+        }
+    }
+
+    /// The keys that are held, ascending. No memory is taken.
+    pub fn keys(&self) -> Keys<'_>
+        ensures { result ≡ maps.keys self.now.contents }
+    {
+        Keys::of(self.entries.keys())
+    }
+
+    /// Whether the other table has the same contents, whatever the limits of both. No memory is
+    /// taken.
+    pub fn same(&self, other: &Table) -> bool
+        ensures { IsTrue result ↔ (self.now.contents ≡ other.now.contents) }
+    {
+        are_equal(&self.entries, &other.entries)
     }
 }

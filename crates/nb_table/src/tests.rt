@@ -1,5 +1,8 @@
 //! The definitions' own program on lists of fragments whose outcome is known beforehand.
 
+mod comparing;
+mod inserting;
+
 use crate::plain;
 use crate::plain::PlainFault;
 use nb_datagram::{Fragment, Key, Kind};

@@ -1,0 +1,5 @@
+use Rattle.nb_table.specs.Lemmas.EqualLemmas.{cover_decides}
+use Rattle.nb_table.proofs.laws.equality.covers_are_equal_where_contents_are.Goals as goal
+
+pub returns : goal.returns
+returns c = cover_decides

@@ -3,3 +3,4 @@ mod ReadingLemmas
 mod PacketLemmas
 mod FaultLemmas
 mod PiecesLemmas
+mod TotalLemmas

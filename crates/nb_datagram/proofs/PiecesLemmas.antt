@@ -1,15 +1,17 @@
 -- The pieces of a datagram are parts of it, which cover all its places, and the last of which ends.
-use Rattle.std.proofs.Common.{◌≡◌, ◌==◌, ◌<◌, ◌≤◌, ◌+◌, ◌-◌, ◌*◌, ◌/◌, inl, inr, ℕ, zero, suc, Bool, true, false, cond, min, List, [], ◌∷◌, ◌++◌, map, length, slice_get, get_or, drop, nat_lt, Some, refl, sym, ◌∙◌, ap, subst, arith}
+use Rattle.std.proofs.Common.{◌≡◌, ◌==◌, ◌<◌, ◌≤◌, ◌+◌, ◌-◌, ◌*◌, ◌/◌, inl, inr, ℕ, zero, suc, Bool, true, false, cond, min, List, [], ◌∷◌, ◌++◌, map, take, length, slice_get, get_or, drop, nat_lt, Some, refl, sym, ◌∙◌, ap, subst, arith}
 use Rattle.std.proofs.Math.ListN.{get_or-map}
 use Rattle.std.proofs.Math.Nat.{add-mul, one-mul, le-div_iff_mul-le, div-lt_iff_lt-mul, div-mul-le_self, lt-div-mul-add}
 use Rattle.std.proofs.lemmas.Bool.{cases_lt}
 use Rattle.std.proofs.lemmas.Bool.Decides.{nat_tests}
-use Rattle.std.proofs.lemmas.List.{length-take, length-drop, length-map, get_or-take, get_or-drop}
+use Rattle.std.proofs.lemmas.List.{length-take, length-drop, length-map, get_or-take, get_or-drop, append-nil, take_all}
+use Rattle.std.proofs.lemmas.Grind.{flat_map-append}
+use Rattle.std.proofs.Math.Seq.{take-add}
 use Rattle.std.proofs.lemmas.List.FromFn.{length-range_with_len, get_or-range_with_len, map-range_with_len_more}
 use Rattle.std.proofs.lemmas.List.Elements.{All-map, All-contains}
 use Rattle.std.proofs.lemmas.Option.{slice_get-get_or, get_or_from_slice_get, slice_get_within}
 use Rattle.std.specs.Cmp.{both_ways}
-use Rattle.std.specs.List.{Contains, All, range_with_len, slice_range}
+use Rattle.std.specs.List.{Contains, All, flat_map, range_with_len, slice_range}
 use Rattle.nb_datagram.specs.declared.limits.TheConstants.{MAX_LENGTH, MORE, FIRST}
 use Rattle.nb_datagram.specs.Fragment.{Core, Covers, named_length, cores_of, core_of, has_more, reach}
 use Rattle.nb_datagram.specs.Datagram.{DatagramParts}
@@ -226,3 +228,25 @@ pieces_not_too_long d m low (f, has, above) =
 
 pub pieces_more : (d : DatagramParts) (m j : ℕ) → map (piece d m) (range_with_len 0 (j + 1)) ≡ map (piece d m) (range_with_len 0 j) ++ piece d m j ∷ []
 pieces_more d m j = map-range_with_len_more (piece d m) 0 j j (omega arith)
+
+-- ---- the data of all pieces
+
+data_so_far : (d : DatagramParts) (m j : ℕ) → flat_map (λ p. p.bytes) (map (piece d m) (range_with_len 0 j)) ≡ take (j * m) d.bytes
+data_so_far d m zero = let none : 0 * m ≡ 0 = omega arith in ap (λ (n : ℕ). take n d.bytes) (sym none)
+data_so_far d m (suc j) =
+    let next : suc j ≡ j + 1 = omega arith in
+    let split = add-mul j 1 m in
+    let single = one-mul m in
+    let whole : j * m + ((j + 1) * m - j * m) ≡ (j + 1) * m = omega arith in
+    subst (λ (k : ℕ). flat_map (λ p. p.bytes) (map (piece d m) (range_with_len 0 k)) ≡ take (k * m) d.bytes) (sym next)
+    (ap (flat_map (λ p. p.bytes)) (pieces_more d m j)
+    ∙ flat_map-append (λ p. p.bytes) (map (piece d m) (range_with_len 0 j)) (piece d m j ∷ [])
+    ∙ ap (λ (l : List ℕ). l ++ (slice_range d.bytes (j * m) ((j + 1) * m) ++ [])) (data_so_far d m j)
+    ∙ ap (λ (l : List ℕ). take (j * m) d.bytes ++ l) (append-nil (slice_range d.bytes (j * m) ((j + 1) * m)))
+    ∙ sym (take-add (j * m) ((j + 1) * m - j * m) d.bytes)
+    ∙ ap (λ (n : ℕ). take n d.bytes) whole)
+
+pub pieces_join : (d : DatagramParts) (m : ℕ) → 1 ≤ m → flat_map (λ p. p.bytes) (pieces d m) ≡ d.bytes
+pieces_join d m h =
+    let all = count_below (length d.bytes) m (piece_count (length d.bytes) m) h (omega arith) in
+    data_so_far d m (piece_count (length d.bytes) m) ∙ take_all (piece_count (length d.bytes) m * m) d.bytes all

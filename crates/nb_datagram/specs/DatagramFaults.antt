@@ -1,4 +1,4 @@
--- Why bytes begin with no datagram service packet, and where (own): the first step at which a reading
+-- Why bytes begin with no datagram service packet, and where (our choice): the first step at which a reading
 -- of them stops. The steps are the ten bytes of the header, its type, the bytes in front of the names,
 -- the bytes that DGM_LENGTH counts, then the names. All offsets count from the first byte.
 --
@@ -32,7 +32,7 @@ pub data NamesFail (packet : List ℕ) : DatagramFault → Type 0 where
       → IsName source → NameAt packet Refused DIRECT_HEADER_LENGTH (labels_of_name source) next
       → NetbiosFaultAt packet Refused next fault → NamesFail packet (DestinationName fault)
 
--- DirectFails bytes fault: behind the header of a fragment's packet this is the first fault
+-- DirectFails bytes fault: after the header of a fragment's packet this is the first fault
 pub data DirectFails (bytes : List ℕ) : DatagramFault → Type 0 where
   no_fields : length bytes < DIRECT_HEADER_LENGTH → DirectFails bytes (Truncated (length bytes))
   no_data : (size : ℕ) → NumberAt bytes HEADER_LENGTH w16 size → DIRECT_HEADER_LENGTH ≤ length bytes

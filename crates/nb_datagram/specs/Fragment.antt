@@ -2,7 +2,7 @@
 -- 4.4.1, 4.4.2 and 5.3).
 --
 -- Places count from the first byte of the datagram's data, names not counted.
--- Own, and other than section 5.3: each fragment carries both names, and its offset is a place so
+-- Our choice, and other than section 5.3: each fragment carries both names, and its offset is a place so
 -- counted. M alone of the flags counts when fragments are put together; F takes no part.
 use Rattle.std.specs.Prelude.{◌≡◌, ◌==◌, ℕ, ◌+◌, ◌-◌, ◌≤◌, Bool, false, cond, not, List, map, length, slice_get, bit_and, nat_le, Option, Some, None}
 use Rattle.nb_names.specs.DomainName.{spelling}
@@ -55,7 +55,7 @@ core_of f = record {
   more = has_more f.flags;
 }
 
--- the place behind its last byte
+-- the place after its last byte
 abbrev pub reach : Core → ℕ
 reach f = f.offset + length f.bytes
 
@@ -63,7 +63,7 @@ reach f = f.offset + length f.bytes
 abbrev pub Covers : Core → ℕ → ℕ → Type 0
 Covers f i x = (f.offset ≤ i) × (slice_get f.bytes (i - f.offset) ≡ Some x)
 
--- f ends at n: no more follows, and n is the place behind its last byte
+-- f ends at n: no more follows, and n is the place after its last byte
 abbrev pub EndsAt : Core → ℕ → Type 0
 EndsAt f n = (f.more ≡ false) × (reach f ≡ n)
 

@@ -6,7 +6,7 @@ use Rattle.std.specs.Coded.{Coded, code_by, coded×, coded_ℕ, coded_list}
 use Rattle.std.specs.declared.cmp.Ordering.{Ordering}
 use Rattle.nb_datagram.specs.declared.key.Key.{Key}
 
--- own: keys stand in the order of the address, then the port, then the identifier
+-- our choice: keys stand in the order of the address, then the port, then the identifier
 abbrev pub key_cmp : Key → Key → Ordering
 key_cmp = then_cmp (on (λ k. k.ip) (slice_cmp nat_cmp)) (then_cmp (on (λ k. k.port) nat_cmp) (on (λ k. k.id) nat_cmp))
 

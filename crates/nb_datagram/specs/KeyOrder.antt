@@ -1,5 +1,5 @@
--- The order of keys is total, keys that tie are one key, and a key's fields tell it. The laws of traits
--- may cite these.
+-- The order of keys is total, keys that tie are one key, and the test for one key
+-- decides whether keys are equal. The laws of traits may cite these.
 use Rattle.std.proofs.Common.{◌≡◌, refl, sym, ap, ◌∙◌}
 use Rattle.std.specs.Prelude.{Decides}
 use Rattle.std.specs.Cmp.{Equal-is, IsTotalOrder, nat_cmp_total, on_total, then_total, tied_itself}
@@ -16,7 +16,7 @@ key_cmp_total =
     then_total (on_total (λ (k : Key). k.ip) nat_list_cmp_total)
     (then_total (on_total (λ (k : Key). k.port) nat_cmp_total) (on_total (λ (k : Key). k.id) nat_cmp_total))
 
--- where two comparisons one behind the other tie, each ties
+-- where two comparisons one after the other tie, each ties
 both_tie : (a b : Ordering) → ordering_then a b ≡ Equal → (a ≡ Equal) × (b ≡ Equal)
 both_tie Less b e = absurd (cc)
 both_tie Equal b e = (refl, e)

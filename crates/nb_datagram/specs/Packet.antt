@@ -1,7 +1,7 @@
 -- Datagram service packets, and exactly their bytes (RFC 1002 sections 4.4.1 to 4.4.4). Numbers stand
 -- with their high byte first, names as they are spelled, with no pointer.
 --
--- Own: DGM_LENGTH counts the names and the data of its own packet, and not the 14 bytes before them;
+-- Our choice: DGM_LENGTH counts the names and the data of its own packet, and not the 14 bytes before them;
 -- each fragment carries both names. No bit of FLAGS is without a place: all are kept.
 use Rattle.std.specs.Prelude.{◌≡◌, ℕ, ◌<◌, ◌≤◌, ◌^◌, List, [], ◌∷◌, ◌++◌, length}
 use Rattle.std.specs.Int.{w16, to_be_bytes}
@@ -14,19 +14,19 @@ use Rattle.nb_datagram.specs.Kind.{type_of}
 use Rattle.nb_datagram.specs.Fragment.{FragmentParts, named_length}
 use Rattle.nb_datagram.specs.Header.{header_bytes, IsKey, error_type, query_type}
 
--- the bytes of a name: its letters and its scope's labels, each behind its length, then a zero
+-- the bytes of a name: its letters and its scope's labels, each after its length, then a zero
 abbrev pub name_bytes : NetbiosName → List ℕ
 name_bytes name = spelling (labels_of_name name)
 
--- what stands behind the header of a fragment's packet (section 4.4.2): DGM_LENGTH 2, PACKET_OFFSET 2,
+-- what stands after the header of a fragment's packet (section 4.4.2): DGM_LENGTH 2, PACKET_OFFSET 2,
 -- SOURCE_NAME, DESTINATION_NAME, USER_DATA
 abbrev pub direct_bytes : FragmentParts → List ℕ
 direct_bytes f =
     to_be_bytes w16 (named_length f.source f.destination f.bytes)
     ++ (to_be_bytes w16 f.offset ++ (name_bytes f.source ++ (name_bytes f.destination ++ f.bytes)))
 
--- the bytes of a packet; behind the header of an error packet stands ERROR_CODE 1 (section 4.4.3),
--- behind that of a query packet DESTINATION_NAME (section 4.4.4)
+-- the bytes of a packet; after the header of an error packet stands ERROR_CODE 1 (section 4.4.3),
+-- after that of a query packet DESTINATION_NAME (section 4.4.4)
 abbrev pub packet_bytes : Packet → List ℕ
 packet_bytes (Direct f) = header_bytes (type_of f.kind) f.flags f.key ++ direct_bytes f
 packet_bytes (Error e) = header_bytes error_type e.flags e.key ++ e.code ∷ []

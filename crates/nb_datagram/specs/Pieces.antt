@@ -1,7 +1,7 @@
 -- The parts of a datagram, and the pieces into which it is cut. Places count from the first byte of the
 -- datagram's data.
 --
--- Own, and other than RFC 1002 section 5.3: all pieces but the last have one length, no flag but F and M
+-- Our choice, and other than RFC 1002 section 5.3: all pieces but the last have one length, no flag but F and M
 -- is set (SNT is 00), and a datagram without data still has a piece.
 use Rattle.std.specs.Prelude.{◌≡◌, ◌==◌, ℕ, ◌+◌, ◌-◌, ◌*◌, ◌/◌, ◌≤◌, max, cond, ◌<◌, List, map, length, slice_get, slice_range, nat_lt, Some, Contains}
 use Rattle.std.specs.List.{range_with_len}
@@ -25,7 +25,7 @@ abbrev pub piece_count : ℕ → ℕ → ℕ
 piece_count n m = max 1 ((n + m - 1) / m)
 
 -- piece d m j: the m bytes of d from place j * m on, or as many as are left; F marks piece 0, and M each
--- piece with another behind it
+-- piece with another after it
 abbrev pub piece : DatagramParts → ℕ → ℕ → FragmentParts
 piece d m j = record {
   kind = d.kind;

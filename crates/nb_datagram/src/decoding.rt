@@ -16,7 +16,7 @@ use crate::packet::{ErrorPacket, Packet, QueryKind, QueryPacket};
 use nb_names::numbers::number_16;
 use nb_names::{Name, Pointers, read_name};
 
-/// The fragment behind a header, and its packet's length.
+/// The fragment after a header, and its packet's length.
 fn read_direct<'a>(
     bytes: &'a [u8],
     header: &Header,
@@ -55,7 +55,7 @@ fn read_direct<'a>(
     Ok((Packet::Direct(fragment), end))
 }
 
-/// The error packet behind a header, and its length.
+/// The error packet after a header, and its length.
 fn read_error<'a>(bytes: &'a [u8], header: &Header) -> Result<(Packet<'a>, usize), DatagramFault>
     requires header { HasHeader bytes.now header.now }
     requires form { header.now.form ≡ Form.Error }
@@ -73,7 +73,7 @@ fn read_error<'a>(bytes: &'a [u8], header: &Header) -> Result<(Packet<'a>, usize
     Ok((Packet::Error(error), ERROR_LENGTH))
 }
 
-/// The query packet behind a header, and its length.
+/// The query packet after a header, and its length.
 fn read_query<'a>(
     bytes: &'a [u8],
     header: &Header,

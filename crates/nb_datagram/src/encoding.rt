@@ -11,7 +11,7 @@ use crate::packet::Packet;
 use nb_names::{Bytes, Name, NoMemory};
 use std::alloc::Global;
 
-/// Adds a header behind the bytes.
+/// Adds a header after the bytes.
 fn push_header(bytes: &mut Vec<u8>, message_type: u8, flags: u8, key: Key) -> Result<(), NoMemory>
     ensures { OnOk result (bytes.new.items ≡
         bytes.old.items ++ header_bytes message_type flags key) }
@@ -24,7 +24,7 @@ fn push_header(bytes: &mut Vec<u8>, message_type: u8, flags: u8, key: Key) -> Re
     Ok(())
 }
 
-/// Adds a name behind the bytes, as it is spelled.
+/// Adds a name after the bytes, as it is spelled.
 fn push_name(bytes: &mut Vec<u8>, name: &Name) -> Result<(), NoMemory>
     ensures { OnOk result (bytes.new.items ≡ bytes.old.items ++ name_bytes name.now) }
 {
@@ -32,7 +32,7 @@ fn push_name(bytes: &mut Vec<u8>, name: &Name) -> Result<(), NoMemory>
     Ok(())
 }
 
-/// Adds what stands behind the header of a fragment's packet.
+/// Adds what stands after the header of a fragment's packet.
 fn push_direct(bytes: &mut Vec<u8>, fragment: &Fragment<'_>) -> Result<(), NoMemory>
     ensures { OnOk result (bytes.new.items ≡ bytes.old.items ++ direct_bytes fragment.now) }
 {

@@ -13,10 +13,10 @@ use crate::too_long::TooLong;
 use nb_names::Name;
 use std::marker::Model;
 
-/// A part of a datagram's data, as one packet carries it, and what tells which datagram it is of.
+/// A part of a datagram's data, as one packet carries it, and what says which datagram it is of.
 ///
 /// The data is lent. Both names, spelled plainly, and the data have at most 65,535 bytes together.
-/// RFC 1002 section 4.4.2; that each fragment carries both names is own.
+/// RFC 1002 section 4.4.2; that each fragment carries both names is our choice.
 #[derive(Drop)]
 pub struct Fragment<'a> {
     kind: Kind,
@@ -206,7 +206,7 @@ impl<'a> Fragment<'a> {
         self.flags & MORE != 0
     }
 
-    /// The place behind the last data byte: the offset plus how many bytes there are.
+    /// The place after the last data byte: the offset plus how many bytes there are.
     pub fn reach(&self) -> u32
         ensures { result ≡ self.now.offset + length self.now.bytes }
     {

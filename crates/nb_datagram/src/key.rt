@@ -2,10 +2,10 @@
 
 use std::cmp::Ordering;
 
-/// What tells one datagram from another: its sender's address and port, and the identifier that the
+/// What distinguishes one datagram from another: its sender's address and port, and the identifier that the
 /// sender gave it.
 ///
-/// Keys are ordered as numbers, by address, port and identifier. RFC 1002 section 4.4.1.
+/// Keys are ordered as numbers, by address, port and identifier (our choice). RFC 1002 section 4.4.1.
 #[derive(Clone, Copy, Debug, PartialEq, Eq)]
 pub struct Key {
     /// The sender's address, SOURCE_IP.

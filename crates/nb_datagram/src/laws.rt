@@ -1,7 +1,9 @@
 //! Laws of the definitions that the contracts cite. Each is proved; a call does nothing.
-ghost use Rattle.std.specs.Prelude.{◌≡◌, ◌↔◌, ◌≤◌, ◌<◌, ℕ, false, List, length, IsTrue, Contains};
+ghost use Rattle.std.specs.Prelude.{◌≡◌, ◌↔◌, ◌⊎◌, ◌≤◌, ◌<◌, ℕ, false, List, length, IsTrue, Contains};
 ghost use Rattle.std.specs.Cmp.{IsTotalOrder};
+ghost use Rattle.std.specs.List.{flat_map};
 ghost use Rattle.std.specs.declared.cmp.Ordering.TheVariants.{Equal};
+ghost use Rattle.nb_names.specs.DomainName.{AreBytes};
 ghost use Rattle.nb_datagram.specs.declared.error_codes.TheConstants.{DESTINATION_NAME_NOT_PRESENT, INVALID_SOURCE_NAME_FORMAT, INVALID_DESTINATION_NAME_FORMAT};
 ghost use Rattle.nb_datagram.specs.declared.fault.DatagramFault.{DatagramFault};
 ghost use Rattle.nb_datagram.specs.declared.kind.Kind.TheVariants.{Unique, Group, Broadcast};
@@ -18,7 +20,9 @@ ghost use Rattle.nb_datagram.specs.Key.{key_cmp, same_key};
 ghost use Rattle.nb_datagram.specs.Packet.{IsPacket};
 ghost use Rattle.nb_datagram.specs.Pieces.{IsPart, pieces};
 
-use nb_names::laws::{labels_tell_the_name, one_netbios_fault, one_reading, spelling_is_read};
+use nb_names::laws::{
+    labels_tell_the_name, name_or_fault, one_netbios_fault, one_reading, spelling_is_read,
+};
 
 /// The numbers that the definitions cite.
 pub fn numbers()
@@ -65,6 +69,16 @@ pub fn one_datagram_fault()
     labels_tell_the_name();
 }
 
+/// Each row of bytes begins with a packet or has a fault. By [`one_datagram_fault`] it is never
+/// both.
+pub fn packet_or_fault()
+    ensures { (bytes : List ℕ) → AreBytes bytes →
+        ((packet : Packet) × (used : ℕ) × IsPacket bytes packet used)
+        ⊎ ((fault : DatagramFault) × PacketFails bytes fault) }
+{
+    name_or_fault();
+}
+
 /// The pieces of a datagram are parts of it, each of its places is covered by one, and one of them
 /// ends.
 pub fn pieces_are_parts()
@@ -74,4 +88,10 @@ pub fn pieces_are_parts()
         (f : Core) × Contains (cores_of (pieces d m)) f × ((x : ℕ) × Covers f i x) }
     ensures ends { (d : DatagramParts) (m : ℕ) → 1 ≤ m →
         (f : Core) × Contains (cores_of (pieces d m)) f × (f.more ≡ false) }
+{}
+
+/// The data of a datagram's pieces, in order, is the datagram's.
+pub fn pieces_join()
+    ensures { (d : DatagramParts) (m : ℕ) → 1 ≤ m →
+        flat_map (λ p. p.bytes) (pieces d m) ≡ d.bytes }
 {}

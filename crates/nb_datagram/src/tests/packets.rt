@@ -83,6 +83,24 @@ fn each_field_is_read_at_its_place(rt: HostRuntime) -> Result<(), Fail> {
 }
 
 #[test]
+fn each_type_has_its_kind(rt: HostRuntime) -> Result<(), Fail> {
+    let kinds = [
+        (0x10, Kind::Unique),
+        (0x11, Kind::Group),
+        (0x12, Kind::Broadcast),
+    ];
+    for (first, kind) in kinds {
+        let mut packet = *BROADCAST;
+        packet[0] = first;
+        let (fragment, _) = direct(&packet)?;
+        assert_eq!(rt; fragment.kind(), kind);
+        let again = encode(rt.alloc(), &Packet::Direct(fragment))?;
+        assert_eq!(rt; again.as_slice(), packet.as_slice());
+    }
+    Ok(())
+}
+
+#[test]
 fn errors_and_queries_are_decoded(rt: HostRuntime) -> Result<(), Fail> {
     let error = error(ERROR)?;
     let key = Key {

@@ -5,3 +5,5 @@ mod ValueLemmas
 mod ParsingLemmas
 mod FillingLemmas
 mod PacketReadingLemmas
+mod CuttingLemmas
+mod TotalityLemmas

@@ -22,7 +22,7 @@ pub letters_length : (bytes : List ℕ) → length (letters bytes) ≡ 2 * lengt
 letters_length [] = refl
 letters_length (b ∷ bs) = omega (arith, letters_length bs)
 
-spelling_some : (labels : List (List ℕ)) → 1 ≤ length (spelling labels)
+pub spelling_some : (labels : List (List ℕ)) → 1 ≤ length (spelling labels)
 spelling_some [] = omega arith
 spelling_some (l ∷ ls) = omega arith
 

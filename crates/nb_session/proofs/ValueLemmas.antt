@@ -10,7 +10,6 @@ use Rattle.nb_names.specs.DomainName.{spelling, IsDomain}
 use Rattle.nb_names.specs.Labels.{NameAt}
 use Rattle.nb_names.specs.Name.{NetbiosName, IsName, labels_of_name}
 use Rattle.nb_names.specs.NameFaults.{NetbiosFaultAt}
-use Rattle.nb_names.proofs.NameLemmas.{one_name}
 use Rattle.nb_session.specs.declared.header.Header.{Header}
 use Rattle.nb_session.specs.declared.kind.Kind.{Kind}
 use Rattle.nb_session.specs.declared.kind.Kind.TheVariants.{Message as message, Request as request, Positive as positive, Negative as negative, Retarget as retarget, Keepalive as keepalive}
@@ -29,6 +28,7 @@ pub record NameLaws : Type 0 where
       NetbiosFaultAt packet pointers at fault → IsName name → ¬ NameAt packet pointers at (labels_of_name name) next
   pub fault : (packet : List ℕ) (pointers : Pointers) (at : ℕ) (fault other : NameFault) →
       NetbiosFaultAt packet pointers at fault → NetbiosFaultAt packet pointers at other → fault ≡ other
+  pub name : (name other : NetbiosName) → labels_of_name name ≡ labels_of_name other → name ≡ other
   pub read : (front rest : List ℕ) (pointers : Pointers) (labels : List (List ℕ)) → IsDomain labels →
       NameAt (front ++ (spelling labels ++ rest)) pointers (length front) labels (length front + length (spelling labels))
 
@@ -91,8 +91,8 @@ same_of_kind laws v w k bytes (a_request a b) (a_request c d) p q e =
     let first = laws.one bytes Refused 4 (labels_of_name a) (labels_of_name c) _ _ one.0 two.0 in
     let second = laws.one bytes Refused (4 + length (spelling (labels_of_name c))) (labels_of_name b) (labels_of_name d) _ _
     (subst (λ (n : ℕ). NameAt bytes Refused n (labels_of_name b) (length bytes)) first.1 one.1) two.1 in
-    let called : a ≡ c = one_name a c first.0 in
-    let calling : b ≡ d = one_name b d second.0 in
+    let called : a ≡ c = laws.name a c first.0 in
+    let calling : b ≡ d = laws.name b d second.0 in
     cc
 same_of_kind laws v w k bytes a_positive a_positive p q e = refl
 same_of_kind laws v w k bytes (a_negative a) (a_negative b) p q e = cc

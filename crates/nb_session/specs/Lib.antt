@@ -3,6 +3,7 @@ pub mod Packet
 pub mod Parsing
 pub mod StreamValue
 pub mod Stream
+pub mod Cutting
 pub mod PacketReading
 pub mod Filling
 pub mod FaultTexts

@@ -1,15 +1,21 @@
 //! Laws of the definitions that the contracts cite. Each is proved; a call does nothing.
 ghost use Rattle.std.specs.Prelude.{◌≡◌, ◌-◌, ◌<◌, ◌≤◌, ℕ, List, ◌++◌, length, take};
+ghost use Rattle.nb_names.specs.DomainName.{AreBytes};
+ghost use Rattle.nb_session.specs.declared.fault.SessionFault.{SessionFault};
 ghost use Rattle.nb_session.specs.declared.kind.Kind.TheVariants.{Message, Request, Positive, Negative, Retarget, Keepalive};
 ghost use Rattle.nb_session.specs.declared.limits.TheConstants.{HEADER_LENGTH, MAX_MESSAGE, MAX_PACKET, MIN_REQUEST, MAX_REQUEST};
 ghost use Rattle.nb_session.specs.declared.packet.Packet.{Packet};
 ghost use Rattle.nb_session.specs.declared.parsing.Parsed.{Parsed};
-ghost use Rattle.nb_session.specs.declared.parsing.Parsed.TheVariants.{Whole, More};
+ghost use Rattle.nb_session.specs.declared.parsing.Parsed.TheVariants.{Whole, More, Refused};
+ghost use Rattle.nb_session.specs.Cutting.{ArePackets, IsCut, History};
 ghost use Rattle.nb_session.specs.Header.{type_of};
 ghost use Rattle.nb_session.specs.Packet.{IsPacket};
 ghost use Rattle.nb_session.specs.Parsing.{Parses};
+ghost use Rattle.nb_session.specs.StreamValue.{StreamValue};
 
-use nb_names::laws::{one_netbios_fault, one_reading, spelling_is_read};
+use nb_names::laws::{
+    labels_tell_the_name, name_or_fault, one_netbios_fault, one_reading, spelling_is_read,
+};
 
 /// At the front of bytes stands one thing: a packet of one length, the front of one that lacks one
 /// number of bytes, or one fault. So bytes are one packet at most.
@@ -22,6 +28,7 @@ pub fn one_answer()
     one_reading();
     one_netbios_fault();
     spelling_is_read();
+    labels_tell_the_name();
 }
 
 /// A packet's bytes, whatever follows, are parsed as the packet, and of each shorter front of them
@@ -35,6 +42,43 @@ pub fn packet_is_parsed()
     ensures body { (packet : Packet) (bytes : List ℕ) (count : ℕ) → IsPacket packet bytes →
         4 ≤ count → count < length bytes → Parses (take count bytes) (More (length bytes - count)) }
 {}
+
+/// At the front of any bytes something stands: a packet, the front of one, or a fault.
+pub fn some_answer()
+    ensures { (bytes : List ℕ) → AreBytes bytes → (parsed : Parsed) × Parses bytes parsed }
+{
+    name_or_fault();
+}
+
+/// Any bytes are in one way only whole packets and a rest that begins with none.
+pub fn one_cut()
+    ensures some { (bytes : List ℕ) → AreBytes bytes →
+        (packets : List Packet) × (rest : List ℕ) × IsCut bytes packets rest }
+    ensures one { (bytes : List ℕ) (packets others : List Packet) (rest other : List ℕ) →
+        IsCut bytes packets rest → IsCut bytes others other →
+        (packets ≡ others) × (rest ≡ other) }
+{
+    one_answer();
+    name_or_fault();
+}
+
+/// The packets that a stream handed out, followed by the bytes that it holds, are all that was fed
+/// to it, in whatever pieces; and where it asks for more or fails, it has cut what was fed in that
+/// one way.
+pub fn stream_keeps_all()
+    ensures kept { (fed : List ℕ) (packets : List Packet) (stream : StreamValue) →
+        History fed packets stream →
+        (front : List ℕ) × ArePackets packets front × (fed ≡ front ++ stream.held) }
+    ensures waiting { (fed : List ℕ) (packets : List Packet) (stream : StreamValue) (needed : ℕ) →
+        History fed packets stream → Parses stream.held (More needed) →
+        IsCut fed packets stream.held }
+    ensures failed { (fed : List ℕ) (packets : List Packet) (stream : StreamValue)
+        (fault : SessionFault) →
+        History fed packets stream → Parses stream.held (Refused fault) →
+        IsCut fed packets stream.held }
+{
+    one_answer();
+}
 
 /// The numbers that the definitions cite.
 pub fn numbers()

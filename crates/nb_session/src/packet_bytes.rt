@@ -10,7 +10,8 @@ use crate::parsing::{Parsed, parse};
 /// The bytes of one whole packet, lent.
 #[derive(Clone, Copy, Debug)]
 pub struct PacketBytes<'a> {
-    bytes: &'a [u8],
+    /// The bytes: header and body.
+    pub bytes: &'a [u8],
     ghost whole: { AreOnePacket bytes.now },
 }
 

@@ -2,11 +2,12 @@ use Rattle.nb_session.proofs.ValueLemmas.{NameLaws, one_value}
 use Rattle.nb_session.proofs.ParsingLemmas.{one_answer}
 use Rattle.nb_session.proofs.laws.one_answer.Goals as goal
 
-laws_of : (c : goal.After-spelling_is_read) → NameLaws
+laws_of : (c : goal.After-labels_tell_the_name) → NameLaws
 laws_of c = record {
   one = c.one_reading.ensures.one;
   alone = c.one_netbios_fault.ensures.alone;
   fault = c.one_netbios_fault.ensures.one;
+  name = c.labels_tell_the_name.ensures.one;
   read = c.spelling_is_read.ensures;
 }
 

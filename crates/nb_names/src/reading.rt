@@ -14,7 +14,7 @@ use crate::pointers::Pointers;
 ///
 /// Hand over all of the packet: pointers in it count from its start. Offsets are in bytes, and `at`
 /// may be past the end. What follows a name is what comes after its zero byte or after its first
-/// pointer, in the place where the name itself stands. No memory is taken.
+/// pointer, in the place of the name itself. The call takes no memory.
 ///
 /// # Errors
 ///

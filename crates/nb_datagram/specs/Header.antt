@@ -1,5 +1,5 @@
--- The header of a datagram service packet (RFC 1002 section 4.4.1), ten bytes. All offsets count from
--- the packet's first byte; the numbers after the names of fields are their widths in bytes.
+-- What each packet of port 138 begins with (RFC 1002 section 4.4.1): ten bytes. All offsets count from
+-- the first of them; the numbers after the names of fields are their widths in bytes.
 --   at 0  MSG_TYPE 1 · at 1  FLAGS 1 · at 2  DGM_ID 2 · at 4  SOURCE_IP 4 · at 8  SOURCE_PORT 2
 -- Numbers stand with their high byte first.
 use Rattle.std.specs.Prelude.{◌≡◌, ◌⊎◌, ℕ, ◌<◌, ◌^◌, ◌≤◌, List, ◌∷◌, ◌++◌, length}

@@ -4,7 +4,7 @@ use std::alloc::AllocFailed;
 use std::error::Error;
 use std::fmt;
 
-/// Why a datagram isn't cut. The variants stand in the order in which they are judged.
+/// Why a datagram isn't cut: the first of these that applies.
 #[derive(Clone, Copy, Debug, PartialEq, Eq)]
 pub enum CutFault {
     /// Pieces of no bytes were asked for.

@@ -50,8 +50,8 @@ fn piece<'a>(datagram: &'a Datagram, most: usize, place: usize, count: usize) ->
 
 /// Cuts a datagram into pieces of at most `most` bytes of data, in order. They borrow its data.
 ///
-/// Each piece but the last has `most` bytes. F is set in the first, M in all but the last, and no
-/// other bit of FLAGS. A datagram without data has one piece.
+/// Each piece but the last has `most` bytes and M set; the first has F set. FLAGS has no other bit.
+/// A datagram without data has one piece.
 ///
 /// # Errors
 ///

@@ -6,8 +6,8 @@ use std::fmt;
 
 /// Why bytes could not be decoded, and where.
 ///
-/// Offsets count from the packet's first byte. The variants stand in the order in which they are
-/// judged: the header, its type, the bytes that the type and DGM_LENGTH ask for, then the names.
+/// Offsets count from the packet's first byte. A reading looks for the header, its type, the bytes
+/// that the type and DGM_LENGTH ask for, then the names, and answers the first that it misses.
 #[derive(Clone, Copy, Debug, PartialEq, Eq)]
 pub enum DatagramFault {
     /// The bytes end inside the packet. The offset is that of the first missing byte, which is how

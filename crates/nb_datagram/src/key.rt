@@ -2,10 +2,12 @@
 
 use std::cmp::Ordering;
 
-/// What distinguishes one datagram from another: its sender's address and port, and the identifier that the
-/// sender gave it.
+/// Which datagram a packet is of: its sender's address and port, and the identifier that the sender
+/// gave it.
 ///
-/// Keys are ordered as numbers, by address, port and identifier (our choice). RFC 1002 section 4.4.1.
+/// Keys are ordered as numbers, by address, port and identifier (our choice).
+///
+/// RFC 1002 section 4.4.1.
 #[derive(Clone, Copy, Debug, PartialEq, Eq)]
 pub struct Key {
     /// The sender's address, SOURCE_IP.

@@ -1,4 +1,4 @@
--- Why bytes begin with no name service packet, and where: the first fault in reading order (own). All
+-- Why bytes begin with no name service packet, and where: the first fault in reading order (our choice). All
 -- offsets count from the first byte.
 --
 -- A missing byte is reported by the number of bytes that are there, which is the first missing one's

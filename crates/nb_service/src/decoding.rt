@@ -36,7 +36,8 @@ fn build<'a>(
 ) -> Result<(Packet<'a>, usize), ServiceFault>
     requires { HasHeader bytes.now (header_value header.now) }
     ensures found { IfOk result (λ read. IsPacket bytes.now read.0 read.1) }
-    ensures fault { IfErr result (OrMemory (item_count (header_value header.now)) (PacketFails bytes.now)) }
+    ensures fault { IfErr result
+        (OrMemory (item_count (header_value header.now)) (PacketFails bytes.now)) }
 {
     let (questions, at) = list_questions(alloc, bytes, HEADER_LENGTH, header.questions)?;
     let (answers, at) = list_records(alloc, bytes, at, header.answers)?;
@@ -57,7 +58,7 @@ fn build<'a>(
 ///
 /// Names are read over all of the bytes, with pointers followed; offsets in pointers and in faults
 /// count from the first byte. What stands after the last record doesn't count towards the length
-/// (own); only a label that a pointer leads to can reach into it. Numbers and bits without a
+/// (our choice); only a label that a pointer leads to can reach into it. Numbers and bits without a
 /// meaning here come through unchanged. A record's bytes are lent from the input. Memory is taken
 /// for the four lists alone, once the whole packet has been checked.
 ///

@@ -26,7 +26,7 @@ fn write_header(bytes: &mut Vec<u8>, packet: &Packet<'_>) -> Result<(), NoMemory
 /// Encodes a packet.
 ///
 /// A record's name that has a label and is the first question's is written as a pointer to it. All
-/// other names are spelled plainly, also the one in the RDATA of an NS record (own).
+/// other names are spelled plainly, also the one in the RDATA of an NS record (our choice).
 ///
 /// # Errors
 ///

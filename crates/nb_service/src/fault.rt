@@ -17,7 +17,7 @@ pub enum ServiceFault {
     /// A name could not be read: that of a question or a record, or the one in the RDATA of an NS
     /// record.
     Name(NameFault),
-    /// The name in the RDATA at this offset doesn't end where the RDATA does (own).
+    /// The name in the RDATA at this offset doesn't end where the RDATA does (our choice).
     NameRdata(usize),
     /// Memory ran out. The bytes begin with a packet that has a question or a record.
     NoMemory,

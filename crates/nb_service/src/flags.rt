@@ -102,7 +102,7 @@ pub(crate) fn node_flags_of(word: u16) -> NodeFlags
     NodeFlags::from_bits_truncate(word)
 }
 
-/// The owner's node type, ONT, in NB_FLAGS or NAME_FLAGS: 0 is B, 1 is P, 2 is M, and 3 is reserved.
+/// The owner's node type, ONT, in NB_FLAGS or NAME_FLAGS: 0 is B, 1 is P, 2 is M, 3 is reserved.
 ///
 /// RFC 1002 sections 4.2.13 and 4.2.18.
 pub fn ont(flags: u16) -> u8

@@ -42,8 +42,8 @@ pub fn equal_is_same()
     ensures packets { (a b : ServicePacket) → IsTrue (packet_eq a b) ↔ (a ≡ b) }
 {}
 
-/// Where a record's RDATA is a domain name, its kind is 2, and that name is read ten bytes after the
-/// record's own, its pointers followed, up to where the record ends.
+/// Where a record's RDATA is a domain name, its kind is 2, and that name is read ten bytes after
+/// the record's own, its pointers followed, up to where the record ends.
 pub fn name_in_rdata()
     ensures { (bytes : List ℕ) (at next : ℕ) (entry : ResourceRecord) (labels : List (List ℕ)) →
         RecordAt bytes at entry next → entry.rdata ≡ of_domain labels →
@@ -88,7 +88,8 @@ pub fn one_service_fault()
     one_fault();
 }
 
-/// The bytes of a packet, whatever follows them, begin with that packet, which takes up all of them.
+/// The bytes of a packet, whatever follows them, begin with that packet, which takes up all of
+/// them.
 pub fn encoding_is_read()
     ensures { (packet : ServicePacket) (rest : List ℕ) → IsWritable packet →
         IsPacket (packet_bytes packet ++ rest) packet (length (packet_bytes packet)) }

@@ -58,7 +58,7 @@ impl<'a> NodeStatus<'a> {
         Some(NodeName::of_bytes(&bytes))
     }
 
-    /// The statistics, of any length (own).
+    /// The statistics, of any length (our choice).
     pub fn statistics(&self) -> &'a [u8]
         ensures { result.now ≡ self.now.statistics }
     {

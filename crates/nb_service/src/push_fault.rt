@@ -5,7 +5,7 @@ use thiserror::Error;
 
 /// Why a question or a record could not be added to a packet.
 ///
-/// Where several apply, the first in this order is answered.
+/// Where both apply, it is the upper one.
 #[derive(Clone, Copy, Debug, PartialEq, Eq, Error)]
 pub enum PushFault {
     /// The list has 65,535 items already.

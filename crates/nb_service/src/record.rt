@@ -16,7 +16,7 @@ use thiserror::Error;
 /// Why there is no such record. Where both apply, the first is answered.
 #[derive(Clone, Copy, Debug, PartialEq, Eq, Error)]
 pub enum RecordFault {
-    /// The kind is NS, whose RDATA is a domain name (own).
+    /// The kind is NS, whose RDATA is a domain name (our choice).
     #[error("the kind is NS")]
     KindIsNs,
     /// The RDATA has more than 65,535 bytes.
@@ -26,7 +26,7 @@ pub enum RecordFault {
 
 /// A resource record (RFC 1002 section 4.2.1.3). RDATA of bytes is borrowed.
 ///
-/// NS records, and no others, have a domain name as RDATA (own).
+/// NS records, and no others, have a domain name as RDATA (our choice).
 #[derive(Debug, Drop)]
 pub struct Record<'a> {
     name: DomainName,

@@ -131,8 +131,8 @@ pub fn registration<'a>(
     build_claim(alloc, id, word, name, ttl, entry)
 }
 
-/// A refresh of a registration, which then stands for `ttl` seconds more. The arguments are those of
-/// [`registration`].
+/// A refresh of a registration, which then stands for `ttl` seconds more. The arguments are those
+/// of [`registration`].
 ///
 /// # Errors
 ///

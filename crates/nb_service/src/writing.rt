@@ -43,7 +43,8 @@ fn write_32(bytes: &mut Vec<u8>, number: u32) -> Result<(), NoMemory>
 
 /// Writes a question.
 fn write_question(bytes: &mut Vec<u8>, question: &Question) -> Result<(), NoMemory>
-    ensures written { OnOk result (bytes.new.items ≡ bytes.old.items ++ question_bytes question.now) }
+    ensures written { OnOk result
+        (bytes.new.items ≡ bytes.old.items ++ question_bytes question.now) }
     ensures formed { OnOk result (IsQuestion question.now) }
 {
     bytes.extend_from_slice(question.name.spelling())?;

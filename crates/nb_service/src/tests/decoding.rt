@@ -69,7 +69,7 @@ fn a_registration_is_decoded(rt: HostRuntime) -> Result<(), Fail> {
 }
 
 #[test]
-fn bytes_behind_a_response_are_left(rt: HostRuntime) -> Result<(), Fail> {
+fn bytes_after_a_response_are_left(rt: HostRuntime) -> Result<(), Fail> {
     let (packet, used) = decoded(rt.alloc(), STATUS_RESPONSE)?;
     assert_eq!(rt; used, 211);
     assert_eq!(rt; packet.word(), 0x8400);
@@ -82,7 +82,7 @@ fn bytes_behind_a_response_are_left(rt: HostRuntime) -> Result<(), Fail> {
 }
 
 #[test]
-fn a_label_may_reach_behind_the_packet(rt: HostRuntime) -> Result<(), Fail> {
+fn a_label_may_reach_past_the_packet(rt: HostRuntime) -> Result<(), Fail> {
     // The question's name points to the identifier's first byte, a length of 63.
     let bytes = b"\x3f\x00\x00\x00\x00\x01\x00\x00\x00\x00\x00\x00\xc0\x00\x00\x20\x00\x01\
         xxxxxxxxxxxxxxxxxxxxxxxxxxxxxxxxxxxxxxxxxxxxxx\x00";

@@ -7,8 +7,8 @@ use std::alloc::Global;
 use std::process::Abort;
 use std::test::Fail;
 
-/// What stands in a section, in order: a name's spelling, the kind, the class, the time to live, and
-/// the RDATA, which is a name's spelling where the kind is NS.
+/// What stands in a section, in order: a name's spelling, the kind, the class, the time to live,
+/// and the RDATA, which is a name's spelling where the kind is NS.
 type Row = (&'static [u8], u16, u16, u32, &'static [u8]);
 
 const ANSWERS: [Row; 2] = [

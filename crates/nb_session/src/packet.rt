@@ -113,9 +113,9 @@ pub enum Packet<'a> {
     },
     /// The session is established (section 4.3.3).
     Positive,
-    /// The session is refused (section 4.3.4). In hexadecimal, 80: the station called doesn't listen
-    /// on that name, 81: nor for this caller, 82: it has no such name, 83: it lacks resources, 8f: it
-    /// gives no reason. Any other code is kept.
+    /// The session is refused (section 4.3.4). In hexadecimal, 80: the station called doesn't
+    /// listen on that name, 81: nor for this caller, 82: it has no such name, 83: it lacks
+    /// resources, 8f: it gives no reason. Any other code is kept.
     Negative(u8),
     /// The called name listens at another place (section 4.3.5).
     Retarget {

@@ -7,3 +7,4 @@ pub mod KeysLemmas
 pub mod LiveLemmas
 pub mod NamesLemmas
 pub mod SayingLemmas
+pub mod TimingLemmas

@@ -1,5 +1,5 @@
 -- Lines: one value at most, and one of three kinds.
-use Rattle.std.proofs.Common.{◌≡◌, ◌≢◌, ℕ, zero, suc, ◌+◌, ◌*◌, ◌%◌, ◌<◌, ◌≤◌, ◌^◌, ◌==◌, Bool, true, false, List, [], ◌∷◌, ◌++◌, length, refl, sym, ap, ◌∙◌, arith, Option, Some, None, Result, Ok, Err, ◌⊎◌, inl, inr}
+use Rattle.std.proofs.Common.{◌≡◌, ◌≢◌, ℕ, zero, ◌%◌, ◌^◌, Bool, true, false, List, [], ◌∷◌, ◌++◌, length, refl, sym, ap, ◌∙◌, arith, Option, Some, None, Result, Ok, Err, ◌⊎◌, inl, inr}
 use Rattle.std.specs.Prelude.{Contains, codes, slice_get}
 use Rattle.std.specs.List.{list_all}
 use Rattle.std.specs.Char.{is_ascii_digit, is_ascii_hexdigit}
@@ -13,10 +13,10 @@ use Rattle.nb_member.specs.declared.line.Line.TheVariants.{Packet, Tick}
 use Rattle.nb_member.specs.declared.line_fault.LineFault.{LineFault}
 use Rattle.nb_member.specs.declared.line_fault.LineFault.TheVariants.{BadLine, NoMemory}
 use Rattle.nb_member.specs.declared.limits.TheConstants.{MAX_LINE, MAX_MOMENT_DIGITS}
-use Rattle.nb_member.specs.Capture.{PortText, names, datagrams, sessions, MomentText, PayloadText, empty, digits, HexText, Says, packet, tick, Blank, nothing, comment, HasValue, SaysNothing, IsMalformed, Reads}
+use Rattle.nb_member.specs.Capture.{PortText, names, datagrams, sessions, MomentText, PayloadText, empty, digits, Says, packet, tick, Blank, nothing, comment, HasValue, SaysNothing, IsMalformed, Reads}
 use Rattle.nb_member.proofs.DigitsLemmas.{AllDigits-from_test, test-from_AllDigits, HexText-from_test, test-from_HexText}
 use Rattle.nb_member.proofs.PayloadLemmas.{PayloadText-cases, no_odd_hex, one_payload}
-use Rattle.nb_member.proofs.WordsLemmas.{Contains-behind, Contains-before, Blank-cases, Says-cases, IsPacket, packet_behind, packet_at_space, packet_has_space, tick_behind, moment_no_space, port_no_space, tick_no_space, one_split}
+use Rattle.nb_member.proofs.WordsLemmas.{Contains-behind, Contains-before, Blank-cases, Says-cases, packet_behind, packet_at_space, packet_has_space, tick_behind, moment_no_space, port_no_space, tick_no_space, one_split}
 
 -- ---- one value
 

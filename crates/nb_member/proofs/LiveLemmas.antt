@@ -1,11 +1,11 @@
 -- The fragments that are live, and the table that stands for them.
-use Rattle.std.proofs.Common.{◌≡◌, ◌≢◌, ℕ, ◌+◌, ◌<◌, ◌≤◌, Bool, true, false, not, ◌&&◌, cond, List, [], ◌∷◌, ◌++◌, map, length, refl, sym, ap, ◌∙◌, arith, Option, Some, None, ◌⊎◌, inl, inr}
-use Rattle.std.specs.Prelude.{filter, fold, nat_le, is_some}
+use Rattle.std.proofs.Common.{◌≡◌, ℕ, ◌≤◌, Bool, true, false, not, ◌&&◌, cond, List, [], ◌∷◌, ◌++◌, refl, sym, ap, ◌∙◌, arith, Option, Some, None, inl, inr}
+use Rattle.std.specs.Prelude.{filter, nat_le, is_some}
 use Rattle.std.specs.FinMap as maps
 use Rattle.std.proofs.lemmas.Bool.{false≢true}
 use Rattle.std.proofs.lemmas.List.{append_assoc, append-nil}
 use Rattle.nb_datagram.specs.declared.key.Key.{Key}
-use Rattle.nb_datagram.specs.Key.{key_cmp, same_key}
+use Rattle.nb_datagram.specs.Key.{same_key}
 use Rattle.nb_datagram.specs.Fragment.{FragmentParts, Core, core_of}
 use Rattle.nb_datagram.specs.KeyOrder.{same_key_decides}
 use Rattle.nb_table.specs.Maps.{joined_at}
@@ -16,9 +16,9 @@ use Rattle.nb_table.specs.Lemmas.SameLemmas.{le_is}
 use Rattle.nb_table.specs.Lemmas.TableLemmas.{get-join}
 use Rattle.nb_table.specs.Join.{join, SameCores}
 use Rattle.nb_member.specs.declared.settings.Settings.{Settings}
-use Rattle.nb_member.specs.Live.{Saying, came, refused, another, clock, Timed, cores, table_from, start_at, outlives, is_full, live_after, live_from, live}
+use Rattle.nb_member.specs.Live.{Saying, came, refused, another, clock, Timed, cores, table_from, is_full, live_after, live_from, live}
 use Rattle.nb_member.proofs.KeysLemmas.{cases_bool, HasKeysOf, fewer_keys_without}
-use Rattle.nb_member.specs.Agreement.{valid_cores, DropsNone, NoneDropped, NoneFull, IsWithinCapacity, GiveTheSame}
+use Rattle.nb_member.specs.Agreement.{valid_cores, NoneDropped, NoneFull, GiveTheSame}
 
 -- ---- lists of fragments
 

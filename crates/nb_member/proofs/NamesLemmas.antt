@@ -1,16 +1,14 @@
 -- Names that are held.
-use Rattle.std.proofs.Common.{◌≡◌, ℕ, zero, suc, ◌<◌, Bool, true, false, ◌||◌, List, [], ◌∷◌, ◌++◌, length, refl, sym, ap, ◌∙◌, arith, ◌⊎◌, inl, inr}
-use Rattle.std.specs.Prelude.{IsTrue, Contains, ◌↔◌}
-use Rattle.std.specs.List.{list_any}
+use Rattle.std.proofs.Common.{◌≡◌, ℕ, zero, suc, Bool, true, false, ◌||◌, List, [], ◌∷◌, refl, ap, ◌∙◌, arith, inl, inr}
+use Rattle.std.specs.Prelude.{Contains}
 use Rattle.std.proofs.lemmas.Bool.{false≢true}
-use Rattle.std.proofs.lemmas.List.Elements.{Contains-append_left, Contains-append_right, Contains-append_cases}
+use Rattle.std.proofs.lemmas.List.Elements.{Contains-append_right, Contains-append_cases}
 use Rattle.nb_names.specs.Name.{NetbiosName, name_eq}
 use Rattle.nb_names.specs.DomainName.{domain_eq}
 use Rattle.nb_names.specs.NameFacts.{name_eq_decides, domain_eq_decides}
 use Rattle.nb_datagram.specs.declared.kind.Kind.{Kind}
 use Rattle.nb_datagram.specs.declared.kind.Kind.TheVariants.{Unique, Group, Broadcast}
 use Rattle.nb_member.specs.Hearing.{holds, holds_scope, hears_as, HoldsScope, HearsAs}
-use Rattle.nb_member.proofs.KeysLemmas.{cases_bool}
 
 -- a name is in a list of one only where it is that one
 single : (held name : NetbiosName) → Contains (held ∷ []) name → held ≡ name

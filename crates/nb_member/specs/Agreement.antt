@@ -2,7 +2,7 @@
 -- the limit on keys, and before any timer runs out (own).
 --
 -- S and T are what the events of the two lists say.
-use Rattle.std.specs.Prelude.{◌≡◌, ◌≤◌, ℕ, false, List, [], ◌∷◌}
+use Rattle.std.specs.Prelude.{◌≡◌, ◌≤◌, false, List, [], ◌∷◌}
 use Rattle.std.specs.FinMap as maps
 use Rattle.nb_datagram.specs.Fragment.{Core, core_of}
 use Rattle.nb_table.specs.Contents.{table_of}

@@ -1,5 +1,5 @@
 -- The datagrams that events make whole, and the error packets that they give (RFC 1002 section 5.3).
-use Rattle.std.specs.Prelude.{Bool, cond, List, [], ◌∷◌, ◌++◌, filter, Option}
+use Rattle.std.specs.Prelude.{cond, List, [], ◌∷◌, ◌++◌, filter}
 use Rattle.std.specs.Option.{option_to_list}
 use Rattle.std.specs.List.{flat_map}
 use Rattle.nb_names.specs.Name.{NetbiosName}

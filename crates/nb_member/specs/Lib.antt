@@ -5,4 +5,5 @@ pub mod Hearing
 pub mod Live
 pub mod Saying
 pub mod Handed
+pub mod Timing
 pub mod Agreement

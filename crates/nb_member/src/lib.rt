@@ -10,6 +10,8 @@ mod line;
 mod line_fault;
 mod local_names;
 mod settings;
+mod starts;
+mod timed_table;
 
 pub use capture::capture_line;
 pub use event::Event;

@@ -1,6 +1,6 @@
 mod PlacedLemmas
 mod ContentsLemmas
-mod OrderFreeLemmas
+pub mod OrderFreeLemmas
 mod ConflictLemmas
 mod FirstLemmas
 mod SayingLemmas
@@ -9,12 +9,12 @@ mod PlainLemmas
 mod PlainWholeLemmas
 mod PartsLemmas
 mod SenderLemmas
-mod TreeLemmas
+pub mod TreeLemmas
 mod PutLemmas
 mod LimitsLemmas
 mod PlacesLemmas
 mod ChangeLemmas
-mod InsertLemmas
+pub mod InsertLemmas
 mod EachLemmas
 mod UnitingLemmas
 mod FittingLemmas

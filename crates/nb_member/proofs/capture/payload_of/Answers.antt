@@ -1,5 +1,3 @@
-use Rattle.std.proofs.Common.{refl, sym, ◌∙◌, ◌≡◌, List, []}
-use Rattle.std.specs.Prelude.{codes}
 use Rattle.std.proofs.lemmas.Bool.Decides.{Decides-eqb}
 use Rattle.std.proofs.lemmas.Slice.Eq.{slice_eq-Decides}
 use Rattle.nb_member.specs.Capture.{empty, digits}

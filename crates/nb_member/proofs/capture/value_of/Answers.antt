@@ -2,7 +2,6 @@ use Rattle.std.specs.Prelude.{codes, ◌≡◌, ◌++◌}
 use Rattle.std.proofs.lemmas.Slice.Eq.{strip_prefix_is}
 use Rattle.std.proofs.lemmas.Bool.Decides.{Decides-eqb}
 use Rattle.nb_member.specs.Capture.{tick}
-use Rattle.nb_member.proofs.WordsLemmas.{tick_behind}
 use Rattle.nb_member.proofs.capture.value_of.Goals as goal
 
 pub returns-in-Some-moment_of : goal.returns-in-Some-moment_of

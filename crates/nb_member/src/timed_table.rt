@@ -1,0 +1,100 @@
+//! A table whose keys have the moments at which they came.
+ghost use Rattle.std.specs.Prelude.{◌≡◌, false, IfOk, IfErr, OnOk, OnErr};
+ghost use Rattle.std.specs.FinMap as maps;
+ghost use Rattle.nb_table.specs.Change.{IsChange};
+ghost use Rattle.nb_table.specs.Insert.{Takes, Refuses};
+ghost use Rattle.nb_member.specs.Timing.{begun, after_fragment};
+
+use crate::starts::Starts;
+use nb_datagram::{Fragment, Key};
+use nb_names::NoMemory;
+use nb_table::{Change, Table, TableFault};
+use std::alloc::Global;
+use std::marker::Model;
+
+/// A table, and when each of its keys came. No key of the one is missing in the other.
+#[derive(Drop)]
+pub struct TimedTable {
+    table: Table,
+    starts: Starts,
+}
+
+impl Model for TimedTable {
+    ghost use Rattle.nb_member.specs.Timing.{TimedValue, timed_code, HaveOneSetOfKeys};
+
+    ghost Value = { TimedValue };
+
+    ghost coded = { timed_code };
+
+    ghost view = { λ t. record { table = t.table; moments = t.starts } };
+
+    ghost invariant = { λ t. HaveOneSetOfKeys t.table.contents t.starts };
+}
+
+impl TimedTable {
+    /// An empty table with these limits. No memory is taken.
+    pub fn new(alloc: Global, keys: u32, longest: u16) -> TimedTable
+        ensures { result ≡ record {
+          table = record {
+            contents = maps.empty;
+            limits = record { keys = keys; longest = longest };
+          };
+          moments = maps.empty;
+        } }
+    {
+        TimedTable {
+            table: Table::new(alloc, keys, longest),
+            starts: Starts::new(alloc),
+        }
+    }
+
+    /// The table.
+    pub fn table(&self) -> &Table
+        ensures { result.now ≡ self.now.table }
+    {
+        &self.table
+    }
+
+    /// Takes in a fragment that came at this moment, and says what that changed at its key.
+    ///
+    /// # Errors
+    ///
+    /// Those of the table, which is then as it was, and so are the moments.
+    pub fn insert(&mut self, moment: u64, fragment: &Fragment<'_>) -> Result<Change, TableFault>
+        ensures taken { OnOk result (Takes self.old.table fragment.now) }
+        ensures joined { OnOk result (self.new ≡ after_fragment self.old moment fragment.now) }
+        ensures change { IfOk result
+            (IsChange self.old.table.contents self.new.table.contents fragment.now.key) }
+        ensures refused { IfErr result (Refuses self.old.table fragment.now) }
+        ensures kept { OnErr result (self.new ≡ self.old) }
+    {
+        let change = self.table.insert(fragment)?;
+        begin_or_drop(&mut self.table, &mut self.starts, fragment.key(), moment)?;
+        Ok(change)
+    }
+}
+
+/// Starts the timer of a key of the table, or takes the key out of the table where memory ran out.
+fn begin_or_drop(
+    table: &mut Table,
+    starts: &mut Starts,
+    key: Key,
+    moment: u64,
+) -> Result<(), NoMemory>
+    ensures begun { OnOk result (starts.new ≡ begun starts.old key moment) }
+    ensures kept { OnOk result (table.new ≡ table.old) }
+    ensures unmet { OnErr result (maps.contains_key starts.old key ≡ false) }
+    ensures still { OnErr result (starts.new ≡ starts.old) }
+    ensures dropped { OnErr result (table.new ≡ record {
+      contents = maps.remove table.old.contents key;
+      limits = table.old.limits;
+    }) }
+{
+    match starts.begin(key, moment) {
+        Ok(()) => Ok(()),
+        Err(fault) => {
+            table.drop_key(&key);
+            Err(fault)
+        }
+    }
+}

@@ -169,7 +169,7 @@ newly_from : (o p : Option DatagramParts) (d : DatagramParts) → (o ≡ None) �
 newly_from None p d h = h.1
 newly_from (Some x) p d h = let clash = h.0 in absurd (cc)
 
-none_whole : (t : Contents) (k : Key) → datagram_at t k ≡ None → IsWholeAt t k → ⊥
+pub none_whole : (t : Contents) (k : Key) → datagram_at t k ≡ None → IsWholeAt t k → ⊥
 none_whole t k h w = let d = (whole_at_exactly t k).0 w in let both : None ≡ Some d.0 = sym h ∙ d.1 in cc both
 
 pub whole_none : (t : Contents) (k : Key) (o : Option DatagramParts) → datagram_at t k ≡ o → (IsWholeAt t k → ⊥) → o ≡ None

@@ -2,6 +2,7 @@
 
 mod comparing;
 mod inserting;
+mod merging;
 
 use crate::plain;
 use crate::plain::PlainFault;
@@ -169,4 +170,28 @@ fn an_end_past_65535_is_no_datagram(rt: HostRuntime) {
     assert!(rt; plain::is_whole(&fragments, &KEY));
     let datagram = plain::datagram(rt.alloc(), &fragments, &KEY);
     assert!(rt; matches!(datagram, Err(PlainFault::TooLong)));
+}
+
+#[test]
+fn a_datagram_has_at_most_65535_bytes(rt: HostRuntime) -> Result<(), Fail> {
+    const LONG: &[u8] = &[7; 32_767];
+    let low = fragment(&rt, KEY, &(0, 0x03, LONG));
+    let middle = fragment(&rt, KEY, &(32_767, 0x01, LONG));
+    let last = fragment(&rt, KEY, &(65_534, 0x00, &[9]));
+    let datagram = plain::datagram(rt.alloc(), &[last, low, middle], &KEY)?;
+    let datagram = datagram.expect(&rt, "whole");
+    assert_eq!(rt; datagram.bytes().len(), 65_535);
+    assert_eq!(rt; datagram.bytes()[65_534], 9);
+    Ok(())
+}
+
+#[test]
+fn the_first_byte_and_the_first_end_stand(rt: HostRuntime) -> Result<(), Fail> {
+    let fragments = gathered(&rt, rt.alloc(), &[LIE, HIGH, EMPTY_END, FIVE])?;
+    assert!(rt; plain::is_spoilt(&fragments, &KEY));
+    assert_eq!(rt; plain::byte_at(&fragments, &KEY, 4), Some(0xff));
+    assert_eq!(rt; plain::byte_at(&fragments, &KEY, 5), Some(5));
+    assert_eq!(rt; plain::byte_at(&fragments, &KEY, 3), Some(3));
+    assert_eq!(rt; plain::end_of(&fragments, &KEY), Some(10));
+    Ok(())
 }

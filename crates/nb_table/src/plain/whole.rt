@@ -138,7 +138,7 @@ fn datagram_below(
     }
 }
 
-/// The datagram of the key, if it is whole.
+/// The datagram of the key, if it is whole. Where it isn't, no memory is taken.
 ///
 /// # Errors
 ///
@@ -153,6 +153,8 @@ pub fn datagram(
         datagram ≡ datagram_at (table_of (cores_of fragments.now)) key.now) }
     ensures too_long { IsErrOf result PlainFault.TooLong
         ↔ IsLong (datagram_at (table_of (cores_of fragments.now)) key.now) }
+    ensures no_memory_needed { datagram_at (table_of (cores_of fragments.now)) key.now ≡ None
+        → result ≡ Ok None }
 {
     if !is_whole(fragments, key) {
         return Ok(None);

@@ -4,6 +4,7 @@ use Rattle.nb_table.specs.Contents.{table_of}
 use Rattle.nb_table.specs.Whole.{datagram_at}
 use Rattle.nb_table.specs.Lemmas.SameLemmas.{refutes}
 use Rattle.nb_table.proofs.PlainWholeLemmas.{not_whole, none_long, whole_ending, whole_starting, whole_is, whole_long, whole_short, not_this}
+use Rattle.nb_table.proofs.WholeLemmas.{none_whole}
 use Rattle.nb_table.proofs.plain.whole.datagram.Goals as goal
 
 none : (c : goal.Then-not-is_whole) → datagram_at (table_of (cores_of c.args.fragments.now)) c.args.key.now ≡ None
@@ -53,3 +54,18 @@ returns-in_err-datagram_below-clause-too_long c = (
   λ h. absurd (not_this c.from_residual.result c.from_residual.ensures.1 h),
   λ long. absurd (whole_short (cores_of c.args.fragments.now) c.args.key.now (core_of c.in-Some-first_with.first.now) c.in-Some.end (c.is_whole.ensures.0 c.if-not-is_whole.false) c.in-Some-first_with.ensures c.in-Some.ensures c.if-end-gt-MAX_LENGTH.false long),
 )
+
+pub returns-in_default-clause-no_memory_needed : goal.returns-in_default-clause-no_memory_needed
+returns-in_default-clause-no_memory_needed c none = absurd (none_whole (table_of (cores_of c.args.fragments.now)) c.args.key.now none (c.is_whole.ensures.0 c.if-not-is_whole.false))
+
+pub returns-in_default-first_with-clause-no_memory_needed : goal.returns-in_default-first_with-clause-no_memory_needed
+returns-in_default-first_with-clause-no_memory_needed c none = absurd (none_whole (table_of (cores_of c.args.fragments.now)) c.args.key.now none (c.is_whole.ensures.0 c.if-not-is_whole.false))
+
+pub returns-then-end-gt-MAX_LENGTH-clause-no_memory_needed : goal.returns-then-end-gt-MAX_LENGTH-clause-no_memory_needed
+returns-then-end-gt-MAX_LENGTH-clause-no_memory_needed c none = absurd (none_whole (table_of (cores_of c.args.fragments.now)) c.args.key.now none (c.is_whole.ensures.0 c.if-not-is_whole.false))
+
+pub returns-clause-no_memory_needed : goal.returns-clause-no_memory_needed
+returns-clause-no_memory_needed c none = absurd (none_whole (table_of (cores_of c.args.fragments.now)) c.args.key.now none (c.is_whole.ensures.0 c.if-not-is_whole.false))
+
+pub returns-in_err-datagram_below-clause-no_memory_needed : goal.returns-in_err-datagram_below-clause-no_memory_needed
+returns-in_err-datagram_below-clause-no_memory_needed c none = absurd (none_whole (table_of (cores_of c.args.fragments.now)) c.args.key.now none (c.is_whole.ensures.0 c.if-not-is_whole.false))

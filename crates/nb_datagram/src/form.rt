@@ -1,6 +1,6 @@
 //! What a packet is, by its MSG_TYPE.
 ghost use Rattle.std.specs.Prelude.{◌≡◌, MatchOption};
-ghost use Rattle.nb_datagram.specs.Header.{query_type, IsUnknownType};
+ghost use Rattle.nb_datagram.specs.Header.{IsUnknownType};
 ghost use Rattle.nb_datagram.specs.Reading.{number_of};
 
 use crate::kind::Kind;
@@ -34,18 +34,5 @@ pub(crate) fn form_of(message_type: u8) -> Option<Form>
         0x15 => Some(Form::Query(QueryKind::Positive)),
         0x16 => Some(Form::Query(QueryKind::Negative)),
         _ => None,
-    }
-}
-
-impl QueryKind {
-    /// The packet's MSG_TYPE.
-    pub fn message_type(self) -> u8
-        ensures { result ≡ query_type self }
-    {
-        match self {
-            QueryKind::Request => 0x14,
-            QueryKind::Positive => 0x15,
-            QueryKind::Negative => 0x16,
-        }
     }
 }

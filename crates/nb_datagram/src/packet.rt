@@ -1,4 +1,6 @@
 //! Packets of the datagram service.
+ghost use Rattle.std.specs.Prelude.{◌≡◌};
+ghost use Rattle.nb_datagram.specs.Header.{query_type};
 
 use crate::fragment::Fragment;
 use crate::key::Key;
@@ -51,4 +53,17 @@ pub enum QueryKind {
     Positive,
     /// The server doesn't have it: DATAGRAM NEGATIVE QUERY RESPONSE.
     Negative,
+}
+
+impl QueryKind {
+    /// The packet's MSG_TYPE.
+    pub fn message_type(self) -> u8
+        ensures { result ≡ query_type self }
+    {
+        match self {
+            QueryKind::Request => 0x14,
+            QueryKind::Positive => 0x15,
+            QueryKind::Negative => 0x16,
+        }
+    }
 }

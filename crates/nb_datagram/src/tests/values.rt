@@ -1,6 +1,8 @@
 //! The parts of fragments and datagrams, and their limits.
 
-use crate::{Datagram, Datagrams, ErrorPacket, ErrorPackets, Fragment, Key, Kind, Pieces, TooLong};
+use crate::{
+    Datagram, Datagrams, ErrorPacket, ErrorPackets, Fragment, Key, Kind, Pieces, QueryKind, TooLong,
+};
 use nb_names::{Bytes, Name, Scope};
 use std::cmp::Ordering;
 use std::process::Abort;
@@ -116,6 +118,9 @@ fn kinds_have_their_message_types(rt: HostRuntime) {
     assert_eq!(rt; Kind::Unique.message_type(), 0x10);
     assert_eq!(rt; Kind::Group.message_type(), 0x11);
     assert_eq!(rt; Kind::Broadcast.message_type(), 0x12);
+    assert_eq!(rt; QueryKind::Request.message_type(), 0x14);
+    assert_eq!(rt; QueryKind::Positive.message_type(), 0x15);
+    assert_eq!(rt; QueryKind::Negative.message_type(), 0x16);
 }
 
 #[test]

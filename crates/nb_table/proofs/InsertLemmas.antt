@@ -1,5 +1,5 @@
 -- A fragment joined to a table that keeps to its limits.
-use Rattle.std.proofs.Common.{◌≡◌, ◌≢◌, ◌<◌, ◌≤◌, ℕ, ◌+◌, Bool, true, false, cond, [], ◌∷◌, Option, Some, None, refl, sym, ◌∙◌, ap, subst, arith, is_some, inl, inr, Result, Ok, Err, IfErr, OnOk, OnErr, IfOk, not}
+use Rattle.std.proofs.Common.{◌≡◌, ◌≢◌, ◌<◌, ◌≤◌, ℕ, ◌+◌, Bool, true, false, cond, [], ◌∷◌, Option, Some, None, refl, sym, ◌∙◌, ap, subst, arith, is_some, inl, inr, Result, Ok, Err, IfErr, OnOk, OnErr, IfOk, IsOk, not}
 use Rattle.std.specs.Bool.{beq}
 use Rattle.std.specs.Cmp.{booleans_Decides}
 use Rattle.std.specs.Result.{IsErrAnd}
@@ -8,7 +8,7 @@ use Rattle.nb_table.specs.declared.fault.TableFault.TheVariants.{MisplacedFirst,
 use Rattle.std.specs.FinMap as maps
 use Rattle.nb_datagram.specs.declared.key.Key.{Key}
 use Rattle.nb_datagram.specs.Key.{same_key}
-use Rattle.nb_datagram.specs.Fragment.{FragmentParts, Core, reach}
+use Rattle.nb_datagram.specs.Fragment.{FragmentParts, Core, core_of, reach}
 use Rattle.nb_table.specs.declared.change.Change.{Change}
 use Rattle.nb_table.specs.declared.change.Change.TheVariants.{Whole, Same, Grown}
 use Rattle.nb_table.specs.declared.change.Change.TheVariants.{Spoilt as Spoils}
@@ -186,3 +186,15 @@ refused_from (Err NoMemory) t f p h = (p, h)
 pub change_settled : (r : Result Change TableFault) (t u : Contents) (k : Key) (e : EntryValue) → OnOk r (u ≡ maps.insert t k e) → IfOk r (KeyChange k (maps.get t k) (Some e)) → IfOk r (IsChange t u k)
 change_settled (Ok c) t u k e same p = subst (λ v. IsChange t v k c) (sym same) (change_at t k e c p)
 change_settled (Err x) t u k e same p = tt
+
+-- tests that differ aren't the same
+pub not_same : (a b : Bool) → not (beq a b) ≡ true → a ≡ b → ⊥
+not_same a b h e = let same : beq a b ≡ true = (booleans_Decides a b).1 e in let clash : false ≡ true = ap not (sym same) ∙ h in absurd (cc clash)
+
+-- nothing is refused of a fragment that passes and needs no memory
+pub spared : {X : Type 0} (r : Result X TableFault) (t : TableValue) (f : FragmentParts) → IfErr r (Refuses t f) → Passes t.limits f → NeedsNoMemory t.contents (core_of f) → IsOk r
+spared (Ok x) t f h p n = refl
+spared (Err MisplacedFirst) t f h p n = absurd (h p.placed)
+spared (Err TooLong) t f h p n = let past = h.1 in let short = p.short in absurd (omega (arith, past, short))
+spared (Err (Full k)) t f h p n = let lacks = h.1 in absurd (needs_new t.contents (core_of f) lacks.1.is_new n)
+spared (Err NoMemory) t f h p n = let lacks = h.1 in absurd (lacks.1 n)

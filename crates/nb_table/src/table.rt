@@ -1,10 +1,11 @@
 //! The reassembly table.
-ghost use Rattle.std.specs.Prelude.{◌≡◌, ◌↔◌, IsTrue, IfOk, IfErr, OnOk, OnErr};
+ghost use Rattle.std.specs.Prelude.{◌≡◌, ◌↔◌, IsTrue, IsOk, IfOk, IfErr, OnOk, OnErr};
 ghost use Rattle.std.specs.FinMap as maps;
 ghost use Rattle.nb_table.specs.Limits.{KeepsLimits};
 ghost use Rattle.nb_table.specs.Change.{IsChange};
 ghost use Rattle.nb_table.specs.State.{IsState};
-ghost use Rattle.nb_table.specs.Insert.{Takes, Refuses, with_fragment};
+ghost use Rattle.nb_datagram.specs.Fragment.{core_of};
+ghost use Rattle.nb_table.specs.Insert.{NeedsNoMemory, Passes, Takes, Refuses, with_fragment};
 
 mod fitting;
 mod merging;
@@ -96,6 +97,8 @@ impl Table {
             (IsChange self.old.contents self.new.contents fragment.now.key) }
         ensures refused { IfErr result (Refuses self.old fragment.now) }
         ensures kept { OnErr result (self.new ≡ self.old) }
+        ensures without_memory { Passes self.old.limits fragment.now
+            → NeedsNoMemory self.old.contents (core_of fragment.now) → IsOk result }
     {
         if fragment.is_first() != (fragment.offset() == 0) {
             return Err(TableFault::MisplacedFirst);

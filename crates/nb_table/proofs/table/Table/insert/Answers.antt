@@ -8,7 +8,7 @@ use Rattle.nb_table.specs.Contents.{Contents}
 use Rattle.nb_table.specs.Limits.{TableValue, KeepsLimits}
 use Rattle.nb_table.specs.Insert.{Passes}
 use Rattle.nb_table.proofs.OrderFreeLemmas.{join_one}
-use Rattle.nb_table.proofs.InsertLemmas.{short_more, same_test, settled, ok_both, refused_from, insert_keeps, change_settled}
+use Rattle.nb_table.proofs.InsertLemmas.{short_more, same_test, settled, ok_both, refused_from, spared, insert_keeps, change_settled}
 use Rattle.nb_table.proofs.table.Table.insert.Goals as goal
 
 pub join_fragment-requires-clause-entry : goal.join_fragment-requires-clause-entry
@@ -57,3 +57,8 @@ pub returns-clause-refused : goal.returns-clause-refused
 unfolding old passes
 returns-clause-refused c =
     rw (← c.self.view_is) (refused_from c.join_fragment.result (old c) c.args.fragment.now (passes c) (c.join_fragment.ensures.refused (old c).limits refl))
+
+pub returns-clause-without_memory : goal.returns-clause-without_memory
+unfolding old passes
+returns-clause-without_memory c =
+    rw (← c.self.view_is) (spared c.join_fragment.result (old c) c.args.fragment.now (refused_from c.join_fragment.result (old c) c.args.fragment.now (passes c) (c.join_fragment.ensures.refused (old c).limits refl)))

@@ -10,7 +10,7 @@ use Rattle.nb_names.specs.Labels.{NameAt}
 use Rattle.nb_names.specs.NameFaults.{NetbiosFaultAt}
 use Rattle.nbt.specs.Output.{AppendsFront}
 use Rattle.nbt.specs.declared.fault.Fault.{Fault}
-use Rattle.nbt.specs.declared.fault.Fault.TheVariants.{Text, Name, BadHex, TrailingBytes, Arguments, TooLong, Line, Read, Write, Memory}
+use Rattle.nbt.specs.declared.fault.Fault.TheVariants.{Text, Name, BadHex, TrailingBytes, Arguments, TooLong, ZeroPiece, Line, Read, Write, Memory}
 
 -- the text as a line
 abbrev pub line : List ℕ → List ℕ
@@ -35,6 +35,7 @@ IsSpellingFault text BadHex = ⊥
 IsSpellingFault text (TrailingBytes at) = ⊥
 IsSpellingFault text Arguments = ⊥
 IsSpellingFault text TooLong = ⊥
+IsSpellingFault text ZeroPiece = ⊥
 IsSpellingFault text (Line number) = ⊥
 IsSpellingFault text Read = ⊥
 IsSpellingFault text Write = Unit {0}
@@ -62,6 +63,7 @@ IsNameFault digits (Name fault) = (bytes : List ℕ) × (decode_of digits ≡ Ok
 IsNameFault digits (TrailingBytes at) = (bytes : List ℕ) × (decode_of digits ≡ Ok bytes) × IsTrailing bytes at
 IsNameFault digits Arguments = ⊥
 IsNameFault digits TooLong = ⊥
+IsNameFault digits ZeroPiece = ⊥
 IsNameFault digits (Line number) = ⊥
 IsNameFault digits Read = ⊥
 IsNameFault digits Write = Unit {0}

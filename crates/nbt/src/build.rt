@@ -6,6 +6,7 @@ ghost use Rattle.nbt.specs.Output.{ShowsFailing};
 
 mod arguments;
 mod build_fault;
+mod datagram;
 mod service;
 mod session;
 
@@ -25,7 +26,7 @@ use std::io::Write;
 ///
 /// [`Fault::Text`] for a bad name; [`Fault::Arguments`] for another WHAT, another number of
 /// arguments, or another bad one; [`Fault::TooLong`] for more data than a packet takes;
-/// [`Fault::Memory`]. Nothing is printed then. [`Fault::Write`] where the output failed.
+/// [`Fault::ZeroPiece`] for pieces of no bytes; [`Fault::Memory`]. Nothing is printed then. [`Fault::Write`] where the output failed.
 pub fn run_build<W: Write>(
     alloc: Global,
     matches: &ArgMatches<'_>,
@@ -41,6 +42,7 @@ pub fn run_build<W: Write>(
         Err(BuildFault::Text(fault)) => Err(Fault::Text(fault)),
         Err(BuildFault::Arguments) => Err(Fault::Arguments),
         Err(BuildFault::TooLong) => Err(Fault::TooLong),
+        Err(BuildFault::ZeroPiece) => Err(Fault::ZeroPiece),
         Err(BuildFault::Memory) => Err(Fault::Memory),
     }
 }
@@ -57,6 +59,14 @@ fn build(alloc: Global, matches: &ArgMatches<'_>) -> Result<String, BuildFault> 
         "request" | "message" | "positive" | "negative" | "retarget" | "keepalive" => {
             let packet = session::build(alloc, what, words)?;
             Ok(line(alloc, 139, &packet)?)
+        }
+        "unique" | "group" | "broadcast" | "error" | "find" | "found" | "missing" => {
+            let packets = datagram::build(alloc, what, words)?;
+            let mut lines = String::new(alloc);
+            for packet in packets.as_slice() {
+                lines.push_str(line(alloc, 138, packet)?.as_str())?;
+            }
+            Ok(lines)
         }
         _ => Err(BuildFault::Arguments),
     }

@@ -36,8 +36,11 @@ const SHOW_HELP: &str = "A capture is lines: `137 MOMENT HEX`, `138 MOMENT HEX` 
 const BUILD_HELP: &str = "Port 137: query ID NAME, status ID NAME, registration ID NAME TTL FLAGS \
                           ADDRESS, refresh (the same), release ID NAME{n}FLAGS ADDRESS{n}Port \
                           139: request CALLED CALLING, message HEX, positive, negative CODE, \
-                          retarget ADDRESS PORT, keepalive{n}{n}ID and FLAGS are four \
-                          hexadecimal digits, CODE two; TTL and PORT decimal numbers; ADDRESS \
+                          retarget ADDRESS PORT, keepalive{n}Port 138: unique KEY \
+                          SOURCE DESTINATION HEX MOST, group and broadcast (the same), error KEY \
+                          CODE, find KEY NAME,{n}found and missing (the same){n}{n}ID and FLAGS are four \
+                          hexadecimal digits, CODE two; TTL, PORT and MOST (bytes of \
+                          a piece) decimal numbers; KEY is ADDRESS:PORT/ID; ADDRESS \
                           four decimal numbers{n}with dots; HEX two digits a byte, or the word \
                           `empty`. Names are as `nbt name` takes them.{n}{n}Example: nbt build \
                           --broadcast registration 0002 'FRED<20>' 300000 0000 10.0.0.5{n}{n}Exit \

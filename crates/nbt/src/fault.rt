@@ -21,6 +21,8 @@ pub enum Fault {
     Arguments,
     /// The data is more than a packet takes.
     TooLong,
+    /// A datagram was to be cut into pieces of no bytes.
+    ZeroPiece,
     /// A line of a capture is malformed. The number is the line's, the first being 1.
     Line(usize),
     /// The program's words couldn't be read, or its input not to its end.
@@ -43,6 +45,7 @@ impl Fault {
             | Fault::TrailingBytes(_)
             | Fault::Arguments
             | Fault::TooLong
+            | Fault::ZeroPiece
             | Fault::Line(_) => Status::Refused,
             Fault::Read | Fault::Write | Fault::Memory => Status::Failed,
         }
@@ -63,6 +66,7 @@ impl fmt::Display for Fault {
             Fault::TrailingBytes(at) => write!(f, "trailing bytes {at}"),
             Fault::Arguments => f.write_str("arguments"),
             Fault::TooLong => f.write_str("too long"),
+            Fault::ZeroPiece => f.write_str("zero piece"),
             Fault::Line(number) => write!(f, "line {number}"),
             Fault::Read => f.write_str("read"),
             Fault::Write => f.write_str("write"),

@@ -1,7 +1,7 @@
 //! The program over any input and output.
-ghost use Rattle.std.specs.Prelude.{◌≡◌, ◌≢◌, ◌≤◌, IfErr};
+ghost use Rattle.std.specs.Prelude.{◌≡◌, ◌≢◌, ◌≤◌, Some, codes, IfErr};
 ghost use Rattle.std.specs.Io.KnownBytes.{Keeps};
-ghost use Rattle.clap.specs.Words.{kind_of};
+ghost use Rattle.clap.specs.Words.{kind_of, subcommand_name_of};
 ghost use Rattle.nb_names.specs.Counted.{no_calls};
 ghost use Rattle.nbt.specs.Output.{ShowsFailing};
 ghost use Rattle.nbt.specs.FaultTexts.{status_after};
@@ -77,6 +77,7 @@ fn run_command<R: Read, W: Write>(
     input: &mut Counted<R>,
     output: &mut Output<W>,
 ) -> Result<(), Fault>
+    ensures unread { subcommand_name_of matches.now ≢ Some (codes "show") → input.new ≡ input.old }
     ensures why { IfErr result (λ fault. fault ≡ Fault.Write →
         ShowsFailing no_calls output.new.counts) }
 {

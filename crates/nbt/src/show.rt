@@ -3,6 +3,7 @@ ghost use Rattle.std.specs.Prelude.{◌≡◌, IfErr};
 ghost use Rattle.nb_names.specs.Counted.{no_calls};
 ghost use Rattle.nbt.specs.Output.{ShowsFailing};
 
+mod datagram;
 mod service;
 mod session;
 mod texts;
@@ -116,8 +117,8 @@ fn push_line(alloc: Global, number: usize, said: &Line, text: &mut String) -> Re
             write!(text, "{number} {port} ")?;
             match *port {
                 137 => service::push_packet(alloc, payload.as_slice(), text)?,
-                139 => session::push_packet(alloc, payload.as_slice(), text)?,
-                _ => writeln!(text, "passed")?,
+                138 => datagram::push_packet(alloc, payload.as_slice(), text)?,
+                _ => session::push_packet(alloc, payload.as_slice(), text)?,
             }
         }
     }

@@ -20,6 +20,7 @@ impl Status {
     pub fn code(self) -> u8
         ensures value { result ≡ code_of self }
         ensures within { result ≤ 3 }
+        ensures usage { result ≡ 2 → self ≡ Status.BadUsage }
     {
         match self {
             Status::Done => 0,

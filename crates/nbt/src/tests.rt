@@ -6,5 +6,6 @@ mod command_line;
 mod devices;
 mod fakes;
 mod names;
+mod show_datagram;
 mod show_service;
 mod show_session;

@@ -1,7 +1,9 @@
-//! The arguments of `nbt build`. Decimal numbers have no leading zeros; hexadecimal digits are read in either case.
+//! The arguments of `nbt build`. Decimal numbers have no leading zeros; hexadecimal digits are read
+//! in either case.
 
 use crate::build::build_fault::BuildFault;
 use hex::{FromHex, FromHexError};
+use nb_datagram::Key;
 use std::alloc::Global;
 
 /// A word of a packet, as an identifier or flags: four hexadecimal digits.
@@ -50,6 +52,17 @@ pub fn address(text: &str) -> Result<[u8; 4], BuildFault> {
         None => Ok(address),
         Some(_) => Err(BuildFault::Arguments),
     }
+}
+
+/// A datagram's key: its sender's address and port, and the identifier, as `10.0.0.5:138/0001`.
+pub fn key(text: &str) -> Result<Key, BuildFault> {
+    let (place, id) = text.split_once('/').ok_or(BuildFault::Arguments)?;
+    let (ip, port) = place.split_once(':').ok_or(BuildFault::Arguments)?;
+    Ok(Key {
+        ip: address(ip)?,
+        port: number(port)?,
+        id: word(id)?,
+    })
 }
 
 /// Bytes: hexadecimal digits, two a byte and at least two, or `empty`.

@@ -1,7 +1,8 @@
 //! Why no packet is built.
 
+use nb_datagram::CutFault;
 use nb_names::{NoMemory, TextFault};
-use std::alloc::AllocError;
+use std::alloc::{AllocError, AllocFailed};
 
 /// Why no packet is built.
 #[derive(Clone, Copy, Debug, PartialEq, Eq)]
@@ -12,6 +13,8 @@ pub enum BuildFault {
     Arguments,
     /// The packet takes fewer bytes.
     TooLong,
+    /// Pieces of no bytes were asked for.
+    ZeroPiece,
     /// Memory ran out.
     Memory,
 }
@@ -31,5 +34,21 @@ impl From<NoMemory> for BuildFault {
 impl From<AllocError> for BuildFault {
     fn from(_fault: AllocError) -> BuildFault {
         BuildFault::Memory
+    }
+}
+
+impl<T: Drop> From<AllocFailed<T>> for BuildFault {
+    fn from(_fault: AllocFailed<T>) -> BuildFault {
+        BuildFault::Memory
+    }
+}
+
+impl From<CutFault> for BuildFault {
+    fn from(fault: CutFault) -> BuildFault {
+        match fault {
+            CutFault::ZeroPiece => BuildFault::ZeroPiece,
+            CutFault::TooLong => BuildFault::TooLong,
+            CutFault::NoMemory => BuildFault::Memory,
+        }
     }
 }

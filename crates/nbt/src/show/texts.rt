@@ -1,5 +1,6 @@
 //! Parts of the texts of packets.
 
+use nb_datagram::Key;
 use nb_names::{DomainName, Name, NoMemory, domain_text, name_text};
 use std::alloc::Global;
 use std::fmt;
@@ -57,5 +58,17 @@ impl fmt::Display for Address {
     fn fmt<W: fmt::Write>(&self, f: &mut fmt::Formatter<W>) -> fmt::Result {
         let [a, b, c, d] = self.0;
         write!(f, "{a}.{b}.{c}.{d}")
+    }
+}
+
+/// A datagram's key: its sender's address and port, and the identifier.
+#[derive(Clone, Copy)]
+pub struct KeyText(pub Key);
+
+impl fmt::Display for KeyText {
+    fn fmt<W: fmt::Write>(&self, f: &mut fmt::Formatter<W>) -> fmt::Result {
+        let address = Address(self.0.ip);
+        let (port, id) = (self.0.port, self.0.id);
+        write!(f, "{address}:{port}/{id:04x}")
     }
 }

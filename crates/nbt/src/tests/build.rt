@@ -1,6 +1,6 @@
 //! `nbt build`: the packets by the layouts of RFC 1002.
 
-use crate::tests::fakes::{FRED, JOE, expect_printed, expect_refused, expect_shown};
+use crate::tests::fakes::{FRED, JOE, expect_printed, expect_refused, expect_shown, run_on};
 use std::alloc::Global;
 use std::process::Abort;
 use std::test::Fail;
@@ -197,9 +197,134 @@ fn bad_arguments_are_refused_in_order(rt: HostRuntime) -> Result<(), Fail> {
 #[test]
 fn what_is_built_is_shown(rt: HostRuntime) -> Result<(), Fail> {
     let alloc = rt.alloc();
-    let built = crate::tests::fakes::run_on(alloc, &["build", "query", "0003", "FRED<20>"])?;
+    let built = run_on(alloc, &["build", "query", "0003", "FRED<20>"])?;
     let input = String::from_utf8(built.output)?;
     let want = "1 137 id=0003 word=0100 op=query flags=RD rcode=ok qd=1 an=0 ns=0 ar=0 used=50\n\
                 \x20 question FRED<20> type=0020 class=0001\n";
     expect_shown(&rt, alloc, input.as_str(), want)
+}
+
+/// The bytes 00 to 09 by 4, and packets that are alone.
+#[test]
+fn datagram_packets_are_built(rt: HostRuntime) -> Result<(), Fail> {
+    let alloc = rt.alloc();
+    let names = format!(in alloc; "{JOE}{FRED}")?;
+    let pieces = format!(in alloc;
+        "138 0 110300010a000005008a00480000{names}00010203\n\
+         138 0 110100010a000005008a00480004{names}04050607\n\
+         138 0 110000010a000005008a00460008{names}0809\n"
+    )?;
+    let alone = format!(in alloc; "138 0 100200010a000005008a00440000{names}\n")?;
+    let broadcast = format!(in alloc; "138 0 1202abcdff000001000000450000{names}ff\n")?;
+    let find = format!(in alloc; "138 0 140200010a000005008a{FRED}\n")?;
+    let found = format!(in alloc; "138 0 150200010a000005008a{JOE}\n")?;
+    let missing = format!(in alloc; "138 0 160200010a000005008a{FRED}\n")?;
+    let rows = [
+        (
+            "group 10.0.0.5:138/0001 JOE<00> FRED<20> 00010203040506070809 4",
+            pieces.as_str(),
+        ),
+        (
+            "unique 10.0.0.5:138/0001 JOE<00> FRED<20> empty 65535",
+            alone.as_str(),
+        ),
+        (
+            "broadcast 255.0.0.1:0/ABCD JOE<00> FRED<20> ff 1",
+            broadcast.as_str(),
+        ),
+        (
+            "error 10.0.0.9:138/0001 82",
+            "138 0 130200010a000009008a82\n",
+        ),
+        ("find 10.0.0.5:138/0001 FRED<20>", find.as_str()),
+        ("found 10.0.0.5:138/0001 JOE<00>", found.as_str()),
+        ("missing 10.0.0.5:138/0001 FRED<20>", missing.as_str()),
+        (
+            "--broadcast error 10.0.0.9:138/0001 82",
+            "138 0 130200010a000009008a82\n",
+        ),
+    ];
+    for (words, want) in rows {
+        expect_built(&rt, alloc, words, want)?;
+    }
+    Ok(())
+}
+
+/// More data than a datagram has is refused before the pieces are looked at, and pieces of no
+/// bytes before pieces that are too long.
+#[test]
+fn datagrams_that_can_t_be_cut_are_refused(rt: HostRuntime) -> Result<(), Fail> {
+    let alloc = rt.alloc();
+    let longest = String::from_utf8(vec![in alloc; b'6'; 2 * 65_468]?)?;
+    let longer = String::from_utf8(vec![in alloc; b'6'; 2 * 65_536]?)?;
+    let rows = [
+        ("empty", "0", "zero piece"),
+        (longest.as_str(), "0", "zero piece"),
+        (longest.as_str(), "65468", "too long"),
+        (longer.as_str(), "0", "too long"),
+    ];
+    for (digits, most, fault) in rows {
+        let words = [
+            "build",
+            "group",
+            "10.0.0.5:138/0001",
+            "JOE<00>",
+            "FRED<20>",
+            digits,
+            most,
+        ];
+        expect_refused(&rt, alloc, words.as_slice(), fault)?;
+    }
+    let words = ["build", "group", "10.0.0.5:138/0001", "JOE<00>", "FRED<20>"];
+    let mut given = words.to_vec(alloc)?;
+    given.push(longest.as_str())?;
+    given.push("65467")?;
+    let built = run_on(alloc, given.as_slice())?;
+    assert_eq!(rt; built.status, 0);
+    assert_eq!(rt;
+        built.output.iter().filter(|byte| **byte == b'\n').count(),
+        2
+    );
+    Ok(())
+}
+
+/// Arguments of port 138 from left to right.
+#[test]
+fn bad_arguments_of_datagrams_are_refused_in_order(rt: HostRuntime) -> Result<(), Fail> {
+    let alloc = rt.alloc();
+    let rows = [
+        ("unique", "arguments"),
+        (
+            "unique 10.0.0.5:138/0001 JOE<00> FRED<20> empty",
+            "arguments",
+        ),
+        ("unique 10.0.0.5:138/1 JOE FRED empty 1", "arguments"),
+        ("unique 10.0.0.5:138 JOE FRED empty 1", "arguments"),
+        ("unique 10.0.0.5/0001 JOE FRED empty 1", "arguments"),
+        ("unique 10.0.0.5:0138/0001 JOE FRED empty 1", "arguments"),
+        ("group 10.0.0.5:138/0001 JOE FRED<20> 0 x", "bad text 3"),
+        ("group 10.0.0.5:138/0001 JOE<00> FRED 0 x", "bad text 4"),
+        (
+            "broadcast 10.0.0.5:138/0001 JOE<00> FRED<20> 0 1",
+            "arguments",
+        ),
+        (
+            "broadcast 10.0.0.5:138/0001 JOE<00> FRED<20> 00 65536",
+            "arguments",
+        ),
+        ("error 10.0.0.9:138/0001", "arguments"),
+        ("error 10.0.0.9:138/0001 8", "arguments"),
+        ("find 10.0.0.5:138/0001 FRED", "bad text 4"),
+        ("found 10.0.0.5:138/0001 FRED<20> 00", "arguments"),
+        ("missing 10.0.0.5:65536/0001 FRED", "arguments"),
+    ];
+    for (words, fault) in rows {
+        let mut given: Vec<&str> = Vec::new(alloc);
+        given.push("build")?;
+        for word in words.split(' ') {
+            given.push(word)?;
+        }
+        expect_refused(&rt, alloc, given.as_slice(), fault)?;
+    }
+    Ok(())
 }

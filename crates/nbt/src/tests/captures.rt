@@ -142,15 +142,23 @@ fn interrupts_are_borne_up_to_a_limit(rt: HostRuntime) -> Result<(), Fail> {
 }
 
 /// An input of 16,777,216 bytes is shown; a byte more is too much, and a line feed there finishes
-/// nothing.
+/// nothing. Before the last line stand 63 comments of 262,144 bytes and one of 262,137, with their
+/// line feeds.
 #[test]
 fn an_input_has_at_most_16777216_bytes(rt: HostRuntime) -> Result<(), Fail> {
     let alloc = rt.alloc();
-    let mut input = vec![in alloc; b'\n'; 16_777_209]?;
-    input.extend_from_slice(b"tick 12".as_slice())?;
+    let mut comment = vec![in alloc; b'#'; 262_143]?;
+    comment.push(b'\n')?;
+    let mut input = Vec::new(alloc);
+    for _ in 0..63 {
+        input.extend_from_slice(comment.as_slice())?;
+    }
+    let mut last = vec![in alloc; b'#'; 262_136]?;
+    last.extend_from_slice(b"\ntick 12".as_slice())?;
+    input.extend_from_slice(last.as_slice())?;
     let ran = run_show_on(alloc, input.as_slice())?;
     assert_eq!(rt; ran.status, 0);
-    assert_eq!(rt; ran.output.as_slice(), b"16777210 tick 12\n".as_slice());
+    assert_eq!(rt; ran.output.as_slice(), b"65 tick 12\n".as_slice());
     input.push(b'\n')?;
     let ran = run_show_on(alloc, input.as_slice())?;
     assert_eq!(rt; ran.status, 3);

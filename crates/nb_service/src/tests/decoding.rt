@@ -171,6 +171,9 @@ fn faults_are_told_at_their_places(rt: HostRuntime) {
     // RDATA that is cut off, before the name in it is read
     bytes[22] = 3;
     expect_fault(&rt, rt.alloc(), &bytes, ServiceFault::Truncated(25));
+    // and though a reserved byte stands where the name would begin
+    bytes[23] = 0x40;
+    expect_fault(&rt, rt.alloc(), &bytes[..24], ServiceFault::Truncated(24));
 }
 
 #[test]

@@ -1,7 +1,7 @@
 -- What events say to a member, and the fragments that are still live after them (RFC 1002 section 5.3).
 --
--- Own: a key's timer starts at the moment of the first fragment with which it came, whatever the moments
--- of the later ones, and only a look at the clock drops a key. Moments and times are in milliseconds.
+-- Own: the first fragment of a key starts the timer, at its own moment, and later ones leave it alone,
+-- whatever their moments. Only a look at the clock drops a key. Moments and times are in milliseconds.
 use Rattle.std.specs.Prelude.{◌+◌, ℕ, Bool, false, not, ◌&&◌, nat_le, cond, List, [], ◌∷◌, ◌++◌, map, filter, fold, Option, Some, None}
 use Rattle.std.specs.FinMap as maps
 use Rattle.nb_datagram.specs.declared.key.Key.{Key}

@@ -1,5 +1,5 @@
 -- What reads of a table answer, and a table without a key.
-use Rattle.std.proofs.Common.{◌≡◌, ◌≤◌, ◌<◌, ◌-◌, ℕ, Bool, true, false, cond, Option, Some, None, sym, ◌∙◌, subst, arith}
+use Rattle.std.proofs.Common.{◌≡◌, ◌≤◌, ◌-◌, ℕ, Bool, true, false, cond, Option, Some, None, sym, ◌∙◌, subst, arith}
 use Rattle.std.specs.FinMap as maps
 use Rattle.nb_datagram.specs.declared.key.Key.{Key}
 use Rattle.nb_datagram.specs.Key.{same_key}
@@ -7,12 +7,9 @@ use Rattle.nb_table.specs.declared.state.State.{State}
 use Rattle.nb_table.specs.declared.state.State.TheVariants.{Absent, Partial, Whole, Spoilt}
 use Rattle.nb_table.specs.Slot.{Held}
 use Rattle.nb_table.specs.Slot.{Spoilt as Clashed}
-use Rattle.nb_table.specs.Cover.{CoverFacts}
 use Rattle.nb_table.specs.Entry.{EntryValue}
 use Rattle.nb_table.specs.Contents.{Contents}
 use Rattle.nb_table.specs.Limits.{TableValue, KeepsLimits}
-use Rattle.nb_table.specs.Places.{AreCovered}
-use Rattle.nb_table.specs.Whole.{IsWholeCover}
 use Rattle.nb_table.specs.State.{IsState, IsEntryState}
 use Rattle.nb_table.specs.Lemmas.SameLemmas.{key_cmp_total}
 

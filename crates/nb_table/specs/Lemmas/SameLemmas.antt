@@ -1,19 +1,14 @@
 -- Tests of numbers, kinds and keys, and the facts that they decide.
-use Rattle.std.proofs.Common.{◌≡◌, ◌<◌, ◌≤◌, ◌==◌, ◌&&◌, ℕ, Bool, true, false, refl, sym, ◌∙◌, ap, nat_lt, nat_le, Decides}
+use Rattle.std.proofs.Common.{◌≡◌, ◌<◌, ◌≤◌, ◌==◌, ◌&&◌, ℕ, Bool, true, false, sym, ◌∙◌, ap, nat_lt, nat_le, Decides}
 use Rattle.std.proofs.lemmas.Bool.{true≢false, eqb-true, eq-eqb, ltb-true, lt-ltb, ltb-false, leb-true, le-leb, leb-false, lt-leb}
-use Rattle.std.specs.declared.cmp.Ordering.{Ordering}
-use Rattle.std.specs.declared.cmp.Ordering.TheVariants.{Less, Equal, Greater}
-use Rattle.std.specs.Ordering.{ordering_then}
-use Rattle.std.specs.Ordering.{is_eq as is_tie}
-use Rattle.std.specs.Cmp.{IsTotalOrder, both_ways, nat_cmp_total, on_total, then_total}
-use Rattle.std.specs.Cmp.Lexicographic.{pointwise, pointwise_decides, nat_list_cmp_total}
-use Rattle.std.specs.FinMap as map
-use Rattle.std.specs.FinMap.{nat_cmp-IsAntisymmetric, slice_cmp-IsAntisymmetric}
+use Rattle.std.specs.Cmp.{both_ways}
+use Rattle.std.specs.Cmp.Lexicographic.{pointwise, pointwise_decides}
 use Rattle.nb_datagram.specs.declared.key.Key.{Key}
 use Rattle.nb_datagram.specs.declared.kind.Kind.{Kind}
-use Rattle.nb_datagram.specs.Key.{key_cmp, same_key}
+use Rattle.nb_datagram.specs.Key.{same_key}
+pub use Rattle.nb_datagram.specs.KeyOrder.{key_cmp_total, key_cmp_exact, same_key_decides}
 use Rattle.nb_datagram.specs.Kind.{type_of, kind_of, kind_back, same_kind}
-use Rattle.nb_table.specs.Lemmas.MapsLemmas.{and_left, and_right, and_both, one_key, tied_self}
+use Rattle.nb_table.specs.Lemmas.MapsLemmas.{and_left, and_right, and_both}
 
 -- ---- numbers
 
@@ -57,26 +52,6 @@ same_kind_decides a b = (
 )
 
 -- ---- keys
-
-pub key_cmp_total : IsTotalOrder key_cmp
-key_cmp_total = then_total (on_total (λ (k : Key). k.ip) nat_list_cmp_total) (then_total (on_total (λ (k : Key). k.port) nat_cmp_total) (on_total (λ (k : Key). k.id) nat_cmp_total))
-
-then_equal : (a b : Ordering) → ordering_then a b ≡ Equal → (a ≡ Equal) × (b ≡ Equal)
-then_equal Less b e = absurd (true≢false (sym (ap is_tie e)))
-then_equal Equal b e = (refl, e)
-then_equal Greater b e = absurd (true≢false (sym (ap is_tie e)))
-
-pub key_cmp_exact : map.IsAntisymmetric key_cmp
-key_cmp_exact x y e =
-    let outer = then_equal _ _ e in
-    let inner = then_equal _ _ outer.1 in
-    let ip = slice_cmp-IsAntisymmetric nat_cmp-IsAntisymmetric x.ip y.ip outer.0 in
-    let port = nat_cmp-IsAntisymmetric x.port y.port inner.0 in
-    let id = nat_cmp-IsAntisymmetric x.id y.id inner.1 in
-    λ i. record { ip = ip i; port = port i; id = id i }
-
-pub same_key_decides : (a b : Key) → Decides (same_key a b) (a ≡ b)
-same_key_decides a b = (one_key key_cmp_exact a b, λ e. ap (same_key a) (sym e) ∙ tied_self key_cmp_total a)
 
 num_decides : (x y : ℕ) → Decides (x == y) (x ≡ y)
 num_decides x y = (eq_is x y, is_eq x y)

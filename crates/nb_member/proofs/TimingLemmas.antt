@@ -14,8 +14,7 @@ use Rattle.nb_table.specs.Join.{join}
 use Rattle.nb_table.specs.Limits.{TableValue, IsFull}
 use Rattle.nb_table.specs.Insert.{Takes, NeedsNoMemory, Passes, with_fragment}
 use Rattle.nb_table.specs.Lemmas.TableLemmas.{same_table}
-use Rattle.nb_table.proofs.OrderFreeLemmas.{join_one}
-use Rattle.nb_table.proofs.InsertLemmas.{needs_new}
+use Rattle.nb_table.specs.Lemmas.FragmentLemmas.{join_one, needs_new}
 use Rattle.nb_member.specs.Timing.{Moments, begun, HaveOneSetOfKeys}
 
 put_has : {X : Type 0} (b : Bool) (v : X) (o : Option X) → is_some (cond b (Some v) o) ≡ (b || is_some o)

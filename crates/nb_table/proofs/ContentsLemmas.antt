@@ -23,6 +23,7 @@ use Rattle.nb_table.specs.Lemmas.CoverLemmas.{same_cover, in_union}
 use Rattle.nb_table.proofs.PlacedLemmas.{find-placed, find-append, cover_of_formed}
 use Rattle.nb_table.specs.Lemmas.EntryLemmas.{facts_unite, join_entry-assoc}
 use Rattle.nb_table.specs.Lemmas.TableLemmas.{same_table, get-join, at_formed}
+use Rattle.nb_table.specs.Lemmas.FragmentLemmas.{facts_in-one, or_left, or_right, get-table_of}
 
 -- ---- the cover of fragments
 
@@ -46,33 +47,14 @@ cover_in-cons f fs = same_cover _ _ (λ i.
     ∙ sym (in_union (cover_of f) (cover_in fs) i))
     refl
 
-first_alone : (o : Option ℕ) → first_of o None ≡ o
-first_alone None = refl
-first_alone (Some x) = refl
-
-cover_in-one : (f : Core) → cover_in (f ∷ []) ≡ cover_of f
-cover_in-one f = λ i. record { bytes = maps.from_entries (append-nil (placed f.offset f.bytes) i); end = first_alone (end_of_one f) i }
-
 with_cover : Core → CoverFacts → EntryFacts
 with_cover f c = record { kind = f.kind; source = f.source; destination = f.destination; cover = c }
-
-pub facts_in-one : (f : Core) → facts_in f (f ∷ []) ≡ facts_of f
-unfolding with_cover
-facts_in-one f = ap (with_cover f) (cover_in-one f)
 
 pub facts_in-cons : (f g : Core) (gs : List Core) → facts_in f (f ∷ g ∷ gs) ≡ facts_together (facts_of f) (facts_in g (g ∷ gs))
 unfolding with_cover
 facts_in-cons f g gs = ap (with_cover f) (cover_in-cons f (g ∷ gs))
 
 -- ---- what agrees with the facts of several
-
-or_left : (a b : Bool) → (a || b) ≡ false → a ≡ false
-or_left true b h = h
-or_left false b h = refl
-
-or_right : (a b : Bool) → (a || b) ≡ false → b ≡ false
-or_right true b h = absurd (cc)
-or_right false b h = h
 
 one_of : (a b : Bool) → (a && not b) ≡ not (not a || b)
 one_of true b = refl
@@ -132,22 +114,6 @@ entry_in_formed (f ∷ fs) e h = at_formed (Some (Held (facts_of f))) (entry_in 
     single g e h = let one : Held (facts_of g) ≡ e = cc in subst IsEntry one (cover_of_formed g)
 
 -- ---- the table of a list
-
-none_there : (L : List Core) (k : Key) → list_any (same_key k) (map (λ f. f.key) L) ≡ false → with_key k L ≡ []
-none_there [] k h = refl
-none_there (f ∷ fs) k h = step (same_key k f.key) (or_left _ _ h) (none_there fs k (or_right _ _ h))
-  where
-    step : (b : Bool) → b ≡ false → with_key k fs ≡ [] → cond b (f ∷ with_key k fs) (with_key k fs) ≡ []
-    step true h rec = absurd (cc)
-    step false h rec = rec
-
-has : (L : List Core) (k : Key) (b : Bool) → list_any (same_key k) (map (λ f. f.key) L) ≡ b → cond b (entry_at L k) None ≡ entry_at L k
-has L k true h = refl
-has L k false h = sym (ap entry_in (none_there L k h))
-
--- the table has at each key what the list says of it
-pub get-table_of : (L : List Core) (k : Key) → maps.get (table_of L) k ≡ entry_at L k
-get-table_of L k = get-at_keys key_cmp_total key_cmp_exact (entry_at L) (map (λ f. f.key) L) k ∙ has L k _ refl
 
 pub table_of-append : (L M : List Core) → table_of (L ++ M) ≡ join (table_of L) (table_of M)
 table_of-append L M = same_table _ _ (λ k.

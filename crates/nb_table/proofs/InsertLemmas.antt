@@ -28,12 +28,8 @@ use Rattle.nb_table.proofs.PlacedLemmas.{end_of_decides}
 use Rattle.nb_table.proofs.PlacesLemmas.{below_by_reach}
 use Rattle.nb_table.specs.Lemmas.TableLemmas.{join_formed}
 use Rattle.nb_table.proofs.ContentsLemmas.{table_of_formed}
-use Rattle.nb_table.proofs.OrderFreeLemmas.{join_one}
+use Rattle.nb_table.specs.Lemmas.FragmentLemmas.{join_one, insert_at, needs_new}
 use Rattle.std.proofs.lemmas.Bool.{cases_lt}
-
--- what stands at a key that was inserted
-pub insert_at : (t : Contents) (k : Key) (e : EntryValue) → maps.get (maps.insert t k e) k ≡ Some e
-insert_at t k e = maps.get-insert key_cmp_total t k e k ∙ ap (λ b. cond b (Some e) (maps.get t k)) (tied_self key_cmp_total k)
 
 -- ---- no memory is needed
 
@@ -57,13 +53,6 @@ needs_more t f e at clean more (held same) =
     ∙ sym (insert_at t f.key (joined_onto join_entry (maps.get t f.key) (Held (facts_of f))))
     ∙ ap (λ u. maps.get u f.key) (sym (join_one t f) ∙ same)
     ∙ at))
-
-pub needs_new : (t : Contents) (f : Core) → maps.get t f.key ≡ None → NeedsNoMemory t f → ⊥
-needs_new t f none (spoilt s) = let clash = sym none ∙ s in absurd (cc clash)
-needs_new t f none (contradicts a h never) = let clash = sym none ∙ h in absurd (cc clash)
-needs_new t f none (held same) =
-    let clash = sym none ∙ ap (λ u. maps.get u f.key) (sym same ∙ join_one t f) ∙ insert_at t f.key (joined_onto join_entry (maps.get t f.key) (Held (facts_of f))) in
-    absurd (cc clash)
 
 -- ---- what changes
 

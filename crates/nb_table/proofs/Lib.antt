@@ -1,6 +1,6 @@
 mod PlacedLemmas
 mod ContentsLemmas
-pub mod OrderFreeLemmas
+mod OrderFreeLemmas
 mod ConflictLemmas
 mod FirstLemmas
 mod SayingLemmas
@@ -9,12 +9,11 @@ mod PlainLemmas
 mod PlainWholeLemmas
 mod PartsLemmas
 mod SenderLemmas
-pub mod TreeLemmas
 mod PutLemmas
 mod LimitsLemmas
 mod PlacesLemmas
 mod ChangeLemmas
-pub mod InsertLemmas
+mod InsertLemmas
 mod EachLemmas
 mod UnitingLemmas
 mod FittingLemmas

@@ -16,7 +16,8 @@ use Rattle.nb_table.specs.Join.{join, SameCores, without_key}
 use Rattle.nb_table.specs.Lemmas.MapsLemmas.{joined-empty}
 use Rattle.nb_table.specs.Lemmas.SameLemmas.{key_cmp_total, key_cmp_exact, same_key_decides}
 use Rattle.nb_table.specs.Lemmas.TableLemmas.{same_table, get-join, join-comm, join-assoc, join-idem}
-use Rattle.nb_table.proofs.ContentsLemmas.{entry_in-cons, get-table_of, table_of-append, table_of_formed}
+use Rattle.nb_table.proofs.ContentsLemmas.{table_of-append, table_of_formed}
+use Rattle.nb_table.specs.Lemmas.FragmentLemmas.{get-table_of}
 
 -- ---- elements
 
@@ -173,34 +174,3 @@ remove_retains t k = same_table _ _ (λ q.
 
 pub remove-table_of : (L : List Core) (k : Key) → maps.remove (table_of L) k ≡ table_of (without_key k L)
 remove-table_of L k = remove_retains (table_of L) k ∙ retain-table_of L (λ q. not (same_key k q))
-
--- ---- one more fragment
-
-none_else : (b : Bool) (f : Core) → entry_in (cond b (f ∷ []) []) ≡ cond b (Some (Held (facts_of f))) None
-none_else true f = entry_in-cons f []
-none_else false f = refl
-
--- the table of one fragment
-pub get-table_of-one : (f : Core) (k : Key) → maps.get (table_of (f ∷ [])) k ≡ cond (same_key k f.key) (Some (Held (facts_of f))) None
-get-table_of-one f k = get-table_of (f ∷ []) k ∙ none_else (same_key k f.key) f
-
-at_one : (t : Contents) (f : Core) (q : Key) (b : Bool) → same_key q f.key ≡ b →
-    joined_at join_entry (maps.get t q) (cond b (Some (Held (facts_of f))) None) ≡ cond b (Some (joined_onto join_entry (maps.get t f.key) (Held (facts_of f)))) (maps.get t q)
-at_one t f q true e = onto (maps.get t q) ∙ ap (λ k. Some (joined_onto join_entry (maps.get t k) (Held (facts_of f)))) ((same_key_decides q f.key).0 e)
-  where
-    onto : (a : Option EntryValue) → joined_at join_entry a (Some (Held (facts_of f))) ≡ Some (joined_onto join_entry a (Held (facts_of f)))
-    onto None = refl
-    onto (Some x) = refl
-at_one t f q false e = alone (maps.get t q)
-  where
-    alone : (a : Option EntryValue) → joined_at join_entry a None ≡ a
-    alone None = refl
-    alone (Some x) = refl
-
--- joining the table of one fragment changes its key alone
-pub join_one : (t : Contents) (f : Core) → join t (table_of (f ∷ [])) ≡ maps.insert t f.key (joined_onto join_entry (maps.get t f.key) (Held (facts_of f)))
-join_one t f = same_table _ _ (λ q.
-    get-join t (table_of (f ∷ [])) q
-    ∙ ap (joined_at join_entry (maps.get t q)) (get-table_of-one f q)
-    ∙ at_one t f q (same_key q f.key) refl
-    ∙ sym (maps.get-insert key_cmp_total t f.key (joined_onto join_entry (maps.get t f.key) (Held (facts_of f))) q))

@@ -17,7 +17,8 @@ use Rattle.nb_table.specs.Plain.{CoversBelow, IsLong, datagram_to}
 use Rattle.nb_table.specs.declared.plain.whole.PlainFault.{PlainFault}
 use Rattle.nb_table.specs.declared.plain.whole.PlainFault.TheVariants.{TooLong, NoMemory}
 use Rattle.nb_table.proofs.ConflictLemmas.{is_spoilt_decides}
-use Rattle.nb_table.proofs.ContentsLemmas.{get-cover_in, get-table_of}
+use Rattle.nb_table.proofs.ContentsLemmas.{get-cover_in}
+use Rattle.nb_table.specs.Lemmas.FragmentLemmas.{get-table_of}
 use Rattle.nb_table.proofs.SayingLemmas.{spoilt_exactly, held_says}
 use Rattle.nb_table.proofs.WholeLemmas.{whole_exactly, with_found, below_found}
 

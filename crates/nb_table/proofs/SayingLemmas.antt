@@ -12,7 +12,8 @@ use Rattle.nb_table.specs.ConflictTests.{some_conflict, with_key}
 use Rattle.nb_table.specs.Contents.{Contents, facts_in, entry_in, table_of, Says, IsEntryOf, IsTableOf, HasByte, HasEnd}
 use Rattle.nb_table.specs.Lemmas.CoverLemmas.{same_cover}
 use Rattle.nb_table.specs.Lemmas.TableLemmas.{same_table}
-use Rattle.nb_table.proofs.ContentsLemmas.{get-cover_in, get-table_of}
+use Rattle.nb_table.proofs.ContentsLemmas.{get-cover_in}
+use Rattle.nb_table.specs.Lemmas.FragmentLemmas.{get-table_of}
 use Rattle.nb_table.proofs.ConflictLemmas.{is_spoilt_decides, with_key_in, in_with_key}
 use Rattle.nb_table.proofs.OrderFreeLemmas.{in_first, in_none}
 use Rattle.nb_table.proofs.FirstLemmas.{first_byte_from, first_end_from, first_byte_there, first_end_there}

@@ -1,5 +1,5 @@
--- What the laws of joins rest on. No clause cites a lemma of these files: they stand beside the definitions
--- because the laws of a trait can cite nothing of `proofs/`.
+-- What the laws of joins rest on, and what crates above cite. No clause cites a lemma of these files: they
+-- stand beside the definitions because the laws of a trait, and other crates, can cite nothing of `proofs/`.
 pub mod MapsLemmas
 pub mod SameLemmas
 pub mod SlotLemmas
@@ -7,3 +7,5 @@ pub mod CoverLemmas
 pub mod EntryLemmas
 pub mod TableLemmas
 pub mod EqualLemmas
+pub mod TreeLemmas
+pub mod FragmentLemmas

@@ -1,5 +1,7 @@
 -- The tests of equality decide equality.
 use Rattle.std.proofs.Common.{◌≡◌, ◌==◌, ◌&&◌, ℕ, List, Bool, Option, Some, None, refl, sym, ◌∙◌, ap, Decides}
+use Rattle.std.proofs.lemmas.Bool.{true≢false}
+use Rattle.std.proofs.lemmas.Option.{none-some, same_Some}
 use Rattle.std.specs.Option.{option_eq}
 use Rattle.std.specs.Cmp.{IsEquivalence, IsPartialEquivalence, decided, partial_equiv_from_equiv}
 use Rattle.std.specs.Cmp.Lexicographic.{pointwise, pointwise_decides}
@@ -17,9 +19,9 @@ use Rattle.nb_table.specs.Lemmas.SameLemmas.{eq_is, is_eq, same_kind_decides}
 -- two options are the same where their values are
 pub options_decide : {X : Type 0} (E : X → X → Bool) → ((x y : X) → Decides (E x y) (x ≡ y)) → (o p : Option X) → Decides (option_eq E o p) (o ≡ p)
 options_decide E d None None = (λ h. refl, λ e. refl)
-options_decide E d None (Some y) = (λ h. absurd (cc), λ e. absurd (cc))
-options_decide E d (Some x) None = (λ h. absurd (cc), λ e. absurd (cc))
-options_decide E d (Some x) (Some y) = (λ h. ap Some ((d x y).0 h), λ e. (d x y).1 (let one : x ≡ y = cc in one))
+options_decide E d None (Some y) = (λ h. absurd (true≢false (sym h)), λ e. absurd (none-some y e))
+options_decide E d (Some x) None = (λ h. absurd (true≢false (sym h)), λ e. absurd (none-some x (sym e)))
+options_decide E d (Some x) (Some y) = (λ h. ap Some ((d x y).0 h), λ e. (d x y).1 (same_Some x y e))
 
 numbers_decide : (x y : ℕ) → Decides (x == y) (x ≡ y)
 numbers_decide x y = (eq_is x y, is_eq x y)

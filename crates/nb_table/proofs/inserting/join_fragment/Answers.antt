@@ -11,8 +11,9 @@ use Rattle.nb_table.specs.Limits.{Limits, IsFull}
 use Rattle.nb_table.specs.Change.{KeyChange}
 use Rattle.nb_table.specs.Insert.{Lacks}
 use Rattle.nb_table.specs.Lemmas.SameLemmas.{key_cmp_total, key_cmp_exact}
-use Rattle.nb_table.proofs.TreeLemmas.{get_is, len_is, changed_is, kept_is, insert_is}
-use Rattle.nb_table.proofs.InsertLemmas.{needs_more, needs_new, memory_alone, on_any_err}
+use Rattle.nb_table.specs.Lemmas.TreeLemmas.{get_is, len_is, changed_is, kept_is, insert_is}
+use Rattle.nb_table.proofs.InsertLemmas.{needs_more, memory_alone, on_any_err}
+use Rattle.nb_table.specs.Lemmas.FragmentLemmas.{needs_new}
 use Rattle.nb_table.proofs.inserting.join_fragment.Goals as goal
 
 held_not_full : (l : Limits) (t : Contents) (k : Key) (e : EntryValue) → maps.get t k ≡ Some e → IsFull l t k → ⊥

@@ -4,7 +4,7 @@ use Rattle.std.specs.Cmp.{nat_cmp_total}
 use Rattle.std.specs.FinMap as maps
 use Rattle.std.specs.FinMap.{nat_cmp-IsAntisymmetric}
 use Rattle.nb_table.specs.Lemmas.EqualLemmas.{pairs_decide}
-use Rattle.nb_table.proofs.TreeLemmas.{same_list}
+use Rattle.nb_table.specs.Lemmas.TreeLemmas.{same_list}
 use Rattle.nb_table.proofs.placed.are_equal.Goals as goal
 
 pub returns-then-len : goal.returns-then-len

@@ -4,7 +4,7 @@ use Rattle.std.specs.Cmp.{nat_cmp_total}
 use Rattle.std.specs.BTreeMap.{get}
 use Rattle.std.specs.FinMap as maps
 use Rattle.nb_table.specs.Lemmas.SameLemmas.{refutes}
-use Rattle.nb_table.proofs.TreeLemmas.{get_is}
+use Rattle.nb_table.specs.Lemmas.TreeLemmas.{get_is}
 use Rattle.nb_table.proofs.WholeLemmas.{below_none, below_more}
 use Rattle.nb_table.proofs.PlacesLemmas.{below_uncovered}
 use Rattle.nb_table.proofs.placed.bytes_below.Goals as goal

@@ -5,7 +5,7 @@ use Rattle.std.specs.Cmp.{nat_cmp_total}
 use Rattle.std.specs.FinMap as maps
 use Rattle.std.specs.FinMap.{nat_cmp-IsAntisymmetric}
 use Rattle.nb_table.specs.Places.{with_bytes}
-use Rattle.nb_table.proofs.TreeLemmas.{insert_is}
+use Rattle.nb_table.specs.Lemmas.TreeLemmas.{insert_is}
 use Rattle.nb_table.proofs.placed.put_bytes.Goals as goal
 
 pub loop-byte-preserved : goal.loop-byte-preserved

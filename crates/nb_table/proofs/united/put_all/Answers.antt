@@ -3,7 +3,7 @@ use Rattle.std.specs.Ordering.{nat_cmp}
 use Rattle.std.specs.Cmp.{nat_cmp_total}
 use Rattle.std.specs.FinMap as maps
 use Rattle.std.specs.FinMap.{nat_cmp-IsAntisymmetric}
-use Rattle.nb_table.proofs.TreeLemmas.{insert_is, entries_are}
+use Rattle.nb_table.specs.Lemmas.TreeLemmas.{insert_is, entries_are}
 use Rattle.nb_table.proofs.EachLemmas.{joined_each, joined_each_is, onto_second, over_is}
 use Rattle.nb_table.proofs.united.put_all.Goals as goal
 

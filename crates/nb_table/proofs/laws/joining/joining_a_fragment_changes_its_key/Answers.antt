@@ -1,4 +1,4 @@
-use Rattle.nb_table.proofs.OrderFreeLemmas.{join_one}
+use Rattle.nb_table.specs.Lemmas.FragmentLemmas.{join_one}
 use Rattle.nb_table.proofs.laws.joining.joining_a_fragment_changes_its_key.Goals as goal
 
 pub returns : goal.returns

@@ -6,7 +6,7 @@ use Rattle.std.specs.BTreeMap.{get}
 use Rattle.std.specs.FinMap as maps
 use Rattle.std.specs.FinMap.{nat_cmp-IsAntisymmetric}
 use Rattle.nb_table.specs.Cover.{same_where}
-use Rattle.nb_table.proofs.TreeLemmas.{get_is, entries_are}
+use Rattle.nb_table.specs.Lemmas.TreeLemmas.{get_is, entries_are}
 use Rattle.nb_table.proofs.places.Places.bytes_agree.Goals as goal
 
 pub returns : goal.returns

@@ -6,7 +6,7 @@ use Rattle.std.specs.BTreeMap.{get}
 use Rattle.nb_datagram.specs.Fragment.{core_of}
 use Rattle.nb_table.specs.Cover.{placed}
 use Rattle.nb_table.specs.Places.{is_there}
-use Rattle.nb_table.proofs.TreeLemmas.{get_is}
+use Rattle.nb_table.specs.Lemmas.TreeLemmas.{get_is}
 use Rattle.nb_table.proofs.PlacesLemmas.{held_from_all, all_from_held}
 use Rattle.nb_table.proofs.places.Places.holds_bytes.Goals as goal
 

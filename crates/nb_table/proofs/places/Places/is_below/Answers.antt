@@ -4,7 +4,7 @@ use Rattle.std.specs.Cmp.{both_ways, nat_cmp_total}
 use Rattle.std.specs.FinMap as maps
 use Rattle.nb_table.specs.Cover.{CoverFacts, is_below_end, lies_below}
 use Rattle.nb_table.specs.Lemmas.CoverLemmas.{lies_below_decides}
-use Rattle.nb_table.proofs.TreeLemmas.{get_is}
+use Rattle.nb_table.specs.Lemmas.TreeLemmas.{get_is}
 use Rattle.nb_table.proofs.places.Places.is_below.Goals as goal
 
 pub returns-in-Some : goal.returns-in-Some

@@ -3,7 +3,7 @@ use Rattle.std.specs.Cmp.{nat_cmp_total}
 use Rattle.std.specs.BTreeMap.{get}
 use Rattle.std.specs.FinMap as maps
 use Rattle.nb_table.specs.Cover.{CoverFacts}
-use Rattle.nb_table.proofs.TreeLemmas.{get_is}
+use Rattle.nb_table.specs.Lemmas.TreeLemmas.{get_is}
 use Rattle.nb_table.proofs.WholeLemmas.{whole_below_end}
 use Rattle.nb_table.proofs.places.Places.is_whole.Goals as goal
 

@@ -3,7 +3,7 @@ use Rattle.std.proofs.lemmas.Bool.{true≢false}
 use Rattle.std.proofs.lemmas.Option.{none-some, same_Some}
 use Rattle.nb_table.specs.Whole.{IsWhole}
 use Rattle.nb_table.specs.Lemmas.SameLemmas.{key_cmp_total}
-use Rattle.nb_table.proofs.TreeLemmas.{get_is}
+use Rattle.nb_table.specs.Lemmas.TreeLemmas.{get_is}
 use Rattle.nb_table.proofs.table.Table.has_whole.Goals as goal
 
 pub returns-in-Some : goal.returns-in-Some

@@ -7,7 +7,7 @@ use Rattle.nb_datagram.specs.declared.limits.TheConstants.{MAX_LENGTH}
 use Rattle.nb_table.specs.Contents.{Contents}
 use Rattle.nb_table.specs.Limits.{TableValue, KeepsLimits}
 use Rattle.nb_table.specs.Insert.{Passes}
-use Rattle.nb_table.proofs.OrderFreeLemmas.{join_one}
+use Rattle.nb_table.specs.Lemmas.FragmentLemmas.{join_one}
 use Rattle.nb_table.proofs.InsertLemmas.{short_more, same_test, settled, ok_both, refused_from, spared, insert_keeps, change_settled}
 use Rattle.nb_table.proofs.table.Table.insert.Goals as goal
 

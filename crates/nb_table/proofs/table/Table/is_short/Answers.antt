@@ -4,7 +4,7 @@ use Rattle.std.specs.FinMap as maps
 use Rattle.nb_datagram.specs.Key.{key_cmp}
 use Rattle.nb_table.specs.Merging.{is_short}
 use Rattle.nb_table.specs.Lemmas.SameLemmas.{key_cmp_total, key_cmp_exact}
-use Rattle.nb_table.proofs.TreeLemmas.{entries_are}
+use Rattle.nb_table.specs.Lemmas.TreeLemmas.{entries_are}
 use Rattle.nb_table.proofs.FittingLemmas.{all_short_decides}
 use Rattle.nb_table.proofs.table.Table.is_short.Goals as goal
 

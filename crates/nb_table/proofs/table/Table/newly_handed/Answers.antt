@@ -7,7 +7,7 @@ use Rattle.std.specs.FinMap as maps
 use Rattle.nb_datagram.specs.Key.{key_cmp}
 use Rattle.nb_table.specs.Whole.{newly, datagram_at, datagram_of, newly_whole}
 use Rattle.nb_table.specs.Lemmas.SameLemmas.{key_cmp_total, key_cmp_exact}
-use Rattle.nb_table.proofs.TreeLemmas.{get_is, entries_are}
+use Rattle.nb_table.specs.Lemmas.TreeLemmas.{get_is, entries_are}
 use Rattle.nb_table.proofs.MergingLemmas.{handed_one, handed_none}
 use Rattle.nb_table.proofs.table.Table.newly_handed.Goals as goal
 

@@ -5,7 +5,7 @@ use Rattle.nb_datagram.specs.Key.{key_cmp}
 use Rattle.nb_table.specs.Maps.{joined_onto}
 use Rattle.nb_table.specs.Entry.{join_entry}
 use Rattle.nb_table.specs.Lemmas.SameLemmas.{key_cmp_total, key_cmp_exact}
-use Rattle.nb_table.proofs.TreeLemmas.{get_is, changed_is, insert_is}
+use Rattle.nb_table.specs.Lemmas.TreeLemmas.{get_is, changed_is, insert_is}
 use Rattle.nb_table.proofs.table.merging.join_at.Goals as goal
 
 pub returns-in-Some : goal.returns-in-Some

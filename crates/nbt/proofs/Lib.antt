@@ -1,2 +1,3 @@
 pub mod WritingTurns
 pub mod ReadingTurns
+pub mod AloneWords

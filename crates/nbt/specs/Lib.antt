@@ -5,3 +5,4 @@ pub mod ClapAnswer
 pub mod NameCommand
 pub mod Output
 pub mod Input
+pub mod CommandLine

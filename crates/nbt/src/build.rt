@@ -26,7 +26,8 @@ use std::io::Write;
 ///
 /// [`Fault::Text`] for a bad name; [`Fault::Arguments`] for another WHAT, another number of
 /// arguments, or another bad one; [`Fault::TooLong`] for more data than a packet takes;
-/// [`Fault::ZeroPiece`] for pieces of no bytes; [`Fault::Memory`]. Nothing is printed then. [`Fault::Write`] where the output failed.
+/// [`Fault::ZeroPiece`] for pieces of no bytes; [`Fault::Memory`]. Nothing is printed then.
+/// [`Fault::Write`] where the output failed.
 pub fn run_build<W: Write>(
     alloc: Global,
     matches: &ArgMatches<'_>,

@@ -1,4 +1,8 @@
 //! The words that the program takes.
+ghost use Rattle.std.specs.Prelude.{◌≡◌, IfOk, false};
+ghost use Rattle.clap.specs.Words.{app_of, new_app, rule_of};
+ghost use Rattle.clap.specs.declared.builder.command.Command.TheViews.{out-Command as fields_of};
+ghost use Rattle.nbt.specs.CommandLine.{name_app, show_app, build_app, nbt_app, flag_rule, value_rule, list_rule};
 
 use clap::{Arg, ArgAction, Command};
 use std::alloc::{AllocError, Global};
@@ -38,8 +42,8 @@ const BUILD_HELP: &str = "Port 137: query ID NAME, status ID NAME, registration 
                           139: request CALLED CALLING, message HEX, positive, negative CODE, \
                           retarget ADDRESS PORT, keepalive{n}Port 138: unique KEY \
                           SOURCE DESTINATION HEX MOST, group and broadcast (the same), error KEY \
-                          CODE, find KEY NAME,{n}found and missing (the same){n}{n}ID and FLAGS are four \
-                          hexadecimal digits, CODE two; TTL, PORT and MOST (bytes of \
+                          CODE, find KEY NAME,{n}found and missing (the same){n}{n}ID and FLAGS \
+                          are four hexadecimal digits, CODE two; TTL, PORT and MOST (bytes of \
                           a piece) decimal numbers; KEY is ADDRESS:PORT/ID; ADDRESS \
                           four decimal numbers{n}with dots; HEX two digits a byte, or the word \
                           `empty`. Names are as `nbt name` takes them.{n}{n}Example: nbt build \
@@ -53,56 +57,113 @@ const BUILD_HELP: &str = "Port 137: query ID NAME, status ID NAME, registration 
 /// # Errors
 ///
 /// `AllocError` where memory ran out.
-pub fn command<'a>(alloc: Global) -> Result<Command<'a>, AllocError> {
-    let top = Command::new(alloc, "nbt")
-        .about("NetBIOS packets on the command line")
-        .version(VERSION)
-        .after_help(STATUSES)
-        .subcommand_required(true);
+pub fn command<'a>(alloc: Global) -> Result<Command<'a>, AllocError>
+    ensures { IfOk result (λ command. app_of command ≡ nbt_app) }
+{
+    let top = described(
+        alloc,
+        "nbt",
+        "NetBIOS packets on the command line",
+        STATUSES,
+    )
+    .version(VERSION)
+    .subcommand_required(true);
     let top = top.subcommand(name_command(alloc)?)?;
     let top = top.subcommand(show_command(alloc))?;
     Ok(top.subcommand(build_command(alloc)?)?)
 }
 
 /// `name [--bytes] VALUE`.
-fn name_command<'a>(alloc: Global) -> Result<Command<'a>, AllocError> {
-    let bytes = Arg::new(alloc, "bytes")
-        .long("bytes")
-        .help("VALUE is a spelling in hexadecimal: print the text of its name")
-        .action(ArgAction::SetTrue);
-    let value = Arg::new(alloc, "VALUE")
-        .help("The text of a name, such as 'FRED<20>.NETBIOS.COM'; with --bytes its spelling")
-        .required(true)
-        .action(ArgAction::Set);
-    let name = Command::new(alloc, "name")
-        .about("Print the spelling of a name, or with --bytes the text of a spelling")
-        .after_help(NAME_HELP);
+fn name_command<'a>(alloc: Global) -> Result<Command<'a>, AllocError>
+    ensures app { IfOk result (λ command. app_of command ≡ name_app) }
+    ensures local { IfOk result (λ command. (fields_of command).has_globals ≡ false) }
+{
+    let bytes = flag(
+        alloc,
+        "bytes",
+        "VALUE is a spelling in hexadecimal: print the text of its name",
+    );
+    let value = required(
+        alloc,
+        "VALUE",
+        "The text of a name, such as 'FRED<20>.NETBIOS.COM'; with --bytes its spelling",
+    );
+    let name = described(
+        alloc,
+        "name",
+        "Print the spelling of a name, or with --bytes the text of a spelling",
+        NAME_HELP,
+    );
     Ok(name.arg(bytes)?.arg(value)?)
 }
 
 /// `show`.
-fn show_command<'a>(alloc: Global) -> Command<'a> {
-    Command::new(alloc, "show")
-        .about("Show the packets of the capture on standard input")
-        .after_help(SHOW_HELP)
+fn show_command<'a>(alloc: Global) -> Command<'a>
+    ensures app { app_of result ≡ show_app }
+    ensures local { (fields_of result).has_globals ≡ false }
+{
+    described(
+        alloc,
+        "show",
+        "Show the packets of the capture on standard input",
+        SHOW_HELP,
+    )
 }
 
 /// `build [--broadcast] WHAT ARG..`.
-fn build_command<'a>(alloc: Global) -> Result<Command<'a>, AllocError> {
-    let broadcast = Arg::new(alloc, "broadcast")
-        .long("broadcast")
-        .help("The packet of port 137 is broadcast")
-        .action(ArgAction::SetTrue);
-    let what = Arg::new(alloc, "WHAT")
-        .help("The packet to build")
-        .required(true)
-        .action(ArgAction::Set);
-    let words = Arg::new(alloc, "ARG")
-        .help("What the packet has, as listed below")
-        .num_args(0..)
-        .action(ArgAction::Append);
-    let build = Command::new(alloc, "build")
-        .about("Print the capture line of a packet")
-        .after_help(BUILD_HELP);
+fn build_command<'a>(alloc: Global) -> Result<Command<'a>, AllocError>
+    ensures app { IfOk result (λ command. app_of command ≡ build_app) }
+    ensures local { IfOk result (λ command. (fields_of command).has_globals ≡ false) }
+{
+    let broadcast = flag(alloc, "broadcast", "The packet of port 137 is broadcast");
+    let what = required(alloc, "WHAT", "The packet to build");
+    let words = list(alloc, "ARG", "What the packet has, as listed below");
+    let build = described(
+        alloc,
+        "build",
+        "Print the capture line of a packet",
+        BUILD_HELP,
+    );
     Ok(build.arg(broadcast)?.arg(what)?.arg(words)?)
+}
+
+/// A command of this name, with the texts before and after its help.
+fn described<'a>(alloc: Global, name: &'a str, about: &'a str, after: &'a str) -> Command<'a>
+    ensures app { app_of result ≡ new_app name.entry.now }
+    ensures local { (fields_of result).has_globals ≡ false }
+{
+    Command::new(alloc, name).about(about).after_help(after)
+}
+
+/// An option that is given or not.
+fn flag<'a>(alloc: Global, name: &'a str, help: &'a str) -> Arg<'a>
+    ensures rule { rule_of result ≡ flag_rule name.entry.now }
+    ensures local { result.global ≡ false }
+{
+    Arg::new(alloc, name)
+        .long(name)
+        .help(help)
+        .action(ArgAction::SetTrue)
+}
+
+/// A word that has to be there.
+fn required<'a>(alloc: Global, name: &'a str, help: &'a str) -> Arg<'a>
+    ensures rule { rule_of result ≡ value_rule name.entry.now }
+    ensures local { result.global ≡ false }
+{
+    Arg::new(alloc, name)
+        .help(help)
+        .required(true)
+        .action(ArgAction::Set)
+}
+
+/// Words, any number of them.
+fn list<'a>(alloc: Global, name: &'a str, help: &'a str) -> Arg<'a>
+    ensures rule { rule_of result ≡ list_rule name.entry.now }
+    ensures local { result.global ≡ false }
+{
+    Arg::new(alloc, name)
+        .help(help)
+        .num_args(0..)
+        .action(ArgAction::Append)
 }

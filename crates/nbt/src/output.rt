@@ -67,8 +67,8 @@ impl<W> Output<W> {
     ///
     /// # Errors
     ///
-    /// [`Fault::Write`] where a write failed, took no byte, or was interrupted 1,024 times in a row.
-    /// A front of the bytes is written then.
+    /// [`Fault::Write`] where a write failed, took no byte, or was interrupted 1,024 times in a
+    /// row. A front of the bytes is written then.
     pub fn print(&mut self, bytes: &[u8]) -> Result<(), Fault>
     where
         W: Write,

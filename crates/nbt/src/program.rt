@@ -1,10 +1,11 @@
 //! The program over any input and output.
-ghost use Rattle.std.specs.Prelude.{◌≡◌, ◌≢◌, ◌≤◌, Some, codes, IfErr};
+ghost use Rattle.std.specs.Prelude.{◌≡◌, ◌≢◌, ◌≤◌, Some, codes, map, string_bytes, IfErr};
 ghost use Rattle.std.specs.Io.KnownBytes.{Keeps};
 ghost use Rattle.clap.specs.Words.{kind_of, subcommand_name_of};
 ghost use Rattle.nb_names.specs.Counted.{no_calls};
 ghost use Rattle.nbt.specs.Output.{ShowsFailing};
 ghost use Rattle.nbt.specs.FaultTexts.{status_after};
+ghost use Rattle.nbt.specs.CommandLine.{AreAlone};
 ghost use Rattle.nbt.specs.ClapAnswer.{Reports, answer_to};
 
 use crate::build::run_build;
@@ -25,8 +26,8 @@ use std::io::{Read, Write};
 /// The first of the words is the program's name. What is asked for goes to `output`, a fault to
 /// `errors` as one line after `nbt: `; a fault in writing that line changes nothing. The status is
 /// 0 where all was done, 1 where input was refused, 2 where the command line was bad (with `clap`'s
-/// text on `errors`), 3 where a device failed or memory ran out. `clap`'s help and the version go to
-/// `output`, with status 0.
+/// text on `errors`), 3 where a device failed or memory ran out. `clap`'s help and the version go
+/// to `output`, with status 0.
 pub fn run<R: Read, W: Write, E: Write>(
     alloc: Global,
     words: &[String],
@@ -35,6 +36,7 @@ pub fn run<R: Read, W: Write, E: Write>(
     errors: &mut E,
 ) -> u8
     ensures within { result ≤ 3 }
+    ensures alone { AreAlone (map string_bytes words.now) → result ≢ 2 }
 {
     let mut input = Counted::new(&mut *input);
     let mut output = Output::new(&mut *output);
@@ -54,6 +56,7 @@ fn run_words<R: Read, W: Write, E: Write>(
     output: &mut Output<W>,
     errors: &mut Output<E>,
 ) -> Status
+    ensures alone { AreAlone (map string_bytes words.now) → result ≢ Status.BadUsage }
     ensures usage { result ≡ Status.BadUsage →
         Keeps (W.contents output.old.inner) (W.contents output.new.inner) }
 {

@@ -1,0 +1,26 @@
+-- The command line takes a subcommand that may stand alone, and clap fails for want of memory alone then.
+use Rattle.std.proofs.Common.{◌≡◌, ◌≢◌, [], ◌∷◌, true, refl, codes, ap, ◌∙◌, ℕ, List, Option}
+use Rattle.clap.specs.Words.{takes, Text}
+use Rattle.clap.proofs.OnLiterals.{clap_on_literals}
+use Rattle.clap.specs.declared.error.kind.ErrorKind.{ErrorKind}
+use Rattle.clap.specs.declared.error.kind.ErrorKind.TheVariants.{OutOfMemory}
+use Rattle.nbt.specs.CommandLine.{nbt_app, IsAlone}
+use Rattle.nbt.specs.ClapAnswer.{Reports, answer_to}
+use Rattle.nbt.specs.declared.status.Status.{Status}
+use Rattle.nbt.specs.declared.status.Status.TheVariants.{BadUsage, Failed}
+
+show_is_taken : (program : Text) → takes nbt_app (program ∷ codes "show" ∷ []) ≡ true
+unfolding clap_on_literals
+show_is_taken program = refl
+
+pub alone_is_taken : (program word : Text) → IsAlone word → takes nbt_app (program ∷ word ∷ []) ≡ true
+alone_is_taken program word alone = ap (λ w. takes nbt_app (program ∷ w ∷ [])) alone ∙ show_is_taken program
+
+failed_of : (kind : ErrorKind) (status : Status) (old new : Option (List ℕ)) → kind ≡ OutOfMemory
+    → Reports (answer_to kind) status old new → status ≡ Failed
+failed_of kind status old new is reported = (rw is at reported).0
+
+pub no_usage_for_memory : (kind : ErrorKind) (status : Status) (old new : Option (List ℕ)) → kind ≡ OutOfMemory
+    → Reports (answer_to kind) status old new → status ≢ BadUsage
+no_usage_for_memory kind status old new is reported usage =
+    let failed = failed_of kind status old new is reported in absurd (cc (failed, usage))

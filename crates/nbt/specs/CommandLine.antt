@@ -1,0 +1,48 @@
+-- The program's command line, as clap reads it (own).
+use Rattle.std.specs.Prelude.{◌≡◌, ◌≢◌, ℕ, List, [], ◌∷◌, Option, Some, true, codes, option_map}
+use Rattle.clap.specs.Words.{App, Rule, Text, new_app, new_rule, with_rule, with_subcommand, subcommand_of}
+use Rattle.clap.specs.Simple.{on_top}
+use Rattle.clap.specs.declared.builder.action.ArgAction.TheVariants.{Set, SetTrue, Append}
+
+-- an option that is given or not
+abbrev pub flag_rule : Text → Rule
+flag_rule name = record (new_rule name) { long = Some name; action = Some SetTrue }
+
+-- a word that has to be there
+abbrev pub value_rule : Text → Rule
+value_rule name = record (new_rule name) { required = true; action = Some Set }
+
+-- words, any number of them
+abbrev pub list_rule : Text → Rule
+list_rule name = record (new_rule name) {
+  action = Some Append;
+  range = Some (record { start_inclusive = 0; end_inclusive = 18446744073709551615 });
+}
+
+-- `name [--bytes] VALUE`
+abbrev pub name_app : App
+name_app = with_rule (with_rule (new_app (codes "name")) (flag_rule (codes "bytes"))) (value_rule (codes "VALUE"))
+
+-- `show`
+abbrev pub show_app : App
+show_app = new_app (codes "show")
+
+-- `build [--broadcast] WHAT ARG..`
+abbrev pub build_app : App
+build_app = with_rule (with_rule (with_rule (new_app (codes "build")) (flag_rule (codes "broadcast"))) (value_rule (codes "WHAT"))) (list_rule (codes "ARG"))
+
+-- the program itself has a version, and asks for a subcommand
+abbrev pub top_app : App
+top_app = on_top (λ s. record s { subcommand_required = true }) (on_top (λ s. record s { has_version = true }) (new_app (codes "nbt")))
+
+-- the whole command line
+abbrev pub nbt_app : App
+nbt_app = with_subcommand (with_subcommand (with_subcommand top_app name_app.top) show_app.top) build_app.top
+
+-- a subcommand that may stand alone
+abbrev pub IsAlone : Text → Type 0
+IsAlone word = word ≡ codes "show"
+
+-- the program's name and one word more, which is a subcommand that may stand alone
+abbrev pub AreAlone : List Text → Type 0
+AreAlone words = (program : Text) × (word : Text) × (words ≡ program ∷ word ∷ []) × IsAlone word

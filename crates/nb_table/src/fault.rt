@@ -8,8 +8,8 @@ use std::fmt;
 /// Why a table refuses a fragment or another table. It stays as it was.
 #[derive(Clone, Copy, Debug, PartialEq, Eq)]
 pub enum TableFault {
-    /// The fragment says that it is the first one and isn't at offset 0, or is there and doesn't say
-    /// so (own).
+    /// The fragment says that it is the first one and isn't at offset 0, or is there and doesn't
+    /// say so (own).
     MisplacedFirst,
     /// There are bytes past the table's limit for one datagram, or an end.
     TooLong,

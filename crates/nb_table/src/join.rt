@@ -31,7 +31,8 @@ pub trait Join {
     ///
     /// Why it can't be; this one is then as it was.
     fn join(&mut self, other: &Self) -> Result<(), TableFault>
-        ensures joined { OnOk result (content self.new ≡ joined (content self.old) (content other.now)) }
+        ensures joined { OnOk result
+            (content self.new ≡ joined (content self.old) (content other.now)) }
         ensures formed { IsFormed (content self.new) }
         ensures fault { IfErr result (Refuses self.old other.now) }
         ensures err { OnErr result (self.new ≡ self.old) };

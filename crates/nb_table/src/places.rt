@@ -39,7 +39,10 @@ impl Model for Places {
 
     ghost view = { λ p. record { bytes = maps.from_entries p.bytes.entries; end = p.end } };
 
-    ghost invariant = { λ p. AreCoverFacts (record { bytes = maps.from_entries p.bytes.entries; end = p.end }) };
+    ghost invariant = { λ p. AreCoverFacts (record {
+      bytes = maps.from_entries p.bytes.entries;
+      end = p.end;
+    }) };
 }
 
 /// Where a fragment ends, if it does.

@@ -81,8 +81,8 @@ impl Table {
 
     /// Joins a fragment to what is known of its datagram, and says what that changed at its key.
     ///
-    /// No memory is needed where the key is spoilt, or the fragment contradicts what is known of its
-    /// key or says nothing new. A table that refuses stays as it was.
+    /// No memory is needed where the key is spoilt, or the fragment contradicts what is known of
+    /// its key or says nothing new. A table that refuses stays as it was.
     ///
     /// # Errors
     ///

@@ -11,7 +11,8 @@ use nb_names::NoMemory;
 
 /// What two covers come to, held or clashed, each given by its bytes and end if it is held.
 fn united(one: &Option<Places>, other: &Option<Places>) -> Result<Option<Places>, NoMemory>
-    ensures { IfOk result (λ places. slot_of places ≡ join_cover (slot_of one.now) (slot_of other.now)) }
+    ensures { IfOk result (λ places.
+        slot_of places ≡ join_cover (slot_of one.now) (slot_of other.now)) }
 {
     let Some(one) = one else {
         return Ok(None);
@@ -28,7 +29,8 @@ fn united(one: &Option<Places>, other: &Option<Places>) -> Result<Option<Places>
 impl Join for Cover {
     ghost use Rattle.std.specs.Prelude.{◌≡◌};
     ghost use Rattle.nb_table.specs.Cover.{CoverValue, IsCover, join_cover};
-    ghost use Rattle.nb_table.specs.Lemmas.EntryLemmas.{join_cover-comm, join_cover-assoc, join_cover-idem};
+    ghost use Rattle.nb_table.specs.Lemmas.EntryLemmas.{join_cover-comm, join_cover-assoc};
+    ghost use Rattle.nb_table.specs.Lemmas.EntryLemmas.{join_cover-idem};
     ghost use Rattle.nb_table.specs.declared.fault.TableFault.TheVariants.{NoMemory};
 
     ghost Content = { CoverValue };

@@ -12,7 +12,8 @@ use nb_names::NoMemory;
 
 /// What two entries come to, held or spoilt, each given by its facts if it is held.
 fn united(one: &Option<Facts>, other: &Option<Facts>) -> Result<Option<Facts>, NoMemory>
-    ensures { IfOk result (λ facts. slot_of facts ≡ join_entry (slot_of one.now) (slot_of other.now)) }
+    ensures { IfOk result (λ facts.
+        slot_of facts ≡ join_entry (slot_of one.now) (slot_of other.now)) }
 {
     let Some(one) = one else {
         return Ok(None);
@@ -29,7 +30,8 @@ fn united(one: &Option<Facts>, other: &Option<Facts>) -> Result<Option<Facts>, N
 impl Join for Entry {
     ghost use Rattle.std.specs.Prelude.{◌≡◌};
     ghost use Rattle.nb_table.specs.Entry.{EntryValue, IsEntry, join_entry};
-    ghost use Rattle.nb_table.specs.Lemmas.EntryLemmas.{join_entry-comm, join_entry-assoc, join_entry-idem};
+    ghost use Rattle.nb_table.specs.Lemmas.EntryLemmas.{join_entry-comm, join_entry-assoc};
+    ghost use Rattle.nb_table.specs.Lemmas.EntryLemmas.{join_entry-idem};
     ghost use Rattle.nb_table.specs.declared.fault.TableFault.TheVariants.{NoMemory};
 
     ghost Content = { EntryValue };

@@ -45,7 +45,8 @@ impl Facts {
 
     /// Whether all places lie below this one, and the end, if it is known, is at most there.
     pub(crate) fn is_short(&self, longest: u16) -> bool
-        ensures { result ≡ (lies_below longest self.now.cover && ends_by longest self.now.cover.end) }
+        ensures { result
+            ≡ (lies_below longest self.now.cover && ends_by longest self.now.cover.end) }
     {
         self.places.is_short(u32::from(longest))
     }
@@ -66,8 +67,8 @@ impl Facts {
     /// The datagram of the key, if the facts are whole. No memory is taken where they aren't.
     pub(crate) fn datagram_of(&self, alloc: Global, key: Key) -> Result<Option<Datagram>, NoMemory>
         requires { AreShort MAX_LENGTH self.now }
-        ensures { IfOk result (λ datagram.
-            datagram ≡ datagram_with key self.now (bytes_to self.now.cover.bytes self.now.cover.end)) }
+        ensures { IfOk result (λ datagram. datagram
+            ≡ datagram_with key self.now (bytes_to self.now.cover.bytes self.now.cover.end)) }
     {
         self.datagram(alloc, key, &self.places)
     }

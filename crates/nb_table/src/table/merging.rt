@@ -147,7 +147,8 @@ impl Join for Table {
 
     ghost IsFormed = { IsTable };
 
-    ghost Refuses = { λ table other fault. IsRefused table.limits table.contents other.contents fault };
+    ghost Refuses = { λ table other fault.
+        IsRefused table.limits table.contents other.contents fault };
 
     ghost commutative = { join-comm };
 

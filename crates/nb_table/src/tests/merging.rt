@@ -1,7 +1,7 @@
 //! Tables merged, and covers and entries joined, whose outcome is known beforehand.
 
 use super::{ALL, FIRST, KEY, LAST, LIE, LOW, Piece, SECOND, fragment};
-use crate::{Cover, Entry, Join, Table, TableFault, join_all};
+use crate::{Cover, Entry, Join, State, Table, TableFault, join_all};
 use nb_datagram::{Datagrams, Key};
 use std::alloc::Global;
 use std::process::Abort;
@@ -12,6 +12,19 @@ const LATER: Key = Key {
     port: 139,
     id: 0,
 };
+
+/// All ten bytes at once.
+const UNCUT: Piece = (0, 0x02, ALL);
+
+/// The three pieces of the ten bytes in each order.
+const ORDERS: [[Piece; 3]; 6] = [
+    [FIRST, SECOND, LAST],
+    [FIRST, LAST, SECOND],
+    [SECOND, FIRST, LAST],
+    [SECOND, LAST, FIRST],
+    [LAST, FIRST, SECOND],
+    [LAST, SECOND, FIRST],
+];
 
 /// The table of these pieces, of a key.
 fn table_of(rt: &impl Abort, alloc: Global, key: Key, pieces: &[Piece]) -> Table {
@@ -70,6 +83,7 @@ fn what_contradicts_is_spoilt(rt: HostRuntime) -> Result<(), Fail> {
     let handed = one.merge(&table_of(&rt, rt.alloc(), KEY, &[FIRST, SECOND, LAST]))?;
     assert!(rt; handed.as_slice().is_empty());
     assert_eq!(rt; one.len(), 1);
+    assert_eq!(rt; one.state(&KEY), State::Spoilt);
     Ok(())
 }
 
@@ -113,10 +127,37 @@ fn several_are_joined_from_the_left(rt: HostRuntime) -> Result<(), Fail> {
 }
 
 #[test]
-fn covers_and_entries_join(rt: HostRuntime) -> Result<(), Fail> {
-    let mut cover = Cover::of(rt.alloc(), &fragment(&rt, KEY, &FIRST))?;
-    cover.join(&Cover::of(rt.alloc(), &fragment(&rt, KEY, &LAST))?)?;
-    let mut entry = Entry::of(rt.alloc(), &fragment(&rt, KEY, &SECOND))?;
-    entry.join(&Entry::of(rt.alloc(), &fragment(&rt, KEY, &FIRST))?)?;
+fn tables_of_one_piece_join_to_that_of_all(rt: HostRuntime) -> Result<(), Fail> {
+    let all = table_of(&rt, rt.alloc(), KEY, &[FIRST, SECOND, LAST]);
+    for [first, second, third] in ORDERS {
+        let mut others = Vec::new(rt.alloc());
+        others.push(table_of(&rt, rt.alloc(), KEY, &[second]))?;
+        others.push(table_of(&rt, rt.alloc(), KEY, &[third]))?;
+        let mut joined = table_of(&rt, rt.alloc(), KEY, &[first]);
+        join_all(&mut joined, &others).expect(&rt, "joined");
+        assert!(rt; joined.same(&all));
+        assert_eq!(rt; joined.state(&KEY), State::Whole);
+    }
+    Ok(())
+}
+
+#[test]
+fn covers_and_entries_join_in_any_order(rt: HostRuntime) -> Result<(), Fail> {
+    let whole = fragment(&rt, KEY, &UNCUT);
+    for [first, second, third] in ORDERS {
+        let first = fragment(&rt, KEY, &first);
+        let second = fragment(&rt, KEY, &second);
+        let third = fragment(&rt, KEY, &third);
+        let mut cover = Cover::of(rt.alloc(), &first)?;
+        cover.join(&Cover::of(rt.alloc(), &second)?)?;
+        assert!(rt; cover != Cover::of(rt.alloc(), &whole)?);
+        cover.join(&Cover::of(rt.alloc(), &third)?)?;
+        assert!(rt; cover == Cover::of(rt.alloc(), &whole)?);
+        let mut entry = Entry::of(rt.alloc(), &first)?;
+        entry.join(&Entry::of(rt.alloc(), &second)?)?;
+        assert!(rt; entry != Entry::of(rt.alloc(), &whole)?);
+        entry.join(&Entry::of(rt.alloc(), &third)?)?;
+        assert!(rt; entry == Entry::of(rt.alloc(), &whole)?);
+    }
     Ok(())
 }

@@ -1,5 +1,6 @@
 //! The definitions' own program on lists of fragments whose outcome is known beforehand.
 
+mod caller;
 mod comparing;
 mod inserting;
 mod merging;

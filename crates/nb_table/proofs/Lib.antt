@@ -21,3 +21,4 @@ mod MergingLemmas
 mod EqualLemmas
 mod ReadingLemmas
 mod OneLemmas
+mod RunsLemmas

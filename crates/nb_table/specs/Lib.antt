@@ -18,4 +18,5 @@ pub mod Insert
 pub mod State
 pub mod Equal
 pub mod FaultTexts
+pub mod Runs
 pub mod Lemmas

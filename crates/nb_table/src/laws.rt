@@ -9,6 +9,7 @@ mod equality;
 mod gathering;
 mod joining;
 mod parts;
+mod running;
 
 pub use completing::{
     datagram_has_the_bytes_of_its_entry, newly_whole_is_whole_and_was_not,
@@ -43,4 +44,8 @@ pub use joining::{
 pub use parts::{
     all_parts_give_the_datagram, parts_are_not_spoilt, parts_are_whole_where_all_are_there,
     pieces_are_all_parts,
+};
+pub use running::{
+    a_map_has_one_row_of_runs, map_of_runs_gives_them_back, runs_of_a_map_are_apart,
+    runs_of_a_map_give_it_back,
 };

@@ -19,4 +19,5 @@ pub mod State
 pub mod Equal
 pub mod FaultTexts
 pub mod Runs
+pub mod Saved
 pub mod Lemmas

@@ -9,6 +9,7 @@ ghost use Rattle.nb_table.specs.Change.{KeyChange};
 ghost use Rattle.nb_table.specs.State.{IsEntryState};
 
 mod joining;
+mod saving;
 mod whole;
 
 use crate::change::Change;

@@ -9,6 +9,7 @@ ghost use Rattle.nb_table.specs.Whole.{IsWholeCover, bytes_to, datagram_with};
 ghost use Rattle.nb_table.specs.Change.{KeyChange};
 ghost use Rattle.nb_table.specs.Change.{grown_to as grown};
 
+mod saving;
 mod uniting;
 
 use crate::change::Change;

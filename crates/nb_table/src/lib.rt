@@ -13,6 +13,7 @@ pub mod laws;
 mod placed;
 mod places;
 pub mod plain;
+mod running;
 mod state;
 mod table;
 #[cfg(test)]

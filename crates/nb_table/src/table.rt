@@ -9,6 +9,7 @@ ghost use Rattle.nb_table.specs.Insert.{NeedsNoMemory, Passes, Takes, Refuses, w
 
 mod fitting;
 mod merging;
+mod saving;
 
 use crate::change::Change;
 use crate::entry::Entry;

@@ -34,6 +34,15 @@ expect() {
     count $? "nbt $*"
 }
 
+# pipes OUTPUT WORD..: what `nbt show` prints of the lines that `nbt build WORD..` prints.
+pipes() {
+    local output=$1
+    shift
+    "$program" build "$@" 2>"$room/errors" | "$program" show >"$room/output" 2>>"$room/errors"
+    [ $? -eq 0 ] && holds "$room/output" "$output" && holds "$room/errors" ''
+    count $? "nbt build $* | nbt show"
+}
+
 # remembers WORD..: with each request for memory refused, the process ends as it does with ample memory, or with
 # status 3, `nbt: memory`, and whole lines of its output or none.
 remembers() {
@@ -105,12 +114,28 @@ expect 0 $'1 139 retarget address=10.0.0.7 port=139 used=10\n3 139 more 3\n4 tic
 printf 'tick 1\nx\ntick 3\n' >"$input"
 expect 1 $'1 tick 1\n' $'nbt: line 2\n' show
 input=/dev/null
-"$program" build --broadcast registration 0002 'FRED<20>' 300000 0000 10.0.0.5 | "$program" show >"$room/output" 2>"$room/errors"
-holds "$room/output" $'1 137 id=0002 word=2910 op=registration flags=RD+B rcode=ok qd=1 an=0 ns=0 ar=1 used=68
+pipes $'1 137 id=0002 word=2910 op=registration flags=RD+B rcode=ok qd=1 an=0 ns=0 ar=1 used=68
   question FRED<20> type=0020 class=0001
   additional FRED<20> type=0020 class=0001 ttl=300000 data=00000a000005
-    entry flags=0000 ont=0 address=10.0.0.5\n' && holds "$room/errors" ''
-count $? 'nbt build into nbt show'
+    entry flags=0000 ont=0 address=10.0.0.5\n' --broadcast registration 0002 'FRED<20>' 300000 0000 10.0.0.5
+pipes $'1 138 group flags=03 key=10.0.0.5:138/0001 offset=0 source=JOE<00> destination=FRED<20> data=00010203 used=86
+2 138 group flags=01 key=10.0.0.5:138/0001 offset=4 source=JOE<00> destination=FRED<20> data=04050607 used=86
+3 138 group flags=00 key=10.0.0.5:138/0001 offset=8 source=JOE<00> destination=FRED<20> data=0809 used=84\n' \
+    group 10.0.0.5:138/0001 'JOE<00>' 'FRED<20>' 00010203040506070809 4
+pipes $'1 138 error flags=02 key=10.0.0.9:138/0001 code=82 used=11\n' error 10.0.0.9:138/0001 82
+pipes $'1 138 find flags=02 key=10.0.0.5:138/0001 destination=FRED<20> used=44\n' find 10.0.0.5:138/0001 'FRED<20>'
+expect 1 '' $'nbt: zero piece\n' build unique 10.0.0.5:138/0001 'JOE<00>' 'FRED<20>' 00 0
+expect 1 '' $'nbt: arguments\n' build found 10.0.0.5:138 'FRED<20>'
+
+# The console samples of README.md: each command prints the lines after it.
+samples() { awk '/^```$/ { shown = 0 } shown; /^```console$/ { shown = 1 }' "$here/../README.md"; }
+mkdir "$room/bin" && ln -s "$(realpath "$program")" "$room/bin/nbt"
+samples | sed -n 's/^\$ //p' | while read -r command; do
+    echo "\$ $command"
+    PATH=$room/bin:$PATH bash -c "$command" </dev/null
+done >"$room/output" 2>&1
+samples | cmp -s - "$room/output"
+count $? 'the console samples of README.md'
 
 # An input that can't be read.
 "$program" show <&- >"$room/output" 2>"$room/errors"
@@ -163,6 +188,7 @@ if ${CC:-cc} -shared -fPIC -O1 -o "$room/refuse.so" "$here/refuse_memory.c" -ldl
     remembers build registration 0002 'FRED<20>' 300000 0000 10.0.0.5
     remembers build message 616263
     remembers build query 0001 FRED
+    remembers build group 10.0.0.5:138/0001 'JOE<00>' 'FRED<20>' 00010203040506070809 4
     { "$program" build query 0001 'FRED<20>.A' && printf 'tick 2\n139 0 00000003616263\nx\n'; } >"$room/input"
     input=$room/input
     remembers show

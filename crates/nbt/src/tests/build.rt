@@ -48,14 +48,24 @@ fn name_service_packets_are_built(rt: HostRuntime) -> Result<(), Fail> {
     Ok(())
 }
 
-/// Compares what `nbt build` prints for these words, which have no spaces in them.
-fn expect_built(rt: &impl Abort, alloc: Global, words: &str, want: &str) -> Result<(), Fail> {
+/// The words of `nbt build`, none of which has a space in it.
+fn build_words(alloc: Global, words: &str) -> Result<Vec<&str>, Fail> {
     let mut given: Vec<&str> = Vec::new(alloc);
     given.push("build")?;
     for word in words.split(' ') {
         given.push(word)?;
     }
-    expect_printed(rt, alloc, given.as_slice(), want)
+    Ok(given)
+}
+
+/// Compares what `nbt build` prints for these words.
+fn expect_built(rt: &impl Abort, alloc: Global, words: &str, want: &str) -> Result<(), Fail> {
+    expect_printed(rt, alloc, build_words(alloc, words)?.as_slice(), want)
+}
+
+/// Compares the fault with which `nbt build` refuses these words.
+fn expect_not_built(rt: &impl Abort, alloc: Global, words: &str, fault: &str) -> Result<(), Fail> {
+    expect_refused(rt, alloc, build_words(alloc, words)?.as_slice(), fault)
 }
 
 #[test]
@@ -106,90 +116,80 @@ fn a_message_may_be_too_long(rt: HostRuntime) -> Result<(), Fail> {
     )
 }
 
-/// WHAT is judged first, then the number of arguments, then each from left to right.
+/// WHAT is judged first, then the number of arguments.
 #[test]
-fn bad_arguments_are_refused_in_order(rt: HostRuntime) -> Result<(), Fail> {
-    let rows: [(&[&str], &str); 34] = [
-        (&["nonsense"], "arguments"),
-        (&["nonsense", "0001", "FRED"], "arguments"),
-        (&["Query", "0001", "FRED<20>"], "arguments"),
-        (&["query"], "arguments"),
-        (&["query", "0001"], "arguments"),
-        (&["query", "0001", "FRED", "0000"], "arguments"),
-        (&["query", "1", "FRED"], "arguments"),
-        (&["query", "00001", "FRED<20>"], "arguments"),
-        (&["query", "+001", "FRED<20>"], "arguments"),
-        (&["query", "0x01", "FRED<20>"], "arguments"),
-        (&["query", "0001", "FRED"], "bad text 4"),
-        (&["query", "0001", " FRED<20>"], "bad text 0"),
-        (&["status", "0001", "ABCDEFGHIJKLMNOP<00>"], "too long"),
+fn another_what_or_number_of_arguments_is_refused(rt: HostRuntime) -> Result<(), Fail> {
+    let rows = [
+        "nonsense",
+        "nonsense 0001 FRED",
+        "Query 0001 FRED<20>",
+        "query",
+        "query 0001",
+        "query 0001 FRED 0000",
+        "request JOE<00>",
+        "positive 00",
+        "keepalive 00",
+        "unique",
+        "unique 10.0.0.5:138/0001 JOE<00> FRED<20> empty",
+        "error 10.0.0.9:138/0001",
+        "found 10.0.0.5:138/0001 FRED<20> 00",
+    ];
+    for words in rows {
+        expect_not_built(&rt, rt.alloc(), words, "arguments")?;
+    }
+    Ok(())
+}
+
+/// Arguments of port 137 from left to right.
+#[test]
+fn bad_arguments_of_the_name_service_are_refused_in_order(rt: HostRuntime) -> Result<(), Fail> {
+    let rows = [
+        ("query 1 FRED", "arguments"),
+        ("query 00001 FRED<20>", "arguments"),
+        ("query +001 FRED<20>", "arguments"),
+        ("query 0x01 FRED<20>", "arguments"),
+        ("query 0001 FRED", "bad text 4"),
+        ("status 0001 ABCDEFGHIJKLMNOP<00>", "too long"),
+        ("registration 0001 FRED x x x", "bad text 4"),
         (
-            &["registration", "0001", "FRED", "x", "x", "x"],
-            "bad text 4",
-        ),
-        (
-            &[
-                "registration",
-                "0001",
-                "FRED<20>",
-                "4294967296",
-                "0000",
-                "10.0.0.5",
-            ],
+            "registration 0001 FRED<20> 4294967296 0000 1.2.3.4",
             "arguments",
         ),
-        (
-            &["registration", "0001", "FRED<20>", "01", "0000", "10.0.0.5"],
-            "arguments",
-        ),
-        (
-            &["registration", "0001", "FRED<20>", "+1", "0000", "10.0.0.5"],
-            "arguments",
-        ),
-        (
-            &["registration", "0001", "FRED<20>", "", "0000", "10.0.0.5"],
-            "arguments",
-        ),
-        (
-            &["refresh", "0001", "FRED<20>", "1", "000", "10.0.0.5"],
-            "arguments",
-        ),
-        (
-            &["refresh", "0001", "FRED<20>", "1", "0000", "10.0.0"],
-            "arguments",
-        ),
-        (
-            &["refresh", "0001", "FRED<20>", "1", "0000", "10.0.0.5.6"],
-            "arguments",
-        ),
-        (
-            &["refresh", "0001", "FRED<20>", "1", "0000", "10.0.0.256"],
-            "arguments",
-        ),
-        (
-            &["release", "0001", "FRED<20>", "0000", "10.0.0.05"],
-            "arguments",
-        ),
-        (
-            &["release", "0001", "FRED<20>", "1", "0000", "10.0.0.5"],
-            "arguments",
-        ),
-        (&["request", "JOE<00>"], "arguments"),
-        (&["request", "JOE", "FRED"], "bad text 3"),
-        (&["request", "JOE<00>", "FRED"], "bad text 4"),
-        (&["message", ""], "arguments"),
-        (&["message", "616"], "arguments"),
-        (&["message", "Empty"], "arguments"),
-        (&["positive", "00"], "arguments"),
-        (&["negative", "8"], "arguments"),
-        (&["retarget", "10.0.0.7", "65536"], "arguments"),
-        (&["keepalive", "00"], "arguments"),
+        ("registration 0001 FRED<20> 01 0000 10.0.0.5", "arguments"),
+        ("registration 0001 FRED<20> +1 0000 10.0.0.5", "arguments"),
+        ("registration 0001 FRED<20>  0000 10.0.0.5", "arguments"),
+        ("refresh 0001 FRED<20> 1 000 10.0.0.5", "arguments"),
+        ("refresh 0001 FRED<20> 1 0000 10.0.0", "arguments"),
+        ("refresh 0001 FRED<20> 1 0000 10.0.0.5.6", "arguments"),
+        ("refresh 0001 FRED<20> 1 0000 10.0.0.256", "arguments"),
+        ("release 0001 FRED<20> 0000 10.0.0.05", "arguments"),
+        ("release 0001 FRED<20> 1 0000 10.0.0.5", "arguments"),
     ];
     for (words, fault) in rows {
-        let mut given: Vec<&str> = Vec::new(rt.alloc());
-        given.push("build")?;
-        given.extend_from_slice(words)?;
-        expect_refused(&rt, rt.alloc(), given.as_slice(), fault)?;
+        expect_not_built(&rt, rt.alloc(), words, fault)?;
+    }
+    expect_refused(
+        &rt,
+        rt.alloc(),
+        &["build", "query", "0001", " FRED<20>"],
+        "bad text 0",
+    )
+}
+
+/// Arguments of port 139 from left to right.
+#[test]
+fn bad_arguments_of_sessions_are_refused_in_order(rt: HostRuntime) -> Result<(), Fail> {
+    let rows = [
+        ("request JOE FRED", "bad text 3"),
+        ("request JOE<00> FRED", "bad text 4"),
+        ("message ", "arguments"),
+        ("message 616", "arguments"),
+        ("message Empty", "arguments"),
+        ("negative 8", "arguments"),
+        ("retarget 10.0.0.7 65536", "arguments"),
+    ];
+    for (words, fault) in rows {
+        expect_not_built(&rt, rt.alloc(), words, fault)?;
     }
     Ok(())
 }
@@ -232,20 +232,25 @@ fn datagram_packets_are_built(rt: HostRuntime) -> Result<(), Fail> {
             "broadcast 255.0.0.1:0/ABCD JOE<00> FRED<20> ff 1",
             broadcast.as_str(),
         ),
-        (
-            "error 10.0.0.9:138/0001 82",
-            "138 0 130200010a000009008a82\n",
-        ),
         ("find 10.0.0.5:138/0001 FRED<20>", find.as_str()),
         ("found 10.0.0.5:138/0001 JOE<00>", found.as_str()),
         ("missing 10.0.0.5:138/0001 FRED<20>", missing.as_str()),
-        (
-            "--broadcast error 10.0.0.9:138/0001 82",
-            "138 0 130200010a000009008a82\n",
-        ),
     ];
     for (words, want) in rows {
         expect_built(&rt, alloc, words, want)?;
+    }
+    Ok(())
+}
+
+/// `--broadcast` changes nothing of a packet that isn't port 137's.
+#[test]
+fn datagram_errors_are_built(rt: HostRuntime) -> Result<(), Fail> {
+    let want = "138 0 130200010a000009008a82\n";
+    for words in [
+        "error 10.0.0.9:138/0001 82",
+        "--broadcast error 10.0.0.9:138/0001 82",
+    ] {
+        expect_built(&rt, rt.alloc(), words, want)?;
     }
     Ok(())
 }
@@ -291,13 +296,7 @@ fn datagrams_that_can_t_be_cut_are_refused(rt: HostRuntime) -> Result<(), Fail> 
 /// Arguments of port 138 from left to right.
 #[test]
 fn bad_arguments_of_datagrams_are_refused_in_order(rt: HostRuntime) -> Result<(), Fail> {
-    let alloc = rt.alloc();
     let rows = [
-        ("unique", "arguments"),
-        (
-            "unique 10.0.0.5:138/0001 JOE<00> FRED<20> empty",
-            "arguments",
-        ),
         ("unique 10.0.0.5:138/1 JOE FRED empty 1", "arguments"),
         ("unique 10.0.0.5:138 JOE FRED empty 1", "arguments"),
         ("unique 10.0.0.5/0001 JOE FRED empty 1", "arguments"),
@@ -312,19 +311,12 @@ fn bad_arguments_of_datagrams_are_refused_in_order(rt: HostRuntime) -> Result<()
             "broadcast 10.0.0.5:138/0001 JOE<00> FRED<20> 00 65536",
             "arguments",
         ),
-        ("error 10.0.0.9:138/0001", "arguments"),
         ("error 10.0.0.9:138/0001 8", "arguments"),
         ("find 10.0.0.5:138/0001 FRED", "bad text 4"),
-        ("found 10.0.0.5:138/0001 FRED<20> 00", "arguments"),
         ("missing 10.0.0.5:65536/0001 FRED", "arguments"),
     ];
     for (words, fault) in rows {
-        let mut given: Vec<&str> = Vec::new(alloc);
-        given.push("build")?;
-        for word in words.split(' ') {
-            given.push(word)?;
-        }
-        expect_refused(&rt, alloc, given.as_slice(), fault)?;
+        expect_not_built(&rt, rt.alloc(), words, fault)?;
     }
     Ok(())
 }

@@ -21,7 +21,8 @@ fn lines_are_numbered_and_ticks_shown(rt: HostRuntime) -> Result<(), Fail> {
         ),
         (
             "139 0 840000060a000007008b\n139 0 00\n139 0 86000000\n",
-            "1 139 retarget address=10.0.0.7 port=139 used=10\n2 139 more 3\n3 139 refused unknown type\n",
+            "1 139 retarget address=10.0.0.7 port=139 used=10\n2 139 more 3\n\
+             3 139 refused unknown type\n",
         ),
     ];
     for (input, want) in rows {

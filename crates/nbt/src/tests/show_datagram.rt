@@ -1,17 +1,16 @@
 //! `nbt show` of datagram service packets: payloads by the layouts of RFC 1002 section 4.4.
 
 use crate::tests::fakes::{FRED, JOE, expect_shown};
+use std::alloc::Global;
+use std::process::Abort;
 use std::test::Fail;
 
 #[test]
-fn each_datagram_packet_is_shown(rt: HostRuntime) -> Result<(), Fail> {
+fn each_fragment_is_shown(rt: HostRuntime) -> Result<(), Fail> {
     let alloc = rt.alloc();
     let empty = format!(in alloc; "110200010a000005008a00440000{JOE}{FRED}")?;
     let unique = format!(in alloc; "100100020a00000600890047abcd{FRED}{JOE}616263ff")?;
     let broadcast = format!(in alloc; "12fe0003ff000001000000450001{JOE}{FRED}62")?;
-    let find = format!(in alloc; "140200010a000005008a{FRED}")?;
-    let found = format!(in alloc; "15000002c0a80001008b{JOE}ff")?;
-    let missing = format!(in alloc; "160c00030a000005008a{FRED}")?;
     let rows = [
         (
             empty.as_str(),
@@ -28,6 +27,20 @@ fn each_datagram_packet_is_shown(rt: HostRuntime) -> Result<(), Fail> {
             "broadcast flags=fe key=255.0.0.1:0/0003 offset=1 source=JOE<00> \
              destination=FRED<20> data=62 used=83",
         ),
+    ];
+    for (payload, parts) in rows {
+        expect_line(&rt, alloc, payload, parts)?;
+    }
+    Ok(())
+}
+
+#[test]
+fn errors_and_queries_are_shown(rt: HostRuntime) -> Result<(), Fail> {
+    let alloc = rt.alloc();
+    let find = format!(in alloc; "140200010a000005008a{FRED}")?;
+    let found = format!(in alloc; "15000002c0a80001008b{JOE}ff")?;
+    let missing = format!(in alloc; "160c00030a000005008a{FRED}")?;
+    let rows = [
         (
             "130200010a000009008a82",
             "error flags=02 key=10.0.0.9:138/0001 code=82 used=11",
@@ -46,11 +59,16 @@ fn each_datagram_packet_is_shown(rt: HostRuntime) -> Result<(), Fail> {
         ),
     ];
     for (payload, parts) in rows {
-        let input = format!(in alloc; "138 0 {payload}\n")?;
-        let want = format!(in alloc; "1 138 {parts}\n")?;
-        expect_shown(&rt, alloc, input.as_str(), want.as_str())?;
+        expect_line(&rt, alloc, payload, parts)?;
     }
     Ok(())
+}
+
+/// Compares what is shown of a capture of this payload alone, after its number and port.
+fn expect_line(rt: &impl Abort, alloc: Global, payload: &str, parts: &str) -> Result<(), Fail> {
+    let input = format!(in alloc; "138 0 {payload}\n")?;
+    let want = format!(in alloc; "1 138 {parts}\n")?;
+    expect_shown(rt, alloc, input.as_str(), want.as_str())
 }
 
 #[test]
@@ -74,9 +92,8 @@ fn refused_datagram_packets_are_shown_with_their_fault(rt: HostRuntime) -> Resul
         (short.as_str(), "destination name: truncated 81"),
     ];
     for (payload, fault) in rows {
-        let input = format!(in alloc; "138 0 {payload}\n")?;
-        let want = format!(in alloc; "1 138 refused {fault}\n")?;
-        expect_shown(&rt, alloc, input.as_str(), want.as_str())?;
+        let parts = format!(in alloc; "refused {fault}")?;
+        expect_line(&rt, alloc, payload, parts.as_str())?;
     }
     Ok(())
 }

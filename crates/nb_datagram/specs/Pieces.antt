@@ -1,8 +1,9 @@
 -- The parts of a datagram, and the pieces into which it is cut. Places count from the first byte of the
 -- datagram's data.
 --
--- Our choice, and other than RFC 1002 section 5.3: all pieces but the last have one length, no flag but F and M
--- is set (SNT is 00), and a datagram without data still has a piece.
+-- Other than RFC 1002 section 5.3: each piece carries both names, its DGM_LENGTH counts that packet alone,
+-- and its offset is a place in the data. Our choice, which that section leaves open: all pieces but the last
+-- have one length, no flag but F and M is set (SNT is 00), and a datagram without data still has a piece.
 use Rattle.std.specs.Prelude.{◌≡◌, ◌==◌, ℕ, ◌+◌, ◌-◌, ◌*◌, ◌/◌, ◌≤◌, max, cond, ◌<◌, List, map, length, slice_get, slice_range, nat_lt, Some, Contains}
 use Rattle.std.specs.List.{range_with_len}
 use Rattle.nb_datagram.specs.declared.limits.TheConstants.{MAX_LENGTH}

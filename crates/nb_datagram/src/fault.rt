@@ -6,7 +6,8 @@ use std::fmt;
 
 /// Why bytes could not be decoded, and where.
 ///
-/// Offsets count from the packet's first byte. A reading looks for the header, its type, the bytes
+/// Offsets count from the packet's first byte, but for the place in `NotNetbios`, which counts in
+/// the spelling of the name. A reading looks for the header, its type, the bytes
 /// that the type and DGM_LENGTH ask for, then the names, and answers the first that it misses.
 #[derive(Clone, Copy, Debug, PartialEq, Eq)]
 pub enum DatagramFault {

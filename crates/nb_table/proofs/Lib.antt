@@ -18,6 +18,7 @@ mod EachLemmas
 mod UnitingLemmas
 mod FittingLemmas
 mod MergingLemmas
+mod JoinLemmas
 mod EqualLemmas
 mod ReadingLemmas
 mod OneLemmas

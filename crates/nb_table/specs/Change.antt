@@ -1,4 +1,4 @@
--- What an insert changes at a key (own).
+-- What an insert changes at a key (our choice).
 use Rattle.std.specs.Prelude.{◌≡◌, ◌≢◌, Option, Some, None, option_and_then}
 use Rattle.std.specs.FinMap as maps
 use Rattle.nb_datagram.specs.declared.key.Key.{Key}

@@ -1,4 +1,4 @@
--- When two fragments contradict each other, and when a key is spoilt in a list of fragments (own). Here
+-- When two fragments contradict each other, and when a key is spoilt in a list of fragments (our choice). Here
 -- stand the relations; the tests by which tables are defined stand in ConflictTests.
 use Rattle.std.specs.Prelude.{◌≡◌, ◌≢◌, ℕ, List, Contains}
 use Rattle.nb_datagram.specs.declared.key.Key.{Key}

@@ -1,4 +1,4 @@
--- What a list of fragments says of each key (own): `IsTableOf` says what a list's table is, and `table_of`
+-- What a list of fragments says of each key (our choice): `IsTableOf` says what a list's table is, and `table_of`
 -- is that table. Places count from the first byte of a datagram's data.
 use Rattle.std.specs.Prelude.{◌≡◌, ◌≢◌, ◌++◌, ℕ, Contains, cond, List, [], ◌∷◌, map, slice_get, Option, Some, None}
 use Rattle.std.specs.FinMap as maps

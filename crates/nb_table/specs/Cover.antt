@@ -1,4 +1,4 @@
--- Covers: the bytes that are known of a datagram's data, by place, and its end, if that is known (own).
+-- Covers: the bytes that are known of a datagram's data, by place, and its end, if that is known (our choice).
 -- Places count from the first byte of the datagram's data; the end is how many bytes it has.
 use Rattle.std.specs.Prelude.{◌≡◌, ◌==◌, ◌&&◌, ◌+◌, ◌<◌, ℕ, Bool, true, List, [], ◌∷◌, Option, Some, None, nat_lt}
 use Rattle.std.specs.Ordering.{nat_cmp}

@@ -1,4 +1,4 @@
--- Entries: what is known of one datagram, that is of one key (own).
+-- Entries: what is known of one datagram, that is of one key (our choice).
 use Rattle.std.specs.Prelude.{◌≡◌, ◌&&◌, Bool}
 use Rattle.nb_names.specs.Name.{NetbiosName, name_eq}
 use Rattle.nb_datagram.specs.declared.kind.Kind.{Kind}

@@ -1,4 +1,4 @@
--- When two covers or entries are equal, as tests (own). Laws say that each is equality of contents.
+-- When two covers or entries are equal, as tests (our choice). Laws say that each is equality of contents.
 use Rattle.std.specs.Prelude.{◌==◌, ◌&&◌, ℕ, Bool}
 use Rattle.std.specs.Option.{option_eq}
 use Rattle.std.specs.Cmp.Lexicographic.{pointwise}

@@ -1,4 +1,4 @@
--- The texts of the table's faults (own).
+-- The texts of the table's faults (our choice).
 use Rattle.std.specs.Prelude.{ℕ, List, codes}
 use Rattle.nb_table.specs.declared.fault.TableFault.{TableFault}
 use Rattle.nb_table.specs.declared.fault.TableFault.TheVariants.{MisplacedFirst, TooLong, Full, NoMemory}

@@ -1,4 +1,4 @@
--- Inserting a fragment into a table: when it is refused, and when it needs no memory (own).
+-- Inserting a fragment into a table: when it is refused, and when it needs no memory (our choice).
 use Rattle.std.specs.Prelude.{◌≡◌, ◌≢◌, ◌==◌, ◌<◌, ◌≤◌, [], ◌∷◌, Some}
 use Rattle.std.specs.FinMap as maps
 use Rattle.nb_datagram.specs.Fragment.{FragmentParts, Core, core_of, reach, is_first}

@@ -1,5 +1,5 @@
--- Tables, joined (own).
-use Rattle.std.specs.Prelude.{◌≡◌, ◌↔◌, not, List, [], ◌∷◌, Some, Contains}
+-- Tables, joined (our choice).
+use Rattle.std.specs.Prelude.{◌≡◌, ◌↔◌, not, ℕ, List, [], ◌∷◌, take, slice_get, Some, Contains}
 use Rattle.std.specs.FinMap as maps
 use Rattle.nb_datagram.specs.declared.key.Key.{Key}
 use Rattle.nb_datagram.specs.Key.{same_key}
@@ -29,3 +29,8 @@ without_key k = keyed (λ q. not (same_key k q))
 abbrev pub joined_all : {X : Type 0} → (X → X → X) → X → List X → X
 joined_all f x [] = x
 joined_all f x (y ∷ ys) = joined_all f (f x y) ys
+
+-- AreTaken f T x ys: each of ys is taken in its turn, that is into x joined with those before it; T x y
+-- says that y is taken into x
+abbrev pub AreTaken : {X : Type 0} → (X → X → X) → (X → X → Type 0) → X → List X → Type 0
+AreTaken f T x ys = (i : ℕ) (y : _) → slice_get ys i ≡ Some y → T (joined_all f x (take i ys)) y

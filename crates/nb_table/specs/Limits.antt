@@ -1,4 +1,4 @@
--- The limits of a table, and what keeps to them (own).
+-- The limits of a table, and what keeps to them (our choice).
 use Rattle.std.specs.Prelude.{◌≡◌, ℕ, ◌≤◌, None, Some}
 use Rattle.std.specs.FinMap as maps
 use Rattle.nb_datagram.specs.declared.key.Key.{Key}

@@ -1,4 +1,4 @@
--- What a table takes in of another under its limits, and the datagrams that this gives (own).
+-- What a table takes in of another under its limits, and the datagrams that this gives (our choice).
 use Rattle.std.specs.Prelude.{◌≡◌, ◌&&◌, ◌-◌, ℕ, nat_le, Bool, true, List, filter, length, slice_get, is_none, Option, Some, None}
 use Rattle.std.specs.List.{filter_map}
 use Rattle.std.specs.FinMap as maps

@@ -1,4 +1,4 @@
--- Maps of bytes by place, and the bytes of one fragment (own).
+-- Maps of bytes by place, and the bytes of one fragment (our choice).
 use Rattle.std.specs.Prelude.{◌≡◌, ◌==◌, ℕ, ◌+◌, ◌<◌, Bool, false, List, [], ◌∷◌, Option, Some, None}
 use Rattle.std.specs.Ordering.{nat_cmp}
 use Rattle.std.specs.FinMap as maps

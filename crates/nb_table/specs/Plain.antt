@@ -1,4 +1,4 @@
--- What the plain program's functions find (own): of two fragments, the cases of a conflict one by one;
+-- What the plain program's functions find (our choice): of two fragments, the cases of a conflict one by one;
 -- of a key, what is covered, and whether its datagram is too long.
 use Rattle.std.specs.Prelude.{◌≡◌, ◌==◌, ◌<◌, ℕ, Bool, false, not, List, length, Option, Some, None}
 use Rattle.nb_datagram.specs.declared.key.Key.{Key}

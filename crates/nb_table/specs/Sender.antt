@@ -1,5 +1,5 @@
 -- The fragments of a datagram that its sender cut: when a list has parts of it alone, and when it has
--- all of it (own). Places count from the first byte of the datagram's data.
+-- all of it (our choice). Places count from the first byte of the datagram's data.
 use Rattle.std.specs.Prelude.{◌≡◌, ℕ, ◌<◌, false, List, length, Some, Contains}
 use Rattle.nb_datagram.specs.Fragment.{Core, Covers}
 use Rattle.nb_datagram.specs.Datagram.{DatagramParts}

@@ -1,4 +1,4 @@
--- What facts come to that may contradict each other, and how two such results are joined (own).
+-- What facts come to that may contradict each other, and how two such results are joined (our choice).
 --
 -- It is said once over the facts' type. Covers and entries are two cases of it.
 use Rattle.std.specs.Prelude.{Bool, cond}

@@ -1,4 +1,4 @@
--- What a table says of a key (own).
+-- What a table says of a key (our choice).
 use Rattle.std.specs.Prelude.{◌≡◌, Some, None}
 use Rattle.std.specs.FinMap as maps
 use Rattle.nb_datagram.specs.declared.key.Key.{Key}

@@ -1,4 +1,4 @@
--- When an entry is whole, and the datagram that it then is (own).
+-- When an entry is whole, and the datagram that it then is (our choice).
 use Rattle.std.specs.Prelude.{◌≡◌, ◌++◌, ℕ, zero, suc, ◌<◌, List, [], ◌∷◌, length, slice_get, option_and_then, Option, Some, None}
 use Rattle.std.specs.Ordering.{nat_cmp}
 use Rattle.std.specs.FinMap as maps

@@ -9,9 +9,10 @@ use std::fmt;
 #[derive(Clone, Copy, Debug, PartialEq, Eq)]
 pub enum TableFault {
     /// The fragment says that it is the first one and isn't at offset 0, or is there and doesn't
-    /// say so (own).
+    /// say so (our choice).
     MisplacedFirst,
-    /// There are bytes past the table's limit for one datagram, or an end.
+    /// The fragment reaches past the table's limit for one datagram, or an entry of the other table
+    /// that isn't spoilt has a byte or an end past it.
     TooLong,
     /// The key is new, and as many keys are held as the table may hold.
     Full(Key),

@@ -1,6 +1,6 @@
 //! Values that join.
-ghost use Rattle.std.specs.Prelude.{◌≡◌, ◌<◌, length, map, take, slice_get, Some, OnOk, OnErr, IfErr};
-ghost use Rattle.nb_table.specs.Join.{joined_all};
+ghost use Rattle.std.specs.Prelude.{◌≡◌, map, take, slice_get, Some, OnOk, OnErr, IfErr};
+ghost use Rattle.nb_table.specs.Join.{joined_all, AreTaken};
 
 use crate::fault::TableFault;
 
@@ -8,7 +8,7 @@ use crate::fault::TableFault;
 ///
 /// The laws speak of what a value stands for, its content, and of equality alone: no order, no
 /// repeat and no grouping of joins makes a difference to the content. What a value keeps beside
-/// its content, as a table its limits, stays its own.
+/// its content, as a table its limits, stays its own, whatever is joined into it.
 pub trait Join {
     ghost use Rattle.nb_table.specs.declared.fault.TableFault.{TableFault};
 
@@ -17,13 +17,20 @@ pub trait Join {
 
     ghost content: { Self → Content };
 
+    // What a value keeps beside its content.
+    ghost Beside: { Type 0 };
+
+    ghost beside: { Self → Beside };
+
     // The content of a join, and what each content is known to be.
     ghost joined: { Content → Content → Content };
 
     ghost IsFormed: { Content → Type 0 };
 
-    // Why the first doesn't take in the second.
-    ghost Refuses: { Self → Self → TableFault → Type 0 };
+    // When a value with this beside its first content takes in the second, and why it doesn't.
+    ghost Takes: { Beside → Content → Content → Type 0 };
+
+    ghost Refuses: { Beside → Content → Content → TableFault → Type 0 };
 
     /// Joins the other into this one.
     ///
@@ -31,10 +38,12 @@ pub trait Join {
     ///
     /// Why it can't be; this one is then as it was.
     fn join(&mut self, other: &Self) -> Result<(), TableFault>
-        ensures joined { OnOk result
-            (content self.new ≡ joined (content self.old) (content other.now)) }
+        ensures joined { OnOk result (content self.new ≡ joined (content self.old) (content other.now)) }
+        ensures taken { OnOk result (Takes (beside self.old) (content self.old) (content other.now)) }
         ensures formed { IsFormed (content self.new) }
-        ensures fault { IfErr result (Refuses self.old other.now) }
+        ensures beside { beside self.new ≡ beside self.old }
+        ensures fault { IfErr result
+            (Refuses (beside self.old) (content self.old) (content other.now)) }
         ensures err { OnErr result (self.new ≡ self.old) };
 
     ghost commutative: { (a b : Content) → joined a b ≡ joined b a };
@@ -53,8 +62,16 @@ pub trait Join {
 pub fn join_all<J: Join>(first: &mut J, others: &[J]) -> Result<(), (usize, TableFault)>
     ensures joined { OnOk result (J.content first.new
         ≡ joined_all J.joined (J.content first.old) (map J.content others.now)) }
+    ensures taken { OnOk result (AreTaken J.joined (J.Takes (J.beside first.old))
+        (J.content first.old) (map J.content others.now)) }
+    ensures beside { J.beside first.new ≡ J.beside first.old }
     ensures fault { IfErr result (λ fault. (other : J)
-        × (slice_get others.now fault.0 ≡ Some other) × J.Refuses first.new other fault.1) }
+        × (slice_get others.now fault.0 ≡ Some other)
+        × J.Refuses (J.beside first.old)
+        (joined_all J.joined (J.content first.old) (map J.content (take fault.0 others.now)))
+        (J.content other) fault.1) }
+    ensures before { IfErr result (λ fault. AreTaken J.joined (J.Takes (J.beside first.old))
+        (J.content first.old) (map J.content (take fault.0 others.now))) }
     ensures err { IfErr result (λ fault. J.content first.new
         ≡ joined_all J.joined (J.content first.old) (map J.content (take fault.0 others.now))) }
 {

@@ -25,8 +25,9 @@ use std::marker::Model;
 /// What is known of the datagrams whose fragments came, by key, within limits.
 ///
 /// At most as many keys are held as the limit says, and no byte of a datagram lies at or past the
-/// other limit. The order in which fragments come makes no difference. RFC 1002 section 5.3; the
-/// form of fragments and the limits are own.
+/// other limit. The order in which fragments come makes no difference as long as none is refused as
+/// `Full`: which keys find room, and so which fragments are in, depends on which came first. RFC
+/// 1002 section 5.3; the form of fragments and the limits are our choice.
 #[derive(Drop)]
 pub struct Table {
     entries: BTreeMap<Key, Entry>,
@@ -87,10 +88,11 @@ impl Table {
     ///
     /// # Errors
     ///
-    /// In this order: `MisplacedFirst` where the flag F is set otherwise than exactly at offset 0;
-    /// `TooLong` where the fragment reaches past the longest datagram, whatever is known of its
-    /// key; `Full` with the fragment's key where that is new and as many keys are held as may be;
-    /// `NoMemory` where memory ran out. RFC 1002 section 5.3; the rules on fragments are own.
+    /// In this order: `MisplacedFirst` where the fragment says that it is the first one (F) at an
+    /// offset other than 0, or doesn't say so at offset 0; `TooLong` where the fragment reaches past
+    /// the longest datagram, whatever is known of its key; `Full` with the fragment's key where that
+    /// is new and as many keys are held as may be; `NoMemory` where memory ran out. RFC 1002 section
+    /// 5.3; the rules on fragments are our choice.
     pub fn insert(&mut self, fragment: &Fragment<'_>) -> Result<Change, TableFault>
         ensures taken { OnOk result (Takes self.old fragment.now) }
         ensures joined { OnOk result (self.new ≡ with_fragment self.old fragment.now) }

@@ -27,7 +27,7 @@ fn united(one: &Option<Places>, other: &Option<Places>) -> Result<Option<Places>
 }
 
 impl Join for Cover {
-    ghost use Rattle.std.specs.Prelude.{◌≡◌};
+    ghost use Rattle.std.specs.Prelude.{◌≡◌, Unit};
     ghost use Rattle.nb_table.specs.Cover.{CoverValue, IsCover, join_cover};
     ghost use Rattle.nb_table.specs.Lemmas.EntryLemmas.{join_cover-comm, join_cover-assoc};
     ghost use Rattle.nb_table.specs.Lemmas.EntryLemmas.{join_cover-idem};
@@ -37,11 +37,17 @@ impl Join for Cover {
 
     ghost content = { λ cover. cover };
 
+    ghost Beside = { Unit {0} };
+
+    ghost beside = { λ _. tt };
+
     ghost joined = { join_cover };
 
     ghost IsFormed = { IsCover };
 
-    ghost Refuses = { λ cover other fault. fault ≡ NoMemory };
+    ghost Takes = { λ _ _ _. Unit {0} };
+
+    ghost Refuses = { λ _ _ _ fault. fault ≡ NoMemory };
 
     ghost commutative = { join_cover-comm };
 

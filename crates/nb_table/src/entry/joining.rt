@@ -28,7 +28,7 @@ fn united(one: &Option<Facts>, other: &Option<Facts>) -> Result<Option<Facts>, N
 }
 
 impl Join for Entry {
-    ghost use Rattle.std.specs.Prelude.{◌≡◌};
+    ghost use Rattle.std.specs.Prelude.{◌≡◌, Unit};
     ghost use Rattle.nb_table.specs.Entry.{EntryValue, IsEntry, join_entry};
     ghost use Rattle.nb_table.specs.Lemmas.EntryLemmas.{join_entry-comm, join_entry-assoc};
     ghost use Rattle.nb_table.specs.Lemmas.EntryLemmas.{join_entry-idem};
@@ -38,11 +38,17 @@ impl Join for Entry {
 
     ghost content = { λ entry. entry };
 
+    ghost Beside = { Unit {0} };
+
+    ghost beside = { λ _. tt };
+
     ghost joined = { join_entry };
 
     ghost IsFormed = { IsEntry };
 
-    ghost Refuses = { λ entry other fault. fault ≡ NoMemory };
+    ghost Takes = { λ _ _ _. Unit {0} };
+
+    ghost Refuses = { λ _ _ _ fault. fault ≡ NoMemory };
 
     ghost commutative = { join_entry-comm };
 

@@ -108,8 +108,8 @@ impl Table {
     /// Merges the other table into this one: each key that either has, with the join of what both
     /// know. The limits stay.
     ///
-    /// Answered are the datagrams of exactly the keys that were not whole here and now are, by
-    /// ascending key.
+    /// The answer has one datagram for each key that becomes whole by this, and no other, ascending by
+    /// key.
     ///
     /// # Errors
     ///
@@ -135,6 +135,7 @@ impl Table {
 impl Join for Table {
     ghost use Rattle.std.specs.Prelude.{◌≡◌, OnOk, IfErr, OnErr};
     ghost use Rattle.nb_table.specs.Contents.{Contents};
+    ghost use Rattle.nb_table.specs.Limits.{Limits};
     ghost use Rattle.nb_table.specs.Join.{join, IsTable};
     ghost use Rattle.nb_table.specs.Merging.{Fits, IsRefused};
     ghost use Rattle.nb_table.specs.Lemmas.TableLemmas.{join-comm, join-assoc, join-idem};
@@ -143,12 +144,17 @@ impl Join for Table {
 
     ghost content = { λ table. table.contents };
 
+    ghost Beside = { Limits };
+
+    ghost beside = { λ table. table.limits };
+
     ghost joined = { join };
 
     ghost IsFormed = { IsTable };
 
-    ghost Refuses = { λ table other fault.
-        IsRefused table.limits table.contents other.contents fault };
+    ghost Takes = { Fits };
+
+    ghost Refuses = { IsRefused };
 
     ghost commutative = { join-comm };
 

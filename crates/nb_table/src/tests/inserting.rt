@@ -1,4 +1,4 @@
-//! Inserts into tables, situation by situation, and held against the definitions' own program.
+//! Inserts into tables, situation by situation, each with the answer that is due.
 
 use super::{
     ALL, COVERS_5, EMPTY, EMPTY_END, ENDS_AT_5, FIRST, FIVE, HIGH, KEY, LAST, LIE, LOW, Piece,

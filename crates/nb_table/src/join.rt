@@ -38,8 +38,10 @@ pub trait Join {
     ///
     /// Why it can't be; this one is then as it was.
     fn join(&mut self, other: &Self) -> Result<(), TableFault>
-        ensures joined { OnOk result (content self.new ≡ joined (content self.old) (content other.now)) }
-        ensures taken { OnOk result (Takes (beside self.old) (content self.old) (content other.now)) }
+        ensures joined { OnOk result
+            (content self.new ≡ joined (content self.old) (content other.now)) }
+        ensures taken { OnOk result
+            (Takes (beside self.old) (content self.old) (content other.now)) }
         ensures formed { IsFormed (content self.new) }
         ensures beside { beside self.new ≡ beside self.old }
         ensures fault { IfErr result

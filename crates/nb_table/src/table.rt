@@ -89,10 +89,10 @@ impl Table {
     /// # Errors
     ///
     /// In this order: `MisplacedFirst` where the fragment says that it is the first one (F) at an
-    /// offset other than 0, or doesn't say so at offset 0; `TooLong` where the fragment reaches past
-    /// the longest datagram, whatever is known of its key; `Full` with the fragment's key where that
-    /// is new and as many keys are held as may be; `NoMemory` where memory ran out. RFC 1002 section
-    /// 5.3; the rules on fragments are our choice.
+    /// offset other than 0, or doesn't say so at offset 0; `TooLong` where the fragment reaches
+    /// past the longest datagram, whatever is known of its key; `Full` with the fragment's key
+    /// where that is new and as many keys are held as may be; `NoMemory` where memory ran out. RFC
+    /// 1002 section 5.3; the rules on fragments are our choice.
     pub fn insert(&mut self, fragment: &Fragment<'_>) -> Result<Change, TableFault>
         ensures taken { OnOk result (Takes self.old fragment.now) }
         ensures joined { OnOk result (self.new ≡ with_fragment self.old fragment.now) }

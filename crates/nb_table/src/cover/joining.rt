@@ -27,7 +27,7 @@ fn united(one: &Option<Places>, other: &Option<Places>) -> Result<Option<Places>
 }
 
 impl Join for Cover {
-    ghost use Rattle.std.specs.Prelude.{◌≡◌, Unit};
+    ghost use Rattle.std.specs.Prelude.{◌≡◌};
     ghost use Rattle.nb_table.specs.Cover.{CoverValue, IsCover, join_cover};
     ghost use Rattle.nb_table.specs.Lemmas.EntryLemmas.{join_cover-comm, join_cover-assoc};
     ghost use Rattle.nb_table.specs.Lemmas.EntryLemmas.{join_cover-idem};

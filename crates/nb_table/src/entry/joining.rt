@@ -28,7 +28,7 @@ fn united(one: &Option<Facts>, other: &Option<Facts>) -> Result<Option<Facts>, N
 }
 
 impl Join for Entry {
-    ghost use Rattle.std.specs.Prelude.{◌≡◌, Unit};
+    ghost use Rattle.std.specs.Prelude.{◌≡◌};
     ghost use Rattle.nb_table.specs.Entry.{EntryValue, IsEntry, join_entry};
     ghost use Rattle.nb_table.specs.Lemmas.EntryLemmas.{join_entry-comm, join_entry-assoc};
     ghost use Rattle.nb_table.specs.Lemmas.EntryLemmas.{join_entry-idem};

@@ -27,9 +27,9 @@ pub fn table_is_spoilt_where_fragments_disagree()
     ensures { (L : List Core) (k : Key) → (maps.get (table_of L) k ≡ Some Spoilt) ↔ IsSpoilt L k }
 {}
 
-/// A table holds facts at a key exactly where the key isn't spoilt and they are what the list says of
-/// it: kind and names as its earliest fragment has them, all bytes by their places, and the end if
-/// one is known.
+/// A table holds facts at a key exactly where the key isn't spoilt and they are what the list says
+/// of it: kind and names as its earliest fragment has them, all bytes by their places, and the end
+/// if one is known.
 pub fn table_holds_what_its_list_says()
     ensures { (L : List Core) (k : Key) (e : EntryFacts) →
         (maps.get (table_of L) k ≡ Some (Held e)) ↔ ((IsSpoilt L k → ⊥) × Says L k e) }

@@ -20,8 +20,8 @@ pub fn parts_are_not_spoilt()
         maps.get (table_of L) d.key ≡ Some Spoilt → ⊥ }
 {}
 
-/// Of a key that has parts of one datagram alone, nothing is missing if and only if each byte of the
-/// datagram came in some part, and so did a part that says that no more follow (M clear).
+/// A key that has parts of one datagram alone is whole if and only if each byte of the datagram
+/// came in some part, and so did a part that says that no more follow (M clear).
 pub fn parts_are_whole_where_all_are_there()
     ensures { (L : List Core) (d : DatagramParts) → HasPartsAlone L d →
         (IsWholeAt (table_of L) d.key ↔ HasAll L d) }

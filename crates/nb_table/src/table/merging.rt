@@ -108,8 +108,8 @@ impl Table {
     /// Merges the other table into this one: each key that either has, with the join of what both
     /// know. The limits stay.
     ///
-    /// The answer has one datagram for each key that becomes whole by this, and no other, ascending by
-    /// key.
+    /// The answer has one datagram for each key that becomes whole by this, and no other, in
+    /// ascending order of keys.
     ///
     /// # Errors
     ///

@@ -1,4 +1,4 @@
-use Rattle.std.proofs.Common.{◌≡◌, Some, map, arith, refl, sym, ◌∙◌, ap, subst, take_all}
+use Rattle.std.proofs.Common.{map, arith, refl, sym, ◌∙◌, ap, subst, take_all}
 use Rattle.std.proofs.lemmas.Option.{slice_get_read}
 use Rattle.nb_table.specs.Join.{AreTaken}
 use Rattle.nb_table.proofs.JoinLemmas.{each_is_taken, next_is_joined, next_is_taken, carried}

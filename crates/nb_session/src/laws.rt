@@ -3,7 +3,7 @@ ghost use Rattle.std.specs.Prelude.{◌≡◌, ◌-◌, ◌<◌, ◌≤◌, ℕ,
 ghost use Rattle.nb_names.specs.DomainName.{AreBytes};
 ghost use Rattle.nb_session.specs.declared.fault.SessionFault.{SessionFault};
 ghost use Rattle.nb_session.specs.declared.kind.Kind.TheVariants.{Message, Request, Positive, Negative, Retarget, Keepalive};
-ghost use Rattle.nb_session.specs.declared.limits.TheConstants.{HEADER_LENGTH, MAX_MESSAGE, MAX_PACKET, MIN_REQUEST, MAX_REQUEST};
+ghost use Rattle.nb_session.specs.declared.limits.TheConstants.{HEADER_LENGTH, MAX_MESSAGE, MAX_PACKET, MIN_REQUEST, MAX_REQUEST, MAX_INTERRUPTS};
 ghost use Rattle.nb_session.specs.declared.packet.Packet.{Packet};
 ghost use Rattle.nb_session.specs.declared.parsing.Parsed.{Parsed};
 ghost use Rattle.nb_session.specs.declared.parsing.Parsed.TheVariants.{Whole, More, Refused};
@@ -87,4 +87,5 @@ pub fn numbers()
     ensures header { HEADER_LENGTH ≡ 4 }
     ensures request { (MIN_REQUEST ≡ 68) × (MAX_REQUEST ≡ 510) }
     ensures message { (MAX_MESSAGE ≡ 131071) × (MAX_PACKET ≡ 131075) }
+    ensures interrupts { MAX_INTERRUPTS ≡ 1024 }
 {}

@@ -1,5 +1,5 @@
 //! Lists of addresses, as they stand in RDATA.
-ghost use Rattle.std.specs.Prelude.{◌≡◌, ◌%◌, length, slice_get};
+ghost use Rattle.std.specs.Prelude.{◌≡◌, ◌*◌, ◌%◌, length, slice_get};
 ghost use Rattle.std.specs.List.{flat_map};
 ghost use Rattle.nb_service.specs.Views.{entry_bytes};
 ghost use Rattle.nb_service.specs.declared.limits.TheConstants.{ENTRY_LENGTH};
@@ -28,7 +28,8 @@ impl<'a> AddressEntries<'a> {
     /// The entries that these bytes are, one after the other.
     pub(crate) fn of_bytes(bytes: &'a [u8]) -> Self
         requires { length bytes.now % ENTRY_LENGTH ≡ 0 }
-        ensures { flat_map entry_bytes result ≡ bytes.entry.now }
+        ensures bytes { flat_map entry_bytes result ≡ bytes.entry.now }
+        ensures count { ENTRY_LENGTH * length result ≡ length bytes.entry.now }
     {
         AddressEntries { bytes }
     }

@@ -1,7 +1,8 @@
 //! Resource records.
-ghost use Rattle.std.specs.Prelude.{◌≡◌, ◌≢◌, ◌<◌, ◌↔◌, ℕ, List, length, IfOk, IsErrOf, MatchOption};
+ghost use Rattle.std.specs.Prelude.{◌≡◌, ◌≢◌, ◌<◌, ◌*◌, ◌↔◌, ℕ, List, length, drop, IfOk, IsErrOf, MatchOption};
 ghost use Rattle.std.specs.List.{flat_map};
 ghost use Rattle.nb_service.specs.Record.{of_bytes, of_domain, record_of, rdata_of, IsRdataOf};
+ghost use Rattle.nb_service.specs.declared.limits.TheConstants.{ENTRY_LENGTH, NODE_NAME_LENGTH};
 ghost use Rattle.nb_service.specs.Views.{HasEntries, HasStatus, entry_bytes, after_count};
 
 use crate::address_entries::AddressEntries;
@@ -147,7 +148,8 @@ impl<'a> Record<'a> {
     /// RFC 1002 section 4.2.13.
     pub fn address_entries(&self) -> Option<AddressEntries<'a>>
         ensures { MatchOption result ((bytes : List ℕ) → ¬ HasEntries self.now bytes)
-            (λ entries. HasEntries self.now (flat_map entry_bytes entries)) }
+            (λ entries. HasEntries self.now (flat_map entry_bytes entries)
+            × (ENTRY_LENGTH * length entries ≡ length (flat_map entry_bytes entries))) }
     {
         let bytes = self.bytes_of_kind(NB)?;
         if bytes.len() % ENTRY_LENGTH != 0 {
@@ -162,7 +164,8 @@ impl<'a> Record<'a> {
     /// RFC 1002 section 4.2.18.
     pub fn node_status(&self) -> Option<NodeStatus<'a>>
         ensures { MatchOption result ((count : ℕ) (rest : List ℕ) → ¬ HasStatus self.now count rest)
-            (λ status. HasStatus self.now (length status.names) (after_count status)) }
+            (λ status. HasStatus self.now (length status.names) (after_count status)
+            × (status.statistics ≡ drop (NODE_NAME_LENGTH * length status.names) (after_count status))) }
     {
         let bytes = self.bytes_of_kind(NBSTAT)?;
         let (count, rest) = bytes.split_first()?;

@@ -23,6 +23,12 @@ no_odd_hex text odd h =
     let len = length-HexText h.0 text h.1 in
     odd (omega (arith, len))
 
+-- digits give at least one byte where there are any
+pub hex_has_bytes : (bytes text : List ℕ) → HexText bytes text → 0 < length text → 0 < length bytes
+hex_has_bytes bytes text h some =
+    let len = length-HexText bytes text h in
+    omega (arith, len, some)
+
 -- what the crate decodes is what the digits give
 pub decoded : (text bytes items : List ℕ) → HexText bytes text → decode_of text ≡ Ok items → HexText items text
 decoded text bytes items h e =

@@ -1,5 +1,5 @@
 -- The words of a line, and what stands between spaces.
-use Rattle.std.proofs.Common.{◌≡◌, ◌≢◌, ℕ, zero, suc, ◌+◌, ◌<◌, ◌==◌, Bool, true, false, not, List, [], ◌∷◌, ◌++◌, get_or, refl, sym, ap, ◌∙◌, arith, Err, Some, None, ◌⊎◌, inl, inr}
+use Rattle.std.proofs.Common.{◌≡◌, ◌≢◌, ℕ, zero, suc, ◌+◌, ◌<◌, ◌==◌, Bool, true, false, not, List, [], ◌∷◌, ◌++◌, get_or, refl, sym, ap, ◌∙◌, arith, length, Err, Some, None, ◌⊎◌, inl, inr}
 use Rattle.std.specs.Prelude.{IsTrue, Contains, codes, slice_get}
 use Rattle.std.specs.List.{IsAnyAnswer}
 use Rattle.std.specs.Char.{digit_value}
@@ -11,7 +11,7 @@ use Rattle.nb_member.specs.declared.line.Line.{Line}
 use Rattle.nb_member.specs.declared.line.Line.TheVariants.{Packet, Tick}
 use Rattle.nb_member.specs.declared.line_fault.LineFault.{LineFault}
 use Rattle.nb_member.specs.declared.line_fault.LineFault.TheVariants.{BadLine, NoMemory}
-use Rattle.nb_member.specs.Capture.{PortText, names, datagrams, sessions, MomentText, PayloadText, Says, packet, tick, Blank, nothing, comment, ReadsBy}
+use Rattle.nb_member.specs.Capture.{PortText, names, datagrams, sessions, MomentText, PayloadText, Says, packet, tick, Blank, nothing, comment, ReadsBy, TakesMemory, for_payload}
 
 -- ---- comments
 
@@ -220,10 +220,11 @@ packet_has_space port words value h =
 -- what is answered of the payload's word is answered of the line
 pub packet_err : (port moment : ℕ) (text words front behind : List ℕ) (e : LineFault) → PortText port text
     → words ≡ front ++ 32 ∷ behind → ¬ Contains front 32 → MomentText moment front
-    → ReadsBy (λ payload. PayloadText payload behind) (Err e) → ReadsBy (Says (text ++ 32 ∷ words)) (Err e)
+    → ReadsBy (λ payload. PayloadText payload behind) (λ payload. 0 < length payload) (Err e)
+    → ReadsBy (Says (text ++ 32 ∷ words)) TakesMemory (Err e)
 packet_err port moment text words front behind BadLine p e no_space m none =
     λ value says.
     let parts = packet_at_space port words front behind value (packet_behind port text words value p says) e no_space in
     none parts.1 parts.3
 packet_err port moment text words front behind NoMemory p e no_space m some =
-    (Packet port moment some.0, rw e (packet port moment some.0 text front behind p m some.1))
+    (Packet port moment some.0, rw e (packet port moment some.0 text front behind p m some.1), for_payload port moment some.0 some.2)

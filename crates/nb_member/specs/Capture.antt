@@ -68,16 +68,22 @@ pub record IsMalformed (line : List ℕ) : Type 0 where
   pub not_blank : ¬ SaysNothing line
   pub no_value : (value : Line) → ¬ HasValue line value
 
--- ReadsBy Says result: what is answered of words that say what `Says` relates them to; memory counts
--- only where they say something
-abbrev pub ReadsBy : {A : Type 0} → (A → Type 0) → Result A LineFault → Type 0
-ReadsBy Says (Ok value) = Says value
-ReadsBy {A} Says (Err BadLine) = (value : A) → ¬ Says value
-ReadsBy {A} Says (Err NoMemory) = (value : A) × Says value
+-- TakesMemory value: memory is taken for what the line says: it is a packet whose payload isn't empty
+pub data TakesMemory : Line → Type 0 where
+  for_payload : (port moment : ℕ) (payload : List ℕ) → 0 < length payload
+      → TakesMemory (Packet port moment payload)
 
--- Reads line result: what is answered of the line; memory counts only where it has a value
+-- ReadsBy Says Takes result: what is answered of words that say what `Says` relates them to; memory
+-- counts only where they say something that it is taken for, as `Takes` says
+abbrev pub ReadsBy : {A : Type 0} → (A → Type 0) → (A → Type 0) → Result A LineFault → Type 0
+ReadsBy Says Takes (Ok value) = Says value
+ReadsBy {A} Says Takes (Err BadLine) = (value : A) → ¬ Says value
+ReadsBy {A} Says Takes (Err NoMemory) = (value : A) × Says value × Takes value
+
+-- Reads line result: what is answered of the line; memory counts only where it has a payload that isn't
+-- empty
 abbrev pub Reads : List ℕ → Result (Option Line) LineFault → Type 0
 Reads line (Ok None) = SaysNothing line
 Reads line (Ok (Some value)) = HasValue line value
 Reads line (Err BadLine) = IsMalformed line
-Reads line (Err NoMemory) = (value : Line) × HasValue line value
+Reads line (Err NoMemory) = (value : Line) × HasValue line value × TakesMemory value

@@ -3,7 +3,7 @@ ghost use Rattle.std.specs.Prelude.{◌≡◌, ℕ, ◌<◌, ◌++◌, ◌∷◌
 ghost use Rattle.std.specs.List.{list_all};
 ghost use Rattle.std.specs.Char.{is_ascii_digit, is_ascii_hexdigit};
 ghost use Rattle.nb_names.specs.NameText.{IsHexDigit};
-ghost use Rattle.nb_member.specs.Capture.{PortText, MomentText, PayloadText, HexText, Reads, ReadsBy, Blank, Says};
+ghost use Rattle.nb_member.specs.Capture.{PortText, MomentText, PayloadText, HexText, Reads, ReadsBy, TakesMemory, Blank, Says};
 
 use crate::limits::{MAX_LINE, MAX_MOMENT_DIGITS};
 use crate::line::Line;
@@ -27,7 +27,7 @@ use std::str;
 /// # Errors
 ///
 /// [`LineFault::BadLine`] for every other line, and for one of more than [`MAX_LINE`] bytes, whatever
-/// memory there is; [`LineFault::NoMemory`] only for a line that has a payload.
+/// memory there is; [`LineFault::NoMemory`] only for a line whose payload has a byte or more.
 ///
 /// The form is our own.
 pub fn capture_line(alloc: Global, line: &[u8]) -> Result<Option<Line>, LineFault>
@@ -55,7 +55,7 @@ fn is_blank(line: &[u8]) -> bool
 
 /// What a line says that is neither empty nor a comment, whatever its length.
 fn value_of(alloc: Global, line: &[u8]) -> Result<Line, LineFault>
-    ensures { ReadsBy (Says line.now) result }
+    ensures { ReadsBy (Says line.now) TakesMemory result }
 {
     if let Some(digits) = line.strip_prefix(b"tick ") {
         return match moment_of(digits) {
@@ -89,7 +89,8 @@ fn after_port(line: &[u8]) -> Option<(u16, &[u8])>
 
 /// The packet of a line with this port and, behind it, these words.
 fn packet_of(alloc: Global, port: u16, words: &[u8]) -> Result<Line, LineFault>
-    ensures { (text : List ℕ) → PortText port text → ReadsBy (Says (text ++ 32 ∷ words.now)) result }
+    ensures { (text : List ℕ) → PortText port text →
+        ReadsBy (Says (text ++ 32 ∷ words.now)) TakesMemory result }
 {
     let Some((digits, hexadecimal)) = at_space(words) else {
         return Err(LineFault::BadLine);
@@ -140,7 +141,7 @@ fn are_digits(text: &[u8]) -> bool
 
 /// The payload that a word stands for.
 fn payload_of(alloc: Global, text: &[u8]) -> Result<Bytes, LineFault>
-    ensures { ReadsBy (λ payload. PayloadText payload text.now) result }
+    ensures { ReadsBy (λ payload. PayloadText payload text.now) (λ payload. 0 < length payload) result }
 {
     if text == b"empty".as_slice() {
         return Ok(no_bytes(alloc));

@@ -1,7 +1,7 @@
 use Rattle.std.proofs.lemmas.Bool.Decides.{Decides-eqb}
 use Rattle.std.proofs.lemmas.Slice.Eq.{slice_eq-Decides}
 use Rattle.nb_member.specs.Capture.{empty, digits}
-use Rattle.nb_member.proofs.PayloadLemmas.{decoded}
+use Rattle.nb_member.proofs.PayloadLemmas.{decoded, hex_has_bytes}
 use Rattle.nb_member.proofs.capture.payload_of.Goals as goal
 
 pub returns-then-eq : goal.returns-then-eq
@@ -18,4 +18,4 @@ returns-in-Ok c =
 pub returns-in-Err : goal.returns-in-Err
 returns-in-Err c =
     let hex = c.is_hexadecimal.ensures.0 c.if-not-is_hexadecimal.false in
-    (hex.1.0, digits hex.1.0 c.args.text.now hex.0 hex.1.1)
+    (hex.1.0, digits hex.1.0 c.args.text.now hex.0 hex.1.1, hex_has_bytes hex.1.0 c.args.text.now hex.1.1 hex.0)

@@ -1,14 +1,13 @@
 -- What a list of fragments says of a key, one fragment at a time: the entry of a fragment in front of
 -- others is the join of its own facts with the entry of the others.
-use Rattle.std.proofs.Common.{◌≡◌, ◌++◌, ◌||◌, ◌&&◌, ℕ, Bool, true, false, cond, not, List, [], ◌∷◌, map, Option, Some, None, refl, sym, ◌∙◌, ap, subst, append-nil}
+use Rattle.std.proofs.Common.{◌≡◌, ◌++◌, ◌||◌, ◌&&◌, ℕ, Bool, true, false, cond, not, List, [], ◌∷◌, map, Option, Some, refl, sym, ◌∙◌, ap, subst}
 use Rattle.std.proofs.lemmas.List.Elements.{filter-append}
 use Rattle.std.specs.Ordering.{nat_cmp}
 use Rattle.std.specs.Cmp.{nat_cmp_total}
 use Rattle.std.specs.List.{list_any}
 use Rattle.std.specs.FinMap as maps
-use Rattle.nb_datagram.specs.declared.key.Key.{Key}
 use Rattle.nb_datagram.specs.Key.{same_key}
-use Rattle.nb_datagram.specs.Fragment.{Core, byte_of, end_of_one}
+use Rattle.nb_datagram.specs.Fragment.{Core, byte_of}
 use Rattle.nb_table.specs.Maps.{first_of, joined_at}
 use Rattle.nb_table.specs.Slot.{Spoilt, Held}
 use Rattle.nb_table.specs.Cover.{CoverFacts, covers_together, placed, cover_of}
@@ -16,8 +15,7 @@ use Rattle.nb_table.specs.Entry.{EntryFacts, EntryValue, facts_agree, facts_toge
 use Rattle.nb_table.specs.ConflictTests.{conflicts, some_conflict, with_key}
 use Rattle.nb_table.specs.Contents.{first_byte, all_placed, cover_in, facts_in, entry_in, entry_at, table_of}
 use Rattle.nb_table.specs.Join.{join, IsTable}
-use Rattle.nb_table.specs.Lemmas.MapsLemmas.{get-at_keys, at-assoc}
-use Rattle.nb_table.specs.Lemmas.SameLemmas.{key_cmp_total, key_cmp_exact}
+use Rattle.nb_table.specs.Lemmas.MapsLemmas.{at-assoc}
 use Rattle.nb_table.specs.Lemmas.SlotLemmas.{agree_union}
 use Rattle.nb_table.specs.Lemmas.CoverLemmas.{same_cover, in_union}
 use Rattle.nb_table.proofs.PlacedLemmas.{find-placed, find-append, cover_of_formed}

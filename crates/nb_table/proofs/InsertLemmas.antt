@@ -20,7 +20,6 @@ use Rattle.nb_table.specs.Join.{IsTable}
 use Rattle.nb_table.specs.Limits.{TableValue, AreShort, IsShort, IsFull, KeepsLimits}
 use Rattle.nb_table.specs.Change.{KeyChange, IsChange}
 use Rattle.nb_table.specs.Insert.{NeedsNoMemory, spoilt, contradicts, held, Passes, Lacks, Refuses}
-use Rattle.nb_table.specs.Lemmas.MapsLemmas.{tied_self}
 use Rattle.nb_table.specs.Lemmas.SameLemmas.{key_cmp_total, key_cmp_exact, same_key_decides}
 use Rattle.nb_table.specs.Lemmas.CoverLemmas.{below_both, first_either}
 use Rattle.nb_table.specs.Lemmas.EntryLemmas.{facts_fit_of}

@@ -1,5 +1,5 @@
 -- The set of fragments decides the table; and without a key's fragments it is the table without the key.
-use Rattle.std.proofs.Common.{◌≡◌, ◌⊎◌, inl, inr, zero, suc, Bool, true, false, cond, not, List, [], ◌∷◌, Contains, Option, Some, None, refl, sym, ◌∙◌, ap, subst, arith, ◌++◌, reverse}
+use Rattle.std.proofs.Common.{◌≡◌, ◌⊎◌, inl, inr, zero, suc, Bool, true, false, cond, not, List, [], ◌∷◌, Contains, Option, None, refl, sym, ◌∙◌, ap, subst, arith, ◌++◌, reverse}
 use Rattle.std.proofs.lemmas.Bool.{true≢false}
 use Rattle.std.proofs.lemmas.List.{reverse-append}
 use Rattle.std.specs.Cmp.{both_ways}
@@ -7,15 +7,13 @@ use Rattle.std.specs.FinMap as maps
 use Rattle.nb_datagram.specs.declared.key.Key.{Key}
 use Rattle.nb_datagram.specs.Key.{same_key}
 use Rattle.nb_datagram.specs.Fragment.{Core}
-use Rattle.nb_table.specs.Maps.{joined_at, joined_onto}
-use Rattle.nb_table.specs.Entry.{EntryValue, join_entry, facts_of}
-use Rattle.nb_table.specs.Slot.{Held}
+use Rattle.nb_table.specs.Entry.{EntryValue, join_entry}
 use Rattle.nb_table.specs.ConflictTests.{with_key, keyed}
 use Rattle.nb_table.specs.Contents.{Contents, entry_in, table_of}
 use Rattle.nb_table.specs.Join.{join, SameCores, without_key}
 use Rattle.nb_table.specs.Lemmas.MapsLemmas.{joined-empty}
 use Rattle.nb_table.specs.Lemmas.SameLemmas.{key_cmp_total, key_cmp_exact, same_key_decides}
-use Rattle.nb_table.specs.Lemmas.TableLemmas.{same_table, get-join, join-comm, join-assoc, join-idem}
+use Rattle.nb_table.specs.Lemmas.TableLemmas.{same_table, join-comm, join-assoc, join-idem}
 use Rattle.nb_table.proofs.ContentsLemmas.{table_of-append, table_of_formed}
 use Rattle.nb_table.specs.Lemmas.FragmentLemmas.{get-table_of}
 

@@ -9,8 +9,8 @@ use Rattle.nb_datagram.specs.Key.{same_key}
 use Rattle.nb_datagram.specs.Fragment.{Core, end_of_one}
 use Rattle.nb_table.specs.Maps.{first_of, joined_at, joined_onto}
 use Rattle.nb_table.specs.Slot.{Spoilt, Held}
-use Rattle.nb_table.specs.Cover.{CoverFacts, placed, cover_of}
-use Rattle.nb_table.specs.Entry.{EntryFacts, EntryValue, join_entry, facts_of}
+use Rattle.nb_table.specs.Cover.{placed, cover_of}
+use Rattle.nb_table.specs.Entry.{EntryValue, join_entry, facts_of}
 use Rattle.nb_table.specs.ConflictTests.{with_key}
 use Rattle.nb_table.specs.Contents.{Contents, cover_in, facts_in, entry_in, entry_at, table_of}
 use Rattle.nb_table.specs.Join.{join}

@@ -8,3 +8,4 @@ pub mod LiveLemmas
 pub mod NamesLemmas
 pub mod SayingLemmas
 pub mod TimingLemmas
+pub mod ExpiringLemmas

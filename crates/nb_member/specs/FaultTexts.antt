@@ -4,6 +4,10 @@ use Rattle.nb_member.specs.declared.local_names.AddFault.{AddFault}
 use Rattle.nb_member.specs.declared.local_names.AddFault.TheVariants as adding
 use Rattle.nb_member.specs.declared.line_fault.LineFault.{LineFault}
 use Rattle.nb_member.specs.declared.line_fault.LineFault.TheVariants.{BadLine, NoMemory}
+use Rattle.nb_datagram.specs.FaultTexts.{datagram_fault_text}
+use Rattle.nb_table.specs.FaultTexts.{table_fault_text}
+use Rattle.nb_member.specs.declared.member_fault.MemberFault.{MemberFault}
+use Rattle.nb_member.specs.declared.member_fault.MemberFault.TheVariants.{Packet, Table}
 
 -- the text of a line's fault
 abbrev pub line_fault_text : LineFault → List ℕ
@@ -15,3 +19,8 @@ abbrev pub add_fault_text : AddFault → List ℕ
 add_fault_text adding.Present = codes "present"
 add_fault_text adding.TooMany = codes "too many names"
 add_fault_text adding.NoMemory = codes "memory"
+
+-- the text of the fault of a payload that is refused: that of the packet's or the table's fault
+abbrev pub member_fault_text : MemberFault → List ℕ
+member_fault_text (Packet fault error) = datagram_fault_text fault
+member_fault_text (Table fault) = table_fault_text fault

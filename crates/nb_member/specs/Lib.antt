@@ -6,4 +6,6 @@ pub mod Live
 pub mod Saying
 pub mod Handed
 pub mod Timing
+pub mod Member
+pub mod Taking
 pub mod Agreement

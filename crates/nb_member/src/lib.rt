@@ -9,6 +9,9 @@ pub mod limits;
 mod line;
 mod line_fault;
 mod local_names;
+mod member;
+mod member_fault;
+mod outcome;
 mod settings;
 mod starts;
 mod timed_table;
@@ -18,6 +21,9 @@ pub use event::Event;
 pub use line::Line;
 pub use line_fault::LineFault;
 pub use local_names::{AddFault, LocalNames};
+pub use member::Member;
+pub use member_fault::MemberFault;
+pub use outcome::{Dropped, Outcome};
 pub use settings::Settings;
 
 #[cfg(test)]

@@ -1,10 +1,15 @@
 //! When keys came.
-ghost use Rattle.std.specs.Prelude.{◌≡◌, false, OnOk, OnErr};
+ghost use Rattle.std.specs.Prelude.{◌≡◌, false, not, filter, Some, OnOk, OnErr};
+ghost use Rattle.std.specs.BTreeMap.{IsOrdered};
 ghost use Rattle.std.specs.FinMap as maps;
-ghost use Rattle.nb_member.specs.Timing.{begun};
+ghost use Rattle.nb_datagram.specs.Key.{key_cmp};
+ghost use Rattle.nb_member.specs.Live.{is_over};
+ghost use Rattle.nb_member.specs.Timing.{begun, lasts};
 
+use crate::limits::FRAGMENT_TIMEOUT;
 use nb_datagram::Key;
 use nb_names::NoMemory;
+use nb_table::Table;
 use std::alloc::Global;
 use std::collections::BTreeMap;
 use std::marker::Model;
@@ -52,4 +57,47 @@ impl Starts {
         self.moments.insert(key, moment)?;
         Ok(())
     }
+
+    /// Drops the keys whose timers have run out where the clock shows `now`, from the moments and
+    /// from the table. No memory is taken.
+    pub fn expire(&mut self, table: &mut Table, now: u64)
+        ensures moments { self.new ≡ maps.retain_keys self.old (lasts self.old now) }
+        ensures left { table.new ≡ record {
+          contents = maps.retain_keys table.old.contents (lasts self.old now);
+          limits = table.old.limits;
+        } }
+    {
+        drop_over(table, &self.moments, now);
+        keep_running(&mut self.moments, now);
+    }
+}
+
+/// Whether the timer of a key with this start has run out where the clock shows `now`.
+fn is_over(now: u64, start: u64) -> bool
+    ensures { result ≡ is_over now (Some start) }
+{
+    FRAGMENT_TIMEOUT <= now && start <= now - FRAGMENT_TIMEOUT
+}
+
+/// Takes the keys whose timers have run out, out of the table.
+fn drop_over(table: &mut Table, moments: &BTreeMap<Key, u64>, now: u64)
+    ensures { table.new ≡ record {
+      contents = maps.retain_keys table.old.contents
+          (lasts (maps.from_entries {R = key_cmp} moments.now.entries) now);
+      limits = table.old.limits;
+    } }
+{
+    for (key, start) in moments {
+        if is_over(now, *start) {
+            table.drop_key(key);
+        }
+    }
+}
+
+/// Keeps the keys whose timers haven't run out.
+fn keep_running(moments: &mut BTreeMap<Key, u64>, now: u64)
+    ensures kept { moments.new.entries ≡ filter (λ e. not (is_over now (Some e.1))) moments.old.entries }
+    ensures ordered { IsOrdered key_cmp moments.old }
+{
+    moments.retain(|_key, start| !is_over(now, *start));
 }

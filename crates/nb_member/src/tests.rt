@@ -1,4 +1,5 @@
 //! Tests, by what they are about.
 
 mod lines;
+mod members;
 mod names;

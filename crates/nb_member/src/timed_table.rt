@@ -3,7 +3,7 @@ ghost use Rattle.std.specs.Prelude.{◌≡◌, false, IfOk, IfErr, OnOk, OnErr};
 ghost use Rattle.std.specs.FinMap as maps;
 ghost use Rattle.nb_table.specs.Change.{IsChange};
 ghost use Rattle.nb_table.specs.Insert.{Takes, Refuses};
-ghost use Rattle.nb_member.specs.Timing.{begun, after_fragment};
+ghost use Rattle.nb_member.specs.Timing.{begun, after_fragment, after_clock};
 
 use crate::starts::Starts;
 use nb_datagram::{Fragment, Key};
@@ -71,6 +71,13 @@ impl TimedTable {
         let change = self.table.insert(fragment)?;
         begin_or_drop(&mut self.table, &mut self.starts, fragment.key(), moment)?;
         Ok(change)
+    }
+
+    /// Drops the keys whose timers have run out where the clock shows `now`. No memory is taken.
+    pub fn tick(&mut self, now: u64)
+        ensures { self.new ≡ after_clock self.old now }
+    {
+        self.starts.expire(&mut self.table, now);
     }
 }
 

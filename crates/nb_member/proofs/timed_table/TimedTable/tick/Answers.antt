@@ -1,0 +1,13 @@
+use Rattle.std.proofs.Common.{sym, ap, ◌∙◌}
+use Rattle.std.specs.FinMap as maps
+use Rattle.nb_table.specs.Limits.{TableValue}
+use Rattle.nb_member.specs.Timing.{Moments}
+use Rattle.nb_member.proofs.ExpiringLemmas.{one_set_left}
+use Rattle.nb_member.proofs.timed_table.TimedTable.tick.Goals as goal
+
+pub invariant_of-self : goal.invariant_of-self
+invariant_of-self c =
+    λ k.
+    ap (λ (m : Moments). maps.contains_key m k) c.expire.ensures.moments
+    ∙ (one_set_left c.self.inside.table.contents c.self.inside.starts c.args.now c.self.invariant k
+    ∙ sym (ap (λ (t : TableValue). maps.contains_key t.contents k) c.expire.ensures.left))

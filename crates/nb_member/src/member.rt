@@ -1,0 +1,139 @@
+//! Members.
+ghost use Rattle.std.specs.Prelude.{◌≡◌, ◌+◌};
+ghost use Rattle.std.specs.FinMap as maps;
+ghost use Rattle.nb_member.specs.Live.{limits_of};
+ghost use Rattle.nb_member.specs.Member.{contents, with_timed};
+ghost use Rattle.nb_member.specs.Taking.{Takes, TakesFragment, handed, outcome_of};
+ghost use Rattle.nb_member.specs.Timing.{after_clock};
+
+use crate::local_names::LocalNames;
+use crate::member_fault::MemberFault;
+use crate::outcome::{Dropped, Outcome};
+use crate::settings::Settings;
+use crate::timed_table::TimedTable;
+use nb_datagram::{Datagram, Fragment, Key, Packet, decode};
+use nb_table::{Change, Table};
+use std::alloc::Global;
+use std::marker::Model;
+
+/// A station: it takes payloads, keeps the table of the fragments that are still live, and hands
+/// over the datagrams that it hears.
+#[derive(Drop)]
+pub struct Member {
+    settings: Settings,
+    names: LocalNames,
+    timed: TimedTable,
+}
+
+impl Model for Member {
+    ghost use Rattle.std.specs.Prelude.{◌≡◌};
+    ghost use Rattle.nb_member.specs.Live.{limits_of};
+    ghost use Rattle.nb_member.specs.Member.{MemberValue, member_code};
+
+    ghost Value = { MemberValue };
+
+    ghost coded = { member_code };
+
+    ghost view = { λ m. record { settings = m.settings; names = m.names; timed = m.timed } };
+
+    ghost invariant = { λ m. m.timed.table.limits ≡ limits_of m.settings };
+}
+
+impl Member {
+    /// A member with these settings and names, and an empty table. No memory is taken.
+    pub fn new(alloc: Global, settings: Settings, names: LocalNames) -> Member
+        ensures { result ≡ record {
+          settings = settings;
+          names = names;
+          timed = record {
+            table = record { contents = maps.empty; limits = limits_of settings };
+            moments = maps.empty;
+          };
+        } }
+    {
+        Member {
+            settings,
+            names,
+            timed: TimedTable::new(alloc, settings.keys, settings.longest),
+        }
+    }
+
+    /// What the member knows of datagrams.
+    pub fn table(&self) -> &Table
+        ensures value { result.now ≡ self.now.timed.table }
+        ensures limits { self.now.timed.table.limits ≡ limits_of self.now.settings }
+    {
+        self.timed.table()
+    }
+
+    /// Takes a payload that came at this moment, in milliseconds, and says what became of it.
+    ///
+    /// A fragment is joined to the table; a key that is new starts its timer at this moment. Bytes
+    /// after the packet are left unread. RFC 1002 section 5.3.
+    ///
+    /// # Errors
+    ///
+    /// `Packet` where the payload begins with no packet; no memory is taken then. Else `Table`
+    /// where the table refuses the fragment. The member is then as it was.
+    pub fn take(&mut self, moment: u64, payload: &[u8]) -> Result<Outcome, MemberFault>
+        ensures { Takes self.old moment payload.now self.new result }
+    {
+        match decode(payload) {
+            Ok((Packet::Direct(fragment), _)) => self.take_fragment(moment, &fragment),
+            Ok((Packet::Error(_), _)) => Ok(Outcome::Other),
+            Ok((Packet::Query(_), _)) => Ok(Outcome::Other),
+            Err(fault) => Err(MemberFault::Packet(fault, self.settings.refusal(payload, fault))),
+        }
+    }
+
+    /// Takes a fragment that came at this moment.
+    fn take_fragment(
+        &mut self,
+        moment: u64,
+        fragment: &Fragment<'_>,
+    ) -> Result<Outcome, MemberFault>
+        ensures { TakesFragment self.old moment fragment.now self.new result }
+    {
+        let key = fragment.key();
+        match self.timed.insert(moment, fragment) {
+            Ok(change) => Ok(outcome_of(&self.settings, &self.names, key, change)),
+            Err(fault) => Err(MemberFault::Table(fault)),
+        }
+    }
+
+    /// Looks at the clock, which shows `now`: drops each key, whatever is known of it, that came at
+    /// least 2,000 milliseconds before. No memory is taken.
+    pub fn tick(&mut self, now: u64) -> Dropped
+        ensures dropped { self.new ≡ with_timed self.old (after_clock self.old.timed now) }
+        ensures count { result.keys + maps.len (contents self.new) ≡ maps.len (contents self.old) }
+    {
+        let before = self.timed.table().len();
+        self.timed.tick(now);
+        let after = self.timed.table().len();
+        Dropped {
+            keys: (before - after) as u32,
+        }
+    }
+}
+
+/// What is answered where this changed at the key.
+fn outcome_of(settings: &Settings, names: &LocalNames, key: Key, change: Change) -> Outcome
+    ensures { result ≡ outcome_of settings.now names.now key change }
+{
+    match change {
+        Change::Spoilt => Outcome::Spoilt(key),
+        Change::Whole(datagram) => handed(settings, names, key, datagram),
+        Change::Same => Outcome::Kept(key),
+        Change::Grown => Outcome::Kept(key),
+    }
+}
+
+/// What is answered of a datagram that became whole.
+fn handed(settings: &Settings, names: &LocalNames, key: Key, datagram: Datagram) -> Outcome
+    ensures { result ≡ handed settings.now names.now key datagram }
+{
+    if names.hears(&datagram) {
+        return Outcome::Delivered(datagram);
+    }
+    Outcome::Unheard(key, settings.unheard(&datagram))
+}

@@ -1,0 +1,31 @@
+//! Why a member refuses a payload.
+
+use nb_datagram::{DatagramFault, ErrorPacket};
+use nb_table::TableFault;
+use std::error::Error;
+use std::fmt;
+
+/// Why a member refuses a payload. It stays as it was.
+#[derive(Clone, Copy, Debug, PartialEq, Eq)]
+pub enum MemberFault {
+    /// The payload begins with no packet; with the error packet to answer, if there is one.
+    Packet(DatagramFault, Option<ErrorPacket>),
+    /// The table refuses the fragment.
+    Table(TableFault),
+}
+
+impl fmt::Display for MemberFault {
+    ghost use Rattle.std.specs.Prelude.{Some};
+    ghost use Rattle.nb_member.specs.FaultTexts.{member_fault_text};
+
+    ghost output = { λ fault. Some (member_fault_text fault) };
+
+    fn fmt<W: fmt::Write>(&self, f: &mut fmt::Formatter<W>) -> fmt::Result {
+        match self {
+            MemberFault::Packet(fault, _) => write!(f, "{fault}"),
+            MemberFault::Table(fault) => write!(f, "{fault}"),
+        }
+    }
+}
+
+impl Error for MemberFault {}

@@ -4,6 +4,7 @@ mod caller;
 mod comparing;
 mod inserting;
 mod merging;
+mod saving;
 
 use crate::plain;
 use crate::plain::PlainFault;

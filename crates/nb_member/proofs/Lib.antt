@@ -9,3 +9,4 @@ pub mod NamesLemmas
 pub mod SayingLemmas
 pub mod TimingLemmas
 pub mod ExpiringLemmas
+pub mod RunningLemmas

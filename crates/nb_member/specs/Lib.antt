@@ -8,4 +8,5 @@ pub mod Handed
 pub mod Timing
 pub mod Member
 pub mod Taking
+pub mod Running
 pub mod Agreement

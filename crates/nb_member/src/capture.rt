@@ -26,8 +26,9 @@ use std::str;
 ///
 /// # Errors
 ///
-/// [`LineFault::BadLine`] for every other line, and for one of more than [`MAX_LINE`] bytes, whatever
-/// memory there is; [`LineFault::NoMemory`] only for a line whose payload has a byte or more.
+/// [`LineFault::BadLine`] for every other line, and for one of more than [`MAX_LINE`] bytes,
+/// whatever memory there is; [`LineFault::NoMemory`] only for a line whose payload has a byte or
+/// more.
 ///
 /// The form is our own.
 pub fn capture_line(alloc: Global, line: &[u8]) -> Result<Option<Line>, LineFault>
@@ -141,7 +142,8 @@ fn are_digits(text: &[u8]) -> bool
 
 /// The payload that a word stands for.
 fn payload_of(alloc: Global, text: &[u8]) -> Result<Bytes, LineFault>
-    ensures { ReadsBy (λ payload. PayloadText payload text.now) (λ payload. 0 < length payload) result }
+    ensures { ReadsBy (λ payload. PayloadText payload text.now) (λ payload. 0 < length payload)
+        result }
 {
     if text == b"empty".as_slice() {
         return Ok(no_bytes(alloc));
@@ -164,7 +166,8 @@ fn no_bytes(alloc: Global) -> Bytes
 
 /// Whether a word is pairs of hexadecimal digits, at least one.
 fn is_hexadecimal(text: &[u8]) -> bool
-    ensures { IsTrue result ↔ ((0 < length text.now) × ((bytes : List ℕ) × HexText bytes text.now)) }
+    ensures { IsTrue result ↔
+        ((0 < length text.now) × ((bytes : List ℕ) × HexText bytes text.now)) }
 {
     !text.is_empty() && text.len() % 2 == 0 && are_hexadecimal_digits(text)
 }

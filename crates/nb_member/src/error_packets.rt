@@ -8,11 +8,11 @@ use nb_datagram::limits::HEADER_LENGTH;
 use nb_datagram::{Datagram, DatagramFault, ErrorPacket, Key, Kind, error_codes};
 
 impl Settings {
-    /// The error packet of this code about a datagram of this kind and identifier, which is sent only
-    /// about direct unique ones.
+    /// The error packet of this code about a datagram of this kind and identifier, which is sent
+    /// only about direct unique ones.
     ///
-    /// It has the member's own address and port. RFC 1002 sections 4.4.3 and 5.3; its flags, 02, are
-    /// our own choice.
+    /// It has the member's own address and port. RFC 1002 sections 4.4.3 and 5.3; its flags, 02,
+    /// are our own choice.
     pub fn error_about(&self, kind: Kind, id: u16, code: u8) -> Option<ErrorPacket>
         ensures { result ≡ error_about self.now kind id code }
     {
@@ -41,8 +41,8 @@ impl Settings {
         )
     }
 
-    /// The error packet about a payload that is refused with this fault, which is sent where a name of
-    /// a direct unique datagram is bad.
+    /// The error packet about a payload that is refused with this fault, which is sent where a name
+    /// of a direct unique datagram is bad.
     pub fn refusal(&self, payload: &[u8], fault: DatagramFault) -> Option<ErrorPacket>
         ensures { result ≡ refusal self.now payload.now fault }
     {

@@ -52,15 +52,16 @@ pub fn an_event_says_one_thing()
     one_datagram_fault();
 }
 
-/// Where no look at the clock drops a key and no fragment meets the limit on keys, the fragments that
-/// are live are the valid ones.
+/// Where no look at the clock drops a key and no fragment meets the limit on keys, the fragments
+/// that are live are the valid ones.
 pub fn live_fragments_are_the_valid_ones()
     ensures { (settings : Settings) (S : List Saying) →
-        NoneDropped settings [] S → NoneFull settings [] S → cores (live settings S) ≡ valid_cores S }
+        NoneDropped settings [] S → NoneFull settings [] S →
+        cores (live settings S) ≡ valid_cores S }
 {}
 
-/// Where events say the same fragments, whose keys are within the limit, and no look at the clock drops
-/// a key, no fragment meets the limit, and the tables of what is live are the same.
+/// Where events say the same fragments, whose keys are within the limit, and no look at the clock
+/// drops a key, no fragment meets the limit, and the tables of what is live are the same.
 pub fn the_same_fragments_make_the_same_table()
     ensures room { (settings : Settings) (S T : List Saying) → GiveTheSame settings S T →
         NoneFull settings [] S × NoneFull settings [] T }

@@ -12,6 +12,8 @@ mod local_names;
 mod member;
 mod member_fault;
 mod outcome;
+mod pair;
+mod run_report;
 mod settings;
 mod starts;
 mod timed_table;
@@ -24,6 +26,8 @@ pub use local_names::{AddFault, LocalNames};
 pub use member::Member;
 pub use member_fault::MemberFault;
 pub use outcome::{Dropped, Outcome};
+pub use pair::Pair;
+pub use run_report::{RunReport, RunStop};
 pub use settings::Settings;
 
 #[cfg(test)]

@@ -6,8 +6,8 @@ pub const MAX_LINE: usize = 262_200;
 /// The most digits of a moment (our own).
 pub const MAX_MOMENT_DIGITS: usize = 20;
 
-/// How long a key is kept after it came, in milliseconds (RFC 1002 section 5.3, FRAGMENT_TO; the time
-/// is our own choice of a default).
+/// How long a key is kept after it came, in milliseconds (RFC 1002 section 5.3, FRAGMENT_TO; the
+/// time is our own choice of a default).
 pub const FRAGMENT_TIMEOUT: u64 = 2_000;
 
 /// The most names of a station (our own).

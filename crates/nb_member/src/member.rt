@@ -2,7 +2,7 @@
 ghost use Rattle.std.specs.Prelude.{◌≡◌, ◌+◌};
 ghost use Rattle.std.specs.FinMap as maps;
 ghost use Rattle.nb_member.specs.Live.{limits_of};
-ghost use Rattle.nb_member.specs.Member.{contents, with_timed};
+ghost use Rattle.nb_member.specs.Member.{contents, new_member, with_timed};
 ghost use Rattle.nb_member.specs.Taking.{Takes, TakesFragment, handed, outcome_of};
 ghost use Rattle.nb_member.specs.Timing.{after_clock};
 
@@ -42,14 +42,7 @@ impl Model for Member {
 impl Member {
     /// A member with these settings and names, and an empty table. No memory is taken.
     pub fn new(alloc: Global, settings: Settings, names: LocalNames) -> Member
-        ensures { result ≡ record {
-          settings = settings;
-          names = names;
-          timed = record {
-            table = record { contents = maps.empty; limits = limits_of settings };
-            moments = maps.empty;
-          };
-        } }
+        ensures { result ≡ new_member settings names }
     {
         Member {
             settings,

@@ -45,7 +45,8 @@ impl Starts {
     ///
     /// # Errors
     ///
-    /// `NoMemory` where memory ran out, which is for a new key alone. The moments are then as they were.
+    /// `NoMemory` where memory ran out, which is for a new key alone. The moments are then as they
+    /// were.
     pub fn begin(&mut self, key: Key, moment: u64) -> Result<(), NoMemory>
         ensures begun { OnOk result (self.new ≡ begun self.old key moment) }
         ensures unmet { OnErr result (maps.contains_key self.old key ≡ false) }
@@ -96,7 +97,8 @@ fn drop_over(table: &mut Table, moments: &BTreeMap<Key, u64>, now: u64)
 
 /// Keeps the keys whose timers haven't run out.
 fn keep_running(moments: &mut BTreeMap<Key, u64>, now: u64)
-    ensures kept { moments.new.entries ≡ filter (λ e. not (is_over now (Some e.1))) moments.old.entries }
+    ensures kept { moments.new.entries
+        ≡ filter (λ e. not (is_over now (Some e.1))) moments.old.entries }
     ensures ordered { IsOrdered key_cmp moments.old }
 {
     moments.retain(|_key, start| !is_over(now, *start));

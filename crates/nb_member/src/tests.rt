@@ -3,3 +3,4 @@
 mod lines;
 mod members;
 mod names;
+mod packets;

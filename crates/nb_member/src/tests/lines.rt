@@ -13,33 +13,35 @@ fn longest(alloc: std::alloc::Global, front: &[u8]) -> Result<Vec<u8>, std::allo
     Ok(line)
 }
 
+/// Lines of packets, with their ports, moments and payloads.
+const PACKETS: [(&[u8], u16, u64, &[u8]); 12] = [
+    (b"137 0 00", 137, 0, &[0]),
+    (b"138 12 0a1b2c", 138, 12, &[0x0a, 0x1b, 0x2c]),
+    (b"139 7 0A1B2C", 139, 7, &[0x0a, 0x1b, 0x2c]),
+    (
+        b"138 9876543210 0123456789abcdef",
+        138,
+        9_876_543_210,
+        &[0x01, 0x23, 0x45, 0x67, 0x89, 0xab, 0xcd, 0xef],
+    ),
+    (
+        b"139 3 ABCDEFfedcba",
+        139,
+        3,
+        &[0xab, 0xcd, 0xef, 0xfe, 0xdc, 0xba],
+    ),
+    (b"138 4 F0", 138, 4, &[0xf0]),
+    (b"138 4 0f", 138, 4, &[0x0f]),
+    (b"137 18446744073709551615 empty", 137, u64::MAX, &[]),
+    (b"138 00000000000000000001 9a", 138, 1, &[0x9a]),
+    (b"138 0 empty", 138, 0, &[]),
+    (b"139 10 1112", 139, 10, &[0x11, 0x12]),
+    (b"137 999 090a", 137, 999, &[0x09, 0x0a]),
+];
+
 #[test]
 fn packets_have_their_port_moment_and_payload(rt: HostRuntime) -> Result<(), Fail> {
-    let packets: [(&[u8], u16, u64, &[u8]); 12] = [
-        (b"137 0 00", 137, 0, &[0]),
-        (b"138 12 0a1b2c", 138, 12, &[0x0a, 0x1b, 0x2c]),
-        (b"139 7 0A1B2C", 139, 7, &[0x0a, 0x1b, 0x2c]),
-        (
-            b"138 9876543210 0123456789abcdef",
-            138,
-            9_876_543_210,
-            &[0x01, 0x23, 0x45, 0x67, 0x89, 0xab, 0xcd, 0xef],
-        ),
-        (
-            b"139 3 ABCDEFfedcba",
-            139,
-            3,
-            &[0xab, 0xcd, 0xef, 0xfe, 0xdc, 0xba],
-        ),
-        (b"138 4 F0", 138, 4, &[0xf0]),
-        (b"138 4 0f", 138, 4, &[0x0f]),
-        (b"137 18446744073709551615 empty", 137, u64::MAX, &[]),
-        (b"138 00000000000000000001 9a", 138, 1, &[0x9a]),
-        (b"138 0 empty", 138, 0, &[]),
-        (b"139 10 1112", 139, 10, &[0x11, 0x12]),
-        (b"137 999 090a", 137, 999, &[0x09, 0x0a]),
-    ];
-    for (line, port, moment, payload) in packets {
+    for (line, port, moment, payload) in PACKETS {
         match capture_line(rt.alloc(), line)? {
             Some(
                 Line::Packet {
@@ -90,9 +92,8 @@ fn empty_lines_and_comments_say_nothing(rt: HostRuntime) -> Result<(), Fail> {
 }
 
 #[test]
-fn other_lines_are_malformed(rt: HostRuntime) {
-    let malformed: [&[u8]; 54] = [
-        // the payload
+fn other_payloads_are_malformed(rt: HostRuntime) {
+    let lines: [&[u8]; 18] = [
         b"138 0 1g",
         b"138 0 g1",
         b"138 0 0",
@@ -111,7 +112,15 @@ fn other_lines_are_malformed(rt: HostRuntime) {
         b"138 0 0\xff",
         b"138 0 0\x00",
         b"138 0 00 00",
-        // the spaces
+    ];
+    for line in lines {
+        assert_eq!(rt; capture_line(rt.alloc(), line), Err(LineFault::BadLine));
+    }
+}
+
+#[test]
+fn other_spaces_are_malformed(rt: HostRuntime) {
+    let lines: [&[u8]; 14] = [
         b"138  0 00",
         b"138 0  00",
         b"138 0 00 ",
@@ -126,7 +135,15 @@ fn other_lines_are_malformed(rt: HostRuntime) {
         b" ",
         b"   ",
         b" # comment",
-        // the moment
+    ];
+    for line in lines {
+        assert_eq!(rt; capture_line(rt.alloc(), line), Err(LineFault::BadLine));
+    }
+}
+
+#[test]
+fn other_moments_are_malformed(rt: HostRuntime) {
+    let lines: [&[u8]; 16] = [
         b"138 +1 00",
         b"138 -1 00",
         b"138 1a 00",
@@ -143,7 +160,15 @@ fn other_lines_are_malformed(rt: HostRuntime) {
         b"tick 5 ",
         b"tick 5 00",
         b"Tick 5",
-        // the port, and ends of lines
+    ];
+    for line in lines {
+        assert_eq!(rt; capture_line(rt.alloc(), line), Err(LineFault::BadLine));
+    }
+}
+
+#[test]
+fn other_ports_and_ends_are_malformed(rt: HostRuntime) {
+    let lines: [&[u8]; 6] = [
         b"140 0 00",
         b"136 0 00",
         b"0138 0 00",
@@ -151,7 +176,7 @@ fn other_lines_are_malformed(rt: HostRuntime) {
         b"\r",
         b"# two\n# lines",
     ];
-    for line in malformed {
+    for line in lines {
         assert_eq!(rt; capture_line(rt.alloc(), line), Err(LineFault::BadLine));
     }
 }

@@ -1,67 +1,11 @@
 //! What members do with payloads and with the clock.
 
-use crate::{LocalNames, Member, MemberFault, Outcome, Settings};
+use super::packets::{K, SETTINGS, WHOLE, changed, fred, joe, member, piece};
+use crate::{MemberFault, Outcome};
 use nb_datagram::{DatagramFault, ErrorPacket, Key};
-use nb_names::{Name, NameFault, Scope};
+use nb_names::NameFault;
 use nb_table::TableFault;
-use std::alloc::Global;
-use std::process::Abort;
 use std::test::Fail;
-
-const SETTINGS: Settings = Settings {
-    ip: [10, 0, 0, 9],
-    port: 138,
-    keys: 16,
-    longest: 65_535,
-};
-
-/// The key of the first packets.
-const K: Key = Key {
-    ip: [10, 0, 0, 5],
-    port: 138,
-    id: 1,
-};
-
-/// `11 02 0001 0a000005 008a 0044 0000`, then the names JOE<00> and FRED<20>, without data: to a group.
-const WHOLE: &[u8] =
-    b"\x11\x02\x00\x01\x0a\x00\x00\x05\x00\x8a\x00\x44\x00\x00\x20EKEPEFCACACACACACACACACACACACAAA\x00\x20EGFCEFEECACACACACACACACACACACACA\x00";
-
-/// The name JOE<00>.
-fn joe() -> Name {
-    Name::new(*b"JOE            \x00", Scope::empty())
-}
-
-/// The name FRED<20>.
-fn fred() -> Name {
-    Name::new(*b"FRED            ", Scope::empty())
-}
-
-/// A member that holds this name.
-fn member(rt: &impl Abort, alloc: Global, settings: Settings, name: Name) -> Member {
-    let mut names = LocalNames::new(alloc);
-    names.add(name).expect(rt, "ample memory");
-    Member::new(alloc, settings, names)
-}
-
-/// The packet with another byte at a place.
-fn changed(rt: &impl Abort, alloc: Global, place: usize, byte: u8) -> Vec<u8> {
-    let mut packet = Vec::from_slice(alloc, WHOLE).expect(rt, "ample memory");
-    if place < packet.len() {
-        packet[place] = byte;
-    }
-    packet
-}
-
-/// A piece of the datagram with these flags, offset and two bytes of data.
-fn piece(rt: &impl Abort, alloc: Global, flags: u8, offset: u8, bytes: [u8; 2]) -> Vec<u8> {
-    let mut packet = changed(rt, alloc, 1, flags);
-    if packet.len() == WHOLE.len() {
-        packet[11] = 0x46;
-        packet[13] = offset;
-    }
-    packet.extend_from_slice(&bytes).expect(rt, "ample memory");
-    packet
-}
 
 /// The key that this kept, if it did.
 fn kept(outcome: Result<Outcome, MemberFault>) -> Option<Key> {
@@ -208,10 +152,9 @@ fn pieces_are_delivered_in_any_order(rt: HostRuntime) -> Result<(), Fail> {
     let alloc = rt.alloc();
     let mut a = member(&rt, alloc, SETTINGS, fred());
     let mut b = member(&rt, alloc, SETTINGS, fred());
-    // The datagram `000102030405` in pieces of two bytes.
-    let first = piece(&rt, alloc, 0x03, 0, [0, 1]);
-    let second = piece(&rt, alloc, 0x01, 2, [2, 3]);
-    let third = piece(&rt, alloc, 0x00, 4, [4, 5]);
+    let first = piece(&rt, alloc, 0x03, 0, &[0, 1, 2, 3]);
+    let second = piece(&rt, alloc, 0x01, 4, &[4, 5, 6, 7]);
+    let third = piece(&rt, alloc, 0x00, 8, &[8, 9]);
     for packet in [&third, &first, &third] {
         assert_eq!(rt; kept(a.take(0, packet)), Some(K));
     }
@@ -224,11 +167,46 @@ fn pieces_are_delivered_in_any_order(rt: HostRuntime) -> Result<(), Fail> {
             assert!(rt; false);
             continue;
         };
-        assert_eq!(rt; datagram.bytes(), [0, 1, 2, 3, 4, 5].as_slice());
+        assert_eq!(rt; datagram.bytes(), [0, 1, 2, 3, 4, 5, 6, 7, 8, 9].as_slice());
     }
     assert!(rt; a.table().same(b.table()));
-    let liar = piece(&rt, alloc, 0x01, 2, [2, 4]);
-    assert_eq!(rt; spoilt(a.take(0, &liar)), Some(K));
-    assert_eq!(rt; kept(a.take(0, &second)), Some(K));
+    Ok(())
+}
+
+#[test]
+fn pieces_of_two_cuts_make_one_datagram(rt: HostRuntime) -> Result<(), Fail> {
+    let alloc = rt.alloc();
+    let mut member = member(&rt, alloc, SETTINGS, fred());
+    let of_four = piece(&rt, alloc, 0x03, 0, &[0, 1, 2, 3]);
+    let second = piece(&rt, alloc, 0x01, 3, &[3, 4, 5]);
+    let third = piece(&rt, alloc, 0x01, 6, &[6, 7, 8]);
+    let last = piece(&rt, alloc, 0x00, 9, &[9]);
+    for packet in [&of_four, &second, &third] {
+        assert_eq!(rt; kept(member.take(0, packet)), Some(K));
+    }
+    let Ok(Outcome::Delivered(datagram)) = member.take(0, &last) else {
+        assert!(rt; false);
+        return Ok(());
+    };
+    assert_eq!(rt; datagram.bytes(), [0, 1, 2, 3, 4, 5, 6, 7, 8, 9].as_slice());
+    Ok(())
+}
+
+#[test]
+fn fragments_that_disagree_spoil_their_key_in_any_order(rt: HostRuntime) -> Result<(), Fail> {
+    let alloc = rt.alloc();
+    let mut a = member(&rt, alloc, SETTINGS, fred());
+    let mut b = member(&rt, alloc, SETTINGS, fred());
+    let first = piece(&rt, alloc, 0x03, 0, &[0, 1, 2, 3, 4, 5]);
+    let last = piece(&rt, alloc, 0x00, 4, &[4, 5, 6, 7, 8, 9]);
+    let liar = piece(&rt, alloc, 0x01, 4, &[0xff]);
+    assert_eq!(rt; kept(a.take(0, &first)), Some(K));
+    assert!(rt; is_delivered(&a.take(1, &last)));
+    assert_eq!(rt; spoilt(a.take(2, &liar)), Some(K));
+    assert_eq!(rt; kept(a.take(3, &last)), Some(K));
+    assert_eq!(rt; kept(b.take(0, &first)), Some(K));
+    assert_eq!(rt; spoilt(b.take(1, &liar)), Some(K));
+    assert_eq!(rt; kept(b.take(2, &last)), Some(K));
+    assert!(rt; a.table().same(b.table()));
     Ok(())
 }

@@ -120,10 +120,11 @@ fn errors_are_about_direct_unique_datagrams(rt: HostRuntime) {
     assert_eq!(rt; SETTINGS.error_about(Kind::Broadcast, 7, 0x84), None);
 }
 
-/// `10 02 1234 0a000005 008a 0044 0000`, then the names JOE<00> and FRED<20>: a direct unique datagram
-/// without data.
-const UNIQUE: &[u8] =
-    b"\x10\x02\x12\x34\x0a\x00\x00\x05\x00\x8a\x00\x44\x00\x00\x20EKEPEFCACACACACACACACACACACACAAA\x00\x20EGFCEFEECACACACACACACACACACACACA\x00";
+/// A direct unique datagram without data, of identifier 1234 (hexadecimal), from `JOE<00>` to
+/// `FRED<20>`.
+const UNIQUE: &[u8] = b"\x10\x02\x12\x34\x0a\x00\x00\x05\x00\x8a\x00\x44\x00\x00\
+    \x20EKEPEFCACACACACACACACACACACACAAA\x00\
+    \x20EGFCEFEECACACACACACACACACACACACA\x00";
 
 #[test]
 fn bad_names_of_direct_unique_datagrams_are_answered(rt: HostRuntime) -> Result<(), Fail> {

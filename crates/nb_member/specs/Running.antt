@@ -1,0 +1,65 @@
+-- What a run of events makes of a member, and what it reports (own).
+use Rattle.std.specs.Prelude.{◌≡◌, ℕ, ◌+◌, ◌<◌, ◌≤◌, true, List, [], ◌∷◌, ◌++◌, length, take, drop, Option, Some, None}
+use Rattle.nb_datagram.specs.declared.key.Key.{Key}
+use Rattle.nb_datagram.specs.Fragment.{FragmentParts}
+use Rattle.nb_member.specs.declared.event.Event.{Event}
+use Rattle.nb_member.specs.declared.run_report.RunReport.{RunReport}
+use Rattle.nb_member.specs.declared.run_report.RunStop.{RunStop}
+use Rattle.nb_member.specs.declared.run_report.RunStop.TheVariants.{Full, NoMemory}
+use Rattle.nb_member.specs.declared.settings.Settings.{Settings}
+use Rattle.nb_member.specs.Handed.{deliveries, errors}
+use Rattle.nb_member.specs.Live.{Saying, came, refused, another, clock, Timed, is_full, live_from, live}
+use Rattle.nb_member.specs.Member.{MemberValue, StandsOver}
+use Rattle.nb_member.specs.Saying.{Says, Say}
+
+-- Stands m H: the member m stands for the events H: its table, and the moments of its keys, are those of
+-- the fragments that are live after H
+pub record Stands (m : MemberValue) (H : List Event) : Type 0 where
+  pub sayings : List Saying
+  pub said : Say m.settings H sayings
+  pub over : StandsOver m (live m.settings sayings)
+
+-- refused_count S: how many of the events that say S are refused
+abbrev pub refused_count : List Saying → ℕ
+refused_count [] = 0
+refused_count (came moment f ∷ S) = refused_count S
+refused_count (refused error ∷ S) = 1 + refused_count S
+refused_count (another ∷ S) = refused_count S
+refused_count (clock now ∷ S) = refused_count S
+
+-- MeetsLimit settings L rest k: the next of the events says a fragment of key k, and that is full, where L
+-- are live
+pub record MeetsLimit (settings : Settings) (L : List Timed) (rest : List Event) (k : Key) : Type 0 where
+  pub event : Event
+  pub later : List Event
+  pub next : rest ≡ event ∷ later
+  pub moment : ℕ
+  pub f : FragmentParts
+  pub says : Says settings event (came moment f)
+  pub key : f.key ≡ k
+  pub full : is_full settings L k ≡ true
+
+-- StopsBefore settings L rest stop: these events are left, where L are live: there are none exactly where
+-- the run didn't stop
+abbrev pub StopsBefore : Settings → List Timed → List Event → Option RunStop → Type 0
+StopsBefore settings L rest None = rest ≡ []
+StopsBefore settings L rest (Some (Full k)) = MeetsLimit settings L rest k
+StopsBefore settings L rest (Some NoMemory) = 0 < length rest
+
+-- Reports m L events report: what a run of these events in the member m reports, where L are live before
+pub record Reports (m : MemberValue) (L : List Timed) (events : List Event) (report : RunReport) : Type 0 where
+  pub sayings : List Saying
+  pub said : Say m.settings (take report.taken events) sayings
+  pub deliveries_are : report.deliveries ≡ deliveries m.settings m.names L sayings
+  pub errors_are : report.errors ≡ errors m.settings m.names L sayings
+  pub refused_are : report.refused ≡ refused_count sayings
+  pub stops : StopsBefore m.settings (live_from m.settings L sayings) (drop report.taken events) report.stop
+
+-- Runs m events new report: what a run of these events makes of the member m, and what it reports: for all
+-- events H for which m stands, it stands for H and the events that were taken
+pub record Runs (m : MemberValue) (events : List Event) (new : MemberValue) (report : RunReport) : Type 0 where
+  pub settings_stay : new.settings ≡ m.settings
+  pub names_stay : new.names ≡ m.names
+  pub within : report.taken ≤ length events
+  pub stands : (H : List Event) → Stands m H → Stands new (H ++ take report.taken events)
+  pub reports : (H : List Event) (s : Stands m H) → Reports m (live m.settings s.sayings) events report

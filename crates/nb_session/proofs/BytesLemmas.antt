@@ -1,4 +1,4 @@
--- Bytes that stand in a packet, one behind the other, and names without pointers.
+-- Bytes that stand in a packet, one after the other, and names without pointers.
 use Rattle.std.proofs.Common.{◌≡◌, ℕ, ◌+◌, ◌-◌, ◌≤◌, List, ◌∷◌, ◌++◌, length, take, drop, refl, ap, sym, subst, ◌∙◌, arith, length-append, length-drop}
 use Rattle.std.proofs.lemmas.List.{take-append-drop, take_all, take-take, drop-drop, drop-take}
 use Rattle.std.proofs.Math.Seq.{take-append-add}
@@ -17,7 +17,7 @@ stands_to_end packet at bytes h fits =
 pub stands_whole : (packet bytes : List ℕ) → StandsAt packet 0 bytes → length packet ≡ length bytes → packet ≡ bytes
 stands_whole packet bytes h same = stands_to_end packet 0 bytes h (omega arith)
 
--- two that stand one behind the other stand there together
+-- two that stand one after the other stand there together
 pub stands_joined : (packet : List ℕ) (at : ℕ) (xs ys : List ℕ) → StandsAt packet at xs → StandsAt packet (at + length xs) ys → StandsAt packet at (xs ++ ys)
 stands_joined packet at xs ys h g =
     let whole : drop at packet ≡ xs ++ drop (at + length xs) packet =

@@ -89,7 +89,7 @@ packet_headed v bytes p =
       body = is;
     }
 
--- bytes with a good header, and behind it the body of a packet of that kind, are that packet
+-- bytes with a good header, and after it the body of a packet of that kind, are that packet
 pub packet_made : (bytes : List ℕ) (h : Header) (v : Packet) → HasHeader bytes h → IsGood h (kind_of v) → length bytes ≡ packet_length h → IsFormed v →
     StandsAt bytes 4 (body_of v) → length (body_of v) ≡ body_length h → IsPacket v bytes
 packet_made bytes h v has good long formed there same =
@@ -102,7 +102,7 @@ packet_made bytes h v has good long formed there same =
           (omega (arith, long, same, length-append (header_bytes (kind_of v) (length (body_of v))) (body_of v)));
     }
 
--- two names that are read behind a request's header, up to the packet's end, make the request
+-- two names that are read after a request's header, up to the packet's end, make the request
 pub request_made : (bytes : List ℕ) (h : Header) (called calling : NetbiosName) (behind end : ℕ) → HasHeader bytes h → IsGood h request → length bytes ≡ packet_length h →
     IsName called → IsName calling → NameAt bytes Refused 4 (labels_of_name called) behind → NameAt bytes Refused behind (labels_of_name calling) end →
     length bytes ≡ end → IsPacket (Request called calling) bytes

@@ -28,7 +28,7 @@ short_header old new buf count four part =
     let same : length (take count buf) ≡ count = length-take-le count buf (omega (arith, part.0)) in
     record { bytes = take count buf; consumes = part.1; long = same; lacks = short_lacks (take count buf) (omega (arith, same, four, part.0)) }
 
--- bytes behind a header leave it the header
+-- bytes after a header leave it the header
 header_before : (head rest : List ℕ) (h : Header) → length head ≡ 4 → HasHeader head h → HasHeader (head ++ rest) h
 header_before head rest h four has = header_in_all (head ++ rest) 4 h (omega arith) (subst (λ (b : List ℕ). HasHeader b h) (sym (take_at head rest 4 four)) has)
 

@@ -103,7 +103,7 @@ same_of_kind laws v w k bytes (a_retarget a m) (a_retarget b n) p q e =
     cc
 same_of_kind laws v w k bytes a_keepalive a_keepalive p q e = refl
 
--- the kind and the body of a packet are told by its bytes
+-- the kind and the body of a packet are fixed by its bytes
 same_kind : (v w : Packet) (bytes : List ℕ) → IsPacket v bytes → IsPacket w bytes → kind_of v ≡ kind_of w
 same_kind v w bytes p q =
     let x = packet_headed v bytes p in

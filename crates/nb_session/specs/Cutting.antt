@@ -11,7 +11,7 @@ use Rattle.nb_session.specs.Parsing.{Parses}
 use Rattle.nb_session.specs.Stream.{Feeds, Takes}
 use Rattle.nb_session.specs.StreamValue.{StreamValue, running}
 
--- ArePackets packets bytes: these bytes are these packets, one behind the other
+-- ArePackets packets bytes: these bytes are these packets, one after the other
 pub data ArePackets : List Packet → List ℕ → Type 0 where
   no_packet : ArePackets [] []
   one_more : (packet : Packet) (packets : List Packet) (bytes rest : List ℕ) → IsPacket packet bytes

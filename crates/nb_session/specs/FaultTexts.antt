@@ -1,11 +1,11 @@
--- The texts of faults (own). Each fault's number is written in decimal.
+-- The texts of faults (our choice). Each fault's number is written in decimal.
 use Rattle.std.specs.Prelude.{ℕ, List, ◌++◌, codes}
 use Rattle.std.specs.Fmt.{decimal}
 use Rattle.nb_names.specs.FaultTexts.{name_fault_text}
 use Rattle.nb_session.specs.declared.fault.SessionFault.{SessionFault}
 use Rattle.nb_session.specs.declared.fault.SessionFault.TheVariants.{UnknownType, ReservedFlags, BadLength, Name, TrailingBytes}
 
--- what is told of bytes that are no session packet
+-- what is said of bytes that are no session packet
 abbrev pub session_fault_text : SessionFault → List ℕ
 session_fault_text UnknownType = codes "unknown type"
 session_fault_text ReservedFlags = codes "reserved flags"

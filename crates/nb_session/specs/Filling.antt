@@ -1,4 +1,4 @@
--- What filling a buffer took from a reader, and what its calls told.
+-- What filling a buffer took from a reader, and how its calls of the reader are counted.
 use Rattle.std.specs.Prelude.{◌≡◌, ℕ, ◌+◌, ◌≤◌, ◌<◌, List, length, take, Option}
 use Rattle.std.specs.Io.KnownBytes.{Consumes, IsAtEnd}
 use Rattle.nb_names.specs.Counted.{Counts}

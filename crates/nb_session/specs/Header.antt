@@ -38,7 +38,7 @@ pub record HasHeader (bytes : List ℕ) (header : Header) : Type 0 where
   pub first : StandsAt bytes 0 (header.packet_type ∷ header.flags ∷ [])
   pub length : NumberAt bytes 2 w16 header.length
 
--- the length of the body behind a header: the lowest bit of FLAGS adds 65,536, whatever the TYPE
+-- the length of the body after a header: the lowest bit of FLAGS adds 65,536, whatever the TYPE
 abbrev pub body_length : Header → ℕ
 body_length header = header.flags % 2 * 65536 + header.length
 
@@ -46,8 +46,8 @@ body_length header = header.flags % 2 * 65536 + header.length
 abbrev pub packet_length : Header → ℕ
 packet_length header = HEADER_LENGTH + body_length header
 
--- a header of this kind: its TYPE is the kind's, no bit of FLAGS above the lowest is set (own), and the
--- length is one that the kind may have
+-- a header of this kind: its TYPE is the kind's, no bit of FLAGS above the lowest is set (our choice), and
+-- the length is one that the kind may have
 pub record IsGood (header : Header) (kind : Kind) : Type 0 where
   pub type : type_of kind ≡ header.packet_type
   pub flags : header.flags ≤ 1

@@ -1,4 +1,4 @@
--- What reading one packet from a reader takes from it, and what the reader's calls told.
+-- What reading one packet from a reader takes from it, and how its calls of the reader are counted.
 use Rattle.std.specs.Prelude.{◌≡◌, ℕ, ◌+◌, ◌≤◌, ◌<◌, List, [], length, take, Option, Some, None, Result, Ok, Err}
 use Rattle.std.specs.Io.KnownBytes.{IsAtEnd}
 use Rattle.nb_names.specs.Counted.{Counts}
@@ -23,8 +23,8 @@ IsEarliest bytes = (count : ℕ) → count < length bytes → Lacks (take count 
 
 -- Reads bytes left answer: these are the bytes taken for this answer, with those left: a packet; none, at
 -- the reader's end; bytes that have a fault, and had none before the last came; bytes that lack some, at
--- the reader's end, or where it failed or was interrupted too often; or a header that memory ran out
--- behind
+-- the reader's end, or where it failed or was interrupted too often; or a header after
+-- which memory ran out
 abbrev pub Reads : List ℕ → Option (List ℕ) → Result (Option Packet) ReadFault → Type 0
 Reads bytes left (Ok (Some packet)) = IsPacket packet bytes
 Reads bytes left (Ok None) = (bytes ≡ []) × IsAtEnd left

@@ -30,7 +30,7 @@ pub data HeaderFails (header : Header) : SessionFault → Type 0 where
       → ¬ MayHave kind (body_length header) → HeaderFails header BadLength
 
 -- RequestFails packet fault: the bytes of this packet, whose header is a request's, have no two names
--- behind it, or more than them, and this is the first fault
+-- after it, or more than them, and this is the first fault
 pub data RequestFails (packet : List ℕ) : SessionFault → Type 0 where
   called_fails : (fault : NameFault) → NetbiosFaultAt packet refused HEADER_LENGTH fault
       → RequestFails packet (Name fault)
@@ -43,7 +43,7 @@ pub data RequestFails (packet : List ℕ) : SessionFault → Type 0 where
       → end < length packet → RequestFails packet (TrailingBytes end)
 
 -- Parses bytes parsed: this stands at the front of the bytes: a whole packet, which takes up so many of
--- them; the front of a packet, which lacks so many of the header or, behind it, of the body; or neither,
+-- them; the front of a packet, which lacks so many of the header or, after it, of the body; or neither,
 -- for this fault
 pub data Parses (bytes : List ℕ) : Parsed → Type 0 where
   header_lacks : length bytes < HEADER_LENGTH → Parses bytes (More (HEADER_LENGTH - length bytes))

@@ -1,4 +1,4 @@
--- A stream of session packets: what its calls do, and what was fed and handed out by any row of them.
+-- A stream of session packets that comes in pieces: what each of its calls does.
 use Rattle.std.specs.Prelude.{◌≡◌, ◌⊎◌, ℕ, List, ◌++◌, Result, Ok, Err}
 use Rattle.nb_session.specs.declared.parsing.Parsed.TheVariants.{More as more_parsed, Refused}
 use Rattle.nb_session.specs.declared.stream.FeedFault.{FeedFault}
@@ -10,14 +10,14 @@ use Rattle.nb_session.specs.Parsing.{Parses}
 use Rattle.nb_session.specs.StreamValue.{StreamValue, running, stopped}
 
 -- Feeds old piece new answer: feeding the piece gives the answer, and leaves the new stream: the piece
--- comes behind what is held; or nothing changes, because the stream has failed, or for want of memory
+-- comes after what is held; or nothing changes, because the stream has failed, or for want of memory
 abbrev pub Feeds : StreamValue → List ℕ → StreamValue → Result Unit FeedFault → Type 0
 Feeds old piece new (Ok _) = (old ≡ running old.held) × (new ≡ running (old.held ++ piece))
 Feeds old piece new (Err (failed_feed fault)) = (old ≡ stopped old.held fault) × (new ≡ old)
 Feeds old piece new (Err NoMemory) = (old ≡ running old.held) × (new ≡ old)
 
 -- Takes old next new: this comes next, and leaves the new stream: what is held is parsed, and a whole
--- packet is taken off its front; a fault is told ever after
+-- packet is taken off its front; a fault is answered ever after
 abbrev pub Takes : StreamValue → Next → StreamValue → Type 0
 Takes old (Packet taken) new =
     (old ≡ running old.held) × IsWhole taken.bytes.now × (old.held ≡ taken.bytes.now ++ new.held) × (new ≡ running new.held)

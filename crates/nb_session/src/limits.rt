@@ -15,5 +15,5 @@ pub const MIN_REQUEST: usize = 68;
 /// The longest body of a request, in bytes: two names of 255 bytes.
 pub const MAX_REQUEST: usize = 510;
 
-/// The interrupts of one reading of a packet with which it is given up (own).
+/// The interrupts of one reading of a packet with which it is given up (our choice).
 pub const MAX_INTERRUPTS: u32 = 1_024;

@@ -34,10 +34,10 @@ pub enum ReadFault {
     /// A read failed otherwise than by an interrupt.
     #[error("read")]
     Device,
-    /// A read was interrupted, the 1,024th one of this call (own).
+    /// A read was interrupted, the 1,024th one of this call (our choice).
     #[error("interrupted too often")]
     TooManyInterrupts,
-    /// Memory ran out behind the header.
+    /// Memory ran out after the header.
     #[error("memory")]
     NoMemory,
 }
@@ -54,7 +54,7 @@ fn read_whole<'a>(kind: Kind, header: Header, bytes: &'a [u8]) -> Result<Packet<
     read_packet_of(kind, header, bytes)
 }
 
-/// Reads one packet, and no byte behind it, or answers `None` at the end before its first byte.
+/// Reads one packet, and no byte after it, or answers `None` at the end before its first byte.
 ///
 /// The header is read and judged, then room is made for the whole packet, then its body is read.
 /// A read that is interrupted is made again. A message is lent from the room.
@@ -73,7 +73,7 @@ pub fn read_packet<'a, R: Read>(
         Consumes (R.remaining reader.old.inner) (R.remaining reader.new.inner) bytes ×
         Reads bytes (R.remaining reader.new.inner) result }
 
-    // What the calls told that it made of the reader.
+    // How many calls of the reader it made, and how many of them were answered in which way.
     ensures tells { Tells (between reader.old.counts reader.new.counts) result }
 {
     let mut header = [0; HEADER_LENGTH];

@@ -94,7 +94,7 @@ fn parse_front<'a>(bytes: &'a [u8]) -> Parsed<'a>
 /// What stands at the front of bytes: a packet, the front of one, or neither.
 ///
 /// A fault of the header is answered as soon as its four bytes are there, one of the body once it
-/// is there whole. Names are read from the packet alone, with pointers refused. Bytes behind a
+/// is there whole. Names are read from the packet alone, with pointers refused. Bytes after a
 /// whole packet are left unread. No memory is taken: a message is lent from the bytes.
 ///
 /// RFC 1002 section 4.3.

@@ -6,8 +6,8 @@ use crate::limits::HEADER_LENGTH;
 use std::alloc::{AllocError, Global};
 use std::marker::Model;
 
-/// Room for the packets that [`read_packet`](crate::read_packet) reads, one at a time: at most
-/// 131,075 bytes, which are kept and used again.
+/// Room for the packets that [`read_packet`](crate::read_packet) reads, one at a time. It holds at
+/// most 131,075 bytes, those of one packet, and its memory is used again for the next.
 #[derive(Debug, Drop)]
 pub struct Room {
     pub(crate) bytes: Vec<u8>,
@@ -34,7 +34,7 @@ impl Room {
         }
     }
 
-    /// The bytes that are kept.
+    /// The bytes that are held, of the packet that was read last or of a part of it.
     pub fn as_slice(&self) -> &[u8]
         ensures value { result.now ≡ self.now }
         ensures within { length self.now ≤ MAX_PACKET }

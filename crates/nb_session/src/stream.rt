@@ -18,11 +18,11 @@ use thiserror::Error;
 /// It holds the bytes that were fed and not handed out, and once it has failed answers its fault
 /// ever after: where one packet isn't one, no later one can be found.
 ///
-/// The cost of a stream grows with its bytes. A packet that is handed out stays where it is, and
-/// only the place moves at which the bytes held begin. They are moved to the front when a piece is
-/// fed and at least as many bytes were handed out before them as are held: each byte handed out
-/// pays for one that is moved. A message isn't looked at, but for its header, and a request once,
-/// when it is whole.
+/// The cost of a stream grows with its bytes and its calls. A packet that is handed out stays where
+/// it is, and only the place moves at which the bytes held begin. They are moved to the front when
+/// a piece is fed and at least as many bytes were handed out before them as are held, so no more
+/// bytes are moved than were handed out. Of a message the header alone is looked at; the names of a
+/// request are read once, when it is whole.
 #[derive(Debug, Drop)]
 pub struct Stream {
     /// The bytes handed out since they were last dropped, then those held.

@@ -165,7 +165,8 @@ impl<'a> Record<'a> {
     pub fn node_status(&self) -> Option<NodeStatus<'a>>
         ensures { MatchOption result ((count : ℕ) (rest : List ℕ) → ¬ HasStatus self.now count rest)
             (λ status. HasStatus self.now (length status.names) (after_count status)
-            × (status.statistics ≡ drop (NODE_NAME_LENGTH * length status.names) (after_count status))) }
+            × (status.statistics
+            ≡ drop (NODE_NAME_LENGTH * length status.names) (after_count status))) }
     {
         let bytes = self.bytes_of_kind(NBSTAT)?;
         let (count, rest) = bytes.split_first()?;

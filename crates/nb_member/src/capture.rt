@@ -30,7 +30,7 @@ use std::str;
 /// whatever memory there is; [`LineFault::NoMemory`] only for a line whose payload has a byte or
 /// more.
 ///
-/// The form is our own.
+/// The form is our choice.
 pub fn capture_line(alloc: Global, line: &[u8]) -> Result<Option<Line>, LineFault>
     ensures { Reads line.now result }
 {
@@ -70,7 +70,7 @@ fn value_of(alloc: Global, line: &[u8]) -> Result<Line, LineFault>
     }
 }
 
-/// The port that a packet's line begins with, and what stands behind it and a space.
+/// The port that a packet's line begins with, and what stands after it and a space.
 fn after_port(line: &[u8]) -> Option<(u16, &[u8])>
     ensures { MatchOption result
         ((port : ℕ) (text words : List ℕ) → PortText port text → ¬ (line.now ≡ text ++ 32 ∷ words))
@@ -88,7 +88,7 @@ fn after_port(line: &[u8]) -> Option<(u16, &[u8])>
     None
 }
 
-/// The packet of a line with this port and, behind it, these words.
+/// The packet of a line with this port and, after it, these words.
 fn packet_of(alloc: Global, port: u16, words: &[u8]) -> Result<Line, LineFault>
     ensures { (text : List ℕ) → PortText port text →
         ReadsBy (Says (text ++ 32 ∷ words.now)) TakesMemory result }
@@ -107,7 +107,7 @@ fn packet_of(alloc: Global, port: u16, words: &[u8]) -> Result<Line, LineFault>
     })
 }
 
-/// What stands before the first space, and what behind it.
+/// What stands before the first space, and what after it.
 fn at_space(text: &[u8]) -> Option<(&[u8], &[u8])>
     ensures { MatchOption result (¬ Contains text.now 32)
         (λ parts. (text.now ≡ parts.0.now ++ 32 ∷ parts.1.now) × (¬ Contains parts.0.now 32)) }

@@ -11,8 +11,8 @@ impl Settings {
     /// The error packet of this code about a datagram of this kind and identifier, which is sent
     /// only about direct unique ones.
     ///
-    /// It has the member's own address and port. RFC 1002 sections 4.4.3 and 5.3; its flags, 02,
-    /// are our own choice.
+    /// RFC 1002 sections 4.4.3 and 5.3; its address and port, the member's, and its flags, 02, are
+    /// our choice.
     pub fn error_about(&self, kind: Kind, id: u16, code: u8) -> Option<ErrorPacket>
         ensures { result ≡ error_about self.now kind id code }
     {

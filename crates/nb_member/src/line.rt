@@ -2,7 +2,7 @@
 
 use nb_names::Bytes;
 
-/// What a line of a capture says (our own).
+/// What a line of a capture says (our choice).
 ///
 /// Moments are in milliseconds, from whatever beginning the capture has.
 #[derive(Debug, PartialEq, Eq, Drop)]

@@ -39,7 +39,7 @@ impl fmt::Display for AddFault {
 
 impl Error for AddFault {}
 
-/// The names that a station holds: at most [`MAX_NAMES`], which is our own limit.
+/// The names that a station holds: at most [`MAX_NAMES`], a limit of our choice.
 #[derive(Debug, Drop)]
 pub struct LocalNames {
     names: Vec<Name>,
@@ -107,7 +107,7 @@ impl LocalNames {
     ///
     /// A datagram to a unique or a group name is heard where the destination is held, and a
     /// broadcast where a name of the destination's scope is. RFC 1002 section 5.3; that the two
-    /// types of direct datagrams are heard alike is our own choice.
+    /// types of direct datagrams are heard alike is our choice.
     pub fn hears(&self, datagram: &Datagram) -> bool
         ensures value { result ≡ hears self.now datagram.now }
         ensures heard { IsTrue result ↔ Hears self.now datagram.now }

@@ -1,11 +1,8 @@
-//! The program, run over words and fake devices.
+//! The program, run over words and devices that a process of its own can't be given: devices that
+//! fail in mid-stream, interrupts, words of any length. `tests/cases` at the top has its texts.
 
-mod build;
-mod captures;
-mod command_line;
-mod devices;
+mod commands;
 mod fakes;
-mod names;
-mod show_datagram;
-mod show_service;
-mod show_session;
+mod inputs;
+mod long_words;
+mod outputs;

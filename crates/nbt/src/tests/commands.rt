@@ -1,0 +1,44 @@
+//! Each command once, with ample memory: bytes by the layouts of RFC 1002.
+
+use crate::tests::fakes::expect_run;
+use std::test::Fail;
+
+/// Names both ways, the pieces of a datagram, and a packet of each port.
+#[test]
+fn each_command_prints_what_it_is_asked_for(rt: HostRuntime) -> Result<(), Fail> {
+    let alloc = rt.alloc();
+    let fred = "20454746434546454543414341434143414341434143414341434143414341434100";
+    let joe = "20454b45504546434143414341434143414341434143414341434143414341414100";
+    let spelled = format!(in alloc; "{fred}\n")?;
+    let pieces = format!(in alloc;
+        "138 0 110300010a000005008a00470000{joe}{fred}616263\n\
+         138 0 110000010a000005008a00450003{joe}{fred}64\n"
+    )?;
+    let capture = format!(in alloc;
+        "137 0 000301000001000000000000{fred}00200001\n\
+         138 1 140200010a000005008a{fred}\n# a comment\n139 2 00000003616263\ntick 3"
+    )?;
+    let shown = "1 137 id=0003 word=0100 op=query flags=RD rcode=ok qd=1 an=0 ns=0 ar=0 used=50\n\
+                 \x20 question FRED<20> type=0020 class=0001\n\
+                 2 138 find flags=02 key=10.0.0.5:138/0001 destination=FRED<20> used=44\n\
+                 4 139 message length=3 data=616263 used=7\n5 tick 3\n";
+    let group = [
+        "build",
+        "group",
+        "10.0.0.5:138/0001",
+        "JOE<00>",
+        "FRED<20>",
+        "61626364",
+        "3",
+    ];
+    let rows: [(&[&str], &str, &str); 4] = [
+        (&["name", "FRED<20>"], "", spelled.as_str()),
+        (&["name", "--bytes", fred], "", "FRED<20>\n"),
+        (group.as_slice(), "", pieces.as_str()),
+        (&["show"], capture.as_str(), shown),
+    ];
+    for (texts, input, want) in rows {
+        expect_run(&rt, alloc, texts, &mut input.as_bytes(), (0, want, ""))?;
+    }
+    Ok(())
+}

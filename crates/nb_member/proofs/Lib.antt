@@ -10,3 +10,6 @@ pub mod SayingLemmas
 pub mod TimingLemmas
 pub mod ExpiringLemmas
 pub mod RunningLemmas
+pub mod WholeKeysLemmas
+pub mod HandingLemmas
+pub mod HandedOverLemmas

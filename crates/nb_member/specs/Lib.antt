@@ -10,3 +10,4 @@ pub mod Member
 pub mod Taking
 pub mod Running
 pub mod Agreement
+pub mod HandedOver

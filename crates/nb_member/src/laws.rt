@@ -11,6 +11,12 @@ ghost use Rattle.nb_member.specs.Saying.{Says, Say};
 ghost use Rattle.nb_member.specs.Live.{Saying, cores, live, table_from};
 ghost use Rattle.nb_member.specs.Agreement.{valid_cores, NoneDropped, NoneFull, GiveTheSame};
 
+mod delivering;
+
+pub use delivering::{
+    a_senders_datagram_is_handed_over, a_whole_key_is_handed_over_once, both_hand_over_the_same,
+    once_is_one_or_none,
+};
 use nb_datagram::laws::{one_datagram_fault, one_packet};
 use nb_table::laws::{
     same_cores_make_the_same_table, table_has_the_entry_of_its_list, table_of_two_lists_is_the_join,

@@ -64,7 +64,7 @@ pub fn table_of_a_list_is_well_formed()
     ensures { (L : List Core) → IsTable (table_of L) }
 {}
 
-/// The table of one list behind another is the join of both tables.
+/// The table of one list after another is the join of both tables.
 pub fn table_of_two_lists_is_the_join()
     ensures { (L M : List Core) → table_of (L ++ M) ≡ join (table_of L) (table_of M) }
 {}

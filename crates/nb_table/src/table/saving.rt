@@ -44,9 +44,9 @@ impl Table {
     ///
     /// They begin with "NBT1" and the number of keys, in four bytes. Then stands each key,
     /// ascending: the address, port and identifier; 00 where the key is spoilt, else 01, the kind,
-    /// both names as they are spelled, the end (00, or 01 and two bytes), the number of runs, in two
-    /// bytes, and each of the maximal runs of known bytes, ascending: its start and length, in two
-    /// bytes each, and its bytes. Numbers stand with their high byte first (our choice).
+    /// both names as they are spelled, the end (00, or 01 and two bytes), the number of runs, in
+    /// two bytes, and each of the maximal runs of known bytes, ascending: its start and length, in
+    /// two bytes each, and its bytes. Numbers stand with their high byte first (our choice).
     ///
     /// # Errors
     ///

@@ -155,7 +155,7 @@ running_is now es s =
 
 -- ---- both
 
-get-lasting : {X : Type 0} (t : maps.FinMap key_cmp X) (m : Moments) (now : ℕ) (k : Key)
+pub get-lasting : {X : Type 0} (t : maps.FinMap key_cmp X) (m : Moments) (now : ℕ) (k : Key)
     → maps.get (maps.retain_keys t (lasts m now)) k ≡ cond (lasts m now k) (maps.get t k) None
 get-lasting t m now k = maps.get-retain_keys t (lasts m now) k (λ x e. ap (lasts m now) (sym (key_cmp_exact k x e)))
 

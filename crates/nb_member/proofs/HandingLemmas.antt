@@ -92,7 +92,7 @@ one_of_key known settings L (came moment f) k kept =
     has_its_key known f.key (maps.get after f.key) d (newly_is (datagram_at (table_from L) f.key) (datagram_at after f.key) d h))
     ∙ by_key (table_from L) after k f.key (same_key k f.key) refl
     (others_stay known L (record { moment = moment; fragment = f }) k (is_full settings L f.key))
-one_of_key known settings L (refused error) k kept = nothing_new (table_from L) k
+one_of_key known settings L (refused fault) k kept = nothing_new (table_from L) k
 one_of_key known settings L another k kept = nothing_new (table_from L) k
 one_of_key known settings L (clock now) k kept =
     nothing_new (table_from L) k

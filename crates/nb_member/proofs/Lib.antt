@@ -10,6 +10,9 @@ pub mod SayingLemmas
 pub mod TimingLemmas
 pub mod ExpiringLemmas
 pub mod RunningLemmas
+pub mod StandingLemmas
+pub mod StepLemmas
+pub mod AnsweringLemmas
 pub mod WholeKeysLemmas
 pub mod HandingLemmas
 pub mod HandedOverLemmas

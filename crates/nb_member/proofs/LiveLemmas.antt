@@ -55,7 +55,7 @@ live_is_valid settings L (came moment f ∷ S) kept room =
     live_is_valid settings (live_after settings L (came moment f)) S kept.1 room.1
     ∙ (ap (λ (fs : List Core). fs ++ valid_cores S) (came_cores settings L moment f room.0)
     ∙ append_assoc (cores L) (core_of f ∷ []) (valid_cores S))
-live_is_valid settings L (refused error ∷ S) kept room = live_is_valid settings L S kept.1 room.1
+live_is_valid settings L (refused fault ∷ S) kept room = live_is_valid settings L S kept.1 room.1
 live_is_valid settings L (another ∷ S) kept room = live_is_valid settings L S kept.1 room.1
 live_is_valid settings L (clock now ∷ S) kept room =
     live_is_valid settings (live_after settings L (clock now)) S kept.1 room.1
@@ -134,7 +134,7 @@ capacity_gives_room known settings L (came moment f ∷ S) kept within =
     ap (λ (fs : List Core). fs ++ valid_cores S) (came_cores settings L moment f room)
     ∙ append_assoc (cores L) (core_of f ∷ []) (valid_cores S) in
     (room, capacity_gives_room known settings (live_after settings L (came moment f)) S kept.1 (rw next within))
-capacity_gives_room known settings L (refused error ∷ S) kept within =
+capacity_gives_room known settings L (refused fault ∷ S) kept within =
     (tt, capacity_gives_room known settings L S kept.1 within)
 capacity_gives_room known settings L (another ∷ S) kept within =
     (tt, capacity_gives_room known settings L S kept.1 within)

@@ -59,7 +59,7 @@ errors-append settings names L (s ∷ S) T =
 pub refused_count-append : (S T : List Saying) → refused_count (S ++ T) ≡ refused_count S + refused_count T
 refused_count-append [] T = omega arith
 refused_count-append (came moment f ∷ S) T = refused_count-append S T
-refused_count-append (refused error ∷ S) T =
+refused_count-append (refused fault ∷ S) T =
     let rest = refused_count-append S T in omega (arith, rest)
 refused_count-append (another ∷ S) T = refused_count-append S T
 refused_count-append (clock now ∷ S) T = refused_count-append S T

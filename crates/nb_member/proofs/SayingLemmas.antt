@@ -1,18 +1,22 @@
 -- Each event says one thing.
-use Rattle.std.proofs.Common.{◌≡◌, ℕ, List, [], ◌∷◌, refl, sym, ap, ◌∙◌, None}
+use Rattle.std.proofs.Common.{◌≡◌, ◌==◌, ◌<◌, ℕ, List, [], ◌∷◌, refl, sym, ap, ◌∙◌, arith}
 use Rattle.nb_datagram.specs.declared.fault.DatagramFault.{DatagramFault}
 use Rattle.nb_datagram.specs.declared.packet.ErrorPacket.{ErrorPacket}
 use Rattle.nb_datagram.specs.declared.packet.QueryPacket.{QueryPacket}
 use Rattle.nb_datagram.specs.declared.packet.Packet.{Packet as AnyPacket}
 use Rattle.nb_datagram.specs.declared.packet.Packet.TheVariants.{Direct, Error, Query}
-use Rattle.nb_datagram.specs.Fragment.{FragmentParts}
+use Rattle.nb_datagram.specs.Fragment.{FragmentParts, core_of, reach, is_first}
 use Rattle.nb_datagram.specs.Packet.{IsPacket}
 use Rattle.nb_datagram.specs.DatagramFaults.{PacketFails}
+use Rattle.nb_table.specs.declared.fault.TableFault.{TableFault}
+use Rattle.nb_table.specs.declared.fault.TableFault.TheVariants.{MisplacedFirst, TooLong, Full, NoMemory}
+use Rattle.nb_table.specs.Insert.{IsMisplaced}
 use Rattle.nb_member.specs.declared.event.Event.{Event}
 use Rattle.nb_member.specs.declared.event.Event.TheVariants.{Packet, Tick}
+use Rattle.nb_member.specs.declared.member_fault.MemberFault.TheVariants as fault
 use Rattle.nb_member.specs.declared.settings.Settings.{Settings}
 use Rattle.nb_member.specs.Live.{Saying, came, refused, another, clock}
-use Rattle.nb_member.specs.Saying.{IsValid, refusal, Says, fragment, invalid, no_packet, error, query, tick, Say, none, more}
+use Rattle.nb_member.specs.Saying.{IsValid, refusal, Says, fragment, misplaced, too_long, no_packet, error, query, tick, Say, none, more}
 
 -- what the packets in bytes are known to be
 pub record PacketsKnown : Type 0 where
@@ -23,13 +27,38 @@ pub record PacketsKnown : Type 0 where
   pub one_fault : (bytes : List ℕ) (fault another : DatagramFault) → PacketFails bytes fault
       → PacketFails bytes another → fault ≡ another
 
+-- IsInvalid longest f x: the fragment isn't valid, and x says why
+abbrev pub IsInvalid : ℕ → FragmentParts → TableFault → Type 0
+IsInvalid longest f MisplacedFirst = IsMisplaced f
+IsInvalid longest f TooLong = (is_first f.flags ≡ (f.offset == 0)) × (longest < reach (core_of f))
+IsInvalid longest f (Full k) = ⊥
+IsInvalid longest f NoMemory = ⊥
+
+-- then it isn't valid
+pub invalid_not : (longest : ℕ) (f : FragmentParts) (x : TableFault) → IsInvalid longest f x → IsValid longest f → ⊥
+invalid_not longest f MisplacedFirst i v = i v.placed
+invalid_not longest f TooLong i v = let past = i.1 in let within = v.short in omega (arith, past, within)
+invalid_not longest f (Full k) i v = i
+invalid_not longest f NoMemory i v = i
+
+-- and for one reason
+one_invalid : (longest : ℕ) (f : FragmentParts) (x y : TableFault) → IsInvalid longest f x → IsInvalid longest f y → x ≡ y
+one_invalid longest f MisplacedFirst MisplacedFirst i j = refl
+one_invalid longest f MisplacedFirst TooLong i j = absurd (i j.0)
+one_invalid longest f TooLong MisplacedFirst i j = absurd (j i.0)
+one_invalid longest f TooLong TooLong i j = refl
+one_invalid longest f (Full k) y i j = absurd i
+one_invalid longest f NoMemory y i j = absurd i
+one_invalid longest f x (Full k) i j = absurd j
+one_invalid longest f x NoMemory i j = absurd j
+
 -- SaysOf settings payload moment s: what a payload says, by what it begins with
 pub data SaysOf (settings : Settings) (moment : ℕ) (payload : List ℕ) (s : Saying) : Type 0 where
   of_fragment : (used : ℕ) (f : FragmentParts) → IsPacket payload (Direct f) used → IsValid settings.longest f
       → s ≡ came moment f → SaysOf settings moment payload s
-  of_invalid : (used : ℕ) (f : FragmentParts) → IsPacket payload (Direct f) used → ¬ IsValid settings.longest f
-      → s ≡ refused None → SaysOf settings moment payload s
-  of_fault : (fault : DatagramFault) → PacketFails payload fault → s ≡ refused (refusal settings payload fault)
+  of_invalid : (used : ℕ) (f : FragmentParts) (x : TableFault) → IsPacket payload (Direct f) used
+      → IsInvalid settings.longest f x → s ≡ refused (fault.Table x) → SaysOf settings moment payload s
+  of_fault : (x : DatagramFault) → PacketFails payload x → s ≡ refused (fault.Packet x (refusal settings payload x))
       → SaysOf settings moment payload s
   of_error : (used : ℕ) (e : ErrorPacket) → IsPacket payload (Error e) used → s ≡ another → SaysOf settings moment payload s
   of_query : (used : ℕ) (q : QueryPacket) → IsPacket payload (Query q) used → s ≡ another → SaysOf settings moment payload s
@@ -41,8 +70,9 @@ SaysBy settings (Tick now) s = s ≡ clock now
 
 pub says_by : (settings : Settings) (event : Event) (s : Saying) → Says settings event s → SaysBy settings event s
 says_by settings _ _ (fragment moment used payload f p v) = of_fragment used f p v refl
-says_by settings _ _ (invalid moment used payload f p v) = of_invalid used f p v refl
-says_by settings _ _ (no_packet moment payload fault p) = of_fault fault p refl
+says_by settings _ _ (misplaced moment used payload f p m) = of_invalid used f MisplacedFirst p m refl
+says_by settings _ _ (too_long moment used payload f p placed past) = of_invalid used f TooLong p (placed, past) refl
+says_by settings _ _ (no_packet moment payload x p) = of_fault x p refl
 says_by settings _ _ (error moment used payload e p) = of_error used e p refl
 says_by settings _ _ (query moment used payload q p) = of_query used q p refl
 says_by settings _ _ (tick now) = refl
@@ -54,43 +84,46 @@ one_of known settings moment payload s t (of_fragment u f p v a) (of_fragment w 
     let same = (known.one payload (Direct f) (Direct g) u w p q).0 in
     let parts : f ≡ g = cc in
     a ∙ (ap (came moment) parts ∙ sym b)
-one_of known settings moment payload s t (of_fragment u f p v a) (of_invalid w g q x b) =
+one_of known settings moment payload s t (of_fragment u f p v a) (of_invalid w g j q x b) =
     let same = (known.one payload (Direct f) (Direct g) u w p q).0 in
     let parts : f ≡ g = cc in
-    absurd (x (rw parts at v))
-one_of known settings moment payload s t (of_fragment u f p v a) (of_fault fault q b) = absurd (known.alone payload fault (Direct f) u q p)
+    absurd (invalid_not settings.longest g j x (rw parts at v))
+one_of known settings moment payload s t (of_fragment u f p v a) (of_fault y q b) = absurd (known.alone payload y (Direct f) u q p)
 one_of known settings moment payload s t (of_fragment u f p v a) (of_error w e q b) =
     let same = (known.one payload (Direct f) (Error e) u w p q).0 in absurd (cc)
 one_of known settings moment payload s t (of_fragment u f p v a) (of_query w e q b) =
     let same = (known.one payload (Direct f) (Query e) u w p q).0 in absurd (cc)
-one_of known settings moment payload s t (of_invalid u f p v a) (of_fragment w g q x b) =
+one_of known settings moment payload s t (of_invalid u f i p v a) (of_fragment w g q x b) =
     let same = (known.one payload (Direct f) (Direct g) u w p q).0 in
     let parts : g ≡ f = cc in
-    absurd (v (rw parts at x))
-one_of known settings moment payload s t (of_invalid u f p v a) (of_invalid w g q x b) = a ∙ sym b
-one_of known settings moment payload s t (of_invalid u f p v a) (of_fault fault q b) = absurd (known.alone payload fault (Direct f) u q p)
-one_of known settings moment payload s t (of_invalid u f p v a) (of_error w e q b) =
+    absurd (invalid_not settings.longest f i v (rw parts at x))
+one_of known settings moment payload s t (of_invalid u f i p v a) (of_invalid w g j q x b) =
+    let same = (known.one payload (Direct f) (Direct g) u w p q).0 in
+    let parts : f ≡ g = cc in
+    a ∙ (ap (λ (r : TableFault). refused (fault.Table r)) (one_invalid settings.longest g i j (rw parts at v) x) ∙ sym b)
+one_of known settings moment payload s t (of_invalid u f i p v a) (of_fault y q b) = absurd (known.alone payload y (Direct f) u q p)
+one_of known settings moment payload s t (of_invalid u f i p v a) (of_error w e q b) =
     let same = (known.one payload (Direct f) (Error e) u w p q).0 in absurd (cc)
-one_of known settings moment payload s t (of_invalid u f p v a) (of_query w e q b) =
+one_of known settings moment payload s t (of_invalid u f i p v a) (of_query w e q b) =
     let same = (known.one payload (Direct f) (Query e) u w p q).0 in absurd (cc)
-one_of known settings moment payload s t (of_fault fault p a) (of_fragment w g q x b) = absurd (known.alone payload fault (Direct g) w p q)
-one_of known settings moment payload s t (of_fault fault p a) (of_invalid w g q x b) = absurd (known.alone payload fault (Direct g) w p q)
-one_of known settings moment payload s t (of_fault fault p a) (of_fault other q b) =
-    a ∙ (ap (λ (x : DatagramFault). refused (refusal settings payload x)) (known.one_fault payload fault other p q) ∙ sym b)
-one_of known settings moment payload s t (of_fault fault p a) (of_error w e q b) = absurd (known.alone payload fault (Error e) w p q)
-one_of known settings moment payload s t (of_fault fault p a) (of_query w e q b) = absurd (known.alone payload fault (Query e) w p q)
+one_of known settings moment payload s t (of_fault y p a) (of_fragment w g q x b) = absurd (known.alone payload y (Direct g) w p q)
+one_of known settings moment payload s t (of_fault y p a) (of_invalid w g j q x b) = absurd (known.alone payload y (Direct g) w p q)
+one_of known settings moment payload s t (of_fault y p a) (of_fault other q b) =
+    a ∙ (ap (λ (r : DatagramFault). refused (fault.Packet r (refusal settings payload r))) (known.one_fault payload y other p q) ∙ sym b)
+one_of known settings moment payload s t (of_fault y p a) (of_error w e q b) = absurd (known.alone payload y (Error e) w p q)
+one_of known settings moment payload s t (of_fault y p a) (of_query w e q b) = absurd (known.alone payload y (Query e) w p q)
 one_of known settings moment payload s t (of_error u e p a) (of_fragment w g q x b) =
     let same = (known.one payload (Error e) (Direct g) u w p q).0 in absurd (cc)
-one_of known settings moment payload s t (of_error u e p a) (of_invalid w g q x b) =
+one_of known settings moment payload s t (of_error u e p a) (of_invalid w g j q x b) =
     let same = (known.one payload (Error e) (Direct g) u w p q).0 in absurd (cc)
-one_of known settings moment payload s t (of_error u e p a) (of_fault fault q b) = absurd (known.alone payload fault (Error e) u q p)
+one_of known settings moment payload s t (of_error u e p a) (of_fault y q b) = absurd (known.alone payload y (Error e) u q p)
 one_of known settings moment payload s t (of_error u e p a) (of_error w g q b) = a ∙ sym b
 one_of known settings moment payload s t (of_error u e p a) (of_query w g q b) = a ∙ sym b
 one_of known settings moment payload s t (of_query u e p a) (of_fragment w g q x b) =
     let same = (known.one payload (Query e) (Direct g) u w p q).0 in absurd (cc)
-one_of known settings moment payload s t (of_query u e p a) (of_invalid w g q x b) =
+one_of known settings moment payload s t (of_query u e p a) (of_invalid w g j q x b) =
     let same = (known.one payload (Query e) (Direct g) u w p q).0 in absurd (cc)
-one_of known settings moment payload s t (of_query u e p a) (of_fault fault q b) = absurd (known.alone payload fault (Query e) u q p)
+one_of known settings moment payload s t (of_query u e p a) (of_fault y q b) = absurd (known.alone payload y (Query e) u q p)
 one_of known settings moment payload s t (of_query u e p a) (of_error w g q b) = a ∙ sym b
 one_of known settings moment payload s t (of_query u e p a) (of_query w g q b) = a ∙ sym b
 

@@ -120,7 +120,7 @@ pub one_stays : DatagramsKnown → (settings : Settings) (L : List Timed) (s : S
     → Stays k (table_from L) (table_from (live_after settings L s))
 one_stays known settings L (came moment f) k kept =
     came_stays known L (record { moment = moment; fragment = f }) k (is_full settings L f.key)
-one_stays known settings L (refused error) k kept = itself k (table_from L)
+one_stays known settings L (refused fault) k kept = itself k (table_from L)
 one_stays known settings L another k kept = itself k (table_from L)
 one_stays known settings L (clock now) k kept =
     subst (λ (M : List Timed). Stays k (table_from L) (table_from M)) (sym kept) (itself k (table_from L))

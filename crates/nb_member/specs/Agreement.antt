@@ -14,14 +14,14 @@ use Rattle.nb_member.specs.Live.{Saying, came, refused, another, clock, Timed, i
 abbrev pub valid_cores : List Saying → List Core
 valid_cores [] = []
 valid_cores (came moment f ∷ S) = core_of f ∷ valid_cores S
-valid_cores (refused error ∷ S) = valid_cores S
+valid_cores (refused fault ∷ S) = valid_cores S
 valid_cores (another ∷ S) = valid_cores S
 valid_cores (clock now ∷ S) = valid_cores S
 
 -- DropsNone settings L s: it is no look at the clock that drops a key, where L are live
 abbrev pub DropsNone : Settings → List Timed → Saying → Type 0
 DropsNone settings L (came moment f) = Unit {0}
-DropsNone settings L (refused error) = Unit {0}
+DropsNone settings L (refused fault) = Unit {0}
 DropsNone settings L another = Unit {0}
 DropsNone settings L (clock now) = live_after settings L (clock now) ≡ L
 
@@ -33,7 +33,7 @@ NoneDropped settings L (s ∷ S) = DropsNone settings L s × NoneDropped setting
 -- HasRoom settings L s: it is no fragment that meets the limit on keys, where L are live
 abbrev pub HasRoom : Settings → List Timed → Saying → Type 0
 HasRoom settings L (came moment f) = is_full settings L f.key ≡ false
-HasRoom settings L (refused error) = Unit {0}
+HasRoom settings L (refused fault) = Unit {0}
 HasRoom settings L another = Unit {0}
 HasRoom settings L (clock now) = Unit {0}
 

@@ -1,11 +1,13 @@
 -- The datagrams that events make whole, and the error packets that they give (RFC 1002 section 5.3).
-use Rattle.std.specs.Prelude.{cond, List, [], ◌∷◌, ◌++◌, filter}
+use Rattle.std.specs.Prelude.{cond, List, [], ◌∷◌, ◌++◌, filter, Option, None}
 use Rattle.std.specs.Option.{option_to_list}
 use Rattle.std.specs.List.{flat_map}
 use Rattle.nb_names.specs.Name.{NetbiosName}
 use Rattle.nb_datagram.specs.declared.packet.ErrorPacket.{ErrorPacket}
 use Rattle.nb_datagram.specs.Datagram.{DatagramParts}
 use Rattle.nb_table.specs.Whole.{newly_whole}
+use Rattle.nb_member.specs.declared.member_fault.MemberFault.{MemberFault}
+use Rattle.nb_member.specs.declared.member_fault.MemberFault.TheVariants.{Packet, Table}
 use Rattle.nb_member.specs.declared.settings.Settings.{Settings}
 use Rattle.nb_member.specs.Hearing.{hears, unheard}
 use Rattle.nb_member.specs.Live.{Saying, came, refused, another, clock, Timed, table_from, live_after}
@@ -14,15 +16,20 @@ use Rattle.nb_member.specs.Live.{Saying, came, refused, another, clock, Timed, t
 abbrev pub made_by : Settings → List Timed → Saying → List DatagramParts
 made_by settings L (came moment f) =
     option_to_list (newly_whole (table_from L) (table_from (live_after settings L (came moment f))) f.key)
-made_by settings L (refused error) = []
+made_by settings L (refused fault) = []
 made_by settings L another = []
 made_by settings L (clock now) = []
+
+-- the error packet that a refused payload is answered with, if it is
+abbrev pub error_of : MemberFault → Option ErrorPacket
+error_of (Packet fault error) = error
+error_of (Table fault) = None
 
 -- errors_by settings names L s: the error packet that a station with these names answers, if it does
 abbrev pub errors_by : Settings → List NetbiosName → List Timed → Saying → List ErrorPacket
 errors_by settings names L (came moment f) =
     flat_map (λ d. cond (hears names d) [] (option_to_list (unheard settings d))) (made_by settings L (came moment f))
-errors_by settings names L (refused error) = option_to_list error
+errors_by settings names L (refused fault) = option_to_list (error_of fault)
 errors_by settings names L another = []
 errors_by settings names L (clock now) = []
 

@@ -8,6 +8,7 @@ pub mod Handed
 pub mod Timing
 pub mod Member
 pub mod Taking
+pub mod Answering
 pub mod Running
 pub mod Agreement
 pub mod HandedOver

@@ -5,21 +5,21 @@
 use Rattle.std.specs.Prelude.{◌+◌, ℕ, Bool, false, not, ◌&&◌, nat_le, cond, List, [], ◌∷◌, ◌++◌, map, filter, fold, Option, Some, None}
 use Rattle.std.specs.FinMap as maps
 use Rattle.nb_datagram.specs.declared.key.Key.{Key}
-use Rattle.nb_datagram.specs.declared.packet.ErrorPacket.{ErrorPacket}
 use Rattle.nb_datagram.specs.Key.{same_key}
 use Rattle.nb_datagram.specs.Fragment.{FragmentParts, Core, core_of}
 use Rattle.nb_table.specs.Contents.{Contents, table_of}
 use Rattle.nb_table.specs.Limits.{Limits}
 use Rattle.nb_member.specs.declared.limits.TheConstants.{FRAGMENT_TIMEOUT}
+use Rattle.nb_member.specs.declared.member_fault.MemberFault.{MemberFault}
 use Rattle.nb_member.specs.declared.settings.Settings.{Settings}
 
 -- ---- what an event says
 
--- what an event says to a member: that a fragment came at a moment; that a packet is refused, and what error
--- packet that gives; that another packet came; or what the clock shows
+-- what an event says to a member: that a fragment came at a moment; that a payload is refused, and why; that
+-- another packet came; or what the clock shows
 pub data Saying : Type 0 where
   came : ℕ → FragmentParts → Saying
-  refused : Option ErrorPacket → Saying
+  refused : MemberFault → Saying
   another : Saying
   clock : ℕ → Saying
 
@@ -65,7 +65,7 @@ is_full settings L k = not (maps.contains_key (table_from L) k) && nat_le settin
 abbrev pub live_after : Settings → List Timed → Saying → List Timed
 live_after settings L (came moment f) =
     cond (is_full settings L f.key) L (L ++ record { moment = moment; fragment = f } ∷ [])
-live_after settings L (refused error) = L
+live_after settings L (refused fault) = L
 live_after settings L another = L
 live_after settings L (clock now) = filter (λ t. outlives L now t.fragment.key) L
 

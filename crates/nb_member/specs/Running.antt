@@ -23,7 +23,7 @@ pub record Stands (m : MemberValue) (H : List Event) : Type 0 where
 abbrev pub refused_count : List Saying → ℕ
 refused_count [] = 0
 refused_count (came moment f ∷ S) = refused_count S
-refused_count (refused error ∷ S) = 1 + refused_count S
+refused_count (refused fault ∷ S) = 1 + refused_count S
 refused_count (another ∷ S) = refused_count S
 refused_count (clock now ∷ S) = refused_count S
 

@@ -2,9 +2,9 @@
 -- bytes.
 --
 -- Own: a fragment is valid where its flag F is set exactly at offset 0 and it doesn't reach past the longest
--- datagram. A packet of a direct unique datagram with a bad name is answered by an error packet. What
--- follows a packet is left unread.
-use Rattle.std.specs.Prelude.{◌≡◌, ◌==◌, ◌&&◌, ◌≤◌, ℕ, Bool, cond, nat_le, List, [], ◌∷◌, length, slice_index, Option, Some, None}
+-- datagram; the flag is judged first. A packet of a direct unique datagram with a bad name is answered by
+-- an error packet. What follows a packet is left unread.
+use Rattle.std.specs.Prelude.{◌≡◌, ◌==◌, ◌&&◌, ◌<◌, ◌≤◌, ℕ, Bool, cond, nat_le, List, [], ◌∷◌, length, slice_index, Option, Some, None}
 use Rattle.std.specs.Int.{w16, from_be_bytes}
 use Rattle.nb_datagram.specs.declared.error_codes.TheConstants.{INVALID_SOURCE_NAME_FORMAT, INVALID_DESTINATION_NAME_FORMAT}
 use Rattle.nb_datagram.specs.declared.fault.DatagramFault.{DatagramFault}
@@ -18,8 +18,11 @@ use Rattle.nb_datagram.specs.Kind.{type_of}
 use Rattle.nb_datagram.specs.Fragment.{FragmentParts, core_of, reach, is_first}
 use Rattle.nb_datagram.specs.Packet.{IsPacket}
 use Rattle.nb_datagram.specs.DatagramFaults.{PacketFails}
+use Rattle.nb_table.specs.declared.fault.TableFault.TheVariants.{MisplacedFirst, TooLong}
+use Rattle.nb_table.specs.Insert.{IsMisplaced}
 use Rattle.nb_member.specs.declared.event.Event.{Event}
 use Rattle.nb_member.specs.declared.event.Event.TheVariants.{Packet, Tick}
+use Rattle.nb_member.specs.declared.member_fault.MemberFault.TheVariants as fault
 use Rattle.nb_member.specs.declared.settings.Settings.{Settings}
 use Rattle.nb_member.specs.Hearing.{error_with}
 use Rattle.nb_member.specs.Live.{Saying, came, refused, another, clock}
@@ -58,11 +61,15 @@ pub data Says (settings : Settings) : Event → Saying → Type 0 where
   fragment : (moment used : ℕ) (payload : List ℕ) (f : FragmentParts)
       → IsPacket payload (Direct f) used → IsValid settings.longest f
       → Says settings (Packet moment payload) (came moment f)
-  invalid : (moment used : ℕ) (payload : List ℕ) (f : FragmentParts)
-      → IsPacket payload (Direct f) used → ¬ IsValid settings.longest f
-      → Says settings (Packet moment payload) (refused None)
-  no_packet : (moment : ℕ) (payload : List ℕ) (fault : DatagramFault) → PacketFails payload fault
-      → Says settings (Packet moment payload) (refused (refusal settings payload fault))
+  misplaced : (moment used : ℕ) (payload : List ℕ) (f : FragmentParts)
+      → IsPacket payload (Direct f) used → IsMisplaced f
+      → Says settings (Packet moment payload) (refused (fault.Table MisplacedFirst))
+  too_long : (moment used : ℕ) (payload : List ℕ) (f : FragmentParts)
+      → IsPacket payload (Direct f) used → is_first f.flags ≡ (f.offset == 0)
+      → settings.longest < reach (core_of f)
+      → Says settings (Packet moment payload) (refused (fault.Table TooLong))
+  no_packet : (moment : ℕ) (payload : List ℕ) (x : DatagramFault) → PacketFails payload x
+      → Says settings (Packet moment payload) (refused (fault.Packet x (refusal settings payload x)))
   error : (moment used : ℕ) (payload : List ℕ) (e : ErrorPacket) → IsPacket payload (Error e) used
       → Says settings (Packet moment payload) another
   query : (moment used : ℕ) (payload : List ℕ) (q : QueryPacket) → IsPacket payload (Query q) used

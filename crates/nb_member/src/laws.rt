@@ -1,5 +1,7 @@
 //! Laws of the definitions that the contracts cite. Each is proved; a call does nothing.
-ghost use Rattle.std.specs.Prelude.{◌≡◌, ◌⊎◌, ℕ, List, [], Option, Some, None, Result, Ok, Err};
+ghost use Rattle.std.specs.Prelude.{◌≡◌, ◌≢◌, ◌⊎◌, ℕ, List, [], filter, Option, Some, None, Result, Ok, Err};
+ghost use Rattle.nb_names.specs.Name.{NetbiosName};
+ghost use Rattle.nb_table.specs.declared.fault.TableFault.TheVariants as table_fault;
 ghost use Rattle.nb_member.specs.declared.limits.TheConstants.{MAX_LINE, MAX_MOMENT_DIGITS, FRAGMENT_TIMEOUT, MAX_NAMES};
 ghost use Rattle.nb_member.specs.declared.line.Line.{Line};
 ghost use Rattle.nb_member.specs.declared.line_fault.LineFault.{LineFault};
@@ -7,8 +9,18 @@ ghost use Rattle.nb_member.specs.declared.line_fault.LineFault.TheVariants.{BadL
 ghost use Rattle.nb_member.specs.Capture.{HasValue, SaysNothing, IsMalformed, Reads};
 ghost use Rattle.nb_member.specs.declared.settings.Settings.{Settings};
 ghost use Rattle.nb_member.specs.declared.event.Event.{Event};
+ghost use Rattle.nb_member.specs.declared.event.Event.TheVariants.{Packet};
+ghost use Rattle.nb_member.specs.declared.member_fault.MemberFault.{MemberFault};
+ghost use Rattle.nb_member.specs.declared.member_fault.MemberFault.TheVariants.{Table};
+ghost use Rattle.nb_member.specs.declared.outcome.Outcome.{Outcome};
 ghost use Rattle.nb_member.specs.Saying.{Says, Say};
-ghost use Rattle.nb_member.specs.Live.{Saying, cores, live, table_from};
+ghost use Rattle.nb_member.specs.Live.{Saying, Timed, clock, cores, live, live_after, table_from};
+ghost use Rattle.nb_member.specs.Hearing.{hears};
+ghost use Rattle.nb_member.specs.Handed.{made_by, errors_by};
+ghost use Rattle.nb_member.specs.Member.{MemberValue, with_timed, StandsOver};
+ghost use Rattle.nb_member.specs.Taking.{Takes};
+ghost use Rattle.nb_member.specs.Timing.{after_clock};
+ghost use Rattle.nb_member.specs.Answering.{Answers, Does, delivery_in, error_in};
 ghost use Rattle.nb_member.specs.Agreement.{valid_cores, NoneDropped, NoneFull, GiveTheSame};
 
 mod delivering;
@@ -19,7 +31,8 @@ pub use delivering::{
 };
 use nb_datagram::laws::{one_datagram_fault, one_packet};
 use nb_table::laws::{
-    same_cores_make_the_same_table, table_has_the_entry_of_its_list, table_of_two_lists_is_the_join,
+    keeping_keys_keeps_their_fragments, same_cores_make_the_same_table,
+    table_has_the_entry_of_its_list, table_of_two_lists_is_the_join,
 };
 
 /// A line of a capture says one thing at most, and none that says nothing.
@@ -57,6 +70,43 @@ pub fn an_event_says_one_thing()
     one_packet();
     one_datagram_fault();
 }
+
+/// A payload that a member takes says something, and the member does what it says: it stands for
+/// the fragments that are live then, and answers by what it stood for before. A payload that it
+/// refuses changes nothing.
+pub fn a_member_does_what_is_said()
+    ensures says { (m new : MemberValue) (L : List Timed) (moment : ℕ) (payload : List ℕ)
+        (result : Result Outcome MemberFault) → StandsOver m L → Takes m moment payload new result →
+        (s : Saying) × Says m.settings (Packet moment payload) s }
+    ensures does { (m new : MemberValue) (L : List Timed) (moment : ℕ) (payload : List ℕ)
+        (result : Result Outcome MemberFault) (s : Saying) → StandsOver m L →
+        Says m.settings (Packet moment payload) s → Takes m moment payload new result →
+        result ≢ Err (Table table_fault.NoMemory) → Does m L s new result }
+    ensures refused { (m new : MemberValue) (moment : ℕ) (payload : List ℕ) (fault : MemberFault) →
+        Takes m moment payload new (Err fault) → new ≡ m }
+{
+    one_packet();
+    one_datagram_fault();
+    table_of_two_lists_is_the_join();
+}
+
+/// A member that looks at the clock stands for the fragments that are live then.
+pub fn a_member_drops_what_the_clock_ends()
+    ensures { (m : MemberValue) (L : List Timed) (now : ℕ) → StandsOver m L →
+        StandsOver (with_timed m (after_clock m.timed now)) (live_after m.settings L (clock now)) }
+{
+    keeping_keys_keeps_their_fragments();
+}
+
+/// What a member answers shows the datagram that it hands over, and the error packet that it gives.
+pub fn an_answer_shows_what_is_handed_out()
+    ensures delivery { (settings : Settings) (names : List NetbiosName) (L : List Timed)
+        (s : Saying) (result : Result Outcome MemberFault) → Answers settings names L s result →
+        filter (hears names) (made_by settings L s) ≡ delivery_in result }
+    ensures error { (settings : Settings) (names : List NetbiosName) (L : List Timed)
+        (s : Saying) (result : Result Outcome MemberFault) → Answers settings names L s result →
+        errors_by settings names L s ≡ error_in result }
+{}
 
 /// Where no look at the clock drops a key and no fragment meets the limit on keys, the fragments
 /// that are live are the valid ones.

@@ -13,6 +13,7 @@ pub mod RunningLemmas
 pub mod StandingLemmas
 pub mod StepLemmas
 pub mod AnsweringLemmas
+pub mod SteppingLemmas
 pub mod WholeKeysLemmas
 pub mod HandingLemmas
 pub mod HandedOverLemmas

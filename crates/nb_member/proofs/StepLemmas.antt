@@ -1,6 +1,5 @@
 -- A member that stands for fragments does what its events say.
 use Rattle.std.proofs.Common.{◌≡◌, ℕ, Bool, true, false, cond, List, [], ◌∷◌, ◌++◌, refl, sym, ap, arith, subst, inl, inr, Result, Ok, Err}
-use Rattle.std.specs.FinMap as maps
 use Rattle.nb_datagram.specs.declared.key.Key.{Key}
 use Rattle.nb_datagram.specs.declared.packet.Packet.TheVariants.{Direct}
 use Rattle.nb_datagram.specs.Fragment.{FragmentParts, Core}

@@ -10,5 +10,6 @@ pub mod Member
 pub mod Taking
 pub mod Answering
 pub mod Running
+pub mod Stepping
 pub mod Agreement
 pub mod HandedOver

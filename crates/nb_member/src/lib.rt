@@ -14,6 +14,7 @@ mod member_fault;
 mod outcome;
 mod pair;
 mod run_report;
+mod runs;
 mod settings;
 mod starts;
 mod timed_table;
@@ -28,6 +29,7 @@ pub use member_fault::MemberFault;
 pub use outcome::{Dropped, Outcome};
 pub use pair::Pair;
 pub use run_report::{RunReport, RunStop};
+pub use runs::run;
 pub use settings::Settings;
 
 #[cfg(test)]

@@ -1,0 +1,170 @@
+//! Runs of events.
+ghost use Rattle.std.specs.Prelude.{◌≡◌, ◌<◌, ◌++◌, List, [], OnOk, IfErr, vec_len, vec_capacity};
+ghost use Rattle.std.specs.Option.{option_to_list};
+ghost use Rattle.nb_member.specs.declared.run_report.RunStop.TheVariants as run_stop;
+ghost use Rattle.nb_member.specs.Answering.{delivery_in, error_in};
+ghost use Rattle.nb_member.specs.Live.{Timed};
+ghost use Rattle.nb_member.specs.Member.{StandsOver};
+ghost use Rattle.nb_member.specs.Running.{Runs};
+ghost use Rattle.nb_member.specs.Stepping.{noted, StepsTo};
+
+use crate::event::Event;
+use crate::laws::{
+    a_member_does_what_is_said, a_member_drops_what_the_clock_ends,
+    an_answer_shows_what_is_handed_out,
+};
+use crate::member::Member;
+use crate::member_fault::MemberFault;
+use crate::outcome::Outcome;
+use crate::run_report::{RunReport, RunStop};
+use nb_datagram::{Datagram, Datagrams, ErrorPacket, ErrorPackets};
+use nb_table::TableFault;
+use std::alloc::Global;
+
+/// Takes these events, one after another, until one meets the limit on keys or memory runs out.
+///
+/// A payload that begins with no packet, or with a fragment that has FIRST in the wrong place or
+/// reaches too far, is counted and passed over; the error packet that it is answered with stands
+/// among the others. An event at which the run stops has changed nothing.
+pub fn run(alloc: Global, member: &mut Member, events: &[Event]) -> RunReport
+    ensures { Runs member.old events.now member.new result }
+{
+    let mut log = Log::new(alloc);
+    let mut refused = 0;
+    for (index, event) in events.iter().enumerate() {
+        match log.take(member, event) {
+            Ok(was_refused) => {
+                if was_refused {
+                    refused += 1;
+                }
+            }
+            Err(stop) => return log.into_report(index, refused, Some(stop)),
+        }
+    }
+    log.into_report(events.len(), refused, None)
+}
+
+/// What a run has handed out so far.
+#[derive(Drop)]
+struct Log {
+    deliveries: Vec<Datagram>,
+    errors: Vec<ErrorPacket>,
+}
+
+impl Log {
+    /// Nothing. No memory is taken.
+    fn new(alloc: Global) -> Log
+        ensures deliveries { result.deliveries.items ≡ [] }
+        ensures errors { result.errors.items ≡ [] }
+    {
+        Log {
+            deliveries: Vec::new(alloc),
+            errors: Vec::new(alloc),
+        }
+    }
+
+    /// Lets the member take one event, and tells whether the event was refused, or why the run
+    /// stops before it.
+    fn take(&mut self, member: &mut Member, event: &Event) -> Result<bool, RunStop>
+        ensures step { (L : List Timed) → StandsOver member.old L →
+            StepsTo member.old L event.now member.new
+            (record { deliveries = self.old.deliveries.items; errors = self.old.errors.items })
+            (record { deliveries = self.new.deliveries.items; errors = self.new.errors.items })
+            result }
+        ensures settings { member.new.settings ≡ member.old.settings }
+        ensures names { member.new.names ≡ member.old.names }
+    {
+        a_member_does_what_is_said();
+        a_member_drops_what_the_clock_ends();
+        an_answer_shows_what_is_handed_out();
+        self.make_room()?;
+        match event {
+            Event::Packet { moment, payload } => {
+                let answer = member.take(*moment, payload.as_slice());
+                self.note(answer)
+            }
+            Event::Tick { now } => {
+                member.tick(*now);
+                Ok(false)
+            }
+        }
+    }
+
+    /// Makes room for one more datagram and one more error packet, so that noting an answer takes
+    /// no memory.
+    fn make_room(&mut self) -> Result<(), RunStop>
+        ensures deliveries { self.new.deliveries.items ≡ self.old.deliveries.items }
+        ensures errors { self.new.errors.items ≡ self.old.errors.items }
+        ensures delivery_room { OnOk result
+            (vec_len self.new.deliveries < vec_capacity self.new.deliveries) }
+        ensures error_room { OnOk result (vec_len self.new.errors < vec_capacity self.new.errors) }
+        ensures memory { IfErr result (λ stop. stop ≡ run_stop.NoMemory) }
+    {
+        match self.deliveries.reserve(1) {
+            Ok(()) => {}
+            Err(_) => return Err(RunStop::NoMemory),
+        }
+        match self.errors.reserve(1) {
+            Ok(()) => Ok(()),
+            Err(_) => Err(RunStop::NoMemory),
+        }
+    }
+
+    /// Notes what a member answered.
+    fn note(&mut self, answer: Result<Outcome, MemberFault>) -> Result<bool, RunStop>
+        requires delivery_room { vec_len self.old.deliveries < vec_capacity self.old.deliveries }
+        requires error_room { vec_len self.old.errors < vec_capacity self.old.errors }
+        ensures deliveries { self.new.deliveries.items
+            ≡ self.old.deliveries.items ++ delivery_in answer }
+        ensures errors { self.new.errors.items ≡ self.old.errors.items ++ error_in answer }
+        ensures noted { result ≡ noted answer }
+    {
+        match answer {
+            Ok(Outcome::Delivered(datagram)) => {
+                self.deliveries.push(datagram).unwrap();
+                Ok(false)
+            }
+            Ok(Outcome::Unheard(_, error)) => {
+                add_if_any(&mut self.errors, error);
+                Ok(false)
+            }
+            Ok(Outcome::Kept(_) | Outcome::Spoilt(_) | Outcome::Other) => Ok(false),
+            Err(MemberFault::Packet(_, error)) => {
+                add_if_any(&mut self.errors, error);
+                Ok(true)
+            }
+            Err(MemberFault::Table(TableFault::MisplacedFirst | TableFault::TooLong)) => Ok(true),
+            Err(MemberFault::Table(TableFault::Full(key))) => Err(RunStop::Full(key)),
+            Err(MemberFault::Table(TableFault::NoMemory)) => Err(RunStop::NoMemory),
+        }
+    }
+
+    /// The report of a run that took so many events.
+    fn into_report(self, taken: usize, refused: usize, stop: Option<RunStop>) -> RunReport
+        ensures { result ≡ record {
+          deliveries = self.deliveries.items;
+          errors = self.errors.items;
+          taken = taken;
+          refused = refused;
+          stop = stop;
+        } }
+    {
+        RunReport {
+            deliveries: Datagrams::from_vec(self.deliveries),
+            errors: ErrorPackets::from_vec(self.errors),
+            taken,
+            refused,
+            stop,
+        }
+    }
+}
+
+/// Adds an error packet, if there is one, where there is room for it.
+fn add_if_any(errors: &mut Vec<ErrorPacket>, error: Option<ErrorPacket>)
+    requires { vec_len errors.old < vec_capacity errors.old }
+    ensures { errors.new.items ≡ errors.old.items ++ option_to_list error }
+{
+    if let Some(error) = error {
+        errors.push(error).unwrap();
+    }
+}

@@ -23,3 +23,5 @@ mod EqualLemmas
 mod ReadingLemmas
 mod OneLemmas
 mod RunsLemmas
+mod SavedLemmas
+mod ShortLemmas

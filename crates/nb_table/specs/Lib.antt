@@ -20,4 +20,5 @@ pub mod Equal
 pub mod FaultTexts
 pub mod Runs
 pub mod Saved
+pub mod SavedFits
 pub mod Lemmas

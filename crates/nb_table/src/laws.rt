@@ -10,6 +10,7 @@ mod gathering;
 mod joining;
 mod parts;
 mod running;
+mod saving;
 
 pub use completing::{
     datagram_has_the_bytes_of_its_entry, newly_whole_is_whole_and_was_not,
@@ -49,3 +50,4 @@ pub use running::{
     a_map_has_one_row_of_runs, map_of_runs_gives_them_back, runs_of_a_map_are_apart,
     runs_of_a_map_give_it_back,
 };
+pub use saving::{saved_bytes_tell_the_table, short_tables_fit_the_fields};

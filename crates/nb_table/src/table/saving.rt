@@ -47,6 +47,7 @@ impl Table {
     /// both names as they are spelled, the end (00, or 01 and two bytes), the number of runs, in
     /// two bytes, and each of the maximal runs of known bytes, ascending: its start and length, in
     /// two bytes each, and its bytes. Numbers stand with their high byte first (our choice).
+    /// Where the fields have room for the table, no other contents have its bytes.
     ///
     /// # Errors
     ///

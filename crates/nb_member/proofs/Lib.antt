@@ -17,3 +17,6 @@ pub mod SteppingLemmas
 pub mod WholeKeysLemmas
 pub mod HandingLemmas
 pub mod HandedOverLemmas
+pub mod AgreementLemmas
+pub mod PairLemmas
+pub mod TellingLemmas

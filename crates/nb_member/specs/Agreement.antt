@@ -1,14 +1,20 @@
--- The headline's premises: when two members given two lists of events are given the same fragments, within
--- the limit on keys, and before any timer runs out (own).
+-- When two members that are given two lists of events are given the same fragments, within the limit on
+-- keys, and before any timer runs out; and what follows (own).
 --
 -- S and T are what the events of the two lists say.
-use Rattle.std.specs.Prelude.{◌≡◌, ◌≤◌, false, List, [], ◌∷◌}
+use Rattle.std.specs.Prelude.{◌≡◌, ◌≤◌, false, List, [], ◌∷◌, length, Some, None}
 use Rattle.std.specs.FinMap as maps
 use Rattle.nb_datagram.specs.Fragment.{Core, core_of}
 use Rattle.nb_table.specs.Contents.{table_of}
 use Rattle.nb_table.specs.Join.{SameCores}
+use Rattle.nb_member.specs.declared.event.Event.{Event}
+use Rattle.nb_member.specs.declared.pair.Pair.{Pair}
+use Rattle.nb_member.specs.declared.run_report.RunReport.{RunReport}
+use Rattle.nb_member.specs.declared.run_report.RunStop.TheVariants.{NoMemory}
 use Rattle.nb_member.specs.declared.settings.Settings.{Settings}
 use Rattle.nb_member.specs.Live.{Saying, came, refused, another, clock, Timed, is_full, live_after}
+use Rattle.nb_member.specs.Member.{contents}
+use Rattle.nb_member.specs.Saying.{Say}
 
 -- the cores of the valid fragments among S, in order
 abbrev pub valid_cores : List Saying → List Core
@@ -53,3 +59,28 @@ pub record GiveTheSame (settings : Settings) (S T : List Saying) : Type 0 where
   pub within_capacity : IsWithinCapacity settings S
   pub none_dropped : NoneDropped settings [] S
   pub none_dropped_there : NoneDropped settings [] T
+
+-- the two lists of events say the same fragments, as GiveTheSame has it
+pub record AreGivenTheSame (settings : Settings) (events_a events_b : List Event) : Type 0 where
+  pub sayings : List Saying
+  pub sayings_there : List Saying
+  pub said : Say settings events_a sayings
+  pub said_there : Say settings events_b sayings_there
+  pub same : GiveTheSame settings sayings sayings_there
+
+-- ---- what follows
+
+-- the run stopped for want of memory
+abbrev pub StoppedForMemory : RunReport → Type 0
+StoppedForMemory report = report.stop ≡ Some NoMemory
+
+-- TookAll events report: the run took all of the events, and didn't stop
+pub record TookAll (events : List Event) (report : RunReport) : Type 0 where
+  pub all : report.taken ≡ length events
+  pub no_stop : report.stop ≡ None
+
+-- Agree events_a events_b pair: both members took all of their events, and their tables are the same
+pub record Agree (events_a events_b : List Event) (pair : Pair) : Type 0 where
+  pub took_all : TookAll events_a pair.report_a
+  pub took_all_there : TookAll events_b pair.report_b
+  pub same_table : contents pair.a ≡ contents pair.b

@@ -6,6 +6,7 @@
 -- an error packet. What follows a packet is left unread.
 use Rattle.std.specs.Prelude.{◌≡◌, ◌==◌, ◌&&◌, ◌<◌, ◌≤◌, ℕ, Bool, cond, nat_le, List, [], ◌∷◌, length, slice_index, Option, Some, None}
 use Rattle.std.specs.Int.{w16, from_be_bytes}
+use Rattle.nb_names.specs.DomainName.{AreBytes}
 use Rattle.nb_datagram.specs.declared.error_codes.TheConstants.{INVALID_SOURCE_NAME_FORMAT, INVALID_DESTINATION_NAME_FORMAT}
 use Rattle.nb_datagram.specs.declared.fault.DatagramFault.{DatagramFault}
 use Rattle.nb_datagram.specs.declared.fault.DatagramFault.TheVariants.{Truncated, UnknownType, SourceName, DestinationName}
@@ -75,6 +76,11 @@ pub data Says (settings : Settings) : Event → Saying → Type 0 where
   query : (moment used : ℕ) (payload : List ℕ) (q : QueryPacket) → IsPacket payload (Query q) used
       → Says settings (Packet moment payload) another
   tick : (now : ℕ) → Says settings (Tick now) (clock now)
+
+-- HasBytes event: the numbers of its payload are bytes
+abbrev pub HasBytes : Event → Type 0
+HasBytes (Packet moment payload) = AreBytes payload
+HasBytes (Tick now) = Unit {0}
 
 -- Say settings events sayings: each event says what stands at its place
 pub data Say (settings : Settings) : List Event → List Saying → Type 0 where

@@ -24,16 +24,20 @@ ghost use Rattle.nb_member.specs.Answering.{Answers, Does, delivery_in, error_in
 ghost use Rattle.nb_member.specs.Agreement.{valid_cores, NoneDropped, NoneFull, GiveTheSame};
 
 mod delivering;
+mod merging;
+mod telling;
 
 pub use delivering::{
     a_senders_datagram_is_handed_over, a_whole_key_is_handed_over_once, both_hand_over_the_same,
     once_is_one_or_none,
 };
+pub use merging::{a_new_member_stands_for_no_event, merging_gives_the_table_of_both};
 use nb_datagram::laws::{one_datagram_fault, one_packet};
 use nb_table::laws::{
     keeping_keys_keeps_their_fragments, same_cores_make_the_same_table,
     table_has_the_entry_of_its_list, table_of_two_lists_is_the_join,
 };
+pub use telling::each_event_says_something;
 
 /// A line of a capture says one thing at most, and none that says nothing.
 pub fn a_line_has_one_value()

@@ -27,7 +27,7 @@ pub use local_names::{AddFault, LocalNames};
 pub use member::Member;
 pub use member_fault::MemberFault;
 pub use outcome::{Dropped, Outcome};
-pub use pair::Pair;
+pub use pair::{Pair, two_members};
 pub use run_report::{RunReport, RunStop};
 pub use runs::run;
 pub use settings::Settings;

@@ -4,3 +4,4 @@ mod lines;
 mod members;
 mod names;
 mod packets;
+mod runs;

@@ -1,0 +1,32 @@
+//! Laws on members that stand for events, and on the merge of their tables.
+ghost use Rattle.std.specs.Prelude.{◌≡◌, ◌++◌, List, []};
+ghost use Rattle.nb_names.specs.Name.{NetbiosName};
+ghost use Rattle.nb_table.specs.Join.{join};
+ghost use Rattle.nb_member.specs.declared.event.Event.{Event};
+ghost use Rattle.nb_member.specs.declared.settings.Settings.{Settings};
+ghost use Rattle.nb_member.specs.Live.{live, table_from};
+ghost use Rattle.nb_member.specs.Member.{MemberValue, contents, new_member};
+ghost use Rattle.nb_member.specs.Running.{Stands};
+
+use nb_table::laws::{
+    lists_swapped_have_the_same_cores, same_cores_make_the_same_table,
+    table_of_two_lists_is_the_join,
+};
+
+/// A new member stands for no event.
+pub fn a_new_member_stands_for_no_event()
+    ensures { (settings : Settings) (names : List NetbiosName) →
+        Stands (new_member settings names) [] }
+{}
+
+/// Where two members stand for events, the merge of their tables, either way round, is the table of
+/// what is live after the events of the one and of what is live after those of the other.
+pub fn merging_gives_the_table_of_both()
+    ensures { (a b : MemberValue) (H G : List Event) (s : Stands a H) (t : Stands b G) →
+        let both = table_from (live a.settings s.sayings ++ live b.settings t.sayings) in
+        (join (contents a) (contents b) ≡ both) × (join (contents b) (contents a) ≡ both) }
+{
+    table_of_two_lists_is_the_join();
+    lists_swapped_have_the_same_cores();
+    same_cores_make_the_same_table();
+}

@@ -17,6 +17,7 @@ pub mod SteppingLemmas
 pub mod WholeKeysLemmas
 pub mod HandingLemmas
 pub mod HandedOverLemmas
+pub mod AbsorbingLemmas
 pub mod AgreementLemmas
 pub mod PairLemmas
 pub mod TellingLemmas

@@ -11,5 +11,6 @@ pub mod Taking
 pub mod Answering
 pub mod Running
 pub mod Stepping
+pub mod Absorbing
 pub mod Agreement
 pub mod HandedOver

@@ -1,6 +1,6 @@
 -- A table whose keys have the moments at which they came (RFC 1002 section 5.3, FRAGMENT_TO). Moments are
 -- in milliseconds.
-use Rattle.std.specs.Prelude.{◌≡◌, ℕ, Bool, cond, not, refl}
+use Rattle.std.specs.Prelude.{◌≡◌, ℕ, Bool, cond, not, List, [], ◌∷◌, refl}
 use Rattle.std.specs.Coded.{Coded, code_by, coded×, coded_ℕ}
 use Rattle.std.specs.FinMap as maps
 use Rattle.nb_datagram.specs.declared.key.Key.{Key}
@@ -23,6 +23,11 @@ moments_code = maps.code key_code coded_ℕ
 -- begun moments k moment: the moments, with this one for the key k if it has none
 abbrev pub begun : Moments → Key → ℕ → Moments
 begun moments k moment = cond (maps.contains_key moments k) moments (maps.insert moments k moment)
+
+-- begun_each moments ks moment: the moments, with this one for each of the keys ks that has none
+abbrev pub begun_each : Moments → List Key → ℕ → Moments
+begun_each moments [] moment = moments
+begun_each moments (k ∷ ks) moment = begun_each (begun moments k moment) ks moment
 
 -- lasts moments now k: the timer of the key k hasn't run out
 abbrev pub lasts : Moments → ℕ → Key → Bool

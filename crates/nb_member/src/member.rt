@@ -6,6 +6,8 @@ ghost use Rattle.nb_member.specs.Member.{contents, new_member, with_timed};
 ghost use Rattle.nb_member.specs.Taking.{Takes, TakesFragment, handed, outcome_of};
 ghost use Rattle.nb_member.specs.Timing.{after_clock};
 
+mod absorbing;
+
 use crate::local_names::LocalNames;
 use crate::member_fault::MemberFault;
 use crate::outcome::{Dropped, Outcome};

@@ -1,10 +1,12 @@
 //! When keys came.
-ghost use Rattle.std.specs.Prelude.{◌≡◌, false, not, filter, Some, OnOk, OnErr};
+ghost use Rattle.std.specs.Prelude.{◌≡◌, false, not, filter, Some, IfOk, OnOk, OnErr};
 ghost use Rattle.std.specs.BTreeMap.{IsOrdered};
 ghost use Rattle.std.specs.FinMap as maps;
+ghost use Rattle.nb_datagram.specs.declared.key.Key.{Key};
 ghost use Rattle.nb_datagram.specs.Key.{key_cmp};
+ghost use Rattle.nb_member.specs.Absorbing.{start_after};
 ghost use Rattle.nb_member.specs.Live.{is_over};
-ghost use Rattle.nb_member.specs.Timing.{begun, lasts};
+ghost use Rattle.nb_member.specs.Timing.{begun, begun_each, lasts};
 
 use crate::limits::FRAGMENT_TIMEOUT;
 use nb_datagram::Key;
@@ -59,6 +61,22 @@ impl Starts {
         Ok(())
     }
 
+    /// A copy, in which the timers of this table's keys start at this moment, unless they run
+    /// already.
+    ///
+    /// # Errors
+    ///
+    /// `NoMemory` where memory ran out.
+    pub fn with_keys(&self, table: &Table, moment: u64) -> Result<Starts, NoMemory>
+        ensures { IfOk result (λ starts. (k : Key) →
+            maps.get starts k ≡ start_after self.now table.now.contents moment k) }
+    {
+        let moments = self.moments.clone()?;
+        let mut starts = Starts { moments };
+        begin_each(&mut starts, table, moment)?;
+        Ok(starts)
+    }
+
     /// Drops the keys whose timers have run out where the clock shows `now`, from the moments and
     /// from the table. No memory is taken.
     pub fn expire(&mut self, table: &mut Table, now: u64)
@@ -71,6 +89,17 @@ impl Starts {
         drop_over(table, &self.moments, now);
         keep_running(&mut self.moments, now);
     }
+}
+
+/// Starts the timers of the table's keys at this moment, unless they run already.
+fn begin_each(starts: &mut Starts, table: &Table, moment: u64) -> Result<(), NoMemory>
+    ensures { OnOk result
+        (starts.new ≡ begun_each starts.old (maps.keys table.now.contents) moment) }
+{
+    for key in table.keys() {
+        starts.begin(key, moment)?;
+    }
+    Ok(())
 }
 
 /// Whether the timer of a key with this start has run out where the clock shows `now`.

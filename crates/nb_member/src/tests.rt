@@ -1,5 +1,6 @@
 //! Tests, by what they are about.
 
+mod absorbing;
 mod lines;
 mod members;
 mod names;

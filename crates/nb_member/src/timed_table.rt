@@ -5,6 +5,8 @@ ghost use Rattle.nb_table.specs.Change.{IsChange};
 ghost use Rattle.nb_table.specs.Insert.{Takes, Refuses};
 ghost use Rattle.nb_member.specs.Timing.{begun, after_fragment, after_clock};
 
+mod merging;
+
 use crate::starts::Starts;
 use nb_datagram::{Fragment, Key};
 use nb_names::NoMemory;

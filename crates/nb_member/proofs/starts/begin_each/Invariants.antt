@@ -1,0 +1,8 @@
+use Rattle.std.proofs.Common.{◌≡◌}
+use Rattle.std.specs.FinMap as maps
+use Rattle.nb_member.specs.Timing.{begun_each}
+use Rattle.nb_member.proofs.starts.begin_each.Given as goal
+
+abbrev pub invariant-loop-key : goal.invariant-loop-key
+invariant-loop-key l =
+    begun_each l.starts l.key-iterator l.moment ≡ begun_each l.fn.starts (maps.keys l.table.contents) l.moment

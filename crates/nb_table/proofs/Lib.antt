@@ -25,3 +25,12 @@ mod OneLemmas
 mod RunsLemmas
 mod SavedLemmas
 mod ShortLemmas
+mod OutcomeLemmas
+mod FoundLemmas
+mod EachPutLemmas
+mod RowLemmas
+mod LoadedLemmas
+mod TurnLemmas
+mod LoadLemmas
+mod StandingLemmas
+mod MagicLemmas

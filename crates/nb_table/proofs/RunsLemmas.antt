@@ -124,7 +124,7 @@ sorted_placed i (x ∷ xs) es s h =
     T_both _ _ (below_placed i (i + 1) xs es next (h i here))
     (sorted_placed (i + 1) xs es s (λ k l. (let further : k < i + suc (length xs) = omega (arith, l) in h k further)))
 
-sorted_places : (rs : List RunValue) → AreApart rs → T (is_sorted nat_cmp (places_of rs))
+pub sorted_places : (rs : List RunValue) → AreApart rs → T (is_sorted nat_cmp (places_of rs))
 sorted_places [] a = tt
 sorted_places (r ∷ rs) a = sorted_placed r.start r.bytes (places_of rs) (sorted_places rs a.1.1)
     (λ k l. (let least : k ≤ run_end r = omega (arith, l) in below_places k rs (past_less k (run_end r) rs least a.1.0) a.1.1))

@@ -21,4 +21,9 @@ pub mod FaultTexts
 pub mod Runs
 pub mod Saved
 pub mod SavedFits
+pub mod SavedReading
+pub mod SavedRuns
+pub mod Each
+pub mod LoadFaults
+pub mod SavedTables
 pub mod Lemmas

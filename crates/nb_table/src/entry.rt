@@ -41,6 +41,20 @@ impl Model for Entry {
 }
 
 impl Entry {
+    /// What is held.
+    pub(crate) fn held(facts: Facts) -> Entry
+        ensures { result ≡ Held facts }
+    {
+        Entry { facts: Some(facts) }
+    }
+
+    /// A spoilt entry.
+    pub(crate) fn spoilt() -> Entry
+        ensures { result ≡ Spoilt }
+    {
+        Entry { facts: None }
+    }
+
     /// What one fragment says of its datagram. Memory is taken for its bytes.
     ///
     /// # Errors

@@ -58,6 +58,23 @@ fn grown_to(datagram: Option<Datagram>) -> Change
 }
 
 impl Facts {
+    /// The facts of these parts.
+    pub(crate) fn new(kind: Kind, source: Name, destination: Name, places: Places) -> Facts
+        ensures { result ≡ record {
+          kind = kind;
+          source = source;
+          destination = destination;
+          cover = places;
+        } }
+    {
+        Facts {
+            kind,
+            source,
+            destination,
+            places,
+        }
+    }
+
     /// What one fragment says.
     pub(crate) fn of(alloc: Global, fragment: &Fragment<'_>) -> Result<Facts, NoMemory>
         ensures { IfOk result (λ facts. facts ≡ facts_of (core_of fragment.now)) }

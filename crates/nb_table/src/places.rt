@@ -8,6 +8,7 @@ ghost use Rattle.nb_table.specs.Cover.{bytes_agree as same_bytes};
 ghost use Rattle.nb_table.specs.Places.{Holds};
 ghost use Rattle.nb_table.specs.Whole.{bytes_to, IsWholeCover};
 
+mod loading;
 mod saving;
 mod uniting;
 

@@ -8,6 +8,7 @@ ghost use Rattle.nb_datagram.specs.Fragment.{core_of};
 ghost use Rattle.nb_table.specs.Insert.{NeedsNoMemory, Passes, Takes, Refuses, with_fragment};
 
 mod fitting;
+mod loading;
 mod merging;
 mod saving;
 
@@ -17,6 +18,7 @@ use crate::fault::TableFault;
 use crate::inserting::{are_equal, join_fragment};
 use crate::keys::Keys;
 use crate::state::State;
+pub use loading::load;
 use nb_datagram::{Fragment, Key};
 use std::alloc::Global;
 use std::collections::BTreeMap;

@@ -3,6 +3,7 @@
 mod caller;
 mod comparing;
 mod inserting;
+mod loading;
 mod merging;
 mod saving;
 

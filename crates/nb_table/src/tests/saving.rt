@@ -8,9 +8,9 @@ use std::process::Abort;
 use std::test::Fail;
 
 /// JOE and FRED, as they are spelled.
-const JOE: &[u8] = b"\x20EKEPEFCACACACACACACACACACACACAAA\x00";
+pub(super) const JOE: &[u8] = b"\x20EKEPEFCACACACACACACACACACACACAAA\x00";
 
-const FRED: &[u8] = b"\x20EGFCEFEECACACACACACACACACACACACA\x00";
+pub(super) const FRED: &[u8] = b"\x20EGFCEFEECACACACACACACACACACACACA\x00";
 
 /// A key of another address, with another port.
 const LATER: Key = Key {
@@ -21,13 +21,13 @@ const LATER: Key = Key {
 
 /// What fragments are called, the fragments with their keys in order of arrival, and the parts of
 /// the saved table.
-type Situation = (
+pub(super) type Situation = (
     &'static str,
     &'static [(Key, Piece)],
     &'static [&'static [u8]],
 );
 
-const SITUATIONS: [Situation; 5] = [
+pub(super) const SITUATIONS: [Situation; 5] = [
     ("nothing", &[], &[b"NBT1\x00\x00\x00\x00"]),
     (
         "spoilt",
@@ -68,7 +68,7 @@ const SITUATIONS: [Situation; 5] = [
 ];
 
 /// A table of these fragments.
-fn table_of(rt: &impl Abort, alloc: Global, fragments: &[(Key, Piece)]) -> Table {
+pub(super) fn table_of(rt: &impl Abort, alloc: Global, fragments: &[(Key, Piece)]) -> Table {
     let mut table = Table::new(alloc, 9, 65_535);
     for (key, piece) in fragments {
         table

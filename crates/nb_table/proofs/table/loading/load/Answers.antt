@@ -1,0 +1,43 @@
+use Rattle.std.proofs.Common.{ap, ◌∙◌, Err, arith}
+use Rattle.std.proofs.lemmas.Result.{err_from_is_err_and}
+use Rattle.nb_table.specs.LoadFaults.{ill_formed}
+use Rattle.nb_table.proofs.LoadLemmas.{judged_sound, fault_same, judged_long, judged_full, keeping_failed, kept_limits, kept_saved}
+use Rattle.nb_table.proofs.table.loading.load.Goals as goal
+
+pub returns-in_err-count-clause-fault : goal.returns-in_err-count-clause-fault
+returns-in_err-count-clause-fault c =
+    let p = err_from_is_err_and c.from_residual.result c.from_residual.ensures.1 in rw (p.1, p.2) (ill_formed c.in_err-count.ensures.fault)
+
+pub returns-in_err-count-clause-only : goal.returns-in_err-count-clause-only
+returns-in_err-count-clause-only c fault h =
+    let p = err_from_is_err_and c.from_residual.result c.from_residual.ensures.1 in
+    rw (p.1, p.2) (ap Err (fault_same _ _ _ c.in_err-count.ensures.fault h))
+
+pub returns-then-not-is_short-clause-fault : goal.returns-then-not-is_short-clause-fault
+returns-then-not-is_short-clause-fault c = judged_long _ _ _ _ c.in_ok-count.ensures.found c.if-not-is_short.true
+
+pub returns-then-not-is_short-clause-only : goal.returns-then-not-is_short-clause-only
+returns-then-not-is_short-clause-only c fault h = absurd (judged_sound _ _ _ _ c.in_ok-count.ensures.found fault h)
+
+pub returns-then-count-keys-clause-fault : goal.returns-then-count-keys-clause-fault
+returns-then-count-keys-clause-fault c = judged_full _ _ _ _ c.in_ok-count.ensures.found c.if-not-is_short.false c.if-count-keys.true
+
+pub returns-then-count-keys-clause-only : goal.returns-then-count-keys-clause-only
+returns-then-count-keys-clause-only c fault h = absurd (judged_sound _ _ _ _ c.in_ok-count.ensures.found fault h)
+
+pub returns-in_err-entries-clause-fault : goal.returns-in_err-entries-clause-fault
+returns-in_err-entries-clause-fault c =
+    let p = err_from_is_err_and c.from_residual-in_err-entries.result c.from_residual-in_err-entries.ensures.1 in
+    rw (p.1, p.2) (keeping_failed _ _ _ _ _ c.in_ok-count.ensures.found c.if-not-is_short.false (omega arith) c.in_err-entries.ensures.fault)
+
+pub returns-in_err-entries-clause-only : goal.returns-in_err-entries-clause-only
+returns-in_err-entries-clause-only c fault h = absurd (judged_sound _ _ _ _ c.in_ok-count.ensures.found fault h)
+
+pub invariant_of-result : goal.invariant_of-result
+invariant_of-result c = kept_limits _ (record { keys = c.args.keys; longest = c.args.longest }) _ _ _ c.in_ok-count.ensures.found c.if-not-is_short.false (omega arith) c.in_ok-entries.ensures.kept
+
+pub returns-clause-found : goal.returns-clause-found
+returns-clause-found c = kept_saved _ _ _ _ _ c.in_ok-count.ensures.found c.in_ok-entries.ensures.kept
+
+pub returns-clause-only : goal.returns-clause-only
+returns-clause-only c fault h = absurd (judged_sound _ _ _ _ c.in_ok-count.ensures.found fault h)

@@ -1,0 +1,21 @@
+-- Why an input isn't loaded as a table (our choice). What stands in it is judged first, whatever the limits;
+-- then each entry's length, then the number of keys, and memory last.
+use Rattle.std.specs.Prelude.{◌≡◌, ◌<◌, ◌≤◌, ℕ, List, Err}
+use Rattle.std.specs.FinMap as maps
+use Rattle.nb_table.specs.declared.load_fault.LoadFault.{LoadFault}
+use Rattle.nb_table.specs.declared.load_fault.LoadFault.TheVariants.{TooLong, Full, NoMemory}
+use Rattle.nb_table.specs.Contents.{Contents}
+use Rattle.nb_table.specs.Limits.{Limits}
+use Rattle.nb_table.specs.Merging.{AllShort}
+use Rattle.nb_table.specs.Saved.{saved}
+use Rattle.nb_table.specs.SavedReading.{IsRead}
+
+-- LoadFails input limits fault: a table with these limits isn't loaded from the input, for this reason; but for
+-- the first, only from the bytes of a saved table
+pub data LoadFails (input : List ℕ) (limits : Limits) : LoadFault → Type 0 where
+  ill_formed : {fault : LoadFault} → IsRead input (Err fault) → LoadFails input limits fault
+  too_long : (t : Contents) → input ≡ saved t → ¬ AllShort limits.longest t → LoadFails input limits TooLong
+  full : (t : Contents) → input ≡ saved t → AllShort limits.longest t → limits.keys < maps.len t
+      → LoadFails input limits Full
+  no_memory : (t : Contents) → input ≡ saved t → AllShort limits.longest t → maps.len t ≤ limits.keys
+      → LoadFails input limits NoMemory

@@ -1,0 +1,27 @@
+//! Saved tables, read.
+ghost use Rattle.std.specs.Prelude.{◌≡◌, ℕ, List, Ok};
+ghost use Rattle.std.specs.FinMap as maps;
+ghost use Rattle.nb_datagram.specs.declared.key.Key.{Key};
+ghost use Rattle.nb_datagram.specs.Key.{key_cmp};
+ghost use Rattle.nb_table.specs.Entry.{EntryValue};
+ghost use Rattle.nb_table.specs.Join.{IsTable};
+ghost use Rattle.nb_table.specs.Saved.{saved};
+ghost use Rattle.nb_table.specs.SavedReading.{Outcome, IsRead};
+
+/// Of an input either a saved table is read or one fault, and no other.
+pub fn saved_bytes_have_one_reading()
+    ensures { (input : List ℕ) (outcome other : Outcome (List (Key × EntryValue))) →
+        IsRead input outcome → IsRead input other → outcome ≡ other }
+{}
+
+/// An input of which a table is read is the saved bytes of that table.
+pub fn what_is_read_is_saved()
+    ensures bytes { (input : List ℕ) (entries : List (Key × EntryValue)) (last : ℕ) →
+        IsRead input (Ok (entries, last)) →
+        input ≡ saved (maps.from_entries {R = key_cmp} entries) }
+    ensures entries { (input : List ℕ) (entries : List (Key × EntryValue)) (last : ℕ) →
+        IsRead input (Ok (entries, last)) →
+        maps.entries (maps.from_entries {R = key_cmp} entries) ≡ entries }
+    ensures formed { (input : List ℕ) (entries : List (Key × EntryValue)) (last : ℕ) →
+        IsRead input (Ok (entries, last)) → IsTable (maps.from_entries {R = key_cmp} entries) }
+{}

@@ -1,0 +1,52 @@
+//! Tables, loaded.
+ghost use Rattle.std.specs.Prelude.{◌≡◌, ℕ, Err, IfOk, IfErr};
+ghost use Rattle.nb_table.specs.LoadFaults.{LoadFails};
+ghost use Rattle.nb_table.specs.Saved.{saved};
+ghost use Rattle.nb_table.specs.SavedReading.{IsRead};
+ghost use Rattle.nb_table.specs.declared.load_fault.LoadFault.{LoadFault};
+
+use super::Table;
+use crate::load_fault::LoadFault;
+use crate::loading::entries::{judge, load_entries};
+use std::alloc::Global;
+
+/// The table whose saved bytes these are, with these limits: how many keys it may hold, and how
+/// many bytes a datagram may have.
+///
+/// The bytes are those that [`Table::save`] gives for the table, and no others: what is answered
+/// says that of them. An input that is refused takes no memory.
+///
+/// # Errors
+///
+/// `BadMagic` where the bytes don't begin with "NBT1". Then the first fault in reading order over
+/// the whole input, each field judged as soon as it is there: `Truncated` where the input ends
+/// before or inside a field that is due; `NotCanonical` with the offset of what no saved table has
+/// there. Then `TooLong` where an entry that isn't spoilt has a byte or an end past the longest
+/// datagram; `Full` where there are more keys than may be held; `NoMemory` where memory ran out.
+/// The form is our choice.
+pub fn load(alloc: Global, input: &[u8], keys: u32, longest: u16) -> Result<Table, LoadFault>
+    // What is loaded is the table whose saved bytes these are.
+    ensures found { IfOk result (λ table. input.now ≡ saved table.contents) }
+    ensures limits { IfOk result (λ table.
+        table.limits ≡ record { keys = keys; longest = longest }) }
+
+    // Which fault it is, and that a fault of what stands in the input is answered.
+    ensures fault { IfErr result
+        (LoadFails input.now (record { keys = keys; longest = longest })) }
+    ensures only { (fault : LoadFault) → IsRead input.now (Err fault) → result ≡ Err fault }
+{
+    let (count, is_short) = judge(input, longest)?;
+    if !is_short {
+        return Err(LoadFault::TooLong);
+    }
+    if count > keys {
+        return Err(LoadFault::Full);
+    }
+    let entries = load_entries(alloc, input, count, 8)?;
+    Ok(Table {
+        entries,
+        keys,
+        longest,
+        alloc,
+    })
+}

@@ -15,9 +15,9 @@ use Rattle.nb_member.specs.declared.run_report.RunReport.{RunReport}
 use Rattle.nb_member.specs.declared.run_report.RunStop.{RunStop}
 use Rattle.nb_member.specs.declared.run_report.RunStop.TheVariants.{Full, NoMemory}
 use Rattle.nb_member.specs.declared.settings.Settings.{Settings}
-use Rattle.nb_member.specs.Agreement.{NoneFull, HasRoom, GiveTheSame, AreGivenTheSame, StoppedForMemory, TookAll, Agree}
+use Rattle.nb_member.specs.Agreement.{GiveTheSame, AreGivenTheSame, StoppedForMemory, TookAll, Agree}
 use Rattle.nb_member.specs.Handed.{deliveries}
-use Rattle.nb_member.specs.Live.{Saying, came, Timed, cores, table_from, is_full, live_after, live_from, live}
+use Rattle.nb_member.specs.Live.{Saying, came, Timed, cores, table_from, is_full, HasRoom, NoneFull, live_after, live_from, live}
 use Rattle.nb_member.specs.Member.{MemberValue, contents, new_member}
 use Rattle.nb_member.specs.Running.{Stands, MeetsLimit, StopsBefore, Runs}
 use Rattle.nb_member.specs.Saying.{Says, Say, none, more}

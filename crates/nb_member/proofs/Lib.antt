@@ -3,6 +3,10 @@ pub mod WordsLemmas
 pub mod MomentLemmas
 pub mod PayloadLemmas
 pub mod LineLemmas
+pub mod WritingLemmas
+pub mod ReadingLemmas
+pub mod ActingLemmas
+pub mod ReplayLemmas
 pub mod KeysLemmas
 pub mod LiveLemmas
 pub mod NamesLemmas
@@ -12,6 +16,7 @@ pub mod ExpiringLemmas
 pub mod RunningLemmas
 pub mod StandingLemmas
 pub mod StepLemmas
+pub mod FullLemmas
 pub mod AnsweringLemmas
 pub mod SteppingLemmas
 pub mod WholeKeysLemmas

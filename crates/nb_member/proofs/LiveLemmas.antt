@@ -16,9 +16,9 @@ use Rattle.nb_table.specs.Lemmas.SameLemmas.{le_is}
 use Rattle.nb_table.specs.Lemmas.TableLemmas.{get-join}
 use Rattle.nb_table.specs.Join.{join, SameCores}
 use Rattle.nb_member.specs.declared.settings.Settings.{Settings}
-use Rattle.nb_member.specs.Live.{Saying, came, refused, another, clock, Timed, cores, table_from, is_full, live_after, live_from, live}
+use Rattle.nb_member.specs.Live.{Saying, came, refused, another, clock, Timed, cores, table_from, is_full, NoneFull, live_after, live_from, live}
 use Rattle.nb_member.proofs.KeysLemmas.{cases_bool, HasKeysOf, fewer_keys_without}
-use Rattle.nb_member.specs.Agreement.{valid_cores, NoneDropped, NoneFull, GiveTheSame}
+use Rattle.nb_member.specs.Agreement.{valid, valid_cores, NoneDropped, GiveTheSame}
 
 -- ---- lists of fragments
 
@@ -47,7 +47,22 @@ came_cores settings L moment f room =
     ap (λ (b : Bool). cores (cond b L (L ++ record { moment = moment; fragment = f } ∷ []))) room
     ∙ cores-append L (record { moment = moment; fragment = f } ∷ [])
 
--- what is live is what was valid
+-- what is live is what was valid, with its moments
+pub live_is_all : (settings : Settings) (L : List Timed) (S : List Saying) → NoneDropped settings L S
+    → NoneFull settings L S → live_from settings L S ≡ L ++ valid S
+live_is_all settings L [] kept room = sym (append-nil L)
+live_is_all settings L (came moment f ∷ S) kept room =
+    let t : Timed = record { moment = moment; fragment = f } in
+    live_is_all settings (live_after settings L (came moment f)) S kept.1 room.1
+    ∙ (ap (λ (b : Bool). cond b L (L ++ t ∷ []) ++ valid S) room.0
+    ∙ append_assoc L (t ∷ []) (valid S))
+live_is_all settings L (refused fault ∷ S) kept room = live_is_all settings L S kept.1 room.1
+live_is_all settings L (another ∷ S) kept room = live_is_all settings L S kept.1 room.1
+live_is_all settings L (clock now ∷ S) kept room =
+    live_is_all settings (live_after settings L (clock now)) S kept.1 room.1
+    ∙ ap (λ (M : List Timed). M ++ valid S) kept.0
+
+-- and so are their cores
 pub live_is_valid : (settings : Settings) (L : List Timed) (S : List Saying) → NoneDropped settings L S
     → NoneFull settings L S → cores (live_from settings L S) ≡ cores L ++ valid_cores S
 live_is_valid settings L [] kept room = sym (append-nil (cores L))

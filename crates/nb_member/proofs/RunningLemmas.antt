@@ -12,7 +12,7 @@ use Rattle.nb_member.specs.declared.run_report.RunReport.{RunReport}
 use Rattle.nb_member.specs.declared.settings.Settings.{Settings}
 use Rattle.nb_member.specs.Handed.{made_by, errors_by, made, deliveries, errors}
 use Rattle.nb_member.specs.Hearing.{hears}
-use Rattle.nb_member.specs.Live.{Saying, came, refused, another, clock, Timed, live_after, live_from, live}
+use Rattle.nb_member.specs.Live.{Saying, came, refused, another, clock, Timed, HasRoom, NoneFull, live_after, live_from, live}
 use Rattle.nb_member.specs.Member.{MemberValue, StandsOver}
 use Rattle.nb_member.specs.Running.{Stands, refused_count, StopsBefore, Runs}
 use Rattle.nb_member.specs.Saying.{Says, Say, none, more}
@@ -32,6 +32,11 @@ say_one settings event s h = more event s [] [] h none
 pub live_from-append : (settings : Settings) (L : List Timed) (S T : List Saying)
     → live_from settings L (S ++ T) ≡ live_from settings (live_from settings L S) T
 live_from-append settings L S T = fold-append (live_after settings) L S T
+
+pub none_full-append : (settings : Settings) (L : List Timed) (S T : List Saying) → NoneFull settings L S
+    → NoneFull settings (live_from settings L S) T → NoneFull settings L (S ++ T)
+none_full-append settings L [] T h k = k
+none_full-append settings L (s ∷ S) T h k = (h.0, none_full-append settings (live_after settings L s) S T h.1 k)
 
 pub made-append : (settings : Settings) (L : List Timed) (S T : List Saying)
     → made settings L (S ++ T) ≡ made settings L S ++ made settings (live_from settings L S) T
@@ -75,6 +80,7 @@ pub record RanOver (m : MemberValue) (L : List Timed) (E : List Event) (new : Me
   pub deliveries_are : ds ≡ deliveries m.settings m.names L sayings
   pub errors_are : es ≡ errors m.settings m.names L sayings
   pub refused_are : n ≡ refused_count sayings
+  pub has_room : NoneFull m.settings L sayings
 
 -- no event
 pub ran_none : (m : MemberValue) (L : List Timed) → StandsOver m L → RanOver m L [] m [] [] 0
@@ -85,17 +91,19 @@ ran_none m L h = record {
   deliveries_are = refl;
   errors_are = refl;
   refused_are = refl;
+  has_room = tt;
 }
 
 -- one more event, which says s
 pub ran_more : (m : MemberValue) (L : List Timed) (E : List Event) (old new : MemberValue) (ds : List DatagramParts) (es : List ErrorPacket) (n : ℕ)
     → (r : RanOver m L E old ds es n) (event : Event) (s : Saying) → Says m.settings event s
+    → HasRoom m.settings (live_from m.settings L r.sayings) s
     → StandsOver new (live_after m.settings (live_from m.settings L r.sayings) s)
     → (more_ds : List DatagramParts) → more_ds ≡ filter (hears m.names) (made_by m.settings (live_from m.settings L r.sayings) s)
     → (more_es : List ErrorPacket) → more_es ≡ errors_by m.settings m.names (live_from m.settings L r.sayings) s
     → (more_n : ℕ) → more_n ≡ refused_count (s ∷ [])
     → RanOver m L (E ++ event ∷ []) new (ds ++ more_ds) (es ++ more_es) (n + more_n)
-ran_more m L E old new ds es n r event s says over more_ds ds_is more_es es_is more_n n_is =
+ran_more m L E old new ds es n r event s says room over more_ds ds_is more_es es_is more_n n_is =
     let before = live_from m.settings L r.sayings in
     let made_is = ap (filter (hears m.names)) (append-nil (made_by m.settings before s)) in
     let errors_is = append-nil (errors_by m.settings m.names before s) in
@@ -115,6 +123,7 @@ ran_more m L E old new ds es n r event s says over more_ds ds_is more_es es_is m
           let first = r.refused_are in
           let all = refused_count-append r.sayings (s ∷ []) in
           omega (arith, first, n_is, all);
+      has_room = none_full-append m.settings L r.sayings (s ∷ []) r.has_room (room, tt);
     }
 
 -- ---- a run, and lists of events
@@ -155,6 +164,7 @@ runs_from m events new report settings names within ran = record {
         deliveries_are = r.0.deliveries_are;
         errors_are = r.0.errors_are;
         refused_are = r.0.refused_are;
+        has_room = r.0.has_room;
         stops = r.1;
       };
 }

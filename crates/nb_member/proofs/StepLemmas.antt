@@ -16,12 +16,12 @@ use Rattle.nb_member.specs.declared.member_fault.MemberFault.TheVariants as faul
 use Rattle.nb_member.specs.declared.outcome.Outcome.{Outcome}
 use Rattle.nb_member.specs.declared.settings.Settings.{Settings}
 use Rattle.nb_member.specs.Answering.{Answers, Does}
-use Rattle.nb_member.specs.Live.{Saying, came, refused, another, Timed, table_from, is_full, limits_of, live_after}
+use Rattle.nb_member.specs.Live.{Saying, came, refused, another, Timed, HasRoom, table_from, is_full, limits_of, live_after}
 use Rattle.nb_member.specs.Member.{MemberValue, contents, StandsOver}
 use Rattle.nb_member.specs.Saying as saying
 use Rattle.nb_member.specs.Saying.{IsValid, Says, refusal}
 use Rattle.nb_member.specs.Taking as taking
-use Rattle.nb_member.specs.Taking.{IsTaken, TakesFragment, Takes}
+use Rattle.nb_member.specs.Taking.{IsTaken, IsFullAt, TakesFragment, Takes}
 use Rattle.nb_member.proofs.KeysLemmas.{cases_bool}
 use Rattle.nb_member.proofs.SayingLemmas.{PacketsKnown, one_saying}
 use Rattle.nb_member.proofs.StandingLemmas.{full_is, is_full_is, stands_more}
@@ -55,19 +55,19 @@ pub live_same : (settings : Settings) (L : List Timed) (moment : ℕ) (f : Fragm
 live_same settings L moment f full =
     ap (λ (b : Bool). cond b L (L ++ record { moment = moment; fragment = f } ∷ [])) full
 
-has_room : (m : MemberValue) (L : List Timed) (moment : ℕ) (f : FragmentParts) (new : MemberValue) (outcome : Outcome)
-    → StandsOver m L → IsTaken m moment f new outcome → is_full m.settings L f.key ≡ false
-has_room m L moment f new outcome s t =
+has_room : (m : MemberValue) (L : List Timed) (f : FragmentParts) → StandsOver m L → (IsFullAt m f.key → ⊥)
+    → is_full m.settings L f.key ≡ false
+has_room m L f s not_full =
     elim (cases_bool (is_full m.settings L f.key)) [
       | inr room ↦ room
       | inl full ↦
-          absurd (t.takes.room (is_full_is (contents m) m.timed.table.limits m.settings L f.key s.table_is s.limits_are full))
+          absurd (not_full (is_full_is (contents m) m.timed.table.limits m.settings L f.key s.table_is s.limits_are full))
     ]
 
 does_taken : TablesJoin → (m : MemberValue) (L : List Timed) (moment : ℕ) (f : FragmentParts) (new : MemberValue)
     (outcome : Outcome) → StandsOver m L → IsTaken m moment f new outcome → Does m L (came moment f) new (Ok outcome)
 does_taken of_two m L moment f new outcome s t =
-    let room = has_room m L moment f new outcome s t in
+    let room = has_room m L f s t.takes.room in
     let more = L ++ record { moment = moment; fragment = f } ∷ [] in
     let next = live_more m.settings L moment f room in
     let over : StandsOver new more =
@@ -88,7 +88,7 @@ does_taken of_two m L moment f new outcome s t =
 
 -- ---- fragments
 
-valid_is : (l : Limits) (settings : Settings) (f : FragmentParts) → l ≡ limits_of settings → Passes l f → IsValid settings.longest f
+pub valid_is : (l : Limits) (settings : Settings) (f : FragmentParts) → l ≡ limits_of settings → Passes l f → IsValid settings.longest f
 valid_is l settings f limits p =
     let longest : l.longest ≡ settings.longest = ap (λ (x : Limits). x.longest) limits in
     let short = p.short in
@@ -100,6 +100,7 @@ pub record Told (m : MemberValue) (L : List Timed) (moment : ℕ) (payload : Lis
   pub said : Saying
   pub says : Says m.settings (Packet moment payload) said
   pub does : (result ≡ Err (fault.Table NoMemory) → ⊥) → Does m L said new result
+  pub room : result ≡ Err (fault.Table NoMemory) → HasRoom m.settings L said
 
 fragment_told : TablesJoin → (m : MemberValue) (L : List Timed) (moment used : ℕ) (payload : List ℕ) (f : FragmentParts)
     (new : MemberValue) (result : Result Outcome MemberFault) → IsPacket payload (Direct f) used → StandsOver m L
@@ -108,12 +109,14 @@ fragment_told of_two m L moment used payload f new (Ok outcome) p s t = record {
   said = came moment f;
   says = saying.fragment moment used payload f p (valid_is m.timed.table.limits m.settings f s.limits_are t.takes.passes);
   does = λ memory. does_taken of_two m L moment f new outcome s t;
+  room = λ h. has_room m L f s t.takes.room;
 }
 fragment_told of_two m L moment used payload f new (Err (fault.Packet x error)) p s t = absurd t
 fragment_told of_two m L moment used payload f new (Err (fault.Table MisplacedFirst)) p s t = record {
   said = refused (fault.Table MisplacedFirst);
   says = saying.misplaced moment used payload f p t.0;
   does = λ memory. same_member m new L (refused (fault.Table MisplacedFirst)) (Err (fault.Table MisplacedFirst)) t.1 s refl;
+  room = λ h. tt;
 }
 fragment_told of_two m L moment used payload f new (Err (fault.Table TooLong)) p s t =
     let longest : m.timed.table.limits.longest ≡ m.settings.longest = ap (λ (x : Limits). x.longest) s.limits_are in
@@ -122,6 +125,7 @@ fragment_told of_two m L moment used payload f new (Err (fault.Table TooLong)) p
       said = refused (fault.Table TooLong);
       says = saying.too_long moment used payload f p t.0.0 (omega (arith, longest, past));
       does = λ memory. same_member m new L (refused (fault.Table TooLong)) (Err (fault.Table TooLong)) t.1 s refl;
+      room = λ h. tt;
     }
 fragment_told of_two m L moment used payload f new (Err (fault.Table (Full k))) p s t =
     let full = full_is (contents m) m.timed.table.limits m.settings L f.key s.table_is s.limits_are t.0.1.1 in
@@ -132,11 +136,13 @@ fragment_told of_two m L moment used payload f new (Err (fault.Table (Full k))) 
           same_member m new L (came moment f) (Err (fault.Table (Full k))) t.1
           (subst (λ (M : List Timed). StandsOver m M) (sym (live_same m.settings L moment f full)) s)
           (full, ap (λ (j : Key). fault.Table (Full j)) t.0.1.0);
+      room = λ h. absurd (cc);
     }
 fragment_told of_two m L moment used payload f new (Err (fault.Table NoMemory)) p s t = record {
   said = came moment f;
   says = saying.fragment moment used payload f p (valid_is m.timed.table.limits m.settings f s.limits_are t.0.0);
   does = λ memory. absurd (memory refl);
+  room = λ h. has_room m L f s t.0.1.0;
 }
 
 -- ---- payloads
@@ -150,16 +156,19 @@ told of_two m L moment payload new _ s (taking.error e used p same) = record {
   said = another;
   says = saying.error moment used payload e p;
   does = λ memory. same_member m new L another _ same s refl;
+  room = λ h. tt;
 }
 told of_two m L moment payload new _ s (taking.query q used p same) = record {
   said = another;
   says = saying.query moment used payload q p;
   does = λ memory. same_member m new L another _ same s refl;
+  room = λ h. tt;
 }
 told of_two m L moment payload new _ s (taking.no_packet x p same) = record {
   said = refused (fault.Packet x (refusal m.settings payload x));
   says = saying.no_packet moment payload x p;
   does = λ memory. same_member m new L (refused (fault.Packet x (refusal m.settings payload x))) _ same s refl;
+  room = λ h. tt;
 }
 
 -- a member does what is said
@@ -169,6 +178,14 @@ pub does_what_is_said : PacketsKnown → TablesJoin → (m new : MemberValue) (L
 does_what_is_said known of_two m new L moment payload result s stands says takes memory =
     let t = told of_two m L moment payload new result stands takes in
     subst (λ (x : Saying). Does m L x new result) (one_saying known m.settings (Packet moment payload) t.said s t.says says) (t.does memory)
+
+-- memory is wanted only where there is room
+pub room_where_no_memory : PacketsKnown → TablesJoin → (m new : MemberValue) (L : List Timed) (moment : ℕ) (payload : List ℕ)
+    (s : Saying) → StandsOver m L → Says m.settings (Packet moment payload) s
+    → Takes m moment payload new (Err (fault.Table NoMemory)) → HasRoom m.settings L s
+room_where_no_memory known of_two m new L moment payload s stands says takes =
+    let t = told of_two m L moment payload new (Err (fault.Table NoMemory)) stands takes in
+    subst (λ (x : Saying). HasRoom m.settings L x) (one_saying known m.settings (Packet moment payload) t.said s t.says says) (t.room refl)
 
 -- a payload that is refused changes nothing
 refused_fragment : (m : MemberValue) (moment : ℕ) (f : FragmentParts) (new : MemberValue) (x : MemberFault)

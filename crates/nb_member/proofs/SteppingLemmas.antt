@@ -1,6 +1,6 @@
 -- One event of a run, and what a run comes to.
-use Rattle.std.proofs.Common.{◌≡◌, ◌<◌, ◌≤◌, ◌+◌, ◌++◌, ℕ, suc, Bool, true, false, cond, List, [], ◌∷◌, length, take, drop, get_or, refl, sym, ap, ◌∙◌, arith, subst, append-nil, drop-cons, add-one, take_all, length-drop, Some, None, Result, Ok, Err}
-use Rattle.std.specs.Prelude.{filter}
+use Rattle.std.proofs.Common.{◌≡◌, ◌<◌, ◌≤◌, ◌+◌, ◌++◌, ℕ, suc, Bool, true, false, cond, List, [], ◌∷◌, length, take, drop, get_or, refl, sym, ap, ◌∙◌, arith, subst, append-nil, drop-cons, add-one, take_all, length-drop, Option, Some, None, Result, Ok, Err}
+use Rattle.std.specs.Prelude.{filter, MatchOption}
 use Rattle.std.proofs.Math.ListN.{drop_of_length-le}
 use Rattle.std.proofs.Math.Seq.{take-suc}
 use Rattle.nb_names.specs.Name.{NetbiosName}
@@ -21,13 +21,14 @@ use Rattle.nb_member.specs.declared.settings.Settings.{Settings}
 use Rattle.nb_member.specs.Answering.{Answers, Does, delivery_in, error_in}
 use Rattle.nb_member.specs.Handed.{made_by, errors_by}
 use Rattle.nb_member.specs.Hearing.{hears}
-use Rattle.nb_member.specs.Live.{Saying, came, refused, another, clock, Timed, is_full, live_after, live_from}
+use Rattle.nb_member.specs.Live.{Saying, came, refused, another, clock, Timed, is_full, HasRoom, live_after, live_from}
 use Rattle.nb_member.specs.Member.{MemberValue, StandsOver, with_timed}
 use Rattle.nb_member.specs.Running.{refused_count, StopsBefore, Runs}
 use Rattle.nb_member.specs.Saying.{Says, tick}
-use Rattle.nb_member.specs.Stepping.{noted, HandedOut, HasTaken, StopsAt, StepsTo}
-use Rattle.nb_member.specs.Taking.{Takes}
+use Rattle.nb_member.specs.Stepping.{noted, stop_of, HandedOut, HasTaken, StopsAt, StepsTo}
+use Rattle.nb_member.specs.Taking.{Takes, BeginsFull}
 use Rattle.nb_member.specs.Timing.{after_clock}
+use Rattle.nb_member.proofs.FullLemmas.{stops_at, meets_none}
 use Rattle.nb_member.proofs.RunningLemmas.{RanOver, ran_none, ran_more, runs_from}
 use Rattle.nb_member.proofs.SayingLemmas.{SaysOf, of_fragment, of_invalid, of_fault, of_error, of_query, IsInvalid, says_by}
 
@@ -40,6 +41,9 @@ pub record StepsKnown : Type 0 where
   pub does : (m new : MemberValue) (L : List Timed) (moment : ℕ) (payload : List ℕ) (result : Result Outcome MemberFault)
       (s : Saying) → StandsOver m L → Says m.settings (Packet moment payload) s → Takes m moment payload new result
       → (result ≡ Err (fault.Table table_fault.NoMemory) → ⊥) → Does m L s new result
+  pub memory : (m new : MemberValue) (L : List Timed) (moment : ℕ) (payload : List ℕ) (s : Saying) → StandsOver m L
+      → Says m.settings (Packet moment payload) s → Takes m moment payload new (Err (fault.Table table_fault.NoMemory))
+      → HasRoom m.settings L s
   pub keeps : (m new : MemberValue) (moment : ℕ) (payload : List ℕ) (x : MemberFault)
       → Takes m moment payload new (Err x) → new ≡ m
   pub delivery : (settings : Settings) (names : List NetbiosName) (L : List Timed) (s : Saying)
@@ -70,6 +74,22 @@ counted settings names L another x other a = absurd (cc)
 counted settings names L (clock now) x other a = absurd a
 
 -- ---- full keys
+
+-- what is answered with an outcome had room
+room_where_ok : (settings : Settings) (names : List NetbiosName) (L : List Timed) (s : Saying) (outcome : Outcome)
+    → Answers settings names L s (Ok outcome) → HasRoom settings L s
+room_where_ok settings names L (came moment f) outcome a = a.room
+room_where_ok settings names L (refused x) outcome a = tt
+room_where_ok settings names L another outcome a = tt
+room_where_ok settings names L (clock now) outcome a = tt
+
+-- and so had what is refused otherwise than as full
+room_where_refused : (settings : Settings) (names : List NetbiosName) (L : List Timed) (s : Saying) (x : MemberFault) → IsNotFull x
+    → Answers settings names L s (Err x) → HasRoom settings L s
+room_where_refused settings names L (came moment f) x other a = absurd (other f.key a.1)
+room_where_refused settings names L (refused y) x other a = tt
+room_where_refused settings names L another x other a = tt
+room_where_refused settings names L (clock now) x other a = tt
 
 -- no payload is refused as full: it says a fragment
 never_full_of : (settings : Settings) (moment : ℕ) (payload : List ℕ) (k : Key)
@@ -111,14 +131,16 @@ step_taken : StepsKnown → (m new : MemberValue) (L : List Timed) (moment : ℕ
     (answer : Result Outcome MemberFault) (before after : HandedOut) (was : Bool) → StandsOver m L
     → Takes m moment payload new answer → (answer ≡ Err (fault.Table table_fault.NoMemory) → ⊥)
     → ((s : Saying) → Answers m.settings m.names L s answer → cond was 1 0 ≡ refused_count (s ∷ []))
+    → ((s : Saying) → Answers m.settings m.names L s answer → HasRoom m.settings L s)
     → after.deliveries ≡ before.deliveries ++ delivery_in answer → after.errors ≡ before.errors ++ error_in answer
     → HasTaken m.settings m.names L (Packet moment payload) new before after was
-step_taken known m new L moment payload answer before after was stands takes memory count d e =
+step_taken known m new L moment payload answer before after was stands takes memory count room d e =
     let s = known.says m new L moment payload answer stands takes in
     let does = known.does m new L moment payload answer s.0 stands s.1 takes memory in
     record {
       said = s.0;
       says = s.1;
+      has_room = room s.0 does.answers;
       stands = does.stands;
       deliveries = d ∙ ap (λ (xs : List DatagramParts). before.deliveries ++ xs) (sym (known.delivery m.settings m.names L s.0 answer does.answers));
       errors = e ∙ ap (λ (xs : List ErrorPacket). before.errors ++ xs) (sym (known.error m.settings m.names L s.0 answer does.answers));
@@ -131,16 +153,20 @@ packet_step : StepsKnown → (m new : MemberValue) (L : List Timed) (moment : �
     → StepsTo m L (Packet moment payload) new before after (noted answer)
 packet_step known m new L moment payload (Ok outcome) before after stands takes d e =
     step_taken known m new L moment payload (Ok outcome) before after false stands takes (λ h. absurd (cc))
-    (λ s a. not_counted m.settings m.names L s outcome a) d e
+    (λ s a. not_counted m.settings m.names L s outcome a)
+    (λ s a. room_where_ok m.settings m.names L s outcome a) d e
 packet_step known m new L moment payload (Err (fault.Packet x error)) before after stands takes d e =
     step_taken known m new L moment payload (Err (fault.Packet x error)) before after true stands takes (λ h. absurd (cc))
-    (λ s a. counted m.settings m.names L s (fault.Packet x error) (λ k h. absurd (cc)) a) d e
+    (λ s a. counted m.settings m.names L s (fault.Packet x error) (λ k h. absurd (cc)) a)
+    (λ s a. room_where_refused m.settings m.names L s (fault.Packet x error) (λ k h. absurd (cc)) a) d e
 packet_step known m new L moment payload (Err (fault.Table table_fault.MisplacedFirst)) before after stands takes d e =
     step_taken known m new L moment payload (Err (fault.Table table_fault.MisplacedFirst)) before after true stands takes (λ h. absurd (cc))
-    (λ s a. counted m.settings m.names L s (fault.Table table_fault.MisplacedFirst) (λ k h. absurd (cc)) a) d e
+    (λ s a. counted m.settings m.names L s (fault.Table table_fault.MisplacedFirst) (λ k h. absurd (cc)) a)
+    (λ s a. room_where_refused m.settings m.names L s (fault.Table table_fault.MisplacedFirst) (λ k h. absurd (cc)) a) d e
 packet_step known m new L moment payload (Err (fault.Table table_fault.TooLong)) before after stands takes d e =
     step_taken known m new L moment payload (Err (fault.Table table_fault.TooLong)) before after true stands takes (λ h. absurd (cc))
-    (λ s a. counted m.settings m.names L s (fault.Table table_fault.TooLong) (λ k h. absurd (cc)) a) d e
+    (λ s a. counted m.settings m.names L s (fault.Table table_fault.TooLong) (λ k h. absurd (cc)) a)
+    (λ s a. room_where_refused m.settings m.names L s (fault.Table table_fault.TooLong) (λ k h. absurd (cc)) a) d e
 packet_step known m new L moment payload (Err (fault.Table (table_fault.Full k))) before after stands takes d e =
     let answer : Result Outcome MemberFault = Err (fault.Table (table_fault.Full k)) in
     let s = known.says m new L moment payload answer stands takes in
@@ -149,8 +175,11 @@ packet_step known m new L moment payload (Err (fault.Table (table_fault.Full k))
       known.keeps m new moment payload (fault.Table (table_fault.Full k)) takes,
       unchanged before after d e,
     )
-packet_step known m new L moment payload (Err (fault.Table table_fault.NoMemory)) before after stands takes d e =
-    (tt, known.keeps m new moment payload (fault.Table table_fault.NoMemory) takes, unchanged before after d e)
+packet_step known m new L moment payload (Err (fault.Table table_fault.NoMemory)) before after stands takes d e = (
+  meets_none m.settings L moment payload (λ s says. known.memory m new L moment payload s stands says takes),
+  known.keeps m new moment payload (fault.Table table_fault.NoMemory) takes,
+  unchanged before after d e,
+)
 
 -- a payload that is taken, and noted
 pub payload_step : StepsKnown → (m new : MemberValue) (L : List Timed) (moment : ℕ) (payload : List ℕ)
@@ -162,6 +191,14 @@ payload_step known m new L moment payload answer before after result stands take
     subst (λ (r : Result Bool RunStop). StepsTo m L (Packet moment payload) new before after r) (sym same)
     (packet_step known m new L moment payload answer before after stands takes d e)
 
+-- a payload for which there is no room to note an answer
+pub no_room_step : (m : MemberValue) (L : List Timed) (moment : ℕ) (payload : List ℕ) (full : Option Key) (before after : HandedOut)
+    → StandsOver m L → MatchOption full ((k : Key) → ¬ BeginsFull m payload k) (BeginsFull m payload)
+    → after.deliveries ≡ before.deliveries → after.errors ≡ before.errors
+    → StepsTo m L (Packet moment payload) m before after (Err (stop_of full))
+no_room_step m L moment payload full before after stands h d e =
+    (stops_at m L moment payload full stands h, refl, λ i. record { deliveries = d i; errors = e i })
+
 -- a look at the clock
 pub clock_step : (m new : MemberValue) (L : List Timed) (now : ℕ) (before after : HandedOut)
     → StandsOver (with_timed m (after_clock m.timed now)) (live_after m.settings L (clock now))
@@ -170,6 +207,7 @@ pub clock_step : (m new : MemberValue) (L : List Timed) (now : ℕ) (before afte
 clock_step m new L now before after stands same d e = record {
   said = clock now;
   says = tick now;
+  has_room = tt;
   stands = subst (λ (x : MemberValue). StandsOver x (live_after m.settings L (clock now))) (sym same) stands;
   deliveries = d ∙ sym (append-nil before.deliveries);
   errors = e ∙ sym (append-nil before.errors);
@@ -194,7 +232,7 @@ one_more m L E old new before after n more event was settings names ran step cou
     let S : List ErrorPacket → Type 0 = λ es. RanOver m L (E ++ event ∷ []) new after.deliveries es (n + cond was 1 0) in
     let T : ℕ → Type 0 = λ k. RanOver m L (E ++ event ∷ []) new after.deliveries after.errors k in
     subst T (sym counts) (subst S (sym t.errors) (subst R (sym t.deliveries)
-    (ran_more m L E old new before.deliveries before.errors n ran event t.said t.says t.stands
+    (ran_more m L E old new before.deliveries before.errors n ran event t.said t.says t.has_room t.stands
     (filter (hears m.names) (made_by m.settings M t.said)) refl (errors_by m.settings m.names M t.said) refl
     (cond was 1 0) t.count)))
 
@@ -273,7 +311,21 @@ stop_is settings M events i event (Full k) h is s = record {
   key = s.3;
   full = s.4;
 }
-stop_is settings M events i event NoMemory h is s = let left = length-drop i events in omega (arith, h, left)
+stop_is settings M events i event NoMemory h is s = (
+  let left = length-drop i events in omega (arith, h, left),
+  λ k meets.
+      let at : drop i events ≡ event ∷ drop (suc i) events =
+      drop-cons events i event h ∙ ap (λ (x : Event). x ∷ drop (suc i) events) (sym is) in
+      let rows : event ∷ drop (suc i) events ≡ meets.event ∷ meets.later = sym at ∙ meets.next in
+      let same : meets.event ≡ event = cc in
+      s k (
+        meets.moment,
+        meets.f,
+        subst (λ (x : Event). Says settings x (came meets.moment meets.f)) same meets.says,
+        meets.key,
+        meets.full,
+      ),
+)
 
 pub stopped_at : (m : MemberValue) (events : List Event) (i : ℕ) (event : Event) (old new : MemberValue)
     (before after : HandedOut) (n : ℕ) (stop : RunStop) (report : RunReport) → i < length events
@@ -296,6 +348,7 @@ stopped_at m events i event old new before after n stop report h is so_far setti
         deliveries_are = ap (λ (x : HandedOut). x.deliveries) t.2 ∙ r.deliveries_are;
         errors_are = ap (λ (x : HandedOut). x.errors) t.2 ∙ r.errors_are;
         refused_are = r.refused_are;
+        has_room = r.has_room;
       },
       stop_is m.settings M events i event stop h is (subst P so_far.settings_stay t.0),
     )))

@@ -2,7 +2,7 @@
 -- keys, and before any timer runs out; and what follows (own).
 --
 -- S and T are what the events of the two lists say.
-use Rattle.std.specs.Prelude.{◌≡◌, ◌≤◌, false, List, [], ◌∷◌, length, Some, None}
+use Rattle.std.specs.Prelude.{◌≡◌, ◌≤◌, List, [], ◌∷◌, length, Some, None}
 use Rattle.std.specs.FinMap as maps
 use Rattle.nb_datagram.specs.Fragment.{Core, core_of}
 use Rattle.nb_table.specs.Contents.{table_of}
@@ -12,9 +12,17 @@ use Rattle.nb_member.specs.declared.pair.Pair.{Pair}
 use Rattle.nb_member.specs.declared.run_report.RunReport.{RunReport}
 use Rattle.nb_member.specs.declared.run_report.RunStop.TheVariants.{NoMemory}
 use Rattle.nb_member.specs.declared.settings.Settings.{Settings}
-use Rattle.nb_member.specs.Live.{Saying, came, refused, another, clock, Timed, is_full, live_after}
+use Rattle.nb_member.specs.Live.{Saying, came, refused, another, clock, Timed, live_after}
 use Rattle.nb_member.specs.Member.{contents}
 use Rattle.nb_member.specs.Saying.{Say}
+
+-- the valid fragments among S, each with its moment, in order
+abbrev pub valid : List Saying → List Timed
+valid [] = []
+valid (came moment f ∷ S) = record { moment = moment; fragment = f } ∷ valid S
+valid (refused fault ∷ S) = valid S
+valid (another ∷ S) = valid S
+valid (clock now ∷ S) = valid S
 
 -- the cores of the valid fragments among S, in order
 abbrev pub valid_cores : List Saying → List Core
@@ -35,18 +43,6 @@ DropsNone settings L (clock now) = live_after settings L (clock now) ≡ L
 abbrev pub NoneDropped : Settings → List Timed → List Saying → Type 0
 NoneDropped settings L [] = Unit {0}
 NoneDropped settings L (s ∷ S) = DropsNone settings L s × NoneDropped settings (live_after settings L s) S
-
--- HasRoom settings L s: it is no fragment that meets the limit on keys, where L are live
-abbrev pub HasRoom : Settings → List Timed → Saying → Type 0
-HasRoom settings L (came moment f) = is_full settings L f.key ≡ false
-HasRoom settings L (refused fault) = Unit {0}
-HasRoom settings L another = Unit {0}
-HasRoom settings L (clock now) = Unit {0}
-
--- NoneFull settings L S: no fragment among S meets the limit on keys, where L are live before them
-abbrev pub NoneFull : Settings → List Timed → List Saying → Type 0
-NoneFull settings L [] = Unit {0}
-NoneFull settings L (s ∷ S) = HasRoom settings L s × NoneFull settings (live_after settings L s) S
 
 -- the valid fragments among S have at most as many keys as a table may hold
 abbrev pub IsWithinCapacity : Settings → List Saying → Type 0

@@ -1,9 +1,12 @@
 -- The texts of faults (own).
-use Rattle.std.specs.Prelude.{ℕ, List, codes}
+use Rattle.std.specs.Prelude.{ℕ, List, ◌++◌, codes}
+use Rattle.std.specs.Fmt.{decimal}
 use Rattle.nb_member.specs.declared.local_names.AddFault.{AddFault}
 use Rattle.nb_member.specs.declared.local_names.AddFault.TheVariants as adding
 use Rattle.nb_member.specs.declared.line_fault.LineFault.{LineFault}
 use Rattle.nb_member.specs.declared.line_fault.LineFault.TheVariants.{BadLine, NoMemory}
+use Rattle.nb_member.specs.declared.replay_fault.ReplayFault.{ReplayFault}
+use Rattle.nb_member.specs.declared.replay_fault.ReplayFault.TheVariants as replaying
 use Rattle.nb_datagram.specs.FaultTexts.{datagram_fault_text}
 use Rattle.nb_table.specs.FaultTexts.{table_fault_text}
 use Rattle.nb_member.specs.declared.member_fault.MemberFault.{MemberFault}
@@ -24,3 +27,10 @@ add_fault_text adding.NoMemory = codes "memory"
 abbrev pub member_fault_text : MemberFault → List ℕ
 member_fault_text (Packet fault error) = datagram_fault_text fault
 member_fault_text (Table fault) = table_fault_text fault
+
+-- the text of the fault that ended a replay
+abbrev pub replay_fault_text : ReplayFault → List ℕ
+replay_fault_text (replaying.Line number) = codes "line " ++ decimal number
+replay_fault_text replaying.Read = codes "read"
+replay_fault_text replaying.Write = codes "write"
+replay_fault_text replaying.NoMemory = codes "memory"

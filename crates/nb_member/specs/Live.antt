@@ -2,7 +2,7 @@
 --
 -- Own: the first fragment of a key starts the timer, at its own moment, and later ones leave it alone,
 -- whatever their moments. Only a look at the clock drops a key. Moments and times are in milliseconds.
-use Rattle.std.specs.Prelude.{◌+◌, ℕ, Bool, false, not, ◌&&◌, nat_le, cond, List, [], ◌∷◌, ◌++◌, map, filter, fold, Option, Some, None}
+use Rattle.std.specs.Prelude.{◌≡◌, ◌+◌, ℕ, Bool, false, not, ◌&&◌, nat_le, cond, List, [], ◌∷◌, ◌++◌, map, filter, fold, Option, Some, None}
 use Rattle.std.specs.FinMap as maps
 use Rattle.nb_datagram.specs.declared.key.Key.{Key}
 use Rattle.nb_datagram.specs.Key.{same_key}
@@ -76,3 +76,17 @@ live_from settings L S = fold (live_after settings) L S
 -- live settings S: the fragments that are live after events that say S
 abbrev pub live : Settings → List Saying → List Timed
 live settings S = live_from settings [] S
+
+-- ---- the limit on keys
+
+-- HasRoom settings L s: it is no fragment that meets the limit on keys, where L are live
+abbrev pub HasRoom : Settings → List Timed → Saying → Type 0
+HasRoom settings L (came moment f) = is_full settings L f.key ≡ false
+HasRoom settings L (refused fault) = Unit {0}
+HasRoom settings L another = Unit {0}
+HasRoom settings L (clock now) = Unit {0}
+
+-- NoneFull settings L S: no fragment among S meets the limit on keys, where L are live before them
+abbrev pub NoneFull : Settings → List Timed → List Saying → Type 0
+NoneFull settings L [] = Unit {0}
+NoneFull settings L (s ∷ S) = HasRoom settings L s × NoneFull settings (live_after settings L s) S

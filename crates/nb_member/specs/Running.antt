@@ -8,7 +8,7 @@ use Rattle.nb_member.specs.declared.run_report.RunStop.{RunStop}
 use Rattle.nb_member.specs.declared.run_report.RunStop.TheVariants.{Full, NoMemory}
 use Rattle.nb_member.specs.declared.settings.Settings.{Settings}
 use Rattle.nb_member.specs.Handed.{deliveries, errors}
-use Rattle.nb_member.specs.Live.{Saying, came, refused, another, clock, Timed, is_full, live_from, live}
+use Rattle.nb_member.specs.Live.{Saying, came, refused, another, clock, Timed, is_full, NoneFull, live_from, live}
 use Rattle.nb_member.specs.Member.{MemberValue, StandsOver}
 use Rattle.nb_member.specs.Saying.{Says, Say}
 
@@ -40,19 +40,22 @@ pub record MeetsLimit (settings : Settings) (L : List Timed) (rest : List Event)
   pub full : is_full settings L k ≡ true
 
 -- StopsBefore settings L rest stop: these events are left, where L are live: there are none exactly where
--- the run didn't stop
+-- the run didn't stop, and want of memory stops no run before an event that meets the limit
 abbrev pub StopsBefore : Settings → List Timed → List Event → Option RunStop → Type 0
 StopsBefore settings L rest None = rest ≡ []
 StopsBefore settings L rest (Some (Full k)) = MeetsLimit settings L rest k
-StopsBefore settings L rest (Some NoMemory) = 0 < length rest
+StopsBefore settings L rest (Some NoMemory) =
+    (0 < length rest) × ((k : Key) → MeetsLimit settings L rest k → ⊥)
 
--- Reports m L events report: what a run of these events in the member m reports, where L are live before
+-- Reports m L events report: what a run of these events in the member m reports, where L are live before;
+-- none of those that were taken met the limit on keys
 pub record Reports (m : MemberValue) (L : List Timed) (events : List Event) (report : RunReport) : Type 0 where
   pub sayings : List Saying
   pub said : Say m.settings (take report.taken events) sayings
   pub deliveries_are : report.deliveries ≡ deliveries m.settings m.names L sayings
   pub errors_are : report.errors ≡ errors m.settings m.names L sayings
   pub refused_are : report.refused ≡ refused_count sayings
+  pub has_room : NoneFull m.settings L sayings
   pub stops : StopsBefore m.settings (live_from m.settings L sayings) (drop report.taken events) report.stop
 
 -- Runs m events new report: what a run of these events makes of the member m, and what it reports: for all

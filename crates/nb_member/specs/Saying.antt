@@ -1,5 +1,5 @@
--- What each event says to a member (RFC 1002 sections 4.4 and 5.3). Only here are events looked at as
--- bytes.
+-- What each event says to a member (RFC 1002 sections 4.4 and 5.3). Only here and in Taking are payloads
+-- looked at as bytes.
 --
 -- Own: a fragment is valid where its flag F is set exactly at offset 0 and it doesn't reach past the longest
 -- datagram; the flag is judged first. A packet of a direct unique datagram with a bad name is answered by

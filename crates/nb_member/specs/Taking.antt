@@ -13,7 +13,8 @@ use Rattle.nb_datagram.specs.Packet.{IsPacket}
 use Rattle.nb_table.specs.declared.change.Change.{Change}
 use Rattle.nb_table.specs.declared.change.Change.TheVariants as change
 use Rattle.nb_table.specs.Change.{IsChange}
-use Rattle.nb_table.specs.Insert.{Refuses, Takes as TableTakes}
+use Rattle.nb_table.specs.Insert.{Passes, Refuses, Takes as TableTakes}
+use Rattle.nb_table.specs.Limits.{IsFull}
 use Rattle.nb_member.specs.declared.member_fault.MemberFault.{MemberFault}
 use Rattle.nb_member.specs.declared.member_fault.MemberFault.TheVariants.{Packet, Table}
 use Rattle.nb_member.specs.declared.outcome.Outcome.{Outcome}
@@ -58,3 +59,22 @@ pub data Takes (m : MemberValue) (moment : ℕ) (payload : List ℕ) (new : Memb
   query : (q : QueryPacket) (used : ℕ) → IsPacket payload (Query q) used → new ≡ m → Takes m moment payload new (Ok Other)
   no_packet : (fault : DatagramFault) → PacketFails payload fault → new ≡ m
       → Takes m moment payload new (Err (Packet fault (refusal m.settings payload fault)))
+
+-- ---- payloads for which there is no room
+
+-- IsFullAt m k: the member's table has no room for the key k
+abbrev pub IsFullAt : MemberValue → Key → Type 0
+IsFullAt m k = IsFull m.timed.table.limits (contents m) k
+
+-- MeetsFull m f: the fragment f passes, and the member m has no room for its key
+pub record MeetsFull (m : MemberValue) (f : FragmentParts) : Type 0 where
+  pub passes : Passes m.timed.table.limits f
+  pub full : IsFullAt m f.key
+
+-- BeginsFull m payload k: the payload begins with such a fragment, which has the key k
+pub record BeginsFull (m : MemberValue) (payload : List ℕ) (k : Key) : Type 0 where
+  pub f : FragmentParts
+  pub used : ℕ
+  pub found : IsPacket payload (Direct f) used
+  pub meets : MeetsFull m f
+  pub key : f.key ≡ k

@@ -2,7 +2,7 @@
 ghost use Rattle.std.specs.Prelude.{◌≡◌, ◌≢◌, ◌⊎◌, ℕ, List, [], filter, Option, Some, None, Result, Ok, Err};
 ghost use Rattle.nb_names.specs.Name.{NetbiosName};
 ghost use Rattle.nb_table.specs.declared.fault.TableFault.TheVariants as table_fault;
-ghost use Rattle.nb_member.specs.declared.limits.TheConstants.{MAX_LINE, MAX_MOMENT_DIGITS, FRAGMENT_TIMEOUT, MAX_NAMES};
+ghost use Rattle.nb_member.specs.declared.limits.TheConstants.{MAX_LINE, MAX_MOMENT_DIGITS, FRAGMENT_TIMEOUT, MAX_NAMES, MAX_INPUT, MAX_INTERRUPTS};
 ghost use Rattle.nb_member.specs.declared.line.Line.{Line};
 ghost use Rattle.nb_member.specs.declared.line_fault.LineFault.{LineFault};
 ghost use Rattle.nb_member.specs.declared.line_fault.LineFault.TheVariants.{BadLine, NoMemory};
@@ -14,14 +14,14 @@ ghost use Rattle.nb_member.specs.declared.member_fault.MemberFault.{MemberFault}
 ghost use Rattle.nb_member.specs.declared.member_fault.MemberFault.TheVariants.{Table};
 ghost use Rattle.nb_member.specs.declared.outcome.Outcome.{Outcome};
 ghost use Rattle.nb_member.specs.Saying.{Says, Say};
-ghost use Rattle.nb_member.specs.Live.{Saying, Timed, clock, cores, live, live_after, table_from};
+ghost use Rattle.nb_member.specs.Live.{Saying, Timed, clock, cores, HasRoom, NoneFull, live, live_after, table_from};
 ghost use Rattle.nb_member.specs.Hearing.{hears};
 ghost use Rattle.nb_member.specs.Handed.{made_by, errors_by};
 ghost use Rattle.nb_member.specs.Member.{MemberValue, with_timed, StandsOver};
 ghost use Rattle.nb_member.specs.Taking.{Takes};
 ghost use Rattle.nb_member.specs.Timing.{after_clock};
 ghost use Rattle.nb_member.specs.Answering.{Answers, Does, delivery_in, error_in};
-ghost use Rattle.nb_member.specs.Agreement.{valid_cores, NoneDropped, NoneFull, GiveTheSame};
+ghost use Rattle.nb_member.specs.Agreement.{valid, valid_cores, NoneDropped, GiveTheSame};
 
 mod delivering;
 mod merging;
@@ -77,7 +77,7 @@ pub fn an_event_says_one_thing()
 
 /// A payload that a member takes says something, and the member does what it says: it stands for
 /// the fragments that are live then, and answers by what it stood for before. A payload that it
-/// refuses changes nothing.
+/// refuses changes nothing, and it refuses none for want of memory that meets the limit on keys.
 pub fn a_member_does_what_is_said()
     ensures says { (m new : MemberValue) (L : List Timed) (moment : ℕ) (payload : List ℕ)
         (result : Result Outcome MemberFault) → StandsOver m L → Takes m moment payload new result →
@@ -86,6 +86,9 @@ pub fn a_member_does_what_is_said()
         (result : Result Outcome MemberFault) (s : Saying) → StandsOver m L →
         Says m.settings (Packet moment payload) s → Takes m moment payload new result →
         result ≢ Err (Table table_fault.NoMemory) → Does m L s new result }
+    ensures memory { (m new : MemberValue) (L : List Timed) (moment : ℕ) (payload : List ℕ)
+        (s : Saying) → StandsOver m L → Says m.settings (Packet moment payload) s →
+        Takes m moment payload new (Err (Table table_fault.NoMemory)) → HasRoom m.settings L s }
     ensures refused { (m new : MemberValue) (moment : ℕ) (payload : List ℕ) (fault : MemberFault) →
         Takes m moment payload new (Err fault) → new ≡ m }
 {
@@ -113,9 +116,11 @@ pub fn an_answer_shows_what_is_handed_out()
 {}
 
 /// Where no look at the clock drops a key and no fragment meets the limit on keys, the fragments
-/// that are live are the valid ones.
+/// that are live are the valid ones, each with its moment.
 pub fn live_fragments_are_the_valid_ones()
-    ensures { (settings : Settings) (S : List Saying) →
+    ensures fragments { (settings : Settings) (S : List Saying) →
+        NoneDropped settings [] S → NoneFull settings [] S → live settings S ≡ valid S }
+    ensures cores { (settings : Settings) (S : List Saying) →
         NoneDropped settings [] S → NoneFull settings [] S →
         cores (live settings S) ≡ valid_cores S }
 {}
@@ -139,4 +144,6 @@ pub fn limits_are_these_numbers()
     ensures digits { MAX_MOMENT_DIGITS ≡ 20 }
     ensures timeout { FRAGMENT_TIMEOUT ≡ 2000 }
     ensures names { MAX_NAMES ≡ 254 }
+    ensures input { MAX_INPUT ≡ 16777216 }
+    ensures interrupts { MAX_INTERRUPTS ≡ 1024 }
 {}

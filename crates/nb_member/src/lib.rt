@@ -1,18 +1,25 @@
 //! Members: stations that take the payloads of a capture.
 #![tactic(auto)]
 
+mod acting;
 mod capture;
 mod error_packets;
 mod event;
+mod input;
 pub mod laws;
 pub mod limits;
 mod line;
 mod line_fault;
+mod lines;
 mod local_names;
 mod member;
 mod member_fault;
 mod outcome;
+mod output;
 mod pair;
+mod replay_fault;
+mod replaying;
+mod report;
 mod run_report;
 mod runs;
 mod settings;
@@ -28,6 +35,8 @@ pub use member::Member;
 pub use member_fault::MemberFault;
 pub use outcome::{Dropped, Outcome};
 pub use pair::{Pair, two_members};
+pub use replay_fault::ReplayFault;
+pub use replaying::replay;
 pub use run_report::{RunReport, RunStop};
 pub use runs::run;
 pub use settings::Settings;

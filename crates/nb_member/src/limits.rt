@@ -1,4 +1,4 @@
-//! The limits of captures, each with its unit.
+//! The limits of captures and of members, each with its unit.
 
 /// The longest line of a capture, in bytes, its line feed not counted (our choice).
 pub const MAX_LINE: usize = 262_200;
@@ -12,3 +12,9 @@ pub const FRAGMENT_TIMEOUT: u64 = 2_000;
 
 /// The most names of a station (our choice).
 pub const MAX_NAMES: usize = 254;
+
+/// The most bytes of a capture that are looked at: 16 MiB (our own).
+pub const MAX_INPUT: usize = 16_777_216;
+
+/// The interrupts in a row after which a reader or a writer is given up (our own).
+pub const MAX_INTERRUPTS: u32 = 1_024;

@@ -105,9 +105,9 @@ impl LocalNames {
 
     /// Whether a station with these names hears the datagram. No memory is taken.
     ///
-    /// A datagram to a unique or a group name is heard where the destination is held, and a
-    /// broadcast where a name of the destination's scope is. RFC 1002 section 5.3; that the two
-    /// types of direct datagrams are heard alike is our choice.
+    /// For a unique or a group name, that is where one of the names is the destination; for a
+    /// broadcast, where one has the destination's scope. RFC 1002 section 5.3; that the two types
+    /// of direct datagrams are heard alike is our choice.
     pub fn hears(&self, datagram: &Datagram) -> bool
         ensures value { result ≡ hears self.now datagram.now }
         ensures heard { IsTrue result ↔ Hears self.now datagram.now }

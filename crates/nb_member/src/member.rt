@@ -1,9 +1,10 @@
 //! Members.
-ghost use Rattle.std.specs.Prelude.{◌≡◌, ◌+◌};
+ghost use Rattle.std.specs.Prelude.{◌≡◌, ◌+◌, ◌↔◌, IsTrue, MatchOption};
 ghost use Rattle.std.specs.FinMap as maps;
 ghost use Rattle.nb_member.specs.Live.{limits_of};
 ghost use Rattle.nb_member.specs.Member.{contents, new_member, with_timed};
-ghost use Rattle.nb_member.specs.Taking.{Takes, TakesFragment, handed, outcome_of};
+ghost use Rattle.nb_member.specs.Taking.{Takes, TakesFragment, IsFullAt, MeetsFull, BeginsFull, handed, outcome_of};
+ghost use Rattle.nb_datagram.specs.declared.key.Key.{Key};
 ghost use Rattle.nb_member.specs.Timing.{after_clock};
 
 mod absorbing;
@@ -14,12 +15,12 @@ use crate::outcome::{Dropped, Outcome};
 use crate::settings::Settings;
 use crate::timed_table::TimedTable;
 use nb_datagram::{Datagram, Fragment, Key, Packet, decode};
-use nb_table::{Change, Table};
+use nb_table::{Change, State, Table};
 use std::alloc::Global;
 use std::marker::Model;
 
-/// A station: it takes payloads, keeps the table of the fragments that are still live, and hands
-/// over the datagrams that it hears.
+/// A station. What it knows of datagrams stands in a table, which payloads fill and the clock
+/// empties; a datagram that becomes whole is handed over if one of the station's names hears it.
 #[derive(Drop)]
 pub struct Member {
     settings: Settings,
@@ -68,8 +69,10 @@ impl Member {
     ///
     /// # Errors
     ///
-    /// `Packet` where the payload begins with no packet; no memory is taken then. Else `Table`
-    /// where the table refuses the fragment. The member is then as it was.
+    /// `Packet` where the payload begins with no packet. Else `Table` where the table refuses the
+    /// fragment, as `MisplacedFirst`, `TooLong`, `Full` or `NoMemory`, judged in this order; the
+    /// last comes too where the moment of a new key can't be kept. The member is then as it was.
+    /// Memory is taken for a fragment alone.
     pub fn take(&mut self, moment: u64, payload: &[u8]) -> Result<Outcome, MemberFault>
         ensures { Takes self.old moment payload.now self.new result }
     {
@@ -93,6 +96,50 @@ impl Member {
         match self.timed.insert(moment, fragment) {
             Ok(change) => Ok(outcome_of(&self.settings, &self.names, key, change)),
             Err(fault) => Err(MemberFault::Table(fault)),
+        }
+    }
+
+    /// The key of the fragment that a payload begins with, where the fragment is valid and the table
+    /// has no room for its key. No memory is taken.
+    pub(crate) fn full_key(&self, payload: &[u8]) -> Option<Key>
+        ensures { MatchOption result ((k : Key) → ¬ BeginsFull self.now payload.now k)
+            (BeginsFull self.now payload.now) }
+    {
+        match decode(payload) {
+            Ok((Packet::Direct(fragment), _)) => self.full_key_of(&fragment),
+            Ok((Packet::Error(_), _)) => None,
+            Ok((Packet::Query(_), _)) => None,
+            Err(_) => None,
+        }
+    }
+
+    /// The key of a fragment, where it is valid and the table has no room for its key.
+    fn full_key_of(&self, fragment: &Fragment<'_>) -> Option<Key>
+        ensures { MatchOption result (¬ MeetsFull self.now fragment.now)
+            (λ k. MeetsFull self.now fragment.now × (fragment.now.key ≡ k)) }
+    {
+        if fragment.is_first() != (fragment.offset() == 0) {
+            return None;
+        }
+        if fragment.reach() > u32::from(self.settings.longest) {
+            return None;
+        }
+        let key = fragment.key();
+        if !self.is_full(key) {
+            return None;
+        }
+        Some(key)
+    }
+
+    /// Whether a key is new, and as many are held as may be.
+    fn is_full(&self, key: Key) -> bool
+        ensures { IsTrue result ↔ IsFullAt self.now key }
+    {
+        match self.timed.table().state(&key) {
+            State::Absent => self.timed.table().len() >= self.settings.keys as usize,
+            State::Partial => false,
+            State::Whole => false,
+            State::Spoilt => false,
         }
     }
 

@@ -16,7 +16,7 @@ use crate::runs::run;
 use crate::settings::Settings;
 use std::alloc::Global;
 
-/// Two members, and what came of the events of each.
+/// Two members, and what came of the events of each. Our choice.
 #[derive(Drop)]
 pub struct Pair {
     /// The one.
@@ -33,9 +33,12 @@ pub struct Pair {
 ///
 /// The events may give both the same valid fragments, in any order and with any repeats, whose keys
 /// are at most as many as a table may hold, while no look at the clock drops a key. Then, unless
-/// memory ran out, both took all events, and their tables are the same. Each hands over the datagram
-/// of a key that isn't spoilt once, if the key is whole and it hears it; what both hear is the same;
-/// and it is the sender's where all fragments of its key are parts of it that cover it.
+/// memory ran out, neither run stops, and the one table holds what the other does. Each hands over
+/// the datagram of a key that isn't spoilt once, if the key is whole and it hears it, and what both
+/// hear is the same. Where all fragments of a key are parts of one datagram, cover it, and one says
+/// that no more follows, that datagram is the one that is handed over. Of other events each run may
+/// stop, at `Full` too, as [`run`] says. RFC 1002 section 5.3; the limits and the timer's start are
+/// our choice.
 pub fn two_members(
     alloc: Global,
     settings: Settings,

@@ -2,16 +2,17 @@
 
 use nb_datagram::{Datagrams, ErrorPackets, Key};
 
-/// Why a run stopped before an event. That event changed nothing.
+/// Why a run stopped before an event. That event changed nothing. Our choice.
 #[derive(Clone, Copy, Debug, PartialEq, Eq)]
 pub enum RunStop {
     /// The event is a fragment of this key, which is new, and as many keys are held as may be.
     Full(Key),
-    /// Memory ran out.
+    /// Memory ran out, for the event or to note its answer, and the event isn't a fragment as at
+    /// `Full`.
     NoMemory,
 }
 
-/// What came of a run of events.
+/// What came of a run of events. Our choice.
 #[derive(Drop)]
 pub struct RunReport {
     /// The datagrams that became whole and are heard, in order.

@@ -1,12 +1,12 @@
 //! Runs of events.
-ghost use Rattle.std.specs.Prelude.{◌≡◌, ◌<◌, ◌++◌, List, [], OnOk, IfErr, vec_len, vec_capacity};
+ghost use Rattle.std.specs.Prelude.{◌≡◌, ◌<◌, ◌++◌, List, [], IsTrue, vec_len, vec_capacity};
 ghost use Rattle.std.specs.Option.{option_to_list};
-ghost use Rattle.nb_member.specs.declared.run_report.RunStop.TheVariants as run_stop;
+ghost use Rattle.nb_member.specs.declared.event.Event.TheVariants as event;
 ghost use Rattle.nb_member.specs.Answering.{delivery_in, error_in};
 ghost use Rattle.nb_member.specs.Live.{Timed};
 ghost use Rattle.nb_member.specs.Member.{StandsOver};
 ghost use Rattle.nb_member.specs.Running.{Runs};
-ghost use Rattle.nb_member.specs.Stepping.{noted, StepsTo};
+ghost use Rattle.nb_member.specs.Stepping.{noted, stop_of, StepsTo};
 
 use crate::event::Event;
 use crate::laws::{
@@ -17,15 +17,18 @@ use crate::member::Member;
 use crate::member_fault::MemberFault;
 use crate::outcome::Outcome;
 use crate::run_report::{RunReport, RunStop};
-use nb_datagram::{Datagram, Datagrams, ErrorPacket, ErrorPackets};
+use nb_datagram::{Datagram, Datagrams, ErrorPacket, ErrorPackets, Key};
 use nb_table::TableFault;
 use std::alloc::Global;
 
 /// Takes these events, one after another, until one meets the limit on keys or memory runs out.
 ///
+/// Room to note an answer is asked for before each payload is taken; a look at the clock needs none.
 /// A payload that begins with no packet, or with a fragment that has FIRST in the wrong place or
 /// reaches too far, is counted and passed over; the error packet that it is answered with stands
-/// among the others. An event at which the run stops has changed nothing.
+/// among the others. An event at which the run stops has changed nothing, and where its key is full
+/// the report says so, whatever memory there is. RFC 1002 section 5.3; runs, and where they stop,
+/// are our choice.
 pub fn run(alloc: Global, member: &mut Member, events: &[Event]) -> RunReport
     ensures { Runs member.old events.now member.new result }
 {
@@ -74,14 +77,10 @@ impl Log {
         ensures settings { member.new.settings ≡ member.old.settings }
         ensures names { member.new.names ≡ member.old.names }
     {
-        a_member_does_what_is_said();
         a_member_drops_what_the_clock_ends();
-        an_answer_shows_what_is_handed_out();
-        self.make_room()?;
         match event {
             Event::Packet { moment, payload } => {
-                let answer = member.take(*moment, payload.as_slice());
-                self.note(answer)
+                self.take_packet(member, *moment, payload.as_slice())
             }
             Event::Tick { now } => {
                 member.tick(*now);
@@ -90,24 +89,41 @@ impl Log {
         }
     }
 
+    /// Lets the member take a payload that came at this moment, and tells the same.
+    fn take_packet(
+        &mut self,
+        member: &mut Member,
+        moment: u64,
+        payload: &[u8],
+    ) -> Result<bool, RunStop>
+        ensures step { (L : List Timed) → StandsOver member.old L →
+            StepsTo member.old L (event.Packet moment payload.now) member.new
+            (record { deliveries = self.old.deliveries.items; errors = self.old.errors.items })
+            (record { deliveries = self.new.deliveries.items; errors = self.new.errors.items })
+            result }
+        ensures settings { member.new.settings ≡ member.old.settings }
+        ensures names { member.new.names ≡ member.old.names }
+    {
+        a_member_does_what_is_said();
+        an_answer_shows_what_is_handed_out();
+        if !self.has_made_room() {
+            return Err(stop_of(member.full_key(payload)));
+        }
+        let answer = member.take(moment, payload);
+        self.note(answer)
+    }
+
     /// Makes room for one more datagram and one more error packet, so that noting an answer takes
-    /// no memory.
-    fn make_room(&mut self) -> Result<(), RunStop>
+    /// no memory, and tells whether there is.
+    fn has_made_room(&mut self) -> bool
         ensures deliveries { self.new.deliveries.items ≡ self.old.deliveries.items }
         ensures errors { self.new.errors.items ≡ self.old.errors.items }
-        ensures delivery_room { OnOk result
-            (vec_len self.new.deliveries < vec_capacity self.new.deliveries) }
-        ensures error_room { OnOk result (vec_len self.new.errors < vec_capacity self.new.errors) }
-        ensures memory { IfErr result (λ stop. stop ≡ run_stop.NoMemory) }
+        ensures delivery_room { IsTrue result →
+            vec_len self.new.deliveries < vec_capacity self.new.deliveries }
+        ensures error_room { IsTrue result →
+            vec_len self.new.errors < vec_capacity self.new.errors }
     {
-        match self.deliveries.reserve(1) {
-            Ok(()) => {}
-            Err(_) => return Err(RunStop::NoMemory),
-        }
-        match self.errors.reserve(1) {
-            Ok(()) => Ok(()),
-            Err(_) => Err(RunStop::NoMemory),
-        }
+        self.deliveries.reserve(1).is_ok() && self.errors.reserve(1).is_ok()
     }
 
     /// Notes what a member answered.
@@ -156,6 +172,17 @@ impl Log {
             refused,
             stop,
         }
+    }
+}
+
+/// Why a run stops where there is no room to note an answer: the event's key is full, if there is
+/// one, else memory ran out.
+fn stop_of(full: Option<Key>) -> RunStop
+    ensures { result ≡ stop_of full }
+{
+    match full {
+        Some(key) => RunStop::Full(key),
+        None => RunStop::NoMemory,
     }
 }
 

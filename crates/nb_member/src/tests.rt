@@ -5,4 +5,5 @@ mod lines;
 mod members;
 mod names;
 mod packets;
+mod replays;
 mod runs;

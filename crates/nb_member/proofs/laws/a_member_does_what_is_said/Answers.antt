@@ -1,5 +1,5 @@
 use Rattle.nb_member.proofs.SayingLemmas.{PacketsKnown}
-use Rattle.nb_member.proofs.StepLemmas.{told, does_what_is_said, refused_keeps}
+use Rattle.nb_member.proofs.StepLemmas.{told, does_what_is_said, room_where_no_memory, refused_keeps}
 use Rattle.nb_member.proofs.laws.a_member_does_what_is_said.Goals as goal
 
 pub returns-clause-says : goal.returns-clause-says
@@ -15,6 +15,15 @@ returns-clause-does c =
       one_fault = c.one_datagram_fault.ensures.one;
     } in
     does_what_is_said known c.table_of_two_lists_is_the_join.ensures
+
+pub returns-clause-memory : goal.returns-clause-memory
+returns-clause-memory c =
+    let known : PacketsKnown = record {
+      one = c.one_packet.ensures;
+      alone = c.one_datagram_fault.ensures.alone;
+      one_fault = c.one_datagram_fault.ensures.one;
+    } in
+    room_where_no_memory known c.table_of_two_lists_is_the_join.ensures
 
 pub returns-clause-refused : goal.returns-clause-refused
 returns-clause-refused c = refused_keeps

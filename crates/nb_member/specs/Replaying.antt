@@ -1,0 +1,101 @@
+-- What a replay makes of a reader's bytes, a writer, and a member (own).
+use Rattle.std.specs.Prelude.{◌≡◌, ◌+◌, ◌<◌, ◌≤◌, ◌++◌, ◌∷◌, ℕ, Bool, true, false, List, length, take, Option, Result, Ok, Err}
+use Rattle.std.specs.Io.KnownBytes.{Appends, IsAtEnd}
+use Rattle.nb_member.specs.declared.event.Event.{Event}
+use Rattle.nb_member.specs.declared.limits.TheConstants.{MAX_INPUT, MAX_LINE}
+use Rattle.nb_member.specs.declared.replay_fault.ReplayFault.{ReplayFault}
+use Rattle.nb_member.specs.declared.replay_fault.ReplayFault.TheVariants.{Line, Read, Write, NoMemory}
+use Rattle.nb_member.specs.Capture.{IsMalformed}
+use Rattle.nb_names.specs.Counted.{Counts}
+use Rattle.nb_member.specs.Devices.{ShowsWriteFault}
+use Rattle.nb_member.specs.Lines.{CutInto, with_rest}
+use Rattle.nb_member.specs.Live.{Timed, live}
+use Rattle.nb_member.specs.Member.{MemberValue}
+use Rattle.nb_member.specs.Report.{ReportOf}
+use Rattle.nb_member.specs.Running.{Stands}
+
+-- ---- the lines among the bytes that came
+
+-- the bytes that are looked at
+abbrev pub looked_at : List ℕ → List ℕ
+looked_at bytes = take MAX_INPUT bytes
+
+-- the bytes are the whole input: no byte is left, and they are within the limit
+pub record IsWhole (bytes : List ℕ) (left : Option (List ℕ)) : Type 0 where
+  pub at_end : IsAtEnd left
+  pub within : length bytes ≤ MAX_INPUT
+
+-- AreLines bytes left lines: these are the lines to act on: the finished ones, and the rest where the input
+-- ends with it
+pub data AreLines (bytes : List ℕ) (left : Option (List ℕ)) : List (List ℕ) → Type 0 where
+  finished : (lines : List (List ℕ)) (rest : List ℕ) → CutInto (looked_at bytes) lines rest
+      → AreLines bytes left lines
+  whole : (lines : List (List ℕ)) (rest : List ℕ) → CutInto (looked_at bytes) lines rest → IsWhole bytes left
+      → AreLines bytes left (with_rest lines rest)
+
+-- ComesMalformed bytes left lines: behind these lines comes a malformed one. Of one that neither a line
+-- feed nor the input's end has ended, the length alone is judged
+pub data ComesMalformed (bytes : List ℕ) (left : Option (List ℕ)) : List (List ℕ) → Type 0 where
+  ended : (lines more : List (List ℕ)) (line : List ℕ) → AreLines bytes left (lines ++ line ∷ more)
+      → IsMalformed line → ComesMalformed bytes left lines
+  too_long : (lines : List (List ℕ)) (rest : List ℕ) → CutInto (looked_at bytes) lines rest → MAX_LINE < length rest
+      → ComesMalformed bytes left lines
+
+-- ---- what was acted on
+
+-- Replayed m H L lines new text: the member m, which stands for the events H, acted on these lines, whose
+-- report is text, and became new, which stands for H and the events of the lines. L are live after H
+pub record Replayed (m : MemberValue) (H : List Event) (L : List Timed) (lines : List (List ℕ)) (new : MemberValue) (text : List ℕ) : Type 0 where
+  pub events : List Event
+  pub reported : ReportOf m.settings m.names 1 L lines events text
+  pub stands : Stands new (H ++ events)
+
+-- Writes m H L lines new before after: the same, and exactly the report was written
+pub record Writes (m : MemberValue) (H : List Event) (L : List Timed) (lines : List (List ℕ)) (new : MemberValue) (before after : Option (List ℕ)) : Type 0 where
+  pub text : List ℕ
+  pub replayed : Replayed m H L lines new text
+  pub written : Appends before after text
+
+-- Stops m H L bytes left new before after: the first lines were acted on, `ready` and then `last`, which is
+-- one line at most. The report of `ready` is written, and then a front of what `last` adds to it
+pub record Stops (m : MemberValue) (H : List Event) (L : List Timed) (bytes : List ℕ) (left : Option (List ℕ)) (new : MemberValue) (before after : Option (List ℕ)) : Type 0 where
+  pub ready : List (List ℕ)
+  pub last : List (List ℕ)
+  pub more : List (List ℕ)
+  pub at_most_one : length last ≤ 1
+  pub are_lines : AreLines bytes left (ready ++ last ++ more)
+  pub others : List Event
+  pub report : List ℕ
+  pub reported : ReportOf m.settings m.names 1 L ready others report
+  pub front : List ℕ
+  pub later : List ℕ
+  pub replayed : Replayed m H L (ready ++ last) new (report ++ front ++ later)
+  pub written : Appends before after (report ++ front)
+
+-- Replays m H L bytes left new before after result: what is answered where these bytes came from the
+-- reader, with those left
+abbrev pub Replays : MemberValue → List Event → List Timed → List ℕ → Option (List ℕ) → MemberValue → Option (List ℕ) → Option (List ℕ)
+    → Result ℕ ReplayFault → Type 0
+Replays m H L bytes left new before after (Ok n) =
+    (lines : List (List ℕ)) × (rest : List ℕ) × CutInto bytes lines rest × IsWhole bytes left
+    × (n ≡ length (with_rest lines rest)) × Writes m H L (with_rest lines rest) new before after
+Replays m H L bytes left new before after (Err (Line n)) =
+    (lines : List (List ℕ)) × ComesMalformed bytes left lines × (n ≡ length lines + 1)
+    × Writes m H L lines new before after
+Replays m H L bytes left new before after (Err Read) =
+    (lines : List (List ℕ)) × (rest : List ℕ) × CutInto (looked_at bytes) lines rest
+    × (length rest ≤ MAX_LINE) × Writes m H L lines new before after
+Replays m H L bytes left new before after (Err Write) = Stops m H L bytes left new before after
+Replays m H L bytes left new before after (Err NoMemory) = Stops m H L bytes left new before after
+
+-- EndsReplay m new bytes is_whole before after old counts result: the same where these are the bytes that
+-- are looked at, and a flag tells whether they are the whole input
+pub record EndsReplay (m new : MemberValue) (bytes : List ℕ) (is_whole : Bool) (before after : Option (List ℕ))
+    (old counts : Counts) (result : Result ℕ ReplayFault) : Type 0 where
+  pub replays : (came : List ℕ) (left : Option (List ℕ)) → bytes ≡ looked_at came
+      → (is_whole ≡ true → IsWhole came left) → (H : List Event) (s : Stands m H)
+      → Replays m H (live m.settings s.sayings) came left new before after result
+  pub read : result ≡ Err Read → is_whole ≡ false
+  pub write : result ≡ Err Write → ShowsWriteFault old counts
+  pub settings_stay : new.settings ≡ m.settings
+  pub names_stay : new.names ≡ m.names

@@ -1,0 +1,141 @@
+//! Replaying a capture in a member.
+ghost use Rattle.std.specs.Prelude.{◌≡◌, ◌≢◌, ◌≤◌, ℕ, List, length, IfErr, OnOk, Err};
+ghost use Rattle.std.specs.Io.KnownBytes.{Consumes};
+ghost use Rattle.nb_member.specs.declared.event.Event.{Event};
+ghost use Rattle.nb_member.specs.declared.limits.TheConstants.{MAX_INPUT};
+ghost use Rattle.nb_member.specs.Acting.{StopsAt, WritesLine};
+ghost use Rattle.nb_member.specs.Devices.{GrowTo, ShowsUnread, ShowsWriteFault};
+ghost use Rattle.nb_member.specs.Live.{Timed, live};
+ghost use Rattle.nb_member.specs.Member.{StandsOver};
+ghost use Rattle.nb_member.specs.Replaying.{EndsReplay, Replays};
+ghost use Rattle.nb_member.specs.Running.{Stands};
+
+use crate::acting::act_on;
+use crate::input::read_input;
+use crate::limits::MAX_LINE;
+use crate::lines::next_line;
+use crate::member::Member;
+use crate::output::write_whole;
+use crate::replay_fault::ReplayFault;
+use nb_names::Counted;
+use std::alloc::Global;
+use std::io::{Read, Write};
+
+/// Replays a capture in a member: acts on its lines in order, and writes the report of them. The
+/// answer is the number of lines.
+///
+/// Behind each line stands a line feed; bytes behind the last one are a line as well, and no bytes
+/// are none. An empty line or a comment has no line in the report. The others have one each: their
+/// number, which counts from 1, a space, and
+///
+/// - `passed` for a payload of port 137 or 139;
+/// - `dropped COUNT` for a look at the clock;
+/// - for a payload of port 138 `kept KEY`, `spoilt KEY`, `delivered KEY KIND SOURCE DESTINATION
+///   DATA`, `unheard KEY`, `other`, or `refused FAULT`. ` error HEX` follows where there is an
+///   error packet to answer.
+///
+/// A line's report is written before the next line is acted on. A payload that is refused changes
+/// nothing in the member, and the replay goes on.
+///
+/// # Errors
+///
+/// The first that is met:
+///
+/// - [`ReplayFault::Line`] for a malformed line. What neither a line feed nor the input's end has
+///   ended is judged by its length alone. The report of the lines before it is written.
+/// - [`ReplayFault::Read`] where the reader failed, was interrupted 1,024 times in a row, or gave
+///   more than [`MAX_INPUT`](crate::limits::MAX_INPUT) bytes. The report of the finished lines is
+///   written.
+/// - [`ReplayFault::Write`] where the writer failed, took nothing, or was interrupted 1,024 times
+///   in a row.
+/// - [`ReplayFault::NoMemory`] where memory ran out.
+///
+/// The form of captures and of the report is our own.
+pub fn replay<R: Read, W: Write>(
+    alloc: Global,
+    reader: &mut Counted<R>,
+    writer: &mut Counted<W>,
+    member: &mut Member,
+) -> Result<u64, ReplayFault>
+    // The bytes that this call took from the reader, and what was made of them.
+    ensures replays { (bytes : List ℕ) ×
+        Consumes (R.remaining reader.old.inner) (R.remaining reader.new.inner) bytes ×
+        ((result ≡ Err ReplayFault.Read → ShowsUnread bytes reader.old.counts reader.new.counts) ×
+        ((H : List Event) (s : Stands member.old H) →
+        Replays member.old H (live member.old.settings s.sayings) bytes
+        (R.remaining reader.new.inner) member.new
+        (W.contents writer.old.inner) (W.contents writer.new.inner) result)) }
+    ensures write { result ≡ Err ReplayFault.Write →
+        ShowsWriteFault writer.old.counts writer.new.counts }
+    ensures settings { member.new.settings ≡ member.old.settings }
+    ensures names { member.new.names ≡ member.old.names }
+{
+    let input = read_input(alloc, reader)?;
+    replay_lines(alloc, input.front(), input.is_whole, writer, member)
+}
+
+/// Acts on the lines among these bytes, and on what follows them where the input ends there.
+///
+/// # Errors
+///
+/// Those of [`replay`].
+fn replay_lines<W: Write>(
+    alloc: Global,
+    bytes: &[u8],
+    is_whole: bool,
+    writer: &mut Counted<W>,
+    member: &mut Member,
+) -> Result<u64, ReplayFault>
+    requires { length bytes.now ≤ MAX_INPUT }
+    ensures { EndsReplay member.old member.new bytes.now is_whole
+        (W.contents writer.old.inner) (W.contents writer.new.inner)
+        writer.old.counts writer.new.counts result }
+{
+    let mut rest = bytes;
+    let mut number = 0;
+    while let Some((line, after)) = next_line(rest) {
+        number += 1;
+        replay_line(alloc, number, line, writer, member)?;
+        rest = after;
+    }
+    if MAX_LINE < rest.len() {
+        return Err(ReplayFault::Line(number + 1));
+    }
+    if !is_whole {
+        return Err(ReplayFault::Read);
+    }
+    if rest.is_empty() {
+        return Ok(number);
+    }
+    replay_line(alloc, number + 1, rest, writer, member)?;
+    Ok(number + 1)
+}
+
+/// Acts on the line with this number, and writes its line of the report, if it has one.
+///
+/// # Errors
+///
+/// [`ReplayFault::Line`], [`ReplayFault::Write`] and [`ReplayFault::NoMemory`].
+fn replay_line<W: Write>(
+    alloc: Global,
+    number: u64,
+    line: &[u8],
+    writer: &mut Counted<W>,
+    member: &mut Member,
+) -> Result<(), ReplayFault>
+    ensures written { OnOk result ((L : List Timed) → StandsOver member.old L →
+        WritesLine member.old L number line.now member.new
+        (W.contents writer.old.inner) (W.contents writer.new.inner)) }
+    ensures fault { IfErr result (λ fault. (L : List Timed) → StandsOver member.old L →
+        StopsAt member.old L number line.now member.new
+        (W.contents writer.old.inner) (W.contents writer.new.inner) fault) }
+    ensures unread { IfErr result (λ fault. fault ≢ ReplayFault.Read) }
+    ensures why { IfErr result (λ fault. fault ≡ ReplayFault.Write →
+        ShowsWriteFault writer.old.counts writer.new.counts) }
+    ensures grow { GrowTo writer.old.counts writer.new.counts }
+    ensures settings { member.new.settings ≡ member.old.settings }
+    ensures names { member.new.names ≡ member.old.names }
+{
+    let text = act_on(alloc, number, line, member)?;
+    write_whole(writer, text.as_bytes())
+}

@@ -1,0 +1,47 @@
+//! The lines of a replay's report.
+ghost use Rattle.std.specs.Prelude.{◌≡◌, ◌++◌, codes, IfOk, string_bytes};
+ghost use Rattle.std.specs.Fmt.{decimal};
+ghost use Rattle.nb_member.specs.ReportTexts.{numbered, result_text};
+
+mod texts;
+
+use crate::member_fault::MemberFault;
+use crate::outcome::{Dropped, Outcome};
+use crate::report::texts::push_result;
+use nb_names::NoMemory;
+use std::alloc::Global;
+
+/// The report's line about a payload that isn't the member's to take.
+pub fn passed_line(alloc: Global, number: u64) -> Result<String, NoMemory>
+    ensures { IfOk result (λ text. string_bytes text ≡ numbered number (codes "passed")) }
+{
+    let mut text = String::new(alloc);
+    write!(text, "{number} passed\n")?;
+    Ok(text)
+}
+
+/// The report's line about a look at the clock.
+pub fn dropped_line(alloc: Global, number: u64, dropped: Dropped) -> Result<String, NoMemory>
+    ensures { IfOk result (λ text. string_bytes text ≡
+        numbered number (codes "dropped " ++ decimal dropped.keys)) }
+{
+    let mut text = String::new(alloc);
+    let keys = dropped.keys;
+    write!(text, "{number} dropped {keys}\n")?;
+    Ok(text)
+}
+
+/// The report's line about a payload that the member took, or refused.
+pub fn taken_line(
+    alloc: Global,
+    number: u64,
+    taken: &Result<Outcome, MemberFault>,
+) -> Result<String, NoMemory>
+    ensures { IfOk result (λ text. string_bytes text ≡ numbered number (result_text taken.now)) }
+{
+    let mut text = String::new(alloc);
+    write!(text, "{number} ")?;
+    push_result(alloc, taken, &mut text)?;
+    text.push('\n')?;
+    Ok(text)
+}

@@ -1,0 +1,155 @@
+//! Parts of the report's lines.
+ghost use Rattle.std.specs.Prelude.{◌≡◌, ◌++◌, IfOk, OnOk, string_bytes, Err};
+ghost use Rattle.nb_member.specs.ReportTexts.{address_text, data_text, datagram_text, error_text, kind_text, key_text, outcome_text, parts_text, result_text};
+
+use crate::member_fault::MemberFault;
+use crate::outcome::Outcome;
+use nb_datagram::{Datagram, ErrorPacket, Key, Kind, Packet, encode};
+use nb_names::{NoMemory, name_text};
+use std::alloc::Global;
+
+/// Adds what became of a payload.
+pub fn push_result(
+    alloc: Global,
+    taken: &Result<Outcome, MemberFault>,
+    text: &mut String,
+) -> Result<(), NoMemory>
+    ensures { OnOk result (string_bytes text.new ≡ string_bytes text.old ++ result_text taken.now) }
+{
+    match taken {
+        Ok(outcome) => push_outcome(alloc, outcome, text),
+        Err(fault) => push_refused(alloc, *fault, text),
+    }
+}
+
+/// Adds what became of a payload that was taken.
+fn push_outcome(alloc: Global, outcome: &Outcome, text: &mut String) -> Result<(), NoMemory>
+    ensures { OnOk result
+        (string_bytes text.new ≡ string_bytes text.old ++ outcome_text outcome.now) }
+{
+    match outcome {
+        Outcome::Kept(key) => {
+            text.push_str("kept ")?;
+            push_key(alloc, *key, text)
+        }
+        Outcome::Spoilt(key) => {
+            text.push_str("spoilt ")?;
+            push_key(alloc, *key, text)
+        }
+        Outcome::Delivered(datagram) => {
+            text.push_str("delivered ")?;
+            push_datagram(alloc, datagram, text)
+        }
+        Outcome::Unheard(key, error) => {
+            text.push_str("unheard ")?;
+            push_unheard(alloc, *key, *error, text)
+        }
+        Outcome::Other => {
+            text.push_str("other")?;
+            Ok(())
+        }
+    }
+}
+
+/// Adds why a payload was refused.
+fn push_refused(alloc: Global, fault: MemberFault, text: &mut String) -> Result<(), NoMemory>
+    ensures { OnOk result
+        (string_bytes text.new ≡ string_bytes text.old ++ result_text (Err fault)) }
+{
+    write!(text, "refused {fault}")?;
+    match fault {
+        MemberFault::Packet(_, error) => push_error(alloc, error, text),
+        MemberFault::Table(_) => Ok(()),
+    }
+}
+
+/// Adds a datagram.
+fn push_datagram(alloc: Global, datagram: &Datagram, text: &mut String) -> Result<(), NoMemory>
+    ensures { OnOk result
+        (string_bytes text.new ≡ string_bytes text.old ++ datagram_text datagram.now) }
+{
+    push_key(alloc, datagram.key(), text)?;
+    push_parts(alloc, datagram, text)
+}
+
+/// Adds a datagram's kind, names and data.
+fn push_parts(alloc: Global, datagram: &Datagram, text: &mut String) -> Result<(), NoMemory>
+    ensures { OnOk result
+        (string_bytes text.new ≡ string_bytes text.old ++ parts_text datagram.now) }
+{
+    let kind = kind_name(datagram.kind());
+    let source = name_text(alloc, datagram.source())?;
+    let destination = name_text(alloc, datagram.destination())?;
+    let data = data_of(alloc, datagram.bytes())?;
+    write!(text, " {kind} {source} {destination} {data}")?;
+    Ok(())
+}
+
+/// Adds the key of a datagram that isn't heard, and the error packet that is answered.
+fn push_unheard(
+    alloc: Global,
+    key: Key,
+    error: Option<ErrorPacket>,
+    text: &mut String,
+) -> Result<(), NoMemory>
+    ensures { OnOk result
+        (string_bytes text.new ≡ string_bytes text.old ++ (key_text key ++ error_text error)) }
+{
+    push_key(alloc, key, text)?;
+    push_error(alloc, error, text)
+}
+
+/// Adds a key.
+fn push_key(alloc: Global, key: Key, text: &mut String) -> Result<(), NoMemory>
+    ensures { OnOk result (string_bytes text.new ≡ string_bytes text.old ++ key_text key) }
+{
+    push_address(key.ip, text)?;
+    let port = key.port;
+    write!(text, ":{port}/")?;
+    let identifier = key.id.to_be_bytes();
+    text.push_str(hex::encode(alloc, identifier.as_slice())?.as_str())?;
+    Ok(())
+}
+
+/// Adds an address.
+fn push_address(ip: [u8; 4], text: &mut String) -> Result<(), NoMemory>
+    ensures { OnOk result (string_bytes text.new ≡ string_bytes text.old ++ address_text ip) }
+{
+    let [a, b, c, d] = ip;
+    write!(text, "{a}.{b}.{c}.{d}")?;
+    Ok(())
+}
+
+/// The word for a kind.
+fn kind_name(kind: Kind) -> &'static str
+    ensures { result.now ≡ kind_text kind }
+{
+    match kind {
+        Kind::Unique => "unique",
+        Kind::Group => "group",
+        Kind::Broadcast => "broadcast",
+    }
+}
+
+/// The text of data.
+fn data_of(alloc: Global, bytes: &[u8]) -> Result<String, NoMemory>
+    ensures { IfOk result (λ text. string_bytes text ≡ data_text bytes.now) }
+{
+    if bytes.is_empty() {
+        return Ok(String::from_str(alloc, "empty")?);
+    }
+    Ok(hex::encode(alloc, bytes)?)
+}
+
+/// Adds the bytes of an error packet, if there is one.
+fn push_error(alloc: Global, error: Option<ErrorPacket>, text: &mut String) -> Result<(), NoMemory>
+    ensures { OnOk result (string_bytes text.new ≡ string_bytes text.old ++ error_text error) }
+{
+    let Some(error) = error else {
+        return Ok(());
+    };
+    let bytes = encode(alloc, &Packet::Error(error))?;
+    text.push_str(" error ")?;
+    text.push_str(hex::encode(alloc, bytes.as_slice())?.as_str())?;
+    Ok(())
+}

@@ -100,9 +100,11 @@ count $? 'the console samples of README.md'
 "$program" show <&- >"$room/output" 2>"$room/errors"
 [ $? -eq 3 ] && holds "$room/output" '' && holds "$room/errors" $'nbt: read\n'
 count $? 'nbt show, standard input closed'
-"$program" show <"$room" >"$room/output" 2>"$room/errors"
-[ $? -eq 3 ] && holds "$room/output" '' && holds "$room/errors" $'nbt: read\n'
-count $? 'nbt show, a folder as standard input'
+for command in show save; do
+    "$program" $command <"$room" >"$room/output" 2>"$room/errors"
+    [ $? -eq 3 ] && holds "$room/output" '' && holds "$room/errors" $'nbt: read\n'
+    count $? "nbt $command, a folder as standard input"
+done
 
 # Outputs that are full or closed; a closed standard error changes nothing.
 for words in 'name FRED<20>' "name --bytes $fred" 'build keepalive' --help --version; do
@@ -117,6 +119,9 @@ printf 'tick 1\nx\n' >"$room/input"
 "$program" show <"$room/input" >/dev/full 2>"$room/errors"
 [ $? -eq 3 ] && holds "$room/errors" $'nbt: write\n'
 count $? 'nbt show, standard output full, a malformed line behind it'
+"$program" save </dev/null >/dev/full 2>"$room/errors"
+[ $? -eq 3 ] && holds "$room/errors" $'nbt: write\n'
+count $? 'nbt save, standard output full'
 "$program" name FRED >"$room/output" 2>/dev/full
 [ $? -eq 1 ] && holds "$room/output" ''
 count $? 'nbt name FRED, standard error full'
@@ -147,6 +152,9 @@ if ${CC:-cc} -shared -fPIC -O1 -o "$room/refuse.so" "$here/refuse_memory.c" -ldl
     { "$program" build query 0001 'FRED<20>.A' && printf 'tick 2\n139 0 00000003616263\nx\n'; } >"$room/input"
     input=$room/input
     remembers show
+    { "$program" build group 10.0.0.5:138/0001 'JOE<00>' 'FRED<20>' 000102030405 2 && echo tick 1; } >"$room/input"
+    remembers save
+    remembers save --keys 0
 else
     count 1 'tests/refuse_memory.c: no C compiler'
 fi

@@ -1,5 +1,5 @@
 -- The command line takes a subcommand that may stand alone, and clap fails for want of memory alone then.
-use Rattle.std.proofs.Common.{◌≡◌, ◌≢◌, [], ◌∷◌, true, refl, codes, ap, ◌∙◌, ℕ, List, Option}
+use Rattle.std.proofs.Common.{◌≡◌, ◌≢◌, inl, inr, [], ◌∷◌, true, refl, codes, ap, ◌∙◌, ℕ, List, Option}
 use Rattle.clap.specs.Words.{takes, Text}
 use Rattle.clap.proofs.OnLiterals.{clap_on_literals}
 use Rattle.clap.specs.declared.error.kind.ErrorKind.{ErrorKind}
@@ -13,8 +13,13 @@ show_is_taken : (program : Text) → takes nbt_app (program ∷ codes "show" ∷
 unfolding clap_on_literals
 show_is_taken program = refl
 
+save_is_taken : (program : Text) → takes nbt_app (program ∷ codes "save" ∷ []) ≡ true
+unfolding clap_on_literals
+save_is_taken program = refl
+
 pub alone_is_taken : (program word : Text) → IsAlone word → takes nbt_app (program ∷ word ∷ []) ≡ true
-alone_is_taken program word alone = ap (λ w. takes nbt_app (program ∷ w ∷ [])) alone ∙ show_is_taken program
+alone_is_taken program word (inl is_show) = ap (λ w. takes nbt_app (program ∷ w ∷ [])) is_show ∙ show_is_taken program
+alone_is_taken program word (inr is_save) = ap (λ w. takes nbt_app (program ∷ w ∷ [])) is_save ∙ save_is_taken program
 
 failed_of : (kind : ErrorKind) (status : Status) (old new : Option (List ℕ)) → kind ≡ OutOfMemory
     → Reports (answer_to kind) status old new → status ≡ Failed

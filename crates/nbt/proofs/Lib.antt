@@ -1,3 +1,4 @@
 pub mod WritingTurns
 pub mod ReadingTurns
 pub mod AloneWords
+pub mod SavingTurns

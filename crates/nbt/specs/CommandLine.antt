@@ -1,8 +1,9 @@
 -- The program's command line, as clap reads it (own).
-use Rattle.std.specs.Prelude.{◌≡◌, ◌≢◌, ℕ, List, [], ◌∷◌, Option, Some, true, codes, option_map}
+use Rattle.std.specs.Prelude.{◌≡◌, ◌≢◌, ◌⊎◌, ℕ, List, [], ◌∷◌, Option, Some, true, codes, option_map}
 use Rattle.clap.specs.Words.{App, Rule, Text, new_app, new_rule, with_rule, with_subcommand, subcommand_of}
 use Rattle.clap.specs.Simple.{on_top}
 use Rattle.clap.specs.declared.builder.action.ArgAction.TheVariants.{Set, SetTrue, Append}
+use Rattle.clap.specs.declared.builder.value_parser.ValueParser.TheVariants.{Unsigned}
 
 -- an option that is given or not
 abbrev pub flag_rule : Text → Rule
@@ -19,6 +20,16 @@ list_rule name = record (new_rule name) {
   range = Some (record { start_inclusive = 0; end_inclusive = 18446744073709551615 });
 }
 
+-- `--keys N`, a decimal number from 1 to 65,535, and 1,024 where it isn't given
+abbrev pub keys_rule : Rule
+keys_rule = record (new_rule (codes "keys")) {
+  long = Some (codes "keys");
+  action = Some Set;
+  value_names = 1;
+  defaults = codes "1024" ∷ [];
+  parser = Some (Unsigned 1 65535);
+}
+
 -- `name [--bytes] VALUE`
 abbrev pub name_app : App
 name_app = with_rule (with_rule (new_app (codes "name")) (flag_rule (codes "bytes"))) (value_rule (codes "VALUE"))
@@ -31,17 +42,25 @@ show_app = new_app (codes "show")
 abbrev pub build_app : App
 build_app = with_rule (with_rule (with_rule (new_app (codes "build")) (flag_rule (codes "broadcast"))) (value_rule (codes "WHAT"))) (list_rule (codes "ARG"))
 
+-- `save [--keys N]`
+abbrev pub save_app : App
+save_app = with_rule (new_app (codes "save")) keys_rule
+
 -- the program itself has a version, and asks for a subcommand
 abbrev pub top_app : App
 top_app = on_top (λ s. record s { subcommand_required = true }) (on_top (λ s. record s { has_version = true }) (new_app (codes "nbt")))
 
 -- the whole command line
 abbrev pub nbt_app : App
-nbt_app = with_subcommand (with_subcommand (with_subcommand top_app name_app.top) show_app.top) build_app.top
+nbt_app = with_subcommand (with_subcommand (with_subcommand (with_subcommand top_app name_app.top) show_app.top) build_app.top) save_app.top
 
 -- a subcommand that may stand alone
 abbrev pub IsAlone : Text → Type 0
-IsAlone word = word ≡ codes "show"
+IsAlone word = (word ≡ codes "show") ⊎ (word ≡ codes "save")
+
+-- the matches' subcommand is one that reads the input
+abbrev pub DoesRead : Option Text → Type 0
+DoesRead name = (name ≡ Some (codes "show")) ⊎ (name ≡ Some (codes "save"))
 
 -- the program's name and one word more, which is a subcommand that may stand alone
 abbrev pub AreAlone : List Text → Type 0

@@ -4,7 +4,7 @@ use Rattle.std.specs.Fmt.{decimal}
 use Rattle.nb_names.specs.FaultTexts.{name_fault_text}
 use Rattle.nb_names.specs.TextFaults.{text_fault_text}
 use Rattle.nbt.specs.declared.fault.Fault.{Fault}
-use Rattle.nbt.specs.declared.fault.Fault.TheVariants.{Text, Name, BadHex, TrailingBytes, Arguments, TooLong, ZeroPiece, Line, Read, Write, Memory}
+use Rattle.nbt.specs.declared.fault.Fault.TheVariants.{Text, Name, BadHex, TrailingBytes, Arguments, TooLong, ZeroPiece, Line, Full, Read, Write, Memory}
 use Rattle.nbt.specs.declared.status.Status.{Status}
 use Rattle.nbt.specs.declared.status.Status.TheVariants.{Done, Refused, Failed}
 
@@ -18,6 +18,7 @@ fault_text Arguments = codes "arguments"
 fault_text TooLong = codes "too long"
 fault_text ZeroPiece = codes "zero piece"
 fault_text (Line number) = codes "line " ++ decimal number
+fault_text Full = codes "full"
 fault_text Read = codes "read"
 fault_text Write = codes "write"
 fault_text Memory = codes "memory"
@@ -32,6 +33,7 @@ status_of Arguments = Refused
 status_of TooLong = Refused
 status_of ZeroPiece = Refused
 status_of (Line number) = Refused
+status_of Full = Refused
 status_of Read = Failed
 status_of Write = Failed
 status_of Memory = Failed

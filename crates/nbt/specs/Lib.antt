@@ -6,3 +6,6 @@ pub mod NameCommand
 pub mod Output
 pub mod Input
 pub mod CommandLine
+pub mod Lines
+pub mod Saved
+pub mod Saving

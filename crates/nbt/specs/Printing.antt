@@ -10,7 +10,7 @@ use Rattle.nb_names.specs.Labels.{NameAt}
 use Rattle.nb_names.specs.NameFaults.{NetbiosFaultAt}
 use Rattle.nbt.specs.Output.{AppendsFront}
 use Rattle.nbt.specs.declared.fault.Fault.{Fault}
-use Rattle.nbt.specs.declared.fault.Fault.TheVariants.{Text, Name, BadHex, TrailingBytes, Arguments, TooLong, ZeroPiece, Line, Read, Write, Memory}
+use Rattle.nbt.specs.declared.fault.Fault.TheVariants.{Text, Name, BadHex, TrailingBytes, Arguments, TooLong, ZeroPiece, Line, Full, Read, Write, Memory}
 
 -- the text as a line
 abbrev pub line : List ℕ → List ℕ
@@ -37,6 +37,7 @@ IsSpellingFault text Arguments = ⊥
 IsSpellingFault text TooLong = ⊥
 IsSpellingFault text ZeroPiece = ⊥
 IsSpellingFault text (Line number) = ⊥
+IsSpellingFault text Full = ⊥
 IsSpellingFault text Read = ⊥
 IsSpellingFault text Write = Unit {0}
 IsSpellingFault text Memory = Unit {0}
@@ -65,6 +66,7 @@ IsNameFault digits Arguments = ⊥
 IsNameFault digits TooLong = ⊥
 IsNameFault digits ZeroPiece = ⊥
 IsNameFault digits (Line number) = ⊥
+IsNameFault digits Full = ⊥
 IsNameFault digits Read = ⊥
 IsNameFault digits Write = Unit {0}
 IsNameFault digits Memory = Unit {0}

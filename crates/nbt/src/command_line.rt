@@ -2,8 +2,9 @@
 ghost use Rattle.std.specs.Prelude.{◌≡◌, IfOk, false};
 ghost use Rattle.clap.specs.Words.{app_of, new_app, rule_of};
 ghost use Rattle.clap.specs.declared.builder.command.Command.TheViews.{out-Command as fields_of};
-ghost use Rattle.nbt.specs.CommandLine.{name_app, show_app, build_app, nbt_app, flag_rule, value_rule, list_rule};
+ghost use Rattle.nbt.specs.CommandLine.{name_app, show_app, build_app, save_app, nbt_app, flag_rule, value_rule, list_rule, keys_rule};
 
+use clap::builder::ValueParser;
 use clap::{Arg, ArgAction, Command};
 use std::alloc::{AllocError, Global};
 
@@ -52,6 +53,17 @@ const BUILD_HELP: &str = "Port 137: query ID NAME, status ID NAME, registration 
                           was bad, 3 a device failed or{n}memory ran out. With 1 and 3 one line, \
                           `nbt: ` and the reason, goes to standard error.";
 
+/// What is saved of a capture, and how the program ends.
+const SAVE_HELP: &str = "The capture is as `nbt show` takes it. Fragments of datagrams on port 138 \
+                         are put together, and each key that came{n}at least 2000 milliseconds \
+                         before a tick is dropped by it; packets that are refused are passed \
+                         over. The table that is{n}left is printed in hexadecimal, as one \
+                         line.{n}{n}Example: nbt build group 10.0.0.5:138/0001 'JOE<00>' \
+                         'FRED<20>' 616263 2 | nbt save{n}{n}Exit status: 0 all was done, 1 a \
+                         line is malformed or there are too many keys, 2 the command line was \
+                         bad, 3 a device{n}failed or memory ran out. With 1 and 3 one line, \
+                         `nbt: ` and the reason, goes to standard error.";
+
 /// The command line: a subcommand and its arguments.
 ///
 /// # Errors
@@ -70,7 +82,8 @@ pub fn command<'a>(alloc: Global) -> Result<Command<'a>, AllocError>
     .subcommand_required(true);
     let top = top.subcommand(name_command(alloc)?)?;
     let top = top.subcommand(show_command(alloc))?;
-    Ok(top.subcommand(build_command(alloc)?)?)
+    let top = top.subcommand(build_command(alloc)?)?;
+    Ok(top.subcommand(save_command(alloc)?)?)
 }
 
 /// `name [--bytes] VALUE`.
@@ -127,6 +140,20 @@ fn build_command<'a>(alloc: Global) -> Result<Command<'a>, AllocError>
     Ok(build.arg(broadcast)?.arg(what)?.arg(words)?)
 }
 
+/// `save [--keys N]`.
+fn save_command<'a>(alloc: Global) -> Result<Command<'a>, AllocError>
+    ensures app { IfOk result (λ command. app_of command ≡ save_app) }
+    ensures local { IfOk result (λ command. (fields_of command).has_globals ≡ false) }
+{
+    let save = described(
+        alloc,
+        "save",
+        "Print what the capture on standard input says of datagrams, as a saved table",
+        SAVE_HELP,
+    );
+    Ok(save.arg(keys(alloc))?)
+}
+
 /// A command of this name, with the texts before and after its help.
 fn described<'a>(alloc: Global, name: &'a str, about: &'a str, after: &'a str) -> Command<'a>
     ensures app { app_of result ≡ new_app name.entry.now }
@@ -166,4 +193,18 @@ fn list<'a>(alloc: Global, name: &'a str, help: &'a str) -> Arg<'a>
         .help(help)
         .num_args(0..)
         .action(ArgAction::Append)
+}
+
+/// `--keys N`.
+fn keys<'a>(alloc: Global) -> Arg<'a>
+    ensures rule { rule_of result ≡ keys_rule }
+    ensures local { result.global ≡ false }
+{
+    Arg::new(alloc, "keys")
+        .long("keys")
+        .value_name("N")
+        .help("How many keys a table may hold, 1 to 65535")
+        .value_parser(ValueParser::unsigned(1, 65_535))
+        .default_value("1024")
+        .action(ArgAction::Set)
 }

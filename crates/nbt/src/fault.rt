@@ -25,6 +25,8 @@ pub enum Fault {
     ZeroPiece,
     /// A line of a capture is malformed. The number is the line's, the first being 1.
     Line(usize),
+    /// A capture has fragments of more keys at a time than are held.
+    Full,
     /// The program's words couldn't be read, or its input not to its end.
     Read,
     /// The output failed.
@@ -46,7 +48,8 @@ impl Fault {
             | Fault::Arguments
             | Fault::TooLong
             | Fault::ZeroPiece
-            | Fault::Line(_) => Status::Refused,
+            | Fault::Line(_)
+            | Fault::Full => Status::Refused,
             Fault::Read | Fault::Write | Fault::Memory => Status::Failed,
         }
     }
@@ -68,6 +71,7 @@ impl fmt::Display for Fault {
             Fault::TooLong => f.write_str("too long"),
             Fault::ZeroPiece => f.write_str("zero piece"),
             Fault::Line(number) => write!(f, "line {number}"),
+            Fault::Full => f.write_str("full"),
             Fault::Read => f.write_str("read"),
             Fault::Write => f.write_str("write"),
             Fault::Memory => f.write_str("memory"),

@@ -10,6 +10,8 @@ mod lines;
 mod name;
 mod output;
 mod program;
+mod save;
+mod saved;
 mod show;
 mod status;
 mod writing;

@@ -4,10 +4,10 @@ ghost use Rattle.hex.specs.Hex.{decode_of};
 ghost use Rattle.nb_names.specs.Counted.{no_calls};
 ghost use Rattle.nbt.specs.Output.{ShowsFailing};
 ghost use Rattle.nbt.specs.NameCommand.{IsValue, IsFlag, OutcomeOf};
-ghost use Rattle.nbt.specs.Printing.{Leaves, line, PrintsSpelling, PrintsName, IsSpellingOf, IsSpellingFault, IsNameOf, IsNameFault, IsDecodeFault, IsNoWrite};
+ghost use Rattle.nbt.specs.Printing.{Leaves, PrintsSpelling, PrintsName, IsSpellingOf, IsSpellingFault, IsNameOf, IsNameFault, IsDecodeFault, IsNoWrite};
 
 use crate::fault::Fault;
-use crate::output::Output;
+use crate::output::{Output, with_line_feed};
 use clap::ArgMatches;
 use hex::FromHexError;
 use nb_names::{Pointers, name_from_text, name_text, read_name, write_domain};
@@ -125,16 +125,5 @@ fn decoded(alloc: Global, digits: &str) -> Result<Vec<u8>, Fault>
         Ok(bytes) => Ok(bytes),
         Err(FromHexError::OutOfMemory) => Err(Fault::Memory),
         Err(_) => Err(Fault::BadHex),
-    }
-}
-
-/// The text as a line.
-fn with_line_feed(mut text: String) -> Result<String, Fault>
-    ensures value { IfOk result (λ made. string_bytes made ≡ line (string_bytes text)) }
-    ensures fault { IfErr result (λ fault. fault ≡ Fault.Memory) }
-{
-    match text.push('\n') {
-        Ok(()) => Ok(text),
-        Err(_) => Err(Fault::Memory),
     }
 }

@@ -1,8 +1,9 @@
 //! The program's output: what is written, and whether a write came to nothing.
-ghost use Rattle.std.specs.Prelude.{◌≡◌, ◌<◌, ◌≤◌, length, take, true, OnOk, OnErr, IfErr};
+ghost use Rattle.std.specs.Prelude.{◌≡◌, ◌<◌, ◌≤◌, length, take, true, string_bytes, OnOk, OnErr, IfOk, IfErr};
 ghost use Rattle.std.specs.Io.KnownBytes.{Appends};
 ghost use Rattle.nb_names.specs.Counted.{no_calls};
 ghost use Rattle.nbt.specs.Output.{AppendsFront, GrowTo, ShowsFailing};
+ghost use Rattle.nbt.specs.Printing.{line};
 
 use crate::fault::Fault;
 use crate::writing::{write_some, write_whole};
@@ -107,5 +108,20 @@ impl<W: Write> Write for Output<W> {
 
     fn flush(&mut self) -> io::Result<()> {
         Ok(())
+    }
+}
+
+/// The text as a line.
+///
+/// # Errors
+///
+/// [`Fault::Memory`] where memory ran out.
+pub fn with_line_feed(mut text: String) -> Result<String, Fault>
+    ensures value { IfOk result (λ made. string_bytes made ≡ line (string_bytes text)) }
+    ensures fault { IfErr result (λ fault. fault ≡ Fault.Memory) }
+{
+    match text.push('\n') {
+        Ok(()) => Ok(text),
+        Err(_) => Err(Fault::Memory),
     }
 }

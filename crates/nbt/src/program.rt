@@ -1,11 +1,11 @@
 //! The program over any input and output.
-ghost use Rattle.std.specs.Prelude.{◌≡◌, ◌≢◌, ◌≤◌, Some, codes, map, string_bytes, IfErr};
+ghost use Rattle.std.specs.Prelude.{◌≡◌, ◌≢◌, ◌≤◌, map, string_bytes, IfErr};
 ghost use Rattle.std.specs.Io.KnownBytes.{Keeps};
 ghost use Rattle.clap.specs.Words.{kind_of, subcommand_name_of};
 ghost use Rattle.nb_names.specs.Counted.{no_calls};
 ghost use Rattle.nbt.specs.Output.{ShowsFailing};
 ghost use Rattle.nbt.specs.FaultTexts.{status_after};
-ghost use Rattle.nbt.specs.CommandLine.{AreAlone};
+ghost use Rattle.nbt.specs.CommandLine.{AreAlone, DoesRead};
 ghost use Rattle.nbt.specs.ClapAnswer.{Reports, answer_to};
 
 use crate::build::run_build;
@@ -14,6 +14,7 @@ use crate::command_line::command;
 use crate::fault::Fault;
 use crate::name::run_name;
 use crate::output::Output;
+use crate::save::run_save;
 use crate::show::run_show;
 use crate::status::Status;
 use clap::{ArgMatches, Error};
@@ -80,7 +81,7 @@ fn run_command<R: Read, W: Write>(
     input: &mut Counted<R>,
     output: &mut Output<W>,
 ) -> Result<(), Fault>
-    ensures unread { subcommand_name_of matches.now ≢ Some (codes "show") → input.new ≡ input.old }
+    ensures unread { ¬ DoesRead (subcommand_name_of matches.now) → input.new ≡ input.old }
     ensures why { IfErr result (λ fault. fault ≡ Fault.Write →
         ShowsFailing no_calls output.new.counts) }
 {
@@ -88,6 +89,7 @@ fn run_command<R: Read, W: Write>(
         Some(("name", matches)) => run_name(alloc, matches, output),
         Some(("show", _)) => run_show(alloc, input, output),
         Some(("build", matches)) => run_build(alloc, matches, output),
+        Some(("save", matches)) => run_save(alloc, matches, input, output),
         _ => Err(Fault::Arguments),
     }
 }

@@ -10,10 +10,9 @@ mod texts;
 
 use crate::fault::Fault;
 use crate::input::{Input, read_input};
-use crate::lines::next_line;
+use crate::lines::{last_line, next_line, said_by};
 use crate::output::Output;
-use nb_member::limits::MAX_LINE;
-use nb_member::{Line, LineFault, capture_line};
+use nb_member::Line;
 use nb_names::{Counted, NoMemory};
 use std::alloc::Global;
 use std::io::{BufWriter, Read, Write};
@@ -53,7 +52,7 @@ fn show_input<W: Write>(alloc: Global, input: &Input, output: &mut Output<W>) ->
     shown
 }
 
-/// Shows the lines that are finished, and the rest.
+/// Shows the lines that are finished, and the last one.
 fn show_lines<W: Write>(alloc: Global, input: &Input, output: &mut W) -> Result<(), Fault> {
     let mut rest = input.front();
     let mut number = 1;
@@ -62,28 +61,10 @@ fn show_lines<W: Write>(alloc: Global, input: &Input, output: &mut W) -> Result<
         rest = after;
         number += 1;
     }
-    show_rest(alloc, number, rest, input.is_whole, output)
-}
-
-/// Shows what follows the last line feed: a line, where the input ends there. Else only its length
-/// is judged.
-fn show_rest<W: Write>(
-    alloc: Global,
-    number: usize,
-    rest: &[u8],
-    is_whole: bool,
-    output: &mut W,
-) -> Result<(), Fault> {
-    if MAX_LINE < rest.len() {
-        return Err(Fault::Line(number));
+    match last_line(number, rest, input.is_whole)? {
+        Some(line) => show_line(alloc, number, line, output),
+        None => Ok(()),
     }
-    if !is_whole {
-        return Err(Fault::Read);
-    }
-    if rest.is_empty() {
-        return Ok(());
-    }
-    show_line(alloc, number, rest, output)
 }
 
 /// Shows what one line says, whole or not at all.
@@ -93,11 +74,8 @@ fn show_line<W: Write>(
     line: &[u8],
     output: &mut W,
 ) -> Result<(), Fault> {
-    let said = match capture_line(alloc, line) {
-        Ok(Some(said)) => said,
-        Ok(None) => return Ok(()),
-        Err(LineFault::BadLine) => return Err(Fault::Line(number)),
-        Err(LineFault::NoMemory) => return Err(Fault::Memory),
+    let Some(said) = said_by(alloc, number, line)? else {
+        return Ok(());
     };
     let mut text = String::new(alloc);
     push_line(alloc, number, &said, &mut text)?;

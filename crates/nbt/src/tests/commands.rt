@@ -3,7 +3,7 @@
 use crate::tests::fakes::expect_run;
 use std::test::Fail;
 
-/// Names both ways, the pieces of a datagram, and a packet of each port.
+/// Names both ways, the pieces of a datagram, a packet of each port, and the table of the pieces.
 #[test]
 fn each_command_prints_what_it_is_asked_for(rt: HostRuntime) -> Result<(), Fail> {
     let alloc = rt.alloc();
@@ -22,6 +22,9 @@ fn each_command_prints_what_it_is_asked_for(rt: HostRuntime) -> Result<(), Fail>
                  \x20 question FRED<20> type=0020 class=0001\n\
                  2 138 find flags=02 key=10.0.0.5:138/0001 destination=FRED<20> used=44\n\
                  4 139 message length=3 data=616263 used=7\n5 tick 3\n";
+    let saved = format!(in alloc;
+        "4e425431000000010a000005008a00010111{joe}{fred}01000400010000000461626364\n"
+    )?;
     let group = [
         "build",
         "group",
@@ -31,11 +34,12 @@ fn each_command_prints_what_it_is_asked_for(rt: HostRuntime) -> Result<(), Fail>
         "61626364",
         "3",
     ];
-    let rows: [(&[&str], &str, &str); 4] = [
+    let rows: [(&[&str], &str, &str); 5] = [
         (&["name", "FRED<20>"], "", spelled.as_str()),
         (&["name", "--bytes", fred], "", "FRED<20>\n"),
         (group.as_slice(), "", pieces.as_str()),
         (&["show"], capture.as_str(), shown),
+        (&["save"], pieces.as_str(), saved.as_str()),
     ];
     for (texts, input, want) in rows {
         expect_run(&rt, alloc, texts, &mut input.as_bytes(), (0, want, ""))?;

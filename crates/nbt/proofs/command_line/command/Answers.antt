@@ -12,11 +12,14 @@ top_is c =
 
 pub returns : goal.returns
 returns c =
-    c.in_ok-subcommand.ensures.shape c.in_ok-build_command.ensures.local
+    c.in_ok-subcommand.ensures.shape c.in_ok-save_command.ensures.local
+    ∙ ap₂ with_subcommand
+    (c.in_ok-top-3.ensures.shape c.in_ok-build_command.ensures.local
     ∙ ap₂ with_subcommand
     (c.in_ok-top-2.ensures.shape c.show_command.ensures.local
     ∙ ap₂ with_subcommand
     (c.in_ok-top.ensures.shape c.in_ok-name_command.ensures.local
     ∙ ap₂ with_subcommand (top_is c) (ap (λ (a : App). a.top) c.in_ok-name_command.ensures.app))
     (ap (λ (a : App). a.top) c.show_command.ensures.app))
-    (ap (λ (a : App). a.top) c.in_ok-build_command.ensures.app)
+    (ap (λ (a : App). a.top) c.in_ok-build_command.ensures.app))
+    (ap (λ (a : App). a.top) c.in_ok-save_command.ensures.app)

@@ -1,0 +1,13 @@
+-- What the program prints of tables (own).
+use Rattle.std.specs.Prelude.{◌≡◌, ℕ, List}
+use Rattle.hex.specs.Hex.{encode_lower}
+use Rattle.nb_table.specs.Contents.{Contents}
+use Rattle.nb_table.specs.Saved.{saved}
+
+-- the saved table in hexadecimal
+abbrev pub saved_digits : Contents → List ℕ
+saved_digits contents = encode_lower (saved contents)
+
+-- IsSavedOf contents digits: the digits are the saved table, in hexadecimal
+abbrev pub IsSavedOf : Contents → List ℕ → Type 0
+IsSavedOf contents digits = digits ≡ saved_digits contents

@@ -1,0 +1,99 @@
+-- What `nbt save` makes of a capture: a member without names takes its payloads of port 138 and looks at
+-- the clock at its ticks (own).
+use Rattle.std.specs.Prelude.{◌≡◌, ◌≢◌, ◌⊎◌, ◌<◌, ℕ, List, [], ◌∷◌, ◌++◌, length, All, Option, None, Some, codes, Result, Ok, Err}
+use Rattle.std.specs.FinMap as maps
+use Rattle.std.specs.Str.Parse.{digits_value, without_leading_plus}
+use Rattle.std.specs.Io.KnownBytes.{Consumes, IsAtEnd}
+use Rattle.clap.specs.Words.{found_of, one_text}
+use Rattle.clap.specs.declared.parser.matches.ArgMatches.{ArgMatches}
+use Rattle.nb_table.specs.declared.fault.TableFault.TheVariants.{MisplacedFirst, TooLong, Full, NoMemory}
+use Rattle.nb_member.specs.declared.line.Line.{Line}
+use Rattle.nb_member.specs.declared.line.Line.TheVariants.{Packet as PacketLine, Tick}
+use Rattle.nb_member.specs.declared.member_fault.MemberFault.{MemberFault}
+use Rattle.nb_member.specs.declared.member_fault.MemberFault.TheVariants.{Packet, Table}
+use Rattle.nb_member.specs.declared.outcome.Outcome.{Outcome}
+use Rattle.nb_member.specs.declared.settings.Settings.{Settings}
+use Rattle.nb_member.specs.Capture.{Reads}
+use Rattle.nb_member.specs.Live.{limits_of}
+use Rattle.nb_member.specs.Member.{MemberValue, contents, with_timed}
+use Rattle.nb_member.specs.Taking.{Takes}
+use Rattle.nb_member.specs.Timing.{after_clock}
+use Rattle.nbt.specs.Printing.{PrintsLine}
+use Rattle.nbt.specs.Saved.{saved_digits}
+
+-- saving keys: the settings of a member that holds so many keys
+abbrev pub saving : ℕ → Settings
+saving n = record { ip = 0 ∷ 0 ∷ 0 ∷ 0 ∷ []; port = 138; keys = n; longest = 65535 }
+
+-- new_saver keys: the member before the first line
+abbrev pub new_saver : ℕ → MemberValue
+new_saver n = record {
+  settings = saving n;
+  names = [];
+  timed = record {
+    table = record { contents = maps.empty; limits = limits_of (saving n) };
+    moments = maps.empty;
+  };
+}
+
+-- the member's answer to a payload ends nothing: a packet that is refused is passed over, unless the
+-- table is full or memory ran out
+abbrev pub GoesOn : Result Outcome MemberFault → Type 0
+GoesOn (Ok outcome) = Unit {0}
+GoesOn (Err (Packet fault error)) = Unit {0}
+GoesOn (Err (Table MisplacedFirst)) = Unit {0}
+GoesOn (Err (Table TooLong)) = Unit {0}
+GoesOn (Err (Table (Full key))) = ⊥
+GoesOn (Err (Table NoMemory)) = ⊥
+
+-- TakesPayload m moment payload new: the payload makes the member m the member new, and ends nothing
+pub record TakesPayload (m : MemberValue) (moment : ℕ) (payload : List ℕ) (new : MemberValue) : Type 0 where
+  pub answer : Result Outcome MemberFault
+  pub taken : Takes m moment payload new answer
+  pub goes_on : GoesOn answer
+
+-- TakesSaid m said new: what a line says, if anything, makes the member m the member new
+abbrev pub TakesSaid : MemberValue → Option Line → MemberValue → Type 0
+TakesSaid m None new = new ≡ m
+TakesSaid m (Some (Tick now)) new = new ≡ with_timed m (after_clock m.timed now)
+TakesSaid m (Some (PacketLine port moment payload)) new =
+    ((port ≡ 138) × TakesPayload m moment payload new) ⊎ ((port ≢ 138) × (new ≡ m))
+
+-- TakesLine m line new: what the line says makes the member m the member new
+pub record TakesLine (m : MemberValue) (line : List ℕ) (new : MemberValue) : Type 0 where
+  pub said : Option Line
+  pub reads : Reads line (Ok said)
+  pub takes : TakesSaid m said new
+
+-- AreKeys matches n: the number is the one that the matches hold for `--keys`
+abbrev pub AreKeys : ArgMatches → ℕ → Type 0
+AreKeys matches n = (text : List ℕ) → one_text (found_of matches) (codes "keys") ≡ Some text
+    → n ≡ digits_value 10 (without_leading_plus text)
+
+-- the text has no line feed
+abbrev pub IsLine : List ℕ → Type 0
+IsLine text = All (λ byte. byte ≢ 10) text
+
+-- TakesRest m rest new: what follows the last line feed, a line unless it is empty, makes the member m the
+-- member new
+abbrev pub TakesRest : MemberValue → List ℕ → MemberValue → Type 0
+TakesRest m rest new = ((rest ≡ []) × (new ≡ m)) ⊎ ((0 < length rest) × TakesLine m rest new)
+
+-- TakesLines m capture new: the lines of the capture, one after the other, make the member m the member
+-- new. Each ends with a line feed, 10, which the last may lack where it isn't empty
+pub data TakesLines : MemberValue → List ℕ → MemberValue → Type 0 where
+  ends : {m new : MemberValue} (rest : List ℕ) → IsLine rest → TakesRest m rest new → TakesLines m rest new
+  more : {m between new : MemberValue} (line rest : List ℕ) → IsLine line → TakesLine m line between
+      → TakesLines between rest new → TakesLines m (line ++ 10 ∷ rest) new
+
+-- SavesCapture given old_in new_in old_out new_out: the whole input was read, a member that holds as many
+-- keys as are given took its lines, and the table that it then has was printed
+pub record SavesCapture (IsKeys : ℕ → Type 0) (old_in new_in old_out new_out : Option (List ℕ)) : Type 0 where
+  pub capture : List ℕ
+  pub keys : ℕ
+  pub new : MemberValue
+  pub read : Consumes old_in new_in capture
+  pub ended : IsAtEnd new_in
+  pub given : IsKeys keys
+  pub took : TakesLines (new_saver keys) capture new
+  pub printed : PrintsLine old_out new_out (saved_digits (contents new))

@@ -1,0 +1,37 @@
+//! Tables in hexadecimal.
+ghost use Rattle.std.specs.Prelude.{◌≡◌, ◌⊎◌, OnOk, IfErr};
+ghost use Rattle.nb_names.specs.Counted.{no_calls};
+ghost use Rattle.nbt.specs.Output.{ShowsFailing};
+ghost use Rattle.nbt.specs.Printing.{Leaves, PrintsLine};
+ghost use Rattle.nbt.specs.Saved.{saved_digits, IsSavedOf};
+
+use crate::fault::Fault;
+use crate::output::{Output, with_line_feed};
+use nb_table::Table;
+use std::alloc::Global;
+use std::io::Write;
+
+/// Prints a table as it is saved, in hexadecimal, as a line.
+///
+/// # Errors
+///
+/// [`Fault::Memory`] where memory ran out; nothing is printed then. [`Fault::Write`] where the
+/// output failed.
+pub fn print_saved<W: Write>(
+    alloc: Global,
+    table: &Table,
+    output: &mut Output<W>,
+) -> Result<(), Fault>
+    ensures printed { OnOk result (PrintsLine (W.contents output.old.inner)
+        (W.contents output.new.inner) (saved_digits table.now.contents)) }
+    ensures fault { IfErr result (λ fault. (fault ≡ Fault.Memory) ⊎ (fault ≡ Fault.Write)) }
+    ensures err { IfErr result (Leaves (IsSavedOf table.now.contents)
+        (W.contents output.old.inner) (W.contents output.new.inner)) }
+    ensures why { IfErr result (λ fault. fault ≡ Fault.Write →
+        ShowsFailing no_calls output.new.counts) }
+{
+    let saved = table.save()?;
+    let digits = hex::encode(alloc, saved.as_slice()).map_err(|_| Fault::Memory)?;
+    let line = with_line_feed(digits)?;
+    output.print(line.as_bytes())
+}

@@ -99,7 +99,7 @@ impl Member {
         }
     }
 
-    /// The key of the fragment that a payload begins with, where the fragment is valid and the table
+    /// The key of the fragment that a payload begins with, if the fragment is valid and the table
     /// has no room for its key. No memory is taken.
     pub(crate) fn full_key(&self, payload: &[u8]) -> Option<Key>
         ensures { MatchOption result ((k : Key) → ¬ BeginsFull self.now payload.now k)

@@ -23,7 +23,7 @@ use std::alloc::Global;
 
 /// Takes these events, one after another, until one meets the limit on keys or memory runs out.
 ///
-/// Room to note an answer is asked for before each payload is taken; a look at the clock needs none.
+/// Room to note an answer is asked for before each payload is taken, not for a look at the clock.
 /// A payload that begins with no packet, or with a fragment that has FIRST in the wrong place or
 /// reaches too far, is counted and passed over; the error packet that it is answered with stands
 /// among the others. An event at which the run stops has changed nothing, and where its key is full

@@ -8,7 +8,7 @@ use Rattle.nb_member.specs.Capture.{Reads}
 use Rattle.nb_member.specs.Member.{MemberValue}
 use Rattle.nbt.specs.Printing.{PrintsLine}
 use Rattle.nbt.specs.Saved.{saved_digits}
-use Rattle.nbt.specs.Saving.{IsLine, TakesLine, TakesLines, TakesRest, TakesSaid, SavesCapture, new_saver, more, ends}
+use Rattle.nbt.specs.Saving.{IsLine, TakesLine, TakesLines, TakesSaid, SavesCapture, new_saver, more}
 
 -- the lines before the rest made the first member this one, and are counted
 pub record IsTaking (first now : MemberValue) (capture rest : List ℕ) (number : ℕ) : Type 0 where

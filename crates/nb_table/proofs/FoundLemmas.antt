@@ -1,25 +1,21 @@
 -- What a reading of saved bytes finds stands there.
-use Rattle.std.proofs.Common.{◌≡◌, ◌+◌, ◌<◌, ◌≤◌, ◌^◌, ℕ, suc, zero, List, [], ◌∷◌, ◌++◌, length, map, take, drop, Option, None, Some, Ok, refl, sym, ap, subst, ◌∙◌, arith, append_assoc, length-append}
-use Rattle.std.specs.Prelude.{T}
+use Rattle.std.proofs.Common.{◌≡◌, ◌+◌, ◌<◌, ◌≤◌, ◌^◌, ℕ, suc, zero, List, [], ◌∷◌, ◌++◌, length, map, take, drop, Option, None, Some, Ok, refl, sym, ap, subst, ◌∙◌, arith, length-append}
 use Rattle.std.proofs.Math.Seq.{take-add}
 use Rattle.std.proofs.lemmas.List.{drop-drop, take_all}
 use Rattle.std.specs.Int.{w16, w32, to_be_bytes}
 use Rattle.std.specs.List.{concat, AllByRecursion}
-use Rattle.std.specs.FinMap as maps
 use Rattle.nb_names.specs.declared.pointers.Pointers.TheVariants.{Refused}
 use Rattle.nb_names.specs.DomainName.{spelling}
 use Rattle.nb_names.specs.Labels.{StandsAt, LabelsAt, ends, goes_on as label_then, leads_to}
 use Rattle.nb_names.specs.Name.{NetbiosName, IsName, labels_of_name}
-use Rattle.nb_names.specs.Numbers.{NumberAt}
 use Rattle.nb_datagram.specs.declared.key.Key.{Key}
 use Rattle.nb_datagram.specs.declared.kind.Kind.{Kind}
 use Rattle.nb_datagram.specs.Kind.{type_of}
 use Rattle.nb_datagram.specs.Packet.{name_bytes}
-use Rattle.nb_table.specs.Slot.{Spoilt, Held}
 use Rattle.nb_table.specs.Entry.{EntryFacts, EntryValue}
 use Rattle.nb_table.specs.Runs.{RunValue, run_end, StartsPast, AreApart, map_of_runs, runs_of_map}
-use Rattle.nb_table.specs.Saved.{magic, run_bytes, runs_bytes, end_bytes, cover_bytes, facts_bytes, entry_bytes, key_bytes, keyed_bytes, entries_bytes}
-use Rattle.nb_table.specs.SavedReading.{gives, Then, goes_on, Field, whole, good, is_0, is_1, byte_at, number_at, bytes_at, KeyAt, IsAfter, key_at, known, kind_at, name_at, stands, end_at, start_at, size_at, run_at, row_at, runs_at, most_of, facts_at, entry_at, entries_at, table_at, IsRead, behind_magic}
+use Rattle.nb_table.specs.Saved.{magic, run_bytes, runs_bytes, end_bytes, facts_bytes, entry_bytes, key_bytes, keyed_bytes, entries_bytes}
+use Rattle.nb_table.specs.SavedReading.{gives, goes_on, whole, good, is_0, is_1, byte_at, number_at, bytes_at, IsAfter, key_at, known, kind_at, name_at, stands, end_at, run_at, row_at, runs_at, most_of, facts_at, entry_at, entries_at, IsRead, behind_magic}
 use Rattle.nb_table.proofs.RunsLemmas.{runs_back}
 
 -- ---- bytes in a row

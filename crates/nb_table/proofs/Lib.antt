@@ -34,3 +34,4 @@ mod TurnLemmas
 mod LoadLemmas
 mod StandingLemmas
 mod MagicLemmas
+mod ReadBackLemmas

@@ -1,5 +1,5 @@
 -- What a judged input comes to, and the table that is kept of it.
-use Rattle.std.proofs.Common.{◌≡◌, ◌<◌, ◌≤◌, ◌⊎◌, inl, inr, ℕ, List, length, Bool, true, false, None, Ok, Err, sym, ap, subst, ◌∙◌, arith}
+use Rattle.std.proofs.Common.{◌≡◌, ◌<◌, ◌≤◌, ◌⊎◌, inl, inr, ℕ, List, Bool, true, false, None, Ok, Err, refl, sym, ap, subst, ◌∙◌, arith}
 use Rattle.std.proofs.lemmas.Bool.{true≢false}
 use Rattle.std.specs.FinMap as maps
 use Rattle.nb_datagram.specs.declared.key.Key.{Key}
@@ -9,7 +9,7 @@ use Rattle.nb_table.specs.declared.load_fault.LoadFault.TheVariants.{TooLong, Fu
 use Rattle.nb_table.specs.Contents.{Contents}
 use Rattle.nb_table.specs.Entry.{EntryValue}
 use Rattle.nb_table.specs.Limits.{Limits, KeepsLimits}
-use Rattle.nb_table.specs.LoadFaults.{LoadFails, too_long, full, no_memory}
+use Rattle.nb_table.specs.LoadFaults.{IsReadAs, LoadFails, too_long, full, no_memory}
 use Rattle.nb_table.specs.Saved.{saved}
 use Rattle.nb_table.specs.SavedReading.{IsRead, entries_at}
 use Rattle.nb_table.specs.SavedTables.{IsJudged, AreKept}
@@ -28,7 +28,7 @@ fault_same input f g h k = same_fault f g (one_read input (Err f) (Err g) h k)
 
 pub judged_long : (input : List ℕ) (limits : Limits) (count : ℕ) (short : Bool) → IsJudged input limits.longest count short → short ≡ false → LoadFails input limits TooLong
 judged_long input limits count short j long =
-    too_long (table_with j.entries) (read_saved input j.entries j.last j.read)
+    too_long (table_with j.entries) (record { entries = j.entries; last = j.last; read = j.read; same = refl })
     (λ all. true≢false (sym ((read_short input j.entries j.last limits.longest j.read).1 all) ∙ sym j.tested ∙ long))
 
 judged_len : (input : List ℕ) (limit count : ℕ) (short : Bool) (j : IsJudged input limit count short) → maps.len (table_with j.entries) ≡ count
@@ -36,13 +36,13 @@ judged_len input limit count short j = read_len input j.entries j.last j.read �
 
 pub judged_full : (input : List ℕ) (limits : Limits) (count : ℕ) (short : Bool) → IsJudged input limits.longest count short → short ≡ true → limits.keys < count → LoadFails input limits Full
 judged_full input limits count short j is many =
-    full (table_with j.entries) (read_saved input j.entries j.last j.read)
+    full (table_with j.entries) (record { entries = j.entries; last = j.last; read = j.read; same = refl })
     ((read_short input j.entries j.last limits.longest j.read).0 (sym j.tested ∙ is))
     (omega (arith, many, judged_len input limits.longest count short j))
 
 pub judged_kept : (input : List ℕ) (limits : Limits) (count : ℕ) (short : Bool) → IsJudged input limits.longest count short → short ≡ true → count ≤ limits.keys → LoadFails input limits NoMemory
 judged_kept input limits count short j is few =
-    no_memory (table_with j.entries) (read_saved input j.entries j.last j.read)
+    no_memory (table_with j.entries) (record { entries = j.entries; last = j.last; read = j.read; same = refl })
     ((read_short input j.entries j.last limits.longest j.read).0 (sym j.tested ∙ is))
     (omega (arith, few, judged_len input limits.longest count short j))
 
@@ -60,6 +60,9 @@ kept_same input limit count short kept j k =
     let inside = subst (λ (n : ℕ). entries_at input n None 8 (Ok (j.entries, j.last))) (sym j.counted) (read_inside input j.entries j.last j.read) in
     let same = same_value k.entries j.entries k.next j.last (one_entries input count None 8 (Ok (k.entries, k.next)) (Ok (j.entries, j.last)) k.read inside) in
     k.same ∙ ap (λ (v : List (Key × EntryValue) × ℕ). table_with v.0) same
+
+pub kept_read : (input : List ℕ) (limit count : ℕ) (short : Bool) (kept : List (Key × EntryValue)) → IsJudged input limit count short → AreKept input count 8 kept → IsReadAs input (maps.from_entries {R = key_cmp} kept)
+kept_read input limit count short kept j k = record { entries = j.entries; last = j.last; read = j.read; same = kept_same input limit count short kept j k }
 
 pub kept_saved : (input : List ℕ) (limit count : ℕ) (short : Bool) (kept : List (Key × EntryValue)) → IsJudged input limit count short → AreKept input count 8 kept → input ≡ saved (maps.from_entries {R = key_cmp} kept)
 kept_saved input limit count short kept j k = read_saved input j.entries j.last j.read ∙ ap saved (sym (kept_same input limit count short kept j k))

@@ -1,7 +1,7 @@
 -- The first bytes of a saved table, tested, and the readings of its parts put together.
-use Rattle.std.proofs.Common.{◌≡◌, ◌==◌, ◌<◌, ◌≤◌, ℕ, List, length, Bool, true, false, take, None, Ok, Err, refl, sym, ap, ◌∙◌, arith}
+use Rattle.std.proofs.Common.{◌≡◌, ◌==◌, ◌<◌, ◌≤◌, ℕ, List, length, Bool, true, false, take, None, Ok, Err, sym, ◌∙◌, arith}
 use Rattle.std.specs.Cmp.{unsigned_Decides}
-use Rattle.std.specs.Cmp.Lexicographic.{pointwise, pointwise_decides}
+use Rattle.std.specs.Cmp.Lexicographic.{pointwise_decides}
 use Rattle.std.specs.Int.{w32}
 use Rattle.std.specs.List.{starts_with}
 use Rattle.std.proofs.lemmas.Bool.{true≢false}
@@ -10,7 +10,7 @@ use Rattle.nb_names.specs.Numbers.{NumberAt}
 use Rattle.nb_table.specs.declared.load_fault.LoadFault.{LoadFault}
 use Rattle.nb_table.specs.declared.load_fault.LoadFault.TheVariants.{NotCanonical}
 use Rattle.nb_table.specs.Saved.{magic}
-use Rattle.nb_table.specs.SavedReading.{Field, IsRead, behind_magic, no_magic, stops, goes_on, good, bad, entries_at}
+use Rattle.nb_table.specs.SavedReading.{Field, IsRead, behind_magic, stops, goes_on, good, bad, entries_at}
 use Rattle.nb_table.specs.SavedTables.{AreJudged, IsJudged}
 use Rattle.nb_table.proofs.FoundLemmas.{entries_found}
 

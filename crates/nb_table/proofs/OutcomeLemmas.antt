@@ -1,9 +1,9 @@
 -- A reading of saved bytes has one outcome.
-use Rattle.std.proofs.Common.{◌≡◌, ◌+◌, ◌<◌, ◌≤◌, ℕ, suc, zero, List, [], ◌∷◌, ◌++◌, length, Option, None, Some, Result, Ok, Err, refl, sym, ap, subst, ◌∙◌, arith}
+use Rattle.std.proofs.Common.{◌≡◌, ◌+◌, ◌<◌, ◌≤◌, ℕ, suc, zero, List, [], ◌∷◌, ◌++◌, length, Option, None, Some, Ok, Err, refl, sym, ap, subst, ◌∙◌, arith}
 use Rattle.std.specs.Int.{w16, w32, to_be_bytes}
 use Rattle.nb_names.specs.declared.pointers.Pointers.TheVariants.{Refused}
 use Rattle.nb_names.specs.Labels.{StandsAt}
-use Rattle.nb_names.specs.Name.{NetbiosName, labels_of_name}
+use Rattle.nb_names.specs.Name.{labels_of_name}
 use Rattle.nb_names.specs.Numbers.{NumberAt}
 use Rattle.nb_names.specs.PacketFacts.{stands_same, one_number_16, one_number_32}
 use Rattle.nb_names.proofs.FaultLemmas.{one_netbios, no_netbios}
@@ -13,9 +13,7 @@ use Rattle.nb_datagram.specs.declared.key.Key.{Key}
 use Rattle.nb_datagram.specs.declared.kind.Kind.{Kind}
 use Rattle.nb_datagram.specs.Kind.{type_of, kind_of, kind_back}
 use Rattle.nb_table.specs.declared.load_fault.LoadFault.{LoadFault}
-use Rattle.nb_table.specs.declared.load_fault.LoadFault.TheVariants.{Truncated, NotCanonical}
 use Rattle.nb_table.specs.Slot.{Spoilt, Held}
-use Rattle.nb_table.specs.Entry.{EntryValue}
 use Rattle.nb_table.specs.SavedReading.{Outcome, Gives, gives, Then, stops, goes_on, Field, cut, whole, Judged, good, bad, Marked, is_0, is_1, is_neither, byte_at, number_at, bytes_at, KeyAt, IsAfter, key_at, KindOf, known, unknown, kind_at, name_at, fault_of_name, stands, ill, end_at, start_at, size_at, run_at, row_at, runs_at, most_of, facts_at, entry_at, entries_at, table_at, IsRead, no_magic, behind_magic}
 use Rattle.nb_table.specs.Runs.{run_end}
 

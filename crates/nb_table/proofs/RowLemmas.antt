@@ -1,10 +1,10 @@
 -- A row of saved runs that was read: its runs by their bytes, its map, and how far it reaches.
-use Rattle.std.proofs.Common.{◌≡◌, ◌+◌, ◌<◌, ◌≤◌, ◌^◌, ◌&&◌, ℕ, suc, zero, List, [], ◌∷◌, ◌++◌, length, take, drop, Bool, true, false, Ok, Some, refl, sym, ap, subst, ◌∙◌, arith, length-append, length-drop}
+use Rattle.std.proofs.Common.{◌≡◌, ◌+◌, ◌<◌, ◌≤◌, ◌&&◌, ℕ, suc, zero, List, [], ◌∷◌, length, take, drop, Bool, true, false, Ok, refl, sym, ap, subst, ◌∙◌, arith, length-drop}
 use Rattle.std.specs.Prelude.{nat_le, nat_lt}
-use Rattle.std.specs.Int.{w16, to_be_bytes, from_be_bytes}
+use Rattle.std.specs.Int.{w16, from_be_bytes}
 use Rattle.std.specs.List.{list_all, AllByRecursion}
 use Rattle.std.specs.Ordering.{nat_cmp}
-use Rattle.std.specs.Cmp.{nat_cmp_total, both_ways}
+use Rattle.std.specs.Cmp.{nat_cmp_total}
 use Rattle.std.specs.FinMap as maps
 use Rattle.std.specs.FinMap.{nat_cmp-IsAntisymmetric}
 use Rattle.std.proofs.lemmas.Bool.Decides.{nat_tests}
@@ -13,7 +13,7 @@ use Rattle.std.proofs.lemmas.List.Folds.{list_all-append}
 use Rattle.std.proofs.lemmas.Nat.{from_be_bytes-to_be_bytes_2}
 use Rattle.nb_names.specs.Labels.{StandsAt}
 use Rattle.nb_names.specs.Numbers.{NumberAt}
-use Rattle.nb_table.specs.Cover.{CoverFacts, placed, lies_below}
+use Rattle.nb_table.specs.Cover.{placed}
 use Rattle.nb_table.specs.Each.{with_each}
 use Rattle.nb_table.specs.Places.{with_bytes}
 use Rattle.nb_table.specs.Runs.{RunValue, run_end, AreApart, places_of, map_of_runs}

@@ -1,18 +1,14 @@
 -- Rows of runs and of entries, read one after the other.
-use Rattle.std.proofs.Common.{◌≡◌, ◌+◌, ◌-◌, ◌<◌, ℕ, suc, zero, List, [], ◌∷◌, ◌++◌, Bool, true, false, ◌&&◌, None, Some, Option, Ok, Err, refl, sym, ap, subst, ◌∙◌, arith}
+use Rattle.std.proofs.Common.{◌≡◌, ◌+◌, ◌-◌, ◌<◌, ℕ, suc, List, [], ◌∷◌, ◌++◌, Bool, true, false, ◌&&◌, None, Some, Option, Ok, Err, refl, sym, ap, subst, ◌∙◌, arith}
 use Rattle.std.proofs.Common.{append_assoc}
 use Rattle.std.proofs.lemmas.List.Folds.{list_all-append}
 use Rattle.std.specs.List.{list_all}
-use Rattle.std.specs.FinMap as maps
 use Rattle.nb_datagram.specs.declared.key.Key.{Key}
-use Rattle.nb_datagram.specs.Key.{key_cmp}
 use Rattle.nb_table.specs.declared.load_fault.LoadFault.{LoadFault}
-use Rattle.nb_table.specs.Each.{with_each}
 use Rattle.nb_table.specs.Entry.{EntryValue}
 use Rattle.nb_table.specs.Merging.{is_short}
 use Rattle.nb_table.specs.Runs.{RunValue, run_end}
 use Rattle.nb_table.specs.SavedReading.{Outcome, gives, stops, goes_on, run_at, row_at, runs_at, key_at, entry_at, entries_at}
-use Rattle.nb_table.proofs.EachPutLemmas.{each_more}
 
 append_none : {X : Type 0} (xs : List X) → xs ++ [] ≡ xs
 append_none [] = refl

@@ -1,21 +1,30 @@
 -- Why an input isn't loaded as a table (our choice). What stands in it is judged first, whatever the limits;
 -- then each entry's length, then the number of keys, and memory last.
-use Rattle.std.specs.Prelude.{◌≡◌, ◌<◌, ◌≤◌, ℕ, List, Err}
+use Rattle.std.specs.Prelude.{◌≡◌, ℕ, ◌<◌, ◌≤◌, List, Ok, Err}
 use Rattle.std.specs.FinMap as maps
+use Rattle.nb_datagram.specs.declared.key.Key.{Key}
+use Rattle.nb_datagram.specs.Key.{key_cmp}
 use Rattle.nb_table.specs.declared.load_fault.LoadFault.{LoadFault}
 use Rattle.nb_table.specs.declared.load_fault.LoadFault.TheVariants.{TooLong, Full, NoMemory}
 use Rattle.nb_table.specs.Contents.{Contents}
+use Rattle.nb_table.specs.Entry.{EntryValue}
 use Rattle.nb_table.specs.Limits.{Limits}
 use Rattle.nb_table.specs.Merging.{AllShort}
-use Rattle.nb_table.specs.Saved.{saved}
 use Rattle.nb_table.specs.SavedReading.{IsRead}
 
+-- IsReadAs input t: what stands in the input is the table t
+pub record IsReadAs (input : List ℕ) (t : Contents) : Type 0 where
+  pub entries : List (Key × EntryValue)
+  pub last : ℕ
+  pub read : IsRead input (Ok (entries, last))
+  pub same : t ≡ maps.from_entries {R = key_cmp} entries
+
 -- LoadFails input limits fault: a table with these limits isn't loaded from the input, for this reason; but for
--- the first, only from the bytes of a saved table
+-- the first, only where a table stands in it
 pub data LoadFails (input : List ℕ) (limits : Limits) : LoadFault → Type 0 where
   ill_formed : {fault : LoadFault} → IsRead input (Err fault) → LoadFails input limits fault
-  too_long : (t : Contents) → input ≡ saved t → ¬ AllShort limits.longest t → LoadFails input limits TooLong
-  full : (t : Contents) → input ≡ saved t → AllShort limits.longest t → limits.keys < maps.len t
+  too_long : (t : Contents) → IsReadAs input t → ¬ AllShort limits.longest t → LoadFails input limits TooLong
+  full : (t : Contents) → IsReadAs input t → AllShort limits.longest t → limits.keys < maps.len t
       → LoadFails input limits Full
-  no_memory : (t : Contents) → input ≡ saved t → AllShort limits.longest t → maps.len t ≤ limits.keys
+  no_memory : (t : Contents) → IsReadAs input t → AllShort limits.longest t → maps.len t ≤ limits.keys
       → LoadFails input limits NoMemory

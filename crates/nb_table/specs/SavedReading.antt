@@ -1,5 +1,5 @@
--- What stands in bytes that may be a saved table, field by field, and the first fault (our choice). Offsets
--- count from the first byte. Each field is judged as soon as it is there.
+-- What stands in bytes that may be a saved table, field by field, and the first fault (our choice).
+-- Offsets count from the first byte. A field is judged before the one behind it is asked for.
 use Rattle.std.specs.Prelude.{◌≡◌, ◌≢◌, ◌+◌, ◌<◌, ◌≤◌, ℕ, suc, zero, List, [], ◌∷◌, length, Option, None, Some, Result, Ok, Err}
 use Rattle.std.specs.Int.{w16, w32}
 use Rattle.std.specs.declared.cmp.Ordering.TheVariants.{Less}

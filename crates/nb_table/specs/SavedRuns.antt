@@ -1,7 +1,7 @@
 -- What the code's own functions say of a row of saved runs that has been judged; no public contract cites this.
-use Rattle.std.specs.Prelude.{◌+◌, ◌≤◌, ◌<◌, ◌^◌, ℕ, suc, zero, List, [], ◌∷◌, length, take, drop, slice_range}
+use Rattle.std.specs.Prelude.{◌+◌, ◌≤◌, ℕ, suc, zero, List, [], ◌∷◌, length, take, drop}
 use Rattle.std.specs.Int.{w16, from_be_bytes}
-use Rattle.nb_table.specs.Runs.{RunValue, run_end}
+use Rattle.nb_table.specs.Runs.{RunValue}
 
 -- the number in the two bytes at an offset
 abbrev pub number_in : List ℕ → ℕ → ℕ

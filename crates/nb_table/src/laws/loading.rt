@@ -1,11 +1,14 @@
 //! Saved tables, read.
-ghost use Rattle.std.specs.Prelude.{◌≡◌, ℕ, List, Ok};
+ghost use Rattle.std.specs.Prelude.{◌≡◌, ℕ, List, Ok, length};
 ghost use Rattle.std.specs.FinMap as maps;
 ghost use Rattle.nb_datagram.specs.declared.key.Key.{Key};
 ghost use Rattle.nb_datagram.specs.Key.{key_cmp};
+ghost use Rattle.nb_table.specs.Contents.{Contents};
 ghost use Rattle.nb_table.specs.Entry.{EntryValue};
 ghost use Rattle.nb_table.specs.Join.{IsTable};
+ghost use Rattle.nb_table.specs.Merging.{AllShort};
 ghost use Rattle.nb_table.specs.Saved.{saved};
+ghost use Rattle.nb_table.specs.SavedFits.{FitsSaved};
 ghost use Rattle.nb_table.specs.SavedReading.{Outcome, IsRead};
 
 /// Of an input either a saved table is read or one fault, and no other.
@@ -24,4 +27,11 @@ pub fn what_is_read_is_saved()
         maps.entries (maps.from_entries {R = key_cmp} entries) ≡ entries }
     ensures formed { (input : List ℕ) (entries : List (Key × EntryValue)) (last : ℕ) →
         IsRead input (Ok (entries, last)) → IsTable (maps.from_entries {R = key_cmp} entries) }
+{}
+
+/// The saved bytes of a well-formed table of datagrams of at most 65,535 bytes, which fits the
+/// fields of a saved table, are read as that table.
+pub fn a_saved_table_is_read()
+    ensures { (t : Contents) → FitsSaved t → IsTable t → AllShort 65535 t →
+        IsRead (saved t) (Ok (maps.entries t, length (saved t))) }
 {}

@@ -1,6 +1,6 @@
 //! Tables, loaded.
 ghost use Rattle.std.specs.Prelude.{◌≡◌, ℕ, Err, IfOk, IfErr};
-ghost use Rattle.nb_table.specs.LoadFaults.{LoadFails};
+ghost use Rattle.nb_table.specs.LoadFaults.{IsReadAs, LoadFails};
 ghost use Rattle.nb_table.specs.Saved.{saved};
 ghost use Rattle.nb_table.specs.SavedReading.{IsRead};
 ghost use Rattle.nb_table.specs.declared.load_fault.LoadFault.{LoadFault};
@@ -14,19 +14,20 @@ use std::alloc::Global;
 /// many bytes a datagram may have.
 ///
 /// The bytes are those that [`Table::save`] gives for the table, and no others: what is answered
-/// says that of them. An input that is refused takes no memory.
+/// says that of them. No memory is taken before all of the input and the limits are judged.
 ///
 /// # Errors
 ///
-/// `BadMagic` where the bytes don't begin with "NBT1". Then the first fault in reading order over
-/// the whole input, each field judged as soon as it is there: `Truncated` where the input ends
-/// before or inside a field that is due; `NotCanonical` with the offset of what no saved table has
-/// there. Then `TooLong` where an entry that isn't spoilt has a byte or an end past the longest
-/// datagram; `Full` where there are more keys than may be held; `NoMemory` where memory ran out.
-/// The form is our choice.
+/// `BadMagic` where the bytes don't begin with "NBT1". Then what is met first from the front to the
+/// end of the input, a field being judged before the one behind it is asked for: `Truncated` where
+/// a field that has to follow is missing or cut off; `NotCanonical` with the offset of what no
+/// saved table has there. Then `TooLong` where an entry that isn't spoilt has a byte or an end past
+/// the longest datagram; `Full` where there are more keys than may be held; `NoMemory` where memory
+/// ran out. The form is our choice.
 pub fn load(alloc: Global, input: &[u8], keys: u32, longest: u16) -> Result<Table, LoadFault>
-    // What is loaded is the table whose saved bytes these are.
-    ensures found { IfOk result (λ table. input.now ≡ saved table.contents) }
+    // What is loaded is the table that stands there, and these are its saved bytes.
+    ensures found { IfOk result (λ table. IsReadAs input.now table.contents) }
+    ensures bytes { IfOk result (λ table. input.now ≡ saved table.contents) }
     ensures limits { IfOk result (λ table.
         table.limits ≡ record { keys = keys; longest = longest }) }
 

@@ -58,6 +58,7 @@ fn a_merge_hands_over_what_becomes_whole(rt: HostRuntime) -> Result<(), Fail> {
     assert!(rt; are_all(&handed, &[KEY]));
     let handed = one.merge(&other)?;
     assert!(rt; are_all(&handed, &[KEY]));
+    assert_eq!(rt; one.save()?.as_slice(), turned.save()?.as_slice());
     assert!(rt; one.merge(&other)?.as_slice().is_empty());
     other.join(&one)?;
     assert_eq!(rt; other.len(), 1);

@@ -1,6 +1,6 @@
 //! The bytes of saved tables.
 
-use super::{FIRST, KEY, LAST, LIE, LOW, Piece, SECOND, fragment};
+use super::{EMPTY, FIRST, KEY, LAST, LIE, LOW, Piece, SECOND, fragment};
 use crate::Table;
 use nb_datagram::Key;
 use std::alloc::Global;
@@ -27,7 +27,7 @@ pub(super) type Situation = (
     &'static [&'static [u8]],
 );
 
-pub(super) const SITUATIONS: [Situation; 5] = [
+pub(super) const SITUATIONS: [Situation; 6] = [
     ("nothing", &[], &[b"NBT1\x00\x00\x00\x00"]),
     (
         "spoilt",
@@ -42,6 +42,16 @@ pub(super) const SITUATIONS: [Situation; 5] = [
             JOE,
             FRED,
             b"\x00\x00\x01\x00\x00\x00\x04\x00\x01\x02\x03",
+        ],
+    ),
+    (
+        "an end and no piece",
+        &[(KEY, EMPTY)],
+        &[
+            b"NBT1\x00\x00\x00\x01\x0a\x00\x00\x05\x00\x8a\x00\x01\x01\x11",
+            JOE,
+            FRED,
+            b"\x01\x00\x00\x00\x00",
         ],
     ),
     (

@@ -2,7 +2,7 @@ use Rattle.std.proofs.Common.{arith}
 use Rattle.std.proofs.lemmas.List.{take_rest}
 use Rattle.std.proofs.lemmas.Result.{err_from_is_err_and}
 use Rattle.nb_table.specs.SavedReading.{stops, goes_on}
-use Rattle.nb_table.proofs.RowLemmas.{IsWholeRow, whole_row}
+use Rattle.nb_table.proofs.RowLemmas.{whole_row}
 use Rattle.nb_table.proofs.TurnLemmas.{row_turn, row_stopped, row_ended}
 use Rattle.nb_table.proofs.loading.runs.read_runs.Goals as goal
 

@@ -1,7 +1,7 @@
-use Rattle.std.proofs.Common.{ap, ◌∙◌, Err, arith}
+use Rattle.std.proofs.Common.{ap, Err, arith}
 use Rattle.std.proofs.lemmas.Result.{err_from_is_err_and}
 use Rattle.nb_table.specs.LoadFaults.{ill_formed}
-use Rattle.nb_table.proofs.LoadLemmas.{judged_sound, fault_same, judged_long, judged_full, keeping_failed, kept_limits, kept_saved}
+use Rattle.nb_table.proofs.LoadLemmas.{judged_sound, fault_same, judged_long, judged_full, keeping_failed, kept_limits, kept_read, kept_saved}
 use Rattle.nb_table.proofs.table.loading.load.Goals as goal
 
 pub returns-in_err-count-clause-fault : goal.returns-in_err-count-clause-fault
@@ -37,7 +37,10 @@ pub invariant_of-result : goal.invariant_of-result
 invariant_of-result c = kept_limits _ (record { keys = c.args.keys; longest = c.args.longest }) _ _ _ c.in_ok-count.ensures.found c.if-not-is_short.false (omega arith) c.in_ok-entries.ensures.kept
 
 pub returns-clause-found : goal.returns-clause-found
-returns-clause-found c = kept_saved _ _ _ _ _ c.in_ok-count.ensures.found c.in_ok-entries.ensures.kept
+returns-clause-found c = kept_read _ _ _ _ _ c.in_ok-count.ensures.found c.in_ok-entries.ensures.kept
+
+pub returns-clause-bytes : goal.returns-clause-bytes
+returns-clause-bytes c = kept_saved _ _ _ _ _ c.in_ok-count.ensures.found c.in_ok-entries.ensures.kept
 
 pub returns-clause-only : goal.returns-clause-only
 returns-clause-only c fault h = absurd (judged_sound _ _ _ _ c.in_ok-count.ensures.found fault h)

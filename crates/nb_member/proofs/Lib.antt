@@ -6,7 +6,9 @@ pub mod LineLemmas
 pub mod WritingLemmas
 pub mod ReadingLemmas
 pub mod ActingLemmas
+pub mod CuttingLemmas
 pub mod ReplayLemmas
+pub mod EndingLemmas
 pub mod KeysLemmas
 pub mod LiveLemmas
 pub mod NamesLemmas

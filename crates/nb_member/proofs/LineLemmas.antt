@@ -221,10 +221,10 @@ first_word : (line a b : List ℕ) (value : Line) → line ≡ a ++ 32 ∷ b →
 first_word line a b value e no_space says =
     elim (Says-cases line value says) [
       | inl l ↦
-          let parts = one_split a b l.port_text l.words no_space (port_no_space l.port l.port_text l.has_port) (sym e ∙ l.line_is) in
+          let parts = one_split 32 a b l.port_text l.words no_space (port_no_space l.port l.port_text l.has_port) (sym e ∙ l.line_is) in
           inl (l.port, rw parts.0 l.has_port)
       | inr l ↦
-          let parts = one_split a b (codes "tick") l.text no_space tick_no_space (sym e ∙ l.line_is) in
+          let parts = one_split 32 a b (codes "tick") l.text no_space tick_no_space (sym e ∙ l.line_is) in
           inr parts.0
     ]
 

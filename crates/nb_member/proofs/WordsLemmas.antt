@@ -67,20 +67,20 @@ comment_test (c ∷ text) false h any =
 
 -- ---- words between spaces
 
--- the two halves around the first space are the only ones
-pub one_split : (a b c d : List ℕ) → ¬ Contains a 32 → ¬ Contains c 32 → a ++ 32 ∷ b ≡ c ++ 32 ∷ d
+-- the two halves around the first byte of its kind are the only ones
+pub one_split : (s : ℕ) (a b c d : List ℕ) → ¬ Contains a s → ¬ Contains c s → a ++ s ∷ b ≡ c ++ s ∷ d
     → (a ≡ c) × (b ≡ d)
-one_split [] b [] d h k e = (refl, cc)
-one_split [] b (y ∷ c) d h k e =
-    let is : y ≡ 32 = cc in
+one_split s [] b [] d h k e = (refl, cc)
+one_split s [] b (y ∷ c) d h k e =
+    let is : y ≡ s = cc in
     absurd (k (zero, omega arith, is))
-one_split (x ∷ a) b [] d h k e =
-    let is : x ≡ 32 = cc in
+one_split s (x ∷ a) b [] d h k e =
+    let is : x ≡ s = cc in
     absurd (h (zero, omega arith, is))
-one_split (x ∷ a) b (y ∷ c) d h k e =
+one_split s (x ∷ a) b (y ∷ c) d h k e =
     let heads : x ≡ y = cc in
-    let tails : a ++ 32 ∷ b ≡ c ++ 32 ∷ d = cc in
-    let rec = one_split a b c d (λ n. h (Contains-before x 32 a n)) (λ n. k (Contains-before y 32 c n)) tails in
+    let tails : a ++ s ∷ b ≡ c ++ s ∷ d = cc in
+    let rec = one_split s a b c d (λ n. h (Contains-before x s a n)) (λ n. k (Contains-before y s c n)) tails in
     (cc, rec.1)
 
 -- the space is no digit
@@ -183,11 +183,11 @@ packet_behind port text words value p says =
     let no_space = port_no_space port text p in
     elim (Says-cases (text ++ 32 ∷ words) value says) [
       | inl line ↦
-          let parts = one_split text words line.port_text line.words no_space (port_no_space line.port line.port_text line.has_port) line.line_is in
+          let parts = one_split 32 text words line.port_text line.words no_space (port_no_space line.port line.port_text line.has_port) line.line_is in
           let same = one_port text line.port_text port line.port p line.has_port parts.0 in
           rw (same, parts.1) line.has_words
       | inr line ↦
-          let parts = one_split text words (codes "tick") line.text no_space tick_no_space line.line_is in
+          let parts = one_split 32 text words (codes "tick") line.text no_space tick_no_space line.line_is in
           absurd (tick_no_port port text p parts.0)
     ]
 
@@ -197,10 +197,10 @@ pub tick_behind : (digits : List ℕ) (value : Line) → Says (codes "tick" ++ 3
 tick_behind digits value says =
     elim (Says-cases (codes "tick" ++ 32 ∷ digits) value says) [
       | inl line ↦
-          let parts = one_split line.port_text line.words (codes "tick") digits (port_no_space line.port line.port_text line.has_port) tick_no_space (sym line.line_is) in
+          let parts = one_split 32 line.port_text line.words (codes "tick") digits (port_no_space line.port line.port_text line.has_port) tick_no_space (sym line.line_is) in
           absurd (tick_no_port line.port line.port_text line.has_port parts.0)
       | inr line ↦
-          let parts = one_split (codes "tick") digits (codes "tick") line.text tick_no_space tick_no_space line.line_is in
+          let parts = one_split 32 (codes "tick") digits (codes "tick") line.text tick_no_space tick_no_space line.line_is in
           (line.now, rw parts.1 line.has_moment, line.value_is)
     ]
 
@@ -209,7 +209,7 @@ pub packet_at_space : (port : ℕ) (words front behind : List ℕ) (value : Line
     → words ≡ front ++ 32 ∷ behind → ¬ Contains front 32
     → (moment : ℕ) × (payload : List ℕ) × MomentText moment front × PayloadText payload behind × (value ≡ Packet port moment payload)
 packet_at_space port words front behind value h e no_space =
-    let parts = one_split front behind h.moment_text h.payload_text no_space (moment_no_space h.moment h.moment_text h.has_moment) (sym e ∙ h.words_are) in
+    let parts = one_split 32 front behind h.moment_text h.payload_text no_space (moment_no_space h.moment h.moment_text h.has_moment) (sym e ∙ h.words_are) in
     (h.moment, h.payload, rw parts.0 h.has_moment, rw parts.1 h.has_payload, h.value_is)
 
 -- a packet's words have a space among them

@@ -1,4 +1,4 @@
--- What a member takes in of another's table (own).
+-- What a member takes in of another's table (our choice).
 use Rattle.std.specs.Prelude.{◌≡◌, ℕ, cond, List, filter, Option, Some, None}
 use Rattle.std.specs.FinMap as maps
 use Rattle.nb_datagram.specs.declared.key.Key.{Key}

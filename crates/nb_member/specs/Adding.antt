@@ -1,4 +1,4 @@
--- Adding a name to those that a station holds (own).
+-- Adding a name to those that a station holds (our choice).
 use Rattle.std.specs.Prelude.{◌≡◌, ◌<◌, ◌≤◌, ◌++◌, List, [], ◌∷◌, length, Contains, Result, Ok, Err}
 use Rattle.nb_names.specs.Name.{NetbiosName}
 use Rattle.nb_member.specs.declared.limits.TheConstants.{MAX_NAMES}

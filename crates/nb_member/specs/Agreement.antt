@@ -1,5 +1,5 @@
 -- When two members that are given two lists of events are given the same fragments, within the limit on
--- keys, and before any timer runs out; and what follows (own).
+-- keys, and before any timer runs out; and what follows (our choice).
 --
 -- S and T are what the events of the two lists say.
 use Rattle.std.specs.Prelude.{◌≡◌, ◌≤◌, List, [], ◌∷◌, length, Some, None}

@@ -1,5 +1,5 @@
--- The lines of a capture (own), each without its line feed. Numbers of bytes count from the line's
--- first.
+-- The lines of a capture (our choice), each without its line feed. Numbers of bytes count from the
+-- line's first.
 --
 -- 10 is the line feed, 32 the space and 35 `#`. A moment is in milliseconds.
 use Rattle.std.specs.Prelude.{◌≡◌, ℕ, ◌<◌, ◌≤◌, ◌^◌, List, [], ◌∷◌, ◌++◌, length, codes, Contains, Option, Some, None, Result, Ok, Err}

@@ -1,4 +1,4 @@
--- The texts of faults (own).
+-- The texts of faults (our choice).
 use Rattle.std.specs.Prelude.{ℕ, List, ◌++◌, codes}
 use Rattle.std.specs.Fmt.{decimal}
 use Rattle.nb_member.specs.declared.local_names.AddFault.{AddFault}

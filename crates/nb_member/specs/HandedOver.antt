@@ -1,5 +1,5 @@
 -- What members that are given the same fragments hand over: for each key that isn't spoilt the same
--- datagram, once (own).
+-- datagram, once (our choice).
 --
 -- L are the cores of the fragments that are given, and ds the datagrams that a member hands over.
 use Rattle.std.specs.Prelude.{◌≡◌, List, [], ◌∷◌, filter}

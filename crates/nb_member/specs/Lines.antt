@@ -1,4 +1,5 @@
--- The lines of a capture (own). Each is ended by a line feed, 10; the last may lack it where it isn't empty.
+-- The lines of a capture (our choice). Behind each stands a line feed, 10, which may be missing behind
+-- a last one that has bytes.
 use Rattle.std.specs.Prelude.{ℕ, List, [], ◌∷◌, ◌++◌, Contains}
 
 -- CutInto bytes lines rest: the bytes are these lines, each with a line feed behind it, and then the rest; no

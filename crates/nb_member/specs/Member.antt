@@ -1,4 +1,4 @@
--- What a member is, and the events for which it stands (own).
+-- What a member is, and the events for which it stands (our choice).
 use Rattle.std.specs.Prelude.{◌≡◌, ℕ, List, refl}
 use Rattle.std.specs.Coded.{Coded, code_by, coded×, coded_ℕ, coded_list}
 use Rattle.std.specs.FinMap as maps

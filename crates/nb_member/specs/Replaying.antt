@@ -1,4 +1,4 @@
--- What a replay makes of a reader's bytes, a writer, and a member (own).
+-- What a replay makes of a reader's bytes, a writer, and a member (our choice).
 use Rattle.std.specs.Prelude.{◌≡◌, ◌+◌, ◌<◌, ◌≤◌, ◌++◌, ◌∷◌, ℕ, Bool, true, false, List, length, take, Option, Result, Ok, Err}
 use Rattle.std.specs.Io.KnownBytes.{Appends, IsAtEnd}
 use Rattle.nb_member.specs.declared.event.Event.{Event}

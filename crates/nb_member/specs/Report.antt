@@ -1,4 +1,4 @@
--- What the lines of a capture have happen to a member, and the report of them (own).
+-- What the lines of a capture have happen to a member, and the report of them (our choice).
 --
 -- A payload of port 138 and a look at the clock are events of the member. Payloads of the other ports pass
 -- it by. Empty lines and comments are counted, and have no line in the report.

@@ -1,5 +1,5 @@
--- The texts of a replay's report (own). Numbers are decimal, bytes are hexadecimal in lower case. 32 is the
--- space, 10 the line feed.
+-- The texts of a replay's report (our choice). Numbers are decimal, bytes are hexadecimal in lower
+-- case. 32 is the space, 10 the line feed.
 use Rattle.std.specs.Prelude.{ℕ, List, [], ◌∷◌, ◌++◌, slice_index, codes, Option, Some, None, Result, Ok, Err}
 use Rattle.std.specs.Fmt.{decimal}
 use Rattle.std.specs.Int.{w16, to_be_bytes}

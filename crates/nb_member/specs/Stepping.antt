@@ -1,4 +1,4 @@
--- What one event of a run makes of a member, and of what the run hands out (own).
+-- What one event of a run makes of a member, and of what the run hands out (our choice).
 use Rattle.std.specs.Prelude.{◌≡◌, ◌++◌, ℕ, Bool, true, false, cond, List, [], ◌∷◌, filter, Option, Some, None, Result, Ok, Err}
 use Rattle.nb_names.specs.Name.{NetbiosName}
 use Rattle.nb_datagram.specs.declared.packet.ErrorPacket.{ErrorPacket}

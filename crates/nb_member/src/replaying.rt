@@ -25,8 +25,9 @@ use std::io::{Read, Write};
 /// answer is the number of lines.
 ///
 /// Behind each line stands a line feed; bytes behind the last one are a line as well, and no bytes
-/// are none. An empty line or a comment has no line in the report. The others have one each: their
-/// number, which counts from 1, a space, and
+/// are none. A line has at most [`MAX_LINE`] bytes, its line feed not counted. An empty line or a
+/// comment has no line in the report. The others have one each: their number, which counts from 1,
+/// a space, and
 ///
 /// - `passed` for a payload of port 137 or 139;
 /// - `dropped COUNT` for a look at the clock;
@@ -35,22 +36,27 @@ use std::io::{Read, Write};
 ///   error packet to answer.
 ///
 /// A line's report is written before the next line is acted on. A payload that is refused changes
-/// nothing in the member, and the replay goes on.
+/// nothing in the member, and the replay goes on. The writer isn't flushed: who hands in one that
+/// holds bytes back flushes it, whatever the answer.
 ///
 /// # Errors
 ///
 /// The first that is met:
 ///
 /// - [`ReplayFault::Line`] for a malformed line. What neither a line feed nor the input's end has
-///   ended is judged by its length alone. The report of the lines before it is written.
+///   ended is judged by its length alone. The report of the lines before it is written, and the
+///   member acted on them.
 /// - [`ReplayFault::Read`] where the reader failed, was interrupted 1,024 times in a row, or gave
-///   more than [`MAX_INPUT`](crate::limits::MAX_INPUT) bytes. The report of the finished lines is
-///   written.
+///   more than [`MAX_INPUT`](crate::limits::MAX_INPUT) bytes, and no line among the bytes that came
+///   is malformed. The report of the finished lines is written, and the member acted on them.
 /// - [`ReplayFault::Write`] where the writer failed, took nothing, or was interrupted 1,024 times
 ///   in a row.
 /// - [`ReplayFault::NoMemory`] where memory ran out.
 ///
-/// The form of captures and of the report is our own.
+/// At `Write` and `NoMemory` the member acted on some first lines. The reports of all of these but
+/// the last are written, and of the last one's a front, which may be nothing or all of it.
+///
+/// The form of captures and of the report is our choice.
 pub fn replay<R: Read, W: Write>(
     alloc: Global,
     reader: &mut Counted<R>,

@@ -4,6 +4,7 @@ mod absorbing;
 mod lines;
 mod members;
 mod names;
+mod orders;
 mod packets;
 mod replays;
 mod runs;

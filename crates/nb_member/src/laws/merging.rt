@@ -19,8 +19,8 @@ pub fn a_new_member_stands_for_no_event()
         Stands (new_member settings names) [] }
 {}
 
-/// Where two members stand for events, the merge of their tables, either way round, is the table of
-/// what is live after the events of the one and of what is live after those of the other.
+/// The tables of two members join, in either order, to the table of the fragments that are live
+/// after the events of the one, followed by those that are live after the events of the other.
 pub fn merging_gives_the_table_of_both()
     ensures { (a b : MemberValue) (H G : List Event) (s : Stands a H) (t : Stands b G) →
         let both = table_from (live a.settings s.sayings ++ live b.settings t.sayings) in

@@ -63,6 +63,19 @@ fn what_becomes_whole_and_is_heard_is_handed_over(rt: HostRuntime) {
 }
 
 #[test]
+fn an_empty_station_hands_over_what_its_tap_has_whole(rt: HostRuntime) {
+    let mut tap = member(&rt, rt.alloc(), SETTINGS, joe());
+    let last = piece(&rt, rt.alloc(), 0x00, 2, &[2, 3]);
+    tap.take(7, &last).expect(&rt, "taken");
+    let first = piece(&rt, rt.alloc(), 0x03, 0, &[0, 1]);
+    tap.take(8, &first).expect(&rt, "taken");
+
+    let mut station = member(&rt, rt.alloc(), SETTINGS, fred());
+    let heard = station.absorb(tap.table(), 1_000).expect(&rt, "absorbed");
+    assert!(rt; are(&heard, &[(1, &[0, 1, 2, 3])]));
+}
+
+#[test]
 fn a_table_that_does_not_fit_changes_nothing(rt: HostRuntime) {
     let mut tap = member(&rt, rt.alloc(), SETTINGS, joe());
     tap.take(7, &piece(&rt, rt.alloc(), 0x00, 2, &[2, 3]))

@@ -9,9 +9,9 @@ use std::process::Abort;
 use std::test::Fail;
 
 /// The names JOE<00> and FRED<20>, as they are spelled.
-const J: &str = "20454b45504546434143414341434143414341434143414341434143414341414100";
+pub const J: &str = "20454b45504546434143414341434143414341434143414341434143414341414100";
 
-const F: &str = "20454746434546454543414341434143414341434143414341434143414341434100";
+pub const F: &str = "20454746434546454543414341434143414341434143414341434143414341434100";
 
 /// The header of a whole datagram to a group, without data.
 const HEADER: &str = "110200010a000005008a00440000";
@@ -128,13 +128,13 @@ fn fred(rt: &impl Abort, alloc: Global, keys: u32) -> Member {
 
 /// What a replay answered, and what it wrote.
 #[derive(Drop)]
-struct Replayed {
-    answer: Result<u64, ReplayFault>,
-    report: Vec<u8>,
+pub struct Replayed {
+    pub answer: Result<u64, ReplayFault>,
+    pub report: Vec<u8>,
 }
 
 /// Replays what a reader gives.
-fn replay_from<R: Read + Drop>(
+pub fn replay_from<R: Read + Drop>(
     rt: &impl Abort,
     alloc: Global,
     keys: u32,
@@ -285,6 +285,26 @@ fn a_reader_that_fails_ends_the_replay(rt: HostRuntime) -> Result<(), Fail> {
         assert!(rt; replayed.report.is_empty());
     }
     Ok(())
+}
+
+#[test]
+fn a_reader_may_fail_at_each_read(rt: HostRuntime) {
+    let capture = b"137 1 00\n#\n138 2003 17\ntick 5\n139 0 00".as_slice();
+    let reports = [
+        "",
+        "1 passed\n",
+        "1 passed\n",
+        "1 passed\n3 refused truncated 1\n",
+        "1 passed\n3 refused truncated 1\n4 dropped 0\n",
+    ];
+    for length in 0..=capture.len() {
+        let bytes = &capture[..length];
+        let finished = bytes.iter().filter(|byte| **byte == b'\n').count();
+        let report = reports.get(finished).expect(&rt, "a report");
+        let replayed = replay_from(&rt, rt.alloc(), 16, reader_of(bytes, true));
+        assert_eq!(rt; replayed.report.as_slice(), report.as_bytes());
+        assert_eq!(rt; replayed.answer, Err(ReplayFault::Read));
+    }
 }
 
 #[test]

@@ -1,4 +1,4 @@
-use Rattle.std.proofs.Common.{◌≡◌, List, ℕ, Result, Err, string_bytes, subst, sym, ap, inl, inr}
+use Rattle.std.proofs.Common.{◌≡◌, List, ℕ, Result, string_bytes, subst, sym, ap, inl, inr}
 use Rattle.std.proofs.lemmas.Result.{IfOk-weaker}
 use Rattle.nb_table.specs.declared.fault.TableFault.TheVariants.{NoMemory}
 use Rattle.nb_member.specs.declared.line.Line.TheVariants.{Packet}

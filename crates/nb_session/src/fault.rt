@@ -13,7 +13,7 @@ use std::fmt;
 pub enum SessionFault {
     /// No packet has this TYPE.
     UnknownType,
-    /// A bit of FLAGS above the lowest one is set (own: RFC 1002 section 4.3.1 has them zero).
+    /// A bit of FLAGS above the lowest one is set: zero in RFC 1002 section 4.3.1 (our choice).
     ReservedFlags,
     /// No packet of this TYPE has a body of this length.
     BadLength,

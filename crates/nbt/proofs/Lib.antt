@@ -2,3 +2,7 @@ pub mod WritingTurns
 pub mod ReadingTurns
 pub mod AloneWords
 pub mod SavingTurns
+pub mod ReplayingTurns
+pub mod TableTurns
+pub mod JoinedLemmas
+pub mod KeysGiven

@@ -37,6 +37,7 @@ saves_capture IsKeys old_in new_in old_out new_out bytes n new t read whole give
   new = new;
   read = read;
   ended = whole.0;
+  within = whole.1;
   given = given;
   took = subst (λ (taken : List ℕ). TakesLines (new_saver n) taken new) (take_all 16777216 bytes whole.1) took;
   printed = subst (λ (u : TableValue). PrintsLine old_out new_out (saved_digits u.contents)) is printed;

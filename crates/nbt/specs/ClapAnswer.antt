@@ -1,4 +1,4 @@
--- What the program makes of clap's answer, where it has no matches of the words (own).
+-- What the program makes of clap's answer, where it has no matches of the words (our choice).
 use Rattle.std.specs.Prelude.{◌≡◌, ◌⊎◌, ℕ, List, Option}
 use Rattle.std.specs.Io.KnownBytes.{Keeps}
 use Rattle.clap.specs.declared.error.kind.ErrorKind.{ErrorKind}

@@ -1,6 +1,6 @@
--- The program's command line, as clap reads it (own).
-use Rattle.std.specs.Prelude.{◌≡◌, ◌≢◌, ◌⊎◌, ℕ, List, [], ◌∷◌, Option, Some, true, codes, option_map}
-use Rattle.clap.specs.Words.{App, Rule, Text, new_app, new_rule, with_rule, with_subcommand, subcommand_of}
+-- The program's command line, as clap reads it (our choice).
+use Rattle.std.specs.Prelude.{◌≡◌, ◌⊎◌, List, [], ◌∷◌, Option, Some, true, codes}
+use Rattle.clap.specs.Words.{App, Rule, Text, new_app, new_rule, with_rule, with_subcommand}
 use Rattle.clap.specs.Simple.{on_top}
 use Rattle.clap.specs.declared.builder.action.ArgAction.TheVariants.{Set, SetTrue, Append}
 use Rattle.clap.specs.declared.builder.value_parser.ValueParser.TheVariants.{Unsigned}
@@ -18,6 +18,14 @@ abbrev pub list_rule : Text → Rule
 list_rule name = record (new_rule name) {
   action = Some Append;
   range = Some (record { start_inclusive = 0; end_inclusive = 18446744073709551615 });
+}
+
+-- words, at least one
+abbrev pub some_rule : Text → Rule
+some_rule name = record (new_rule name) {
+  required = true;
+  action = Some Append;
+  range = Some (record { start_inclusive = 1; end_inclusive = 18446744073709551615 });
 }
 
 -- `--keys N`, a decimal number from 1 to 65,535, and 1,024 where it isn't given
@@ -42,9 +50,21 @@ show_app = new_app (codes "show")
 abbrev pub build_app : App
 build_app = with_rule (with_rule (with_rule (new_app (codes "build")) (flag_rule (codes "broadcast"))) (value_rule (codes "WHAT"))) (list_rule (codes "ARG"))
 
+-- `replay [--keys N] NAME..`
+abbrev pub replay_app : App
+replay_app = with_rule (with_rule (new_app (codes "replay")) keys_rule) (some_rule (codes "NAME"))
+
 -- `save [--keys N]`
 abbrev pub save_app : App
 save_app = with_rule (new_app (codes "save")) keys_rule
+
+-- `merge [--keys N]`
+abbrev pub merge_app : App
+merge_app = with_rule (new_app (codes "merge")) keys_rule
+
+-- `agree`
+abbrev pub agree_app : App
+agree_app = new_app (codes "agree")
 
 -- the program itself has a version, and asks for a subcommand
 abbrev pub top_app : App
@@ -52,15 +72,18 @@ top_app = on_top (λ s. record s { subcommand_required = true }) (on_top (λ s. 
 
 -- the whole command line
 abbrev pub nbt_app : App
-nbt_app = with_subcommand (with_subcommand (with_subcommand (with_subcommand top_app name_app.top) show_app.top) build_app.top) save_app.top
+nbt_app = with_subcommand (with_subcommand (with_subcommand (with_subcommand (with_subcommand (with_subcommand (with_subcommand top_app name_app.top) show_app.top) build_app.top) replay_app.top) save_app.top) merge_app.top) agree_app.top
 
 -- a subcommand that may stand alone
 abbrev pub IsAlone : Text → Type 0
-IsAlone word = (word ≡ codes "show") ⊎ (word ≡ codes "save")
+IsAlone word = (word ≡ codes "show") ⊎ ((word ≡ codes "save") ⊎ ((word ≡ codes "merge") ⊎ (word ≡ codes "agree")))
 
 -- the matches' subcommand is one that reads the input
 abbrev pub DoesRead : Option Text → Type 0
-DoesRead name = (name ≡ Some (codes "show")) ⊎ (name ≡ Some (codes "save"))
+DoesRead name =
+    (name ≡ Some (codes "show"))
+    ⊎ ((name ≡ Some (codes "replay")) ⊎ ((name ≡ Some (codes "save"))
+    ⊎ ((name ≡ Some (codes "merge")) ⊎ (name ≡ Some (codes "agree")))))
 
 -- the program's name and one word more, which is a subcommand that may stand alone
 abbrev pub AreAlone : List Text → Type 0

@@ -1,12 +1,14 @@
--- The texts of the program's faults, and the exit status of each (own). Numbers are decimal.
+-- The texts of the program's faults, and the exit status of each (our choice). Numbers are decimal.
 use Rattle.std.specs.Prelude.{ℕ, List, ◌++◌, codes, Result, Ok, Err}
 use Rattle.std.specs.Fmt.{decimal}
 use Rattle.nb_names.specs.FaultTexts.{name_fault_text}
 use Rattle.nb_names.specs.TextFaults.{text_fault_text}
+use Rattle.nb_table.specs.FaultTexts.{load_fault_text}
+use Rattle.nb_table.specs.declared.load_fault.LoadFault.TheVariants as loads
 use Rattle.nbt.specs.declared.fault.Fault.{Fault}
-use Rattle.nbt.specs.declared.fault.Fault.TheVariants.{Text, Name, BadHex, TrailingBytes, Arguments, TooLong, ZeroPiece, Line, Full, Read, Write, Memory}
+use Rattle.nbt.specs.declared.fault.Fault.TheVariants.{Text, Name, BadHex, TrailingBytes, Arguments, TooLong, ZeroPiece, Line, Full, TooManyNames, Load, NoTables, TwoTablesWanted, Read, Write, Memory}
 use Rattle.nbt.specs.declared.status.Status.{Status}
-use Rattle.nbt.specs.declared.status.Status.TheVariants.{Done, Refused, Failed}
+use Rattle.nbt.specs.declared.status.Status.TheVariants.{Refused, Failed}
 
 -- what is reported of a fault, after `nbt: `
 abbrev pub fault_text : Fault → List ℕ
@@ -19,6 +21,10 @@ fault_text TooLong = codes "too long"
 fault_text ZeroPiece = codes "zero piece"
 fault_text (Line number) = codes "line " ++ decimal number
 fault_text Full = codes "full"
+fault_text TooManyNames = codes "too many names"
+fault_text (Load fault) = load_fault_text fault
+fault_text NoTables = codes "no tables"
+fault_text TwoTablesWanted = codes "two tables wanted"
 fault_text Read = codes "read"
 fault_text Write = codes "write"
 fault_text Memory = codes "memory"
@@ -34,11 +40,16 @@ status_of TooLong = Refused
 status_of ZeroPiece = Refused
 status_of (Line number) = Refused
 status_of Full = Refused
+status_of TooManyNames = Refused
+status_of (Load loads.NoMemory) = Failed
+status_of (Load fault) = Refused
+status_of NoTables = Refused
+status_of TwoTablesWanted = Refused
 status_of Read = Failed
 status_of Write = Failed
 status_of Memory = Failed
 
 -- the exit status of a command that ended so
-abbrev pub status_after : Result Unit Fault → Status
-status_after (Ok _) = Done
+abbrev pub status_after : Result Status Fault → Status
+status_after (Ok status) = status
 status_after (Err fault) = status_of fault

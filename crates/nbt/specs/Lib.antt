@@ -7,5 +7,8 @@ pub mod Output
 pub mod Input
 pub mod CommandLine
 pub mod Lines
+pub mod Settings
 pub mod Saved
 pub mod Saving
+pub mod Replaying
+pub mod Tables

@@ -1,9 +1,9 @@
--- Why a line of a capture isn't acted on (own). Lines are numbered from 1.
+-- Why a line of a capture isn't acted on (our choice). Lines are numbered from 1.
 use Rattle.std.specs.Prelude.{◌≡◌, ◌<◌, ◌≤◌, ℕ, Bool, false, List, length, Err}
 use Rattle.nb_member.specs.declared.line_fault.LineFault.TheVariants.{BadLine, NoMemory}
 use Rattle.nb_member.specs.Capture.{Reads}
 use Rattle.nbt.specs.declared.fault.Fault.{Fault}
-use Rattle.nbt.specs.declared.fault.Fault.TheVariants.{Text, Name, BadHex, TrailingBytes, Arguments, TooLong, ZeroPiece, Line, Full, Read, Write, Memory}
+use Rattle.nbt.specs.declared.fault.Fault.TheVariants.{Line, Read, Memory}
 
 -- IsEndFault number rest is_whole fault: why what follows the last line feed, line `number`, isn't acted on
 abbrev pub IsEndFault : ℕ → List ℕ → Bool → Fault → Type 0

@@ -1,4 +1,4 @@
--- What the counts of a device's calls show (own).
+-- What the counts of a device's calls show (our choice).
 use Rattle.std.specs.Prelude.{◌⊎◌, ◌<◌, ◌≤◌, ◌+◌, ℕ, List, take, length, Option}
 use Rattle.std.specs.Io.KnownBytes.{Appends}
 use Rattle.nb_names.specs.Counted.{Counts}

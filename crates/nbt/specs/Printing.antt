@@ -1,4 +1,4 @@
--- What the program prints for names, and why it refuses them (own). A line ends with a line feed, 10.
+-- What the program prints for names, and why it refuses them (our choice). A line ends with a line feed, 10.
 use Rattle.std.specs.Prelude.{◌≡◌, ◌≢◌, ◌⊎◌, ◌<◌, ℕ, List, [], ◌∷◌, ◌++◌, length, Option, Ok, IsErr}
 use Rattle.std.specs.Io.KnownBytes.{Appends, Keeps}
 use Rattle.hex.specs.Hex.{encode_lower, decode_of}
@@ -10,7 +10,7 @@ use Rattle.nb_names.specs.Labels.{NameAt}
 use Rattle.nb_names.specs.NameFaults.{NetbiosFaultAt}
 use Rattle.nbt.specs.Output.{AppendsFront}
 use Rattle.nbt.specs.declared.fault.Fault.{Fault}
-use Rattle.nbt.specs.declared.fault.Fault.TheVariants.{Text, Name, BadHex, TrailingBytes, Arguments, TooLong, ZeroPiece, Line, Full, Read, Write, Memory}
+use Rattle.nbt.specs.declared.fault.Fault.TheVariants.{Text, Name, BadHex, TrailingBytes, Arguments, TooLong, ZeroPiece, Line, Full, TooManyNames, Load, NoTables, TwoTablesWanted, Read, Write, Memory}
 
 -- the text as a line
 abbrev pub line : List ℕ → List ℕ
@@ -38,6 +38,10 @@ IsSpellingFault text TooLong = ⊥
 IsSpellingFault text ZeroPiece = ⊥
 IsSpellingFault text (Line number) = ⊥
 IsSpellingFault text Full = ⊥
+IsSpellingFault text TooManyNames = ⊥
+IsSpellingFault text (Load fault) = ⊥
+IsSpellingFault text NoTables = ⊥
+IsSpellingFault text TwoTablesWanted = ⊥
 IsSpellingFault text Read = ⊥
 IsSpellingFault text Write = Unit {0}
 IsSpellingFault text Memory = Unit {0}
@@ -67,6 +71,10 @@ IsNameFault digits TooLong = ⊥
 IsNameFault digits ZeroPiece = ⊥
 IsNameFault digits (Line number) = ⊥
 IsNameFault digits Full = ⊥
+IsNameFault digits TooManyNames = ⊥
+IsNameFault digits (Load fault) = ⊥
+IsNameFault digits NoTables = ⊥
+IsNameFault digits TwoTablesWanted = ⊥
 IsNameFault digits Read = ⊥
 IsNameFault digits Write = Unit {0}
 IsNameFault digits Memory = Unit {0}

@@ -1,4 +1,4 @@
--- What the program prints of tables (own).
+-- What the program prints of tables (our choice).
 use Rattle.std.specs.Prelude.{◌≡◌, ℕ, List}
 use Rattle.hex.specs.Hex.{encode_lower}
 use Rattle.nb_table.specs.Contents.{Contents}

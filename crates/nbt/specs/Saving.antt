@@ -1,18 +1,14 @@
 -- What `nbt save` makes of a capture: a member without names takes its payloads of port 138 and looks at
--- the clock at its ticks (own).
-use Rattle.std.specs.Prelude.{◌≡◌, ◌≢◌, ◌⊎◌, ◌<◌, ℕ, List, [], ◌∷◌, ◌++◌, length, All, Option, None, Some, codes, Result, Ok, Err}
+-- the clock at its ticks (our choice).
+use Rattle.std.specs.Prelude.{◌≡◌, ◌≢◌, ◌⊎◌, ◌<◌, ◌≤◌, ℕ, List, [], ◌∷◌, ◌++◌, length, All, Option, None, Some, Result, Ok, Err}
 use Rattle.std.specs.FinMap as maps
-use Rattle.std.specs.Str.Parse.{digits_value, without_leading_plus}
 use Rattle.std.specs.Io.KnownBytes.{Consumes, IsAtEnd}
-use Rattle.clap.specs.Words.{found_of, one_text}
-use Rattle.clap.specs.declared.parser.matches.ArgMatches.{ArgMatches}
 use Rattle.nb_table.specs.declared.fault.TableFault.TheVariants.{MisplacedFirst, TooLong, Full, NoMemory}
 use Rattle.nb_member.specs.declared.line.Line.{Line}
 use Rattle.nb_member.specs.declared.line.Line.TheVariants.{Packet as PacketLine, Tick}
 use Rattle.nb_member.specs.declared.member_fault.MemberFault.{MemberFault}
 use Rattle.nb_member.specs.declared.member_fault.MemberFault.TheVariants.{Packet, Table}
 use Rattle.nb_member.specs.declared.outcome.Outcome.{Outcome}
-use Rattle.nb_member.specs.declared.settings.Settings.{Settings}
 use Rattle.nb_member.specs.Capture.{Reads}
 use Rattle.nb_member.specs.Live.{limits_of}
 use Rattle.nb_member.specs.Member.{MemberValue, contents, with_timed}
@@ -20,18 +16,15 @@ use Rattle.nb_member.specs.Taking.{Takes}
 use Rattle.nb_member.specs.Timing.{after_clock}
 use Rattle.nbt.specs.Printing.{PrintsLine}
 use Rattle.nbt.specs.Saved.{saved_digits}
-
--- saving keys: the settings of a member that holds so many keys
-abbrev pub saving : ℕ → Settings
-saving n = record { ip = 0 ∷ 0 ∷ 0 ∷ 0 ∷ []; port = 138; keys = n; longest = 65535 }
+use Rattle.nbt.specs.Settings.{program_settings}
 
 -- new_saver keys: the member before the first line
 abbrev pub new_saver : ℕ → MemberValue
 new_saver n = record {
-  settings = saving n;
+  settings = program_settings n;
   names = [];
   timed = record {
-    table = record { contents = maps.empty; limits = limits_of (saving n) };
+    table = record { contents = maps.empty; limits = limits_of (program_settings n) };
     moments = maps.empty;
   };
 }
@@ -65,11 +58,6 @@ pub record TakesLine (m : MemberValue) (line : List ℕ) (new : MemberValue) : T
   pub reads : Reads line (Ok said)
   pub takes : TakesSaid m said new
 
--- AreKeys matches n: the number is the one that the matches hold for `--keys`
-abbrev pub AreKeys : ArgMatches → ℕ → Type 0
-AreKeys matches n = (text : List ℕ) → one_text (found_of matches) (codes "keys") ≡ Some text
-    → n ≡ digits_value 10 (without_leading_plus text)
-
 -- the text has no line feed
 abbrev pub IsLine : List ℕ → Type 0
 IsLine text = All (λ byte. byte ≢ 10) text
@@ -94,6 +82,7 @@ pub record SavesCapture (IsKeys : ℕ → Type 0) (old_in new_in old_out new_out
   pub new : MemberValue
   pub read : Consumes old_in new_in capture
   pub ended : IsAtEnd new_in
+  pub within : length capture ≤ 16777216
   pub given : IsKeys keys
   pub took : TakesLines (new_saver keys) capture new
   pub printed : PrintsLine old_out new_out (saved_digits (contents new))

@@ -1,4 +1,4 @@
--- The exit statuses of the program (own): 0 done, 1 refused input, 2 a bad command line, 3 a device or
+-- The exit statuses of the program (our choice): 0 done, 1 refused input, 2 a bad command line, 3 a device or
 -- memory failed.
 use Rattle.std.specs.Prelude.{ℕ}
 use Rattle.nbt.specs.declared.status.Status.{Status}

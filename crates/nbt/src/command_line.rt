@@ -2,7 +2,7 @@
 ghost use Rattle.std.specs.Prelude.{◌≡◌, IfOk, false};
 ghost use Rattle.clap.specs.Words.{app_of, new_app, rule_of};
 ghost use Rattle.clap.specs.declared.builder.command.Command.TheViews.{out-Command as fields_of};
-ghost use Rattle.nbt.specs.CommandLine.{name_app, show_app, build_app, save_app, nbt_app, flag_rule, value_rule, list_rule, keys_rule};
+ghost use Rattle.nbt.specs.CommandLine.{name_app, show_app, build_app, replay_app, save_app, merge_app, agree_app, nbt_app, flag_rule, value_rule, list_rule, keys_rule, some_rule};
 
 use clap::builder::ValueParser;
 use clap::{Arg, ArgAction, Command};
@@ -53,6 +53,21 @@ const BUILD_HELP: &str = "Port 137: query ID NAME, status ID NAME, registration 
                           was bad, 3 a device failed or{n}memory ran out. With 1 and 3 one line, \
                           `nbt: ` and the reason, goes to standard error.";
 
+/// How a capture is replayed, and how the program ends.
+const REPLAY_HELP: &str =
+    "The capture is as `nbt show` takes it. A member at 0.0.0.0:138 takes its \
+                           payloads of port 138 and looks at the{n}clock at its ticks. Each line \
+                           but empty ones and comments has a line in the report: its number, and \
+                           `passed`,{n}`dropped COUNT`, `kept KEY`, `spoilt KEY`, `delivered KEY \
+                           KIND SOURCE DESTINATION DATA`, `unheard KEY`, `other`{n}or `refused \
+                           REASON`; ` error HEX` is the error packet to answer. A name that is \
+                           repeated is passed over.{n}{n}Example: nbt build group \
+                           10.0.0.5:138/0001 'JOE<00>' 'FRED<20>' 616263 2 | nbt replay \
+                           'FRED<20>'{n}{n}Exit status: 0 all was done, 1 a name was refused or a \
+                           line is malformed, 2 the command line was bad, 3 a{n}device failed or \
+                           memory ran out. With 1 and 3 one line, `nbt: ` and the reason, goes to \
+                           standard error.";
+
 /// What is saved of a capture, and how the program ends.
 const SAVE_HELP: &str = "The capture is as `nbt show` takes it. Fragments of datagrams on port 138 \
                          are put together, and each key that came{n}at least 2000 milliseconds \
@@ -63,6 +78,25 @@ const SAVE_HELP: &str = "The capture is as `nbt show` takes it. Fragments of dat
                          line is malformed or there are too many keys, 2 the command line was \
                          bad, 3 a device{n}failed or memory ran out. With 1 and 3 one line, \
                          `nbt: ` and the reason, goes to standard error.";
+
+/// The tables that are joined, and how the program ends.
+const MERGE_HELP: &str = "Each line is a saved table in hexadecimal, as `nbt save` prints it; the \
+                          last line may lack its line feed. The table of all{n}that they say \
+                          together is printed in hexadecimal, as one line. All lines are judged \
+                          before any table is joined.{n}{n}Example: { nbt save < one; nbt save < \
+                          other; } | nbt merge{n}{n}Exit status: 0 all was done, 1 a line is no \
+                          table, there is none, or there are too many keys, 2 the command{n}line \
+                          was bad, 3 a device failed or memory ran out. With 1 and 3 one line, \
+                          `nbt: ` and the reason, goes to standard error.";
+
+/// The tables that are compared, and how the program ends.
+const AGREE_HELP: &str = "Two lines, each a saved table in hexadecimal, as `nbt save` prints it; \
+                          the last line may lack its line feed.{n}{n}Example: { nbt save < one; \
+                          nbt save < other; } | nbt agree{n}{n}Exit status: 0 the tables are \
+                          equal, 1 they differ, or the input was refused, 2 the command line was \
+                          bad, 3 a device{n}failed or memory ran out. With 3, and with 1 where \
+                          the input was refused, one line, `nbt: ` and the reason, goes to{n}\
+                          standard error.";
 
 /// The command line: a subcommand and its arguments.
 ///
@@ -83,7 +117,10 @@ pub fn command<'a>(alloc: Global) -> Result<Command<'a>, AllocError>
     let top = top.subcommand(name_command(alloc)?)?;
     let top = top.subcommand(show_command(alloc))?;
     let top = top.subcommand(build_command(alloc)?)?;
-    Ok(top.subcommand(save_command(alloc)?)?)
+    let top = top.subcommand(replay_command(alloc)?)?;
+    let top = top.subcommand(save_command(alloc)?)?;
+    let top = top.subcommand(merge_command(alloc)?)?;
+    Ok(top.subcommand(agree_command(alloc))?)
 }
 
 /// `name [--bytes] VALUE`.
@@ -140,6 +177,25 @@ fn build_command<'a>(alloc: Global) -> Result<Command<'a>, AllocError>
     Ok(build.arg(broadcast)?.arg(what)?.arg(words)?)
 }
 
+/// `replay [--keys N] NAME..`.
+fn replay_command<'a>(alloc: Global) -> Result<Command<'a>, AllocError>
+    ensures app { IfOk result (λ command. app_of command ≡ replay_app) }
+    ensures local { IfOk result (λ command. (fields_of command).has_globals ≡ false) }
+{
+    let names = at_least_one(
+        alloc,
+        "NAME",
+        "A name of the member, such as 'FRED<20>.NETBIOS.COM'",
+    );
+    let replay = described(
+        alloc,
+        "replay",
+        "Print what a station with these names makes of the capture on standard input",
+        REPLAY_HELP,
+    );
+    Ok(replay.arg(keys(alloc))?.arg(names)?)
+}
+
 /// `save [--keys N]`.
 fn save_command<'a>(alloc: Global) -> Result<Command<'a>, AllocError>
     ensures app { IfOk result (λ command. app_of command ≡ save_app) }
@@ -152,6 +208,33 @@ fn save_command<'a>(alloc: Global) -> Result<Command<'a>, AllocError>
         SAVE_HELP,
     );
     Ok(save.arg(keys(alloc))?)
+}
+
+/// `merge [--keys N]`.
+fn merge_command<'a>(alloc: Global) -> Result<Command<'a>, AllocError>
+    ensures app { IfOk result (λ command. app_of command ≡ merge_app) }
+    ensures local { IfOk result (λ command. (fields_of command).has_globals ≡ false) }
+{
+    let merge = described(
+        alloc,
+        "merge",
+        "Join the saved tables on standard input, a line each, and print the table",
+        MERGE_HELP,
+    );
+    Ok(merge.arg(keys(alloc))?)
+}
+
+/// `agree`.
+fn agree_command<'a>(alloc: Global) -> Command<'a>
+    ensures app { app_of result ≡ agree_app }
+    ensures local { (fields_of result).has_globals ≡ false }
+{
+    described(
+        alloc,
+        "agree",
+        "Print whether the two saved tables on standard input, a line each, are equal",
+        AGREE_HELP,
+    )
 }
 
 /// A command of this name, with the texts before and after its help.
@@ -192,6 +275,18 @@ fn list<'a>(alloc: Global, name: &'a str, help: &'a str) -> Arg<'a>
     Arg::new(alloc, name)
         .help(help)
         .num_args(0..)
+        .action(ArgAction::Append)
+}
+
+/// Words, at least one.
+fn at_least_one<'a>(alloc: Global, name: &'a str, help: &'a str) -> Arg<'a>
+    ensures rule { rule_of result ≡ some_rule name.entry.now }
+    ensures local { result.global ≡ false }
+{
+    Arg::new(alloc, name)
+        .help(help)
+        .required(true)
+        .num_args(1..)
         .action(ArgAction::Append)
 }
 

@@ -4,6 +4,8 @@ ghost use Rattle.nbt.specs.FaultTexts.{status_of};
 
 use crate::status::Status;
 use nb_names::{NameFault, NoMemory, TextFault};
+use nb_table::LoadFault;
+use std::alloc::AllocFailed;
 use std::{fmt, io};
 
 /// Why a command ended before it was done.
@@ -25,8 +27,16 @@ pub enum Fault {
     ZeroPiece,
     /// A line of a capture is malformed. The number is the line's, the first being 1.
     Line(usize),
-    /// A capture has fragments of more keys at a time than are held.
+    /// A capture has fragments of more keys at a time than are held, or tables have together.
     Full,
+    /// More different names are given than a station holds.
+    TooManyNames,
+    /// The bytes of a line aren't a saved table, or one that is over the limits.
+    Load(LoadFault),
+    /// There is no table to merge.
+    NoTables,
+    /// There are more or fewer tables than two to compare.
+    TwoTablesWanted,
     /// The program's words couldn't be read, or its input not to its end.
     Read,
     /// The output failed.
@@ -41,6 +51,9 @@ impl Fault {
         ensures { result ≡ status_of self }
     {
         match self {
+            Fault::Load(LoadFault::NoMemory) | Fault::Read | Fault::Write | Fault::Memory => {
+                Status::Failed
+            }
             Fault::Text(_)
             | Fault::Name(_)
             | Fault::BadHex
@@ -49,8 +62,11 @@ impl Fault {
             | Fault::TooLong
             | Fault::ZeroPiece
             | Fault::Line(_)
-            | Fault::Full => Status::Refused,
-            Fault::Read | Fault::Write | Fault::Memory => Status::Failed,
+            | Fault::Full
+            | Fault::TooManyNames
+            | Fault::Load(_)
+            | Fault::NoTables
+            | Fault::TwoTablesWanted => Status::Refused,
         }
     }
 }
@@ -72,6 +88,10 @@ impl fmt::Display for Fault {
             Fault::ZeroPiece => f.write_str("zero piece"),
             Fault::Line(number) => write!(f, "line {number}"),
             Fault::Full => f.write_str("full"),
+            Fault::TooManyNames => f.write_str("too many names"),
+            Fault::Load(fault) => write!(f, "{fault}"),
+            Fault::NoTables => f.write_str("no tables"),
+            Fault::TwoTablesWanted => f.write_str("two tables wanted"),
             Fault::Read => f.write_str("read"),
             Fault::Write => f.write_str("write"),
             Fault::Memory => f.write_str("memory"),
@@ -120,5 +140,16 @@ impl From<io::Error> for Fault {
 
     fn from(_error: io::Error) -> Fault {
         Fault::Write
+    }
+}
+
+impl<T: Drop> From<AllocFailed<T>> for Fault {
+    ghost use Rattle.std.specs.Prelude.{◌≡◌};
+    ghost use Rattle.nbt.specs.declared.fault.Fault.TheVariants.{Memory};
+
+    ghost from_gives = { λ _ made. made ≡ Memory };
+
+    fn from(_fault: AllocFailed<T>) -> Fault {
+        Fault::Memory
     }
 }

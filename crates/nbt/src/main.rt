@@ -1,43 +1,75 @@
 //! `nbt`: NetBIOS packets on the command line.
 #![tactic(auto)]
 
+mod agree;
 mod build;
 mod clap_answer;
 mod command_line;
 mod fault;
 mod input;
 mod lines;
+mod merge;
 mod name;
 mod output;
 mod program;
+mod replay;
 mod save;
 mod saved;
+mod settings;
 mod show;
 mod status;
+mod tables;
 mod writing;
 
 use crate::fault::Fault;
 use crate::output::Output;
 use crate::program::{report, run};
+use std::alloc::Global;
 use std::env;
-use std::io::ErrorKind;
+use std::io::{BufWriter, ErrorKind, Write};
 use std::process::ExitCode;
 
 fn main(rt: HostRuntime) -> ExitCode {
-    let mut input = rt.stdin();
-    let mut output = rt.stdout();
-    let mut errors = rt.stderr();
-    let code = match words_of(&rt) {
-        Ok(words) => run(
-            rt.alloc(),
-            words.as_slice(),
-            &mut input,
-            &mut output,
-            &mut errors,
-        ),
-        Err(fault) => report(Err(fault), &mut Output::new(errors)).code(),
+    let code = match run_buffered(&rt) {
+        Ok(code) => code,
+        Err(fault) => report(Err(fault), &mut Output::new(rt.stderr())).code(),
     };
     ExitCode::from(code)
+}
+
+/// Runs the program over the streams of its process. What it prints goes through buffers of fixed
+/// size, which are written out in the end, whatever the program answers.
+///
+/// # Errors
+///
+/// Those of [`words_of`], [`Fault::Memory`] where there is no memory for a buffer, and
+/// [`Fault::Write`] where what was printed can't be written out: this is then told alone.
+fn run_buffered(rt: &HostRuntime) -> Result<u8, Fault> {
+    let words = words_of(rt)?;
+    let mut input = rt.stdin();
+    let mut output = buffered(rt.alloc(), rt.stdout())?;
+    let mut errors = buffered(rt.alloc(), rt.stderr())?;
+    let code = run(
+        rt.alloc(),
+        words.as_slice(),
+        &mut input,
+        &mut output,
+        &mut errors,
+    );
+    let printed = output.flush();
+    // What a failed flush left is let go: it isn't written once more.
+    let (_stdout, _left) = output.into_parts();
+    if printed.is_ok() {
+        let _ = errors.flush();
+    }
+    let (_stderr, _untold) = errors.into_parts();
+    printed?;
+    Ok(code)
+}
+
+/// A device behind a buffer of fixed size.
+fn buffered<W: Write + Drop>(alloc: Global, device: W) -> Result<BufWriter<Output<W>>, Fault> {
+    BufWriter::new(alloc, Output::new(device)).map_err(|_| Fault::Memory)
 }
 
 /// The words that the program was called with, its own name first.

@@ -1,37 +1,35 @@
 //! The program's output: what is written, and whether a write came to nothing.
-ghost use Rattle.std.specs.Prelude.{◌≡◌, ◌<◌, ◌≤◌, length, take, true, string_bytes, OnOk, OnErr, IfOk, IfErr};
+ghost use Rattle.std.specs.Prelude.{◌≡◌, ◌<◌, ◌≤◌, length, take, string_bytes, OnOk, OnErr, IfOk, IfErr};
 ghost use Rattle.std.specs.Io.KnownBytes.{Appends};
 ghost use Rattle.nb_names.specs.Counted.{no_calls};
 ghost use Rattle.nbt.specs.Output.{AppendsFront, GrowTo, ShowsFailing};
 ghost use Rattle.nbt.specs.Printing.{line};
+ghost use Rattle.nbt.specs.Replaying.{EndsWith, IsUnread, ReplaysIn};
 
 use crate::fault::Fault;
+use crate::replay::outcome_of;
 use crate::writing::{write_some, write_whole};
+use nb_member::{Member, replay};
 use nb_names::Counted;
+use std::alloc::Global;
 use std::io;
-use std::io::{ErrorKind, Write};
+use std::io::{ErrorKind, Read, Write};
 use std::marker::Model;
 
 /// A device to write to, whose calls are counted for contracts.
 #[derive(Drop)]
 pub struct Output<W> {
     device: Counted<W>,
-    // A write failed, took no byte, or was interrupted too often.
-    has_failed: bool,
 }
 
 impl<W> Model for Output<W> {
-    ghost use Rattle.nb_names.specs.Counted.{CountedOf, counted_code, no_calls};
-    ghost use Rattle.nbt.specs.Output.{ShowsFailing};
-    ghost use Rattle.std.specs.Prelude.{◌≡◌, true};
+    ghost use Rattle.nb_names.specs.Counted.{CountedOf, counted_code};
 
     ghost Value = { CountedOf W };
 
     ghost coded = { counted_code W.code };
 
     ghost view = { λ o. o.device };
-
-    ghost invariant = { λ o. o.has_failed ≡ true → ShowsFailing no_calls o.device.counts };
 }
 
 impl<W> Output<W> {
@@ -42,25 +40,14 @@ impl<W> Output<W> {
     {
         Output {
             device: Counted::new(device),
-            has_failed: false,
         }
-    }
-
-    /// Whether a write failed, took no byte, or was interrupted 1,024 times in a row.
-    pub fn has_failed(&self) -> bool
-        ensures { result ≡ true → ShowsFailing no_calls self.now.counts }
-    {
-        self.has_failed
     }
 
     /// The device itself.
     pub fn into_inner(self) -> W
         ensures { result ≡ self.inner }
     {
-        let Output {
-            device,
-            has_failed: _,
-        } = self;
+        let Output { device } = self;
         device.into_inner()
     }
 
@@ -80,13 +67,32 @@ impl<W> Output<W> {
             (W.contents self.new.inner) bytes.now) }
         ensures why { OnErr result (ShowsFailing no_calls self.new.counts) }
     {
-        match write_whole(&mut self.device, bytes) {
-            Ok(()) => Ok(()),
-            Err(fault) => {
-                self.has_failed = true;
-                Err(fault)
-            }
-        }
+        write_whole(&mut self.device, bytes)
+    }
+
+    /// Replays an input in a member, and writes the report.
+    ///
+    /// # Errors
+    ///
+    /// Those of [`nb_member::replay`].
+    pub fn replay<R: Read>(
+        &mut self,
+        alloc: Global,
+        mut member: Member,
+        input: &mut Counted<R>,
+    ) -> Result<(), Fault>
+    where
+        W: Write,
+        ensures replayed { EndsWith (ReplaysIn member
+            (R.remaining input.old.inner) (R.remaining input.new.inner)
+            (W.contents self.old.inner) (W.contents self.new.inner)) result }
+        ensures cut { IfErr result (λ fault. fault ≡ Fault.Read →
+            IsUnread (R.remaining input.old.inner) (R.remaining input.new.inner)
+            input.old.counts input.new.counts) }
+        ensures why { IfErr result (λ fault. fault ≡ Fault.Write →
+            ShowsFailing no_calls self.new.counts) }
+    {
+        outcome_of(replay(alloc, input, &mut self.device, &mut member))
     }
 }
 
@@ -99,10 +105,7 @@ impl<W: Write> Write for Output<W> {
         }
         match write_some(&mut self.device, buf) {
             Ok(count) => Ok(count),
-            Err(_) => {
-                self.has_failed = true;
-                Err(io::Error::from(ErrorKind::Other))
-            }
+            Err(_) => Err(io::Error::from(ErrorKind::Other)),
         }
     }
 

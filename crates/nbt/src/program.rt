@@ -1,5 +1,5 @@
 //! The program over any input and output.
-ghost use Rattle.std.specs.Prelude.{◌≡◌, ◌≢◌, ◌≤◌, map, string_bytes, IfErr};
+ghost use Rattle.std.specs.Prelude.{◌≡◌, ◌≢◌, ◌≤◌, map, string_bytes, IfOk, IfErr};
 ghost use Rattle.std.specs.Io.KnownBytes.{Keeps};
 ghost use Rattle.clap.specs.Words.{kind_of, subcommand_name_of};
 ghost use Rattle.nb_names.specs.Counted.{no_calls};
@@ -8,12 +8,15 @@ ghost use Rattle.nbt.specs.FaultTexts.{status_after};
 ghost use Rattle.nbt.specs.CommandLine.{AreAlone, DoesRead};
 ghost use Rattle.nbt.specs.ClapAnswer.{Reports, answer_to};
 
+use crate::agree::run_agree;
 use crate::build::run_build;
 use crate::clap_answer::ClapAnswer;
 use crate::command_line::command;
 use crate::fault::Fault;
+use crate::merge::run_merge;
 use crate::name::run_name;
 use crate::output::Output;
+use crate::replay::run_replay;
 use crate::save::run_save;
 use crate::show::run_show;
 use crate::status::Status;
@@ -26,9 +29,9 @@ use std::io::{Read, Write};
 ///
 /// The first of the words is the program's name. What is asked for goes to `output`, a fault to
 /// `errors` as one line after `nbt: `; a fault in writing that line changes nothing. The status is
-/// 0 where all was done, 1 where input was refused, 2 where the command line was bad (with `clap`'s
-/// text on `errors`), 3 where a device failed or memory ran out. `clap`'s help and the version go
-/// to `output`, with status 0.
+/// 0 where all was done, 1 where input was refused or two tables differ, 2 where the command line
+/// was bad (with `clap`'s text on `errors`), 3 where a device failed or memory ran out. `clap`'s
+/// help and the version go to `output`, with status 0.
 pub fn run<R: Read, W: Write, E: Write>(
     alloc: Global,
     words: &[String],
@@ -70,7 +73,7 @@ fn run_words<R: Read, W: Write, E: Write>(
     }
 }
 
-/// Runs the subcommand that the words name.
+/// Runs the subcommand that the words name, and answers the status with which it was done.
 ///
 /// # Errors
 ///
@@ -80,27 +83,33 @@ fn run_command<R: Read, W: Write>(
     matches: &ArgMatches<'_>,
     input: &mut Counted<R>,
     output: &mut Output<W>,
-) -> Result<(), Fault>
+) -> Result<Status, Fault>
+    ensures status { IfOk result (λ status. status ≢ Status.BadUsage) }
     ensures unread { ¬ DoesRead (subcommand_name_of matches.now) → input.new ≡ input.old }
     ensures why { IfErr result (λ fault. fault ≡ Fault.Write →
         ShowsFailing no_calls output.new.counts) }
 {
     match matches.subcommand() {
-        Some(("name", matches)) => run_name(alloc, matches, output),
-        Some(("show", _)) => run_show(alloc, input, output),
-        Some(("build", matches)) => run_build(alloc, matches, output),
-        Some(("save", matches)) => run_save(alloc, matches, input, output),
-        _ => Err(Fault::Arguments),
+        Some(("name", matches)) => run_name(alloc, matches, output)?,
+        Some(("show", _)) => run_show(alloc, input, output)?,
+        Some(("build", matches)) => run_build(alloc, matches, output)?,
+        Some(("replay", matches)) => run_replay(alloc, matches, input, output)?,
+        Some(("save", matches)) => run_save(alloc, matches, input, output)?,
+        Some(("merge", matches)) => run_merge(alloc, matches, input, output)?,
+        Some(("agree", _)) => return run_agree(alloc, input, output),
+        _ => return Err(Fault::Arguments),
     }
+    Ok(Status::Done)
 }
 
 /// The status with which a command ended. Its fault, if it has one, goes to `errors` as a line.
-pub fn report<E: Write>(outcome: Result<(), Fault>, errors: &mut Output<E>) -> Status
+pub fn report<E: Write>(outcome: Result<Status, Fault>, errors: &mut Output<E>) -> Status
     ensures value { result ≡ status_after outcome }
-    ensures no_usage { result ≢ Status.BadUsage }
+    ensures no_usage { IfOk outcome (λ status. status ≢ Status.BadUsage)
+        → result ≢ Status.BadUsage }
 {
     match outcome {
-        Ok(()) => Status::Done,
+        Ok(status) => status,
         Err(fault) => {
             let _ = writeln!(errors, "nbt: {fault}");
             fault.status()
@@ -120,7 +129,10 @@ fn report_unmatched<W: Write, E: Write>(
 {
     match ClapAnswer::to(error.kind()) {
         ClapAnswer::Asked => {
-            let shown = write!(output, "{error}").map_err(|_| Fault::Write);
+            let shown = match write!(output, "{error}") {
+                Ok(()) => Ok(Status::Done),
+                Err(_) => Err(Fault::Write),
+            };
             report(shown, errors)
         }
         ClapAnswer::Misused => {

@@ -1,27 +1,24 @@
 //! `nbt save`: what a capture says of datagrams, as a saved table.
-ghost use Rattle.std.specs.Prelude.{◌≡◌, ◌≢◌, take, true, IfOk, IfErr, OnOk};
+ghost use Rattle.std.specs.Prelude.{◌≡◌, ◌≢◌, take, true, false, IfOk, IfErr, OnOk};
 ghost use Rattle.std.specs.Io.KnownBytes.{Keeps};
 ghost use Rattle.nb_names.specs.Counted.{no_calls};
+ghost use Rattle.nbt.specs.Input.{WasCut};
 ghost use Rattle.nbt.specs.Output.{ShowsFailing};
-ghost use Rattle.nbt.specs.Saving.{AreKeys, new_saver, SavesCapture, TakesLine, TakesLines, TakesPayload, TakesRest, TakesSaid};
+ghost use Rattle.nbt.specs.Saving.{new_saver, SavesCapture, TakesLine, TakesLines, TakesPayload, TakesRest, TakesSaid};
+ghost use Rattle.nbt.specs.Settings.{AreKeys};
 
 use crate::fault::Fault;
 use crate::input::{Input, read_input};
 use crate::lines::{last_line, next_line, said_by};
 use crate::output::Output;
 use crate::saved::print_saved;
+use crate::settings::{PORT, settings_with};
 use clap::ArgMatches;
-use nb_member::{Line, LocalNames, Member, MemberFault, Settings};
+use nb_member::{Line, LocalNames, Member, MemberFault};
 use nb_names::Counted;
 use nb_table::TableFault;
 use std::alloc::Global;
 use std::io::{Read, Write};
-
-/// The port of the datagram service (RFC 1002 section 4.4).
-const PORT: u16 = 138;
-
-/// The most bytes of a datagram.
-const LONGEST: u16 = 65_535;
 
 /// `nbt save [--keys N]`: reads the whole input, takes its payloads of port 138 and looks at the
 /// clock at its ticks, in a member without names, and prints the member's table in hexadecimal.
@@ -43,6 +40,9 @@ pub fn run_save<R: Read, W: Write>(
         (W.contents output.old.inner) (W.contents output.new.inner)) }
     ensures err { IfErr result (λ fault. fault ≢ Fault.Write →
         Keeps (W.contents output.old.inner) (W.contents output.new.inner)) }
+    ensures cut { IfErr result (λ fault. fault ≡ Fault.Read →
+        WasCut (R.remaining input.old.inner) (R.remaining input.new.inner)
+        input.old.counts input.new.counts) }
     ensures why { IfErr result (λ fault. fault ≡ Fault.Write →
         ShowsFailing no_calls output.new.counts) }
 {
@@ -59,14 +59,9 @@ fn member_after(alloc: Global, keys: u32, input: &Input) -> Result<Member, Fault
     ensures took { IfOk result (λ new. (input.now.is_whole ≡ true) ×
         TakesLines (new_saver keys) (take 16777216 input.now.bytes.items) new) }
     ensures fault { IfErr result (λ fault. fault ≢ Fault.Write) }
+    ensures cut { IfErr result (λ fault. fault ≡ Fault.Read → input.now.is_whole ≡ false) }
 {
-    let settings = Settings {
-        ip: [0, 0, 0, 0],
-        port: PORT,
-        keys,
-        longest: LONGEST,
-    };
-    let mut member = Member::new(alloc, settings, LocalNames::new(alloc));
+    let mut member = Member::new(alloc, settings_with(keys), LocalNames::new(alloc));
     let mut rest = input.front();
     let mut number = 1;
     while let Some((line, after)) = next_line(rest) {
@@ -88,6 +83,7 @@ fn take_rest(
 ) -> Result<(), Fault>
     ensures took { OnOk result ((is_whole ≡ true) × TakesRest member.old rest.now member.new) }
     ensures fault { IfErr result (λ fault. fault ≢ Fault.Write) }
+    ensures cut { IfErr result (λ fault. fault ≡ Fault.Read → is_whole ≡ false) }
 {
     match last_line(number, rest, is_whole)? {
         Some(line) => take_line(alloc, number, line, member),
@@ -99,6 +95,7 @@ fn take_rest(
 fn take_line(alloc: Global, number: usize, line: &[u8], member: &mut Member) -> Result<(), Fault>
     ensures took { OnOk result (TakesLine member.old line.now member.new) }
     ensures fault { IfErr result (λ fault. fault ≢ Fault.Write) }
+    ensures no_read { IfErr result (λ fault. fault ≢ Fault.Read) }
 {
     let said = said_by(alloc, number, line)?;
     take_said(said, member)
@@ -108,6 +105,7 @@ fn take_line(alloc: Global, number: usize, line: &[u8], member: &mut Member) -> 
 fn take_said(said: Option<Line>, member: &mut Member) -> Result<(), Fault>
     ensures took { OnOk result (TakesSaid member.old said member.new) }
     ensures fault { IfErr result (λ fault. fault ≢ Fault.Write) }
+    ensures no_read { IfErr result (λ fault. fault ≢ Fault.Read) }
 {
     match said {
         None => Ok(()),
@@ -134,6 +132,7 @@ fn take_said(said: Option<Line>, member: &mut Member) -> Result<(), Fault>
 fn take_payload(moment: u64, payload: &[u8], member: &mut Member) -> Result<(), Fault>
     ensures took { OnOk result (TakesPayload member.old moment payload.now member.new) }
     ensures fault { IfErr result (λ fault. fault ≢ Fault.Write) }
+    ensures no_read { IfErr result (λ fault. fault ≢ Fault.Read) }
 {
     match member.take(moment, payload) {
         Err(MemberFault::Table(TableFault::Full(_))) => Err(Fault::Full),

@@ -15,7 +15,7 @@ use crate::output::Output;
 use nb_member::Line;
 use nb_names::{Counted, NoMemory};
 use std::alloc::Global;
-use std::io::{BufWriter, Read, Write};
+use std::io::{Read, Write};
 
 /// `nbt show`: reads the whole input, and shows its packets in order.
 ///
@@ -33,27 +33,14 @@ pub fn run_show<R: Read, W: Write>(
         ShowsFailing no_calls output.new.counts) }
 {
     let input = read_input(alloc, input)?;
-    let shown = show_input(alloc, &input, output);
-    if output.has_failed() {
-        return Err(Fault::Write);
-    }
-    match shown {
-        // No write came to nothing, so it is the buffer that there was no memory for.
-        Err(Fault::Write) => Err(Fault::Memory),
-        shown => shown,
-    }
-}
-
-/// Shows an input through a buffer of fixed size, which is written out in the end.
-fn show_input<W: Write>(alloc: Global, input: &Input, output: &mut Output<W>) -> Result<(), Fault> {
-    let mut buffer = BufWriter::new(alloc, output)?;
-    let shown = show_lines(alloc, input, &mut buffer);
-    buffer.flush()?;
-    shown
+    show_lines(alloc, &input, output)
 }
 
 /// Shows the lines that are finished, and the last one.
-fn show_lines<W: Write>(alloc: Global, input: &Input, output: &mut W) -> Result<(), Fault> {
+fn show_lines<W: Write>(alloc: Global, input: &Input, output: &mut Output<W>) -> Result<(), Fault>
+    ensures why { IfErr result (λ fault. fault ≡ Fault.Write →
+        ShowsFailing no_calls output.new.counts) }
+{
     let mut rest = input.front();
     let mut number = 1;
     while let Some((line, after)) = next_line(rest) {
@@ -72,15 +59,17 @@ fn show_line<W: Write>(
     alloc: Global,
     number: usize,
     line: &[u8],
-    output: &mut W,
-) -> Result<(), Fault> {
+    output: &mut Output<W>,
+) -> Result<(), Fault>
+    ensures why { IfErr result (λ fault. fault ≡ Fault.Write →
+        ShowsFailing no_calls output.new.counts) }
+{
     let Some(said) = said_by(alloc, number, line)? else {
         return Ok(());
     };
     let mut text = String::new(alloc);
     push_line(alloc, number, &said, &mut text)?;
-    output.write_all(text.as_bytes())?;
-    Ok(())
+    output.print(text.as_bytes())
 }
 
 /// Adds the text of what a line says.

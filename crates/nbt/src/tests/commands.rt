@@ -3,7 +3,19 @@
 use crate::tests::fakes::expect_run;
 use std::test::Fail;
 
-/// Names both ways, the pieces of a datagram, a packet of each port, and the table of the pieces.
+/// The words for a datagram to a group, in pieces of at most 3 bytes.
+const GROUP: &[&str] = &[
+    "build",
+    "group",
+    "10.0.0.5:138/0001",
+    "JOE<00>",
+    "FRED<20>",
+    "61626364",
+    "3",
+];
+
+/// Names both ways, the pieces of a datagram, a packet of each port, a report, and the table of the
+/// pieces.
 #[test]
 fn each_command_prints_what_it_is_asked_for(rt: HostRuntime) -> Result<(), Fail> {
     let alloc = rt.alloc();
@@ -25,21 +37,37 @@ fn each_command_prints_what_it_is_asked_for(rt: HostRuntime) -> Result<(), Fail>
     let saved = format!(in alloc;
         "4e425431000000010a000005008a00010111{joe}{fred}01000400010000000461626364\n"
     )?;
-    let group = [
-        "build",
-        "group",
-        "10.0.0.5:138/0001",
-        "JOE<00>",
-        "FRED<20>",
-        "61626364",
-        "3",
-    ];
-    let rows: [(&[&str], &str, &str); 5] = [
+    let rows: [(&[&str], &str, &str); 6] = [
         (&["name", "FRED<20>"], "", spelled.as_str()),
         (&["name", "--bytes", fred], "", "FRED<20>\n"),
-        (group.as_slice(), "", pieces.as_str()),
+        (GROUP, "", pieces.as_str()),
         (&["show"], capture.as_str(), shown),
+        (&["replay", "A<20>"], "tick 1\n", "1 dropped 0\n"),
         (&["save"], pieces.as_str(), saved.as_str()),
+    ];
+    for (texts, input, want) in rows {
+        expect_run(&rt, alloc, texts, &mut input.as_bytes(), (0, want, ""))?;
+    }
+    Ok(())
+}
+
+/// The tables of two pieces, joined; and the table of both compared with itself.
+#[test]
+fn saved_tables_are_joined_and_compared(rt: HostRuntime) -> Result<(), Fail> {
+    let alloc = rt.alloc();
+    let fred = "20454746434546454543414341434143414341434143414341434143414341434100";
+    let joe = "20454b45504546434143414341434143414341434143414341434143414341414100";
+    let saved = format!(in alloc;
+        "4e425431000000010a000005008a00010111{joe}{fred}01000400010000000461626364\n"
+    )?;
+    let halves = format!(in alloc;
+        "4e425431000000010a000005008a00010111{joe}{fred}00000100000003616263\n\
+         4e425431000000010a000005008a00010111{joe}{fred}01000400010003000164"
+    )?;
+    let twice = format!(in alloc; "{saved}{saved}")?;
+    let rows: [(&[&str], &str, &str); 2] = [
+        (&["merge"], halves.as_str(), saved.as_str()),
+        (&["agree"], twice.as_str(), "equal\n"),
     ];
     for (texts, input, want) in rows {
         expect_run(&rt, alloc, texts, &mut input.as_bytes(), (0, want, ""))?;

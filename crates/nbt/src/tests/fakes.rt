@@ -47,10 +47,11 @@ pub fn expect_run<R: Read>(
     Ok(())
 }
 
-/// A writer that takes this many bytes more, and then fails.
+/// A writer that takes this many bytes more, and then fails; and the bytes that it took.
 #[derive(Drop)]
 pub struct Failing {
     pub room: usize,
+    pub taken: Vec<u8>,
 }
 
 impl Write for Failing {
@@ -58,9 +59,10 @@ impl Write for Failing {
         if self.room == 0 {
             return Err(io::Error::from(ErrorKind::BrokenPipe));
         }
-        let taken = buf.len().min(self.room);
-        self.room -= taken;
-        Ok(taken)
+        let count = buf.len().min(self.room);
+        self.taken.extend_from_slice(&buf[..count])?;
+        self.room -= count;
+        Ok(count)
     }
 
     fn flush(&mut self) -> io::Result<()> {

@@ -3,29 +3,42 @@
 use crate::tests::fakes::{Breaking, Interrupting, expect_run};
 use std::test::Fail;
 
-/// What was finished before a read fault is shown; what wasn't is judged by its length alone, and
-/// too long a line comes before the fault.
+/// What was finished before a read fault is acted on; what wasn't is judged by its length alone,
+/// and too long a line, or a malformed one, comes before the fault. Tables are read whole first.
 #[test]
 fn a_read_fault_comes_after_the_finished_lines(rt: HostRuntime) -> Result<(), Fail> {
     let alloc = rt.alloc();
     let longer = vec![in alloc; b'#'; 262_201]?;
     let longest = &longer.as_slice()[1..];
-    let rows: [(&[u8], u8, &str, &str); 6] = [
+    let show: &[&str] = &["show"];
+    let replay: &[&str] = &["replay", "A<20>"];
+    let none = (3, "", "nbt: read\n");
+    let malformed = (1, "", "nbt: line 2\n");
+    let rows: [(&[&str], &[u8], (u8, &str, &str)); 13] = [
         (
+            show,
             b"tick 1\ntick 2\ntick",
-            3,
-            "1 tick 1\n2 tick 2\n",
-            "nbt: read\n",
+            (3, "1 tick 1\n2 tick 2\n", "nbt: read\n"),
         ),
-        (b"tick 1\nx", 3, "1 tick 1\n", "nbt: read\n"),
-        (b"", 3, "", "nbt: read\n"),
-        (b"tick 1\nx\n", 1, "1 tick 1\n", "nbt: line 2\n"),
-        (longer.as_slice(), 1, "", "nbt: line 1\n"),
-        (longest, 3, "", "nbt: read\n"),
+        (show, b"tick 1\nx", (3, "1 tick 1\n", "nbt: read\n")),
+        (show, b"", none),
+        (show, b"tick 1\nx\n", (1, "1 tick 1\n", "nbt: line 2\n")),
+        (show, longer.as_slice(), (1, "", "nbt: line 1\n")),
+        (show, longest, none),
+        (replay, b"tick 1\nx", (3, "1 dropped 0\n", "nbt: read\n")),
+        (
+            replay,
+            b"tick 1\nx\n",
+            (1, "1 dropped 0\n", "nbt: line 2\n"),
+        ),
+        (&["save"], b"tick 1\nx", none),
+        (&["save"], b"tick 1\nx\n", malformed),
+        (&["merge"], b"x\n", none),
+        (&["agree"], b"x\n", none),
+        (&["agree"], b"4e42543100000000\n4e42543100000000\n", none),
     ];
-    for (bytes, status, output, errors) in rows {
-        let mut input = Breaking { bytes };
-        expect_run(&rt, alloc, &["show"], &mut input, (status, output, errors))?;
+    for (texts, bytes, want) in rows {
+        expect_run(&rt, alloc, texts, &mut Breaking { bytes }, want)?;
     }
     Ok(())
 }

@@ -9,22 +9,26 @@ use std::test::Fail;
 fn a_failing_output_is_reported(rt: HostRuntime) -> Result<(), Fail> {
     let alloc = rt.alloc();
     let fred = "20454746434546454543414341434143414341434143414341434143414341434100";
-    let rows: [(&[&str], &str); 6] = [
-        (&["name", "FRED<20>"], ""),
-        (&["name", "--bytes", fred], ""),
-        (&["--help"], ""),
-        (&["--version"], ""),
-        (&["show"], "tick 1\ntick 2\n"),
-        (&["show"], "tick 1\ntick 2\nx\n"),
+    let rows: [(&[&str], &str, &str); 8] = [
+        (&["name", "FRED<20>"], "", fred),
+        (&["name", "--bytes", fred], "", "FRED<20>"),
+        (&["--help"], "", "NetBIOS packets"),
+        (&["--version"], "", "nbt 0.1.0"),
+        (&["show"], "tick 1\ntick 2\n", "1 tick 1\n"),
+        (&["show"], "tick 1\ntick 2\nx\n", "1 tick 1\n"),
+        (&["replay", "A<20>"], "tick 1\ntick 2\n", "1 dropped 0\n"),
+        (&["replay", "A<20>"], "tick 1\nx\n", "1 dropped 0\n"),
     ];
-    for (texts, capture) in rows {
+    for (texts, capture, front) in rows {
         for room in [0, 4, 7, 8] {
+            let taken = Vec::new(alloc);
             let mut input = capture.as_bytes();
-            let mut output = Failing { room };
+            let mut output = Failing { room, taken };
             let mut errors: Vec<u8> = Vec::new(alloc);
             expect_status(&rt, alloc, texts, (&mut input, &mut output, &mut errors), 3)?;
             assert_eq!(rt; errors.as_slice(), b"nbt: write\n".as_slice());
-            assert_eq!(rt; output.room, 0);
+            assert_eq!(rt; output.taken.len(), room);
+            assert!(rt; front.as_bytes().starts_with(output.taken.as_slice()));
         }
     }
     Ok(())
@@ -33,14 +37,20 @@ fn a_failing_output_is_reported(rt: HostRuntime) -> Result<(), Fail> {
 /// Faults have their status though no one is told of them.
 #[test]
 fn a_failing_standard_error_changes_nothing(rt: HostRuntime) -> Result<(), Fail> {
-    let rows: [(&[&str], u8); 2] = [(&["name", "FRED"], 1), (&["nonsense"], 2)];
-    for (texts, want) in rows {
+    let alloc = rt.alloc();
+    let rows: [(&[&str], u8, &[u8]); 2] = [
+        (&["name", "FRED"], 1, b"nbt"),
+        (&["nonsense"], 2, b"err"),
+    ];
+    for (texts, want, front) in rows {
         let mut input = b"".as_slice();
-        let mut output: Vec<u8> = Vec::new(rt.alloc());
-        let mut errors = Failing { room: 3 };
+        let taken = Vec::new(alloc);
+        let mut output: Vec<u8> = Vec::new(alloc);
+        let mut errors = Failing { room: 3, taken };
         let devices = (&mut input, &mut output, &mut errors);
-        expect_status(&rt, rt.alloc(), texts, devices, want)?;
+        expect_status(&rt, alloc, texts, devices, want)?;
         assert!(rt; output.is_empty());
+        assert_eq!(rt; errors.taken.as_slice(), front);
     }
     Ok(())
 }

@@ -1,5 +1,5 @@
-use Rattle.std.proofs.Common.{ap, ap₂, ◌≡◌, ◌∙◌, true, codes}
-use Rattle.clap.specs.Simple.{App, app_of, app_of_fields, with_subcommand, on_top, new_app}
+use Rattle.std.proofs.Common.{ap, ap₂, ◌≡◌, ◌∙◌, true}
+use Rattle.clap.specs.Simple.{App, app_of, app_of_fields, with_subcommand, on_top}
 use Rattle.nbt.specs.CommandLine.{top_app}
 use Rattle.nbt.proofs.command_line.command.Goals as goal
 
@@ -12,7 +12,13 @@ top_is c =
 
 pub returns : goal.returns
 returns c =
-    c.in_ok-subcommand.ensures.shape c.in_ok-save_command.ensures.local
+    c.in_ok-subcommand.ensures.shape c.agree_command.ensures.local
+    ∙ ap₂ with_subcommand
+    (c.in_ok-top-6.ensures.shape c.in_ok-merge_command.ensures.local
+    ∙ ap₂ with_subcommand
+    (c.in_ok-top-5.ensures.shape c.in_ok-save_command.ensures.local
+    ∙ ap₂ with_subcommand
+    (c.in_ok-top-4.ensures.shape c.in_ok-replay_command.ensures.local
     ∙ ap₂ with_subcommand
     (c.in_ok-top-3.ensures.shape c.in_ok-build_command.ensures.local
     ∙ ap₂ with_subcommand
@@ -22,4 +28,7 @@ returns c =
     ∙ ap₂ with_subcommand (top_is c) (ap (λ (a : App). a.top) c.in_ok-name_command.ensures.app))
     (ap (λ (a : App). a.top) c.show_command.ensures.app))
     (ap (λ (a : App). a.top) c.in_ok-build_command.ensures.app))
-    (ap (λ (a : App). a.top) c.in_ok-save_command.ensures.app)
+    (ap (λ (a : App). a.top) c.in_ok-replay_command.ensures.app))
+    (ap (λ (a : App). a.top) c.in_ok-save_command.ensures.app))
+    (ap (λ (a : App). a.top) c.in_ok-merge_command.ensures.app))
+    (ap (λ (a : App). a.top) c.agree_command.ensures.app)

@@ -1,4 +1,4 @@
-use Rattle.std.proofs.Common.{◌≡◌, ap₂, ◌∙◌}
+use Rattle.std.proofs.Common.{ap₂, ◌∙◌}
 use Rattle.clap.specs.Words.{takes}
 use Rattle.nbt.proofs.AloneWords.{alone_is_taken, no_usage_for_memory}
 use Rattle.nbt.proofs.program.run_words.Goals as goal

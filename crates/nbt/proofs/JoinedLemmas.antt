@@ -1,0 +1,117 @@
+-- What `nbt merge` and `nbt agree` have done once the tables of the whole input are read.
+use Rattle.std.proofs.Common.{◌≡◌, ◌≢◌, ◌≤◌, ◌<◌, ◌+◌, [], ◌∷◌, ℕ, List, length, take, get_or, slice_get, Option, Some, refl, sym, ◌∙◌, ap₂, subst, arith}
+use Rattle.std.specs.Io.KnownBytes.{Consumes, IsAtEnd}
+use Rattle.nb_table.specs.Contents.{Contents}
+use Rattle.nb_table.specs.Join.{join, joined_all, AreTaken}
+use Rattle.nb_table.specs.Limits.{TableValue}
+use Rattle.nb_table.specs.Merging.{Fits, IsRefused}
+use Rattle.nb_table.specs.declared.fault.TableFault.{TableFault}
+use Rattle.nbt.specs.declared.fault.Fault.{Fault}
+use Rattle.nbt.specs.declared.fault.Fault.TheVariants.{Memory, NoTables, TwoTablesWanted}
+use Rattle.nbt.specs.declared.status.Status.{Status}
+use Rattle.nbt.specs.Printing.{PrintsLine}
+use Rattle.nbt.specs.Saved.{saved_digits}
+use Rattle.nbt.specs.Tables.{AreTables, contents_of, fault_of_join, FailsOn, HasLines, IsElsewhere, JoinFails, MergeFails, MergesTables, CompareFails, Tells, ComparesTables}
+use Rattle.nbt.specs.Tables.{TablesFail, no_table, one_more, none, more, line_fails, no_line, not_joined, not_two, one_fails}
+
+-- one of the tables isn't joined to those before it, and this is told
+pub join_fails : (first : TableValue) (others : List TableValue) (index : ℕ) (why : TableFault) (fault : Fault)
+    → (other : TableValue) × (slice_get others index ≡ Some other)
+    × IsRefused first.limits (joined_all join first.contents (contents_of (take index others))) other.contents why
+    → fault ≡ fault_of_join why → JoinFails first others fault
+join_fails first others index why fault found told = record {
+  index = index;
+  other = found.0;
+  why = why;
+  stands = found.1;
+  refused = found.2;
+  told = told;
+}
+
+pub merges_tables : (IsKeys : ℕ → Type 0) (old_in new_in old_out new_out : Option (List ℕ)) (text read_text : List ℕ) (n : ℕ) (ts : List TableValue)
+    (first : TableValue) (others : List TableValue) (t : Contents) → read_text ≡ text → Consumes old_in new_in text → IsAtEnd new_in → length text ≤ 16777216 → IsKeys n → AreTables n read_text ts
+    → ts ≡ first ∷ others → AreTaken join (Fits first.limits) first.contents (contents_of others) → t ≡ joined_all join first.contents (contents_of others) → PrintsLine old_out new_out (saved_digits t)
+    → MergesTables IsKeys old_in new_in old_out new_out
+merges_tables IsKeys old_in new_in old_out new_out text read_text n ts first others t same read ended within given tables are taken joined printed = record {
+  text = text;
+  keys = n;
+  first = first;
+  others = others;
+  read = read;
+  ended = ended;
+  within = within;
+  given = given;
+  tables = subst (λ (bytes : List ℕ). AreTables n bytes (first ∷ others)) same (subst (λ (us : List TableValue). AreTables n read_text us) are tables);
+  taken = taken;
+  printed = subst (λ (u : Contents). PrintsLine old_out new_out (saved_digits u)) joined printed;
+}
+
+pub compares_tables : (old_in new_in old_out new_out : Option (List ℕ)) (text read_text : List ℕ) (ts : List TableValue) (first second : TableValue) (status : Status)
+    → read_text ≡ text → Consumes old_in new_in text → IsAtEnd new_in → length text ≤ 16777216 → AreTables 4294967295 read_text ts → ts ≡ first ∷ second ∷ []
+    → Tells first.contents second.contents status old_out new_out → ComparesTables old_in new_in old_out new_out status
+compares_tables old_in new_in old_out new_out text read_text ts first second status same read ended within tables are told = record {
+  text = text;
+  first = first;
+  second = second;
+  read = read;
+  ended = ended;
+  within = within;
+  tables = subst (λ (bytes : List ℕ). AreTables 4294967295 bytes (first ∷ second ∷ [])) same (subst (λ (us : List TableValue). AreTables 4294967295 read_text us) are tables);
+  told = told;
+}
+
+-- a list of two, by what it has at each place
+pub two_items : (ts : List TableValue) (first second : TableValue) → 2 ≤ length ts → length ts < 3 → first ≡ get_or ts 0 first → second ≡ get_or ts 1 second
+    → ts ≡ first ∷ second ∷ []
+two_items [] first second many few is_first is_second = absurd (omega (arith, many))
+two_items (t ∷ []) first second many few is_first is_second = absurd (omega (arith, many))
+two_items (t ∷ u ∷ []) first second many few is_first is_second = ap₂ (λ (x y : TableValue). x ∷ y ∷ []) (sym is_first) (sym is_second)
+two_items (t ∷ u ∷ v ∷ ts) first second many few is_first is_second = absurd (omega (arith, few))
+
+-- ---- faults
+
+not_memory : (fault : Fault) → ¬ IsElsewhere fault → fault ≢ Memory
+not_memory fault here is = here (subst (λ (f : Fault). IsElsewhere f) (sym is) tt)
+
+-- no tables stand in no line
+pub none_of_none : (keys : ℕ) (text : List ℕ) (ts : List TableValue) → AreTables keys text ts → length ts ≡ 0 → text ≡ []
+none_of_none keys _ _ no_table empty = refl
+none_of_none keys _ _ (one_more text line rest t ts first table later) empty = absurd (omega (arith, empty))
+
+-- there are as many lines as tables
+pub as_many : (keys : ℕ) (text : List ℕ) (ts : List TableValue) → AreTables keys text ts → HasLines text (length ts)
+as_many keys _ _ no_table = none
+as_many keys _ _ (one_more text line rest t ts first table later) =
+    let next : length (t ∷ ts) ≡ 1 + length ts = omega arith in
+    subst (λ (n : ℕ). HasLines text n) (sym next) (more text line rest (length ts) first (as_many keys rest ts later))
+
+pub merge_of_line : (IsKeys : ℕ → Type 0) (old_in new_in : Option (List ℕ)) (text read_text : List ℕ) (keys : ℕ) (fault : Fault) → read_text ≡ text
+    → Consumes old_in new_in text → IsAtEnd new_in → IsKeys keys → (fault ≢ Memory → TablesFail keys 1 read_text fault)
+    → FailsOn (MergeFails IsKeys) old_in new_in fault
+merge_of_line IsKeys old_in new_in text read_text keys fault same read ended given fails here =
+    (text, read, ended, line_fails keys given (subst (λ (bytes : List ℕ). TablesFail keys 1 bytes fault) same (fails (not_memory fault here))))
+
+pub merge_of_none : (IsKeys : ℕ → Type 0) (old_in new_in : Option (List ℕ)) (text read_text : List ℕ) (keys : ℕ) (ts : List TableValue) → read_text ≡ text
+    → Consumes old_in new_in text → IsAtEnd new_in → AreTables keys read_text ts → length ts ≡ 0
+    → FailsOn (MergeFails IsKeys) old_in new_in NoTables
+merge_of_none IsKeys old_in new_in text read_text keys ts same read ended tables empty here =
+    (text, read, ended, no_line (sym same ∙ none_of_none keys read_text ts tables empty) refl)
+
+pub merge_of_join : (IsKeys : ℕ → Type 0) (old_in new_in : Option (List ℕ)) (text read_text : List ℕ) (keys : ℕ) (ts : List TableValue)
+    (first : TableValue) (others : List TableValue) (fault : Fault) → read_text ≡ text → Consumes old_in new_in text → IsAtEnd new_in → IsKeys keys
+    → AreTables keys read_text ts → ts ≡ first ∷ others → JoinFails first others fault → FailsOn (MergeFails IsKeys) old_in new_in fault
+merge_of_join IsKeys old_in new_in text read_text keys ts first others fault same read ended given tables are fails here =
+    let parted = subst (λ (us : List TableValue). AreTables keys read_text us) are tables in
+    (text, read, ended, not_joined keys first others given (subst (λ (bytes : List ℕ). AreTables keys bytes (first ∷ others)) same parted) fails)
+
+pub compare_of_count : (old_in new_in : Option (List ℕ)) (text read_text : List ℕ) (n : ℕ) → read_text ≡ text → Consumes old_in new_in text → IsAtEnd new_in
+    → HasLines read_text n → n ≢ 2 → FailsOn CompareFails old_in new_in TwoTablesWanted
+compare_of_count old_in new_in text read_text n same read ended lines other here =
+    (text, read, ended, not_two n (subst (λ (bytes : List ℕ). HasLines bytes n) same lines) other refl)
+
+pub compare_of_line : (old_in new_in : Option (List ℕ)) (text count_text read_text : List ℕ) (n : ℕ) (fault : Fault) → count_text ≡ text → read_text ≡ text
+    → Consumes old_in new_in text → IsAtEnd new_in → HasLines count_text n → n ≡ 2 → (fault ≢ Memory → TablesFail 4294967295 1 read_text fault)
+    → FailsOn CompareFails old_in new_in fault
+compare_of_line old_in new_in text count_text read_text n fault counted same read ended lines two fails here =
+    let has = subst (λ (bytes : List ℕ). HasLines bytes n) counted lines in
+    (text, read, ended, one_fails (subst (λ (m : ℕ). HasLines text m) two has) (subst (λ (bytes : List ℕ). TablesFail 4294967295 1 bytes fault) same (fails (not_memory fault here))))

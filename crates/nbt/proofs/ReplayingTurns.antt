@@ -1,0 +1,124 @@
+-- What taking the names of words keeps from turn to turn, and how a replay ends.
+use Rattle.std.proofs.Common.{◌≡◌, ◌<◌, ◌+◌, ◌++◌, ◌∷◌, inl, ℕ, List, [], length, get_or, map, take, drop, Bor, Option, Result, Ok, Err, refl, sym, ap, subst, ◌∙◌}
+use Rattle.std.proofs.lemmas.List.{map-append, take_more, take-append-drop, drop_more}
+use Rattle.std.specs.FinMap as maps
+use Rattle.std.specs.Io.KnownBytes.{Consumes}
+use Rattle.nb_names.specs.Name.{NetbiosName}
+use Rattle.nb_member.specs.declared.event.Event.{Event}
+use Rattle.nb_member.specs.declared.replay_fault.ReplayFault.{ReplayFault}
+use Rattle.nb_member.specs.Live.{live}
+use Rattle.nb_member.specs.Member.{MemberValue, new_member}
+use Rattle.nb_member.specs.Replaying.{Replays}
+use Rattle.nb_member.specs.Running.{Stands}
+use Rattle.nb_member.specs.Saying.{none as none_said}
+use Rattle.nb_datagram.specs.Key.{key_cmp}
+use Rattle.nbt.specs.declared.fault.Fault.{Fault}
+use Rattle.nbt.specs.declared.fault.Fault.TheVariants.{Text, Arguments, TooManyNames, Line, Read, Write, Memory}
+use Rattle.nbt.specs.Replaying.{AddsEach, AddsName, EndsWith, IsNamesFault, IsRefusedName, IsReplay, ReplaysCapture, ReplaysIn, none, more}
+use Rattle.nbt.specs.Settings.{program_settings}
+
+-- ---- names
+
+-- the texts of the words
+abbrev pub texts_of : List (Bor (List ℕ)) → List (List ℕ)
+texts_of words = map (λ w. w.now) words
+
+pub no_names : (names : List NetbiosName) → names ≡ [] → AddsEach [] names
+no_names names is = subst (λ (held : List NetbiosName). AddsEach [] held) (sym is) none
+
+texts_more : (words : List (Bor (List ℕ))) (i : ℕ) (d : Bor (List ℕ)) → i < length words
+    → texts_of (take (i + 1) words) ≡ texts_of (take i words) ++ (get_or words i d).now ∷ []
+texts_more words i d lt = ap texts_of (take_more words i d lt) ∙ map-append (λ w. w.now) (take i words) (get_or words i d ∷ [])
+
+texts_parts : (words : List (Bor (List ℕ))) (i : ℕ) (d : Bor (List ℕ)) → i < length words
+    → texts_of words ≡ texts_of (take i words) ++ (get_or words i d).now ∷ texts_of (drop (i + 1) words)
+texts_parts words i d lt = ap texts_of (sym (take-append-drop i words) ∙ ap (λ l. take i words ++ l) (drop_more words i d lt))
+    ∙ map-append (λ w. w.now) (take i words) (get_or words i d ∷ drop (i + 1) words)
+
+-- a turn that took a word
+pub names_more : (words : List (Bor (List ℕ))) (i : ℕ) (d : Bor (List ℕ)) (old new : List NetbiosName) → i < length words
+    → AddsEach (texts_of (take i words)) old → AddsName old (get_or words i d).now new → AddsEach (texts_of (take (i + 1) words)) new
+names_more words i d old new lt before adds =
+    subst (λ (texts : List (List ℕ)). AddsEach texts new) (sym (texts_more words i d lt)) (more (texts_of (take i words)) (get_or words i d).now old new before adds)
+
+-- a word that is refused
+pub name_refused : (words : List (Bor (List ℕ))) (i : ℕ) (d : Bor (List ℕ)) (old : List NetbiosName) (fault : Fault) → i < length words
+    → AddsEach (texts_of (take i words)) old → IsRefusedName old (get_or words i d).now fault → IsNamesFault (texts_of words) fault
+name_refused words i d old fault lt before refused = record {
+  before = texts_of (take i words);
+  text = (get_or words i d).now;
+  after = texts_of (drop (i + 1) words);
+  parts = texts_parts words i d lt;
+  names = old;
+  added = before;
+  refused = refused;
+}
+
+-- ---- what a replay answers
+
+-- what holds of the replay's answer
+pub ends_as : (P : Result ℕ ReplayFault → Type 0) (replayed : Result ℕ ReplayFault) (result : Result Unit Fault) → P replayed
+    → EndsWith (λ answer. answer ≡ replayed) result → EndsWith P result
+ends_as P replayed (Ok done) p (n, is) = (n, subst P (sym is) p)
+ends_as P replayed (Err (Line n)) p is = subst P (sym is) p
+ends_as P replayed (Err Read) p is = subst P (sym is) p
+ends_as P replayed (Err Write) p is = subst P (sym is) p
+ends_as P replayed (Err Memory) p is = subst P (sym is) p
+ends_as P replayed (Err _) p is = absurd is
+
+pub replays_in : (m new : MemberValue) (old_in new_in old_out new_out : Option (List ℕ)) (bytes : List ℕ) (replayed : Result ℕ ReplayFault)
+    (result : Result Unit Fault) → Consumes old_in new_in bytes
+    → ((H : List Event) (s : Stands m H) → Replays m H (live m.settings s.sayings) bytes new_in new old_out new_out replayed)
+    → EndsWith (λ answer. answer ≡ replayed) result → EndsWith (ReplaysIn m old_in new_in old_out new_out) result
+replays_in m new old_in new_in old_out new_out bytes replayed result read replays ends =
+    ends_as (ReplaysIn m old_in new_in old_out new_out) replayed result (record { bytes = bytes; new = new; read = read; replays = replays }) ends
+
+ends_weaker : (P Q : Result ℕ ReplayFault → Type 0) (result : Result Unit Fault) → ((answer : Result ℕ ReplayFault) → P answer → Q answer)
+    → EndsWith P result → EndsWith Q result
+ends_weaker P Q (Ok done) step (n, p) = (n, step (Ok n) p)
+ends_weaker P Q (Err (Line n)) step p = step _ p
+ends_weaker P Q (Err Read) step p = step _ p
+ends_weaker P Q (Err Write) step p = step _ p
+ends_weaker P Q (Err Memory) step p = step _ p
+ends_weaker P Q (Err _) step p = absurd p
+
+-- a replay that was begun answers as it ends
+is_replay : (P : Result ℕ ReplayFault → Type 0) (AreWords : List (List ℕ) → Type 0) (old_in new_in old_out new_out : Option (List ℕ)) (result : Result Unit Fault)
+    → EndsWith P result → IsReplay P AreWords old_in new_in old_out new_out result
+is_replay P AreWords old_in new_in old_out new_out (Err (Text fault)) ends = absurd ends
+is_replay P AreWords old_in new_in old_out new_out (Err TooManyNames) ends = absurd ends
+is_replay P AreWords old_in new_in old_out new_out (Err Arguments) ends = absurd ends
+is_replay P AreWords old_in new_in old_out new_out (Err Memory) ends = inl ends
+is_replay P AreWords old_in new_in old_out new_out result ends = ends
+
+-- what a new member replayed
+of_new : (IsKeys : ℕ → Type 0) (AreWords : List (List ℕ) → Type 0) (old_in new_in old_out new_out : Option (List ℕ)) (n : ℕ)
+    (words : List (List ℕ)) (names : List NetbiosName) → IsKeys n → AreWords words → AddsEach words names → (answer : Result ℕ ReplayFault)
+    → ReplaysIn (new_member (program_settings n) names) old_in new_in old_out new_out answer
+    → ReplaysCapture IsKeys AreWords old_in new_in old_out new_out answer
+of_new IsKeys AreWords old_in new_in old_out new_out n words names given said named answer r = record {
+  keys = n;
+  given = given;
+  words = words;
+  said = said;
+  names = names;
+  named = named;
+  bytes = r.bytes;
+  new = r.new;
+  read = r.read;
+  replays = r.replays [] (record {
+    sayings = [];
+    said = none_said;
+    over = record { table_is = refl; limits_are = refl; moments_are = λ k. maps.get-empty key_cmp k };
+  });
+}
+
+pub replays_capture : (IsKeys : ℕ → Type 0) (AreWords : List (List ℕ) → Type 0) (old_in new_in old_out new_out : Option (List ℕ)) (n : ℕ)
+    (words : List (List ℕ)) (names : List NetbiosName) (m : MemberValue) (result : Result Unit Fault) → IsKeys n → AreWords words
+    → AddsEach words names → m ≡ new_member (program_settings n) names → EndsWith (ReplaysIn m old_in new_in old_out new_out) result
+    → IsReplay (ReplaysCapture IsKeys AreWords old_in new_in old_out new_out) AreWords old_in new_in old_out new_out result
+replays_capture IsKeys AreWords old_in new_in old_out new_out n words names m result given said named is ends =
+    is_replay (ReplaysCapture IsKeys AreWords old_in new_in old_out new_out) AreWords old_in new_in old_out new_out result
+    (ends_weaker (ReplaysIn m old_in new_in old_out new_out) (ReplaysCapture IsKeys AreWords old_in new_in old_out new_out) result (λ answer r.
+    of_new IsKeys AreWords old_in new_in old_out new_out n words names given said named answer
+    (subst (λ (first : MemberValue). ReplaysIn first old_in new_in old_out new_out answer) is r)) ends)

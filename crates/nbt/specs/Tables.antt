@@ -1,0 +1,153 @@
+-- The tables that `nbt merge` and `nbt agree` read: a line for each, which is the saved table in hexadecimal
+-- (our choice). Lines are numbered from 1.
+use Rattle.std.specs.Prelude.{◌≡◌, ◌≢◌, ◌⊎◌, ◌+◌, ◌<◌, ◌≤◌, ℕ, List, [], ◌∷◌, ◌++◌, length, map, take, slice_get, Option, Some, codes, Ok, IsErr}
+use Rattle.std.specs.Io.KnownBytes.{Consumes, IsAtEnd}
+use Rattle.hex.specs.Hex.{decode_of}
+use Rattle.nb_table.specs.declared.fault.TableFault.{TableFault}
+use Rattle.nb_table.specs.declared.fault.TableFault.TheVariants as tables
+use Rattle.nb_table.specs.declared.load_fault.LoadFault.TheVariants as loads
+use Rattle.nb_table.specs.Contents.{Contents}
+use Rattle.nb_table.specs.Join.{join, joined_all, AreTaken}
+use Rattle.nb_table.specs.Limits.{KeepsLimits, Limits, TableValue}
+use Rattle.nb_table.specs.LoadFaults.{IsReadAs, LoadFails}
+use Rattle.nb_table.specs.Merging.{Fits, IsRefused}
+use Rattle.nbt.specs.declared.fault.Fault.{Fault}
+use Rattle.nbt.specs.declared.fault.Fault.TheVariants.{TooLong, Line, Full, Load, NoTables, TwoTablesWanted, Read, Write, Memory}
+use Rattle.nbt.specs.declared.status.Status.{Status}
+use Rattle.nbt.specs.declared.status.Status.TheVariants.{Done, Refused}
+use Rattle.nbt.specs.Printing.{PrintsLine}
+use Rattle.nbt.specs.Saved.{saved_digits}
+use Rattle.nbt.specs.Saving.{IsLine}
+
+-- what a table may hold that is read: so many keys, and datagrams of at most 65,535 bytes
+abbrev pub reading : ℕ → Limits
+reading keys = record { keys = keys; longest = 65535 }
+
+-- ---- lines
+
+-- IsTableLine keys line t: the line isn't empty, and is bytes in hexadecimal of either case, in which the
+-- table t stands; t may hold so many keys, and keeps to that
+pub record IsTableLine (keys : ℕ) (line : List ℕ) (t : TableValue) : Type 0 where
+  pub bytes : List ℕ
+  pub not_empty : 0 < length line
+  pub digits : decode_of line ≡ Ok bytes
+  pub stands : IsReadAs bytes t.contents
+  pub limits : t.limits ≡ reading keys
+  pub keeps : KeepsLimits t
+
+-- IsTableFault keys number line fault: why line `number` is no table: it is empty or no hexadecimal, or its
+-- bytes aren't loaded, for another reason than want of memory
+abbrev pub IsTableFault : ℕ → ℕ → List ℕ → Fault → Type 0
+IsTableFault keys number line (Line n) = (n ≡ number) × ((line ≡ []) ⊎ IsErr (decode_of line))
+IsTableFault keys number line (Load fault) =
+    (0 < length line) × (fault ≢ loads.NoMemory) × (bytes : List ℕ) × (decode_of line ≡ Ok bytes) × LoadFails bytes (reading keys) fault
+IsTableFault keys number line Memory = Unit {0}
+IsTableFault keys number line _ = ⊥
+
+-- IsFirstLine text line rest: the line stands first in the text, and the rest behind its line feed, 10, which
+-- the last line may lack where it isn't empty
+pub record IsFirstLine (text line rest : List ℕ) : Type 0 where
+  pub is_line : IsLine line
+  pub parts : (text ≡ line ++ 10 ∷ rest) ⊎ ((text ≡ line) × (rest ≡ []) × (0 < length line))
+
+-- HasLines text n: the text has so many lines
+pub data HasLines : List ℕ → ℕ → Type 0 where
+  none : HasLines [] 0
+  more : (text line rest : List ℕ) (n : ℕ) → IsFirstLine text line rest → HasLines rest n → HasLines text (1 + n)
+
+-- AreTables keys text ts: the lines of the text are the tables, in order
+pub data AreTables (keys : ℕ) : List ℕ → List TableValue → Type 0 where
+  no_table : AreTables keys [] []
+  one_more : (text line rest : List ℕ) (t : TableValue) (ts : List TableValue) → IsFirstLine text line rest
+      → IsTableLine keys line t → AreTables keys rest ts → AreTables keys text (t ∷ ts)
+
+-- TablesFail keys number text fault: of the lines of the text, which are numbered from `number` on, this is
+-- why the first that is no table isn't
+pub data TablesFail (keys : ℕ) : ℕ → List ℕ → Fault → Type 0 where
+  here : (number : ℕ) (text line rest : List ℕ) (fault : Fault) → IsFirstLine text line rest
+      → IsTableFault keys number line fault → TablesFail keys number text fault
+  behind : (number : ℕ) (text line rest : List ℕ) (t : TableValue) (fault : Fault) → IsFirstLine text line rest
+      → IsTableLine keys line t → TablesFail keys (1 + number) rest fault → TablesFail keys number text fault
+
+-- ---- what is made of the tables
+
+-- the contents of these tables
+abbrev pub contents_of : List TableValue → List Contents
+contents_of ts = map (λ t. t.contents) ts
+
+-- what is told of a table that can't be joined to those before it
+abbrev pub fault_of_join : TableFault → Fault
+fault_of_join tables.MisplacedFirst = TooLong
+fault_of_join tables.TooLong = TooLong
+fault_of_join (tables.Full key) = Full
+fault_of_join tables.NoMemory = Memory
+
+-- JoinFails first others fault: why one of the others can't be joined to the first with those before it
+pub record JoinFails (first : TableValue) (others : List TableValue) (fault : Fault) : Type 0 where
+  pub index : ℕ
+  pub other : TableValue
+  pub why : TableFault
+  pub stands : slice_get others index ≡ Some other
+  pub refused : IsRefused first.limits (joined_all join first.contents (contents_of (take index others))) other.contents why
+  pub told : fault ≡ fault_of_join why
+
+-- the fault is one of a device or of memory, and not of what stands in the input
+abbrev pub IsElsewhere : Fault → Type 0
+IsElsewhere Read = Unit {0}
+IsElsewhere Write = Unit {0}
+IsElsewhere Memory = Unit {0}
+IsElsewhere _ = ⊥
+
+-- FailsOn Fails old_in new_in fault: the whole input was read, and this is a fault of it; nothing is said of
+-- faults that lie elsewhere
+abbrev pub FailsOn : (List ℕ → Fault → Type 0) → Option (List ℕ) → Option (List ℕ) → Fault → Type 0
+FailsOn Fails old_in new_in fault =
+    ¬ IsElsewhere fault → (text : List ℕ) × Consumes old_in new_in text × IsAtEnd new_in × Fails text fault
+
+-- MergeFails IsKeys text fault: why the lines of the text aren't merged: the first that is no table, there is
+-- none, or their tables can't be joined
+pub data MergeFails (IsKeys : ℕ → Type 0) (text : List ℕ) (fault : Fault) : Type 0 where
+  line_fails : (keys : ℕ) → IsKeys keys → TablesFail keys 1 text fault → MergeFails IsKeys text fault
+  no_line : text ≡ [] → fault ≡ NoTables → MergeFails IsKeys text fault
+  not_joined : (keys : ℕ) (first : TableValue) (others : List TableValue) → IsKeys keys
+      → AreTables keys text (first ∷ others) → JoinFails first others fault → MergeFails IsKeys text fault
+
+-- MergesTables IsKeys old_in new_in old_out new_out: the whole input was read, its lines are tables, at least
+-- one, each is taken into those before it, and their join was printed
+pub record MergesTables (IsKeys : ℕ → Type 0) (old_in new_in old_out new_out : Option (List ℕ)) : Type 0 where
+  pub text : List ℕ
+  pub keys : ℕ
+  pub first : TableValue
+  pub others : List TableValue
+  pub read : Consumes old_in new_in text
+  pub ended : IsAtEnd new_in
+  pub within : length text ≤ 16777216
+  pub given : IsKeys keys
+  pub tables : AreTables keys text (first ∷ others)
+  pub taken : AreTaken join (Fits first.limits) first.contents (contents_of others)
+  pub printed : PrintsLine old_out new_out (saved_digits (joined_all join first.contents (contents_of others)))
+
+-- CompareFails text fault: why the lines of the text aren't compared: they aren't two, or the first that is
+-- no table
+pub data CompareFails (text : List ℕ) (fault : Fault) : Type 0 where
+  not_two : (n : ℕ) → HasLines text n → n ≢ 2 → fault ≡ TwoTablesWanted → CompareFails text fault
+  one_fails : HasLines text 2 → TablesFail 4294967295 1 text fault → CompareFails text fault
+
+-- Tells t u status old new: whether the tables are equal is printed, and the status is that of refused input
+-- where they aren't
+abbrev pub Tells : Contents → Contents → Status → Option (List ℕ) → Option (List ℕ) → Type 0
+Tells t u status old new =
+    ((t ≡ u) × (status ≡ Done) × PrintsLine old new (codes "equal"))
+    ⊎ ((t ≢ u) × (status ≡ Refused) × PrintsLine old new (codes "different"))
+
+-- ComparesTables old_in new_in old_out new_out status: the whole input was read, its lines are two tables, and
+-- whether these are equal is told
+pub record ComparesTables (old_in new_in old_out new_out : Option (List ℕ)) (status : Status) : Type 0 where
+  pub text : List ℕ
+  pub first : TableValue
+  pub second : TableValue
+  pub read : Consumes old_in new_in text
+  pub ended : IsAtEnd new_in
+  pub within : length text ≤ 16777216
+  pub tables : AreTables 4294967295 text (first ∷ second ∷ [])
+  pub told : Tells first.contents second.contents status old_out new_out

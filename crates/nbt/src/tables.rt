@@ -1,0 +1,119 @@
+//! The tables that an input has: a line for each, saved, in hexadecimal.
+ghost use Rattle.std.specs.Prelude.{◌≡◌, ◌≢◌, ◌<◌, ◌≤◌, [], length, IfOk, IfErr, IfSome, IfNone};
+ghost use Rattle.std.specs.Io.KnownBytes.{Consumes, IsAtEnd};
+ghost use Rattle.nbt.specs.Input.{WasCut};
+ghost use Rattle.nbt.specs.Tables.{AreTables, HasLines, IsElsewhere, IsFirstLine, IsTableFault, IsTableLine, TablesFail};
+
+use crate::fault::Fault;
+use crate::input::read_input;
+use crate::lines::next_line;
+use hex::FromHexError;
+use nb_names::Counted;
+use nb_table::{LoadFault, Table, load};
+use std::alloc::Global;
+use std::io::Read;
+
+/// The most bytes of a datagram.
+const LONGEST: u16 = 65_535;
+
+/// The whole input.
+///
+/// # Errors
+///
+/// [`Fault::Read`] where it couldn't be read to its end, or has more bytes than an input may have;
+/// [`Fault::Memory`] where memory ran out.
+pub fn whole_input<R: Read>(alloc: Global, input: &mut Counted<R>) -> Result<Vec<u8>, Fault>
+    ensures read { IfOk result (λ bytes. Consumes (R.remaining input.old.inner)
+        (R.remaining input.new.inner) bytes.items) }
+    ensures ended { IfOk result (λ _. IsAtEnd (R.remaining input.new.inner)) }
+    ensures within { IfOk result (λ bytes. length bytes.items ≤ 16777216) }
+    ensures elsewhere { IfErr result IsElsewhere }
+    ensures fault { IfErr result (λ fault. fault ≢ Fault.Write) }
+    ensures cut { IfErr result (λ fault. fault ≡ Fault.Read →
+        WasCut (R.remaining input.old.inner) (R.remaining input.new.inner)
+        input.old.counts input.new.counts) }
+{
+    let input = read_input(alloc, input)?;
+    if input.is_whole {
+        Ok(input.bytes)
+    } else {
+        Err(Fault::Read)
+    }
+}
+
+/// How many lines a text has; the last may lack its line feed.
+pub fn count_lines(text: &[u8]) -> usize
+    ensures { HasLines text.now result }
+{
+    let mut rest = text;
+    let mut count = 0;
+    while let Some((_, after)) = split_line(rest) {
+        count += 1;
+        rest = after;
+    }
+    count
+}
+
+/// The tables that the lines of a text are, in order; each may hold so many keys.
+///
+/// # Errors
+///
+/// The first that is met, line by line: [`Fault::Line`] for a line that is empty or no hexadecimal,
+/// [`Fault::Load`] for one that is no saved table, or one over the limits; [`Fault::Memory`] where
+/// memory ran out.
+pub fn tables_of(alloc: Global, text: &[u8], keys: u32) -> Result<Vec<Table>, Fault>
+    ensures found { IfOk result (λ tables. AreTables keys text.now tables.items) }
+    ensures fault { IfErr result (λ fault. fault ≢ Fault.Memory →
+        TablesFail keys 1 text.now fault) }
+    ensures no_read { IfErr result (λ fault. fault ≢ Fault.Read) }
+    ensures no_write { IfErr result (λ fault. fault ≢ Fault.Write) }
+{
+    let mut tables = Vec::new(alloc);
+    let mut rest = text;
+    let mut number = 0;
+    while let Some((line, after)) = split_line(rest) {
+        number += 1;
+        let table = table_of(alloc, number, line, keys)?;
+        tables.push(table)?;
+        rest = after;
+    }
+    Ok(tables)
+}
+
+/// The first line, without its line feed, and what follows it; `None` where there is no line. The
+/// last one may lack its line feed.
+fn split_line(text: &[u8]) -> Option<(&[u8], &[u8])>
+    ensures found { IfSome result (λ parts. IsFirstLine text.now parts.0.now parts.1.now) }
+    ensures shorter { IfSome result (λ parts. length parts.1.now < length text.now) }
+    ensures none { IfNone result (text.now ≡ []) }
+{
+    if text.is_empty() {
+        return None;
+    }
+    match next_line(text) {
+        Some(parts) => Some(parts),
+        None => Some((text, &[])),
+    }
+}
+
+/// The table that line `number` is.
+fn table_of(alloc: Global, number: usize, line: &[u8], keys: u32) -> Result<Table, Fault>
+    ensures found { IfOk result (λ table. IsTableLine keys line.now table) }
+    ensures fault { IfErr result (IsTableFault keys number line.now) }
+    ensures no_read { IfErr result (λ fault. fault ≢ Fault.Read) }
+    ensures no_write { IfErr result (λ fault. fault ≢ Fault.Write) }
+{
+    if line.is_empty() {
+        return Err(Fault::Line(number));
+    }
+    let bytes = match hex::decode(alloc, line) {
+        Ok(bytes) => bytes,
+        Err(FromHexError::OutOfMemory) => return Err(Fault::Memory),
+        Err(_) => return Err(Fault::Line(number)),
+    };
+    match load(alloc, bytes.as_slice(), keys, LONGEST) {
+        Ok(table) => Ok(table),
+        Err(LoadFault::NoMemory) => Err(Fault::Memory),
+        Err(fault) => Err(Fault::Load(fault)),
+    }
+}

@@ -1,13 +1,18 @@
 # Shorter names for the commands of the README. Nothing is built here that they don't build.
 
-NAME = FRED<20>.NETBIOS.COM
+NAMES = 'FRED<20>'
+CAPTURE = examples/capture.txt
 PREFIX ?= /usr/local
 
-.PHONY: run check test install
+.PHONY: run build check test bench install
 
-# Prove and build the program, and print the spelling of a name.
-run:
-	cd crates/nbt && rt run -- name '$(NAME)'
+# Prove and build the program, and replay a capture in a station with these names.
+run: build
+	crates/nbt/out/nbt replay $(NAMES) <$(CAPTURE)
+
+# Prove and build the program: crates/nbt/out/nbt. It spells a name once.
+build:
+	cd crates/nbt && rt run
 
 # Prove every crate, over what earlier runs kept.
 check:
@@ -18,6 +23,10 @@ test:
 	rt ci
 	tests/program.sh
 
-# Put the program that `make run` has built below PREFIX.
-install: run
+# Build the program, and print how many packets a second it takes.
+bench: build
+	tests/bench.sh
+
+# Build the program, and put it below PREFIX.
+install: build
 	install -D -m 755 crates/nbt/out/nbt '$(DESTDIR)$(PREFIX)/bin/nbt'

@@ -1,6 +1,6 @@
 #!/usr/bin/env bash
-# The built program as a process of its own: exit statuses, words, streams that are closed or full, and each request for
-# memory refused in turn. Usage: tests/program.sh [PROGRAM]; its last line is 'N passed, M failed'.
+# The built program as a process of its own: exit statuses, words, streams that are closed or full, how often it writes,
+# and each request for memory refused in turn. Usage: tests/program.sh [PROGRAM]; its last line is 'N passed, M failed'.
 set -uo pipefail
 here=$(cd "$(dirname "$0")" && pwd)
 program=${1:-$here/../crates/nbt/out/nbt}
@@ -66,12 +66,13 @@ is_front() {
 fred=20454746434546454543414341434143414341434143414341434143414341434100
 joe=20454b45504546434143414341434143414341434143414341434143414341414100
 scoped=204547464345464545434143414341434143414341434143414341434143414341074e455442494f5303434f4d00
+empty=110200010a000005008a00440000$joe$fred
 wildcard=20434b41414141414141414141414141414141414141414141414141414141414100
 
 # The cases of tests/cases: after `$ COMMAND` stand the lines of its standard output, those of its standard error behind
 # `! `, and `? STATUS` where that isn't 0. `...` stands for text that isn't empty, {FRED} and the like for spellings.
 mkdir "$room/bin" && ln -s "$(realpath "$program")" "$room/bin/nbt"
-spelled() { sed "s/{FRED}/$fred/g; s/{JOE}/$joe/g; s/{SCOPED}/$scoped/g; s/{WILDCARD}/$wildcard/g" "$1"; }
+spelled() { sed "s/{FRED}/$fred/g; s/{JOE}/$joe/g; s/{SCOPED}/$scoped/g; s/{WILDCARD}/$wildcard/g; s/{EMPTY}/$empty/g" "$1"; }
 for cases in "$here"/cases/*.txt; do
     command='' told=''
     while IFS= read -r line; do
@@ -87,11 +88,12 @@ for cases in "$here"/cases/*.txt; do
     sample "$command" "$told"
 done
 
-# The console samples of README.md: each command prints the lines after it.
+# The console samples of README.md: each command prints the lines after it. Their files go into a folder of their own.
+mkdir "$room/samples"
 samples() { awk '/^```$/ { shown = 0 } shown; /^```console$/ { shown = 1 }' "$here/../README.md"; }
 samples | sed -n 's/^\$ //p' | while read -r command; do
     echo "\$ $command"
-    PATH=$room/bin:$PATH bash -c "$command" </dev/null
+    (cd "$room/samples" && PATH=$room/bin:$PATH bash -c "$command" </dev/null)
 done >"$room/output" 2>&1
 samples | cmp -s - "$room/output"
 count $? 'the console samples of README.md'
@@ -100,7 +102,7 @@ count $? 'the console samples of README.md'
 "$program" show <&- >"$room/output" 2>"$room/errors"
 [ $? -eq 3 ] && holds "$room/output" '' && holds "$room/errors" $'nbt: read\n'
 count $? 'nbt show, standard input closed'
-for command in show save; do
+for command in show save "replay FRED<20>" merge agree; do
     "$program" $command <"$room" >"$room/output" 2>"$room/errors"
     [ $? -eq 3 ] && holds "$room/output" '' && holds "$room/errors" $'nbt: read\n'
     count $? "nbt $command, a folder as standard input"
@@ -122,6 +124,14 @@ count $? 'nbt show, standard output full, a malformed line behind it'
 "$program" save </dev/null >/dev/full 2>"$room/errors"
 [ $? -eq 3 ] && holds "$room/errors" $'nbt: write\n'
 count $? 'nbt save, standard output full'
+"$program" replay 'FRED<20>' <"$room/input" >/dev/full 2>"$room/errors"
+[ $? -eq 3 ] && holds "$room/errors" $'nbt: write\n'
+count $? 'nbt replay, standard output full, a malformed line behind it'
+for words in merge agree; do
+    printf '%s\n' 4e42543100000000 4e42543100000000 | "$program" $words >/dev/full 2>"$room/errors"
+    [ $? -eq 3 ] && holds "$room/errors" $'nbt: write\n'
+    count $? "nbt $words, standard output full"
+done
 "$program" name FRED >"$room/output" 2>/dev/full
 [ $? -eq 1 ] && holds "$room/output" ''
 count $? 'nbt name FRED, standard error full'
@@ -136,6 +146,21 @@ for words in 'name FRED<20>' 'build keepalive'; do
     holds "$room/left" left
     count $? "nbt $words leaves its input unread"
 done
+
+# A long report is written in large pieces.
+seq 100000 | sed 's/.*/tick 1/' >"$room/input"
+if ${CC:-cc} -shared -fPIC -O1 -o "$room/count.so" "$here/count_writes.c" -ldl; then
+    for words in show 'replay A<20>'; do
+        NBT_WRITES=$room/writes LD_PRELOAD=$room/count.so "$program" $words <"$room/input" >"$room/output"
+        [ $? -eq 0 ] && [ "$(wc -l <"$room/output")" -eq 100000 ]
+        count $? "nbt $words, 100,000 lines"
+        writes=$(cat "$room/writes")
+        [ "$writes" -ge 10 ] && [ "$writes" -lt 1000 ]
+        count $? "nbt $words, 100,000 lines in $writes writes"
+    done
+else
+    count 1 'tests/count_writes.c: no C compiler'
+fi
 
 # Each request for memory refused.
 input=/dev/null
@@ -155,6 +180,12 @@ if ${CC:-cc} -shared -fPIC -O1 -o "$room/refuse.so" "$here/refuse_memory.c" -ldl
     { "$program" build group 10.0.0.5:138/0001 'JOE<00>' 'FRED<20>' 000102030405 2 && echo tick 1; } >"$room/input"
     remembers save
     remembers save --keys 0
+    remembers replay 'FRED<20>' 'JOE<00>'
+    remembers replay FRED
+    "$program" save <"$room/input" | sed p >"$room/tables"
+    input=$room/tables
+    remembers merge
+    remembers agree
 else
     count 1 'tests/refuse_memory.c: no C compiler'
 fi

@@ -127,6 +127,12 @@ count $? 'nbt save, standard output full'
 "$program" replay 'FRED<20>' <"$room/input" >/dev/full 2>"$room/errors"
 [ $? -eq 3 ] && holds "$room/errors" $'nbt: write\n'
 count $? 'nbt replay, standard output full, a malformed line behind it'
+seq 5000 | sed 's/.*/tick 1/' >"$room/input"
+for words in show 'replay A<20>'; do
+    "$program" $words <"$room/input" >/dev/full 2>"$room/errors"
+    [ $? -eq 3 ] && holds "$room/errors" $'nbt: write\n'
+    count $? "nbt $words, standard output full before the end"
+done
 for words in merge agree; do
     printf '%s\n' 4e42543100000000 4e42543100000000 | "$program" $words >/dev/full 2>"$room/errors"
     [ $? -eq 3 ] && holds "$room/errors" $'nbt: write\n'

@@ -1,4 +1,4 @@
-# Shorter names for the commands of the README. Nothing is built here that they don't build.
+# The commands of the README and of CONTRIBUTING.md.
 
 NAMES = 'FRED<20>'
 CAPTURE = examples/capture.txt
@@ -10,7 +10,7 @@ PREFIX ?= /usr/local
 run: build
 	crates/nbt/out/nbt replay $(NAMES) <$(CAPTURE)
 
-# Prove and build the program: crates/nbt/out/nbt. It spells a name once.
+# Prove and build the program: crates/nbt/out/nbt. `rt run` also runs it once, with the words of crates/nbt/args.
 build:
 	cd crates/nbt && rt run
 

@@ -10,9 +10,9 @@ PREFIX ?= /usr/local
 run: build
 	crates/nbt/out/nbt replay $(NAMES) <$(CAPTURE)
 
-# Prove and build the program: crates/nbt/out/nbt. `rt run` also runs it once, with the words of crates/nbt/args.
+# Prove and build the program, crates/nbt/out/nbt, and print its version.
 build:
-	cd crates/nbt && rt run
+	cd crates/nbt && rt run -- --version
 
 # Prove every crate, over what earlier runs kept.
 check:

@@ -1,0 +1,133 @@
+//! What stands in braces in a line: words for bytes, and the number of a repeated line.
+//!
+//! `let NAME = BYTES` defines a word, and `{NAME}` in a later line is its digits. `{NAME@48=c0}`
+//! has another byte at place 48, and `{NAME:81}` the first 81 bytes alone; changes may follow one
+//! another, the length comes last. In a line repeated for each n, `{n}` is the number itself, and
+//! `{72-n}` and `{4+n}` are numbers made of it; places and lengths may be such numbers too.
+
+use crate::byte_text::bytes_of;
+use crate::fault::ExampleFault;
+use std::alloc::{AllocError, Global};
+
+/// What lines have defined, the latest last.
+#[derive(Drop)]
+pub struct Vocabulary {
+    words: Vec<(String, Vec<u8>)>,
+}
+
+impl Vocabulary {
+    /// No words.
+    pub fn new(alloc: Global) -> Vocabulary {
+        Vocabulary {
+            words: Vec::new(alloc),
+        }
+    }
+
+    /// Takes in a definition, `NAME = BYTES`.
+    pub fn define(&mut self, alloc: Global, text: &str) -> Result<(), ExampleFault> {
+        let (name, word) = text.split_once(" = ").ok_or(ExampleFault::NoExample)?;
+        let digits = self.expanded(alloc, word, None)?;
+        let bytes = bytes_of(alloc, digits.as_str())?;
+        self.words.push((String::from_str(alloc, name)?, bytes))?;
+        Ok(())
+    }
+
+    /// A text with what stands in braces in it expanded.
+    ///
+    /// # Errors
+    ///
+    /// [`ExampleFault::BadWords`] where a word isn't defined, or a change of it isn't possible.
+    pub fn expanded(
+        &self,
+        alloc: Global,
+        text: &str,
+        n: Option<u64>,
+    ) -> Result<String, ExampleFault> {
+        let mut parts = text.split("{");
+        let mut whole = String::from_str(alloc, parts.next().unwrap_or(""))?;
+        for part in parts {
+            let (inside, after) = part.split_once("}").ok_or(ExampleFault::BadWords)?;
+            match number(inside, n) {
+                Ok(number) => write!(whole, "{number}")?,
+                Err(_) => self.push_word(alloc, &mut whole, inside, n)?,
+            }
+            whole.push_str(after)?;
+        }
+        Ok(whole)
+    }
+
+    /// Writes the digits of a word with its changes.
+    fn push_word(
+        &self,
+        alloc: Global,
+        whole: &mut String,
+        text: &str,
+        n: Option<u64>,
+    ) -> Result<(), ExampleFault> {
+        let (changed, length) = text.split_once(":").unwrap_or((text, ""));
+        let mut parts = changed.split("@");
+        let name = parts.next().unwrap_or("");
+        let mut bytes = Vec::from_slice(alloc, self.bytes(name)?)?;
+        for change in parts {
+            let (place, digits) = change.split_once("=").ok_or(ExampleFault::BadWords)?;
+            let place = size(number(place, n)?)?;
+            let byte = bytes.get_mut(place).ok_or(ExampleFault::BadWords)?;
+            *byte = u8::from_str_radix(digits, 16).map_err(|_| ExampleFault::BadWords)?;
+        }
+        if !length.is_empty() {
+            bytes.truncate(size(number(length, n)?)?);
+        }
+        Ok(push_digits(whole, bytes.as_slice())?)
+    }
+
+    /// The bytes of a word.
+    fn bytes(&self, name: &str) -> Result<&[u8], ExampleFault> {
+        for (word, bytes) in self.words.iter().rev() {
+            if word.as_str() == name {
+                return Ok(bytes.as_slice());
+            }
+        }
+        Err(ExampleFault::BadWords)
+    }
+}
+
+/// A number as it stands in braces.
+fn number(text: &str, n: Option<u64>) -> Result<u64, ExampleFault> {
+    let made = match (n, text) {
+        (Some(n), "n") => Some(n),
+        (Some(n), _) => from_n(text, n),
+        (None, _) => None,
+    };
+    match made {
+        Some(number) => Ok(number),
+        None => text.parse().map_err(|_| ExampleFault::BadWords),
+    }
+}
+
+/// A number that is made of n.
+fn from_n(text: &str, n: u64) -> Option<u64> {
+    if let Some(whole) = text.strip_suffix("-n") {
+        return whole
+            .parse()
+            .ok()
+            .and_then(|whole: u64| whole.checked_sub(n));
+    }
+    let part = text.strip_suffix("+n")?;
+    part.parse().ok().and_then(|part: u64| part.checked_add(n))
+}
+
+/// A length or a place.
+fn size(number: u64) -> Result<usize, ExampleFault> {
+    usize::try_from(number).map_err(|_| ExampleFault::BadWords)
+}
+
+/// Writes bytes in hexadecimal, or that there are none.
+fn push_digits(whole: &mut String, bytes: &[u8]) -> Result<(), AllocError> {
+    if bytes.is_empty() {
+        return whole.push_str("empty");
+    }
+    for byte in bytes {
+        write!(whole, "{byte:02x}")?;
+    }
+    Ok(())
+}

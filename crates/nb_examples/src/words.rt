@@ -1,0 +1,137 @@
+//! The words of an example, taken from the left.
+
+use crate::byte_text::bytes_of;
+use crate::devices::Conduct;
+use crate::fault::ExampleFault;
+use nb_datagram::Key;
+use nb_names::{Name, name_from_text};
+use std::alloc::Global;
+
+/// Words with one space between them.
+#[derive(Drop)]
+pub struct Words<'a> {
+    rest: &'a str,
+}
+
+impl<'a> Words<'a> {
+    /// The words of a text.
+    pub fn new(text: &'a str) -> Words<'a> {
+        Words { rest: text }
+    }
+
+    /// Whether all words have been taken.
+    pub fn is_empty(&self) -> bool {
+        self.rest.is_empty()
+    }
+
+    /// All that is left, which may have spaces.
+    pub fn rest(&mut self) -> &'a str {
+        let text = self.rest;
+        self.rest = "";
+        text
+    }
+
+    /// The next word.
+    ///
+    /// # Errors
+    ///
+    /// [`ExampleFault::BadWords`] where there is none, or two spaces stand together.
+    pub fn word(&mut self) -> Result<&'a str, ExampleFault> {
+        let (word, rest) = self.rest.split_once(" ").unwrap_or((self.rest, ""));
+        self.rest = rest;
+        if word.is_empty() {
+            return Err(ExampleFault::BadWords);
+        }
+        Ok(word)
+    }
+
+    /// The next word, as the bytes that it stands for.
+    pub fn bytes(&mut self, alloc: Global) -> Result<Vec<u8>, ExampleFault> {
+        bytes_of(alloc, self.word()?)
+    }
+
+    /// The next word, as a decimal number.
+    pub fn number(&mut self) -> Result<u64, ExampleFault> {
+        self.word()?.parse().map_err(|_| ExampleFault::BadWords)
+    }
+
+    /// The next word, as a decimal number of at most 32 bits.
+    pub fn number_32(&mut self) -> Result<u32, ExampleFault> {
+        u32::try_from(self.number()?).map_err(|_| ExampleFault::BadWords)
+    }
+
+    /// The next word, as a decimal number of at most 16 bits.
+    pub fn number_16(&mut self) -> Result<u16, ExampleFault> {
+        u16::try_from(self.number()?).map_err(|_| ExampleFault::BadWords)
+    }
+
+    /// The next word, as a length or an offset.
+    pub fn size(&mut self) -> Result<usize, ExampleFault> {
+        usize::try_from(self.number()?).map_err(|_| ExampleFault::BadWords)
+    }
+
+    /// The next word, as a number of 16 bits in hexadecimal.
+    pub fn hex_16(&mut self) -> Result<u16, ExampleFault> {
+        u16::from_str_radix(self.word()?, 16).map_err(|_| ExampleFault::BadWords)
+    }
+
+    /// The next word, as a byte in hexadecimal.
+    pub fn hex_8(&mut self) -> Result<u8, ExampleFault> {
+        u8::from_str_radix(self.word()?, 16).map_err(|_| ExampleFault::BadWords)
+    }
+
+    /// The next word, as the text of a name.
+    pub fn name(&mut self) -> Result<Name, ExampleFault> {
+        name_from_text(self.word()?).map_err(|_| ExampleFault::BadWords)
+    }
+
+    /// The next word, as a key: `10.0.0.5:138/0001`.
+    pub fn key(&mut self) -> Result<Key, ExampleFault> {
+        let (ip, rest) = split(self.word()?, ":")?;
+        let (port, id) = split(rest, "/")?;
+        Ok(Key {
+            ip: address(ip)?,
+            port: port.parse().map_err(|_| ExampleFault::BadWords)?,
+            id: u16::from_str_radix(id, 16).map_err(|_| ExampleFault::BadWords)?,
+        })
+    }
+
+    /// The next three words, as what a device does: `MOST INTERRUPTS FAILING`, where `INTERRUPTS`
+    /// is `600/4` for 600 interrupts before the first, the fifth and each fourth call after it, and
+    /// `1023` for 1,023 before each.
+    pub fn conduct(&mut self) -> Result<Conduct, ExampleFault> {
+        let most = self.size()?;
+        let interrupts = self.word()?;
+        let (interrupts, every) = interrupts.split_once("/").unwrap_or((interrupts, "1"));
+        Ok(Conduct {
+            most,
+            interrupts: interrupts.parse().map_err(|_| ExampleFault::BadWords)?,
+            every: every.parse().map_err(|_| ExampleFault::BadWords)?,
+            failing: self.number()?,
+        })
+    }
+
+    /// The next word, as an address: `10.0.0.5`.
+    pub fn address(&mut self) -> Result<[u8; 4], ExampleFault> {
+        address(self.word()?)
+    }
+}
+
+/// The parts of a word before and after a mark.
+pub fn split<'a>(word: &'a str, mark: &str) -> Result<(&'a str, &'a str), ExampleFault> {
+    word.split_once(mark).ok_or(ExampleFault::BadWords)
+}
+
+/// An address from its text.
+fn address(text: &str) -> Result<[u8; 4], ExampleFault> {
+    let mut address = [0; 4];
+    let mut parts = text.split(".");
+    for byte in &mut address {
+        let part = parts.next().ok_or(ExampleFault::BadWords)?;
+        *byte = part.parse().map_err(|_| ExampleFault::BadWords)?;
+    }
+    if parts.next().is_some() {
+        return Err(ExampleFault::BadWords);
+    }
+    Ok(address)
+}

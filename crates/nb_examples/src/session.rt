@@ -219,13 +219,12 @@ fn read(alloc: Global, words: &mut Words<'_>) -> Result<String, ExampleFault> {
     Ok(said)
 }
 
-/// Whether a keepalive can be read in a room.
+/// Whether a keepalive can be read in a room, and is what the room then holds.
 fn reads_a_keepalive(room: &mut Room) -> bool {
-    let mut bytes = b"\x85\x00\x00\x00".as_slice();
-    matches!(
-        read_packet(&mut Counted::new(&mut bytes), room),
-        Ok(Some(Packet::Keepalive))
-    )
+    let keepalive = b"\x85\x00\x00\x00".as_slice();
+    let mut reader = Counted::new(keepalive);
+    let is_read = matches!(read_packet(&mut reader, room), Ok(Some(Packet::Keepalive)));
+    is_read && room.as_slice() == keepalive
 }
 
 /// Says the packets that are read from a device, up to its end or the first fault.

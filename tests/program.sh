@@ -2,22 +2,8 @@
 # The built program as a process of its own: exit statuses, words, streams that are closed or full, how often it writes,
 # and each request for memory refused in turn. Usage: tests/program.sh [PROGRAM]; its last line is 'N passed, M failed'.
 set -uo pipefail
-here=$(cd "$(dirname "$0")" && pwd)
+. "$(dirname "$0")/counting.sh"
 program=${1:-$here/../crates/nbt/out/nbt}
-room=$(mktemp -d)
-trap 'rm -rf "$room"' EXIT
-passed=0
-failed=0
-
-# One case more: whether it went well, and its name.
-count() {
-    if [ "$1" -eq 0 ]; then
-        passed=$((passed + 1))
-    else
-        failed=$((failed + 1))
-        echo "failed: $2"
-    fi
-}
 
 # Whether the file holds exactly the text.
 holds() { printf '%s' "$2" | cmp -s - "$1"; }
@@ -69,11 +55,8 @@ scoped=204547464345464545434143414341434143414341434143414341434143414341074e455
 empty=110200010a000005008a00440000$joe$fred
 wildcard=20434b41414141414141414141414141414141414141414141414141414141414100
 
-# What stands before the C library in some cases.
-for shim in devices refuse_memory; do
-    ${CC:-cc} -shared -fPIC -O1 -o "$room/$shim.so" "$here/$shim.c" -ldl
-    count $? "tests/$shim.c is compiled"
-done
+compile devices
+compile refuse_memory
 
 # The cases of tests/cases: after `$ COMMAND` stand the lines of its standard output, those of its standard error behind
 # `! `, and `? STATUS` where that isn't 0. `...` stands for text that isn't empty, {FRED} and the like for spellings.
@@ -196,5 +179,4 @@ input=$room/tables
 remembers merge
 remembers agree
 
-echo "$passed passed, $failed failed"
-[ "$failed" -eq 0 ]
+finish

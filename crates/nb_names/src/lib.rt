@@ -41,6 +41,3 @@ pub use text_fault::TextFault;
 pub use text_reading::name_from_text;
 pub use text_writing::{domain_text, name_text};
 pub use writing::write_domain;
-
-#[cfg(test)]
-mod tests;

@@ -43,6 +43,3 @@ pub use rdata::Rdata;
 pub use record::{Record, RecordFault};
 pub use requests::{node_status_request, query, refresh, registration, release};
 pub use section::Section;
-
-#[cfg(test)]
-mod tests;

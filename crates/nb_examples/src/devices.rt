@@ -88,6 +88,7 @@ impl Read for Source<'_> {
 pub struct Sink {
     taken: Vec<u8>,
     turns: Turns,
+    lacks_memory: bool,
 }
 
 impl Sink {
@@ -96,6 +97,7 @@ impl Sink {
         Sink {
             taken: Vec::new(alloc),
             turns: Turns::new(conduct),
+            lacks_memory: false,
         }
     }
 
@@ -103,13 +105,21 @@ impl Sink {
     pub fn taken(&self) -> &[u8] {
         self.taken.as_slice()
     }
+
+    /// Whether it failed because memory ran out.
+    pub fn lacks_memory(&self) -> bool {
+        self.lacks_memory
+    }
 }
 
 impl Write for Sink {
     fn write(&mut self, buf: &[u8]) -> io::Result<usize> {
         let most = self.turns.next(buf.len())?;
         let front = buf.get(..most).unwrap_or(buf);
-        self.taken.extend_from_slice(front)?;
+        if self.taken.extend_from_slice(front).is_err() {
+            self.lacks_memory = true;
+            return Err(io::Error::from(ErrorKind::OutOfMemory));
+        }
         Ok(front.len())
     }
 

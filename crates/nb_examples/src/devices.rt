@@ -1,6 +1,6 @@
 //! Devices that do as an example says: slow, short, interrupted, failing.
 
-use std::alloc::Global;
+use std::alloc::{AllocError, Global};
 use std::io;
 use std::io::{ErrorKind, Read, Write};
 
@@ -102,6 +102,11 @@ impl Sink {
     /// What it took.
     pub fn taken(&self) -> &[u8] {
         self.taken.as_slice()
+    }
+
+    /// Makes room for so many bytes more, so that taking them needs no memory.
+    pub fn reserve(&mut self, bytes: usize) -> Result<(), AllocError> {
+        self.taken.reserve(bytes)
     }
 }
 

@@ -11,8 +11,8 @@ use crate::service::texts::say_packet;
 use crate::words::Words;
 use nb_names::NoMemory;
 use nb_service::{
-    AddressEntry, Packet, decode, encode, node_status_request, query, refresh, registration,
-    release,
+    AddressEntry, Packet, ServiceFault, decode, encode, node_status_request, query, refresh,
+    registration, release,
 };
 use std::alloc::Global;
 
@@ -54,6 +54,7 @@ fn encoded_again(alloc: Global, words: &mut Words<'_>) -> Result<String, Example
     let bytes = words.bytes(alloc)?;
     match decode(alloc, bytes.as_slice()) {
         Ok((packet, _)) => packet_bytes(alloc, &packet),
+        Err(ServiceFault::NoMemory) => Err(ExampleFault::NoMemory),
         Err(_) => Err(ExampleFault::BadWords),
     }
 }
@@ -144,16 +145,18 @@ fn released(alloc: Global, words: &mut Words<'_>) -> Result<String, ExampleFault
 fn compared(alloc: Global, words: &mut Words<'_>) -> Result<String, ExampleFault> {
     let first = words.bytes(alloc)?;
     let second = words.bytes(alloc)?;
-    let is_same = is_same(alloc, first.as_slice(), second.as_slice());
+    let is_same = is_same(alloc, first.as_slice(), second.as_slice())?;
     Ok(format!(in alloc; "{is_same}")?)
 }
 
 /// Whether the packets at the front of both are equal, or both faults.
-fn is_same(alloc: Global, first: &[u8], second: &[u8]) -> bool {
+fn is_same(alloc: Global, first: &[u8], second: &[u8]) -> Result<bool, ExampleFault> {
     match (decode(alloc, first), decode(alloc, second)) {
-        (Ok((packet, _)), Ok((other, _))) => packet == other,
-        (Err(fault), Err(other)) => fault == other,
-        _ => false,
+        (Ok((packet, _)), Ok((other, _))) => Ok(packet == other),
+        (Err(ServiceFault::NoMemory), _) => Err(ExampleFault::NoMemory),
+        (_, Err(ServiceFault::NoMemory)) => Err(ExampleFault::NoMemory),
+        (Err(fault), Err(other)) => Ok(fault == other),
+        _ => Ok(false),
     }
 }
 

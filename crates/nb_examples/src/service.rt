@@ -52,9 +52,8 @@ fn decoded(alloc: Global, words: &mut Words<'_>) -> Result<String, ExampleFault>
 /// `again BYTES`: the packet that the bytes begin with, encoded.
 fn encoded_again(alloc: Global, words: &mut Words<'_>) -> Result<String, ExampleFault> {
     let bytes = words.bytes(alloc)?;
-    match decode(alloc, bytes.as_slice()) {
-        Ok((packet, _)) => packet_bytes(alloc, &packet),
-        Err(ServiceFault::NoMemory) => Err(ExampleFault::NoMemory),
+    match front(alloc, bytes.as_slice())? {
+        Ok(packet) => packet_bytes(alloc, &packet),
         Err(_) => Err(ExampleFault::BadWords),
     }
 }
@@ -151,12 +150,18 @@ fn compared(alloc: Global, words: &mut Words<'_>) -> Result<String, ExampleFault
 
 /// Whether the packets at the front of both are equal, or both faults.
 fn is_same(alloc: Global, first: &[u8], second: &[u8]) -> Result<bool, ExampleFault> {
-    match (decode(alloc, first), decode(alloc, second)) {
-        (Ok((packet, _)), Ok((other, _))) => Ok(packet == other),
-        (Err(ServiceFault::NoMemory), _) => Err(ExampleFault::NoMemory),
-        (_, Err(ServiceFault::NoMemory)) => Err(ExampleFault::NoMemory),
-        (Err(fault), Err(other)) => Ok(fault == other),
-        _ => Ok(false),
+    Ok(front(alloc, first)? == front(alloc, second)?)
+}
+
+/// The packet at the front, or its fault, unless memory ran out.
+fn front<'a>(
+    alloc: Global,
+    bytes: &'a [u8],
+) -> Result<Result<Packet<'a>, ServiceFault>, ExampleFault> {
+    match decode(alloc, bytes) {
+        Ok((packet, _)) => Ok(Ok(packet)),
+        Err(ServiceFault::NoMemory) => Err(ExampleFault::NoMemory),
+        Err(fault) => Ok(Err(fault)),
     }
 }
 

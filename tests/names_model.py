@@ -201,10 +201,15 @@ def longest_way():
     yield from packet_examples(b"\0" + pointers, 16385, True) + packet_examples(b"\xc0" + pointers, 16385, True)
 
 
-chance = random.Random(1002)
-texts = itertools.chain(short_texts(), made_texts(chance, 2000))
-packets = itertools.chain(small_packets(chance, 400), made_packets(chance, 1500), longest_way())
-for example in itertools.chain(texts, packets):
-    # A brace in an example stands for a word that was defined.
-    if "{" not in example:
-        print(example)
+def main():
+    """Prints all of them."""
+    chance = random.Random(1002)
+    texts = itertools.chain(short_texts(), made_texts(chance, 2000))
+    packets = itertools.chain(small_packets(chance, 400), made_packets(chance, 1500), longest_way())
+    for example in itertools.chain(texts, packets):
+        # A brace in an example stands for a word that was defined.
+        if "{" not in example:
+            print(example)
+
+
+main()

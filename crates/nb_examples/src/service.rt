@@ -11,8 +11,8 @@ use crate::service::texts::say_packet;
 use crate::words::Words;
 use nb_names::NoMemory;
 use nb_service::{
-    AddressEntry, Packet, decode, encode, node_status_request, query, refresh, registration,
-    release,
+    AddressEntry, Packet, ServiceFault, decode, encode, node_status_request, query, refresh,
+    registration, release,
 };
 use std::alloc::Global;
 
@@ -52,8 +52,8 @@ fn decoded(alloc: Global, words: &mut Words<'_>) -> Result<String, ExampleFault>
 /// `again BYTES`: the packet that the bytes begin with, encoded.
 fn encoded_again(alloc: Global, words: &mut Words<'_>) -> Result<String, ExampleFault> {
     let bytes = words.bytes(alloc)?;
-    match decode(alloc, bytes.as_slice()) {
-        Ok((packet, _)) => packet_bytes(alloc, &packet),
+    match front(alloc, bytes.as_slice())? {
+        Ok(packet) => packet_bytes(alloc, &packet),
         Err(_) => Err(ExampleFault::BadWords),
     }
 }
@@ -144,16 +144,24 @@ fn released(alloc: Global, words: &mut Words<'_>) -> Result<String, ExampleFault
 fn compared(alloc: Global, words: &mut Words<'_>) -> Result<String, ExampleFault> {
     let first = words.bytes(alloc)?;
     let second = words.bytes(alloc)?;
-    let is_same = is_same(alloc, first.as_slice(), second.as_slice());
+    let is_same = is_same(alloc, first.as_slice(), second.as_slice())?;
     Ok(format!(in alloc; "{is_same}")?)
 }
 
 /// Whether the packets at the front of both are equal, or both faults.
-fn is_same(alloc: Global, first: &[u8], second: &[u8]) -> bool {
-    match (decode(alloc, first), decode(alloc, second)) {
-        (Ok((packet, _)), Ok((other, _))) => packet == other,
-        (Err(fault), Err(other)) => fault == other,
-        _ => false,
+fn is_same(alloc: Global, first: &[u8], second: &[u8]) -> Result<bool, ExampleFault> {
+    Ok(front(alloc, first)? == front(alloc, second)?)
+}
+
+/// The packet at the front, or its fault, unless memory ran out.
+fn front<'a>(
+    alloc: Global,
+    bytes: &'a [u8],
+) -> Result<Result<Packet<'a>, ServiceFault>, ExampleFault> {
+    match decode(alloc, bytes) {
+        Ok((packet, _)) => Ok(Ok(packet)),
+        Err(ServiceFault::NoMemory) => Err(ExampleFault::NoMemory),
+        Err(fault) => Ok(Err(fault)),
     }
 }
 

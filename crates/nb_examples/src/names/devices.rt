@@ -33,20 +33,32 @@ pub fn read(alloc: Global, words: &mut Words<'_>) -> Result<String, ExampleFault
 /// `counted_write TIMES MOST INTERRUPTS FAILING BYTES`: what each of some writes of the same bytes
 /// answers, and what the device has taken.
 pub fn written(alloc: Global, words: &mut Words<'_>) -> Result<String, ExampleFault> {
-    let times = words.number()?;
+    let times = words.size()?;
     let conduct = words.conduct()?;
     let bytes = words.bytes(alloc)?;
     let mut writer = Counted::new(Sink::new(alloc, conduct));
     let mut said = String::new(alloc);
-    if bytes.is_empty() {
-        return Err(ExampleFault::BadWords);
-    }
     for _ in 0..times {
-        let answer = writer.write(bytes.as_slice());
-        write!(said, "{answer:?}; ")?;
+        say_write(&mut writer, bytes.as_slice(), &mut said)?;
     }
     let sink = writer.into_inner();
+    if sink.lacks_memory() {
+        return Err(ExampleFault::NoMemory);
+    }
     let taken = text_of_bytes(alloc, sink.taken())?;
     write!(said, "taken {taken}")?;
     Ok(said)
+}
+
+/// Says what a write answers.
+fn say_write(
+    writer: &mut Counted<Sink>,
+    bytes: &[u8],
+    said: &mut String,
+) -> Result<(), ExampleFault> {
+    if bytes.is_empty() {
+        return Err(ExampleFault::BadWords);
+    }
+    let answer = writer.write(bytes);
+    Ok(write!(said, "{answer:?}; ")?)
 }

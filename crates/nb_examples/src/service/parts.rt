@@ -155,23 +155,44 @@ pub fn pushed_often(alloc: Global, words: &mut Words<'_>) -> Result<String, Exam
     let mut packet = Packet::new(alloc, 0, 0);
     let mut last = Ok(());
     for _ in 0..count {
-        last = push_one(&mut packet, section);
+        last = push_one(&mut packet, section)?;
     }
-    let _ = push_one(&mut packet, None);
-    for section in [Section::Answer, Section::Authority, Section::Additional] {
-        let _ = push_one(&mut packet, Some(section));
-    }
-    let questions = packet.questions().as_slice().len();
-    let answers = packet.answers().as_slice().len();
-    let authorities = packet.authorities().as_slice().len();
-    let additional = packet.additional().as_slice().len();
-    Ok(format!(in alloc; "{last:?} {questions} {answers} {authorities} {additional}")?)
+    push_to_each(&mut packet)?;
+    let counts = counts(alloc, &packet)?;
+    Ok(format!(in alloc; "{last:?}{counts}")?)
 }
 
-/// Adds a question, or a record to a section.
-fn push_one(packet: &mut Packet<'_>, section: Option<Section>) -> Result<(), PushFault> {
+/// Adds a part to each list that takes it.
+fn push_to_each(packet: &mut Packet<'_>) -> Result<(), ExampleFault> {
+    let _ = push_one(packet, None)?;
+    for section in [Section::Answer, Section::Authority, Section::Additional] {
+        let _ = push_one(packet, Some(section))?;
+    }
+    Ok(())
+}
+
+/// How many items the lists have.
+fn counts(alloc: Global, packet: &Packet<'_>) -> Result<String, ExampleFault> {
+    let counts = [
+        packet.questions().as_slice().len(),
+        packet.answers().as_slice().len(),
+        packet.authorities().as_slice().len(),
+        packet.additional().as_slice().len(),
+    ];
+    let mut text = String::new(alloc);
+    for count in counts {
+        write!(text, " {count}")?;
+    }
+    Ok(text)
+}
+
+/// What a packet answers to a question, or to a record for a section, unless memory ran out.
+fn push_one(
+    packet: &mut Packet<'_>,
+    section: Option<Section>,
+) -> Result<Result<(), PushFault>, ExampleFault> {
     let name = DomainName::root();
-    match section {
+    let answer = match section {
         Some(section) => {
             let record = Record::ns(name, classes::IN, 0, DomainName::root());
             packet.push(section, record)
@@ -181,5 +202,9 @@ fn push_one(packet: &mut Packet<'_>, section: Option<Section>) -> Result<(), Pus
             kind: kinds::NB,
             class: classes::IN,
         }),
+    };
+    match answer {
+        Err(PushFault::NoMemory) => Err(ExampleFault::NoMemory),
+        answer => Ok(answer),
     }
 }

@@ -118,7 +118,13 @@ fn say_statistics(
 /// once more as `Debug` prints them.
 fn word(alloc: Global, words: &mut Words<'_>) -> Result<String, ExampleFault> {
     let packet = Packet::new(alloc, 0, words.hex_16()?);
-    let (opcode, rcode, flags) = (packet.opcode(), packet.rcode(), packet.nm_flags());
+    let flags = nm_flags_text(alloc, packet.nm_flags())?;
+    let (opcode, rcode) = (packet.opcode(), packet.rcode());
+    Ok(format!(in alloc; "opcode {opcode} rcode {rcode} {flags}")?)
+}
+
+/// The flags of a packet by their names, and as `Debug` prints them.
+fn nm_flags_text(alloc: Global, flags: NmFlags) -> Result<String, ExampleFault> {
     let names = [
         ("AA", NmFlags::AA),
         ("TC", NmFlags::TC),
@@ -126,11 +132,12 @@ fn word(alloc: Global, words: &mut Words<'_>) -> Result<String, ExampleFault> {
         ("RA", NmFlags::RA),
         ("B", NmFlags::B),
     ];
-    let mut set = String::new(alloc);
+    let mut set = String::from_str(alloc, "flags")?;
     for (name, flag) in names {
         say_flag(&mut set, name, flags.contains(flag))?;
     }
-    Ok(format!(in alloc; "opcode {opcode} rcode {rcode} flags{set} {flags:?}")?)
+    write!(set, " {flags:?}")?;
+    Ok(set)
 }
 
 /// `name_flags WORD`: the ONT and the flags that the flag word of a node's name has, the flags once

@@ -73,16 +73,21 @@ pub fn held(alloc: Global, words: &mut Words<'_>) -> Result<String, ExampleFault
     let mut names = LocalNames::new(alloc);
     let mut said = String::new(alloc);
     for step in words.rest().split(", ") {
-        let (asked, word) = split(step, " ")?;
-        match asked {
-            "add" => say_added(names.add(name_of(word)?), &mut said)?,
-            "fill" => say_added(fill(&mut names, word)?, &mut said)?,
-            "holds" => say(&mut said, &names.holds(&name_of(word)?))?,
-            "scope" => say(&mut said, &names.holds_scope(name_of(word)?.scope()))?,
-            _ => return Err(ExampleFault::BadWords),
-        }
+        say_step(step, &mut names, &mut said)?;
     }
     Ok(said)
+}
+
+/// Makes a step, and says what is answered.
+fn say_step(step: &str, names: &mut LocalNames, said: &mut String) -> Result<(), ExampleFault> {
+    let (asked, word) = split(step, " ")?;
+    match asked {
+        "add" => say_added(names.add(name_of(word)?), said),
+        "fill" => say_added(fill(names, word)?, said),
+        "holds" => say(said, &names.holds(&name_of(word)?)),
+        "scope" => say(said, &names.holds_scope(name_of(word)?.scope())),
+        _ => Err(ExampleFault::BadWords),
+    }
 }
 
 /// Says whether a name was added.
@@ -128,13 +133,8 @@ fn datagram_of(alloc: Global, words: &mut Words<'_>) -> Result<Datagram, Example
     let kind = kind_of(words.word()?)?;
     let source = words.name()?;
     let destination = words.name()?;
-    match Datagram::new(
-        key,
-        kind,
-        source,
-        destination,
-        Bytes::from_vec(Vec::new(alloc)),
-    ) {
+    let none = Bytes::from_vec(Vec::new(alloc));
+    match Datagram::new(key, kind, source, destination, none) {
         Ok(datagram) => Ok(datagram),
         Err(_) => Err(ExampleFault::BadWords),
     }

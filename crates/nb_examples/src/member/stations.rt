@@ -114,8 +114,8 @@ fn fill(names: &mut LocalNames, count: &str) -> Result<Result<(), AddFault>, Exa
     Ok(Ok(()))
 }
 
-/// `hears STATION KIND SOURCE DESTINATION`: whether a station hears a datagram of this kind from one
-/// name to another.
+/// `hears STATION KIND SOURCE DESTINATION`: whether a station hears a datagram of this kind, from
+/// one name to another.
 pub fn heard(alloc: Global, words: &mut Words<'_>) -> Result<String, ExampleFault> {
     let names = names_of(alloc, words.word()?)?;
     let datagram = datagram_of(alloc, words)?;

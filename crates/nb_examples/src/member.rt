@@ -35,3 +35,11 @@ pub fn answer(alloc: Global, call: &str, words: &mut Words<'_>) -> Result<String
         _ => Err(ExampleFault::NoSuchCall),
     }
 }
+
+/// Answers an error where words are left.
+fn end(words: &Words<'_>) -> Result<(), ExampleFault> {
+    if words.is_empty() {
+        return Ok(());
+    }
+    Err(ExampleFault::BadWords)
+}

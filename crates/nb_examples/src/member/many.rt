@@ -16,9 +16,8 @@ pub fn taken(alloc: Global, words: &mut Words<'_>) -> Result<String, ExampleFaul
     let station = words.word()?;
     let events = events_of(alloc, words)?;
     let mut first = member_of(alloc, station)?;
-    let mut second = member_of(alloc, station)?;
     let ran = run_text(alloc, &mut first, events.as_slice())?;
-    let absorbed = absorbed_text(alloc, &mut second, first.table())?;
+    let absorbed = absorbed_text(alloc, station, first.table())?;
     Ok(format!(in alloc; "run {ran}, absorbed {absorbed}")?)
 }
 
@@ -32,12 +31,9 @@ fn run_text(alloc: Global, member: &mut Member, events: &[Event]) -> Result<Stri
     }
 }
 
-/// What is handed over of a table that is taken in.
-fn absorbed_text(
-    alloc: Global,
-    member: &mut Member,
-    table: &Table,
-) -> Result<String, ExampleFault> {
+/// What a new member hands over of a table.
+fn absorbed_text(alloc: Global, station: &str, table: &Table) -> Result<String, ExampleFault> {
+    let mut member = member_of(alloc, station)?;
     match member.absorb(table, 0) {
         Ok(datagrams) => handed_text(alloc, &datagrams),
         Err(TableFault::NoMemory) => Err(ExampleFault::NoMemory),

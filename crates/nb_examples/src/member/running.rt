@@ -1,6 +1,7 @@
 //! Runs of events.
 
 use crate::fault::ExampleFault;
+use crate::member::end;
 use crate::member::outcomes::{error_text, key_text};
 use crate::member::stations::{member_of, names_of, settings_of};
 use crate::member::steps::push_delivered;
@@ -75,9 +76,7 @@ pub fn event_of(alloc: Global, text: &str) -> Result<Event, ExampleFault> {
         },
         _ => return Err(ExampleFault::BadWords),
     };
-    if !words.is_empty() {
-        return Err(ExampleFault::BadWords);
-    }
+    end(&words)?;
     Ok(event)
 }
 

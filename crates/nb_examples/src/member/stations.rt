@@ -28,6 +28,9 @@ pub fn settings_of(station: &str) -> Result<Settings, ExampleFault> {
     let (ip, port) = split(parts.next().unwrap_or("10.0.0.9:138"), ":")?;
     let ip = Words::new(ip).address()?;
     let port = Words::new(port).number_16()?;
+    if parts.next().is_some() {
+        return Err(ExampleFault::BadWords);
+    }
     Ok(Settings {
         ip,
         port,
@@ -55,7 +58,10 @@ pub fn names_of(alloc: Global, station: &str) -> Result<LocalNames, ExampleFault
 
 /// A name from its text.
 fn name_of(text: &str) -> Result<Name, ExampleFault> {
-    Words::new(text).name()
+    match name_from_text(text) {
+        Ok(name) => Ok(name),
+        Err(_) => Err(ExampleFault::BadWords),
+    }
 }
 
 /// `names STEP, STEP ..`: what is answered as names are added to a station that has none, and where
@@ -67,16 +73,21 @@ pub fn held(alloc: Global, words: &mut Words<'_>) -> Result<String, ExampleFault
     let mut names = LocalNames::new(alloc);
     let mut said = String::new(alloc);
     for step in words.rest().split(", ") {
-        let (asked, word) = split(step, " ")?;
-        match asked {
-            "add" => say_added(names.add(name_of(word)?), &mut said)?,
-            "fill" => say_added(fill(&mut names, word)?, &mut said)?,
-            "holds" => say(&mut said, &names.holds(&name_of(word)?))?,
-            "scope" => say(&mut said, &names.holds_scope(name_of(word)?.scope()))?,
-            _ => return Err(ExampleFault::BadWords),
-        }
+        say_step(step, &mut names, &mut said)?;
     }
     Ok(said)
+}
+
+/// Makes a step, and says what is answered.
+fn say_step(step: &str, names: &mut LocalNames, said: &mut String) -> Result<(), ExampleFault> {
+    let (asked, word) = split(step, " ")?;
+    match asked {
+        "add" => say_added(names.add(name_of(word)?), said),
+        "fill" => say_added(fill(names, word)?, said),
+        "holds" => say(said, &names.holds(&name_of(word)?)),
+        "scope" => say(said, &names.holds_scope(name_of(word)?.scope())),
+        _ => Err(ExampleFault::BadWords),
+    }
 }
 
 /// Says whether a name was added.
@@ -89,8 +100,9 @@ fn say_added(added: Result<(), AddFault>, said: &mut String) -> Result<(), Examp
 
 /// Adds the names with no letters whose byte 16 is below a number.
 fn fill(names: &mut LocalNames, count: &str) -> Result<Result<(), AddFault>, ExampleFault> {
-    let Ok(count) = u8::try_from(Words::new(count).number()?) else {
-        return Err(ExampleFault::BadWords);
+    let count: u8 = match count.parse() {
+        Ok(count) => count,
+        Err(_) => return Err(ExampleFault::BadWords),
     };
     for last in 0..count {
         let mut bytes = [b' '; 16];
@@ -102,20 +114,28 @@ fn fill(names: &mut LocalNames, count: &str) -> Result<Result<(), AddFault>, Exa
     Ok(Ok(()))
 }
 
-/// `hears STATION KIND NAME`: whether a station hears a datagram of this kind to this name.
+/// `hears STATION KIND SOURCE DESTINATION`: whether a station hears a datagram of this kind, from
+/// one name to another.
 pub fn heard(alloc: Global, words: &mut Words<'_>) -> Result<String, ExampleFault> {
     let names = names_of(alloc, words.word()?)?;
-    let kind = kind_of(words.word()?)?;
+    let datagram = datagram_of(alloc, words)?;
+    let is_heard = names.hears(&datagram);
+    Ok(format!(in alloc; "{is_heard}")?)
+}
+
+/// A datagram without data.
+fn datagram_of(alloc: Global, words: &mut Words<'_>) -> Result<Datagram, ExampleFault> {
     let key = Key {
         ip: [10, 0, 0, 5],
         port: 138,
         id: 1,
     };
-    let source = Name::new(*b"JOE            \x00", Scope::empty());
-    let bytes = Bytes::from_vec(Vec::new(alloc));
-    let Ok(datagram) = Datagram::new(key, kind, source, words.name()?, bytes) else {
-        return Err(ExampleFault::BadWords);
-    };
-    let is_heard = names.hears(&datagram);
-    Ok(format!(in alloc; "{is_heard}")?)
+    let kind = kind_of(words.word()?)?;
+    let source = words.name()?;
+    let destination = words.name()?;
+    let none = Bytes::from_vec(Vec::new(alloc));
+    match Datagram::new(key, kind, source, destination, none) {
+        Ok(datagram) => Ok(datagram),
+        Err(_) => Err(ExampleFault::BadWords),
+    }
 }

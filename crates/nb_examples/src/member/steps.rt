@@ -1,6 +1,7 @@
 //! What members answer, step after step.
 
 use crate::fault::ExampleFault;
+use crate::member::end;
 use crate::member::outcomes::{delivered_text, refused_text, say, taken_text};
 use crate::member::stations::member_of;
 use crate::words::{Words, split};
@@ -28,18 +29,45 @@ pub fn taken(alloc: Global, words: &mut Words<'_>) -> Result<String, ExampleFaul
 /// A step is `a` or `b` and what that one does, as `take` has it, or `absorb MOMENT`: it takes in
 /// the other's table, and hands over datagrams; or `same`: whether the tables are equal.
 pub fn taken_by_both(alloc: Global, words: &mut Words<'_>) -> Result<String, ExampleFault> {
-    let mut a = member_of(alloc, words.word()?)?;
-    let mut b = member_of(alloc, words.word()?)?;
+    let mut both = both_of(alloc, words)?;
     let mut said = String::new(alloc);
     for step in words.rest().split(", ") {
-        let (who, step) = split(step, " ")?;
-        match who {
-            "a" => say_step(alloc, step, &mut a, b.table(), &mut said)?,
-            "b" => say_step(alloc, step, &mut b, a.table(), &mut said)?,
-            _ => return Err(ExampleFault::BadWords),
-        }
+        say_step_of(alloc, step, &mut both, &mut said)?;
     }
     Ok(said)
+}
+
+/// Two members.
+#[derive(Drop)]
+struct Both {
+    a: Member,
+    b: Member,
+}
+
+/// Two new members.
+fn both_of(alloc: Global, words: &mut Words<'_>) -> Result<Both, ExampleFault> {
+    let a = words.word()?;
+    let b = words.word()?;
+    let a = member_of(alloc, a)?;
+    Ok(Both {
+        a,
+        b: member_of(alloc, b)?,
+    })
+}
+
+/// Makes a step of one of two members.
+fn say_step_of(
+    alloc: Global,
+    step: &str,
+    both: &mut Both,
+    said: &mut String,
+) -> Result<(), ExampleFault> {
+    let (who, step) = split(step, " ")?;
+    match who {
+        "a" => say_step(alloc, step, &mut both.a, both.b.table(), said),
+        "b" => say_step(alloc, step, &mut both.b, both.a.table(), said),
+        _ => Err(ExampleFault::BadWords),
+    }
 }
 
 /// Makes a step, and says what is answered.
@@ -59,9 +87,7 @@ fn say_step(
         "same" => format!(in alloc; "{}", member.table().same(other))?,
         _ => return Err(ExampleFault::BadWords),
     };
-    if !words.is_empty() {
-        return Err(ExampleFault::BadWords);
-    }
+    end(&words)?;
     say(said, &answer)
 }
 

@@ -2,6 +2,7 @@
 
 use crate::byte_text::bytes_of;
 use crate::fault::ExampleFault;
+use crate::member::end;
 use crate::member::running::event_of;
 use crate::member::stations::{member_of, names_of, settings_of};
 use crate::words::{Words, split};
@@ -17,10 +18,17 @@ pub fn compared(alloc: Global, words: &mut Words<'_>) -> Result<String, ExampleF
     match of {
         "event" => both(alloc, &event_of(alloc, a)?, &event_of(alloc, b)?),
         "line" => lines(alloc, a, b),
-        "settings" => both(alloc, &settings_of(a)?, &settings_of(b)?),
-        "names" => names(alloc, a, b),
+        "settings" => both(alloc, &settings_of(word(a)?)?, &settings_of(word(b)?)?),
+        "names" => names(alloc, word(a)?, word(b)?),
         "dropped" => both(alloc, &dropped(a)?, &dropped(b)?),
         "stop" => both(alloc, &stop(a)?, &stop(b)?),
+        _ => faults(alloc, of, a, b),
+    }
+}
+
+/// Two faults.
+fn faults(alloc: Global, of: &str, a: &str, b: &str) -> Result<String, ExampleFault> {
+    match of {
         "add" => both(alloc, &add_fault(a)?, &add_fault(b)?),
         "fault" => both(alloc, &line_fault(a)?, &line_fault(b)?),
         "refused" => both(alloc, &refused(alloc, a)?, &refused(alloc, b)?),
@@ -53,20 +61,32 @@ fn names(alloc: Global, a: &str, b: &str) -> Result<String, ExampleFault> {
     Ok(format!(in alloc; "{a:?} {b:?}")?)
 }
 
+/// A text that is one word.
+fn word(text: &str) -> Result<&str, ExampleFault> {
+    let mut words = Words::new(text);
+    let word = words.word()?;
+    end(&words)?;
+    Ok(word)
+}
+
 /// What a look at the clock dropped.
 fn dropped(text: &str) -> Result<Dropped, ExampleFault> {
-    let keys = Words::new(text).number_32()?;
-    Ok(Dropped { keys })
+    match text.parse() {
+        Ok(keys) => Ok(Dropped { keys }),
+        Err(_) => Err(ExampleFault::BadWords),
+    }
 }
 
 /// Why a run stopped: `full KEY` or `memory`.
 fn stop(text: &str) -> Result<RunStop, ExampleFault> {
     let mut words = Words::new(text);
-    match words.word()? {
-        "full" => Ok(RunStop::Full(words.key()?)),
-        "memory" => Ok(RunStop::NoMemory),
-        _ => Err(ExampleFault::BadWords),
-    }
+    let stop = match words.word()? {
+        "full" => RunStop::Full(words.key()?),
+        "memory" => RunStop::NoMemory,
+        _ => return Err(ExampleFault::BadWords),
+    };
+    end(&words)?;
+    Ok(stop)
 }
 
 /// Why a name isn't added.
@@ -101,13 +121,15 @@ fn refused(alloc: Global, text: &str) -> Result<MemberFault, ExampleFault> {
 /// Why a replay ended: `line NUMBER`, `read`, `write` or `memory`.
 fn replay_fault(text: &str) -> Result<ReplayFault, ExampleFault> {
     let mut words = Words::new(text);
-    match words.word()? {
-        "line" => Ok(ReplayFault::Line(words.number()?)),
-        "read" => Ok(ReplayFault::Read),
-        "write" => Ok(ReplayFault::Write),
-        "memory" => Ok(ReplayFault::NoMemory),
-        _ => Err(ExampleFault::BadWords),
-    }
+    let fault = match words.word()? {
+        "line" => ReplayFault::Line(words.number()?),
+        "read" => ReplayFault::Read,
+        "write" => ReplayFault::Write,
+        "memory" => ReplayFault::NoMemory,
+        _ => return Err(ExampleFault::BadWords),
+    };
+    end(&words)?;
+    Ok(fault)
 }
 
 /// `memory`: the texts of each call's fault where memory ran out.

@@ -221,7 +221,7 @@ fn save_command<'a>(alloc: Global) -> Result<Command<'a>, AllocError>
         "Print what the capture on standard input says of datagrams, as a saved table",
         SAVE_HELP,
     );
-    Ok(save.arg(keys(alloc))?)
+    taking(Ok(save), keys(alloc))
 }
 
 /// `merge [--keys N]`.
@@ -235,7 +235,7 @@ fn merge_command<'a>(alloc: Global) -> Result<Command<'a>, AllocError>
         "Join the saved tables on standard input, a line each, and print the table",
         MERGE_HELP,
     );
-    Ok(merge.arg(keys(alloc))?)
+    taking(Ok(merge), keys(alloc))
 }
 
 /// `agree`.

@@ -109,18 +109,23 @@ fn push_record(
     write!(text, "  {section} ")?;
     push_domain(alloc, record.name(), text)?;
     write!(text, " type={kind:04x} class={class:04x} ttl={ttl} ")?;
-    match record.rdata() {
+    push_rdata(alloc, record.rdata(), text)?;
+    text.push_str("\n")?;
+    Ok(())
+}
+
+/// Adds a record's RDATA.
+fn push_rdata(alloc: Global, rdata: &Rdata<'_>, text: &mut String) -> Result<(), NoMemory> {
+    match rdata {
         Rdata::Bytes(bytes) => {
             text.push_str("data=")?;
-            push_data(alloc, bytes, text)?;
+            push_data(alloc, bytes, text)
         }
         Rdata::Domain(domain) => {
             text.push_str("domain=")?;
-            push_domain(alloc, domain, text)?;
+            push_domain(alloc, domain, text)
         }
     }
-    text.push_str("\n")?;
-    Ok(())
 }
 
 /// Adds a line for each address entry of a record's RDATA.

@@ -1,3 +1,4 @@
+mod CommandShapes
 pub mod WritingTurns
 pub mod ReadingTurns
 pub mod AloneWords

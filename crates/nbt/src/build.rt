@@ -54,23 +54,43 @@ fn build(alloc: Global, matches: &ArgMatches<'_>) -> Result<String, BuildFault> 
     let words = matches.get_strs("ARG").unwrap_or(&[]);
     match what {
         "query" | "status" | "registration" | "refresh" | "release" => {
-            let packet = service::build(alloc, what, words, matches.get_flag("broadcast"))?;
-            Ok(line(alloc, 137, &packet)?)
+            service_line(alloc, what, words, matches.get_flag("broadcast"))
         }
         "request" | "message" | "positive" | "negative" | "retarget" | "keepalive" => {
-            let packet = session::build(alloc, what, words)?;
-            Ok(line(alloc, 139, &packet)?)
+            session_line(alloc, what, words)
         }
         "unique" | "group" | "broadcast" | "error" | "find" | "found" | "missing" => {
-            let packets = datagram::build(alloc, what, words)?;
-            let mut lines = String::new(alloc);
-            for packet in packets.as_slice() {
-                lines.push_str(line(alloc, 138, packet)?.as_str())?;
-            }
-            Ok(lines)
+            datagram_lines(alloc, what, words)
         }
         _ => Err(BuildFault::Arguments),
     }
+}
+
+/// The line of a name service packet.
+fn service_line(
+    alloc: Global,
+    what: &str,
+    words: &[&str],
+    broadcast: bool,
+) -> Result<String, BuildFault> {
+    let packet = service::build(alloc, what, words, broadcast)?;
+    Ok(line(alloc, 137, &packet)?)
+}
+
+/// The line of a session packet.
+fn session_line(alloc: Global, what: &str, words: &[&str]) -> Result<String, BuildFault> {
+    let packet = session::build(alloc, what, words)?;
+    Ok(line(alloc, 139, &packet)?)
+}
+
+/// The lines of the packets of a datagram, or of one that is no fragment.
+fn datagram_lines(alloc: Global, what: &str, words: &[&str]) -> Result<String, BuildFault> {
+    let packets = datagram::build(alloc, what, words)?;
+    let mut lines = String::new(alloc);
+    for packet in packets.as_slice() {
+        lines.push_str(line(alloc, 138, packet)?.as_str())?;
+    }
+    Ok(lines)
 }
 
 /// The capture line of a payload, at moment 0.

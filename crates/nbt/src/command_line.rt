@@ -1,6 +1,6 @@
 //! The words that the program takes.
-ghost use Rattle.std.specs.Prelude.{◌≡◌, IfOk, false};
-ghost use Rattle.clap.specs.Words.{app_of, new_app, rule_of};
+ghost use Rattle.std.specs.Prelude.{◌≡◌, IfOk, IsOkAnd, false};
+ghost use Rattle.clap.specs.Words.{AddsArg, AddsSubcommand, app_of, new_app, rule_of};
 ghost use Rattle.clap.specs.declared.builder.command.Command.TheViews.{out-Command as fields_of};
 ghost use Rattle.nbt.specs.CommandLine.{name_app, show_app, build_app, replay_app, save_app, merge_app, agree_app, nbt_app, flag_rule, value_rule, list_rule, keys_rule, some_rule};
 
@@ -114,13 +114,27 @@ pub fn command<'a>(alloc: Global) -> Result<Command<'a>, AllocError>
     )
     .version(VERSION)
     .subcommand_required(true);
-    let top = top.subcommand(name_command(alloc)?)?;
-    let top = top.subcommand(show_command(alloc))?;
-    let top = top.subcommand(build_command(alloc)?)?;
-    let top = top.subcommand(replay_command(alloc)?)?;
-    let top = top.subcommand(save_command(alloc)?)?;
-    let top = top.subcommand(merge_command(alloc)?)?;
-    Ok(top.subcommand(agree_command(alloc))?)
+    let top = added(Ok(top), name_command(alloc));
+    let top = added(top, Ok(show_command(alloc)));
+    let top = added(top, build_command(alloc));
+    let top = added(top, replay_command(alloc));
+    let top = added(top, save_command(alloc));
+    let top = added(top, merge_command(alloc));
+    added(top, Ok(agree_command(alloc)))
+}
+
+/// A command with a subcommand more, where both could be made.
+fn added<'a>(
+    command: Result<Command<'a>, AllocError>,
+    subcommand: Result<Command<'a>, AllocError>,
+) -> Result<Command<'a>, AllocError>
+    ensures { IfOk result (λ whole. IsOkAnd command.entry (λ old.
+        IsOkAnd subcommand.entry (λ added. AddsSubcommand old added whole))) }
+{
+    match (command, subcommand) {
+        (Ok(command), Ok(subcommand)) => command.subcommand(subcommand),
+        _ => Err(AllocError),
+    }
 }
 
 /// `name [--bytes] VALUE`.
@@ -128,6 +142,12 @@ fn name_command<'a>(alloc: Global) -> Result<Command<'a>, AllocError>
     ensures app { IfOk result (λ command. app_of command ≡ name_app) }
     ensures local { IfOk result (λ command. (fields_of command).has_globals ≡ false) }
 {
+    let name = described(
+        alloc,
+        "name",
+        "Print the spelling of a name, or with --bytes the text of a spelling",
+        NAME_HELP,
+    );
     let bytes = flag(
         alloc,
         "bytes",
@@ -138,13 +158,7 @@ fn name_command<'a>(alloc: Global) -> Result<Command<'a>, AllocError>
         "VALUE",
         "The text of a name, such as 'FRED<20>.NETBIOS.COM'; with --bytes its spelling",
     );
-    let name = described(
-        alloc,
-        "name",
-        "Print the spelling of a name, or with --bytes the text of a spelling",
-        NAME_HELP,
-    );
-    Ok(name.arg(bytes)?.arg(value)?)
+    taking(taking(Ok(name), bytes), value)
 }
 
 /// `show`.
@@ -165,16 +179,16 @@ fn build_command<'a>(alloc: Global) -> Result<Command<'a>, AllocError>
     ensures app { IfOk result (λ command. app_of command ≡ build_app) }
     ensures local { IfOk result (λ command. (fields_of command).has_globals ≡ false) }
 {
-    let broadcast = flag(alloc, "broadcast", "The packet of port 137 is broadcast");
-    let what = required(alloc, "WHAT", "The packet to build");
-    let words = list(alloc, "ARG", "What the packet has, as listed below");
     let build = described(
         alloc,
         "build",
         "Print the capture line of a packet",
         BUILD_HELP,
     );
-    Ok(build.arg(broadcast)?.arg(what)?.arg(words)?)
+    let broadcast = flag(alloc, "broadcast", "The packet of port 137 is broadcast");
+    let what = required(alloc, "WHAT", "The packet to build");
+    let words = list(alloc, "ARG", "What the packet has, as listed below");
+    taking(taking(taking(Ok(build), broadcast), what), words)
 }
 
 /// `replay [--keys N] NAME..`.
@@ -182,18 +196,18 @@ fn replay_command<'a>(alloc: Global) -> Result<Command<'a>, AllocError>
     ensures app { IfOk result (λ command. app_of command ≡ replay_app) }
     ensures local { IfOk result (λ command. (fields_of command).has_globals ≡ false) }
 {
-    let names = at_least_one(
-        alloc,
-        "NAME",
-        "A name of the member, such as 'FRED<20>.NETBIOS.COM'",
-    );
     let replay = described(
         alloc,
         "replay",
         "Print what a station with these names makes of the capture on standard input",
         REPLAY_HELP,
     );
-    Ok(replay.arg(keys(alloc))?.arg(names)?)
+    let names = at_least_one(
+        alloc,
+        "NAME",
+        "A name of the member, such as 'FRED<20>.NETBIOS.COM'",
+    );
+    taking(taking(Ok(replay), keys(alloc)), names)
 }
 
 /// `save [--keys N]`.
@@ -207,7 +221,7 @@ fn save_command<'a>(alloc: Global) -> Result<Command<'a>, AllocError>
         "Print what the capture on standard input says of datagrams, as a saved table",
         SAVE_HELP,
     );
-    Ok(save.arg(keys(alloc))?)
+    taking(Ok(save), keys(alloc))
 }
 
 /// `merge [--keys N]`.
@@ -221,7 +235,7 @@ fn merge_command<'a>(alloc: Global) -> Result<Command<'a>, AllocError>
         "Join the saved tables on standard input, a line each, and print the table",
         MERGE_HELP,
     );
-    Ok(merge.arg(keys(alloc))?)
+    taking(Ok(merge), keys(alloc))
 }
 
 /// `agree`.
@@ -243,6 +257,19 @@ fn described<'a>(alloc: Global, name: &'a str, about: &'a str, after: &'a str) -
     ensures local { (fields_of result).has_globals ≡ false }
 {
     Command::new(alloc, name).about(about).after_help(after)
+}
+
+/// A command with an argument more, where it could be made.
+fn taking<'a>(
+    command: Result<Command<'a>, AllocError>,
+    arg: Arg<'a>,
+) -> Result<Command<'a>, AllocError>
+    ensures { IfOk result (λ whole. IsOkAnd command.entry (λ old. AddsArg old arg.entry whole)) }
+{
+    match command {
+        Ok(command) => command.arg(arg),
+        Err(error) => Err(error),
+    }
 }
 
 /// An option that is given or not.

@@ -1,5 +1,5 @@
 //! The program over any input and output.
-ghost use Rattle.std.specs.Prelude.{◌≡◌, ◌≢◌, ◌≤◌, map, string_bytes, IfOk, IfErr};
+ghost use Rattle.std.specs.Prelude.{◌≡◌, ◌≢◌, ◌≤◌, map, string_bytes, Ok, Err, OnOk, IfOk, IfErr};
 ghost use Rattle.std.specs.Io.KnownBytes.{Keeps};
 ghost use Rattle.clap.specs.Words.{kind_of, subcommand_name_of};
 ghost use Rattle.nb_names.specs.Counted.{no_calls};
@@ -90,16 +90,26 @@ fn run_command<R: Read, W: Write>(
         ShowsFailing no_calls output.new.counts) }
 {
     match matches.subcommand() {
-        Some(("name", matches)) => run_name(alloc, matches, output)?,
-        Some(("show", _)) => run_show(alloc, input, output)?,
-        Some(("build", matches)) => run_build(alloc, matches, output)?,
-        Some(("replay", matches)) => run_replay(alloc, matches, input, output)?,
-        Some(("save", matches)) => run_save(alloc, matches, input, output)?,
-        Some(("merge", matches)) => run_merge(alloc, matches, input, output)?,
-        Some(("agree", _)) => return run_agree(alloc, input, output),
-        _ => return Err(Fault::Arguments),
+        Some(("name", matches)) => done(run_name(alloc, matches, output)),
+        Some(("show", _)) => done(run_show(alloc, input, output)),
+        Some(("build", matches)) => done(run_build(alloc, matches, output)),
+        Some(("replay", matches)) => done(run_replay(alloc, matches, input, output)),
+        Some(("save", matches)) => done(run_save(alloc, matches, input, output)),
+        Some(("merge", matches)) => done(run_merge(alloc, matches, input, output)),
+        Some(("agree", _)) => run_agree(alloc, input, output),
+        _ => Err(Fault::Arguments),
     }
-    Ok(Status::Done)
+}
+
+/// The outcome of a command that is done where it has no fault.
+fn done(outcome: Result<(), Fault>) -> Result<Status, Fault>
+    ensures ok { OnOk outcome (result ≡ Ok Status.Done) }
+    ensures err { IfErr outcome (λ fault. result ≡ Err fault) }
+{
+    match outcome {
+        Ok(()) => Ok(Status::Done),
+        Err(fault) => Err(fault),
+    }
 }
 
 /// The status with which a command ended. Its fault, if it has one, goes to `errors` as a line.

@@ -56,8 +56,12 @@ pub fn address(text: &str) -> Result<[u8; 4], BuildFault> {
 
 /// A datagram's key: its sender's address and port, and the identifier, as `10.0.0.5:138/0001`.
 pub fn key(text: &str) -> Result<Key, BuildFault> {
-    let (place, id) = text.split_once('/').ok_or(BuildFault::Arguments)?;
-    let (ip, port) = place.split_once(':').ok_or(BuildFault::Arguments)?;
+    let Some((place, id)) = text.split_once('/') else {
+        return Err(BuildFault::Arguments);
+    };
+    let Some((ip, port)) = place.split_once(':') else {
+        return Err(BuildFault::Arguments);
+    };
     Ok(Key {
         ip: address(ip)?,
         port: number(port)?,

@@ -2,9 +2,9 @@
 
 use crate::build::arguments::{address, long_number, word};
 use crate::build::build_fault::BuildFault;
-use nb_names::{Bytes, name_from_text};
+use nb_names::{Bytes, NoMemory, name_from_text};
 use nb_service::{
-    AddressEntry, encode, node_status_request, query, refresh, registration, release,
+    AddressEntry, Packet, encode, node_status_request, query, refresh, registration, release,
 };
 use std::alloc::Global;
 
@@ -18,55 +18,68 @@ pub fn build(
     words: &[&str],
     broadcast: bool,
 ) -> Result<Bytes, BuildFault> {
-    match (what, words) {
-        ("query" | "status", [id, name]) => question(alloc, what, [id, name], broadcast),
-        ("registration" | "refresh", [id, name, ttl, flags, place]) => {
-            claim(alloc, what, [id, name, ttl, flags, place], broadcast)
-        }
-        ("release", [id, name, flags, place]) => {
-            let id = word(id)?;
-            let name = name_from_text(name)?;
-            let entry = entry(flags, place)?;
-            Ok(encode(alloc, &release(alloc, id, &name, broadcast, &entry)?)?)
-        }
+    match what {
+        "query" | "status" => question(alloc, what, words, broadcast),
+        "registration" | "refresh" => claim(alloc, what, words, broadcast),
+        "release" => withdrawal(alloc, words, broadcast),
         _ => Err(BuildFault::Arguments),
     }
 }
 
-/// A packet that asks for a name, or for a node's status.
+/// A packet that asks for a name, or for a node's status, from ID NAME.
 fn question(
     alloc: Global,
     what: &str,
-    [id, name]: [&str; 2],
+    words: &[&str],
     broadcast: bool,
 ) -> Result<Bytes, BuildFault> {
+    let [id, name] = words else {
+        return Err(BuildFault::Arguments);
+    };
     let id = word(id)?;
     let name = name_from_text(name)?;
     let packet = if what == "query" {
-        query(alloc, id, &name, broadcast)?
+        query(alloc, id, &name, broadcast)
     } else {
-        node_status_request(alloc, id, &name, broadcast)?
+        node_status_request(alloc, id, &name, broadcast)
     };
-    Ok(encode(alloc, &packet)?)
+    encoded(alloc, packet)
 }
 
-/// A packet that registers a name, or refreshes it.
-fn claim(
-    alloc: Global,
-    what: &str,
-    [id, name, ttl, flags, place]: [&str; 5],
-    broadcast: bool,
-) -> Result<Bytes, BuildFault> {
+/// A packet that registers a name, or refreshes it, from ID NAME TTL FLAGS ADDRESS.
+fn claim(alloc: Global, what: &str, words: &[&str], broadcast: bool) -> Result<Bytes, BuildFault> {
+    let [id, name, ttl, flags, place] = words else {
+        return Err(BuildFault::Arguments);
+    };
     let id = word(id)?;
     let name = name_from_text(name)?;
     let ttl = long_number(ttl)?;
     let entry = entry(flags, place)?;
     let packet = if what == "registration" {
-        registration(alloc, id, &name, broadcast, ttl, &entry)?
+        registration(alloc, id, &name, broadcast, ttl, &entry)
     } else {
-        refresh(alloc, id, &name, broadcast, ttl, &entry)?
+        refresh(alloc, id, &name, broadcast, ttl, &entry)
     };
-    Ok(encode(alloc, &packet)?)
+    encoded(alloc, packet)
+}
+
+/// A packet that gives a name up, from ID NAME FLAGS ADDRESS.
+fn withdrawal(alloc: Global, words: &[&str], broadcast: bool) -> Result<Bytes, BuildFault> {
+    let [id, name, flags, place] = words else {
+        return Err(BuildFault::Arguments);
+    };
+    let id = word(id)?;
+    let name = name_from_text(name)?;
+    let entry = entry(flags, place)?;
+    encoded(alloc, release(alloc, id, &name, broadcast, &entry))
+}
+
+/// The bytes of a packet, where there was memory to make it.
+fn encoded(alloc: Global, made: Result<Packet<'_>, NoMemory>) -> Result<Bytes, BuildFault> {
+    match made {
+        Ok(packet) => Ok(encode(alloc, &packet)?),
+        Err(NoMemory) => Err(BuildFault::Memory),
+    }
 }
 
 /// The address entry of the flags and the address.

@@ -1,28 +1,41 @@
 //! The text of a datagram service packet.
 
 use crate::show::texts::{KeyText, push_data, push_name};
-use nb_datagram::{Fragment, Kind, Packet, QueryKind, QueryPacket, decode};
+use nb_datagram::{ErrorPacket, Fragment, Kind, Packet, QueryKind, QueryPacket, decode};
 use nb_names::NoMemory;
 use std::alloc::Global;
 
 /// Adds the text of the packet that a payload of port 138 begins with.
 pub fn push_packet(alloc: Global, payload: &[u8], text: &mut String) -> Result<(), NoMemory> {
-    let (packet, used) = match decode(payload) {
-        Ok(decoded) => decoded,
+    match decode(payload) {
+        Ok((packet, used)) => push_whole(alloc, &packet, used, text),
         Err(fault) => {
             writeln!(text, "refused {fault}")?;
-            return Ok(());
+            Ok(())
         }
-    };
-    match &packet {
+    }
+}
+
+/// Adds the line of a packet that takes so many bytes.
+fn push_whole(
+    alloc: Global,
+    packet: &Packet<'_>,
+    used: usize,
+    text: &mut String,
+) -> Result<(), NoMemory> {
+    match packet {
         Packet::Direct(fragment) => push_fragment(alloc, fragment, text)?,
-        Packet::Error(error) => {
-            let (flags, key, code) = (error.flags, KeyText(error.key), error.code);
-            write!(text, "error flags={flags:02x} key={key} code={code:02x}")?;
-        }
+        Packet::Error(error) => push_error(error, text)?,
         Packet::Query(query) => push_query(alloc, query, text)?,
     }
     writeln!(text, " used={used}")?;
+    Ok(())
+}
+
+/// Adds an error's parts.
+fn push_error(error: &ErrorPacket, text: &mut String) -> Result<(), NoMemory> {
+    let (flags, key, code) = (error.flags, KeyText(error.key), error.code);
+    write!(text, "error flags={flags:02x} key={key} code={code:02x}")?;
     Ok(())
 }
 

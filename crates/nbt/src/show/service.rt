@@ -13,21 +13,33 @@ use std::fmt;
 /// Adds the text of the packet that a payload of port 137 begins with, in as many lines as it has
 /// questions, records and parts of these.
 pub fn push_packet(alloc: Global, payload: &[u8], text: &mut String) -> Result<(), NoMemory> {
-    let (packet, used) = match decode(alloc, payload) {
-        Ok(decoded) => decoded,
-        Err(ServiceFault::NoMemory) => return Err(NoMemory),
-        Err(fault) => {
-            writeln!(text, "refused {fault}")?;
-            return Ok(());
-        }
-    };
-    push_header(&packet, used, text)?;
+    match decode(alloc, payload) {
+        Ok((packet, used)) => push_whole(alloc, &packet, used, text),
+        Err(ServiceFault::NoMemory) => Err(NoMemory),
+        Err(fault) => push_refusal(fault, text),
+    }
+}
+
+/// Adds the lines of a packet that takes so many bytes.
+fn push_whole(
+    alloc: Global,
+    packet: &Packet<'_>,
+    used: usize,
+    text: &mut String,
+) -> Result<(), NoMemory> {
+    push_header(packet, used, text)?;
     for question in packet.questions().as_slice() {
         push_question(alloc, question, text)?;
     }
     push_records(alloc, "answer", packet.answers().as_slice(), text)?;
     push_records(alloc, "authority", packet.authorities().as_slice(), text)?;
     push_records(alloc, "additional", packet.additional().as_slice(), text)
+}
+
+/// Adds the line of a payload that is no packet.
+fn push_refusal(fault: ServiceFault, text: &mut String) -> Result<(), NoMemory> {
+    writeln!(text, "refused {fault}")?;
+    Ok(())
 }
 
 /// Adds the line of the header.
@@ -97,18 +109,23 @@ fn push_record(
     write!(text, "  {section} ")?;
     push_domain(alloc, record.name(), text)?;
     write!(text, " type={kind:04x} class={class:04x} ttl={ttl} ")?;
-    match record.rdata() {
+    push_rdata(alloc, record.rdata(), text)?;
+    text.push_str("\n")?;
+    Ok(())
+}
+
+/// Adds a record's RDATA.
+fn push_rdata(alloc: Global, rdata: &Rdata<'_>, text: &mut String) -> Result<(), NoMemory> {
+    match rdata {
         Rdata::Bytes(bytes) => {
             text.push_str("data=")?;
-            push_data(alloc, bytes, text)?;
+            push_data(alloc, bytes, text)
         }
         Rdata::Domain(domain) => {
             text.push_str("domain=")?;
-            push_domain(alloc, domain, text)?;
+            push_domain(alloc, domain, text)
         }
     }
-    text.push_str("\n")?;
-    Ok(())
 }
 
 /// Adds a line for each address entry of a record's RDATA.

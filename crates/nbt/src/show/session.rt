@@ -8,13 +8,21 @@ use std::alloc::Global;
 /// Adds the text of the packet that a payload of port 139 begins with.
 pub fn push_packet(alloc: Global, payload: &[u8], text: &mut String) -> Result<(), NoMemory> {
     match parse(payload) {
-        Parsed::Whole(packet, used) => {
-            push_parts(alloc, &packet, text)?;
-            writeln!(text, " used={used}")?;
-        }
-        Parsed::More(needed) => writeln!(text, "more {needed}")?,
-        Parsed::Refused(fault) => writeln!(text, "refused {fault}")?,
+        Parsed::Whole(packet, used) => push_whole(alloc, &packet, used, text),
+        Parsed::More(needed) => Ok(writeln!(text, "more {needed}")?),
+        Parsed::Refused(fault) => Ok(writeln!(text, "refused {fault}")?),
     }
+}
+
+/// Adds the line of a packet that takes so many bytes.
+fn push_whole(
+    alloc: Global,
+    packet: &Packet<'_>,
+    used: usize,
+    text: &mut String,
+) -> Result<(), NoMemory> {
+    push_parts(alloc, packet, text)?;
+    writeln!(text, " used={used}")?;
     Ok(())
 }
 

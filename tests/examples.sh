@@ -9,6 +9,11 @@ examples=$here/../crates/nb_examples/examples
 "$here/join_examples.sh" --check
 count $? 'the examples are joined (tests/join_examples.sh)'
 
+# Names and texts by the thousand, whose answers a slow model finds.
+"$here/names_model.py" | "$program" >"$room/output"
+[ $? -eq 0 ] && grep -qE '^[0-9]{5,} examples, 0 wrong$' "$room/output"
+count $? "the examples of tests/names_model.py: $(tail -n 1 "$room/output")"
+
 # Words that mean nothing have no answer, and an answer that differs is printed.
 printf '%s\n' 'session.parse 0z = more 4' 'session.parse 00 00 = more 3' 'session.pares 00 = more 3' 'session.parse {X} = more 3' \
     'session.parse 00' 'session.parse 00 = more 4' 'session.parse 00 = more 3' 'let X' | "$program" >"$room/output"
@@ -31,7 +36,7 @@ let X
 END
 count $? 'wrong examples are printed'
 
-# A streams that can't be read or written.
+# Streams that can't be read or written.
 "$program" <"$room" >"$room/output" 2>"$room/errors"
 [ $? -eq 3 ] && [ "$(cat "$room/errors")" = 'nb_examples: read' ]
 count $? 'a folder as standard input'

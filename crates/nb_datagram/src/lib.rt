@@ -32,6 +32,3 @@ pub use kind::Kind;
 pub use lists::{Datagrams, ErrorPackets, Pieces};
 pub use packet::{ErrorPacket, Packet, QueryKind, QueryPacket};
 pub use too_long::TooLong;
-
-#[cfg(test)]
-mod tests;

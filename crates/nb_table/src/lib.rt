@@ -18,8 +18,6 @@ pub mod plain;
 mod running;
 mod state;
 mod table;
-#[cfg(test)]
-mod tests;
 mod united;
 
 pub use change::Change;

@@ -5,7 +5,7 @@ use crate::fault::ExampleFault;
 use crate::table::definitions::{plain_datagram, plain_state};
 use crate::table::drawing::{LONGEST, Lots, draw_list};
 use crate::table::merging::merge_text;
-use crate::table::steps::{all_lent, change_word, insert_into, key_of, push_part};
+use crate::table::steps::{all_lent, change_word, insert_into, key_of, push_part, put};
 use crate::words::Words;
 use nb_datagram::{Fragment, Key};
 use nb_table::plain::{byte_at, end_of};
@@ -148,14 +148,20 @@ fn is_due(
 fn orders_agree(alloc: Global, fragments: &[Fragment<'_>]) -> Result<bool, ExampleFault> {
     let mut table = empty_table(alloc);
     for fragment in fragments {
-        insert_into(&mut table, fragment)?;
+        put(&mut table, fragment)?;
     }
-    let mut turned = empty_table(alloc);
-    for fragment in fragments.iter().rev() {
-        insert_into(&mut turned, fragment)?;
-        insert_into(&mut turned, fragment)?;
-    }
+    let turned = turned_table(alloc, fragments)?;
     Ok(table.same(&turned) && states_agree(&turned, fragments))
+}
+
+/// The table of the fragments backwards, each twice.
+fn turned_table(alloc: Global, fragments: &[Fragment<'_>]) -> Result<Table, ExampleFault> {
+    let mut table = empty_table(alloc);
+    for fragment in fragments.iter().rev() {
+        put(&mut table, fragment)?;
+        put(&mut table, fragment)?;
+    }
+    Ok(table)
 }
 
 /// On which side each fragment falls: 0, 1, or 2 for both.
@@ -177,7 +183,7 @@ fn half(
     let mut table = empty_table(alloc);
     for (fragment, side) in fragments.iter().zip(sides) {
         if *side != other {
-            insert_into(&mut table, fragment)?;
+            put(&mut table, fragment)?;
         }
     }
     Ok(table)

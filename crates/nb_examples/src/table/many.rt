@@ -2,7 +2,7 @@
 
 use crate::byte_text::text_of_bytes;
 use crate::fault::ExampleFault;
-use crate::table::steps::{change_text, usual};
+use crate::table::steps::{change_text, put, usual};
 use crate::words::Words;
 use nb_datagram::limits::{FIRST, MORE};
 use nb_datagram::{Datagrams, Fragment, TooLong};
@@ -135,7 +135,8 @@ pub fn flood(alloc: Global, words: &mut Words<'_>) -> Result<String, ExampleFaul
 pub fn large(alloc: Global, words: &mut Words<'_>) -> Result<String, ExampleFault> {
     let count = words.number_16()?;
     let bytes = words.bytes(alloc)?;
-    let (mut table, lasts) = halves(alloc, count, bytes.as_slice())?;
+    let mut table = half(alloc, count, bytes.as_slice(), false)?;
+    let lasts = half(alloc, count, bytes.as_slice(), true)?;
     let Ok(datagrams) = table.merge(&lasts) else {
         return Err(ExampleFault::NoMemory);
     };
@@ -145,23 +146,35 @@ pub fn large(alloc: Global, words: &mut Words<'_>) -> Result<String, ExampleFaul
     Ok(format!(in alloc; "{handed} handed over, {held} keys, {saved}")?)
 }
 
-/// The tables of the first and of the last pieces of so many datagrams of these bytes.
-fn halves(alloc: Global, count: u16, bytes: &[u8]) -> Result<(Table, Table), ExampleFault> {
-    let mut firsts = Table::new(alloc, u32::from(count), u16::MAX);
-    let mut lasts = Table::new(alloc, u32::from(count), u16::MAX);
-    let mut answers = Answers::new(alloc);
+/// The table of the first or of the last pieces of so many datagrams of these bytes.
+fn half(alloc: Global, count: u16, bytes: &[u8], is_last: bool) -> Result<Table, ExampleFault> {
+    let mut table = Table::new(alloc, u32::from(count), u16::MAX);
     for id in 1..=count {
-        let parts = usual(id, 0, 0, Vec::new(alloc))?;
-        let offset = id.checked_rem(200).unwrap_or(0).saturating_add(1);
-        let (first, last) = bytes.split_at(usize::from(offset).min(bytes.len()));
-        answers.insert(
-            alloc,
-            &mut firsts,
-            parts.fragment_with(FIRST | MORE, 0, first),
-        )?;
-        answers.insert(alloc, &mut lasts, parts.fragment_with(0, offset, last))?;
+        put_half(alloc, &mut table, id, bytes, is_last)?;
     }
-    Ok((firsts, lasts))
+    Ok(table)
+}
+
+/// Inserts the first or the last piece of the datagram of an identifier.
+fn put_half(
+    alloc: Global,
+    table: &mut Table,
+    id: u16,
+    bytes: &[u8],
+    is_last: bool,
+) -> Result<(), ExampleFault> {
+    let parts = usual(id, 0, 0, Vec::new(alloc))?;
+    let offset = id.checked_rem(200).unwrap_or(0).saturating_add(1);
+    let (first, last) = bytes.split_at(usize::from(offset).min(bytes.len()));
+    let piece = if is_last {
+        parts.fragment_with(0, offset, last)
+    } else {
+        parts.fragment_with(FIRST | MORE, 0, first)
+    };
+    match piece {
+        Ok(fragment) => put(table, &fragment),
+        Err(_) => Err(ExampleFault::BadWords),
+    }
 }
 
 /// How many of the datagrams have these bytes.

@@ -4,21 +4,31 @@ use crate::datagram::comparing::comparison;
 use crate::datagram::texts::key_text;
 use crate::fault::ExampleFault;
 use crate::table::steps::{table_of, two_tables};
-use crate::words::Words;
+use crate::words::{Words, split};
+use nb_datagram::Key;
+use nb_table::State;
 use std::alloc::Global;
 
 /// `state KEY TABLE`: what the table knows of the key.
 pub fn state(alloc: Global, words: &mut Words<'_>) -> Result<String, ExampleFault> {
     let key = words.key()?;
-    let table = table_of(alloc, words.rest())?;
-    Ok(format!(in alloc; "{:?}", table.state(&key))?)
+    let state = state_of(alloc, &key, words.rest())?;
+    Ok(format!(in alloc; "{state:?}")?)
+}
+
+/// What the table that a text says knows of a key.
+fn state_of(alloc: Global, key: &Key, text: &str) -> Result<State, ExampleFault> {
+    let table = table_of(alloc, text)?;
+    Ok(table.state(key))
 }
 
 /// `states KEY TABLE | TABLE`: what both tables know of the key, and whether that is equal.
 pub fn compared_states(alloc: Global, words: &mut Words<'_>) -> Result<String, ExampleFault> {
     let key = words.key()?;
-    let (one, other) = two_tables(alloc, words.rest())?;
-    comparison(alloc, &one.state(&key), &other.state(&key))
+    let (one, other) = split(words.rest(), " | ")?;
+    let one = state_of(alloc, &key, one)?;
+    let other = state_of(alloc, &key, other)?;
+    comparison(alloc, &one, &other)
 }
 
 /// `keys TABLE`: how many keys there are, and these.

@@ -31,8 +31,9 @@ pub fn inserts_after_load(alloc: Global, words: &mut Words<'_>) -> Result<String
     let keys = words.number_32()?;
     let longest = words.number_16()?;
     let bytes = words.bytes(alloc)?;
+    let steps = words.rest();
     match load(alloc, bytes.as_slice(), keys, longest) {
-        Ok(mut table) => insert_texts(alloc, &mut table, words.rest()),
+        Ok(mut table) => insert_texts(alloc, &mut table, steps),
         Err(fault) => Ok(format!(in alloc; "{fault}")?),
     }
 }

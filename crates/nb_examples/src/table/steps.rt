@@ -42,16 +42,27 @@ pub fn usual(
 pub fn step_of(alloc: Global, step: &str) -> Result<OwnedFragment, ExampleFault> {
     let (id, rest) = split(step, ":")?;
     let (flags, rest) = split(rest, ":")?;
-    let (offset, rest) = split(rest, ":")?;
-    let (bytes, others) = rest.split_once(":").unwrap_or((rest, ""));
     let id = Words::new(id).hex_16()?;
     let flags = Words::new(flags).hex_8()?;
+    placed(alloc, id, flags, rest)
+}
+
+/// The fragment of an identifier, flags, and the rest of a step, `OFFSET:BYTES` and what follows.
+fn placed(alloc: Global, id: u16, flags: u8, rest: &str) -> Result<OwnedFragment, ExampleFault> {
+    let (offset, rest) = split(rest, ":")?;
+    let (bytes, others) = rest.split_once(":").unwrap_or((rest, ""));
     let offset = Words::new(offset).number_16()?;
-    let mut fragment = usual(id, flags, offset, bytes_of(alloc, bytes)?)?;
-    if !others.is_empty() {
-        for other in others.split(":") {
-            change(&mut fragment, other)?;
-        }
+    let fragment = usual(id, flags, offset, bytes_of(alloc, bytes)?)?;
+    changed(fragment, others)
+}
+
+/// The fragment with the parts that aren't the usual ones.
+fn changed(mut fragment: OwnedFragment, others: &str) -> Result<OwnedFragment, ExampleFault> {
+    if others.is_empty() {
+        return Ok(fragment);
+    }
+    for other in others.split(":") {
+        change(&mut fragment, other)?;
     }
     Ok(fragment)
 }
@@ -107,10 +118,23 @@ pub fn table_of(alloc: Global, text: &str) -> Result<Table, ExampleFault> {
     let longest = words.number_16()?;
     let mut table = Table::new(alloc, keys, longest);
     for step in words.rest().split_whitespace() {
-        let parts = step_of(alloc, step)?;
-        insert_into(&mut table, &lent(&parts)?)?;
+        put_step(alloc, &mut table, step)?;
     }
     Ok(table)
+}
+
+/// Inserts the fragment that a step says, if it is taken in.
+fn put_step(alloc: Global, table: &mut Table, step: &str) -> Result<(), ExampleFault> {
+    let parts = step_of(alloc, step)?;
+    put(table, &lent(&parts)?)
+}
+
+/// Inserts a fragment, if it is taken in.
+pub fn put(table: &mut Table, fragment: &Fragment<'_>) -> Result<(), ExampleFault> {
+    match table.insert(fragment) {
+        Err(TableFault::NoMemory) => Err(ExampleFault::NoMemory),
+        _ => Ok(()),
+    }
 }
 
 /// Inserts a fragment, and answers what that changed where it is taken in.

@@ -21,6 +21,13 @@ pub fn answer(alloc: Global, call: &str, words: &mut Words<'_>) -> Result<String
         "cut" => cutting::cut_up(alloc, words),
         "packets" => cutting::packets(alloc, words),
         "datagram" => values::datagram(alloc, words),
+        _ => answer_more(alloc, call, words),
+    }
+}
+
+/// What a call about lists, numbers, keys or faults answers.
+fn answer_more(alloc: Global, call: &str, words: &mut Words<'_>) -> Result<String, ExampleFault> {
+    match call {
         "datagrams" => values::listed_datagrams(alloc, words),
         "errors" => values::listed_errors(alloc, words),
         "type" => values::message_type(alloc, words),

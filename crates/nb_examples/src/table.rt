@@ -33,6 +33,13 @@ pub fn answer(alloc: Global, call: &str, words: &mut Words<'_>) -> Result<String
         "keys" => reading::keys(alloc, words),
         "drop" => reading::dropped(alloc, words),
         "same" => reading::compared(alloc, words),
+        _ => answer_joins(alloc, call, words),
+    }
+}
+
+/// What a call that joins tables, or saves and loads one, answers.
+fn answer_joins(alloc: Global, call: &str, words: &mut Words<'_>) -> Result<String, ExampleFault> {
+    match call {
         "fits" => merging::fits(alloc, words),
         "merge" => merging::merges(alloc, words),
         "merged" => merging::merged(alloc, words),
@@ -42,15 +49,15 @@ pub fn answer(alloc: Global, call: &str, words: &mut Words<'_>) -> Result<String
         "save" => saving::saved(alloc, words),
         "load" => saving::loaded(alloc, words),
         "loaded" => saving::inserts_after_load(alloc, words),
-        "faults" => faults::table_faults(alloc, words),
-        "load_faults" => faults::load_faults(alloc, words),
         _ => answer_more(alloc, call, words),
     }
 }
 
-/// What a call of the definitions' program, of many fragments, or of a caller answers.
+/// What a call about faults, the definitions' program, many fragments or a caller answers.
 fn answer_more(alloc: Global, call: &str, words: &mut Words<'_>) -> Result<String, ExampleFault> {
     match call {
+        "faults" => faults::table_faults(alloc, words),
+        "load_faults" => faults::load_faults(alloc, words),
         "plain" => definitions::plain(alloc, words),
         "byte" => definitions::byte(alloc, words),
         "against_plain" => held_against::against_plain(alloc, words),

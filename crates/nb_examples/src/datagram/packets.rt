@@ -2,10 +2,12 @@
 
 use crate::byte_text::text_of_bytes;
 use crate::datagram::owned::OwnedFragment;
-use crate::datagram::texts::{fragment_text, kind_of, packet_text, query_of};
+use crate::datagram::texts::{fragment_text, kind_of, packet_text};
 use crate::fault::ExampleFault;
 use crate::words::Words;
-use nb_datagram::{ErrorPacket, Fragment, Kind, Packet, QueryKind, QueryPacket, decode, encode};
+use nb_datagram::{
+    DatagramFault, ErrorPacket, Fragment, Kind, Packet, QueryKind, QueryPacket, decode, encode,
+};
 use std::alloc::Global;
 
 /// `decode BYTES`: the packet at the front, and how many bytes it takes up.
@@ -16,12 +18,20 @@ use std::alloc::Global;
 pub fn decoded(alloc: Global, words: &mut Words<'_>) -> Result<String, ExampleFault> {
     let bytes = words.bytes(alloc)?;
     match decode(bytes.as_slice()) {
-        Ok((packet, used)) => {
-            let text = packet_text(alloc, &packet)?;
-            Ok(format!(in alloc; "{text}, used {used}")?)
-        }
-        Err(fault) => Ok(format!(in alloc; "{fault}")?),
+        Ok((packet, used)) => used_text(alloc, &packet, used),
+        Err(fault) => fault_text(alloc, fault),
     }
+}
+
+/// A packet, and how many bytes it takes up, as text.
+fn used_text(alloc: Global, packet: &Packet<'_>, used: usize) -> Result<String, ExampleFault> {
+    let text = packet_text(alloc, packet)?;
+    Ok(format!(in alloc; "{text}, used {used}")?)
+}
+
+/// A fault as text.
+fn fault_text(alloc: Global, fault: DatagramFault) -> Result<String, ExampleFault> {
+    Ok(format!(in alloc; "{fault}")?)
 }
 
 /// `again BYTES`: the packet at the front, encoded.
@@ -41,14 +51,29 @@ pub fn packet_bytes(alloc: Global, packet: &Packet<'_>) -> Result<String, Exampl
 
 /// `encode PACKET`: the bytes of a packet, said as `decode` says it.
 pub fn encoded(alloc: Global, words: &mut Words<'_>) -> Result<String, ExampleFault> {
-    let word = words.word()?;
-    if word == "error" {
-        return packet_bytes(alloc, &Packet::Error(error_of(words)?));
+    match words.word()? {
+        "error" => encoded_error(alloc, words),
+        "find" => encoded_query(alloc, QueryKind::Request, words),
+        "found" => encoded_query(alloc, QueryKind::Positive, words),
+        "missing" => encoded_query(alloc, QueryKind::Negative, words),
+        word => encoded_fragment(alloc, kind_of(word)?, words),
     }
-    if let Ok(kind) = query_of(word) {
-        return packet_bytes(alloc, &Packet::Query(query_packet_of(kind, words)?));
-    }
-    encoded_fragment(alloc, kind_of(word)?, words)
+}
+
+/// The bytes of an error packet.
+fn encoded_error(alloc: Global, words: &mut Words<'_>) -> Result<String, ExampleFault> {
+    let error = error_of(words)?;
+    packet_bytes(alloc, &Packet::Error(error))
+}
+
+/// The bytes of a query packet.
+fn encoded_query(
+    alloc: Global,
+    kind: QueryKind,
+    words: &mut Words<'_>,
+) -> Result<String, ExampleFault> {
+    let query = query_packet_of(kind, words)?;
+    packet_bytes(alloc, &Packet::Query(query))
 }
 
 /// The bytes of a fragment's packet, or why there is no such fragment.

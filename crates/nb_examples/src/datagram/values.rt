@@ -45,11 +45,16 @@ impl Parts {
     }
 }
 
+/// The datagram that the words say, or why there is none.
+fn said(alloc: Global, words: &mut Words<'_>) -> Result<Result<Datagram, TooLong>, ExampleFault> {
+    let parts = Parts::of(words)?;
+    let data = words.bytes(alloc)?;
+    Ok(parts.with(Bytes::from_vec(data)))
+}
+
 /// The datagram that the words say.
 pub fn datagram_of(alloc: Global, words: &mut Words<'_>) -> Result<Datagram, ExampleFault> {
-    let parts = Parts::of(words)?;
-    let data = Bytes::from_vec(words.bytes(alloc)?);
-    match parts.with(data) {
+    match said(alloc, words)? {
         Ok(datagram) => Ok(datagram),
         Err(_) => Err(ExampleFault::BadWords),
     }
@@ -58,9 +63,7 @@ pub fn datagram_of(alloc: Global, words: &mut Words<'_>) -> Result<Datagram, Exa
 /// `datagram KIND KEY SOURCE DESTINATION BYTES`: the parts of the datagram of these parts, or why
 /// there is none.
 pub fn datagram(alloc: Global, words: &mut Words<'_>) -> Result<String, ExampleFault> {
-    let parts = Parts::of(words)?;
-    let data = Bytes::from_vec(words.bytes(alloc)?);
-    match parts.with(data) {
+    match said(alloc, words)? {
         Ok(datagram) => datagram_text(alloc, &datagram),
         Err(fault) => Ok(format!(in alloc; "{fault}")?),
     }
@@ -172,13 +175,41 @@ pub fn order(alloc: Global, words: &mut Words<'_>) -> Result<String, ExampleFaul
 /// them, and whether they are equal.
 pub fn compared(alloc: Global, words: &mut Words<'_>) -> Result<String, ExampleFault> {
     match words.word()? {
-        "key" => comparison(alloc, &words.key()?, &words.key()?),
-        "kind" => comparison(alloc, &kind_of(words.word()?)?, &kind_of(words.word()?)?),
-        "query" => comparison(alloc, &query_of(words.word()?)?, &query_of(words.word()?)?),
-        "error" => comparison(alloc, &error_of(words)?, &error_of(words)?),
+        "key" => compared_keys(alloc, words),
+        "kind" => compared_kinds(alloc, words),
+        "query" => compared_queries(alloc, words),
+        "error" => compared_errors(alloc, words),
         "too_long" => comparison(alloc, &TooLong, &TooLong),
         _ => Err(ExampleFault::BadWords),
     }
+}
+
+/// Two keys held against each other.
+fn compared_keys(alloc: Global, words: &mut Words<'_>) -> Result<String, ExampleFault> {
+    let one = words.key()?;
+    let other = words.key()?;
+    comparison(alloc, &one, &other)
+}
+
+/// Two kinds held against each other.
+fn compared_kinds(alloc: Global, words: &mut Words<'_>) -> Result<String, ExampleFault> {
+    let one = kind_of(words.word()?)?;
+    let other = kind_of(words.word()?)?;
+    comparison(alloc, &one, &other)
+}
+
+/// What two query packets say, held against each other.
+fn compared_queries(alloc: Global, words: &mut Words<'_>) -> Result<String, ExampleFault> {
+    let one = query_of(words.word()?)?;
+    let other = query_of(words.word()?)?;
+    comparison(alloc, &one, &other)
+}
+
+/// Two error packets held against each other.
+fn compared_errors(alloc: Global, words: &mut Words<'_>) -> Result<String, ExampleFault> {
+    let one = error_of(words)?;
+    let other = error_of(words)?;
+    comparison(alloc, &one, &other)
 }
 
 /// `faults BYTES BYTES`: why there is no packet at the front of each, as `Debug` prints it, and

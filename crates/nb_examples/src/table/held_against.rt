@@ -19,15 +19,32 @@ pub fn against_plain(alloc: Global, words: &mut Words<'_>) -> Result<String, Exa
     let mut lots = Lots::new(words.number_32()?);
     let lists = words.number_32()?;
     for list in 0..lists {
-        let parts = draw_list(alloc, &mut lots)?;
-        let fragments = all_lent(alloc, parts.as_slice())?;
-        let sides = draw_sides(alloc, &mut lots, fragments.len())?;
-        if let Some(what) = difference(alloc, fragments.as_slice(), sides.as_slice())? {
-            let text = list_text(alloc, fragments.as_slice())?;
-            return Ok(format!(in alloc; "list {list}, {what}: {text}")?);
+        if let Some(what) = drawn_difference(alloc, &mut lots)? {
+            return Ok(format!(in alloc; "list {list}, {what}")?);
         }
     }
     Ok(format!(in alloc; "{lists} lists agree")?)
+}
+
+/// In what tables differ from the definitions over the next list that is drawn, and the list.
+fn drawn_difference(alloc: Global, lots: &mut Lots) -> Result<Option<String>, ExampleFault> {
+    let parts = draw_list(alloc, lots)?;
+    let fragments = all_lent(alloc, parts.as_slice())?;
+    let sides = draw_sides(alloc, lots, fragments.len())?;
+    match difference(alloc, fragments.as_slice(), sides.as_slice())? {
+        Some(what) => Ok(Some(difference_text(alloc, what, fragments.as_slice())?)),
+        None => Ok(None),
+    }
+}
+
+/// A difference and the list with which it comes, as text.
+fn difference_text(
+    alloc: Global,
+    what: &str,
+    fragments: &[Fragment<'_>],
+) -> Result<String, ExampleFault> {
+    let text = list_text(alloc, fragments)?;
+    Ok(format!(in alloc; "{what}: {text}")?)
 }
 
 /// Fragments as text.
@@ -78,17 +95,28 @@ fn inserts_agree(alloc: Global, fragments: &[Fragment<'_>]) -> Result<bool, Exam
     for (place, fragment) in fragments.iter().enumerate() {
         let before = fragments.get(..place).unwrap_or(&[]);
         let after = fragments.get(..=place).unwrap_or(&[]);
-        let Some(change) = insert_into(&mut table, fragment)? else {
-            return Ok(false);
-        };
-        if change_word(&change) != due_word(before, after, fragment) {
-            return Ok(false);
-        }
-        if !states_agree(&table, after) || !is_due(alloc, &change, after)? {
+        if !insert_agrees(alloc, &mut table, before, after, fragment)? {
             return Ok(false);
         }
     }
     Ok(true)
+}
+
+/// Whether the insert of a fragment that comes after others answers as the definitions say.
+fn insert_agrees(
+    alloc: Global,
+    table: &mut Table,
+    before: &[Fragment<'_>],
+    after: &[Fragment<'_>],
+    fragment: &Fragment<'_>,
+) -> Result<bool, ExampleFault> {
+    let Some(change) = insert_into(table, fragment)? else {
+        return Ok(false);
+    };
+    if change_word(&change) != due_word(before, after, fragment) || !states_agree(table, after) {
+        return Ok(false);
+    }
+    is_due(alloc, &change, after)
 }
 
 /// The word for the change that is due where a fragment comes after others.
@@ -199,13 +227,23 @@ fn merges_agree(
 ) -> Result<bool, ExampleFault> {
     let mut one = half(alloc, fragments, sides, 1_u16.saturating_sub(side))?;
     let other = half(alloc, fragments, sides, side)?;
-    let due = due_text(alloc, &one, fragments)?;
-    let handed = merge_text(alloc, one.merge(&other))?;
-    if handed.as_str() != due.as_str() {
+    if !merge_agrees(alloc, &mut one, &other, fragments)? {
         return Ok(false);
     }
     let all = half(alloc, fragments, sides, 3)?;
     Ok(one.same(&all) && states_agree(&one, fragments))
+}
+
+/// Whether the table hands over what is due as it merges the other.
+fn merge_agrees(
+    alloc: Global,
+    one: &mut Table,
+    other: &Table,
+    fragments: &[Fragment<'_>],
+) -> Result<bool, ExampleFault> {
+    let due = due_text(alloc, one, fragments)?;
+    let handed = merge_text(alloc, one.merge(other))?;
+    Ok(handed.as_str() == due.as_str())
 }
 
 /// The datagrams of the keys that are whole by the definitions and aren't in the table, ascending.

@@ -4,6 +4,7 @@ use crate::datagram::texts::datagram_text;
 use crate::fault::ExampleFault;
 use crate::table::steps::{change_text, fault_text, insert_into, lent, push_part, step_of};
 use crate::words::Words;
+use nb_datagram::Datagram;
 use nb_table::{Change, Table};
 use std::alloc::Global;
 
@@ -53,10 +54,24 @@ fn say_handed(
     step: &str,
     said: &mut String,
 ) -> Result<(), ExampleFault> {
-    let parts = step_of(alloc, step)?;
-    if let Some(Change::Whole(datagram)) = insert_into(table, &lent(&parts)?)? {
-        let text = datagram_text(alloc, &datagram)?;
-        push_part(said, "; ", text.as_str())?;
+    match insert_step(alloc, table, step)? {
+        Some(Change::Whole(datagram)) => say_datagram(alloc, &datagram, said),
+        _ => Ok(()),
     }
-    Ok(())
+}
+
+/// Inserts the fragment of a step, and answers what that changed where it is taken in.
+fn insert_step(
+    alloc: Global,
+    table: &mut Table,
+    step: &str,
+) -> Result<Option<Change>, ExampleFault> {
+    let parts = step_of(alloc, step)?;
+    insert_into(table, &lent(&parts)?)
+}
+
+/// Writes a datagram after those before it.
+fn say_datagram(alloc: Global, datagram: &Datagram, said: &mut String) -> Result<(), ExampleFault> {
+    let text = datagram_text(alloc, datagram)?;
+    push_part(said, "; ", text.as_str())
 }

@@ -1,6 +1,7 @@
 //! Many fragments, and tables of many keys.
 
 use crate::byte_text::text_of_bytes;
+use crate::datagram::owned::OwnedFragment;
 use crate::fault::ExampleFault;
 use crate::table::steps::{change_text, put, usual};
 use crate::words::Words;
@@ -72,10 +73,37 @@ impl Answers {
         };
         self.push(answer)
     }
+
+    /// Inserts the first two bytes or the last byte of a datagram of an identifier.
+    fn insert_half(
+        &mut self,
+        alloc: Global,
+        table: &mut Table,
+        id: u16,
+        is_last: bool,
+    ) -> Result<(), ExampleFault> {
+        let parts = usual(id, 0, 0, Vec::new(alloc))?;
+        self.insert(alloc, table, half_piece(&parts, b"abc", 2, is_last))
+    }
 }
 
-/// `one_by_one BYTES`: what the inserts of a datagram's bytes answer, each byte in a fragment of its
-/// own, the last one first, and then all of them once more.
+/// The first or the last piece of a datagram of these bytes, which is cut at a place.
+fn half_piece<'a>(
+    parts: &OwnedFragment,
+    bytes: &'a [u8],
+    place: u16,
+    is_last: bool,
+) -> Result<Fragment<'a>, TooLong> {
+    let (first, last) = bytes.split_at(usize::from(place).min(bytes.len()));
+    if is_last {
+        parts.fragment_with(0, place, last)
+    } else {
+        parts.fragment_with(FIRST | MORE, 0, first)
+    }
+}
+
+/// `one_by_one BYTES`: what the inserts of a datagram's bytes answer, each byte in a fragment of
+/// its own, the last one first, and then all of them once more.
 pub fn one_by_one(alloc: Global, words: &mut Words<'_>) -> Result<String, ExampleFault> {
     let bytes = words.bytes(alloc)?;
     let mut table = Table::new(alloc, 1, u16::MAX);
@@ -115,13 +143,10 @@ pub fn flood(alloc: Global, words: &mut Words<'_>) -> Result<String, ExampleFaul
     let count = words.number_16()?;
     let mut answers = Answers::new(alloc);
     for id in 1..=count {
-        let parts = usual(id, 0, 0, Vec::new(alloc))?;
-        let fragment = parts.fragment_with(FIRST | MORE, 0, b"ab");
-        answers.insert(alloc, &mut table, fragment)?;
+        answers.insert_half(alloc, &mut table, id, false)?;
     }
     for id in 1..=count {
-        let parts = usual(id, 0, 0, Vec::new(alloc))?;
-        answers.insert(alloc, &mut table, parts.fragment_with(0, 2, b"c"))?;
+        answers.insert_half(alloc, &mut table, id, true)?;
     }
     let said = answers.text()?;
     let held = table.len();
@@ -136,14 +161,25 @@ pub fn large(alloc: Global, words: &mut Words<'_>) -> Result<String, ExampleFaul
     let count = words.number_16()?;
     let bytes = words.bytes(alloc)?;
     let mut table = half(alloc, count, bytes.as_slice(), false)?;
-    let lasts = half(alloc, count, bytes.as_slice(), true)?;
-    let Ok(datagrams) = table.merge(&lasts) else {
-        return Err(ExampleFault::NoMemory);
-    };
-    let handed = count_equal(&datagrams, bytes.as_slice());
+    let handed = merge_lasts(alloc, &mut table, count, bytes.as_slice())?;
     let held = table.len();
     let saved = saved_text(alloc, &table)?;
     Ok(format!(in alloc; "{handed} handed over, {held} keys, {saved}")?)
+}
+
+/// Merges the table of the last pieces into that of the first, and answers how many of the
+/// datagrams are handed over.
+fn merge_lasts(
+    alloc: Global,
+    table: &mut Table,
+    count: u16,
+    bytes: &[u8],
+) -> Result<u32, ExampleFault> {
+    let lasts = half(alloc, count, bytes, true)?;
+    match table.merge(&lasts) {
+        Ok(datagrams) => Ok(count_equal(&datagrams, bytes)),
+        Err(_) => Err(ExampleFault::NoMemory),
+    }
 }
 
 /// The table of the first or of the last pieces of so many datagrams of these bytes.
@@ -165,13 +201,7 @@ fn put_half(
 ) -> Result<(), ExampleFault> {
     let parts = usual(id, 0, 0, Vec::new(alloc))?;
     let offset = id.checked_rem(200).unwrap_or(0).saturating_add(1);
-    let (first, last) = bytes.split_at(usize::from(offset).min(bytes.len()));
-    let piece = if is_last {
-        parts.fragment_with(0, offset, last)
-    } else {
-        parts.fragment_with(FIRST | MORE, 0, first)
-    };
-    match piece {
+    match half_piece(&parts, bytes, offset, is_last) {
         Ok(fragment) => put(table, &fragment),
         Err(_) => Err(ExampleFault::BadWords),
     }

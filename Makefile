@@ -18,10 +18,9 @@ build:
 check:
 	rt all check
 
-# The merge gate, and then the program that it built as a process of its own.
+# The merge gate: rt ci, and then the programs that it built as processes of their own.
 test:
-	rt ci
-	tests/program.sh
+	tests/all.sh
 
 # Build the program, and print how many packets a second it takes.
 bench: build

@@ -2,22 +2,8 @@
 # The built program as a process of its own: exit statuses, words, streams that are closed or full, how often it writes,
 # and each request for memory refused in turn. Usage: tests/program.sh [PROGRAM]; its last line is 'N passed, M failed'.
 set -uo pipefail
-here=$(cd "$(dirname "$0")" && pwd)
+. "$(dirname "$0")/counting.sh"
 program=${1:-$here/../crates/nbt/out/nbt}
-room=$(mktemp -d)
-trap 'rm -rf "$room"' EXIT
-passed=0
-failed=0
-
-# One case more: whether it went well, and its name.
-count() {
-    if [ "$1" -eq 0 ]; then
-        passed=$((passed + 1))
-    else
-        failed=$((failed + 1))
-        echo "failed: $2"
-    fi
-}
 
 # Whether the file holds exactly the text.
 holds() { printf '%s' "$2" | cmp -s - "$1"; }
@@ -25,7 +11,7 @@ holds() { printf '%s' "$2" | cmp -s - "$1"; }
 # sample COMMAND TOLD: what a command writes and ends with, told as in tests/cases.
 sample() {
     local command=$1 told=$2 status
-    PATH=$room/bin:$PATH bash -c "$command" </dev/null >"$room/output" 2>"$room/errors"
+    (cd "$room/files" && PATH=$room/bin:$PATH bash -c "$command" </dev/null) >"$room/output" 2>"$room/errors"
     status=$?
     {
         if [[ $told == ...* ]] && [ -s "$room/output" ]; then echo ...; else cat "$room/output"; fi
@@ -40,13 +26,13 @@ sample() {
 # status 3, `nbt: memory`, and whole lines of its output or none.
 remembers() {
     local status number n
-    NBT_REQUESTS=$room/requests LD_PRELOAD=$room/refuse.so "$program" "$@" <"$input" >"$room/ample" 2>"$room/ample_errors"
+    NBT_REQUESTS=$room/requests LD_PRELOAD=$room/refuse_memory.so "$program" "$@" <"$input" >"$room/ample" 2>"$room/ample_errors"
     status=$?
     number=$(cat "$room/requests")
     [ "$number" -gt 0 ]
     count $? "nbt $*: it asks for memory"
     for ((n = 1; n <= number; n++)); do
-        NBT_REFUSED=$n LD_PRELOAD=$room/refuse.so "$program" "$@" <"$input" >"$room/output" 2>"$room/errors"
+        NBT_REFUSED=$n LD_PRELOAD=$room/refuse_memory.so "$program" "$@" <"$input" >"$room/output" 2>"$room/errors"
         case $? in
         "$status") cmp -s "$room/ample" "$room/output" && cmp -s "$room/ample_errors" "$room/errors" ;;
         3) holds "$room/errors" $'nbt: memory\n' && is_front ;;
@@ -69,9 +55,14 @@ scoped=204547464345464545434143414341434143414341434143414341434143414341074e455
 empty=110200010a000005008a00440000$joe$fred
 wildcard=20434b41414141414141414141414141414141414141414141414141414141414100
 
+compile devices
+compile refuse_memory
+
 # The cases of tests/cases: after `$ COMMAND` stand the lines of its standard output, those of its standard error behind
 # `! `, and `? STATUS` where that isn't 0. `...` stands for text that isn't empty, {FRED} and the like for spellings.
-mkdir "$room/bin" && ln -s "$(realpath "$program")" "$room/bin/nbt"
+# `hostile NAME=VALUE .. COMMAND` runs a command over the devices of tests/devices.c.
+mkdir "$room/bin" "$room/files" && ln -s "$(realpath "$program")" "$room/bin/nbt"
+printf '#!/bin/sh\nexec env LD_PRELOAD=%s/devices.so "$@"\n' "$room" >"$room/bin/hostile" && chmod +x "$room/bin/hostile"
 spelled() { sed "s/{FRED}/$fred/g; s/{JOE}/$joe/g; s/{SCOPED}/$scoped/g; s/{WILDCARD}/$wildcard/g; s/{EMPTY}/$empty/g" "$1"; }
 for cases in "$here"/cases/*.txt; do
     command='' told=''
@@ -155,46 +146,37 @@ done
 
 # A long report is written in large pieces.
 seq 100000 | sed 's/.*/tick 1/' >"$room/input"
-if ${CC:-cc} -shared -fPIC -O1 -o "$room/count.so" "$here/count_writes.c" -ldl; then
-    for words in show 'replay A<20>'; do
-        NBT_WRITES=$room/writes LD_PRELOAD=$room/count.so "$program" $words <"$room/input" >"$room/output"
-        [ $? -eq 0 ] && [ "$(wc -l <"$room/output")" -eq 100000 ]
-        count $? "nbt $words, 100,000 lines"
-        writes=$(cat "$room/writes")
-        [ "$writes" -ge 10 ] && [ "$writes" -lt 1000 ]
-        count $? "nbt $words, 100,000 lines in $writes writes"
-    done
-else
-    count 1 'tests/count_writes.c: no C compiler'
-fi
+for words in show 'replay A<20>'; do
+    "$room/bin/hostile" NBT_WRITES="$room/writes" "$program" $words <"$room/input" >"$room/output"
+    [ $? -eq 0 ] && [ "$(wc -l <"$room/output")" -eq 100000 ]
+    count $? "nbt $words, 100,000 lines"
+    writes=$(cat "$room/writes")
+    [ "$writes" -ge 10 ] && [ "$writes" -lt 1000 ]
+    count $? "nbt $words, 100,000 lines in $writes writes"
+done
 
 # Each request for memory refused.
 input=/dev/null
-if ${CC:-cc} -shared -fPIC -O1 -o "$room/refuse.so" "$here/refuse_memory.c" -ldl; then
-    remembers name 'FRED<20>.NETBIOS.COM'
-    remembers name --bytes "$scoped"
-    remembers name FRED
-    remembers name
-    remembers name --help
-    remembers build registration 0002 'FRED<20>' 300000 0000 10.0.0.5
-    remembers build message 616263
-    remembers build query 0001 FRED
-    remembers build group 10.0.0.5:138/0001 'JOE<00>' 'FRED<20>' 00010203040506070809 4
-    { "$program" build query 0001 'FRED<20>.A' && printf 'tick 2\n139 0 00000003616263\nx\n'; } >"$room/input"
-    input=$room/input
-    remembers show
-    { "$program" build group 10.0.0.5:138/0001 'JOE<00>' 'FRED<20>' 000102030405 2 && echo tick 1; } >"$room/input"
-    remembers save
-    remembers save --keys 0
-    remembers replay 'FRED<20>' 'JOE<00>'
-    remembers replay FRED
-    "$program" save <"$room/input" | sed p >"$room/tables"
-    input=$room/tables
-    remembers merge
-    remembers agree
-else
-    count 1 'tests/refuse_memory.c: no C compiler'
-fi
+remembers name 'FRED<20>.NETBIOS.COM'
+remembers name --bytes "$scoped"
+remembers name FRED
+remembers name
+remembers name --help
+remembers build registration 0002 'FRED<20>' 300000 0000 10.0.0.5
+remembers build message 616263
+remembers build query 0001 FRED
+remembers build group 10.0.0.5:138/0001 'JOE<00>' 'FRED<20>' 00010203040506070809 4
+{ "$program" build query 0001 'FRED<20>.A' && printf 'tick 2\n139 0 00000003616263\nx\n'; } >"$room/input"
+input=$room/input
+remembers show
+{ "$program" build group 10.0.0.5:138/0001 'JOE<00>' 'FRED<20>' 000102030405 2 && echo tick 1; } >"$room/input"
+remembers save
+remembers save --keys 0
+remembers replay 'FRED<20>' 'JOE<00>'
+remembers replay FRED
+"$program" save <"$room/input" | sed p >"$room/tables"
+input=$room/tables
+remembers merge
+remembers agree
 
-echo "$passed passed, $failed failed"
-[ "$failed" -eq 0 ]
+finish

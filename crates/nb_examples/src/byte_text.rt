@@ -2,6 +2,7 @@
 //! `'` and `'`, or `empty`, and may have `*` and a number after it: it stands so often.
 
 use crate::fault::ExampleFault;
+use hex::FromHexError;
 use std::alloc::{AllocError, Global};
 
 /// From how many equal bytes on they are written as one of them with their number.
@@ -39,6 +40,7 @@ fn bytes_once(alloc: Global, part: &str) -> Result<Vec<u8>, ExampleFault> {
     }
     match hex::decode(alloc, part) {
         Ok(bytes) => Ok(bytes),
+        Err(FromHexError::OutOfMemory) => Err(ExampleFault::NoMemory),
         Err(_) => Err(ExampleFault::BadWords),
     }
 }

@@ -1,6 +1,6 @@
 //! Devices that do as an example says: slow, short, interrupted, failing.
 
-use std::alloc::{AllocError, Global};
+use std::alloc::Global;
 use std::io;
 use std::io::{ErrorKind, Read, Write};
 
@@ -88,6 +88,7 @@ impl Read for Source<'_> {
 pub struct Sink {
     taken: Vec<u8>,
     turns: Turns,
+    lacks_memory: bool,
 }
 
 impl Sink {
@@ -96,6 +97,7 @@ impl Sink {
         Sink {
             taken: Vec::new(alloc),
             turns: Turns::new(conduct),
+            lacks_memory: false,
         }
     }
 
@@ -104,9 +106,9 @@ impl Sink {
         self.taken.as_slice()
     }
 
-    /// Makes room for so many bytes more, so that taking them needs no memory.
-    pub fn reserve(&mut self, bytes: usize) -> Result<(), AllocError> {
-        self.taken.reserve(bytes)
+    /// Whether it failed because memory ran out.
+    pub fn lacks_memory(&self) -> bool {
+        self.lacks_memory
     }
 }
 
@@ -114,7 +116,10 @@ impl Write for Sink {
     fn write(&mut self, buf: &[u8]) -> io::Result<usize> {
         let most = self.turns.next(buf.len())?;
         let front = buf.get(..most).unwrap_or(buf);
-        self.taken.extend_from_slice(front)?;
+        if self.taken.extend_from_slice(front).is_err() {
+            self.lacks_memory = true;
+            return Err(io::Error::from(ErrorKind::OutOfMemory));
+        }
         Ok(front.len())
     }
 

@@ -48,7 +48,8 @@ impl Examples {
         if let Some(definition) = line.strip_prefix("let ") {
             return match self.vocabulary.define(alloc, definition) {
                 Ok(()) => Ok(()),
-                Err(fault) => self.note(alloc, line, fault, output),
+                Err(ExampleFault::NoMemory) => Err(ExampleFault::NoMemory),
+                Err(fault) => self.note(line, fault, output),
             };
         }
         match line.strip_prefix("each ") {
@@ -71,7 +72,7 @@ impl Examples {
                 }
                 Ok(())
             }
-            Err(fault) => self.note(alloc, repeated, fault, output),
+            Err(fault) => self.note(repeated, fault, output),
         }
     }
 
@@ -90,7 +91,7 @@ impl Examples {
                 self.wrong = self.wrong.saturating_add(1);
                 Ok(writeln!(output, "{example}\n    answered: {said}")?)
             }
-            Err(fault) => self.note(alloc, line, fault, output),
+            Err(fault) => self.note(line, fault, output),
         }
     }
 
@@ -121,7 +122,6 @@ impl Examples {
     /// Prints a line that has no answer.
     fn note<W: Write>(
         &mut self,
-        _alloc: Global,
         line: &str,
         fault: ExampleFault,
         output: &mut W,

@@ -1,12 +1,37 @@
 //! The calls of nb_member.
 
+mod lines;
+mod many;
+mod outcomes;
+mod refusals;
+mod replays;
+mod running;
+mod stations;
+mod steps;
+mod values;
+
 use crate::fault::ExampleFault;
 use crate::words::Words;
 use std::alloc::Global;
 
 /// What a call answers, as text.
-pub fn answer(_alloc: Global, call: &str, _words: &mut Words<'_>) -> Result<String, ExampleFault> {
+pub fn answer(alloc: Global, call: &str, words: &mut Words<'_>) -> Result<String, ExampleFault> {
     match call {
+        "line" => lines::read(alloc, words),
+        "names" => stations::held(alloc, words),
+        "hears" => stations::heard(alloc, words),
+        "take" => steps::taken(alloc, words),
+        "both" => steps::taken_by_both(alloc, words),
+        "run" => running::run_by_one(alloc, words),
+        "two" => running::run_by_two(alloc, words),
+        "many" => many::taken(alloc, words),
+        "report" => replays::reported(alloc, words),
+        "replay" => replays::replayed(alloc, words),
+        "written" => replays::written(alloc, words),
+        "error" => refusals::error(alloc, words),
+        "refusal" => refusals::refusal(alloc, words),
+        "compare" => values::compared(alloc, words),
+        "memory" => values::memory(alloc),
         _ => Err(ExampleFault::NoSuchCall),
     }
 }

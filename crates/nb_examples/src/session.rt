@@ -18,6 +18,7 @@ pub fn answer(alloc: Global, call: &str, words: &mut Words<'_>) -> Result<String
         "encode" => encoded(alloc, words),
         "stream" => streamed(alloc, words),
         "pieces" => streamed_in_pieces(alloc, words),
+        "halves" => streamed_in_halves(alloc, words),
         "read" => read(alloc, words),
         "kind" => kind(alloc, words),
         "same" => compared(alloc, words),
@@ -142,8 +143,8 @@ fn say_next(
     Ok(())
 }
 
-/// `pieces SIZE BYTES`: the packets of a stream that is fed the bytes in pieces of a size, and what
-/// it needs in the end.
+/// `pieces SIZE BYTES`: the bytes of each packet of a stream that is fed the bytes in pieces of a
+/// size, and what the stream needs in the end.
 fn streamed_in_pieces(alloc: Global, words: &mut Words<'_>) -> Result<String, ExampleFault> {
     let size = words.size()?;
     let bytes = words.bytes(alloc)?;
@@ -153,14 +154,39 @@ fn streamed_in_pieces(alloc: Global, words: &mut Words<'_>) -> Result<String, Ex
     for _ in 0..bytes.len() {
         let (piece, after) = rest.split_at(size.min(rest.len()));
         rest = after;
-        stream.feed(piece).map_err(|_| ExampleFault::BadWords)?;
-        say_packets(alloc, &mut stream, piece.len(), &mut said)?;
+        feed(alloc, &mut stream, piece, &mut said)?;
     }
     say_next(alloc, &mut stream, 0, &mut said)?;
     Ok(said)
 }
 
-/// Says the packets that come next in a stream.
+/// `halves PLACE BYTES`: as `pieces`, of two pieces that are parted at a place.
+fn streamed_in_halves(alloc: Global, words: &mut Words<'_>) -> Result<String, ExampleFault> {
+    let place = words.size()?;
+    let bytes = words.bytes(alloc)?;
+    let mut stream = Stream::new(alloc);
+    let mut said = String::new(alloc);
+    let (first, second) = bytes.as_slice().split_at(place.min(bytes.len()));
+    feed(alloc, &mut stream, first, &mut said)?;
+    feed(alloc, &mut stream, second, &mut said)?;
+    say_next(alloc, &mut stream, 0, &mut said)?;
+    Ok(said)
+}
+
+/// Feeds a piece, and says the bytes of the packets that come then.
+fn feed(
+    alloc: Global,
+    stream: &mut Stream,
+    piece: &[u8],
+    said: &mut String,
+) -> Result<(), ExampleFault> {
+    if let Err(fault) = stream.feed(piece) {
+        return Ok(write!(said, "fed {fault}; ")?);
+    }
+    say_packets(alloc, stream, piece.len(), said)
+}
+
+/// Says the bytes of the packets that come next in a stream.
 fn say_packets(
     alloc: Global,
     stream: &mut Stream,
@@ -171,34 +197,45 @@ fn say_packets(
         let Next::Packet(taken) = stream.next() else {
             break;
         };
-        let text = packet_text(alloc, &taken.packet())?;
+        let text = text_of_bytes(alloc, taken.as_slice())?;
         write!(said, "{text}; ")?;
     }
     Ok(())
 }
 
 /// `read MOST INTERRUPTS FAILING BYTES`: the packets that are read from a device, up to its end or
-/// the first fault, and how many bytes are left then.
+/// the first fault, and how many bytes are left then. The room is then used once more.
 fn read(alloc: Global, words: &mut Words<'_>) -> Result<String, ExampleFault> {
     let conduct = words.conduct()?;
     let bytes = words.bytes(alloc)?;
     let mut source = Source::new(bytes.as_slice(), conduct);
+    let mut room = Room::new(alloc);
     let mut said = String::new(alloc);
-    read_all(alloc, &mut source, bytes.len(), &mut said)?;
+    say_all(alloc, &mut source, &mut room, &mut said)?;
     write!(said, "left {}", source.left().len())?;
+    if !reads_a_keepalive(&mut room) {
+        said.push_str(", the room is spent")?;
+    }
     Ok(said)
 }
 
+/// Whether a keepalive can be read in a room, and is what the room then holds.
+fn reads_a_keepalive(room: &mut Room) -> bool {
+    let keepalive = b"\x85\x00\x00\x00".as_slice();
+    let mut reader = Counted::new(keepalive);
+    let is_read = matches!(read_packet(&mut reader, room), Ok(Some(Packet::Keepalive)));
+    is_read && room.as_slice() == keepalive
+}
+
 /// Says the packets that are read from a device, up to its end or the first fault.
-fn read_all(
+fn say_all(
     alloc: Global,
     source: &mut Source<'_>,
-    most: usize,
+    room: &mut Room,
     said: &mut String,
 ) -> Result<(), ExampleFault> {
-    let mut room = Room::new(alloc);
-    for _ in 0..=most {
-        match read_packet(&mut Counted::new(&mut *source), &mut room) {
+    for _ in 0..=source.left().len() {
+        match read_packet(&mut Counted::new(&mut *source), room) {
             Ok(Some(packet)) => {
                 let text = packet_text(alloc, &packet)?;
                 write!(said, "{text}; ")?;

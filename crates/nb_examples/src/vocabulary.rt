@@ -3,7 +3,8 @@
 //! `let NAME = BYTES` defines a word, and `{NAME}` in a later line is its digits. `{NAME@48=c0}`
 //! has another byte at place 48, and `{NAME:81}` the first 81 bytes alone; changes may follow one
 //! another, the length comes last. In a line repeated for each n, `{n}` is the number itself, and
-//! `{72-n}` and `{4+n}` are numbers made of it; places and lengths may be such numbers too.
+//! `{72-n}` and `{4+n}` are numbers made of it; places and lengths may be such numbers too. A brace
+//! before a space stands for itself, as in what `Debug` prints.
 
 use crate::byte_text::bytes_of;
 use crate::fault::ExampleFault;
@@ -46,14 +47,29 @@ impl Vocabulary {
         let mut parts = text.split("{");
         let mut whole = String::from_str(alloc, parts.next().unwrap_or(""))?;
         for part in parts {
-            let (inside, after) = part.split_once("}").ok_or(ExampleFault::BadWords)?;
-            match number(inside, n) {
-                Ok(number) => write!(whole, "{number}")?,
-                Err(_) => self.push_word(alloc, &mut whole, inside, n)?,
-            }
-            whole.push_str(after)?;
+            self.push_part(alloc, &mut whole, part, n)?;
         }
         Ok(whole)
+    }
+
+    /// Writes a text that stood after a brace, with what stands in the brace expanded.
+    fn push_part(
+        &self,
+        alloc: Global,
+        whole: &mut String,
+        part: &str,
+        n: Option<u64>,
+    ) -> Result<(), ExampleFault> {
+        if part.starts_with(" ") {
+            whole.push('{')?;
+            return Ok(whole.push_str(part)?);
+        }
+        let (inside, after) = part.split_once("}").ok_or(ExampleFault::BadWords)?;
+        match number(inside, n) {
+            Ok(number) => write!(whole, "{number}")?,
+            Err(_) => self.push_word(alloc, whole, inside, n)?,
+        }
+        Ok(whole.push_str(after)?)
     }
 
     /// Writes the digits of a word with its changes.

@@ -40,6 +40,3 @@ pub use replaying::replay;
 pub use run_report::{RunReport, RunStop};
 pub use runs::run;
 pub use settings::Settings;
-
-#[cfg(test)]
-mod tests;

@@ -24,6 +24,3 @@ pub use packet_reading::{ReadFault, read_packet};
 pub use parsing::{Parsed, parse};
 pub use room::Room;
 pub use stream::{FeedFault, Next, Stream};
-
-#[cfg(test)]
-mod tests;

@@ -84,6 +84,3 @@ fn words_of(rt: &HostRuntime) -> Result<Vec<String>, Fault> {
     }
     Ok(words)
 }
-
-#[cfg(test)]
-mod tests;

@@ -33,17 +33,19 @@ pub fn read(alloc: Global, words: &mut Words<'_>) -> Result<String, ExampleFault
 /// `counted_write TIMES MOST INTERRUPTS FAILING BYTES`: what each of some writes of the same bytes
 /// answers, and what the device has taken.
 pub fn written(alloc: Global, words: &mut Words<'_>) -> Result<String, ExampleFault> {
-    let times = words.size()?;
+    let times = words.number()?;
     let conduct = words.conduct()?;
     let bytes = words.bytes(alloc)?;
-    let mut sink = Sink::new(alloc, conduct);
-    sink.reserve(times.saturating_mul(bytes.len()))?;
-    let mut writer = Counted::new(sink);
+    let mut writer = Counted::new(Sink::new(alloc, conduct));
     let mut said = String::new(alloc);
     for _ in 0..times {
         say_write(&mut writer, bytes.as_slice(), &mut said)?;
     }
-    let taken = text_of_bytes(alloc, writer.into_inner().taken())?;
+    let sink = writer.into_inner();
+    if sink.lacks_memory() {
+        return Err(ExampleFault::NoMemory);
+    }
+    let taken = text_of_bytes(alloc, sink.taken())?;
     write!(said, "taken {taken}")?;
     Ok(said)
 }

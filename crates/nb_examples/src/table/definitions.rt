@@ -1,0 +1,79 @@
+//! What the definitions' own program says of fragments: it looks at the whole list for each
+//! question.
+
+use crate::datagram::texts::datagram_text;
+use crate::fault::ExampleFault;
+use crate::table::steps::{all_lent, steps_of};
+use crate::words::Words;
+use nb_datagram::{Fragment, Key};
+use nb_table::State;
+use nb_table::plain::{PlainFault, byte_at, datagram, end_of, is_spoilt, is_whole};
+use std::alloc::Global;
+
+/// What the definitions say of a key.
+pub fn plain_state(fragments: &[Fragment<'_>], key: &Key) -> State {
+    if is_spoilt(fragments, key) {
+        State::Spoilt
+    } else if is_whole(fragments, key) {
+        State::Whole
+    } else if has_key(fragments, key) {
+        State::Partial
+    } else {
+        State::Absent
+    }
+}
+
+/// Whether one of the fragments has the key.
+fn has_key(fragments: &[Fragment<'_>], key: &Key) -> bool {
+    for fragment in fragments {
+        if fragment.key() == *key {
+            return true;
+        }
+    }
+    false
+}
+
+/// The datagram of a key as text, `none` where there is none.
+pub fn plain_datagram(
+    alloc: Global,
+    fragments: &[Fragment<'_>],
+    key: &Key,
+) -> Result<String, ExampleFault> {
+    match datagram(alloc, fragments, key) {
+        Ok(Some(datagram)) => datagram_text(alloc, &datagram),
+        Ok(None) => Ok(String::from_str(alloc, "none")?),
+        Err(PlainFault::NoMemory) => Err(ExampleFault::NoMemory),
+        Err(fault) => Ok(format!(in alloc; "{fault:?}")?),
+    }
+}
+
+/// `plain KEY STEP ..`: what the definitions say of the key: its state, its end, its datagram.
+pub fn plain(alloc: Global, words: &mut Words<'_>) -> Result<String, ExampleFault> {
+    let key = words.key()?;
+    let steps = steps_of(alloc, words.rest())?;
+    let fragments = all_lent(alloc, steps.as_slice())?;
+    let state = plain_state(fragments.as_slice(), &key);
+    let end = end_text(alloc, end_of(fragments.as_slice(), &key))?;
+    let datagram = plain_datagram(alloc, fragments.as_slice(), &key)?;
+    Ok(format!(in alloc; "{state:?}, {end}, {datagram}")?)
+}
+
+/// An end as text.
+fn end_text(alloc: Global, end: Option<u32>) -> Result<String, ExampleFault> {
+    match end {
+        Some(end) => Ok(format!(in alloc; "end {end}")?),
+        None => Ok(String::from_str(alloc, "no end")?),
+    }
+}
+
+/// `byte KEY PLACE STEP ..`: the byte that the key has at a place by the definitions.
+pub fn byte(alloc: Global, words: &mut Words<'_>) -> Result<String, ExampleFault> {
+    let key = words.key()?;
+    let place = words.number_32()?;
+    let steps = steps_of(alloc, words.rest())?;
+    let fragments = all_lent(alloc, steps.as_slice())?;
+    match byte_at(fragments.as_slice(), &key, place) {
+        Some(byte) => Ok(format!(in alloc; "{byte:02x}")?),
+        None => Ok(String::from_str(alloc, "none")?),
+    }
+}

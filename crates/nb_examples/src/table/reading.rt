@@ -1,0 +1,52 @@
+//! What tables say of their keys.
+
+use crate::datagram::comparing::comparison;
+use crate::datagram::texts::key_text;
+use crate::fault::ExampleFault;
+use crate::table::steps::{table_of, two_tables};
+use crate::words::Words;
+use std::alloc::Global;
+
+/// `state KEY TABLE`: what the table knows of the key.
+pub fn state(alloc: Global, words: &mut Words<'_>) -> Result<String, ExampleFault> {
+    let key = words.key()?;
+    let table = table_of(alloc, words.rest())?;
+    Ok(format!(in alloc; "{:?}", table.state(&key))?)
+}
+
+/// `states KEY TABLE | TABLE`: what both tables know of the key, and whether that is equal.
+pub fn compared_states(alloc: Global, words: &mut Words<'_>) -> Result<String, ExampleFault> {
+    let key = words.key()?;
+    let (one, other) = two_tables(alloc, words.rest())?;
+    comparison(alloc, &one.state(&key), &other.state(&key))
+}
+
+/// `keys TABLE`: how many keys there are, and these.
+pub fn keys(alloc: Global, words: &mut Words<'_>) -> Result<String, ExampleFault> {
+    let table = table_of(alloc, words.rest())?;
+    let mut said = format!(in alloc; "{}", table.len())?;
+    for key in table.keys() {
+        let text = key_text(alloc, key)?;
+        write!(said, " {text}")?;
+    }
+    Ok(said)
+}
+
+/// `drop KEY TABLE`: what two calls of `drop_key` answer, one after the other, what the table then
+/// knows of the key, and how many keys are left.
+pub fn dropped(alloc: Global, words: &mut Words<'_>) -> Result<String, ExampleFault> {
+    let key = words.key()?;
+    let mut table = table_of(alloc, words.rest())?;
+    let once = table.drop_key(&key);
+    let again = table.drop_key(&key);
+    let state = table.state(&key);
+    let left = table.len();
+    Ok(format!(in alloc; "{once}, {again}; {state:?}, {left} left")?)
+}
+
+/// `same TABLE | TABLE`: whether both have the same contents.
+pub fn compared(alloc: Global, words: &mut Words<'_>) -> Result<String, ExampleFault> {
+    let (one, other) = two_tables(alloc, words.rest())?;
+    let is_same = one.same(&other);
+    Ok(format!(in alloc; "{is_same}")?)
+}

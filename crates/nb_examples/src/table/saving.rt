@@ -1,0 +1,38 @@
+//! Tables saved and loaded.
+
+use crate::fault::ExampleFault;
+use crate::table::inserting::insert_texts;
+use crate::table::steps::{saved_text, table_of};
+use crate::words::Words;
+use nb_table::load;
+use std::alloc::Global;
+
+/// `save TABLE`: the bytes that the table is saved as.
+pub fn saved(alloc: Global, words: &mut Words<'_>) -> Result<String, ExampleFault> {
+    let table = table_of(alloc, words.rest())?;
+    saved_text(alloc, &table)
+}
+
+/// `load KEYS LONGEST BYTES`: what the table that is loaded from the bytes with these limits is
+/// saved as again, or why there is none.
+pub fn loaded(alloc: Global, words: &mut Words<'_>) -> Result<String, ExampleFault> {
+    let keys = words.number_32()?;
+    let longest = words.number_16()?;
+    let bytes = words.bytes(alloc)?;
+    match load(alloc, bytes.as_slice(), keys, longest) {
+        Ok(table) => saved_text(alloc, &table),
+        Err(fault) => Ok(format!(in alloc; "{fault}")?),
+    }
+}
+
+/// `loaded KEYS LONGEST BYTES STEP ..`: what the inserts of the steps answer, into the table that
+/// is loaded from the bytes.
+pub fn inserts_after_load(alloc: Global, words: &mut Words<'_>) -> Result<String, ExampleFault> {
+    let keys = words.number_32()?;
+    let longest = words.number_16()?;
+    let bytes = words.bytes(alloc)?;
+    match load(alloc, bytes.as_slice(), keys, longest) {
+        Ok(mut table) => insert_texts(alloc, &mut table, words.rest()),
+        Err(fault) => Ok(format!(in alloc; "{fault}")?),
+    }
+}

@@ -1,0 +1,177 @@
+//! Steps: fragments in one word, and tables made of them.
+
+use crate::byte_text::{bytes_of, text_of_bytes};
+use crate::datagram::owned::OwnedFragment;
+use crate::datagram::texts::{key_text, kind_of};
+use crate::fault::ExampleFault;
+use crate::words::{Words, split};
+use nb_datagram::{Fragment, Key, Kind};
+use nb_table::{Change, Table, TableFault};
+use std::alloc::Global;
+
+/// The usual key but for the identifier.
+pub fn key_of(id: u16) -> Key {
+    Key {
+        ip: [10, 0, 0, 5],
+        port: 138,
+        id,
+    }
+}
+
+/// A fragment with the usual parts: a group fragment of 10.0.0.5:138 from JOE<00> to FRED<20>.
+pub fn usual(
+    id: u16,
+    flags: u8,
+    offset: u16,
+    bytes: Vec<u8>,
+) -> Result<OwnedFragment, ExampleFault> {
+    let source = Words::new("JOE<00>").name()?;
+    let destination = Words::new("FRED<20>").name()?;
+    Ok(OwnedFragment {
+        kind: Kind::Group,
+        flags,
+        key: key_of(id),
+        offset,
+        source,
+        destination,
+        bytes,
+    })
+}
+
+/// The fragment that a step says.
+pub fn step_of(alloc: Global, step: &str) -> Result<OwnedFragment, ExampleFault> {
+    let (id, rest) = split(step, ":")?;
+    let (flags, rest) = split(rest, ":")?;
+    let (offset, rest) = split(rest, ":")?;
+    let (bytes, others) = rest.split_once(":").unwrap_or((rest, ""));
+    let id = Words::new(id).hex_16()?;
+    let flags = Words::new(flags).hex_8()?;
+    let offset = Words::new(offset).number_16()?;
+    let mut fragment = usual(id, flags, offset, bytes_of(alloc, bytes)?)?;
+    if !others.is_empty() {
+        for other in others.split(":") {
+            change(&mut fragment, other)?;
+        }
+    }
+    Ok(fragment)
+}
+
+/// Gives a fragment a part that isn't the usual one, `WHAT=VALUE`.
+fn change(fragment: &mut OwnedFragment, part: &str) -> Result<(), ExampleFault> {
+    let (what, value) = split(part, "=")?;
+    let mut value = Words::new(value);
+    match what {
+        "kind" => fragment.kind = kind_of(value.word()?)?,
+        "ip" => fragment.key.ip = value.address()?,
+        "port" => fragment.key.port = value.number_16()?,
+        "from" => fragment.source = value.name()?,
+        "to" => fragment.destination = value.name()?,
+        _ => return Err(ExampleFault::BadWords),
+    }
+    Ok(())
+}
+
+/// The fragments that steps say.
+pub fn steps_of(alloc: Global, steps: &str) -> Result<Vec<OwnedFragment>, ExampleFault> {
+    let mut fragments = Vec::new(alloc);
+    for step in steps.split_whitespace() {
+        fragments.push(step_of(alloc, step)?)?;
+    }
+    Ok(fragments)
+}
+
+/// The fragment of these parts.
+pub fn lent(parts: &OwnedFragment) -> Result<Fragment<'_>, ExampleFault> {
+    match parts.fragment() {
+        Ok(fragment) => Ok(fragment),
+        Err(_) => Err(ExampleFault::BadWords),
+    }
+}
+
+/// The fragments of these parts.
+pub fn all_lent<'a>(
+    alloc: Global,
+    parts: &'a [OwnedFragment],
+) -> Result<Vec<Fragment<'a>>, ExampleFault> {
+    let mut fragments = Vec::new(alloc);
+    for one in parts {
+        fragments.push(lent(one)?)?;
+    }
+    Ok(fragments)
+}
+
+/// The table of `KEYS LONGEST STEP ..`.
+pub fn table_of(alloc: Global, text: &str) -> Result<Table, ExampleFault> {
+    let mut words = Words::new(text);
+    let keys = words.number_32()?;
+    let longest = words.number_16()?;
+    let mut table = Table::new(alloc, keys, longest);
+    for step in words.rest().split_whitespace() {
+        let parts = step_of(alloc, step)?;
+        insert_into(&mut table, &lent(&parts)?)?;
+    }
+    Ok(table)
+}
+
+/// Inserts a fragment, and answers what that changed where it is taken in.
+pub fn insert_into(
+    table: &mut Table,
+    fragment: &Fragment<'_>,
+) -> Result<Option<Change>, ExampleFault> {
+    match table.insert(fragment) {
+        Ok(change) => Ok(Some(change)),
+        Err(TableFault::NoMemory) => Err(ExampleFault::NoMemory),
+        Err(_) => Ok(None),
+    }
+}
+
+/// The two tables of `TABLE | TABLE`.
+pub fn two_tables(alloc: Global, text: &str) -> Result<(Table, Table), ExampleFault> {
+    let (one, other) = split(text, " | ")?;
+    Ok((table_of(alloc, one)?, table_of(alloc, other)?))
+}
+
+/// Writes a part after those before it, with this between them.
+pub fn push_part(text: &mut String, between: &str, part: &str) -> Result<(), ExampleFault> {
+    if !text.is_empty() {
+        text.push_str(between)?;
+    }
+    Ok(text.push_str(part)?)
+}
+
+/// The word for a change.
+pub fn change_word(change: &Change) -> &'static str {
+    match change {
+        Change::Spoilt => "spoilt",
+        Change::Whole(_) => "whole",
+        Change::Same => "same",
+        Change::Grown => "grown",
+    }
+}
+
+/// A change as text: its word, and the data where there is a datagram.
+pub fn change_text(alloc: Global, change: &Change) -> Result<String, ExampleFault> {
+    let word = change_word(change);
+    let Change::Whole(datagram) = change else {
+        return Ok(String::from_str(alloc, word)?);
+    };
+    let bytes = text_of_bytes(alloc, datagram.bytes())?;
+    Ok(format!(in alloc; "{word} {bytes}")?)
+}
+
+/// A fault as text, with the key where there is one.
+pub fn fault_text(alloc: Global, fault: TableFault) -> Result<String, ExampleFault> {
+    match fault {
+        TableFault::Full(key) => {
+            let key = key_text(alloc, key)?;
+            Ok(format!(in alloc; "{fault} {key}")?)
+        }
+        _ => Ok(format!(in alloc; "{fault}")?),
+    }
+}
+
+/// The bytes that a table is saved as.
+pub fn saved_text(alloc: Global, table: &Table) -> Result<String, ExampleFault> {
+    let bytes = table.save()?;
+    Ok(text_of_bytes(alloc, bytes.as_slice())?)
+}

@@ -33,7 +33,7 @@ pub fn read(alloc: Global, words: &mut Words<'_>) -> Result<String, ExampleFault
 /// `counted_write TIMES MOST INTERRUPTS FAILING BYTES`: what each of some writes of the same bytes
 /// answers, and what the device has taken.
 pub fn written(alloc: Global, words: &mut Words<'_>) -> Result<String, ExampleFault> {
-    let times = words.size()?;
+    let times = words.number()?;
     let conduct = words.conduct()?;
     let bytes = words.bytes(alloc)?;
     let mut writer = Counted::new(Sink::new(alloc, conduct));

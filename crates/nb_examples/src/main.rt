@@ -1,5 +1,5 @@
-//! `nb_examples`: makes the calls that the lines of its input say, prints each line that has another
-//! answer, and then how many lines there were.
+//! `nb_examples`: makes the calls that the lines of its input say, and prints each line that has
+//! another answer, then how many lines there were.
 #![tactic(auto)]
 
 mod answers;

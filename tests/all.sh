@@ -6,20 +6,20 @@ cd "$(dirname "$0")/.." || exit
 passed=0
 failed=0
 
+log=$(mktemp)
+trap 'rm -f "$log"' EXIT
+
 # Runs a step, and adds the counts of its last line. A step without such a line has failed.
 step() {
-    local last counts
-    last=$(mktemp)
-    "$@" 2>&1 | tee >(tail -n 1 >"$last")
-    wait
-    if counts=$(grep -oE '^[0-9]+ passed, [0-9]+ failed$' "$last"); then
+    local counts
+    "$@" 2>&1 | tee "$log"
+    if counts=$(tail -n 1 "$log" | grep -E '^[0-9]+ passed, [0-9]+ failed$'); then
         passed=$((passed + ${counts%% *}))
         counts=${counts#*, }
         failed=$((failed + ${counts%% *}))
     else
         failed=$((failed + 1))
     fi
-    rm -f "$last"
 }
 
 step rt ci

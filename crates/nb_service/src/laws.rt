@@ -7,10 +7,12 @@ ghost use Rattle.nb_service.specs.declared.classes.TheConstants.{IN};
 ghost use Rattle.nb_service.specs.declared.kinds.TheConstants.{A, NS, NULL, NB, NBSTAT};
 ghost use Rattle.nb_service.specs.declared.limits.TheConstants.{HEADER_LENGTH, MAX_ENTRIES, MAX_RDATA, ENTRY_LENGTH, NODE_NAME_LENGTH, UNIT_ID_LENGTH};
 ghost use Rattle.nb_service.specs.declared.fault.ServiceFault.{ServiceFault};
+ghost use Rattle.nb_service.specs.declared.flags.TheConstants.NmFlags.{AA, TC, RD, RA, B};
+ghost use Rattle.nb_service.specs.declared.flags.TheConstants.NodeFlags.{G, DRG, CNF, ACT, PRM};
 ghost use Rattle.nb_service.specs.Encoding.{packet_bytes, IsWritable};
 ghost use Rattle.nb_service.specs.declared.question.Question.{Question};
 ghost use Rattle.nb_service.specs.Equality.{question_eq, record_eq, packet_eq};
-ghost use Rattle.nb_service.specs.Flags.{opcode_of, rcode_of};
+ghost use Rattle.nb_service.specs.Flags.{nm_bits, node_bits, opcode_of, rcode_of};
 ghost use Rattle.nb_service.specs.Packet.{RecordAt, ServicePacket, IsPacket, HasSections};
 ghost use Rattle.nb_service.specs.Record.{ResourceRecord, of_domain};
 ghost use Rattle.nb_service.specs.ServiceFaults.{PacketFails};
@@ -25,6 +27,20 @@ pub fn numbers()
     ensures entries { MAX_ENTRIES ≡ 65535 }
     ensures rdata { MAX_RDATA ≡ 65535 }
     ensures views { (ENTRY_LENGTH ≡ 6) × (NODE_NAME_LENGTH ≡ 18) × (UNIT_ID_LENGTH ≡ 6) }
+{}
+
+/// Each flag of a packet, by its bit in the flag word (RFC 1002 section 4.2.1.1).
+pub fn nm_flags()
+    ensures answer { (nm_bits AA ≡ 1024) × (nm_bits TC ≡ 512) }
+    ensures recursion { (nm_bits RD ≡ 256) × (nm_bits RA ≡ 128) }
+    ensures broadcast { nm_bits B ≡ 16 }
+{}
+
+/// Each flag of one of a node's names, by its bit in the name's word (RFC 1002 section 4.2.18).
+pub fn node_flags()
+    ensures group { node_bits G ≡ 32768 }
+    ensures state { (node_bits DRG ≡ 4096) × (node_bits CNF ≡ 2048) }
+    ensures active { (node_bits ACT ≡ 1024) × (node_bits PRM ≡ 512) }
 {}
 
 /// A flag word is the sum of its fields: R, OPCODE, the seven bits of NM_FLAGS, and RCODE.

@@ -81,7 +81,7 @@ begins_by m payload f used (Some k) found only h = record { f = f; used = used; 
 pub stops_at : (m : MemberValue) (L : List Timed) (moment : ℕ) (payload : List ℕ) (full : Option Key) → StandsOver m L
     → MatchOption full ((k : Key) → ¬ BeginsFull m payload k) (BeginsFull m payload)
     → StopsAt m.settings L (Packet moment payload) (stop_of full)
-stops_at m L moment payload None s h = λ k meets. h k (begins_full m L moment payload k s meets)
+stops_at m L moment payload None s h = (tt, λ k meets. h k (begins_full m L moment payload k s meets))
 stops_at m L moment payload (Some k) s h = meets_limit m L moment payload k s h
 
 -- where what an event says has room, it meets no limit

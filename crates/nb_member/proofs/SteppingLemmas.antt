@@ -23,7 +23,7 @@ use Rattle.nb_member.specs.Handed.{made_by, errors_by}
 use Rattle.nb_member.specs.Hearing.{hears}
 use Rattle.nb_member.specs.Live.{Saying, came, refused, another, clock, Timed, is_full, HasRoom, live_after, live_from}
 use Rattle.nb_member.specs.Member.{MemberValue, StandsOver, with_timed}
-use Rattle.nb_member.specs.Running.{refused_count, StopsBefore, Runs}
+use Rattle.nb_member.specs.Running.{refused_count, NextIsPayload, StopsBefore, Runs}
 use Rattle.nb_member.specs.Saying.{Says, tick}
 use Rattle.nb_member.specs.Stepping.{noted, stop_of, HandedOut, HasTaken, StopsAt, StepsTo}
 use Rattle.nb_member.specs.Taking.{Takes, BeginsFull}
@@ -176,7 +176,7 @@ packet_step known m new L moment payload (Err (fault.Table (table_fault.Full k))
       unchanged before after d e,
     )
 packet_step known m new L moment payload (Err (fault.Table table_fault.NoMemory)) before after stands takes d e = (
-  meets_none m.settings L moment payload (λ s says. known.memory m new L moment payload s stands says takes),
+  (tt, meets_none m.settings L moment payload (λ s says. known.memory m new L moment payload s stands says takes)),
   known.keeps m new moment payload (fault.Table table_fault.NoMemory) takes,
   unchanged before after d e,
 )
@@ -311,21 +311,21 @@ stop_is settings M events i event (Full k) h is s = record {
   key = s.3;
   full = s.4;
 }
-stop_is settings M events i event NoMemory h is s = (
-  let left = length-drop i events in omega (arith, h, left),
-  λ k meets.
-      let at : drop i events ≡ event ∷ drop (suc i) events =
-      drop-cons events i event h ∙ ap (λ (x : Event). x ∷ drop (suc i) events) (sym is) in
-      let rows : event ∷ drop (suc i) events ≡ meets.event ∷ meets.later = sym at ∙ meets.next in
-      let same : meets.event ≡ event = cc in
-      s k (
-        meets.moment,
-        meets.f,
-        subst (λ (x : Event). Says settings x (came meets.moment meets.f)) same meets.says,
-        meets.key,
-        meets.full,
-      ),
-)
+stop_is settings M events i event NoMemory h is s =
+    let at : drop i events ≡ event ∷ drop (suc i) events =
+    drop-cons events i event h ∙ ap (λ (x : Event). x ∷ drop (suc i) events) (sym is) in (
+      subst (λ (E : List Event). NextIsPayload E) (sym at) s.0,
+      λ k meets.
+          let rows : event ∷ drop (suc i) events ≡ meets.event ∷ meets.later = sym at ∙ meets.next in
+          let same : meets.event ≡ event = cc in
+          s.1 k (
+            meets.moment,
+            meets.f,
+            subst (λ (x : Event). Says settings x (came meets.moment meets.f)) same meets.says,
+            meets.key,
+            meets.full,
+          ),
+    )
 
 pub stopped_at : (m : MemberValue) (events : List Event) (i : ℕ) (event : Event) (old new : MemberValue)
     (before after : HandedOut) (n : ℕ) (stop : RunStop) (report : RunReport) → i < length events

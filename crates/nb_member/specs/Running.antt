@@ -1,8 +1,9 @@
 -- What a run of events makes of a member, and what it reports (our choice).
-use Rattle.std.specs.Prelude.{◌≡◌, ℕ, ◌+◌, ◌<◌, ◌≤◌, true, List, [], ◌∷◌, ◌++◌, length, take, drop, Option, Some, None}
+use Rattle.std.specs.Prelude.{⊤, ◌≡◌, ℕ, ◌+◌, ◌≤◌, true, List, [], ◌∷◌, ◌++◌, length, take, drop, Option, Some, None}
 use Rattle.nb_datagram.specs.declared.key.Key.{Key}
 use Rattle.nb_datagram.specs.Fragment.{FragmentParts}
 use Rattle.nb_member.specs.declared.event.Event.{Event}
+use Rattle.nb_member.specs.declared.event.Event.TheVariants.{Packet, Tick}
 use Rattle.nb_member.specs.declared.run_report.RunReport.{RunReport}
 use Rattle.nb_member.specs.declared.run_report.RunStop.{RunStop}
 use Rattle.nb_member.specs.declared.run_report.RunStop.TheVariants.{Full, NoMemory}
@@ -39,13 +40,23 @@ pub record MeetsLimit (settings : Settings) (L : List Timed) (rest : List Event)
   pub key : f.key ≡ k
   pub full : is_full settings L k ≡ true
 
+-- the event is a payload that came, and not a look at the clock
+abbrev pub IsPayload : Event → Type 0
+IsPayload (Packet moment payload) = ⊤
+IsPayload (Tick now) = ⊥
+
+-- the next of the events is a payload that came
+abbrev pub NextIsPayload : List Event → Type 0
+NextIsPayload [] = ⊥
+NextIsPayload (event ∷ later) = IsPayload event
+
 -- StopsBefore settings L rest stop: these events are left, where L are live: there are none exactly where
--- the run didn't stop, and want of memory stops no run before an event that meets the limit
+-- the run didn't stop; memory runs out only before a payload, and before none that meets the limit
 abbrev pub StopsBefore : Settings → List Timed → List Event → Option RunStop → Type 0
 StopsBefore settings L rest None = rest ≡ []
 StopsBefore settings L rest (Some (Full k)) = MeetsLimit settings L rest k
 StopsBefore settings L rest (Some NoMemory) =
-    (0 < length rest) × ((k : Key) → MeetsLimit settings L rest k → ⊥)
+    NextIsPayload rest × ((k : Key) → MeetsLimit settings L rest k → ⊥)
 
 -- Reports m L events report: what a run of these events in the member m reports, where L are live before;
 -- none of those that were taken met the limit on keys

@@ -17,7 +17,7 @@ use Rattle.nb_member.specs.Handed.{made_by, errors_by}
 use Rattle.nb_member.specs.Hearing.{hears}
 use Rattle.nb_member.specs.Live.{Saying, came, Timed, is_full, HasRoom, live_after}
 use Rattle.nb_member.specs.Member.{MemberValue, StandsOver}
-use Rattle.nb_member.specs.Running.{refused_count}
+use Rattle.nb_member.specs.Running.{refused_count, IsPayload}
 use Rattle.nb_member.specs.Saying.{Says}
 
 -- what a run makes of an answer: whether the event was refused, or why the run stops before it
@@ -53,11 +53,11 @@ MeetsAt settings L event k =
     (moment : ℕ) × (f : FragmentParts) × Says settings event (came moment f)
     × (f.key ≡ k) × (is_full settings L k ≡ true)
 
--- StopsAt settings L event stop: a run stops before the event, where L are live: for want of memory only
--- where the event doesn't meet the limit
+-- StopsAt settings L event stop: a run stops before the event, where L are live: because memory ran out only
+-- where the event is a payload that doesn't meet the limit
 abbrev pub StopsAt : Settings → List Timed → Event → RunStop → Type 0
 StopsAt settings L event (Full k) = MeetsAt settings L event k
-StopsAt settings L event NoMemory = (k : Key) → MeetsAt settings L event k → ⊥
+StopsAt settings L event NoMemory = IsPayload event × ((k : Key) → MeetsAt settings L event k → ⊥)
 
 -- why a run stops before an event for which there is no room to note an answer, by the key that is full, if
 -- there is one

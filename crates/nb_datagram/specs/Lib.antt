@@ -3,6 +3,8 @@ pub mod KeyOrder
 pub mod Kind
 pub mod Fragment
 pub mod Datagram
+pub mod Equality
+pub mod EqualityFacts
 pub mod Header
 pub mod Packet
 pub mod DatagramFaults

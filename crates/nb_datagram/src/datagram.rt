@@ -108,3 +108,32 @@ impl Datagram {
         self.bytes.as_slice()
     }
 }
+
+impl PartialEq for Datagram {
+    ghost use Rattle.std.specs.Prelude.{◌≡◌};
+    ghost use Rattle.std.specs.Cmp.{decided, partial_equiv_from_equiv};
+    ghost use Rattle.nb_datagram.specs.Equality.{datagram_eq};
+    ghost use Rattle.nb_datagram.specs.EqualityFacts.{datagram_eq_decides};
+
+    ghost eq = { datagram_eq };
+
+    ghost laws = { partial_equiv_from_equiv (decided datagram_eq datagram_eq_decides) };
+
+    fn eq(&self, other: &Self) -> bool
+        ensures { result ≡ datagram_eq self.now other.now }
+    {
+        self.key == other.key
+            && self.kind == other.kind
+            && self.source == other.source
+            && self.destination == other.destination
+            && self.bytes == other.bytes
+    }
+}
+
+impl Eq for Datagram {
+    ghost use Rattle.std.specs.Cmp.{decided};
+    ghost use Rattle.nb_datagram.specs.Equality.{datagram_eq};
+    ghost use Rattle.nb_datagram.specs.EqualityFacts.{datagram_eq_decides};
+
+    ghost laws = { decided datagram_eq datagram_eq_decides };
+}

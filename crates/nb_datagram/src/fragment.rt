@@ -213,3 +213,34 @@ impl<'a> Fragment<'a> {
         u32::from(self.offset) + self.bytes.len() as u32
     }
 }
+
+impl PartialEq for Fragment<'_> {
+    ghost use Rattle.std.specs.Prelude.{◌≡◌};
+    ghost use Rattle.std.specs.Cmp.{decided, partial_equiv_from_equiv};
+    ghost use Rattle.nb_datagram.specs.Equality.{fragment_eq};
+    ghost use Rattle.nb_datagram.specs.EqualityFacts.{fragment_eq_decides};
+
+    ghost eq = { fragment_eq };
+
+    ghost laws = { partial_equiv_from_equiv (decided fragment_eq fragment_eq_decides) };
+
+    fn eq(&self, other: &Self) -> bool
+        ensures { result ≡ fragment_eq self.now other.now }
+    {
+        self.kind == other.kind
+            && self.flags == other.flags
+            && self.key == other.key
+            && self.offset == other.offset
+            && self.source == other.source
+            && self.destination == other.destination
+            && self.bytes == other.bytes
+    }
+}
+
+impl Eq for Fragment<'_> {
+    ghost use Rattle.std.specs.Cmp.{decided};
+    ghost use Rattle.nb_datagram.specs.Equality.{fragment_eq};
+    ghost use Rattle.nb_datagram.specs.EqualityFacts.{fragment_eq_decides};
+
+    ghost laws = { decided fragment_eq fragment_eq_decides };
+}

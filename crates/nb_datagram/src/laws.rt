@@ -15,7 +15,8 @@ ghost use Rattle.nb_datagram.specs.declared.key.Key.{Key};
 ghost use Rattle.nb_datagram.specs.declared.packet.Packet.{Packet};
 ghost use Rattle.nb_datagram.specs.DatagramFaults.{PacketFails};
 ghost use Rattle.nb_datagram.specs.Datagram.{DatagramParts};
-ghost use Rattle.nb_datagram.specs.Fragment.{Core, Covers, cores_of};
+ghost use Rattle.nb_datagram.specs.Equality.{fragment_eq, datagram_eq};
+ghost use Rattle.nb_datagram.specs.Fragment.{FragmentParts, Core, Covers, cores_of};
 ghost use Rattle.nb_datagram.specs.Key.{key_cmp, same_key};
 ghost use Rattle.nb_datagram.specs.Packet.{IsPacket};
 ghost use Rattle.nb_datagram.specs.Pieces.{IsPart, pieces};
@@ -42,6 +43,12 @@ pub fn keys_have_one_order()
     ensures total { IsTotalOrder key_cmp }
     ensures exact { (a b : Key) → key_cmp a b ≡ Equal → a ≡ b }
     ensures same { (a b : Key) → IsTrue (same_key a b) ↔ (a ≡ b) }
+{}
+
+/// Fragments and datagrams are equal exactly where they are the same.
+pub fn equal_is_same()
+    ensures fragments { (a b : FragmentParts) → IsTrue (fragment_eq a b) ↔ (a ≡ b) }
+    ensures datagrams { (a b : DatagramParts) → IsTrue (datagram_eq a b) ↔ (a ≡ b) }
 {}
 
 /// Bytes begin with one packet at most, which has one length.

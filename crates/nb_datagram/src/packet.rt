@@ -9,7 +9,7 @@ use nb_names::Name;
 /// A packet of the datagram service (RFC 1002 section 4.4).
 ///
 /// A fragment's data is lent. All eight bits of each packet's FLAGS are kept.
-#[derive(Drop)]
+#[derive(Drop, PartialEq, Eq)]
 pub enum Packet<'a> {
     /// A datagram, or a part of one: MSG_TYPE 10, 11 or 12.
     Direct(Fragment<'a>),
@@ -32,7 +32,7 @@ pub struct ErrorPacket {
 
 /// A question to a distribution server, whether it has a name, or its answer (RFC 1002 section
 /// 4.4.4).
-#[derive(Drop)]
+#[derive(Debug, Drop, PartialEq, Eq)]
 pub struct QueryPacket {
     /// The question, or which answer.
     pub kind: QueryKind,

@@ -1,6 +1,7 @@
 //! The names of a station.
-ghost use Rattle.std.specs.Prelude.{◌≡◌, [], Contains, IsTrue, ◌↔◌};
+ghost use Rattle.std.specs.Prelude.{◌≡◌, [], ◌≤◌, length, Contains, IsTrue, ◌↔◌};
 ghost use Rattle.nb_member.specs.Adding.{Adds};
+ghost use Rattle.nb_member.specs.declared.limits.TheConstants.{MAX_NAMES};
 ghost use Rattle.nb_member.specs.Hearing.{holds, holds_scope, hears, HoldsScope, Hears};
 
 use crate::limits::MAX_NAMES;
@@ -46,15 +47,18 @@ pub struct LocalNames {
 }
 
 impl Model for LocalNames {
-    ghost use Rattle.std.specs.Prelude.{List};
+    ghost use Rattle.std.specs.Prelude.{List, length, ◌≤◌};
     ghost use Rattle.std.specs.Coded.{coded_list};
     ghost use Rattle.nb_names.specs.Name.{NetbiosName, name_code};
+    ghost use Rattle.nb_member.specs.declared.limits.TheConstants.{MAX_NAMES};
 
     ghost Value = { List NetbiosName };
 
     ghost coded = { coded_list name_code };
 
     ghost view = { λ held. held.names.items };
+
+    ghost invariant = { λ held. length held.names.items ≤ MAX_NAMES };
 }
 
 impl LocalNames {
@@ -91,6 +95,9 @@ impl LocalNames {
     pub fn holds(&self, name: &Name) -> bool
         ensures value { result ≡ holds self.now name.now }
         ensures held { IsTrue result ↔ Contains self.now name.now }
+
+        // What holds of each station's names.
+        ensures within { length self.now ≤ MAX_NAMES }
     {
         is_among(&self.names, name)
     }

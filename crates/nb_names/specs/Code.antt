@@ -2,5 +2,6 @@
 -- against the definitions by a contract.
 pub mod Spelled
 pub mod LengthByte
+pub mod PointerEnds
 pub mod TextSteps
 pub mod Collected

@@ -17,3 +17,6 @@ pub const LETTERS: usize = 32;
 
 /// The longest spelling of a scope, in bytes: what is left beside a name's first label.
 pub const MAX_SCOPE: usize = 222;
+
+/// The offsets to which a pointer can lead, from 0 on (RFC 1002 section 4.1: 14 bits).
+pub const POINTED_OFFSETS: usize = 16_384;

@@ -1,8 +1,8 @@
 -- Sections one after the other, and names in RDATA.
-use Rattle.std.proofs.Common.{◌≡◌, ℕ, ◌+◌, List, [], ◌∷◌, ◌++◌, refl, sym, subst}
+use Rattle.std.proofs.Common.{◌≡◌, ℕ, ◌+◌, List, [], ◌∷◌, ◌++◌, sym, subst}
 use Rattle.nb_names.specs.declared.pointers.Pointers.TheVariants.{Followed}
 use Rattle.nb_names.specs.Labels.{NameAt}
-use Rattle.nb_service.specs.Record.{ResourceData, of_bytes, of_domain, ResourceRecord}
+use Rattle.nb_service.specs.Record.{ResourceData, of_domain, ResourceRecord}
 use Rattle.nb_service.specs.Packet.{RdataAt, bytes_there, domain_there, RecordAt, Row, none, more, ServicePacket, IsPacket, HasSections}
 
 -- a row of two lists is two rows

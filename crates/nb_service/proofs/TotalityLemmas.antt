@@ -1,5 +1,5 @@
 -- Bytes begin with a packet, or have a fault.
-use Rattle.std.proofs.Common.{◌≡◌, ◌≢◌, ◌⊎◌, inl, inr, ℕ, ◌+◌, ◌<◌, ◌≤◌, List, [], ◌∷◌, length, take, drop, get_or, zero, suc, refl, sym, subst, arith, length-drop}
+use Rattle.std.proofs.Common.{◌≡◌, ◌≢◌, ◌⊎◌, inl, inr, ℕ, ◌+◌, ◌≤◌, List, [], ◌∷◌, length, take, drop, zero, suc, refl, sym, subst, arith, length-drop}
 use Rattle.std.proofs.lemmas.Bool.{cases_lt}
 use Rattle.std.proofs.lemmas.List.{length-take-le}
 use Rattle.std.proofs.lemmas.Nat.{be_bytes_2, be_bytes_4}
@@ -7,7 +7,7 @@ use Rattle.std.specs.Int.{w16, w32, from_be_bytes}
 use Rattle.nb_names.specs.declared.pointers.Pointers.TheVariants.{Followed}
 use Rattle.nb_names.specs.declared.fault.NameFault.{NameFault}
 use Rattle.nb_names.specs.DomainName.{AreBytes}
-use Rattle.nb_names.specs.Labels.{StandsAt, NameAt}
+use Rattle.nb_names.specs.Labels.{NameAt}
 use Rattle.nb_names.specs.NameFaults.{FaultAt}
 use Rattle.nb_names.specs.Numbers.{NumberAt}
 use Rattle.nb_service.specs.declared.fault.ServiceFault.{ServiceFault}

@@ -13,36 +13,43 @@ use crate::laws::{one_packet, one_service_fault, sections_in_order};
 use crate::limits::HEADER_LENGTH;
 use crate::listing::{list_questions, list_records};
 use crate::packet::Packet;
+use nb_names::NameReader;
+use nb_names::limits::POINTED_OFFSETS;
 use std::alloc::Global;
 
+/// The longest packet, in bytes, of which each name's pointers are followed one by one. It is the
+/// longest that comes over UDP (RFC 1002 section 4.2.1.1, at TC); for so few names it takes less
+/// time than to clear the places in which the ends of chains are kept.
+const SHORT_PACKET: usize = 576;
+
 /// Checks the questions and records after a header, without memory.
-fn check(bytes: &[u8], header: &Header) -> Result<(), ServiceFault>
-    requires { HasHeader bytes.now (header_value header.now) }
-    ensures found { OnOk result (HasPacket bytes.now) }
-    ensures fault { IfErr result (PacketFails bytes.now) }
+fn check(names: &NameReader<'_, '_>, header: &Header) -> Result<(), ServiceFault>
+    requires { HasHeader names.now (header_value header.now) }
+    ensures found { OnOk result (HasPacket names.now) }
+    ensures fault { IfErr result (PacketFails names.now) }
 {
-    let after = skip_questions(bytes, HEADER_LENGTH, header.questions as usize)?;
+    let after = skip_questions(names, HEADER_LENGTH, header.questions as usize)?;
     let records = header.answers as usize
         + (header.authorities as usize + header.additional as usize);
-    skip_records(bytes, after, records)?;
+    skip_records(names, after, records)?;
     Ok(())
 }
 
 /// Builds the packet after a header, and its length.
 fn build<'a>(
     alloc: Global,
-    bytes: &'a [u8],
+    names: &NameReader<'a, '_>,
     header: &Header,
 ) -> Result<(Packet<'a>, usize), ServiceFault>
-    requires { HasHeader bytes.now (header_value header.now) }
-    ensures found { IfOk result (λ read. IsPacket bytes.now read.0 read.1) }
+    requires { HasHeader names.now (header_value header.now) }
+    ensures found { IfOk result (λ read. IsPacket names.now read.0 read.1) }
     ensures fault { IfErr result
-        (OrMemory (item_count (header_value header.now)) (PacketFails bytes.now)) }
+        (OrMemory (item_count (header_value header.now)) (PacketFails names.now)) }
 {
-    let (questions, at) = list_questions(alloc, bytes, HEADER_LENGTH, header.questions)?;
-    let (answers, at) = list_records(alloc, bytes, at, header.answers)?;
-    let (authorities, at) = list_records(alloc, bytes, at, header.authorities)?;
-    let (additional, used) = list_records(alloc, bytes, at, header.additional)?;
+    let (questions, at) = list_questions(alloc, names, HEADER_LENGTH, header.questions)?;
+    let (answers, at) = list_records(alloc, names, at, header.answers)?;
+    let (authorities, at) = list_records(alloc, names, at, header.authorities)?;
+    let (additional, used) = list_records(alloc, names, at, header.additional)?;
     let packet = Packet::with_lists(
         header.id,
         header.word,
@@ -54,13 +61,37 @@ fn build<'a>(
     Ok((packet, used))
 }
 
+/// Decodes the packet at the front of the bytes whose names are read so.
+fn decode_names<'a>(
+    alloc: Global,
+    names: &NameReader<'a, '_>,
+) -> Result<(Packet<'a>, usize), ServiceFault>
+    ensures found { IfOk result (λ read. IsPacket names.now read.0 read.1) }
+    ensures only { (packet : ServicePacket) (used : ℕ) → IsPacket names.now packet used →
+        MatchResult result (λ read. (read.0 ≡ packet) × (read.1 ≡ used))
+        (λ fault. fault ≡ NoMemory) }
+    ensures sections { IfOk result (λ read. HasSections names.now read.0 read.1) }
+    ensures within { IfOk result (λ read. read.1 ≤ length names.now) }
+    ensures fault { IfErr result (IsRefused names.now) }
+{
+    // The laws on which the clauses `only` and `sections` stand; the calls do nothing.
+    one_packet();
+    one_service_fault();
+    sections_in_order();
+    let header = read_header(names.packet())?;
+    check(names, &header)?;
+    build(alloc, names, &header)
+}
+
 /// Decodes the packet at the front of bytes, and how many of them it takes up.
 ///
 /// Names are read over all of the bytes, with pointers followed; offsets in pointers and in faults
 /// count from the first byte. What stands after the last record doesn't count towards the length
 /// (our choice); only a label that a pointer leads to can reach into it. Numbers and bits without a
 /// meaning here come through unchanged. A record's bytes are lent from the input. Memory is taken
-/// for the four lists alone, once the whole packet has been checked.
+/// for the four lists alone, once the whole packet has been checked. Of a packet of more than 576
+/// bytes the ends of all chains of pointers are found first, in 32 kB of the stack, so that no name
+/// costs a walk along a chain.
 ///
 /// # Errors
 ///
@@ -81,11 +112,9 @@ pub fn decode<'a>(alloc: Global, bytes: &'a [u8]) -> Result<(Packet<'a>, usize),
     // Which fault it is, and where; NoMemory only where a packet with an item stands.
     ensures fault { IfErr result (IsRefused bytes.now) }
 {
-    // The laws on which the clauses `only` and `sections` stand; the calls do nothing.
-    one_packet();
-    one_service_fault();
-    sections_in_order();
-    let header = read_header(bytes)?;
-    check(bytes, &header)?;
-    build(alloc, bytes, &header)
+    if bytes.len() <= SHORT_PACKET {
+        return decode_names(alloc, &NameReader::of(bytes, &mut []));
+    }
+    let mut ends = [0; POINTED_OFFSETS];
+    decode_names(alloc, &NameReader::of(bytes, &mut ends))
 }

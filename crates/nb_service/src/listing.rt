@@ -7,22 +7,23 @@ ghost use Rattle.nb_service.specs.ServiceFaults.{QuestionsFail, RecordsFail};
 use crate::fault::ServiceFault;
 use crate::lists::{Questions, Records};
 use crate::reading::{read_question, read_record};
+use nb_names::NameReader;
 use std::alloc::Global;
 
 /// The questions of a row, which begins at `at`, and the offset after it.
 pub(crate) fn list_questions(
     alloc: Global,
-    packet: &[u8],
+    names: &NameReader<'_, '_>,
     at: usize,
     count: u16,
 ) -> Result<(Questions, usize), ServiceFault>
-    ensures found { IfOk result (λ read. RowOf (QuestionAt packet.now) at count read.0 read.1) }
-    ensures fault { IfErr result (OrMemory count (QuestionsFail packet.now at count)) }
+    ensures found { IfOk result (λ read. RowOf (QuestionAt names.now) at count read.0 read.1) }
+    ensures fault { IfErr result (OrMemory count (QuestionsFail names.now at count)) }
 {
     let mut questions = Vec::new(alloc);
     let mut next = at;
     for _ in 0..count {
-        let (question, after) = read_question(packet, next)?;
+        let (question, after) = read_question(names, next)?;
         questions.push(question)?;
         next = after;
     }
@@ -32,17 +33,17 @@ pub(crate) fn list_questions(
 /// The records of a row, which begins at `at`, and the offset after it.
 pub(crate) fn list_records<'a>(
     alloc: Global,
-    packet: &'a [u8],
+    names: &NameReader<'a, '_>,
     at: usize,
     count: u16,
 ) -> Result<(Records<'a>, usize), ServiceFault>
-    ensures found { IfOk result (λ read. RowOf (RecordAt packet.now) at count read.0 read.1) }
-    ensures fault { IfErr result (OrMemory count (RecordsFail packet.now at count)) }
+    ensures found { IfOk result (λ read. RowOf (RecordAt names.now) at count read.0 read.1) }
+    ensures fault { IfErr result (OrMemory count (RecordsFail names.now at count)) }
 {
     let mut records = Vec::new(alloc);
     let mut next = at;
     for _ in 0..count {
-        let (record, after) = read_record(packet, next)?;
+        let (record, after) = read_record(names, next)?;
         records.push(record)?;
         next = after;
     }

@@ -182,13 +182,13 @@ impl<'a> Packet<'a> {
 
 impl<'a> PartialEq for Packet<'a> {
     ghost use Rattle.std.specs.Prelude.{◌≡◌};
-    ghost use Rattle.std.specs.Cmp.{partial_equiv_from_equiv};
+    ghost use Rattle.std.specs.Cmp.{decided, partial_equiv_from_equiv};
     ghost use Rattle.nb_service.specs.Equality.{packet_eq};
-    ghost use Rattle.nb_service.specs.EqualityFacts.{decides_equiv, packet_eq_decides};
+    ghost use Rattle.nb_service.specs.EqualityFacts.{packet_eq_decides};
 
     ghost eq = { packet_eq };
 
-    ghost laws = { partial_equiv_from_equiv (decides_equiv packet_eq packet_eq_decides) };
+    ghost laws = { partial_equiv_from_equiv (decided packet_eq packet_eq_decides) };
 
     fn eq(&self, other: &Self) -> bool
         ensures { result ≡ packet_eq self.now other.now }
@@ -203,8 +203,9 @@ impl<'a> PartialEq for Packet<'a> {
 }
 
 impl<'a> Eq for Packet<'a> {
+    ghost use Rattle.std.specs.Cmp.{decided};
     ghost use Rattle.nb_service.specs.Equality.{packet_eq};
-    ghost use Rattle.nb_service.specs.EqualityFacts.{decides_equiv, packet_eq_decides};
+    ghost use Rattle.nb_service.specs.EqualityFacts.{packet_eq_decides};
 
-    ghost laws = { decides_equiv packet_eq packet_eq_decides };
+    ghost laws = { decided packet_eq packet_eq_decides };
 }

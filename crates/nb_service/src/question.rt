@@ -15,13 +15,13 @@ pub struct Question {
 
 impl PartialEq for Question {
     ghost use Rattle.std.specs.Prelude.{◌≡◌};
-    ghost use Rattle.std.specs.Cmp.{partial_equiv_from_equiv};
+    ghost use Rattle.std.specs.Cmp.{decided, partial_equiv_from_equiv};
     ghost use Rattle.nb_service.specs.Equality.{question_eq};
-    ghost use Rattle.nb_service.specs.EqualityFacts.{decides_equiv, question_eq_decides};
+    ghost use Rattle.nb_service.specs.EqualityFacts.{question_eq_decides};
 
     ghost eq = { question_eq };
 
-    ghost laws = { partial_equiv_from_equiv (decides_equiv question_eq question_eq_decides) };
+    ghost laws = { partial_equiv_from_equiv (decided question_eq question_eq_decides) };
 
     fn eq(&self, other: &Self) -> bool
         ensures { result ≡ question_eq self.now other.now }
@@ -31,8 +31,9 @@ impl PartialEq for Question {
 }
 
 impl Eq for Question {
+    ghost use Rattle.std.specs.Cmp.{decided};
     ghost use Rattle.nb_service.specs.Equality.{question_eq};
-    ghost use Rattle.nb_service.specs.EqualityFacts.{decides_equiv, question_eq_decides};
+    ghost use Rattle.nb_service.specs.EqualityFacts.{question_eq_decides};
 
-    ghost laws = { decides_equiv question_eq question_eq_decides };
+    ghost laws = { decided question_eq question_eq_decides };
 }

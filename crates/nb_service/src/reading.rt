@@ -10,7 +10,7 @@ use crate::question::Question;
 use crate::rdata::Rdata;
 use crate::record::Record;
 use nb_names::numbers::{number_16, number_32};
-use nb_names::{Pointers, read_domain};
+use nb_names::{NameReader, Pointers};
 
 /// The bytes of a question after its name: QUESTION_TYPE, QUESTION_CLASS.
 const QUESTION_FIELDS: usize = 4;
@@ -19,12 +19,16 @@ const QUESTION_FIELDS: usize = 4;
 const RECORD_FIELDS: usize = 10;
 
 /// The question that stands at an offset, and the offset after it. No memory is taken.
-pub(crate) fn read_question(packet: &[u8], at: usize) -> Result<(Question, usize), ServiceFault>
-    ensures found { IfOk result (λ read. QuestionAt packet.now at read.0 read.1) }
-    ensures within { IfOk result (λ read. read.1 ≤ length packet.now) }
-    ensures fault { IfErr result (QuestionFails packet.now at) }
+pub(crate) fn read_question(
+    names: &NameReader<'_, '_>,
+    at: usize,
+) -> Result<(Question, usize), ServiceFault>
+    ensures found { IfOk result (λ read. QuestionAt names.now at read.0 read.1) }
+    ensures within { IfOk result (λ read. read.1 ≤ length names.now) }
+    ensures fault { IfErr result (QuestionFails names.now at) }
 {
-    let (name, after) = read_domain(packet, at, Pointers::Followed)?;
+    let packet = names.packet();
+    let (name, after) = names.read_domain(at, Pointers::Followed)?;
     if packet.len() - after < QUESTION_FIELDS {
         return Err(ServiceFault::Truncated(packet.len()));
     }
@@ -38,19 +42,20 @@ pub(crate) fn read_question(packet: &[u8], at: usize) -> Result<(Question, usize
 
 /// The RDATA of a record of a kind: the `size` bytes at `begin`.
 fn read_rdata<'a>(
-    packet: &'a [u8],
+    names: &NameReader<'a, '_>,
     begin: usize,
     size: usize,
     kind: u16,
 ) -> Result<Rdata<'a>, ServiceFault>
-    requires { begin + size ≤ length packet.now }
-    ensures found { IfOk result (λ rdata. RdataAt packet.now begin size kind (rdata_of rdata)) }
-    ensures fault { IfErr result (λ fault. (kind ≡ NS) × DomainFails packet.now begin size fault) }
+    requires { begin + size ≤ length names.now }
+    ensures found { IfOk result (λ rdata. RdataAt names.now begin size kind (rdata_of rdata)) }
+    ensures fault { IfErr result (λ fault. (kind ≡ NS) × DomainFails names.now begin size fault) }
 {
+    let packet = names.packet();
     if kind != NS {
         return Ok(Rdata::Bytes(&packet[begin..begin + size]));
     }
-    let (name, next) = read_domain(packet, begin, Pointers::Followed)?;
+    let (name, next) = names.read_domain(begin, Pointers::Followed)?;
     if next != begin + size {
         return Err(ServiceFault::NameRdata(begin));
     }
@@ -59,14 +64,15 @@ fn read_rdata<'a>(
 
 /// The record that stands at an offset, and the offset after it. No memory is taken.
 pub(crate) fn read_record<'a>(
-    packet: &'a [u8],
+    names: &NameReader<'a, '_>,
     at: usize,
 ) -> Result<(Record<'a>, usize), ServiceFault>
-    ensures found { IfOk result (λ read. RecordAt packet.now at read.0 read.1) }
-    ensures within { IfOk result (λ read. read.1 ≤ length packet.now) }
-    ensures fault { IfErr result (RecordFails packet.now at) }
+    ensures found { IfOk result (λ read. RecordAt names.now at read.0 read.1) }
+    ensures within { IfOk result (λ read. read.1 ≤ length names.now) }
+    ensures fault { IfErr result (RecordFails names.now at) }
 {
-    let (name, after) = read_domain(packet, at, Pointers::Followed)?;
+    let packet = names.packet();
+    let (name, after) = names.read_domain(at, Pointers::Followed)?;
     if packet.len() - after < RECORD_FIELDS {
         return Err(ServiceFault::Truncated(packet.len()));
     }
@@ -78,6 +84,6 @@ pub(crate) fn read_record<'a>(
     if packet.len() - begin < size {
         return Err(ServiceFault::Truncated(packet.len()));
     }
-    let rdata = read_rdata(packet, begin, size, kind)?;
+    let rdata = read_rdata(names, begin, size, kind)?;
     Ok((Record::new(name, kind, class, ttl, rdata), begin + size))
 }

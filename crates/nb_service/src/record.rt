@@ -188,13 +188,13 @@ impl<'a> Record<'a> {
 
 impl<'a> PartialEq for Record<'a> {
     ghost use Rattle.std.specs.Prelude.{◌≡◌};
-    ghost use Rattle.std.specs.Cmp.{partial_equiv_from_equiv};
+    ghost use Rattle.std.specs.Cmp.{decided, partial_equiv_from_equiv};
     ghost use Rattle.nb_service.specs.Equality.{record_eq};
-    ghost use Rattle.nb_service.specs.EqualityFacts.{decides_equiv, record_eq_decides};
+    ghost use Rattle.nb_service.specs.EqualityFacts.{record_eq_decides};
 
     ghost eq = { record_eq };
 
-    ghost laws = { partial_equiv_from_equiv (decides_equiv record_eq record_eq_decides) };
+    ghost laws = { partial_equiv_from_equiv (decided record_eq record_eq_decides) };
 
     fn eq(&self, other: &Self) -> bool
         ensures { result ≡ record_eq self.now other.now }
@@ -208,8 +208,9 @@ impl<'a> PartialEq for Record<'a> {
 }
 
 impl<'a> Eq for Record<'a> {
+    ghost use Rattle.std.specs.Cmp.{decided};
     ghost use Rattle.nb_service.specs.Equality.{record_eq};
-    ghost use Rattle.nb_service.specs.EqualityFacts.{decides_equiv, record_eq_decides};
+    ghost use Rattle.nb_service.specs.EqualityFacts.{record_eq_decides};
 
-    ghost laws = { decides_equiv record_eq record_eq_decides };
+    ghost laws = { decided record_eq record_eq_decides };
 }

@@ -3,4 +3,4 @@ use Rattle.nb_service.specs.Steps.{HasRow}
 use Rattle.nb_service.proofs.checking.skip_questions.Given as goal
 
 abbrev pub invariant-loop : goal.invariant-loop
-invariant-loop l = HasRow (QuestionAt l.packet) l.at l.counter l.next
+invariant-loop l = HasRow (QuestionAt l.names) l.at l.counter l.next

@@ -3,4 +3,4 @@ use Rattle.nb_service.specs.Steps.{HasRow}
 use Rattle.nb_service.proofs.checking.skip_records.Given as goal
 
 abbrev pub invariant-loop : goal.invariant-loop
-invariant-loop l = HasRow (RecordAt l.packet) l.at l.counter l.next
+invariant-loop l = HasRow (RecordAt l.names) l.at l.counter l.next

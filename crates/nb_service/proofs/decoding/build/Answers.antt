@@ -31,7 +31,7 @@ returns-in_err-additional-clause-fault c =
     let authorities = c.in_ok-authorities.ensures.found in
     rw (p.1, p.2)
     (build_records _ (header_value c.args.header.now) _ (c.in_ok-answers.answers ++ c.in_ok-authorities.authorities) _ _ _ _ c.requires c.in_ok-questions.ensures.found
-    (row-append (RecordAt c.args.bytes.now) _ _ _ c.in_ok-answers.answers c.in_ok-authorities.authorities answers.row authorities.row)
+    (row-append (RecordAt c.args.names.now) _ _ _ c.in_ok-answers.answers c.in_ok-authorities.authorities answers.row authorities.row)
     (omega (arith, answers.counted, authorities.counted, length-append c.in_ok-answers.answers c.in_ok-authorities.authorities))
     c.in_err-additional.ensures.fault)
 

@@ -3,4 +3,4 @@ use Rattle.nb_service.specs.Steps.{RowOf}
 use Rattle.nb_service.proofs.listing.list_records.Given as goal
 
 abbrev pub invariant-loop : goal.invariant-loop
-invariant-loop l = RowOf (RecordAt l.packet) l.at l.counter l.records.items l.next
+invariant-loop l = RowOf (RecordAt l.names) l.at l.counter l.records.items l.next

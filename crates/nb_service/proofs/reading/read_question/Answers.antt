@@ -1,4 +1,4 @@
-use Rattle.std.proofs.Common.{arith}
+use Rattle.std.proofs.Common.{length, ap, arith}
 use Rattle.std.proofs.lemmas.Result.{err_from_is_err_and}
 use Rattle.nb_service.specs.ServiceFaults.{question_name, question_cut}
 use Rattle.nb_service.proofs.reading.read_question.Goals as goal
@@ -8,4 +8,5 @@ returns-in_err-name-clause-fault c =
     let p = err_from_is_err_and c.from_residual.result c.from_residual.ensures.1 in rw (p.1, p.2) (question_name _ c.in_err-name.ensures.fault)
 
 pub returns-then-packet-after-lt-QUESTION_FIELDS-clause-fault : goal.returns-then-packet-after-lt-QUESTION_FIELDS-clause-fault
-returns-then-packet-after-lt-QUESTION_FIELDS-clause-fault c = question_cut _ _ c.in_ok-name.ensures.found (omega arith)
+returns-then-packet-after-lt-QUESTION_FIELDS-clause-fault c =
+    rw (ap length c.packet-packet.ensures) (question_cut _ _ c.in_ok-name.ensures.found (omega (arith, ap length c.packet-packet.ensures)))

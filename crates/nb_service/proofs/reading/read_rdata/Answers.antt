@@ -6,8 +6,8 @@ use Rattle.nb_service.proofs.reading.read_rdata.Goals as goal
 
 pub returns-then-kind-ne-NS-clause-found : goal.returns-then-kind-ne-NS-clause-found
 returns-then-kind-ne-NS-clause-found c =
-    let there = range_stands c.args.packet.now c.args.begin c.args.size c.requires in
-    bytes_there _ c.if-kind-ne-NS.true there.0 there.1
+    let there = range_stands c.args.names.now c.args.begin c.args.size c.requires in
+    rw c.packet-packet.ensures (bytes_there _ c.if-kind-ne-NS.true there.0 there.1)
 
 pub returns-in_err-name-clause-fault : goal.returns-in_err-name-clause-fault
 returns-in_err-name-clause-fault c =

@@ -1,28 +1,43 @@
-use Rattle.std.proofs.Common.{ℕ, ◌+◌, refl, subst, arith}
+use Rattle.std.proofs.Common.{◌≡◌, ℕ, ◌+◌, List, length, refl, ap, subst, arith}
 use Rattle.std.proofs.lemmas.Result.{err_from_is_err_and}
+use Rattle.std.specs.Int.{w16}
+use Rattle.nb_names.specs.declared.pointers.Pointers.TheVariants.{Followed}
+use Rattle.nb_names.specs.Labels.{NameAt}
+use Rattle.nb_names.specs.Numbers.{NumberAt}
 use Rattle.nb_service.specs.ServiceFaults.{RdataBegins, record_name, record_cut, rdata_cut, rdata_fails}
 use Rattle.nb_service.proofs.reading.read_record.Goals as goal
 
 pub returns-in_err-name-clause-fault : goal.returns-in_err-name-clause-fault
 returns-in_err-name-clause-fault c =
-    let p = err_from_is_err_and c.from_residual.result c.from_residual.ensures.1 in rw (p.1, p.2) (record_name _ c.in_err-name.ensures.fault)
+    let p = err_from_is_err_and c.from_residual.result c.from_residual.ensures.1 in
+    rw (p.1, p.2) (record_name _ c.in_err-name.ensures.fault)
 
 pub returns-then-packet-after-lt-RECORD_FIELDS-clause-fault : goal.returns-then-packet-after-lt-RECORD_FIELDS-clause-fault
-returns-then-packet-after-lt-RECORD_FIELDS-clause-fault c = record_cut _ _ c.in_ok-name.ensures.found (omega arith)
+returns-then-packet-after-lt-RECORD_FIELDS-clause-fault c =
+    rw (ap length c.packet-packet.ensures) (record_cut _ _ c.in_ok-name.ensures.found (omega (arith, ap length c.packet-packet.ensures)))
+
+-- the fields before the RDATA
+begins : (packet bytes : List ℕ) (at after kind size : ℕ) (labels : List (List ℕ)) → bytes ≡ packet → NameAt packet Followed at labels after →
+    NumberAt bytes after w16 kind → NumberAt bytes (after + 8) w16 size → RdataBegins packet at kind size (after + 10)
+begins packet bytes at after kind size labels same name k s = record {
+  labels = labels;
+  after = after;
+  name = name;
+  kind_there = subst (λ (p : List ℕ). NumberAt p after w16 kind) same k;
+  size_there = subst (λ (p : List ℕ). NumberAt p (after + 8) w16 size) same s;
+  begin = refl;
+}
 
 pub returns-then-packet-begin-clause-fault : goal.returns-then-packet-begin-clause-fault
 returns-then-packet-begin-clause-fault c =
-    rdata_cut c.number_16-kind.result c.number_16-size.result (c.in_ok-name.after + 10)
-    (record { labels = c.in_ok-name.name; after = c.in_ok-name.after; name = c.in_ok-name.ensures.found; kind_there = c.number_16-kind.ensures; size_there = c.number_16-size.ensures; begin = refl })
-    (omega arith)
+    rw (ap length c.packet-packet.ensures)
+    (rdata_cut c.number_16-kind.result c.number_16-size.result (c.in_ok-name.after + 10) (begins _ _ _ _ _ _ _ c.packet-packet.ensures c.in_ok-name.ensures.found c.number_16-kind.ensures c.number_16-size.ensures) (omega (arith, ap length c.packet-packet.ensures)))
 
 pub returns-in_err-rdata-clause-fault : goal.returns-in_err-rdata-clause-fault
 returns-in_err-rdata-clause-fault c =
     let p = err_from_is_err_and c.from_residual-in_err-rdata.result c.from_residual-in_err-rdata.ensures.1 in
     let why = c.in_err-rdata.ensures.fault in
-    let begins : RdataBegins c.args.packet.now c.args.at c.number_16-kind.result c.number_16-size.result (c.in_ok-name.after + 10) =
-    record { labels = c.in_ok-name.name; after = c.in_ok-name.after; name = c.in_ok-name.ensures.found; kind_there = c.number_16-kind.ensures; size_there = c.number_16-size.ensures; begin = refl } in
     rw (p.1, p.2)
     (rdata_fails c.number_16-size.result (c.in_ok-name.after + 10)
-    (subst (λ (kind : ℕ). RdataBegins c.args.packet.now c.args.at kind c.number_16-size.result (c.in_ok-name.after + 10)) why.0 begins)
-    (omega arith) why.1)
+    (subst (λ (kind : ℕ). RdataBegins c.args.names.now c.args.at kind c.number_16-size.result (c.in_ok-name.after + 10)) why.0 (begins _ _ _ _ _ _ _ c.packet-packet.ensures c.in_ok-name.ensures.found c.number_16-kind.ensures c.number_16-size.ensures))
+    (omega (arith, ap length c.packet-packet.ensures)) why.1)

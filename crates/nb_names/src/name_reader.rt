@@ -1,0 +1,83 @@
+//! Names of one packet, read where they stand.
+ghost use Rattle.std.specs.Prelude.{◌≡◌, ◌≤◌, ℕ, List, length, IfOk, IfErr, IsOkAnd};
+ghost use Rattle.nb_names.specs.Labels.{NameAt};
+ghost use Rattle.nb_names.specs.NameFaults.{FaultAt};
+
+use crate::domain_name::DomainName;
+use crate::fault::NameFault;
+use crate::pointer_ends::find_ends;
+use crate::pointers::Pointers;
+use crate::reading::read_along;
+use std::marker::Model;
+
+/// A packet of which many names are read, with the ends of its chains of pointers.
+///
+/// A name that ends in a pointer to a pointer, and so on, is read without a walk along them.
+#[derive(Drop)]
+pub struct NameReader<'a, 'r> {
+    packet: &'a [u8],
+    /// For each offset that has a place, where the chain of pointers from there ends.
+    ends: &'r [u16],
+}
+
+impl<'a, 'r> Model for NameReader<'a, 'r> {
+    ghost use Rattle.std.specs.Prelude.{ℕ, List};
+    ghost use Rattle.nb_names.specs.Code.PointerEnds.{AreEnds};
+
+    ghost Value = { List ℕ };
+
+    ghost view = { λ reader. reader.packet.now };
+
+    ghost invariant = { λ reader. AreEnds reader.packet.now reader.ends.now };
+}
+
+impl<'a, 'r> NameReader<'a, 'r> {
+    /// A reader of a packet's names. No memory is taken.
+    ///
+    /// The room keeps the ends, an offset a place, and what it held doesn't matter. With
+    /// [`POINTED_OFFSETS`](crate::limits::POINTED_OFFSETS) places it has one for each offset to
+    /// which a pointer can lead; pointers at offsets without a place are followed one by one. No
+    /// answer depends on it.
+    pub fn of(packet: &'a [u8], room: &'r mut [u16]) -> Self
+        ensures { result ≡ packet.now }
+    {
+        let count = find_ends(packet, room);
+        NameReader {
+            packet,
+            ends: &room[..count],
+        }
+    }
+
+    /// The packet's bytes.
+    pub fn packet(&self) -> &'a [u8]
+        ensures { result.now ≡ self.now }
+    {
+        self.packet
+    }
+
+    /// Reads the domain name at an offset of the packet, as [`read_domain`](crate::read_domain)
+    /// does.
+    ///
+    /// # Errors
+    ///
+    /// Those of [`read_domain`](crate::read_domain).
+    ///
+    /// RFC 1002 section 4.1.
+    pub fn read_domain(
+        &self,
+        at: usize,
+        pointers: Pointers,
+    ) -> Result<(DomainName, usize), NameFault>
+        // What is answered stands there, and what stands there is answered.
+        ensures found { IfOk result (λ read. NameAt self.now pointers at read.0 read.1) }
+        ensures only { (labels : List (List ℕ)) (next : ℕ) →
+            NameAt self.now pointers at labels next →
+            IsOkAnd result (λ read. (read.0 ≡ labels) × (read.1 ≡ next)) }
+        ensures within { IfOk result (λ read. read.1 ≤ length self.now) }
+
+        // Which fault it is, and where.
+        ensures fault { IfErr result (FaultAt self.now pointers at) }
+    {
+        read_along(self.packet, self.ends, at, pointers)
+    }
+}

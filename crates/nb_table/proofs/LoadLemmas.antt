@@ -24,6 +24,12 @@ judged_sound input limit count short j f h = apart j.entries j.last f (one_read 
 pub fault_same : (input : List ℕ) (f g : LoadFault) → IsRead input (Err f) → IsRead input (Err g) → f ≡ g
 fault_same input f g h k = same_fault f g (one_read input (Err f) (Err g) h k)
 
+-- an input is read as one table
+pub one_table : (input : List ℕ) (t u : Contents) → IsReadAs input t → IsReadAs input u → t ≡ u
+one_table input t u h k =
+    let same = same_value h.entries k.entries h.last k.last (one_read input (Ok (h.entries, h.last)) (Ok (k.entries, k.last)) h.read k.read) in
+    h.same ∙ ap (λ (v : List (Key × EntryValue) × ℕ). table_with v.0) same ∙ sym k.same
+
 -- ---- what is refused
 
 pub judged_long : (input : List ℕ) (limits : Limits) (count : ℕ) (short : Bool) → IsJudged input limits.longest count short → short ≡ false → LoadFails input limits TooLong

@@ -4,10 +4,17 @@ use Rattle.std.specs.Prelude.{◌≡◌, ℕ, Bool, List, length, Ok, None}
 use Rattle.std.specs.List.{list_all}
 use Rattle.std.specs.FinMap as maps
 use Rattle.nb_datagram.specs.declared.key.Key.{Key}
+use Rattle.nb_datagram.specs.Header.{IsKey}
 use Rattle.nb_datagram.specs.Key.{key_cmp}
 use Rattle.nb_table.specs.Entry.{EntryValue}
 use Rattle.nb_table.specs.Merging.{is_short}
+use Rattle.nb_table.specs.SavedFits.{IsNamed}
 use Rattle.nb_table.specs.SavedReading.{entries_at, IsRead}
+use Rattle.nb_table.specs.Slot.{OnHeld}
+
+-- the key is one, and the entry is spoilt or its names are names
+abbrev pub HasNames : Key × EntryValue → Type 0
+HasNames e = IsKey e.0 × OnHeld IsNamed e.1
 
 -- this many keys with their entries stand from `at` up to `next`, and `short` is whether each is short
 pub record AreJudged (input : List ℕ) (count limit at : ℕ) (short : Bool) (next : ℕ) : Type 0 where

@@ -72,7 +72,7 @@ pub record HasEnd (L : List Core) (k : Key) (n : ℕ) : Type 0 where
 
 -- ---- the table of a list, as a value
 
--- the bytes of these fragments with their places, one fragment behind the other
+-- the bytes of these fragments with their places, one fragment after the other
 abbrev pub all_placed : List Core → List (ℕ × ℕ)
 all_placed [] = []
 all_placed (f ∷ fs) = placed f.offset f.bytes ++ all_placed fs

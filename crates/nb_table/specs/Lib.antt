@@ -6,7 +6,6 @@ pub mod Conflict
 pub mod ConflictTests
 pub mod Contents
 pub mod Join
-pub mod Places
 pub mod Limits
 pub mod Merging
 pub mod Codes
@@ -22,8 +21,6 @@ pub mod Runs
 pub mod Saved
 pub mod SavedFits
 pub mod SavedReading
-pub mod SavedRuns
-pub mod Each
 pub mod LoadFaults
-pub mod SavedTables
+pub mod Code
 pub mod Lemmas

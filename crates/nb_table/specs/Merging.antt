@@ -1,13 +1,11 @@
 -- What a table takes in of another under its limits, and the datagrams that this gives (our choice).
-use Rattle.std.specs.Prelude.{◌≡◌, ◌&&◌, ◌-◌, ℕ, nat_le, Bool, true, List, filter, length, slice_get, is_none, Option, Some, None}
+use Rattle.std.specs.Prelude.{◌≡◌, ◌&&◌, ◌-◌, ℕ, Bool, true, List, filter, length, slice_get, is_none, Option, Some, None}
 use Rattle.std.specs.List.{filter_map}
 use Rattle.std.specs.FinMap as maps
 use Rattle.nb_datagram.specs.declared.key.Key.{Key}
 use Rattle.nb_datagram.specs.Datagram.{DatagramParts}
 use Rattle.nb_table.specs.declared.fault.TableFault.{TableFault}
 use Rattle.nb_table.specs.declared.fault.TableFault.TheVariants.{MisplacedFirst, TooLong, Full, NoMemory}
-use Rattle.nb_table.specs.Slot.{Spoilt, Held}
-use Rattle.nb_table.specs.Cover.{lies_below}
 use Rattle.nb_table.specs.Entry.{EntryValue}
 use Rattle.nb_table.specs.Contents.{Contents}
 use Rattle.nb_table.specs.Limits.{Limits, IsShort}
@@ -51,13 +49,3 @@ IsRefused l s t NoMemory = Fits l s t
 -- the one before, by ascending key
 abbrev pub newly_handed : Contents → Contents → List DatagramParts
 newly_handed before after = filter_map (newly_whole before after) (maps.keys after)
-
--- it ends at most at n, if it ends, as a test
-abbrev pub ends_by : ℕ → Option ℕ → Bool
-ends_by n None = true
-ends_by n (Some end) = nat_le end n
-
--- IsShort n e, as a test
-abbrev pub is_short : ℕ → EntryValue → Bool
-is_short n Spoilt = true
-is_short n (Held e) = lies_below n e.cover && ends_by n e.cover.end

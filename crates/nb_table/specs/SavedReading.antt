@@ -1,5 +1,5 @@
 -- What stands in bytes that may be a saved table, field by field, and the first fault (our choice).
--- Offsets count from the first byte. A field is judged before the one behind it is asked for.
+-- Offsets count from the first byte. A field is judged before the next one is asked for.
 use Rattle.std.specs.Prelude.{◌≡◌, ◌≢◌, ◌+◌, ◌<◌, ◌≤◌, ℕ, suc, zero, List, [], ◌∷◌, length, Option, None, Some, Result, Ok, Err}
 use Rattle.std.specs.Int.{w16, w32}
 use Rattle.std.specs.declared.cmp.Ordering.TheVariants.{Less}
@@ -23,7 +23,7 @@ use Rattle.nb_table.specs.Entry.{EntryFacts, EntryValue}
 use Rattle.nb_table.specs.Runs.{RunValue, run_end, map_of_runs}
 use Rattle.nb_table.specs.Saved.{magic, key_bytes}
 
--- what is read: what stands there with the offset behind it, or the first fault
+-- what is read: what stands there with the offset after it, or the first fault
 abbrev pub Outcome : Type 0 → Type 0
 Outcome X = Result (X × ℕ) LoadFault
 
@@ -33,7 +33,7 @@ Outcome X = Result (X × ℕ) LoadFault
 pub data Gives {X : Type 0} (x : X) (next : ℕ) : Outcome X → Type 0 where
   gives : Gives x next (Ok (x, next))
 
--- Then first rest o: first the one is read, then what is due behind it; a fault of the first is that of both
+-- Then first rest o: first the one is read, then what is due after it; a fault of the first is that of both
 pub data Then {X Y : Type 0} (first : Outcome X → Type 0) (rest : X → ℕ → Outcome Y → Type 0) : Outcome Y → Type 0 where
   stops : (fault : LoadFault) → first (Err fault) → Then first rest (Err fault)
   goes_on : {o : Outcome Y} (x : X) (next : ℕ) → first (Ok (x, next)) → rest x next o → Then first rest o
@@ -49,7 +49,7 @@ pub data Judged {X : Type 0} (at : ℕ) (IsGood : X → Type 0) (x : X) (next : 
   good : IsGood x → Judged at IsGood x next (Ok (x, next))
   bad : ¬ IsGood x → Judged at IsGood x next (Err (NotCanonical at))
 
--- Marked at mark none some o: the mark, which stands at this offset, is 0 or 1, and what is due behind it is
+-- Marked at mark none some o: the mark, which stands at this offset, is 0 or 1, and what is due after it is
 -- read by the first or by the second; NotCanonical(at), where it is neither
 pub data Marked {X : Type 0} (at mark : ℕ) (none some : Outcome X → Type 0) : Outcome X → Type 0 where
   is_0 : {o : Outcome X} → mark ≡ 0 → none o → Marked at mark none some o
@@ -80,7 +80,7 @@ abbrev pub IsAfter : Option Key → Key → Type 0
 IsAfter None key = Unit {0}
 IsAfter (Some before) key = key_cmp before key ≡ Less
 
--- a key, behind that of the entry before: one field of eight bytes
+-- a key, greater than that of the entry before: one field of eight bytes
 abbrev pub key_at : List ℕ → Option Key → ℕ → Outcome Key → Type 0
 key_at input before at = Then (Field input at 8 (KeyAt input at)) (Judged at (IsAfter before))
 
@@ -128,9 +128,9 @@ size_at input start most at = Then (number_at input at) (Judged at (λ size. (0 
 -- a run
 abbrev pub run_at : List ℕ → ℕ → ℕ → ℕ → Outcome RunValue → Type 0
 run_at input most least at =
-    Then (start_at input least at) (λ start behind.
-    Then (size_at input start most behind) (λ size front.
-    Then (bytes_at input front size) (λ bytes.
+    Then (start_at input least at) (λ start after_start.
+    Then (size_at input start most after_start) (λ size first.
+    Then (bytes_at input first size) (λ bytes.
     Gives (record { start = start; bytes = bytes }))))
 
 -- row_at input most count least at: this many runs, each at least one place past the end of the one before
@@ -155,11 +155,11 @@ most_of (Some end) = end
 -- what is held
 abbrev pub facts_at : List ℕ → ℕ → Outcome EntryFacts → Type 0
 facts_at input at =
-    Then (kind_at input at) (λ kind behind_kind.
-    Then (name_at input behind_kind) (λ source behind_source.
-    Then (name_at input behind_source) (λ destination behind_names.
-    Then (end_at input behind_names) (λ end behind_end.
-    Then (runs_at input (most_of end) behind_end) (λ runs.
+    Then (kind_at input at) (λ kind after_kind.
+    Then (name_at input after_kind) (λ source after_source.
+    Then (name_at input after_source) (λ destination after_names.
+    Then (end_at input after_names) (λ end after_end.
+    Then (runs_at input (most_of end) after_end) (λ runs.
     Gives (record {
       kind = kind;
       source = source;
@@ -177,14 +177,14 @@ entry_at input at =
 abbrev pub entries_at : List ℕ → ℕ → Option Key → ℕ → Outcome (List (Key × EntryValue)) → Type 0
 entries_at input zero before at = Gives [] at
 entries_at input (suc count) before at =
-    Then (key_at input before at) (λ key behind.
-    Then (entry_at input behind) (λ entry next.
+    Then (key_at input before at) (λ key after_key.
+    Then (entry_at input after_key) (λ entry next.
     Then (entries_at input count (Some key) next) (λ entries.
     Gives ((key, entry) ∷ entries))))
 
 -- ---- the whole input
 
--- how many keys there are, these, and nothing behind them
+-- how many keys there are, these, and nothing after them
 abbrev pub table_at : List ℕ → ℕ → Outcome (List (Key × EntryValue)) → Type 0
 table_at input at =
     Then (Field input at 4 (NumberAt input at w32)) (λ count next.
@@ -194,4 +194,4 @@ table_at input at =
 -- IsRead input o: what stands in this input: the keys with their entries, or the first fault
 pub data IsRead (input : List ℕ) : Outcome (List (Key × EntryValue)) → Type 0 where
   no_magic : ¬ StandsAt input 0 magic → IsRead input (Err BadMagic)
-  behind_magic : {o : Outcome (List (Key × EntryValue))} → StandsAt input 0 magic → table_at input (length magic) o → IsRead input o
+  after_magic : {o : Outcome (List (Key × EntryValue))} → StandsAt input 0 magic → table_at input (length magic) o → IsRead input o

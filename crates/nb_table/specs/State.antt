@@ -5,8 +5,7 @@ use Rattle.nb_datagram.specs.declared.key.Key.{Key}
 use Rattle.nb_table.specs.declared.state.State.{State}
 use Rattle.nb_table.specs.declared.state.State.TheVariants.{Absent, Partial, Whole, Spoilt}
 use Rattle.nb_table.specs.Slot.{Held}
-use Rattle.nb_table.specs.Slot.{Spoilt as Clashed}
-use Rattle.nb_table.specs.Entry.{EntryFacts, EntryValue}
+use Rattle.nb_table.specs.Entry.{EntryFacts}
 use Rattle.nb_table.specs.Contents.{Contents}
 use Rattle.nb_table.specs.Whole.{IsWholeCover, IsWholeAt}
 use Rattle.nb_table.specs.Change.{IsSpoiltAt}
@@ -23,11 +22,3 @@ IsState t k Absent = maps.get t k ≡ None
 IsState t k Partial = IsPartialAt t k
 IsState t k Whole = IsWholeAt t k
 IsState t k Spoilt = IsSpoiltAt t k
-
--- IsEntryState e s: a key that has the entry e is in the state s
-abbrev pub IsEntryState : EntryValue → State → Type 0
-IsEntryState Clashed s = s ≡ Spoilt
-IsEntryState (Held e) Absent = ⊥
-IsEntryState (Held e) Partial = IsWholeCover e.cover → ⊥
-IsEntryState (Held e) Whole = IsWholeCover e.cover
-IsEntryState (Held e) Spoilt = ⊥

@@ -1,14 +1,21 @@
 //! Covers: what is known of a datagram's data.
+//!
+//! That the bytes are kept in a map by place is known in this folder alone.
 ghost use Rattle.std.specs.Prelude.{◌≡◌, IfOk};
 ghost use Rattle.nb_datagram.specs.Fragment.{core_of};
 ghost use Rattle.nb_table.specs.Slot.{Held};
 ghost use Rattle.nb_table.specs.Cover.{cover_of};
 
 mod joining;
+mod placed;
+mod places;
+mod running;
+mod united;
 
-use crate::places::Places;
 use nb_datagram::Fragment;
 use nb_names::NoMemory;
+pub(crate) use places::Places;
+pub(crate) use running::Run;
 use std::alloc::Global;
 use std::marker::Model;
 

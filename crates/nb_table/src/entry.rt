@@ -5,11 +5,10 @@ ghost use Rattle.nb_datagram.specs.declared.limits.TheConstants.{MAX_LENGTH};
 ghost use Rattle.nb_table.specs.Slot.{Spoilt, Held};
 ghost use Rattle.nb_table.specs.Entry.{facts_of, join_entry};
 ghost use Rattle.nb_table.specs.Limits.{IsShort};
-ghost use Rattle.nb_table.specs.Change.{KeyChange};
-ghost use Rattle.nb_table.specs.State.{IsEntryState};
+ghost use Rattle.nb_table.specs.Code.Change.{KeyChange};
+ghost use Rattle.nb_table.specs.Code.State.{IsEntryState};
 
 mod joining;
-mod saving;
 mod whole;
 
 use crate::change::Change;
@@ -24,7 +23,7 @@ use std::marker::Model;
 /// contradict each other.
 #[derive(Drop)]
 pub struct Entry {
-    facts: Option<Facts>,
+    pub(crate) facts: Option<Facts>,
 }
 
 impl Model for Entry {

@@ -4,16 +4,15 @@ ghost use Rattle.nb_datagram.specs.Fragment.{core_of};
 ghost use Rattle.nb_datagram.specs.declared.limits.TheConstants.{MAX_LENGTH};
 ghost use Rattle.nb_table.specs.Slot.{Held};
 ghost use Rattle.nb_table.specs.Entry.{AreEntryFacts, FactsFit, facts_agree, facts_of, facts_together};
-ghost use Rattle.nb_table.specs.Places.{Holds};
+ghost use Rattle.nb_table.specs.Code.Places.{Holds};
 ghost use Rattle.nb_table.specs.Whole.{IsWholeCover, bytes_to, datagram_with};
-ghost use Rattle.nb_table.specs.Change.{KeyChange};
-ghost use Rattle.nb_table.specs.Change.{grown_to as grown};
+ghost use Rattle.nb_table.specs.Code.Change.{KeyChange};
+ghost use Rattle.nb_table.specs.Code.Change.{grown_to as grown};
 
-mod saving;
 mod uniting;
 
 use crate::change::Change;
-use crate::places::Places;
+use crate::cover::Places;
 use nb_datagram::{Datagram, Fragment, Key, Kind};
 use nb_names::{Bytes, Name, NoMemory};
 use std::alloc::Global;
@@ -22,10 +21,10 @@ use std::marker::Model;
 /// The kind, both names, and the known bytes with their places.
 #[derive(Drop)]
 pub(crate) struct Facts {
-    kind: Kind,
-    source: Name,
-    destination: Name,
-    places: Places,
+    pub(crate) kind: Kind,
+    pub(crate) source: Name,
+    pub(crate) destination: Name,
+    pub(crate) places: Places,
 }
 
 impl Model for Facts {

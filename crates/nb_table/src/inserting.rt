@@ -8,7 +8,8 @@ ghost use Rattle.nb_table.specs.Maps.{joined_onto};
 ghost use Rattle.nb_table.specs.Slot.{Held};
 ghost use Rattle.nb_table.specs.Entry.{EntryValue, facts_of, join_entry};
 ghost use Rattle.nb_table.specs.Limits.{Limits, IsShort, IsFull};
-ghost use Rattle.nb_table.specs.Change.{KeyChange, IsChange};
+ghost use Rattle.nb_table.specs.Change.{IsChange};
+ghost use Rattle.nb_table.specs.Code.Change.{KeyChange};
 ghost use Rattle.nb_table.specs.Insert.{Lacks, Refuses, Takes, with_fragment};
 
 use crate::change::Change;

@@ -43,7 +43,10 @@ pub use joining::{
     table_join_has_the_keys_of_either, table_join_is_associative, table_join_is_commutative,
     table_join_is_idempotent, table_join_is_well_formed, union_has_the_bytes_of_both,
 };
-pub use loading::{a_saved_table_is_read, saved_bytes_have_one_reading, what_is_read_is_saved};
+pub use loading::{
+    a_saved_table_is_read, an_input_is_read_as_one_table, saved_bytes_have_one_reading,
+    what_is_read_is_saved,
+};
 pub use parts::{
     all_parts_give_the_datagram, parts_are_not_spoilt, parts_are_whole_where_all_are_there,
     pieces_are_all_parts,

@@ -11,14 +11,10 @@ mod join;
 mod keys;
 pub mod laws;
 mod load_fault;
-mod loading;
-mod placed;
-mod places;
 pub mod plain;
-mod running;
+mod saved;
 mod state;
 mod table;
-mod united;
 
 pub use change::Change;
 pub use cover::Cover;

@@ -14,7 +14,7 @@ pub enum LoadFault {
     /// At this offset stands what no saved table has there: a key that isn't greater than the one
     /// before; a state, a kind or an end mark of no listed value; a name that isn't spelled as a
     /// NetBIOS name without pointers; a run's start that isn't past the end of the run before; a
-    /// run's length that is 0 or passes 65,535 or the end; a byte behind the last entry.
+    /// run's length that is 0 or passes 65,535 or the end; a byte after the last entry.
     NotCanonical(usize),
     /// A saved run or end passes the limit for one datagram.
     TooLong,

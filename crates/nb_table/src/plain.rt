@@ -1,7 +1,9 @@
-//! The definitions' own program, for tests: what the table of a slice of fragments has at a key.
+//! The definitions' own program, for tests alone: what the table of a slice of fragments has at a
+//! key.
 //!
-//! For each question it looks at the whole slice again, so it is slow. What it answers is what the
-//! definitions of `specs/` say, and tests can hold other tables against it.
+//! It is public since tests stand in another crate. For each question it looks at the whole slice
+//! again, so it is slow: a program keeps a [`Table`](crate::Table). What it answers is what the
+//! definitions of `specs/` say, so that tests can compare other tables with it.
 
 mod conflicting;
 mod finding;

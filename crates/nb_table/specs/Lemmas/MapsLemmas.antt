@@ -175,7 +175,7 @@ pub below_none : {K X : Type 0} (R : K → K → Ordering) (q : K) (es : List (K
 below_none R q [] h = refl
 below_none R q (e ∷ es) h = ap (λ b. cond b (Some e.1) (map.find R q es)) (lt_not_eq (R q e.0) (T_left _ _ h)) ∙ below_none R q es (T_right _ _ h)
 
--- what is found behind an entry is found at it too
+-- what is found after an entry is found from it on too
 found_later : {K X : Type 0} (R : K → K → Ordering) → map.IsAntisymmetric R → (q k : K) (v x : X) (es : List (K × X)) (b : Bool) → eq_by_cmp R q k ≡ b → map.find R k es ≡ None → map.find R q es ≡ Some x → cond b (Some v) (map.find R q es) ≡ Some x
 found_later R exact q k v x es true e none f = let same : q ≡ k = one_key exact q k e in absurd (none-some x (sym none ∙ ap (λ j. map.find R j es) (sym same) ∙ f))
 found_later R exact q k v x es false e none f = f

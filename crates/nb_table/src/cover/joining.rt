@@ -3,10 +3,9 @@ ghost use Rattle.std.specs.Prelude.{◌≡◌, IfOk};
 ghost use Rattle.nb_table.specs.Codes.{slot_of};
 ghost use Rattle.nb_table.specs.Cover.{join_cover};
 
-use super::Cover;
+use super::{Cover, Places};
 use crate::fault::TableFault;
 use crate::join::Join;
-use crate::places::Places;
 use nb_names::NoMemory;
 
 /// What two covers come to, held or clashed, each given by its bytes and end if it is held.

@@ -2,7 +2,7 @@
 ghost use Rattle.std.specs.Prelude.{◌≡◌, IfOk, OnOk, OnErr};
 ghost use Rattle.nb_table.specs.Codes.{slot_of};
 ghost use Rattle.nb_table.specs.Entry.{IsEntry, join_entry};
-ghost use Rattle.nb_table.specs.Merging.{is_short};
+ghost use Rattle.nb_table.specs.Code.Fitting.{is_short};
 
 use super::Entry;
 use crate::facts::Facts;

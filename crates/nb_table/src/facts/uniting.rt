@@ -1,7 +1,7 @@
 //! The facts of two entries that don't contradict each other, united.
 ghost use Rattle.std.specs.Prelude.{◌≡◌, ◌&&◌, IfOk};
 ghost use Rattle.nb_table.specs.Cover.{lies_below};
-ghost use Rattle.nb_table.specs.Merging.{ends_by};
+ghost use Rattle.nb_table.specs.Code.Fitting.{ends_by};
 ghost use Rattle.nb_table.specs.Limits.{AreShort};
 ghost use Rattle.nb_table.specs.Whole.{bytes_to, datagram_with};
 ghost use Rattle.nb_datagram.specs.declared.limits.TheConstants.{MAX_LENGTH};

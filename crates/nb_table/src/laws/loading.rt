@@ -2,10 +2,12 @@
 ghost use Rattle.std.specs.Prelude.{◌≡◌, ℕ, List, Ok, length};
 ghost use Rattle.std.specs.FinMap as maps;
 ghost use Rattle.nb_datagram.specs.declared.key.Key.{Key};
+ghost use Rattle.nb_datagram.specs.declared.limits.TheConstants.{MAX_LENGTH};
 ghost use Rattle.nb_datagram.specs.Key.{key_cmp};
 ghost use Rattle.nb_table.specs.Contents.{Contents};
 ghost use Rattle.nb_table.specs.Entry.{EntryValue};
 ghost use Rattle.nb_table.specs.Join.{IsTable};
+ghost use Rattle.nb_table.specs.LoadFaults.{IsReadAs};
 ghost use Rattle.nb_table.specs.Merging.{AllShort};
 ghost use Rattle.nb_table.specs.Saved.{saved};
 ghost use Rattle.nb_table.specs.SavedFits.{FitsSaved};
@@ -15,6 +17,11 @@ ghost use Rattle.nb_table.specs.SavedReading.{Outcome, IsRead};
 pub fn saved_bytes_have_one_reading()
     ensures { (input : List ℕ) (outcome other : Outcome (List (Key × EntryValue))) →
         IsRead input outcome → IsRead input other → outcome ≡ other }
+{}
+
+/// An input is read as one table at most: equal saved bytes are those of equal tables.
+pub fn an_input_is_read_as_one_table()
+    ensures { (input : List ℕ) (t u : Contents) → IsReadAs input t → IsReadAs input u → t ≡ u }
 {}
 
 /// An input of which a table is read is the saved bytes of that table.
@@ -32,6 +39,6 @@ pub fn what_is_read_is_saved()
 /// The saved bytes of a well-formed table of datagrams of at most 65,535 bytes, which fits the
 /// fields of a saved table, are read as that table.
 pub fn a_saved_table_is_read()
-    ensures { (t : Contents) → FitsSaved t → IsTable t → AllShort 65535 t →
+    ensures { (t : Contents) → FitsSaved t → IsTable t → AllShort MAX_LENGTH t →
         IsRead (saved t) (Ok (maps.entries t, length (saved t))) }
 {}

@@ -2,6 +2,7 @@
 ghost use Rattle.std.specs.Prelude.{◌≡◌, ◌↔◌, ◌<◌, ◌^◌, Some};
 ghost use Rattle.std.specs.FinMap as maps;
 ghost use Rattle.nb_datagram.specs.declared.key.Key.{Key};
+ghost use Rattle.nb_datagram.specs.declared.limits.TheConstants.{MAX_LENGTH};
 ghost use Rattle.nb_datagram.specs.Header.{IsKey};
 ghost use Rattle.nb_table.specs.Slot.{OnHeld};
 ghost use Rattle.nb_table.specs.Entry.{EntryValue};
@@ -22,7 +23,7 @@ pub fn saved_bytes_tell_the_table()
 /// A table of datagrams of at most 65,535 bytes and of fewer than 2^32 keys fits the fields of a
 /// saved table.
 pub fn short_tables_fit_the_fields()
-    ensures { (t : Contents) → maps.len t < 2 ^ 32 → AllShort 65535 t →
+    ensures { (t : Contents) → maps.len t < 2 ^ 32 → AllShort MAX_LENGTH t →
         ((k : Key) (e : EntryValue) → maps.get t k ≡ Some e → IsKey k × OnHeld IsNamed e) →
         FitsSaved t }
 {}

@@ -7,7 +7,7 @@ ghost use Rattle.nb_datagram.specs.Fragment.{byte_of as core_byte};
 ghost use Rattle.nb_datagram.specs.Fragment.{end_of_one as core_end};
 ghost use Rattle.nb_table.specs.Conflict.{Overlap, PastEnd, Conflict, IsSpoilt};
 ghost use Rattle.nb_table.specs.ConflictTests.{conflicts, with_key};
-ghost use Rattle.nb_table.specs.Plain.{differ, SameNames, SameHeader};
+ghost use Rattle.nb_table.specs.Code.Plain.{differ, SameNames, SameHeader};
 
 use super::finding::{byte_of, end_of_one, has_key};
 use nb_datagram::{Fragment, Key};

@@ -9,7 +9,8 @@ ghost use Rattle.nb_table.specs.Contents.{byte_at as list_byte};
 ghost use Rattle.nb_table.specs.Whole.{datagram_at};
 ghost use Rattle.nb_table.specs.Whole.{bytes_below as cover_bytes};
 ghost use Rattle.nb_table.specs.Whole.{IsWholeAt};
-ghost use Rattle.nb_table.specs.Plain.{CoversBelow, IsLong, datagram_to};
+ghost use Rattle.nb_table.specs.Plain.{IsLong};
+ghost use Rattle.nb_table.specs.Code.Plain.{CoversBelow, datagram_to};
 
 use super::conflicting::is_spoilt;
 use super::finding::{byte_at, end_of, has_key};

@@ -4,7 +4,8 @@ ghost use Rattle.std.specs.List.{list_all};
 ghost use Rattle.std.specs.BTreeMap.{get, IsOrdered};
 ghost use Rattle.std.specs.FinMap as maps;
 ghost use Rattle.nb_datagram.specs.Key.{key_cmp};
-ghost use Rattle.nb_table.specs.Merging.{AllShort, Fits, IsRefused, every_key, is_short};
+ghost use Rattle.nb_table.specs.Merging.{AllShort, Fits, IsRefused, every_key};
+ghost use Rattle.nb_table.specs.Code.Fitting.{is_short};
 ghost use Rattle.nb_table.specs.Merging.{first_unfit as least_unfit};
 
 use super::Table;

@@ -7,7 +7,8 @@ ghost use Rattle.nb_table.specs.declared.load_fault.LoadFault.{LoadFault};
 
 use super::Table;
 use crate::load_fault::LoadFault;
-use crate::loading::entries::{judge, load_entries};
+use crate::saved::entries::load_entries;
+use crate::saved::tables::judge;
 use std::alloc::Global;
 
 /// The table whose saved bytes these are, with these limits: how many keys it may hold, and how
@@ -19,7 +20,7 @@ use std::alloc::Global;
 /// # Errors
 ///
 /// `BadMagic` where the bytes don't begin with "NBT1". Then what is met first from the front to the
-/// end of the input, a field being judged before the one behind it is asked for: `Truncated` where
+/// end of the input, a field being judged before the next one is asked for: `Truncated` where
 /// a field that has to follow is missing or cut off; `NotCanonical` with the offset of what no
 /// saved table has there. Then `TooLong` where an entry that isn't spoilt has a byte or an end past
 /// the longest datagram; `Full` where there are more keys than may be held; `NoMemory` where memory

@@ -8,11 +8,11 @@ use Rattle.nb_table.specs.Slot.{Held}
 use Rattle.nb_table.specs.Entry.{EntryValue, facts_of, join_entry}
 use Rattle.nb_table.specs.Contents.{Contents}
 use Rattle.nb_table.specs.Limits.{Limits, IsFull}
-use Rattle.nb_table.specs.Change.{KeyChange}
+use Rattle.nb_table.specs.Code.Change.{KeyChange}
 use Rattle.nb_table.specs.Insert.{Lacks}
 use Rattle.nb_table.specs.Lemmas.SameLemmas.{key_cmp_total, key_cmp_exact}
 use Rattle.nb_table.specs.Lemmas.TreeLemmas.{get_is, len_is, changed_is, kept_is, insert_is}
-use Rattle.nb_table.proofs.InsertLemmas.{needs_more, memory_alone, on_any_err}
+use Rattle.nb_table.proofs.Changes.InsertLemmas.{needs_more, memory_alone, on_any_err}
 use Rattle.nb_table.specs.Lemmas.FragmentLemmas.{needs_new}
 use Rattle.nb_table.proofs.inserting.join_fragment.Goals as goal
 

@@ -4,7 +4,7 @@ use Rattle.nb_datagram.specs.Fragment.{core_of}
 use Rattle.nb_table.specs.Entry.{facts_of}
 use Rattle.nb_table.specs.Codes.{slot_of}
 use Rattle.nb_table.specs.Lemmas.EntryLemmas.{facts_fit_of}
-use Rattle.nb_table.proofs.ChangeLemmas.{join_differs}
+use Rattle.nb_table.proofs.Changes.ChangeLemmas.{join_differs}
 use Rattle.nb_table.proofs.entry.Entry.add.Goals as goal
 
 pub grow-requires-clause-fits : goal.grow-requires-clause-fits

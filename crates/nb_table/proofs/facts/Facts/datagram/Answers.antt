@@ -1,6 +1,6 @@
 use Rattle.std.proofs.Common.{◌∙◌, sym}
 use Rattle.nb_datagram.specs.declared.limits.TheConstants.{MAX_LENGTH}
-use Rattle.nb_table.proofs.ChangeLemmas.{whole_size}
+use Rattle.nb_table.proofs.Changes.ChangeLemmas.{whole_size}
 use Rattle.nb_table.proofs.facts.Facts.datagram.Goals as goal
 
 pub datagram_from-requires : goal.datagram_from-requires

@@ -5,8 +5,8 @@ use Rattle.nb_table.specs.Slot.{Held}
 use Rattle.nb_table.specs.Cover.{CoverFacts}
 use Rattle.nb_table.specs.Entry.{EntryFacts, FactsFit, facts_of, facts_together}
 use Rattle.nb_table.specs.Whole.{bytes_to, datagram_with}
-use Rattle.nb_table.specs.Change.{KeyChange, grown_to}
-use Rattle.nb_table.proofs.ChangeLemmas.{facts_held, key_grown, with_together}
+use Rattle.nb_table.specs.Code.Change.{KeyChange, grown_to}
+use Rattle.nb_table.proofs.Changes.ChangeLemmas.{facts_held, key_grown, with_together}
 use Rattle.nb_table.specs.Lemmas.SameLemmas.{refutes}
 use Rattle.nb_table.proofs.facts.Facts.grow.Goals as goal
 
@@ -32,7 +32,7 @@ returns-clause-change c =
     ∙ ap (λ (m : CoverFacts). datagram_with k old (bytes_to m.bytes m.end)) made
     ∙ with_together k old b (bytes_to (facts_together old b).cover.bytes (facts_together old b).cover.end) in
     let grown = key_grown k old b fit (refutes c.holds.result c.holds.ensures c.if-holds.false) in
-    let told = c.grown_to.ensures ∙ ap grown_to datagram in
+    let answer = c.grown_to.ensures ∙ ap grown_to datagram in
     subst (λ (x : EntryFacts). KeyChange k (Some (Held x)) (Some (Held (record { kind = c.self.inside.kind; source = c.self.inside.source; destination = c.self.inside.destination; cover = c.in_ok-places.places }))) c.grown_to.result) c.self.view_is
     (subst (λ (x : EntryFacts). KeyChange k (Some (Held old)) (Some (Held x)) c.grown_to.result) (sym new)
-    (subst (λ (x : Change). KeyChange k (Some (Held old)) (Some (Held (facts_together old b))) x) (sym told) grown))
+    (subst (λ (x : Change). KeyChange k (Some (Held old)) (Some (Held (facts_together old b))) x) (sym answer) grown))

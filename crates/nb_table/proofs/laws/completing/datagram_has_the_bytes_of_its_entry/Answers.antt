@@ -1,4 +1,4 @@
-use Rattle.nb_table.proofs.WholeLemmas.{datagram_exactly}
+use Rattle.nb_table.proofs.Wholeness.WholeLemmas.{datagram_exactly}
 use Rattle.nb_table.proofs.laws.completing.datagram_has_the_bytes_of_its_entry.Goals as goal
 
 pub returns : goal.returns

@@ -1,4 +1,4 @@
-use Rattle.nb_table.proofs.WholeLemmas.{newly_exactly}
+use Rattle.nb_table.proofs.Wholeness.WholeLemmas.{newly_exactly}
 use Rattle.nb_table.proofs.laws.completing.newly_whole_is_whole_and_was_not.Goals as goal
 
 pub returns : goal.returns

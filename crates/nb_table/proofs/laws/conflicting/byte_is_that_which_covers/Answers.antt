@@ -1,4 +1,4 @@
-use Rattle.nb_table.proofs.PlacedLemmas.{byte_of_decides}
+use Rattle.nb_table.proofs.Covers.PlacedLemmas.{byte_of_decides}
 use Rattle.nb_table.proofs.laws.conflicting.byte_is_that_which_covers.Goals as goal
 
 pub returns : goal.returns

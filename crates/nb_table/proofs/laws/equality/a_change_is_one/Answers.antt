@@ -1,4 +1,4 @@
-use Rattle.nb_table.proofs.OneLemmas.{one_change}
+use Rattle.nb_table.proofs.Changes.OneLemmas.{one_change}
 use Rattle.nb_table.proofs.laws.equality.a_change_is_one.Goals as goal
 
 pub returns : goal.returns

@@ -1,4 +1,4 @@
-use Rattle.nb_table.proofs.OneLemmas.{one_state}
+use Rattle.nb_table.proofs.Changes.OneLemmas.{one_state}
 use Rattle.nb_table.proofs.laws.equality.a_state_is_one.Goals as goal
 
 pub returns : goal.returns

@@ -1,4 +1,4 @@
-use Rattle.nb_table.proofs.OrderFreeLemmas.{repeated_cores}
+use Rattle.nb_table.proofs.Contents.OrderFreeLemmas.{repeated_cores}
 use Rattle.nb_table.proofs.laws.gathering.lists_repeated_have_the_same_cores.Goals as goal
 
 pub returns : goal.returns

@@ -1,4 +1,4 @@
-use Rattle.nb_table.proofs.OrderFreeLemmas.{turned_cores}
+use Rattle.nb_table.proofs.Contents.OrderFreeLemmas.{turned_cores}
 use Rattle.nb_table.proofs.laws.gathering.lists_swapped_have_the_same_cores.Goals as goal
 
 pub returns : goal.returns

@@ -1,4 +1,4 @@
-use Rattle.nb_table.proofs.SayingLemmas.{spoilt_exactly}
+use Rattle.nb_table.proofs.Contents.SayingLemmas.{spoilt_exactly}
 use Rattle.nb_table.proofs.laws.gathering.table_is_spoilt_where_fragments_disagree.Goals as goal
 
 pub returns : goal.returns

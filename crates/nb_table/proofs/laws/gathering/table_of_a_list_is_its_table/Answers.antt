@@ -1,4 +1,4 @@
-use Rattle.nb_table.proofs.SayingLemmas.{table_is}
+use Rattle.nb_table.proofs.Contents.SayingLemmas.{table_is}
 use Rattle.nb_table.proofs.laws.gathering.table_of_a_list_is_its_table.Goals as goal
 
 pub returns : goal.returns

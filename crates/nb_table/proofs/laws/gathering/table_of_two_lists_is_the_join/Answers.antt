@@ -1,4 +1,4 @@
-use Rattle.nb_table.proofs.ContentsLemmas.{table_of-append}
+use Rattle.nb_table.proofs.Contents.ContentsLemmas.{table_of-append}
 use Rattle.nb_table.proofs.laws.gathering.table_of_two_lists_is_the_join.Goals as goal
 
 pub returns : goal.returns

@@ -1,4 +1,4 @@
-use Rattle.nb_table.proofs.LoadedLemmas.{read_saved, read_entries, read_formed}
+use Rattle.nb_table.proofs.SavedReading.LoadedLemmas.{read_saved, read_entries, read_formed}
 use Rattle.nb_table.proofs.laws.loading.what_is_read_is_saved.Goals as goal
 
 pub returns-clause-bytes : goal.returns-clause-bytes

@@ -1,5 +1,5 @@
-use Rattle.nb_table.proofs.PartsLemmas.{parts_not_spoilt}
-use Rattle.nb_table.proofs.SenderLemmas.{parts_not_spoilt_in_table}
+use Rattle.nb_table.proofs.Wholeness.PartsLemmas.{parts_not_spoilt}
+use Rattle.nb_table.proofs.Wholeness.SenderLemmas.{parts_not_spoilt_in_table}
 use Rattle.nb_table.proofs.laws.parts.parts_are_not_spoilt.Goals as goal
 
 pub returns-clause-list : goal.returns-clause-list

@@ -1,4 +1,4 @@
-use Rattle.nb_table.proofs.SenderLemmas.{all_where_whole, whole_where_all}
+use Rattle.nb_table.proofs.Wholeness.SenderLemmas.{all_where_whole, whole_where_all}
 use Rattle.nb_table.proofs.laws.parts.parts_are_whole_where_all_are_there.Goals as goal
 
 pub returns : goal.returns

@@ -1,6 +1,6 @@
 use Rattle.nb_datagram.specs.Fragment.{cores_of}
 use Rattle.nb_datagram.specs.Pieces.{pieces}
-use Rattle.nb_table.proofs.SenderLemmas.{gives_where_all}
+use Rattle.nb_table.proofs.Wholeness.SenderLemmas.{gives_where_all}
 use Rattle.nb_table.proofs.laws.parts.pieces_are_all_parts.Goals as goal
 
 pub returns-clause-alone : goal.returns-clause-alone

@@ -1,4 +1,4 @@
-use Rattle.nb_table.proofs.RunsLemmas.{given_back}
+use Rattle.nb_table.proofs.Runs.RunsLemmas.{given_back}
 use Rattle.nb_table.proofs.laws.running.runs_of_a_map_give_it_back.Goals as goal
 
 pub returns : goal.returns

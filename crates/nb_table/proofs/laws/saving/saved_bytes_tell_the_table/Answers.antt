@@ -1,6 +1,6 @@
 use Rattle.std.proofs.Common.{ap}
 use Rattle.nb_table.specs.Saved.{saved}
-use Rattle.nb_table.proofs.SavedLemmas.{table_same}
+use Rattle.nb_table.proofs.SavedBytes.SavedLemmas.{table_same}
 use Rattle.nb_table.proofs.laws.saving.saved_bytes_tell_the_table.Goals as goal
 
 pub returns : goal.returns

@@ -1,4 +1,4 @@
-use Rattle.nb_table.proofs.ShortLemmas.{short_fits}
+use Rattle.nb_table.proofs.SavedBytes.ShortLemmas.{short_fits}
 use Rattle.nb_table.proofs.laws.saving.short_tables_fit_the_fields.Goals as goal
 
 pub returns : goal.returns

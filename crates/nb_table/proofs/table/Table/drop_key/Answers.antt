@@ -4,7 +4,7 @@ use Rattle.nb_datagram.specs.Key.{key_cmp}
 use Rattle.nb_table.specs.Limits.{TableValue, KeepsLimits}
 use Rattle.nb_table.specs.Lemmas.SameLemmas.{key_cmp_total, key_cmp_exact}
 use Rattle.nb_table.specs.Lemmas.TreeLemmas.{get_is, remove_is}
-use Rattle.nb_table.proofs.ReadingLemmas.{remove_keeps}
+use Rattle.nb_table.proofs.TableReads.ReadingLemmas.{remove_keeps}
 use Rattle.nb_table.proofs.table.Table.drop_key.Goals as goal
 
 pub invariant_of-self : goal.invariant_of-self

@@ -6,7 +6,7 @@ use Rattle.nb_table.specs.Limits.{TableValue}
 use Rattle.nb_table.specs.Merging.{every_key, held_keys}
 use Rattle.nb_table.specs.Lemmas.SameLemmas.{key_cmp_total, key_cmp_exact}
 use Rattle.nb_table.specs.Lemmas.TreeLemmas.{get_is, entries_are}
-use Rattle.nb_table.proofs.FittingLemmas.{held_every}
+use Rattle.nb_table.proofs.Limits.FittingLemmas.{held_every}
 use Rattle.nb_table.proofs.table.Table.first_unfit.Goals as goal
 
 pub returns : goal.returns

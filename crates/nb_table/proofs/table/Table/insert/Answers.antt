@@ -8,7 +8,7 @@ use Rattle.nb_table.specs.Contents.{Contents}
 use Rattle.nb_table.specs.Limits.{TableValue, KeepsLimits}
 use Rattle.nb_table.specs.Insert.{Passes}
 use Rattle.nb_table.specs.Lemmas.FragmentLemmas.{join_one}
-use Rattle.nb_table.proofs.InsertLemmas.{short_more, same_test, settled, ok_both, refused_from, spared, insert_keeps, change_settled}
+use Rattle.nb_table.proofs.Changes.InsertLemmas.{short_more, same_test, settled, ok_both, refused_from, spared, insert_keeps, change_settled}
 use Rattle.nb_table.proofs.table.Table.insert.Goals as goal
 
 pub join_fragment-requires-clause-entry : goal.join_fragment-requires-clause-entry

@@ -3,8 +3,8 @@ use Rattle.std.specs.FinMap as maps
 use Rattle.nb_datagram.specs.Key.{key_cmp}
 use Rattle.nb_datagram.specs.declared.limits.TheConstants.{MAX_LENGTH}
 use Rattle.nb_table.specs.Limits.{TableValue, KeepsLimits, with_contents}
-use Rattle.nb_table.proofs.InsertLemmas.{short_more}
-use Rattle.nb_table.proofs.MergingLemmas.{merged_keeps}
+use Rattle.nb_table.proofs.Changes.InsertLemmas.{short_more}
+use Rattle.nb_table.proofs.Limits.MergingLemmas.{merged_keeps}
 use Rattle.nb_table.proofs.table.Table.merge.Goals as goal
 
 old : (c : goal.After-entries-2-1) → TableValue

@@ -2,7 +2,7 @@ use Rattle.std.proofs.Common.{subst, sym}
 use Rattle.std.specs.FinMap as maps
 use Rattle.nb_datagram.specs.Key.{key_cmp}
 use Rattle.nb_table.specs.Limits.{Limits, KeepsLimits}
-use Rattle.nb_table.proofs.LimitsLemmas.{empty_keeps}
+use Rattle.nb_table.proofs.Limits.LimitsLemmas.{empty_keeps}
 use Rattle.nb_table.proofs.table.Table.new.Goals as goal
 
 pub invariant_of-result : goal.invariant_of-result

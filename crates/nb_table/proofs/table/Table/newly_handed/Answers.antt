@@ -8,7 +8,7 @@ use Rattle.nb_datagram.specs.Key.{key_cmp}
 use Rattle.nb_table.specs.Whole.{newly, datagram_at, datagram_of, newly_whole}
 use Rattle.nb_table.specs.Lemmas.SameLemmas.{key_cmp_total, key_cmp_exact}
 use Rattle.nb_table.specs.Lemmas.TreeLemmas.{get_is, entries_are}
-use Rattle.nb_table.proofs.MergingLemmas.{handed_one, handed_none}
+use Rattle.nb_table.proofs.Limits.MergingLemmas.{handed_one, handed_none}
 use Rattle.nb_table.proofs.table.Table.newly_handed.Goals as goal
 
 pub newly_whole-requires : goal.newly_whole-requires

@@ -2,7 +2,7 @@ use Rattle.std.proofs.Common.{◌∙◌}
 use Rattle.std.proofs.lemmas.Result.{IfOk-weaker}
 use Rattle.nb_table.specs.Whole.{datagram_of}
 use Rattle.nb_table.specs.Lemmas.SameLemmas.{refutes}
-use Rattle.nb_table.proofs.MergingLemmas.{newly_never, newly_always}
+use Rattle.nb_table.proofs.Limits.MergingLemmas.{newly_never, newly_always}
 use Rattle.nb_table.proofs.table.Table.newly_whole.Goals as goal
 
 pub returns-then-has_whole : goal.returns-then-has_whole

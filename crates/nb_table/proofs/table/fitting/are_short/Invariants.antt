@@ -1,6 +1,6 @@
 use Rattle.std.proofs.Common.{◌≡◌}
 use Rattle.std.specs.List.{list_all}
-use Rattle.nb_table.specs.Merging.{is_short}
+use Rattle.nb_table.specs.Code.Fitting.{is_short}
 use Rattle.nb_table.proofs.table.fitting.are_short.Given as goal
 
 abbrev pub invariant-loop-key : goal.invariant-loop-key

@@ -1,7 +1,7 @@
 use Rattle.std.proofs.Common.{ap, Err, arith}
 use Rattle.std.proofs.lemmas.Result.{err_from_is_err_and}
 use Rattle.nb_table.specs.LoadFaults.{ill_formed}
-use Rattle.nb_table.proofs.LoadLemmas.{judged_sound, fault_same, judged_long, judged_full, keeping_failed, kept_limits, kept_read, kept_saved}
+use Rattle.nb_table.proofs.SavedReading.LoadLemmas.{judged_sound, fault_same, judged_long, judged_full, keeping_failed, kept_limits, kept_read, kept_saved}
 use Rattle.nb_table.proofs.table.loading.load.Goals as goal
 
 pub returns-in_err-count-clause-fault : goal.returns-in_err-count-clause-fault

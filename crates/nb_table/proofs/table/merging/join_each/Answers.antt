@@ -4,7 +4,7 @@ use Rattle.nb_datagram.specs.Key.{key_cmp}
 use Rattle.nb_table.specs.Entry.{join_entry}
 use Rattle.nb_table.specs.Lemmas.SameLemmas.{key_cmp_total, key_cmp_exact}
 use Rattle.nb_table.specs.Lemmas.TreeLemmas.{entries_are}
-use Rattle.nb_table.proofs.EachLemmas.{joined_each, joined_each_is}
+use Rattle.nb_table.proofs.Joins.EachLemmas.{joined_each, joined_each_is}
 use Rattle.nb_table.proofs.table.merging.join_each.Goals as goal
 
 pub returns : goal.returns

@@ -1,7 +1,7 @@
 use Rattle.std.specs.FinMap as maps
 use Rattle.nb_datagram.specs.Key.{key_cmp}
 use Rattle.nb_table.specs.Limits.{TableValue, KeepsLimits, with_contents}
-use Rattle.nb_table.proofs.MergingLemmas.{merged_keeps}
+use Rattle.nb_table.proofs.Limits.MergingLemmas.{merged_keeps}
 use Rattle.nb_table.proofs.table.merging.TableJoin.join.Goals as goal
 
 old : (c : goal.After-drop-self-inside) → TableValue

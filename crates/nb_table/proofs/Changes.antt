@@ -1,0 +1,4 @@
+-- On specs/Change, Insert and State.
+pub mod ChangeLemmas
+pub mod InsertLemmas
+pub mod OneLemmas

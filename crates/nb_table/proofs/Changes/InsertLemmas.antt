@@ -1,0 +1,189 @@
+-- A fragment joined to a table that keeps to its limits.
+use Rattle.std.proofs.Common.{◌≡◌, ◌≢◌, ◌<◌, ◌≤◌, ℕ, ◌+◌, Bool, true, false, cond, [], ◌∷◌, Option, Some, None, refl, sym, ◌∙◌, ap, subst, arith, is_some, inl, inr, Result, Ok, Err, IfErr, OnOk, OnErr, IfOk, IsOk, not}
+use Rattle.std.specs.Bool.{beq}
+use Rattle.std.specs.Cmp.{booleans_Decides}
+use Rattle.std.specs.Result.{IsErrAnd}
+use Rattle.nb_table.specs.declared.fault.TableFault.{TableFault}
+use Rattle.nb_table.specs.declared.fault.TableFault.TheVariants.{MisplacedFirst, TooLong, Full, NoMemory}
+use Rattle.std.specs.FinMap as maps
+use Rattle.nb_datagram.specs.declared.key.Key.{Key}
+use Rattle.nb_datagram.specs.Key.{same_key}
+use Rattle.nb_datagram.specs.Fragment.{FragmentParts, Core, core_of, reach}
+use Rattle.nb_table.specs.declared.change.Change.{Change}
+use Rattle.nb_table.specs.declared.change.Change.TheVariants.{Whole, Same, Grown}
+use Rattle.nb_table.specs.declared.change.Change.TheVariants.{Spoilt as Spoils}
+use Rattle.nb_table.specs.Maps.{joined_onto}
+use Rattle.nb_table.specs.Slot.{Spoilt, Held}
+use Rattle.nb_table.specs.Entry.{EntryFacts, EntryValue, FactsFit, facts_agree, facts_of, facts_together, join_entry}
+use Rattle.nb_table.specs.Contents.{Contents, table_of}
+use Rattle.nb_table.specs.Join.{IsTable}
+use Rattle.nb_table.specs.Limits.{TableValue, AreShort, IsShort, IsFull, KeepsLimits}
+use Rattle.nb_table.specs.Change.{IsChange}
+use Rattle.nb_table.specs.Code.Change.{KeyChange}
+use Rattle.nb_table.specs.Insert.{NeedsNoMemory, spoilt, contradicts, held, Passes, Lacks, Refuses}
+use Rattle.nb_table.specs.Lemmas.SameLemmas.{key_cmp_total, key_cmp_exact, same_key_decides}
+use Rattle.nb_table.specs.Lemmas.CoverLemmas.{below_both, first_either}
+use Rattle.nb_table.specs.Lemmas.EntryLemmas.{facts_fit_of}
+use Rattle.nb_table.proofs.Covers.PlacedLemmas.{end_of_decides}
+use Rattle.nb_table.proofs.Covers.PlacesLemmas.{below_by_reach}
+use Rattle.nb_table.specs.Lemmas.TableLemmas.{join_formed}
+use Rattle.nb_table.proofs.Contents.ContentsLemmas.{table_of_formed}
+use Rattle.nb_table.specs.Lemmas.FragmentLemmas.{join_one, insert_at, needs_new}
+use Rattle.std.proofs.lemmas.Bool.{cases_lt}
+
+-- ---- no memory is needed
+
+some_entry : (a b : EntryValue) → ◌≡◌ {A = Option EntryValue} (Some a) (Some b) → a ≡ b
+some_entry a b e = cc
+
+disagrees : (a b : EntryFacts) (t : Bool) → facts_agree a b ≡ t → (FactsFit a b → ⊥) → ◌≡◌ {A = EntryValue} (cond t (Held (facts_together a b)) Spoilt) Spoilt
+disagrees a b true e h = absurd (h (facts_fit_of a b e))
+disagrees a b false e h = refl
+
+pub needs_more : (t : Contents) (f : Core) (e : EntryValue) → maps.get t f.key ≡ Some e → (join_entry e (Held (facts_of f)) ≢ Spoilt) → (join_entry e (Held (facts_of f)) ≢ e) → NeedsNoMemory t f → ⊥
+needs_more t f e at clean more (spoilt s) =
+    let one = some_entry e Spoilt (sym at ∙ s) in
+    clean (ap (λ x. join_entry x (Held (facts_of f))) one)
+needs_more t f e at clean more (contradicts a h never) =
+    let one = some_entry e (Held a) (sym at ∙ h) in
+    clean (ap (λ x. join_entry x (Held (facts_of f))) one ∙ disagrees a (facts_of f) (facts_agree a (facts_of f)) refl never)
+needs_more t f e at clean more (held same) =
+    more (some_entry _ _ (
+    ap (λ o. Some (joined_onto join_entry o (Held (facts_of f)))) (sym at)
+    ∙ sym (insert_at t f.key (joined_onto join_entry (maps.get t f.key) (Held (facts_of f))))
+    ∙ ap (λ u. maps.get u f.key) (sym (join_one t f) ∙ same)
+    ∙ at))
+
+-- ---- what changes
+
+pub change_from : (a b : Contents) (k : Key) (c : Change) → (maps.get b k ≡ maps.get a k → b ≡ a) → KeyChange k (maps.get a k) (maps.get b k) c → IsChange a b k c
+change_from a b k Spoils same p = record { not_yet = p.0; spoilt = p.1 }
+change_from a b k (Whole d) same p = p
+change_from a b k Same same p = same p
+change_from a b k Grown same p = record { differs = λ e. p.0 (ap (λ u. maps.get u k) e); not_spoilt = λ s. p.1 (s.not_yet, s.spoilt); not_whole = p.2 }
+
+-- an insert of what stands at the key changes nothing
+insert_same : (t : Contents) (k : Key) (e : EntryValue) → maps.get t k ≡ Some e → maps.insert t k e ≡ t
+insert_same t k e at = maps.same_map key_cmp_total key_cmp_exact _ _ (λ q. maps.get-insert key_cmp_total t k e q ∙ step q (same_key q k) refl)
+  where
+    step : (q : Key) (b : Bool) → same_key q k ≡ b → cond b (Some e) (maps.get t q) ≡ maps.get t q
+    step q true h = sym at ∙ ap (maps.get t) (sym ((same_key_decides q k).0 h))
+    step q false h = refl
+
+pub change_at : (t : Contents) (k : Key) (e : EntryValue) (c : Change) → KeyChange k (maps.get t k) (Some e) c → IsChange t (maps.insert t k e) k c
+change_at t k e c p = change_from t (maps.insert t k e) k c
+    (λ h. insert_same t k e (sym h ∙ insert_at t k e))
+    (subst (λ o. KeyChange k (maps.get t k) o c) (sym (insert_at t k e)) p)
+
+-- ---- the limits are kept
+
+pub short_of : (n : ℕ) (f : Core) → reach f ≤ n → AreShort n (facts_of f)
+short_of n f h = record {
+  below = below_by_reach f n h;
+  ends = λ m e. (let ends = ((end_of_decides f m).0 e).1 in omega (arith, h, ends));
+}
+
+short_join : (n : ℕ) (a b : EntryValue) → IsShort n a → IsShort n b → IsShort n (join_entry a b)
+short_join n Spoilt b p q = tt
+short_join n (Held a) Spoilt p q = tt
+short_join n (Held a) (Held b) p q = at (facts_agree a b)
+  where
+    at : (t : Bool) → IsShort n (cond t (Held (facts_together a b)) Spoilt)
+    at true = record {
+      below = below_both n a.cover b.cover p.below q.below;
+      ends = λ m e. elim (first_either a.cover.end b.cover.end m e) [ inl h ↦ p.ends m h | inr h ↦ q.ends m h ];
+    }
+    at false = tt
+
+short_onto : (n : ℕ) (o : Option EntryValue) (b : EntryValue) → ((e : EntryValue) → o ≡ Some e → IsShort n e) → IsShort n b → IsShort n (joined_onto join_entry o b)
+short_onto n None b p q = q
+short_onto n (Some a) b p q = short_join n a b (p a refl) q
+
+-- ---- want of memory
+
+pub memory_alone : {X : Type 0} (r : Result X TableFault) (P : TableFault → Type 0) → IsErrAnd r (λ e. e ≡ NoMemory) → P NoMemory → IfErr r P
+memory_alone (Ok x) P h p = tt
+memory_alone (Err e) P h p = subst P (sym h) p
+
+pub on_any_err : {X : Type 0} (r : Result X TableFault) (P : Type 0) → P → OnErr r P
+on_any_err (Ok x) P p = tt
+on_any_err (Err e) P p = p
+
+-- ---- the table that takes a fragment
+
+-- with one more entry, for which there is room, the table keeps to its limits
+pub insert_keeps : (t : TableValue) (f : Core) → KeepsLimits t → reach f ≤ t.limits.longest → (IsFull t.limits t.contents f.key → ⊥) →
+    KeepsLimits (record { contents = maps.insert t.contents f.key (joined_onto join_entry (maps.get t.contents f.key) (Held (facts_of f))); limits = t.limits })
+insert_keeps t f keeps short room =
+    let k = f.key in
+    let e = joined_onto join_entry (maps.get t.contents f.key) (Held (facts_of f)) in
+    record {
+      count = counted (maps.get t.contents k) refl (maps.len-insert key_cmp_total t.contents k e);
+      short = λ q d h. shorts q d (same_key q k) refl (sym (maps.get-insert key_cmp_total t.contents k e q) ∙ h);
+      formed = subst IsTable (join_one t.contents f) (join_formed t.contents (table_of (f ∷ [])) keeps.formed (table_of_formed (f ∷ [])));
+    }
+  where
+    counted : (o : Option EntryValue) → maps.get t.contents f.key ≡ o →
+        maps.len (maps.insert t.contents f.key (joined_onto join_entry (maps.get t.contents f.key) (Held (facts_of f)))) ≡ cond (is_some (maps.get t.contents f.key)) (maps.len t.contents) (maps.len t.contents + 1) →
+        maps.len (maps.insert t.contents f.key (joined_onto join_entry (maps.get t.contents f.key) (Held (facts_of f)))) ≤ t.limits.keys
+    counted (Some x) at size = let same = size ∙ ap (λ o. cond (is_some o) (maps.len t.contents) (maps.len t.contents + 1)) at in let most = keeps.count in omega (arith, same, most)
+    counted None at size =
+        let same = size ∙ ap (λ o. cond (is_some o) (maps.len t.contents) (maps.len t.contents + 1)) at in
+        let fewer : maps.len t.contents < t.limits.keys = elim (cases_lt (maps.len t.contents) t.limits.keys) [ inl h ↦ h | inr h ↦ absurd (room (record { is_new = at; no_room = omega (arith, h) })) ] in
+        omega (arith, same, fewer)
+
+    shorts : (q : Key) (d : EntryValue) (b : Bool) → same_key q f.key ≡ b → cond b (Some (joined_onto join_entry (maps.get t.contents f.key) (Held (facts_of f)))) (maps.get t.contents q) ≡ Some d → IsShort t.limits.longest d
+    shorts q d true s h = subst (IsShort t.limits.longest) (some_entry _ d h) (short_onto t.limits.longest (maps.get t.contents f.key) (Held (facts_of f)) (keeps.short f.key) (short_of t.limits.longest f short))
+    shorts q d false s h = keeps.short q d h
+
+-- what is short for a table is short for a datagram
+pub short_more : (m n : ℕ) (e : EntryValue) → m ≤ n → IsShort m e → IsShort n e
+short_more m n Spoilt h s = tt
+short_more m n (Held e) h s = record {
+  below = record { bytes = λ i x g. (let below = s.below.bytes i x g in omega (arith, h, below)) };
+  ends = λ k g. (let end = s.ends k g in omega (arith, h, end));
+}
+
+-- ---- results
+
+not_false : (b : Bool) → not b ≡ false → b ≡ true
+not_false true h = refl
+not_false false h = absurd (cc)
+
+-- tests that don't differ are the same
+pub same_test : (a b : Bool) → not (beq a b) ≡ false → a ≡ b
+same_test a b h = (booleans_Decides a b).0 (not_false (beq a b) h)
+
+-- what holds at either end holds
+pub settled : {X : Type 0} (r : Result X TableFault) (P : Type 0) → OnOk r P → OnErr r P → P
+settled (Ok x) P p q = p
+settled (Err e) P p q = q
+
+pub ok_both : {X : Type 0} (r : Result X TableFault) (P Q : Type 0) → OnOk r P → OnOk r Q → OnOk r (P × Q)
+ok_both (Ok x) P Q p q = (p, q)
+ok_both (Err e) P Q p q = tt
+
+-- what the limits refuse is refused, of a fragment that passes
+pub refused_from : {X : Type 0} (r : Result X TableFault) (t : TableValue) (f : FragmentParts) → Passes t.limits f → IfErr r (Lacks t.limits t.contents f) → IfErr r (Refuses t f)
+refused_from (Ok x) t f p h = tt
+refused_from (Err MisplacedFirst) t f p h = absurd h
+refused_from (Err TooLong) t f p h = absurd h
+refused_from (Err (Full k)) t f p h = (p, h)
+refused_from (Err NoMemory) t f p h = (p, h)
+
+-- what changed at the key is what changed in the table
+pub change_settled : (r : Result Change TableFault) (t u : Contents) (k : Key) (e : EntryValue) → OnOk r (u ≡ maps.insert t k e) → IfOk r (KeyChange k (maps.get t k) (Some e)) → IfOk r (IsChange t u k)
+change_settled (Ok c) t u k e same p = subst (λ v. IsChange t v k c) (sym same) (change_at t k e c p)
+change_settled (Err x) t u k e same p = tt
+
+-- tests that differ aren't the same
+pub not_same : (a b : Bool) → not (beq a b) ≡ true → a ≡ b → ⊥
+not_same a b h e = let same : beq a b ≡ true = (booleans_Decides a b).1 e in let clash : false ≡ true = ap not (sym same) ∙ h in absurd (cc clash)
+
+-- nothing is refused of a fragment that passes and needs no memory
+pub spared : {X : Type 0} (r : Result X TableFault) (t : TableValue) (f : FragmentParts) → IfErr r (Refuses t f) → Passes t.limits f → NeedsNoMemory t.contents (core_of f) → IsOk r
+spared (Ok x) t f h p n = refl
+spared (Err MisplacedFirst) t f h p n = absurd (h p.placed)
+spared (Err TooLong) t f h p n = let past = h.1 in let short = p.short in absurd (omega (arith, past, short))
+spared (Err (Full k)) t f h p n = let lacks = h.1 in absurd (needs_new t.contents (core_of f) lacks.1.is_new n)
+spared (Err NoMemory) t f h p n = let lacks = h.1 in absurd (lacks.1 n)

@@ -1,0 +1,2 @@
+-- On specs/Conflict and ConflictTests.
+pub mod ConflictLemmas

@@ -1,0 +1,190 @@
+-- What a table has at a key, in the words of its list: nothing, spoilt, or what the fragments say.
+use Rattle.std.proofs.Common.{◌≡◌, ◌≢◌, ◌↔◌, ℕ, inl, inr, Bool, true, false, cond, List, [], ◌∷◌, Contains, slice_get, Option, Some, None, refl, sym, ◌∙◌, ap, subst}
+use Rattle.std.proofs.lemmas.Bool.{cases_eq}
+use Rattle.std.proofs.lemmas.Option.{same_Some, slice_get_within, get_or_from_slice_get}
+use Rattle.std.specs.FinMap as maps
+use Rattle.nb_datagram.specs.declared.key.Key.{Key}
+use Rattle.nb_datagram.specs.Fragment.{Core, Covers, EndsAt}
+use Rattle.nb_table.specs.Slot.{Spoilt, Held}
+use Rattle.nb_table.specs.Entry.{EntryFacts, EntryValue}
+use Rattle.nb_table.specs.Conflict.{Conflict, overlap, ends, IsSpoilt}
+use Rattle.nb_table.specs.ConflictTests.{some_conflict, with_key}
+use Rattle.nb_table.specs.Contents.{Contents, facts_in, entry_in, table_of, Says, IsEntryOf, IsTableOf, HasByte, HasEnd}
+use Rattle.nb_table.specs.Lemmas.CoverLemmas.{same_cover}
+use Rattle.nb_table.specs.Lemmas.TableLemmas.{same_table}
+use Rattle.nb_table.proofs.Contents.ContentsLemmas.{get-cover_in}
+use Rattle.nb_table.specs.Lemmas.FragmentLemmas.{get-table_of}
+use Rattle.nb_table.proofs.Conflict.ConflictLemmas.{is_spoilt_decides, with_key_in, in_with_key}
+use Rattle.nb_table.proofs.Contents.OrderFreeLemmas.{in_first, in_none}
+use Rattle.nb_table.proofs.Contents.FirstLemmas.{first_byte_from, first_end_from, first_byte_there, first_end_there}
+
+-- ---- nothing
+
+none_from : (fs : List Core) → entry_in fs ≡ None → fs ≡ []
+none_from [] h = refl
+none_from (f ∷ fs) h = absurd (cc)
+
+none_left : (fs : List Core) → ((f : Core) → Contains fs f → ⊥) → entry_in fs ≡ None
+none_left [] h = refl
+none_left (f ∷ fs) h = absurd (h f (in_first f fs))
+
+pub absent_exactly : (L : List Core) (k : Key) → (maps.get (table_of L) k ≡ None) ↔ ((f : Core) → Contains L f → f.key ≢ k)
+absent_exactly L k = (
+  λ h f c e. let empty = none_from (with_key k L) (sym (get-table_of L k) ∙ h) in
+      in_none f (subst (λ fs. Contains fs f) empty (with_key_in k L f c e)),
+  λ h. get-table_of L k ∙ none_left (with_key k L) (λ f c. let r = in_with_key k L f c in h f r.0 r.1),
+)
+
+-- ---- spoilt
+
+chosen_spoilt : (b : Bool) (e : EntryFacts) → ◌≡◌ {A = Option EntryValue} (Some (cond b Spoilt (Held e))) (Some Spoilt) → b ≡ true
+chosen_spoilt true e h = refl
+chosen_spoilt false e h = absurd (cc)
+
+spoilt_found : (fs : List Core) → entry_in fs ≡ Some Spoilt → some_conflict fs ≡ true
+spoilt_found [] h = absurd (cc)
+spoilt_found (f ∷ fs) h = chosen_spoilt (some_conflict (f ∷ fs)) (facts_in f (f ∷ fs)) h
+
+spoilt_from : (fs : List Core) → some_conflict fs ≡ true → entry_in fs ≡ Some Spoilt
+spoilt_from [] h = absurd (cc)
+spoilt_from (f ∷ fs) h = ap (λ b. Some (cond b Spoilt (Held (facts_in f (f ∷ fs))))) h
+
+pub spoilt_exactly : (L : List Core) (k : Key) → (maps.get (table_of L) k ≡ Some Spoilt) ↔ IsSpoilt L k
+spoilt_exactly L k = (
+  λ h. (is_spoilt_decides L k).0 (spoilt_found (with_key k L) (sym (get-table_of L k) ∙ h)),
+  λ s. get-table_of L k ∙ spoilt_from (with_key k L) ((is_spoilt_decides L k).1 s),
+)
+
+-- ---- held
+
+-- the first of the fragments, and the facts of all
+record First (fs : List Core) (e : EntryFacts) : Type 0 where
+  first : Core
+  is_first : slice_get fs 0 ≡ Some first
+  facts : facts_in first fs ≡ e
+
+chosen_held : (b : Bool) (a e : EntryFacts) → ◌≡◌ {A = Option EntryValue} (Some (cond b Spoilt (Held a))) (Some (Held e)) → a ≡ e
+chosen_held true a e h = absurd (cc)
+chosen_held false a e h = cc
+
+held_found : (fs : List Core) (e : EntryFacts) → entry_in fs ≡ Some (Held e) → First fs e
+held_found [] e h = absurd (cc)
+held_found (f ∷ fs) e h = record { first = f; is_first = refl; facts = chosen_held (some_conflict (f ∷ fs)) (facts_in f (f ∷ fs)) e h }
+
+pub held_says : (L : List Core) (k : Key) (e : EntryFacts) → maps.get (table_of L) k ≡ Some (Held e) → Says L k e
+held_says L k e h =
+    let w = held_found (with_key k L) e (sym (get-table_of L k) ∙ h) in
+    record {
+      first = w.first;
+      is_first = w.is_first;
+      kind = ap (λ (a : EntryFacts). a.kind) (sym w.facts);
+      source = ap (λ (a : EntryFacts). a.source) (sym w.facts);
+      destination = ap (λ (a : EntryFacts). a.destination) (sym w.facts);
+      bytes = λ i. ap (λ (a : EntryFacts). maps.get a.cover.bytes i) (sym w.facts) ∙ get-cover_in (with_key k L) i;
+      end = ap (λ (a : EntryFacts). a.cover.end) (sym w.facts);
+    }
+
+-- what the list says of a key is one thing
+one_saying : (L : List Core) (k : Key) (a b : EntryFacts) → Says L k a → Says L k b → a ≡ b
+one_saying L k a b p q =
+    let first : p.first ≡ q.first = same_Some p.first q.first (sym p.is_first ∙ q.is_first) in
+    let kind = p.kind ∙ ap (λ (f : Core). f.kind) first ∙ sym q.kind in
+    let source = p.source ∙ ap (λ (f : Core). f.source) first ∙ sym q.source in
+    let destination = p.destination ∙ ap (λ (f : Core). f.destination) first ∙ sym q.destination in
+    let cover = same_cover a.cover b.cover (λ i. p.bytes i ∙ sym (q.bytes i)) (p.end ∙ sym q.end) in
+    λ i. record { kind = kind i; source = source i; destination = destination i; cover = cover i }
+
+-- a key of which the list says something, and which isn't spoilt, is held
+says_held : (L : List Core) (k : Key) (e : EntryFacts) → (IsSpoilt L k → ⊥) → Says L k e → (o : Option EntryValue) → maps.get (table_of L) k ≡ o → o ≡ Some (Held e)
+says_held L k e free says None h =
+    let has : Contains (with_key k L) says.first = (0, slice_get_within (with_key k L) 0 says.first says.is_first, get_or_from_slice_get (with_key k L) 0 says.first says.first says.is_first) in
+    let own = in_with_key k L says.first has in
+    absurd ((absent_exactly L k).0 h says.first own.0 own.1)
+says_held L k e free says (Some Spoilt) h = absurd (free ((spoilt_exactly L k).0 h))
+says_held L k e free says (Some (Held a)) h = ap (λ (x : EntryFacts). Some (Held x)) (one_saying L k a e (held_says L k a h) says)
+
+not_both : (L : List Core) (k : Key) (e : EntryFacts) → maps.get (table_of L) k ≡ Some (Held e) → IsSpoilt L k → ⊥
+not_both L k e h s = let both : Some (Held e) ≡ Some Spoilt = sym h ∙ (spoilt_exactly L k).1 s in cc both
+
+pub held_exactly : (L : List Core) (k : Key) (e : EntryFacts) → (maps.get (table_of L) k ≡ Some (Held e)) ↔ ((IsSpoilt L k → ⊥) × Says L k e)
+held_exactly L k e = (
+  λ h. (not_both L k e h, held_says L k e h),
+  λ p. says_held L k e p.0 p.1 (maps.get (table_of L) k) refl,
+)
+
+-- ---- the table of a list
+
+entry_is : (L : List Core) (k : Key) (o : Option EntryValue) → maps.get (table_of L) k ≡ o → IsEntryOf L k o
+entry_is L k None h = (absent_exactly L k).0 h
+entry_is L k (Some Spoilt) h = (spoilt_exactly L k).0 h
+entry_is L k (Some (Held e)) h = (held_exactly L k e).0 h
+
+is_entry : (L : List Core) (k : Key) (o : Option EntryValue) → IsEntryOf L k o → maps.get (table_of L) k ≡ o
+is_entry L k None h = (absent_exactly L k).1 h
+is_entry L k (Some Spoilt) h = (spoilt_exactly L k).1 h
+is_entry L k (Some (Held e)) h = (held_exactly L k e).1 h
+
+pub table_is : (L : List Core) → IsTableOf L (table_of L)
+table_is L k = entry_is L k (maps.get (table_of L) k) refl
+
+pub only_table : (L : List Core) (t : Contents) → IsTableOf L t → t ≡ table_of L
+only_table L t h = same_table t (table_of L) (λ k. sym (is_entry L k (maps.get t k) (h k)))
+
+-- ---- whatever the order of the fragments
+
+-- two fragments of a key that isn't spoilt don't conflict
+free_pair : (L : List Core) (k : Key) → (IsSpoilt L k → ⊥) → (f g : Core) → Contains (with_key k L) f → Contains (with_key k L) g → Conflict f g → ⊥
+free_pair L k free f g a b c =
+    let p = in_with_key k L f a in
+    let q = in_with_key k L g b in
+    free (record { one = f; other = g; has_one = p.0; has_other = q.0; of_key = p.1; disagree = record { one_key = p.1 ∙ sym q.1; conflict = c } })
+
+same_byte : (L : List Core) (k : Key) → (IsSpoilt L k → ⊥) → (f g : Core) (i x y : ℕ) → Contains (with_key k L) f → Contains (with_key k L) g → Covers f i x → Covers g i y → x ≡ y
+same_byte L k free f g i x y a b p q = elim (cases_eq x y) [
+  | inl e ↦ e
+  | inr apart ↦ absurd (free_pair L k free f g a b (overlap (record { place = i; byte = x; other_byte = y; covers = p; other_covers = q; differs = apart })))
+]
+
+same_end : (L : List Core) (k : Key) → (IsSpoilt L k → ⊥) → (f g : Core) (m n : ℕ) → Contains (with_key k L) f → Contains (with_key k L) g → EndsAt f m → EndsAt g n → m ≡ n
+same_end L k free f g m n a b p q = elim (cases_eq m n) [
+  | inl e ↦ e
+  | inr apart ↦ absurd (free_pair L k free f g a b (ends m n p q apart))
+]
+
+pub byte_exactly : (L : List Core) (k : Key) (e : EntryFacts) → maps.get (table_of L) k ≡ Some (Held e) → (i x : ℕ) → (maps.get e.cover.bytes i ≡ Some x) ↔ HasByte L k i x
+byte_exactly L k e h i x = (found, from)
+  where
+    both : (IsSpoilt L k → ⊥) × Says L k e
+    both = (held_exactly L k e).0 h
+
+    found : maps.get e.cover.bytes i ≡ Some x → HasByte L k i x
+    found g =
+        let w = first_byte_from (with_key k L) i x (sym (both.1.bytes i) ∙ g) in
+        let own = in_with_key k L w.fragment w.has in
+        record { fragment = w.fragment; has = own.0; of_key = own.1; covers = w.covers }
+
+    from : HasByte L k i x → maps.get e.cover.bytes i ≡ Some x
+    from b =
+        let has = with_key_in k L b.fragment b.has b.of_key in
+        let there = first_byte_there (with_key k L) b.fragment i x has b.covers in
+        let w = first_byte_from (with_key k L) i there.0 there.1 in
+        both.1.bytes i ∙ there.1 ∙ ap Some (same_byte L k both.0 w.fragment b.fragment i there.0 x w.has has w.covers b.covers)
+
+pub end_exactly : (L : List Core) (k : Key) (e : EntryFacts) → maps.get (table_of L) k ≡ Some (Held e) → (n : ℕ) → (e.cover.end ≡ Some n) ↔ HasEnd L k n
+end_exactly L k e h n = (found, from)
+  where
+    both : (IsSpoilt L k → ⊥) × Says L k e
+    both = (held_exactly L k e).0 h
+
+    found : e.cover.end ≡ Some n → HasEnd L k n
+    found g =
+        let w = first_end_from (with_key k L) n (sym both.1.end ∙ g) in
+        let own = in_with_key k L w.fragment w.has in
+        record { fragment = w.fragment; has = own.0; of_key = own.1; ends = w.ends }
+
+    from : HasEnd L k n → e.cover.end ≡ Some n
+    from b =
+        let has = with_key_in k L b.fragment b.has b.of_key in
+        let there = first_end_there (with_key k L) b.fragment n has b.ends in
+        let w = first_end_from (with_key k L) there.0 there.1 in
+        both.1.end ∙ there.1 ∙ ap Some (same_end L k both.0 w.fragment b.fragment there.0 n w.has has w.ends b.ends)

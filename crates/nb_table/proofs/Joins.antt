@@ -1,0 +1,3 @@
+-- On specs/Join: values joined one after the other.
+pub mod EachLemmas
+pub mod JoinLemmas

@@ -1,0 +1,4 @@
+-- On specs/Limits and Merging.
+pub mod LimitsLemmas
+pub mod FittingLemmas
+pub mod MergingLemmas

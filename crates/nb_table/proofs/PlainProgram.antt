@@ -1,0 +1,3 @@
+-- On specs/Plain and Code/Plain.
+pub mod PlainLemmas
+pub mod PlainWholeLemmas

@@ -1,0 +1,157 @@
+-- When a key is whole, by the tests of the plain program, and its datagram.
+use Rattle.std.proofs.Common.{◌≡◌, ◌<◌, ◌≤◌, ◌+◌, ℕ, Bool, true, false, cond, List, [], ◌∷◌, length, slice_get, option_and_then, Option, Some, None, Result, Ok, Err, IsErrAnd, IsErrOf, is_some, inl, inr, refl, sym, ◌∙◌, ap, arith}
+use Rattle.std.proofs.lemmas.Bool.{cases_lt}
+use Rattle.std.specs.FinMap as maps
+use Rattle.nb_datagram.specs.declared.key.Key.{Key}
+use Rattle.nb_datagram.specs.Fragment.{Core}
+use Rattle.nb_datagram.specs.Datagram.{DatagramParts}
+use Rattle.nb_datagram.specs.declared.limits.TheConstants.{MAX_LENGTH}
+use Rattle.nb_table.specs.Slot.{Spoilt, Held}
+use Rattle.nb_table.specs.Entry.{EntryValue}
+use Rattle.nb_table.specs.Conflict.{IsSpoilt}
+use Rattle.nb_table.specs.ConflictTests.{some_conflict, with_key, is_spoilt}
+use Rattle.nb_table.specs.Contents.{first_end, byte_at, end_of, cover_in, facts_in, entry_in, table_of}
+use Rattle.nb_table.specs.Whole.{IsWhole, bytes_below, bytes_to, datagram_with, datagram_of, datagram_at}
+use Rattle.nb_table.specs.Whole.{IsWholeAt}
+use Rattle.nb_table.specs.Plain.{IsLong}
+use Rattle.nb_table.specs.Code.Plain.{CoversBelow, datagram_to}
+use Rattle.nb_table.specs.declared.plain.whole.PlainFault.{PlainFault}
+use Rattle.nb_table.specs.declared.plain.whole.PlainFault.TheVariants.{TooLong, NoMemory}
+use Rattle.nb_table.proofs.Conflict.ConflictLemmas.{is_spoilt_decides}
+use Rattle.nb_table.proofs.Contents.ContentsLemmas.{get-cover_in}
+use Rattle.nb_table.specs.Lemmas.FragmentLemmas.{get-table_of}
+use Rattle.nb_table.proofs.Contents.SayingLemmas.{spoilt_exactly, held_says}
+use Rattle.nb_table.proofs.Wholeness.WholeLemmas.{whole_exactly, with_found, below_found}
+
+-- ---- places that are covered
+
+pub some_of : (o : Option ℕ) → is_some o ≡ true → (x : ℕ) × (o ≡ Some x)
+some_of None h = absurd (cc)
+some_of (Some x) h = (x, refl)
+
+pub none_of : (o : Option ℕ) → is_some o ≡ false → o ≡ None
+none_of None h = refl
+none_of (Some x) h = absurd (cc)
+
+pub covers_more : (L : List Core) (k : Key) (n : ℕ) → CoversBelow L k n → (x : ℕ) × (byte_at L k n ≡ Some x) → CoversBelow L k (n + 1)
+covers_more L k n below last i h = elim (cases_lt i n) [
+  | inl f ↦ below i f
+  | inr f ↦ let here : i ≡ n = omega (arith, f, h) in (last.0, ap (byte_at L k) here ∙ last.1)
+]
+
+pub covers_not : (L : List Core) (k : Key) (n i : ℕ) → i < n → byte_at L k i ≡ None → CoversBelow L k n → ⊥
+covers_not L k n i h e below = let w = below i h in let clash : None ≡ Some w.0 = sym e ∙ w.1 in absurd (cc clash)
+
+-- ---- the entry of a key that ends and isn't spoilt
+
+-- the facts of a key that isn't spoilt, from its first fragment
+pub held_from : (L : List Core) (k : Key) (f : Core) → (IsSpoilt L k → ⊥) → slice_get (with_key k L) 0 ≡ Some f → maps.get (table_of L) k ≡ Some (Held (facts_in f (with_key k L)))
+held_from L k f free first = get-table_of L k ∙ chosen (with_key k L) first (unspoilt (is_spoilt L k) refl)
+  where
+    unspoilt : (b : Bool) → is_spoilt L k ≡ b → is_spoilt L k ≡ false
+    unspoilt true e = absurd (free ((is_spoilt_decides L k).0 e))
+    unspoilt false e = e
+
+    chosen : (fs : List Core) → slice_get fs 0 ≡ Some f → some_conflict fs ≡ false → entry_in fs ≡ Some (Held (facts_in f fs))
+    chosen [] e h = absurd (cc)
+    chosen (g ∷ gs) e h = let one : g ≡ f = cc in ap (λ b. Some (cond b Spoilt (Held (facts_in g (g ∷ gs))))) h ∙ ap (λ x. Some (Held (facts_in x (g ∷ gs)))) one
+
+-- a key that ends has a first fragment
+pub first_of_ending : (fs : List Core) (n : ℕ) → first_end fs ≡ Some n → (f : Core) × (slice_get fs 0 ≡ Some f)
+first_of_ending [] n h = absurd (cc)
+first_of_ending (f ∷ fs) n h = (f, refl)
+
+-- ---- whole keys
+
+pub whole_from : (L : List Core) (k : Key) (n : ℕ) → (IsSpoilt L k → ⊥) → end_of L k ≡ Some n → CoversBelow L k n → IsWholeAt (table_of L) k
+whole_from L k n free ends below =
+    let first = first_of_ending (with_key k L) n ends in (
+      Held (facts_in first.0 (with_key k L)),
+      held_from L k first.0 free first.1,
+      record { length = n; ends = ends; covered = λ i h. (let w = below i h in (w.0, get-cover_in (with_key k L) i ∙ w.1)) },
+    )
+
+spoilt_not_whole : (L : List Core) (k : Key) (e : EntryValue) → maps.get (table_of L) k ≡ Some e → IsWhole e → IsSpoilt L k → ⊥
+spoilt_not_whole L k Spoilt h w s = w
+spoilt_not_whole L k (Held e) h w s = let clash = sym h ∙ (spoilt_exactly L k).1 s in absurd (cc clash)
+
+pub whole_free : (L : List Core) (k : Key) → IsWholeAt (table_of L) k → IsSpoilt L k → ⊥
+whole_free L k w = spoilt_not_whole L k w.0 w.1 w.2
+
+whole_in : (L : List Core) (k : Key) (e : EntryValue) → maps.get (table_of L) k ≡ Some e → IsWhole e → (n : ℕ) × (end_of L k ≡ Some n) × CoversBelow L k n
+whole_in L k Spoilt h w = absurd w
+whole_in L k (Held e) h w =
+    let s = held_says L k e h in
+    (w.length, sym s.end ∙ w.ends, λ i f. (let c = w.covered i f in (c.0, sym (s.bytes i) ∙ c.1)))
+
+pub whole_ends : (L : List Core) (k : Key) → IsWholeAt (table_of L) k → (n : ℕ) × (end_of L k ≡ Some n) × CoversBelow L k n
+whole_ends L k w = whole_in L k w.0 w.1 w.2
+
+-- ---- the datagram
+
+-- a key that isn't whole gives no datagram
+pub not_whole : (L : List Core) (k : Key) → (IsWholeAt (table_of L) k → ⊥) → datagram_at (table_of L) k ≡ None
+not_whole L k h = at (maps.get (table_of L) k) refl
+  where
+    none : (e : EntryValue) (o : Option DatagramParts) → datagram_of k e ≡ o → maps.get (table_of L) k ≡ Some e → datagram_of k e ≡ None
+    none e None d g = d
+    none e (Some x) d g = absurd (h (e, g, (whole_exactly k e).1 (x, d)))
+
+    at : (o : Option EntryValue) → maps.get (table_of L) k ≡ o → option_and_then (datagram_of k) o ≡ None
+    at None g = refl
+    at (Some e) g = none e (datagram_of k e) refl g
+
+-- the datagram of a key, from its first fragment, its end and its bytes
+datagram_is : (L : List Core) (k : Key) (f : Core) (n : ℕ) → (IsSpoilt L k → ⊥) → slice_get (with_key k L) 0 ≡ Some f → end_of L k ≡ Some n →
+    datagram_at (table_of L) k ≡ datagram_to L k f n
+datagram_is L k f n free first ends =
+    ap (option_and_then (datagram_of k)) (held_from L k f free first)
+    ∙ ap (λ o. datagram_with k (facts_in f (with_key k L)) (bytes_to (cover_in (with_key k L)).bytes o)) ends
+
+-- and it has as many bytes as the end says
+size_of_datagram : (L : List Core) (k : Key) (f : Core) (n : ℕ) (d : DatagramParts) → datagram_to L k f n ≡ Some d → length d.bytes ≡ n
+size_of_datagram L k f n d h =
+    let w = with_found k (facts_in f (with_key k L)) (bytes_below (cover_in (with_key k L)).bytes n) d h in
+    let b = below_found (cover_in (with_key k L)).bytes n w.0 w.1 in
+    ap (λ (d : DatagramParts). length d.bytes) w.2 ∙ b.count
+
+not_long : (L : List Core) (k : Key) (f : Core) (n : ℕ) (o : Option DatagramParts) → datagram_to L k f n ≡ o → n ≤ MAX_LENGTH → IsLong o → ⊥
+not_long L k f n None e h long = long
+not_long L k f n (Some d) e h long = let size = size_of_datagram L k f n d e in omega (arith, size, h, long)
+
+-- a whole key has a datagram
+whole_given : (L : List Core) (k : Key) → IsWholeAt (table_of L) k → (d : DatagramParts) × (datagram_at (table_of L) k ≡ Some d)
+whole_given L k w = let d = (whole_exactly k w.0).0 w.2 in (d.0, ap (option_and_then (datagram_of k)) w.1 ∙ d.1)
+
+is_long : (L : List Core) (k : Key) (f : Core) (n : ℕ) (o : Option DatagramParts) → (d : DatagramParts) × (o ≡ Some d) → datagram_to L k f n ≡ o → MAX_LENGTH < n → IsLong o
+is_long L k f n None w e h = let clash = w.1 in absurd (cc clash)
+is_long L k f n (Some d) w e h = let size = size_of_datagram L k f n d e in omega (arith, size, h)
+
+pub none_long : (o : Option DatagramParts) → o ≡ None → IsLong o → ⊥
+none_long None e h = h
+none_long (Some d) e h = absurd (cc)
+
+-- a whole key ends, and has a first fragment
+pub whole_ending : (L : List Core) (k : Key) → IsWholeAt (table_of L) k → end_of L k ≡ None → ⊥
+whole_ending L k w e = let t = whole_ends L k w in let clash : Some t.0 ≡ None = sym t.1 ∙ e in cc clash
+
+pub whole_starting : (L : List Core) (k : Key) → IsWholeAt (table_of L) k → slice_get (with_key k L) 0 ≡ None → ⊥
+whole_starting L k w e =
+    let t = whole_ends L k w in
+    let f = first_of_ending (with_key k L) t.0 t.1 in
+    let clash : Some f.0 ≡ None = sym f.1 ∙ e in cc clash
+
+-- want of memory isn't the other fault
+pub not_this : {T : Type 0} (r : Result T PlainFault) → IsErrAnd r (λ e. e ≡ NoMemory) → IsErrOf r TooLong → ⊥
+not_this (Ok x) h e = absurd (cc e)
+not_this (Err f) h e = absurd (cc (h, e))
+
+-- the datagram of a whole key, from its first fragment and its end
+pub whole_is : (L : List Core) (k : Key) (f : Core) (n : ℕ) → IsWholeAt (table_of L) k → Some f ≡ slice_get (with_key k L) 0 → Some n ≡ end_of L k → datagram_to L k f n ≡ datagram_at (table_of L) k
+whole_is L k f n w first ends = sym (datagram_is L k f n (whole_free L k w) (sym first) (sym ends))
+
+pub whole_long : (L : List Core) (k : Key) (f : Core) (n : ℕ) → IsWholeAt (table_of L) k → Some f ≡ slice_get (with_key k L) 0 → Some n ≡ end_of L k → MAX_LENGTH < n → IsLong (datagram_at (table_of L) k)
+whole_long L k f n w first ends h = is_long L k f n (datagram_at (table_of L) k) (whole_given L k w) (whole_is L k f n w first ends) h
+
+pub whole_short : (L : List Core) (k : Key) (f : Core) (n : ℕ) → IsWholeAt (table_of L) k → Some f ≡ slice_get (with_key k L) 0 → Some n ≡ end_of L k → n ≤ MAX_LENGTH → IsLong (datagram_at (table_of L) k) → ⊥
+whole_short L k f n w first ends h = not_long L k f n (datagram_at (table_of L) k) (whole_is L k f n w first ends) h

@@ -1,0 +1,4 @@
+-- On specs/Runs and Code/SavedRuns.
+pub mod RunsLemmas
+pub mod RowLemmas
+pub mod EachPutLemmas

@@ -1,0 +1,3 @@
+-- On specs/Saved and SavedFits.
+pub mod SavedLemmas
+pub mod ShortLemmas

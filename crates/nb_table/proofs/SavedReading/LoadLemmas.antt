@@ -1,0 +1,90 @@
+-- What a judged input comes to, and the table that is kept of it.
+use Rattle.std.proofs.Common.{◌≡◌, ◌<◌, ◌≤◌, ◌⊎◌, inl, inr, ℕ, List, Bool, true, false, None, Ok, Err, refl, sym, ap, subst, ◌∙◌, arith}
+use Rattle.std.proofs.lemmas.Bool.{true≢false}
+use Rattle.std.specs.FinMap as maps
+use Rattle.nb_datagram.specs.declared.key.Key.{Key}
+use Rattle.nb_datagram.specs.Key.{key_cmp}
+use Rattle.nb_table.specs.declared.load_fault.LoadFault.{LoadFault}
+use Rattle.nb_table.specs.declared.load_fault.LoadFault.TheVariants.{TooLong, Full, NoMemory}
+use Rattle.nb_table.specs.Contents.{Contents}
+use Rattle.nb_table.specs.Entry.{EntryValue}
+use Rattle.nb_table.specs.Limits.{Limits, KeepsLimits}
+use Rattle.nb_table.specs.LoadFaults.{IsReadAs, LoadFails, too_long, full, no_memory}
+use Rattle.nb_table.specs.Saved.{saved}
+use Rattle.nb_table.specs.SavedReading.{IsRead, entries_at}
+use Rattle.nb_table.specs.Code.SavedTables.{IsJudged, AreKept}
+use Rattle.nb_table.proofs.SavedReading.LoadedLemmas.{table_with, read_inside, read_len, read_saved, read_formed, read_short}
+use Rattle.nb_table.proofs.SavedReading.OutcomeLemmas.{same_fault, same_value, apart, one_read, one_entries}
+
+-- a judged input has no fault
+pub judged_sound : (input : List ℕ) (limit count : ℕ) (short : Bool) → IsJudged input limit count short → (f : LoadFault) → IsRead input (Err f) → ⊥
+judged_sound input limit count short j f h = apart j.entries j.last f (one_read input (Ok (j.entries, j.last)) (Err f) j.read h)
+
+-- a fault is the only one
+pub fault_same : (input : List ℕ) (f g : LoadFault) → IsRead input (Err f) → IsRead input (Err g) → f ≡ g
+fault_same input f g h k = same_fault f g (one_read input (Err f) (Err g) h k)
+
+-- an input is read as one table
+pub one_table : (input : List ℕ) (t u : Contents) → IsReadAs input t → IsReadAs input u → t ≡ u
+one_table input t u h k =
+    let same = same_value h.entries k.entries h.last k.last (one_read input (Ok (h.entries, h.last)) (Ok (k.entries, k.last)) h.read k.read) in
+    h.same ∙ ap (λ (v : List (Key × EntryValue) × ℕ). table_with v.0) same ∙ sym k.same
+
+-- ---- what is refused
+
+pub judged_long : (input : List ℕ) (limits : Limits) (count : ℕ) (short : Bool) → IsJudged input limits.longest count short → short ≡ false → LoadFails input limits TooLong
+judged_long input limits count short j long =
+    too_long (table_with j.entries) (record { entries = j.entries; last = j.last; read = j.read; same = refl })
+    (λ all. true≢false (sym ((read_short input j.entries j.last limits.longest j.read).1 all) ∙ sym j.tested ∙ long))
+
+judged_len : (input : List ℕ) (limit count : ℕ) (short : Bool) (j : IsJudged input limit count short) → maps.len (table_with j.entries) ≡ count
+judged_len input limit count short j = read_len input j.entries j.last j.read ∙ sym j.counted
+
+pub judged_full : (input : List ℕ) (limits : Limits) (count : ℕ) (short : Bool) → IsJudged input limits.longest count short → short ≡ true → limits.keys < count → LoadFails input limits Full
+judged_full input limits count short j is many =
+    full (table_with j.entries) (record { entries = j.entries; last = j.last; read = j.read; same = refl })
+    ((read_short input j.entries j.last limits.longest j.read).0 (sym j.tested ∙ is))
+    (omega (arith, many, judged_len input limits.longest count short j))
+
+pub judged_kept : (input : List ℕ) (limits : Limits) (count : ℕ) (short : Bool) → IsJudged input limits.longest count short → short ≡ true → count ≤ limits.keys → LoadFails input limits NoMemory
+judged_kept input limits count short j is few =
+    no_memory (table_with j.entries) (record { entries = j.entries; last = j.last; read = j.read; same = refl })
+    ((read_short input j.entries j.last limits.longest j.read).0 (sym j.tested ∙ is))
+    (omega (arith, few, judged_len input limits.longest count short j))
+
+-- no fault comes up after a judgement
+pub judged_inside : (input : List ℕ) (limit count : ℕ) (short : Bool) → IsJudged input limit count short → (f : LoadFault) → entries_at input count None 8 (Err f) → ⊥
+judged_inside input limit count short j f h =
+    let inside = subst (λ (n : ℕ). entries_at input n None 8 (Ok (j.entries, j.last))) (sym j.counted) (read_inside input j.entries j.last j.read) in
+    apart j.entries j.last f (one_entries input count None 8 (Ok (j.entries, j.last)) (Err f) inside h)
+
+-- ---- what is kept
+
+-- the map that is kept is the table of the entries that were judged
+pub kept_same : (input : List ℕ) (limit count : ℕ) (short : Bool) (kept : List (Key × EntryValue)) (j : IsJudged input limit count short) → AreKept input count 8 kept → maps.from_entries {R = key_cmp} kept ≡ table_with j.entries
+kept_same input limit count short kept j k =
+    let inside = subst (λ (n : ℕ). entries_at input n None 8 (Ok (j.entries, j.last))) (sym j.counted) (read_inside input j.entries j.last j.read) in
+    let same = same_value k.entries j.entries k.next j.last (one_entries input count None 8 (Ok (k.entries, k.next)) (Ok (j.entries, j.last)) k.read inside) in
+    k.same ∙ ap (λ (v : List (Key × EntryValue) × ℕ). table_with v.0) same
+
+pub kept_read : (input : List ℕ) (limit count : ℕ) (short : Bool) (kept : List (Key × EntryValue)) → IsJudged input limit count short → AreKept input count 8 kept → IsReadAs input (maps.from_entries {R = key_cmp} kept)
+kept_read input limit count short kept j k = record { entries = j.entries; last = j.last; read = j.read; same = kept_same input limit count short kept j k }
+
+pub kept_saved : (input : List ℕ) (limit count : ℕ) (short : Bool) (kept : List (Key × EntryValue)) → IsJudged input limit count short → AreKept input count 8 kept → input ≡ saved (maps.from_entries {R = key_cmp} kept)
+kept_saved input limit count short kept j k = read_saved input j.entries j.last j.read ∙ ap saved (sym (kept_same input limit count short kept j k))
+
+pub kept_limits : (input : List ℕ) (limits : Limits) (count : ℕ) (short : Bool) (kept : List (Key × EntryValue)) → IsJudged input limits.longest count short → short ≡ true → count ≤ limits.keys → AreKept input count 8 kept
+    → KeepsLimits (record { contents = maps.from_entries {R = key_cmp} kept; limits = limits })
+kept_limits input limits count short kept j is few k =
+    subst (λ (t : Contents). KeepsLimits (record { contents = t; limits = limits })) (sym (kept_same input limits.longest count short kept j k))
+    (record {
+      count = omega (arith, few, judged_len input limits.longest count short j);
+      short = (read_short input j.entries j.last limits.longest j.read).0 (sym j.tested ∙ is);
+      formed = read_formed input j.entries j.last j.read;
+    })
+
+-- what the keeping of a judged input answers where it fails
+pub keeping_failed : (input : List ℕ) (limits : Limits) (count : ℕ) (short : Bool) (f : LoadFault) → IsJudged input limits.longest count short → short ≡ true → count ≤ limits.keys
+    → (f ≡ NoMemory) ⊎ entries_at input count None 8 (Err f) → LoadFails input limits f
+keeping_failed input limits count short f j is few (inl e) = subst (LoadFails input limits) (sym e) (judged_kept input limits count short j is few)
+keeping_failed input limits count short f j is few (inr h) = absurd (judged_inside input limits.longest count short j f h)

@@ -1,0 +1,44 @@
+-- The first bytes of a saved table, tested, and the readings of its parts put together.
+use Rattle.std.proofs.Common.{◌≡◌, ◌==◌, ◌<◌, ◌≤◌, ℕ, List, length, Bool, true, false, take, None, Ok, Err, sym, ◌∙◌, arith}
+use Rattle.std.specs.Cmp.{unsigned_Decides}
+use Rattle.std.specs.Cmp.Lexicographic.{pointwise_decides}
+use Rattle.std.specs.Int.{w32}
+use Rattle.std.specs.List.{starts_with}
+use Rattle.std.proofs.lemmas.Bool.{true≢false}
+use Rattle.nb_names.specs.Labels.{StandsAt}
+use Rattle.nb_names.specs.Numbers.{NumberAt}
+use Rattle.nb_table.specs.declared.load_fault.LoadFault.{LoadFault}
+use Rattle.nb_table.specs.declared.load_fault.LoadFault.TheVariants.{NotCanonical}
+use Rattle.nb_table.specs.Saved.{magic}
+use Rattle.nb_table.specs.SavedReading.{Field, IsRead, after_magic, stops, goes_on, good, bad, entries_at}
+use Rattle.nb_table.specs.Code.SavedTables.{AreJudged, IsJudged}
+use Rattle.nb_table.proofs.SavedReading.FoundLemmas.{entries_found}
+
+pub magic_there : (input : List ℕ) → starts_with ◌==◌ input magic ≡ true → StandsAt input 0 magic
+magic_there input h = sym ((pointwise_decides unsigned_Decides magic (take 4 input)).0 h)
+
+pub magic_absent : (input : List ℕ) → starts_with ◌==◌ input magic ≡ false → StandsAt input 0 magic → ⊥
+magic_absent input h there = true≢false (sym ((pointwise_decides unsigned_Decides magic (take 4 input)).1 (sym there)) ∙ h)
+
+-- the number of keys is cut off
+pub count_cut : (input : List ℕ) (f : LoadFault) → StandsAt input 0 magic → Field input 4 4 (NumberAt input 4 w32) (Err f) → IsRead input (Err f)
+count_cut input f m h = after_magic m (stops f h)
+
+-- an entry has a fault
+pub entries_failed : (input : List ℕ) (count first : ℕ) (f : LoadFault) → StandsAt input 0 magic → Field input 4 4 (NumberAt input 4 w32) (Ok (count, first)) → entries_at input count None first (Err f) → IsRead input (Err f)
+entries_failed input count first f m c h = after_magic m (goes_on count first c (stops f h))
+
+-- there are bytes after the last entry
+pub bytes_after : (input : List ℕ) (count first limit last : ℕ) (short : Bool) → StandsAt input 0 magic → Field input 4 4 (NumberAt input 4 w32) (Ok (count, first)) → AreJudged input count limit first short last → last < length input → IsRead input (Err (NotCanonical last))
+bytes_after input count first limit last short m c j more =
+    after_magic m (goes_on count first c (goes_on j.entries last j.read (bad (λ h. omega (arith, more, h)))))
+
+-- all is judged
+pub all_judged : (input : List ℕ) (count first limit last : ℕ) (short : Bool) → StandsAt input 0 magic → Field input 4 4 (NumberAt input 4 w32) (Ok (count, first)) → AreJudged input count limit first short last → length input ≤ last → IsJudged input limit count short
+all_judged input count first limit last short m c j none = record {
+  entries = j.entries;
+  last = last;
+  read = after_magic m (goes_on count first c (goes_on j.entries last j.read (good none)));
+  counted = sym (entries_found input count None first last j.entries j.read).1;
+  tested = j.tested;
+}

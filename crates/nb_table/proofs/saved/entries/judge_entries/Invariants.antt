@@ -1,0 +1,14 @@
+use Rattle.std.proofs.Common.{◌≡◌, List}
+use Rattle.std.specs.List.{list_all}
+use Rattle.nb_datagram.specs.declared.key.Key.{Key}
+use Rattle.nb_table.specs.Entry.{EntryValue}
+use Rattle.nb_table.specs.Code.Fitting.{is_short}
+use Rattle.nb_table.proofs.SavedReading.TurnLemmas.{EntriesSoFar}
+use Rattle.nb_table.proofs.saved.entries.judge_entries.Given as goal
+
+abbrev pub invariant-loop : goal.invariant-loop
+invariant-loop l = record {
+  done : List (Key × EntryValue);
+  so_far : EntriesSoFar l.input l.count l.at l.counter l.before l.here done;
+  tested : l.is_short ≡ list_all (λ e. is_short l.limit e.1) done;
+}

@@ -1,0 +1,15 @@
+use Rattle.std.proofs.Common.{◌≡◌, List}
+use Rattle.std.specs.FinMap as maps
+use Rattle.nb_datagram.specs.declared.key.Key.{Key}
+use Rattle.nb_datagram.specs.Key.{key_cmp}
+use Rattle.nb_table.specs.Code.Each.{with_each}
+use Rattle.nb_table.specs.Entry.{EntryValue}
+use Rattle.nb_table.proofs.SavedReading.TurnLemmas.{EntriesSoFar}
+use Rattle.nb_table.proofs.saved.entries.load_entries.Given as goal
+
+abbrev pub invariant-loop : goal.invariant-loop
+invariant-loop l = record {
+  done : List (Key × EntryValue);
+  so_far : EntriesSoFar l.input l.count l.at l.counter l.before l.here done;
+  kept : maps.from_entries {R = key_cmp} l.map.entries ≡ with_each maps.empty done;
+}

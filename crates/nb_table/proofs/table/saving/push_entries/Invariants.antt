@@ -1,6 +1,0 @@
-use Rattle.std.proofs.Common.{◌≡◌, ◌++◌}
-use Rattle.nb_table.specs.Saved.{entries_bytes}
-use Rattle.nb_table.proofs.table.saving.push_entries.Given as goal
-
-abbrev pub invariant-loop-key : goal.invariant-loop-key
-invariant-loop-key l = l.saved.items ++ entries_bytes l.key-iterator ≡ l.fn.saved.items ++ entries_bytes l.entries.entries

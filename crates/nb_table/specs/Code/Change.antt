@@ -1,0 +1,23 @@
+-- What a fragment changes at its key, of the entries alone.
+use Rattle.std.specs.Prelude.{◌≡◌, ◌≢◌, Option, Some, None, option_and_then}
+use Rattle.nb_datagram.specs.declared.key.Key.{Key}
+use Rattle.nb_datagram.specs.Datagram.{DatagramParts}
+use Rattle.nb_table.specs.declared.change.Change.{Change}
+use Rattle.nb_table.specs.declared.change.Change.TheVariants.{Spoilt, Whole, Same, Grown}
+use Rattle.nb_table.specs.Slot.{Spoilt as Clashed}
+use Rattle.nb_table.specs.Entry.{EntryValue}
+use Rattle.nb_table.specs.Whole.{datagram_of, newly}
+
+-- KeyChange k a b c: what IsChange says, of a key k that has a before, if anything, and b after
+abbrev pub KeyChange : Key → Option EntryValue → Option EntryValue → Change → Type 0
+KeyChange k a b Spoilt = (a ≢ Some Clashed) × (b ≡ Some Clashed)
+KeyChange k a b (Whole d) = newly (option_and_then (datagram_of k) a) (option_and_then (datagram_of k) b) ≡ Some d
+KeyChange k a b Same = b ≡ a
+KeyChange k a b Grown =
+    (b ≢ a) × (((a ≢ Some Clashed) × (b ≡ Some Clashed)) → ⊥)
+    × (newly (option_and_then (datagram_of k) a) (option_and_then (datagram_of k) b) ≡ None)
+
+-- what facts that grow come to: the datagram, if it is whole
+abbrev pub grown_to : Option DatagramParts → Change
+grown_to None = Grown
+grown_to (Some d) = Whole d

@@ -1,0 +1,199 @@
+//! The bytes that are known of a datagram's data, by place, and its end.
+ghost use Rattle.std.specs.Prelude.{◌≡◌, ◌↔◌, ◌&&◌, ℕ, IfOk, IsTrue, Some};
+ghost use Rattle.std.specs.FinMap as maps;
+ghost use Rattle.nb_datagram.specs.Fragment.{core_of};
+ghost use Rattle.nb_table.specs.Cover.{CoversFit, cover_of, covers_agree, covers_together, is_below_end};
+ghost use Rattle.nb_table.specs.Cover.{ends_agree as same_ends};
+ghost use Rattle.nb_table.specs.Cover.{bytes_agree as same_bytes};
+ghost use Rattle.nb_table.specs.Code.Places.{Holds};
+ghost use Rattle.nb_table.specs.Whole.{bytes_to, IsWholeCover};
+
+mod loading;
+mod saving;
+mod uniting;
+
+use crate::cover::placed::{
+    are_equal, bytes_agree, bytes_below, covers_below, has_bytes, lies_below, put_bytes,
+};
+use nb_datagram::Fragment;
+use nb_names::{Bytes, NoMemory};
+use std::alloc::Global;
+use std::collections::BTreeMap;
+use std::marker::Model;
+
+/// The bytes by place, and the end, if it is known. No byte lies at or past the end.
+///
+/// Places count from the first byte of the datagram's data.
+#[derive(Drop)]
+pub(crate) struct Places {
+    bytes: BTreeMap<u32, u8>,
+    end: Option<u32>,
+}
+
+impl Model for Places {
+    ghost use Rattle.std.specs.FinMap as maps;
+    ghost use Rattle.nb_table.specs.Codes.{cover_facts_code};
+    ghost use Rattle.nb_table.specs.Cover.{CoverFacts, AreCoverFacts};
+
+    ghost Value = { CoverFacts };
+
+    ghost coded = { cover_facts_code };
+
+    ghost view = { λ p. record { bytes = maps.from_entries p.bytes.entries; end = p.end } };
+
+    ghost invariant = { λ p. AreCoverFacts (record {
+      bytes = maps.from_entries p.bytes.entries;
+      end = p.end;
+    }) };
+}
+
+/// Where a fragment ends, if it does.
+fn end_of(fragment: &Fragment<'_>) -> Option<u32>
+    ensures { result ≡ (cover_of (core_of fragment.now)).end }
+{
+    if fragment.has_more() {
+        None
+    } else {
+        Some(fragment.reach())
+    }
+}
+
+/// Whether there are not two different ends.
+fn ends_agree(end: Option<u32>, other: Option<u32>) -> bool
+    ensures { result ≡ same_ends end other }
+{
+    match (end, other) {
+        (Some(end), Some(other)) => end == other,
+        _ => true,
+    }
+}
+
+/// Whether the other end, if there is one, is the known end.
+fn has_end(end: Option<u32>, other: Option<u32>) -> bool
+    ensures { IsTrue result ↔ ((n : ℕ) → other ≡ Some n → end ≡ Some n) }
+{
+    match other {
+        Some(_) => end == other,
+        None => true,
+    }
+}
+
+/// Whether each byte of a fragment lies below the end, if there is one.
+fn is_below(fragment: &Fragment<'_>, end: Option<u32>) -> bool
+    ensures { result ≡ is_below_end end (cover_of (core_of fragment.now)) }
+{
+    match end {
+        Some(end) => fragment.bytes().is_empty() || fragment.reach() <= end,
+        None => true,
+    }
+}
+
+impl Places {
+    /// What a fragment says.
+    pub(crate) fn of(alloc: Global, fragment: &Fragment<'_>) -> Result<Places, NoMemory>
+        ensures { IfOk result (λ places. places ≡ cover_of (core_of fragment.now)) }
+    {
+        let mut bytes = BTreeMap::new(alloc);
+        let end = end_of(fragment);
+        put_bytes(&mut bytes, u32::from(fragment.offset()), fragment.bytes())?;
+        Ok(Places { bytes, end })
+    }
+
+    /// Whether each byte lies below the end, if there is one.
+    fn is_below(&self, end: Option<u32>) -> bool
+        ensures { result ≡ is_below_end end self.now }
+    {
+        match end {
+            Some(end) => lies_below(&self.bytes, end),
+            None => true,
+        }
+    }
+
+    /// Whether no place has another byte in a fragment.
+    fn bytes_agree_with(&self, fragment: &Fragment<'_>) -> bool
+        ensures { result ≡ same_bytes self.now.bytes (cover_of (core_of fragment.now)).bytes }
+    {
+        let start = u32::from(fragment.offset());
+        bytes_agree(&self.bytes, start, fragment.bytes())
+    }
+
+    /// Whether what is known lies below a fragment's end, and the fragment below the known end.
+    fn is_below_with(&self, fragment: &Fragment<'_>) -> bool
+        ensures { result ≡ (is_below_end (cover_of (core_of fragment.now)).end self.now
+            && is_below_end self.now.end (cover_of (core_of fragment.now))) }
+    {
+        self.is_below(end_of(fragment)) && is_below(fragment, self.end)
+    }
+
+    /// Whether a fragment doesn't contradict what is known.
+    pub(crate) fn agrees_with(&self, fragment: &Fragment<'_>) -> bool
+        ensures { result ≡ covers_agree self.now (cover_of (core_of fragment.now)) }
+    {
+        if !self.bytes_agree_with(fragment) {
+            return false;
+        }
+        ends_agree(self.end, end_of(fragment)) && self.is_below_with(fragment)
+    }
+
+    /// Whether each byte of a fragment is known.
+    fn holds_bytes(&self, fragment: &Fragment<'_>) -> bool
+        ensures { IsTrue result ↔ ((i x : ℕ)
+            → maps.get (cover_of (core_of fragment.now)).bytes i ≡ Some x
+            → maps.get self.now.bytes i ≡ Some x) }
+    {
+        let start = u32::from(fragment.offset());
+        has_bytes(&self.bytes, start, fragment.bytes())
+    }
+
+    /// Whether all that a fragment says is known.
+    pub(crate) fn holds(&self, fragment: &Fragment<'_>) -> bool
+        ensures { IsTrue result ↔ Holds self.now (cover_of (core_of fragment.now)) }
+    {
+        has_end(self.end, end_of(fragment)) && self.holds_bytes(fragment)
+    }
+
+    /// What is known with what a fragment says, which doesn't contradict it.
+    pub(crate) fn with(&self, fragment: &Fragment<'_>) -> Result<Places, NoMemory>
+        requires { CoversFit self.now (cover_of (core_of fragment.now)) }
+        ensures { IfOk result (λ places.
+            places ≡ covers_together self.now (cover_of (core_of fragment.now))) }
+    {
+        let mut bytes = self.bytes.clone()?;
+        put_bytes(&mut bytes, u32::from(fragment.offset()), fragment.bytes())?;
+        let end = self.end.or(end_of(fragment));
+        Ok(Places { bytes, end })
+    }
+
+    /// The bytes up to the end, in order, if all are known. No memory is taken where one isn't.
+    pub(crate) fn whole(&self, alloc: Global) -> Result<Option<Bytes>, NoMemory>
+        ensures { IfOk result (λ bytes. bytes ≡ bytes_to self.now.bytes self.now.end) }
+    {
+        match self.end {
+            Some(end) => bytes_below(alloc, &self.bytes, end),
+            None => Ok(None),
+        }
+    }
+
+    /// Whether the end and each byte before it are known.
+    pub(crate) fn is_whole(&self) -> bool
+        ensures { IsTrue result ↔ IsWholeCover self.now }
+    {
+        match self.end {
+            Some(end) => covers_below(&self.bytes, end),
+            None => false,
+        }
+    }
+}
+
+impl PartialEq for Places {
+    ghost use Rattle.nb_table.specs.Lemmas.EqualLemmas.{cover_facts_per};
+    ghost use Rattle.nb_table.specs.Equal.{same_cover_facts};
+
+    ghost eq = { same_cover_facts };
+
+    ghost laws = { cover_facts_per };
+
+    fn eq(&self, other: &Self) -> bool {
+        are_equal(&self.bytes, &other.bytes) && self.end == other.end
+    }
+}

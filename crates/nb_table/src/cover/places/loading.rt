@@ -1,0 +1,25 @@
+//! What is known of a datagram's data, from saved runs.
+ghost use Rattle.std.specs.Prelude.{◌≡◌, IfOk};
+ghost use Rattle.nb_table.specs.Cover.{AreCoverFacts};
+ghost use Rattle.nb_table.specs.Runs.{map_of_runs};
+
+use super::Places;
+use crate::saved::runs::SavedRuns;
+use nb_names::NoMemory;
+use std::alloc::Global;
+
+impl Places {
+    /// The bytes of saved runs, none of which lies at or past the end.
+    pub(crate) fn load(
+        alloc: Global,
+        runs: &SavedRuns<'_>,
+        end: Option<u32>,
+    ) -> Result<Places, NoMemory>
+        requires { AreCoverFacts (record { bytes = map_of_runs runs.now; end = end }) }
+        ensures { IfOk result (λ places.
+            places ≡ record { bytes = map_of_runs runs.now; end = end }) }
+    {
+        let bytes = runs.to_map(alloc)?;
+        Ok(Places { bytes, end })
+    }
+}

@@ -1,0 +1,9 @@
+//! Saved tables: what reads each part of them, and beside it what writes it.
+//!
+//! An input is judged where it stands, before any memory is taken.
+
+pub(crate) mod entries;
+mod facts;
+pub(crate) mod fields;
+pub(crate) mod runs;
+pub(crate) mod tables;

@@ -1,0 +1,102 @@
+//! The keys of saved tables with their entries: judged, kept, and written.
+ghost use Rattle.std.specs.Prelude.{◌≡◌, ◌⊎◌, ◌&&◌, ◌++◌, IfOk, IfErr, OnOk};
+ghost use Rattle.std.specs.BTreeMap.{IsOrdered};
+ghost use Rattle.std.specs.List.{AllByRecursion};
+ghost use Rattle.std.specs.FinMap as maps;
+ghost use Rattle.nb_datagram.specs.Key.{key_cmp};
+ghost use Rattle.nb_table.specs.Code.Fitting.{is_short as is_short_entry};
+ghost use Rattle.nb_table.specs.Code.SavedTables.{AreJudged, AreKept, HasNames};
+ghost use Rattle.nb_table.specs.Saved.{entries_bytes};
+ghost use Rattle.nb_table.specs.SavedReading.{entries_at};
+ghost use Rattle.nb_table.specs.declared.load_fault.LoadFault.TheVariants.{NoMemory as no_memory};
+
+use super::facts::{SavedEntry, read_entry};
+use super::fields::{push_key, read_key};
+use crate::entry::Entry;
+use crate::load_fault::LoadFault;
+use nb_datagram::Key;
+use nb_names::NoMemory;
+use std::alloc::Global;
+use std::collections::BTreeMap;
+
+/// Whether none so far passes the limit, and this entry neither.
+fn still_short(so_far: bool, entry: &SavedEntry<'_>, limit: u16) -> bool
+    ensures { result ≡ (so_far && is_short_entry limit entry.now) }
+{
+    so_far && entry.is_short(limit)
+}
+
+/// Whether no entry passes the limit, of this many with their keys from an offset on, and the
+/// offset after them.
+pub(crate) fn judge_entries(
+    input: &[u8],
+    count: u32,
+    limit: u16,
+    at: usize,
+) -> Result<(bool, usize), LoadFault>
+    ensures found { IfOk result (λ read. AreJudged input.now count limit at read.0 read.1) }
+    ensures fault { IfErr result (λ fault. entries_at input.now count None at (Err fault)) }
+{
+    let mut before = None;
+    let mut here = at;
+    let mut is_short = true;
+    for _ in 0..count {
+        let (key, after) = read_key(input, before, here)?;
+        let (entry, next) = read_entry(input, after)?;
+        is_short = still_short(is_short, &entry, limit);
+        before = Some(key);
+        here = next;
+    }
+    Ok((is_short, here))
+}
+
+/// Puts an entry into the map.
+fn keep(map: &mut BTreeMap<Key, Entry>, key: Key, entry: Entry) -> Result<(), NoMemory>
+    ensures { OnOk result (maps.from_entries {R = key_cmp} map.new.entries
+        ≡ maps.insert (maps.from_entries {R = key_cmp} map.old.entries) key entry) }
+{
+    map.insert(key, entry)?;
+    Ok(())
+}
+
+/// This many entries with their keys, from an offset on.
+pub(crate) fn load_entries(
+    alloc: Global,
+    input: &[u8],
+    count: u32,
+    at: usize,
+) -> Result<BTreeMap<Key, Entry>, LoadFault>
+    ensures kept { IfOk result (λ map. AreKept input.now count at map.entries) }
+    ensures fault { IfErr result (λ fault.
+        (fault ≡ no_memory) ⊎ entries_at input.now count None at (Err fault)) }
+{
+    let mut map = BTreeMap::new(alloc);
+    let mut before = None;
+    let mut here = at;
+    for _ in 0..count {
+        let (key, after) = read_key(input, before, here)?;
+        let (entry, next) = read_entry(input, after)?;
+        keep(&mut map, key, entry.load(alloc)?)?;
+        before = Some(key);
+        here = next;
+    }
+    Ok(map)
+}
+
+/// Adds keys and their entries after the bytes.
+pub(crate) fn push_entries(
+    alloc: Global,
+    saved: &mut Vec<u8>,
+    entries: &BTreeMap<Key, Entry>,
+) -> Result<(), NoMemory>
+    ensures value { OnOk result
+        (saved.new.items ≡ saved.old.items ++ entries_bytes entries.now.entries) }
+    ensures named { OnOk result (AllByRecursion HasNames entries.now.entries) }
+    ensures ordered { IsOrdered key_cmp entries.now }
+{
+    for (key, entry) in entries {
+        push_key(saved, *key)?;
+        entry.save(alloc, saved)?;
+    }
+    Ok(())
+}

@@ -1,0 +1,200 @@
+//! Saved entries, which borrow their runs: read, kept, and written.
+ghost use Rattle.std.specs.Prelude.{◌≡◌, ◌++◌, IfOk, OnOk};
+ghost use Rattle.nb_table.specs.Code.Fitting.{is_short as is_short_entry};
+ghost use Rattle.nb_table.specs.Code.Fitting.{ends_by as ends_at_most};
+ghost use Rattle.nb_table.specs.Saved.{facts_bytes, entry_bytes};
+ghost use Rattle.nb_table.specs.SavedFits.{IsNamed};
+ghost use Rattle.nb_table.specs.SavedReading.{facts_at, entry_at};
+ghost use Rattle.nb_table.specs.SavedReading.{most_of as most_reading};
+ghost use Rattle.nb_table.specs.Slot.{Held, OnHeld};
+
+use super::fields::{read_byte, read_end, read_kind, read_plain_name};
+use super::runs::{SavedRuns, read_runs};
+use crate::cover::Places;
+use crate::entry::Entry;
+use crate::facts::Facts;
+use crate::load_fault::LoadFault;
+use nb_datagram::Kind;
+use nb_datagram::limits::MAX_LENGTH;
+use nb_names::{Name, NoMemory};
+use std::alloc::Global;
+use std::marker::Model;
+
+/// What a saved entry holds.
+#[derive(Drop)]
+struct SavedFacts<'a> {
+    kind: Kind,
+    source: Name,
+    destination: Name,
+    end: Option<u32>,
+    runs: SavedRuns<'a>,
+}
+
+impl<'a> Model for SavedFacts<'a> {
+    ghost use Rattle.nb_table.specs.Entry.{EntryFacts};
+    ghost use Rattle.nb_table.specs.Codes.{entry_facts_code};
+    ghost use Rattle.nb_table.specs.Cover.{AreCoverFacts};
+    ghost use Rattle.nb_table.specs.Runs.{map_of_runs};
+
+    ghost Value = { EntryFacts };
+
+    ghost coded = { entry_facts_code };
+
+    ghost view = { λ f. record {
+      kind = f.kind;
+      source = f.source;
+      destination = f.destination;
+      cover = record { bytes = map_of_runs f.runs; end = f.end };
+    } };
+
+    ghost invariant = { λ f.
+        AreCoverFacts (record { bytes = map_of_runs f.runs; end = f.end }) };
+}
+
+/// The place that no run passes: the end, where it is known.
+fn most_of(end: Option<u32>) -> u32
+    ensures { result ≡ most_reading end }
+{
+    match end {
+        Some(end) => end,
+        None => MAX_LENGTH as u32,
+    }
+}
+
+/// Whether the end, if it is known, is at most the limit.
+fn ends_by(limit: u16, end: Option<u32>) -> bool
+    ensures { result ≡ ends_at_most limit end }
+{
+    match end {
+        Some(end) => end <= u32::from(limit),
+        None => true,
+    }
+}
+
+/// What is held by the entry at an offset.
+fn read_facts<'a>(input: &'a [u8], at: usize) -> Result<(SavedFacts<'a>, usize), LoadFault>
+    ensures { facts_at input.now at result }
+{
+    let (kind, after_kind) = read_kind(input, at)?;
+    let (source, after_source) = read_plain_name(input, after_kind)?;
+    let (destination, after_names) = read_plain_name(input, after_source)?;
+    let (end, after_end) = read_end(input, after_names)?;
+    let (runs, next) = read_runs(input, most_of(end), after_end)?;
+    let facts = SavedFacts {
+        kind,
+        source,
+        destination,
+        end,
+        runs,
+    };
+    Ok((facts, next))
+}
+
+impl<'a> SavedFacts<'a> {
+    /// Whether no run and no end passes the limit.
+    fn is_short(&self, limit: u16) -> bool
+        ensures { result ≡ is_short_entry limit (Held self.now) }
+    {
+        self.runs.are_short(limit) && ends_by(limit, self.end)
+    }
+
+    /// The facts, kept.
+    fn load(&self, alloc: Global) -> Result<Facts, NoMemory>
+        ensures { IfOk result (λ facts. facts ≡ self.now) }
+    {
+        let places = Places::load(alloc, &self.runs, self.end)?;
+        let source = self.source.copied();
+        let destination = self.destination.copied();
+        Ok(Facts::new(self.kind, source, destination, places))
+    }
+}
+
+impl Facts {
+    /// Adds the kind, both names and the cover after the bytes.
+    pub(crate) fn save(&self, alloc: Global, saved: &mut Vec<u8>) -> Result<(), NoMemory>
+        ensures value { OnOk result (saved.new.items ≡ saved.old.items ++ facts_bytes self.now) }
+        ensures named { IsNamed self.now }
+    {
+        // For the clause `named`; the calls do nothing.
+        let _ = self.source.bytes();
+        let _ = self.destination.bytes();
+        saved.push(self.kind.message_type())?;
+        saved.extend_from_slice(self.source.to_domain().spelling())?;
+        saved.extend_from_slice(self.destination.to_domain().spelling())?;
+        self.places.save(alloc, saved)
+    }
+}
+
+/// A saved entry: spoilt, or what it holds.
+#[derive(Drop)]
+pub(crate) struct SavedEntry<'a> {
+    facts: Option<SavedFacts<'a>>,
+}
+
+impl<'a> Model for SavedEntry<'a> {
+    ghost use Rattle.nb_table.specs.Entry.{EntryValue};
+    ghost use Rattle.nb_table.specs.Codes.{slot_of, entry_code};
+
+    ghost Value = { EntryValue };
+
+    ghost coded = { entry_code };
+
+    ghost view = { λ e. slot_of e.facts };
+}
+
+/// The entry at an offset.
+pub(crate) fn read_entry<'a>(
+    input: &'a [u8],
+    at: usize,
+) -> Result<(SavedEntry<'a>, usize), LoadFault>
+    ensures { entry_at input.now at result }
+{
+    let (state, next) = read_byte(input, at)?;
+    match state {
+        0 => Ok((SavedEntry { facts: None }, next)),
+        1 => {
+            let (facts, after) = read_facts(input, next)?;
+            Ok((SavedEntry { facts: Some(facts) }, after))
+        }
+        _ => Err(LoadFault::NotCanonical(at)),
+    }
+}
+
+impl<'a> SavedEntry<'a> {
+    /// Whether the entry is spoilt, or no run and no end of it passes the limit.
+    pub(crate) fn is_short(&self, limit: u16) -> bool
+        ensures { result ≡ is_short_entry limit self.now }
+    {
+        match &self.facts {
+            Some(facts) => facts.is_short(limit),
+            None => true,
+        }
+    }
+
+    /// The entry, kept.
+    pub(crate) fn load(&self, alloc: Global) -> Result<Entry, NoMemory>
+        ensures { IfOk result (λ entry. entry ≡ self.now) }
+    {
+        match &self.facts {
+            Some(facts) => Ok(Entry::held(facts.load(alloc)?)),
+            None => Ok(Entry::spoilt()),
+        }
+    }
+}
+
+impl Entry {
+    /// Adds after the bytes whether the entry is held, and what is.
+    pub(crate) fn save(&self, alloc: Global, saved: &mut Vec<u8>) -> Result<(), NoMemory>
+        ensures value { OnOk result (saved.new.items ≡ saved.old.items ++ entry_bytes self.now) }
+        ensures named { OnOk result (OnHeld IsNamed self.now) }
+    {
+        match &self.facts {
+            Some(facts) => {
+                saved.push(1)?;
+                facts.save(alloc, saved)?;
+            }
+            None => saved.push(0)?,
+        }
+        Ok(())
+    }
+}

@@ -1,0 +1,195 @@
+//! The fields of saved tables: each read where it stands, and written.
+ghost use Rattle.std.specs.Prelude.{◌≡◌, ◌↔◌, ◌++◌, IsTrue, MatchResult, OnOk};
+ghost use Rattle.std.specs.Int.{w16, w32, to_be_bytes};
+ghost use Rattle.nb_names.specs.Numbers.{NumberAt};
+ghost use Rattle.nb_datagram.specs.Header.{IsKey};
+ghost use Rattle.nb_table.specs.Saved.{end_bytes, key_bytes};
+ghost use Rattle.nb_table.specs.SavedReading.{Field, KeyAt, IsAfter, fault_of_name};
+ghost use Rattle.nb_table.specs.SavedReading.{byte_at as byte_reading};
+ghost use Rattle.nb_table.specs.SavedReading.{number_at as number_reading};
+ghost use Rattle.nb_table.specs.SavedReading.{bytes_at as bytes_reading};
+ghost use Rattle.nb_table.specs.SavedReading.{key_at as key_reading};
+ghost use Rattle.nb_table.specs.SavedReading.{kind_at as kind_reading};
+ghost use Rattle.nb_table.specs.SavedReading.{name_at as name_reading};
+ghost use Rattle.nb_table.specs.SavedReading.{end_at as end_reading};
+
+use crate::load_fault::LoadFault;
+use nb_datagram::{Key, Kind};
+use nb_names::numbers::{number_16, number_32};
+use nb_names::{Name, NameFault, NoMemory, Pointers, read_name};
+use std::cmp::Ordering;
+
+/// The byte at an offset.
+pub(crate) fn read_byte(input: &[u8], at: usize) -> Result<(u8, usize), LoadFault>
+    ensures { byte_reading input.now at result }
+{
+    if input.len().saturating_sub(at) < 1 {
+        return Err(LoadFault::Truncated);
+    }
+    Ok((input[at], at + 1))
+}
+
+/// The number in the two bytes at an offset.
+pub(crate) fn read_number(input: &[u8], at: usize) -> Result<(u16, usize), LoadFault>
+    ensures { number_reading input.now at result }
+{
+    if input.len().saturating_sub(at) < 2 {
+        return Err(LoadFault::Truncated);
+    }
+    Ok((number_16(input, at), at + 2))
+}
+
+/// Adds the two low bytes of a number after the bytes, the high one of them first.
+pub(crate) fn push_number(saved: &mut Vec<u8>, number: u64) -> Result<(), NoMemory>
+    ensures { OnOk result (saved.new.items ≡ saved.old.items ++ to_be_bytes w16 number) }
+{
+    let bytes = number.to_be_bytes();
+    saved.push(bytes[6])?;
+    saved.push(bytes[7])?;
+    Ok(())
+}
+
+/// The number in the four bytes at an offset.
+pub(crate) fn read_count(input: &[u8], at: usize) -> Result<(u32, usize), LoadFault>
+    ensures { Field input.now at 4 (NumberAt input.now at w32) result }
+{
+    if input.len().saturating_sub(at) < 4 {
+        return Err(LoadFault::Truncated);
+    }
+    Ok((number_32(input, at), at + 4))
+}
+
+/// This many bytes at an offset.
+pub(crate) fn read_bytes<'a>(
+    input: &'a [u8],
+    at: usize,
+    size: u16,
+) -> Result<(&'a [u8], usize), LoadFault>
+    ensures { MatchResult result
+        (λ read. bytes_reading input.now at size (Ok (read.0.now, read.1)))
+        (λ fault. bytes_reading input.now at size (Err fault)) }
+{
+    if at > input.len() {
+        return Err(LoadFault::Truncated);
+    }
+    let size = usize::from(size);
+    let left = input.len() - at;
+    if left < size {
+        return Err(LoadFault::Truncated);
+    }
+    let after = at + size;
+    Ok((&input[at..after], after))
+}
+
+/// The key in the eight bytes at an offset.
+fn any_key(input: &[u8], at: usize) -> Result<(Key, usize), LoadFault>
+    ensures { Field input.now at 8 (KeyAt input.now at) result }
+{
+    if input.len().saturating_sub(at) < 8 {
+        return Err(LoadFault::Truncated);
+    }
+    let key = Key {
+        ip: [input[at], input[at + 1], input[at + 2], input[at + 3]],
+        port: number_16(input, at + 4),
+        id: number_16(input, at + 6),
+    };
+    Ok((key, at + 8))
+}
+
+/// Whether a key is greater than the one before, if there is one.
+fn is_after(before: Option<Key>, key: Key) -> bool
+    ensures { IsTrue result ↔ IsAfter before key }
+{
+    match before {
+        Some(before) => before.cmp(&key) == Ordering::Less,
+        None => true,
+    }
+}
+
+/// The key at an offset, which must be greater than the one before.
+pub(crate) fn read_key(
+    input: &[u8],
+    before: Option<Key>,
+    at: usize,
+) -> Result<(Key, usize), LoadFault>
+    ensures { key_reading input.now before at result }
+{
+    let (key, next) = any_key(input, at)?;
+    if !is_after(before, key) {
+        return Err(LoadFault::NotCanonical(at));
+    }
+    Ok((key, next))
+}
+
+/// Adds a key after the bytes.
+pub(crate) fn push_key(saved: &mut Vec<u8>, key: Key) -> Result<(), NoMemory>
+    ensures value { OnOk result (saved.new.items ≡ saved.old.items ++ key_bytes key) }
+    ensures key { IsKey key }
+{
+    saved.extend_from_slice(&key.ip)?;
+    saved.extend_from_slice(&key.port.to_be_bytes())?;
+    saved.extend_from_slice(&key.id.to_be_bytes())?;
+    Ok(())
+}
+
+/// The kind at an offset.
+pub(crate) fn read_kind(input: &[u8], at: usize) -> Result<(Kind, usize), LoadFault>
+    ensures { kind_reading input.now at result }
+{
+    let (number, next) = read_byte(input, at)?;
+    match number {
+        0x10 => Ok((Kind::Unique, next)),
+        0x11 => Ok((Kind::Group, next)),
+        0x12 => Ok((Kind::Broadcast, next)),
+        _ => Err(LoadFault::NotCanonical(at)),
+    }
+}
+
+/// What the fault of a name at an offset comes to.
+fn name_fault(at: usize, fault: NameFault) -> LoadFault
+    ensures { result ≡ fault_of_name at fault }
+{
+    match fault {
+        NameFault::Truncated(_) => LoadFault::Truncated,
+        _ => LoadFault::NotCanonical(at),
+    }
+}
+
+/// The name that is spelled at an offset, with no pointer.
+pub(crate) fn read_plain_name(input: &[u8], at: usize) -> Result<(Name, usize), LoadFault>
+    ensures { name_reading input.now at result }
+{
+    match read_name(input, at, Pointers::Refused) {
+        Ok(read) => Ok(read),
+        Err(fault) => Err(name_fault(at, fault)),
+    }
+}
+
+/// The end at an offset, if there is one.
+pub(crate) fn read_end(input: &[u8], at: usize) -> Result<(Option<u32>, usize), LoadFault>
+    ensures { end_reading input.now at result }
+{
+    let (mark, next) = read_byte(input, at)?;
+    match mark {
+        0 => Ok((None, next)),
+        1 => {
+            let (end, after) = read_number(input, next)?;
+            Ok((Some(u32::from(end)), after))
+        }
+        _ => Err(LoadFault::NotCanonical(at)),
+    }
+}
+
+/// Adds an end after the bytes, or that none is known.
+pub(crate) fn push_end(saved: &mut Vec<u8>, end: Option<u32>) -> Result<(), NoMemory>
+    ensures { OnOk result (saved.new.items ≡ saved.old.items ++ end_bytes end) }
+{
+    match end {
+        Some(end) => {
+            saved.push(1)?;
+            push_number(saved, u64::from(end))?;
+        }
+        None => saved.push(0)?,
+    }
+    Ok(())
+}

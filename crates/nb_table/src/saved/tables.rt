@@ -1,0 +1,48 @@
+//! Whole saved tables: "NBT1", the number of keys, and the keys with their entries.
+ghost use Rattle.std.specs.Prelude.{◌≡◌, IfOk, IfErr, OnOk};
+ghost use Rattle.std.specs.List.{AllByRecursion};
+ghost use Rattle.std.specs.FinMap as maps;
+ghost use Rattle.nb_datagram.specs.Key.{key_cmp};
+ghost use Rattle.nb_table.specs.Code.SavedTables.{HasNames, IsJudged};
+ghost use Rattle.nb_table.specs.Saved.{saved as saved_bytes};
+ghost use Rattle.nb_table.specs.SavedReading.{IsRead};
+
+use super::entries::{judge_entries, push_entries};
+use super::fields::read_count;
+use crate::entry::Entry;
+use crate::load_fault::LoadFault;
+use nb_datagram::Key;
+use nb_names::{Bytes, NoMemory};
+use std::alloc::Global;
+use std::collections::BTreeMap;
+
+/// How many keys a saved table has, and whether no entry passes the limit. No memory is taken.
+pub(crate) fn judge(input: &[u8], limit: u16) -> Result<(u32, bool), LoadFault>
+    ensures found { IfOk result (λ read. IsJudged input.now limit read.0 read.1) }
+    ensures fault { IfErr result (λ fault. IsRead input.now (Err fault)) }
+{
+    if !input.starts_with(b"NBT1") {
+        return Err(LoadFault::BadMagic);
+    }
+    let (count, first) = read_count(input, 4)?;
+    let (is_short, last) = judge_entries(input, count, limit, first)?;
+    if last < input.len() {
+        return Err(LoadFault::NotCanonical(last));
+    }
+    Ok((count, is_short))
+}
+
+/// The saved bytes of entries with their keys.
+pub(crate) fn save_entries(alloc: Global, entries: &BTreeMap<Key, Entry>) -> Result<Bytes, NoMemory>
+    ensures value { IfOk result (λ bytes.
+        bytes ≡ saved_bytes (maps.from_entries {R = key_cmp} entries.now.entries)) }
+    ensures named { OnOk result (AllByRecursion HasNames
+        (maps.entries (maps.from_entries {R = key_cmp} entries.now.entries))) }
+{
+    let mut saved = Vec::new(alloc);
+    saved.extend_from_slice(b"NBT1")?;
+    let count = (entries.len() as u64).to_be_bytes();
+    saved.extend_from_slice(&[count[4], count[5], count[6], count[7]])?;
+    push_entries(alloc, &mut saved, entries)?;
+    Ok(Bytes::from_vec(saved))
+}

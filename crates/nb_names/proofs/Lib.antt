@@ -14,3 +14,5 @@ pub mod FrontLemmas
 pub mod PartsLemmas
 pub mod TextTotalityLemmas
 pub mod WrittenLemmas
+pub mod OutputLemmas
+pub mod InputLemmas

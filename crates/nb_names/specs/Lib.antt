@@ -13,3 +13,5 @@ pub mod TextFaults
 pub mod Code
 pub mod Tally
 pub mod Counted
+pub mod Devices
+pub mod DeviceFacts

@@ -4,9 +4,11 @@
 mod bytes;
 mod collected;
 mod counted;
+mod device_fault;
 mod domain_name;
 mod fault;
 mod first_level;
+pub mod input;
 mod items;
 mod label_fault;
 pub mod laws;
@@ -14,6 +16,7 @@ mod length_byte;
 pub mod limits;
 mod name;
 pub mod numbers;
+pub mod output;
 mod pointers;
 mod reading;
 mod scope;
@@ -29,6 +32,7 @@ mod writing;
 
 pub use bytes::{Bytes, NoMemory};
 pub use counted::{Counted, Told};
+pub use device_fault::DeviceFault;
 pub use domain_name::DomainName;
 pub use fault::NameFault;
 pub use items::Items;

@@ -1,4 +1,4 @@
-//! The limits of names, each with its unit.
+//! The limits of names and of devices, each with its unit.
 
 /// The longest label, in bytes (RFC 1002 section 4.1: six bits of length).
 pub const MAX_LABEL: usize = 63;
@@ -17,3 +17,9 @@ pub const LETTERS: usize = 32;
 
 /// The longest spelling of a scope, in bytes: what is left beside a name's first label.
 pub const MAX_SCOPE: usize = 222;
+
+/// The most bytes of an input that are looked at: 16 MiB (our choice).
+pub const MAX_INPUT: usize = 16_777_216;
+
+/// The interrupts in a row after which a reader or a writer is given up (our choice).
+pub const MAX_INTERRUPTS: u32 = 1_024;

@@ -15,7 +15,6 @@ pub mod Absorbing
 pub mod Agreement
 pub mod HandedOver
 pub mod Lines
-pub mod Devices
 pub mod ReportTexts
 pub mod Report
 pub mod Acting

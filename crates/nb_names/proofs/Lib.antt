@@ -16,3 +16,4 @@ pub mod TextTotalityLemmas
 pub mod WrittenLemmas
 pub mod OutputLemmas
 pub mod InputLemmas
+pub mod LineLawLemmas

@@ -15,3 +15,5 @@ pub mod Tally
 pub mod Counted
 pub mod Devices
 pub mod DeviceFacts
+pub mod Lines
+pub mod LineFacts

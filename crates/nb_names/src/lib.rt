@@ -14,6 +14,8 @@ mod label_fault;
 pub mod laws;
 mod length_byte;
 pub mod limits;
+pub mod line_laws;
+pub mod lines;
 mod name;
 pub mod numbers;
 pub mod output;

@@ -4,7 +4,6 @@ pub mod MomentLemmas
 pub mod PayloadLemmas
 pub mod LineLemmas
 pub mod ActingLemmas
-pub mod CuttingLemmas
 pub mod ReplayLemmas
 pub mod EndingLemmas
 pub mod KeysLemmas

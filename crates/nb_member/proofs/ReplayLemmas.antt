@@ -10,7 +10,7 @@ use Rattle.nb_member.specs.declared.event.Event.{Event}
 use Rattle.nb_member.specs.declared.settings.Settings.{Settings}
 use Rattle.nb_member.specs.Acting.{HasActed, WritesLine}
 use Rattle.nb_names.specs.Devices.{GrowTo}
-use Rattle.nb_member.specs.Lines.{CutInto, line}
+use Rattle.nb_names.specs.Lines.{CutInto, line}
 use Rattle.nb_member.specs.Live.{Saying, clock, Timed, live_after, live_from, live}
 use Rattle.nb_member.specs.Member.{MemberValue, StandsOver}
 use Rattle.nb_member.specs.Report.{Acts, nothing, passed, taken, tick, ReportOf}

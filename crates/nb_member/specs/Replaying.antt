@@ -9,7 +9,7 @@ use Rattle.nb_member.specs.Capture.{IsMalformed}
 use Rattle.nb_names.specs.declared.limits.TheConstants.{MAX_INPUT}
 use Rattle.nb_names.specs.Counted.{Counts}
 use Rattle.nb_names.specs.Devices.{ShowsWriteFault}
-use Rattle.nb_member.specs.Lines.{CutInto, with_rest}
+use Rattle.nb_names.specs.Lines.{CutInto, with_rest}
 use Rattle.nb_member.specs.Live.{Timed, live}
 use Rattle.nb_member.specs.Member.{MemberValue}
 use Rattle.nb_member.specs.Report.{ReportOf}

@@ -23,12 +23,10 @@ ghost use Rattle.nb_member.specs.Timing.{after_clock};
 ghost use Rattle.nb_member.specs.Answering.{Answers, Does, delivery_in, error_in};
 ghost use Rattle.nb_member.specs.Agreement.{valid, valid_cores, NoneDropped, GiveTheSame};
 
-mod cutting;
 mod delivering;
 mod merging;
 mod telling;
 
-pub use cutting::bytes_are_cut_in_one_way;
 pub use delivering::{
     a_senders_datagram_is_handed_over, a_whole_key_is_handed_over_once, both_hand_over_the_same,
     once_is_one_or_none,

@@ -9,7 +9,6 @@ pub mod laws;
 pub mod limits;
 mod line;
 mod line_fault;
-mod lines;
 mod local_names;
 mod member;
 mod member_fault;

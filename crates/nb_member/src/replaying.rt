@@ -12,11 +12,11 @@ ghost use Rattle.nb_member.specs.Running.{Stands};
 
 use crate::acting::act_on;
 use crate::limits::MAX_LINE;
-use crate::lines::next_line;
 use crate::member::Member;
 use crate::replay_fault::ReplayFault;
 use nb_names::Counted;
 use nb_names::input::read_input;
+use nb_names::lines::split_line;
 use nb_names::output::write_whole;
 use std::alloc::Global;
 use std::io::{Read, Write};
@@ -102,7 +102,7 @@ fn replay_lines<W: Write>(
 {
     let mut rest = bytes;
     let mut number = 0;
-    while let Some((line, after)) = next_line(rest) {
+    while let Some((line, after)) = split_line(rest) {
         number += 1;
         replay_line(alloc, number, line, writer, member)?;
         rest = after;

@@ -21,7 +21,7 @@ use Rattle.nb_member.specs.ReportTexts.{numbered, result_text}
 use Rattle.nb_member.specs.Saying.{Says}
 use Rattle.nb_member.specs.Taking.{Takes, TakesFragment, fragment, error, query, no_packet}
 use Rattle.nb_member.specs.Timing.{after_clock}
-use Rattle.nb_member.proofs.WritingLemmas.{Keeps-same}
+use Rattle.nb_names.specs.DeviceFacts.{Keeps-same}
 
 -- a line that says nothing
 pub quiet : (m : MemberValue) (L : List Timed) (n : ℕ) (line : List ℕ) → StandsOver m L → SaysNothing line

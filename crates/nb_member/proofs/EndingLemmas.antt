@@ -10,14 +10,14 @@ use Rattle.nb_member.specs.declared.limits.TheConstants.{MAX_LINE}
 use Rattle.nb_member.specs.declared.replay_fault.ReplayFault.{ReplayFault}
 use Rattle.nb_member.specs.declared.replay_fault.ReplayFault.TheVariants.{Line, Read, Write, NoMemory}
 use Rattle.nb_member.specs.Acting.{WritesLine, StopsAt}
-use Rattle.nb_member.specs.Devices.{ShowsWriteFault}
-use Rattle.nb_member.specs.Lines.{CutInto, rest, line, with_rest}
+use Rattle.nb_names.specs.Devices.{ShowsWriteFault}
+use Rattle.nb_names.specs.Lines.{CutInto, rest, line, with_rest}
 use Rattle.nb_member.specs.Live.{Timed, live_from, live}
 use Rattle.nb_member.specs.Member.{MemberValue, StandsOver}
 use Rattle.nb_member.specs.Running.{Stands}
 use Rattle.nb_member.specs.Replaying.{Replayed, Writes, Stops, Replays, EndsReplay, AreLines, finished, whole, ended, too_long, IsWhole, looked_at}
-use Rattle.nb_member.proofs.WritingLemmas.{Appends-nil, Appends-more, Appends-kept, fails_from}
-use Rattle.nb_member.proofs.CuttingLemmas.{any_cut}
+use Rattle.nb_names.specs.DeviceFacts.{Appends-nil, Appends-more, Appends-kept, fails_from}
+use Rattle.nb_names.specs.LineFacts.{any_cut}
 use Rattle.nb_member.proofs.ReplayLemmas.{SoFar, with_line, report_of, replayed, nothing_yet, Turn, IsReplaying}
 
 -- ---- where it ends
@@ -301,7 +301,3 @@ ends_unheld m H s came left before =
     let behind = any_cut (looked_at came) in
     stops_behind m H s came left before before [] behind.lines [] m (nothing_yet m (live m.settings s.sayings) s.over) refl (Appends-nil before)
     (finished behind.lines behind.left behind.cut)
-
--- want of memory is no fault of a reader
-pub not_read : {P : Type 0} (r : Result ℕ ReplayFault) → r ≡ Err NoMemory → r ≡ Err Read → P
-not_read r is read = absurd (cc)

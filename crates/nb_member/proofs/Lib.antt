@@ -3,10 +3,7 @@ pub mod WordsLemmas
 pub mod MomentLemmas
 pub mod PayloadLemmas
 pub mod LineLemmas
-pub mod WritingLemmas
-pub mod ReadingLemmas
 pub mod ActingLemmas
-pub mod CuttingLemmas
 pub mod ReplayLemmas
 pub mod EndingLemmas
 pub mod KeysLemmas

@@ -9,8 +9,8 @@ use Rattle.nb_names.specs.Name.{NetbiosName}
 use Rattle.nb_member.specs.declared.event.Event.{Event}
 use Rattle.nb_member.specs.declared.settings.Settings.{Settings}
 use Rattle.nb_member.specs.Acting.{HasActed, WritesLine}
-use Rattle.nb_member.specs.Devices.{GrowTo}
-use Rattle.nb_member.specs.Lines.{CutInto, line}
+use Rattle.nb_names.specs.Devices.{GrowTo}
+use Rattle.nb_names.specs.Lines.{CutInto, line}
 use Rattle.nb_member.specs.Live.{Saying, clock, Timed, live_after, live_from, live}
 use Rattle.nb_member.specs.Member.{MemberValue, StandsOver}
 use Rattle.nb_member.specs.Report.{Acts, nothing, passed, taken, tick, ReportOf}
@@ -19,8 +19,7 @@ use Rattle.nb_member.specs.Running.{Stands}
 use Rattle.nb_member.specs.Saying.{Say}
 use Rattle.nb_member.specs.Saying as saying
 use Rattle.nb_member.specs.Replaying.{Replayed}
-use Rattle.nb_member.proofs.WritingLemmas.{Appends-nil, Appends-more}
-use Rattle.nb_member.proofs.ReadingLemmas.{grows_on}
+use Rattle.nb_names.specs.DeviceFacts.{Appends-nil, Appends-more, grows_on}
 
 -- ---- sayings
 

@@ -7,6 +7,7 @@ use Rattle.std.specs.Str.Parse.{AllDigits}
 use Rattle.std.proofs.lemmas.Bool.{false≢true}
 use Rattle.std.proofs.lemmas.Bool.Decides.{Decides-eqb, nat_tests}
 use Rattle.std.proofs.lemmas.List.Elements.{contains_decides, Decides-contains, Contains-append_right, Contains-append_cases}
+pub use Rattle.nb_names.specs.LineFacts.{one_split}
 use Rattle.nb_member.specs.declared.line.Line.{Line}
 use Rattle.nb_member.specs.declared.line.Line.TheVariants.{Packet, Tick}
 use Rattle.nb_member.specs.declared.line_fault.LineFault.{LineFault}
@@ -66,22 +67,6 @@ comment_test (c ∷ text) false h any =
     (λ _. rw is (comment text no), λ _. refl)
 
 -- ---- words between spaces
-
--- the two halves around the first byte of its kind are the only ones
-pub one_split : (s : ℕ) (a b c d : List ℕ) → ¬ Contains a s → ¬ Contains c s → a ++ s ∷ b ≡ c ++ s ∷ d
-    → (a ≡ c) × (b ≡ d)
-one_split s [] b [] d h k e = (refl, cc)
-one_split s [] b (y ∷ c) d h k e =
-    let is : y ≡ s = cc in
-    absurd (k (zero, omega arith, is))
-one_split s (x ∷ a) b [] d h k e =
-    let is : x ≡ s = cc in
-    absurd (h (zero, omega arith, is))
-one_split s (x ∷ a) b (y ∷ c) d h k e =
-    let heads : x ≡ y = cc in
-    let tails : a ++ s ∷ b ≡ c ++ s ∷ d = cc in
-    let rec = one_split s a b c d (λ n. h (Contains-before x s a n)) (λ n. k (Contains-before y s c n)) tails in
-    (cc, rec.1)
 
 -- the space is no digit
 space_no_digit : (c : ℕ) → c ≡ 32 → digit_value c < 10 → ⊥

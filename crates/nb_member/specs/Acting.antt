@@ -6,7 +6,7 @@ use Rattle.nb_member.specs.declared.line.Line.{Line as Value}
 use Rattle.nb_member.specs.declared.replay_fault.ReplayFault.{ReplayFault}
 use Rattle.nb_member.specs.declared.replay_fault.ReplayFault.TheVariants.{Line, Read, Write, NoMemory}
 use Rattle.nb_member.specs.Capture.{HasValue, IsMalformed}
-use Rattle.nb_member.specs.Devices.{AppendsFront}
+use Rattle.nb_names.specs.Devices.{AppendsFront}
 use Rattle.nb_member.specs.Live.{Timed}
 use Rattle.nb_member.specs.Member.{MemberValue, StandsOver}
 use Rattle.nb_member.specs.Report.{Acts}

@@ -14,8 +14,6 @@ pub mod Stepping
 pub mod Absorbing
 pub mod Agreement
 pub mod HandedOver
-pub mod Lines
-pub mod Devices
 pub mod ReportTexts
 pub mod Report
 pub mod Acting

@@ -2,13 +2,14 @@
 use Rattle.std.specs.Prelude.{◌≡◌, ◌+◌, ◌<◌, ◌≤◌, ◌++◌, ◌∷◌, ℕ, Bool, true, false, List, length, take, Option, Result, Ok, Err}
 use Rattle.std.specs.Io.KnownBytes.{Appends, IsAtEnd}
 use Rattle.nb_member.specs.declared.event.Event.{Event}
-use Rattle.nb_member.specs.declared.limits.TheConstants.{MAX_INPUT, MAX_LINE}
+use Rattle.nb_member.specs.declared.limits.TheConstants.{MAX_LINE}
 use Rattle.nb_member.specs.declared.replay_fault.ReplayFault.{ReplayFault}
 use Rattle.nb_member.specs.declared.replay_fault.ReplayFault.TheVariants.{Line, Read, Write, NoMemory}
 use Rattle.nb_member.specs.Capture.{IsMalformed}
+use Rattle.nb_names.specs.declared.limits.TheConstants.{MAX_INPUT}
 use Rattle.nb_names.specs.Counted.{Counts}
-use Rattle.nb_member.specs.Devices.{ShowsWriteFault}
-use Rattle.nb_member.specs.Lines.{CutInto, with_rest}
+use Rattle.nb_names.specs.Devices.{ShowsWriteFault}
+use Rattle.nb_names.specs.Lines.{CutInto, with_rest}
 use Rattle.nb_member.specs.Live.{Timed, live}
 use Rattle.nb_member.specs.Member.{MemberValue}
 use Rattle.nb_member.specs.Report.{ReportOf}

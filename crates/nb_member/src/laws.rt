@@ -2,7 +2,7 @@
 ghost use Rattle.std.specs.Prelude.{◌≡◌, ◌≢◌, ◌⊎◌, ℕ, List, [], filter, Option, Some, None, Result, Ok, Err};
 ghost use Rattle.nb_names.specs.Name.{NetbiosName};
 ghost use Rattle.nb_table.specs.declared.fault.TableFault.TheVariants as table_fault;
-ghost use Rattle.nb_member.specs.declared.limits.TheConstants.{MAX_LINE, MAX_MOMENT_DIGITS, FRAGMENT_TIMEOUT, MAX_NAMES, MAX_INPUT, MAX_INTERRUPTS};
+ghost use Rattle.nb_member.specs.declared.limits.TheConstants.{MAX_LINE, MAX_MOMENT_DIGITS, FRAGMENT_TIMEOUT, MAX_NAMES};
 ghost use Rattle.nb_member.specs.declared.line.Line.{Line};
 ghost use Rattle.nb_member.specs.declared.line_fault.LineFault.{LineFault};
 ghost use Rattle.nb_member.specs.declared.line_fault.LineFault.TheVariants.{BadLine, NoMemory};
@@ -23,12 +23,10 @@ ghost use Rattle.nb_member.specs.Timing.{after_clock};
 ghost use Rattle.nb_member.specs.Answering.{Answers, Does, delivery_in, error_in};
 ghost use Rattle.nb_member.specs.Agreement.{valid, valid_cores, NoneDropped, GiveTheSame};
 
-mod cutting;
 mod delivering;
 mod merging;
 mod telling;
 
-pub use cutting::bytes_are_cut_in_one_way;
 pub use delivering::{
     a_senders_datagram_is_handed_over, a_whole_key_is_handed_over_once, both_hand_over_the_same,
     once_is_one_or_none,
@@ -146,6 +144,4 @@ pub fn limits_are_these_numbers()
     ensures digits { MAX_MOMENT_DIGITS ≡ 20 }
     ensures timeout { FRAGMENT_TIMEOUT ≡ 2000 }
     ensures names { MAX_NAMES ≡ 254 }
-    ensures input { MAX_INPUT ≡ 16777216 }
-    ensures interrupts { MAX_INTERRUPTS ≡ 1024 }
 {}

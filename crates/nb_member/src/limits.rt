@@ -12,9 +12,3 @@ pub const FRAGMENT_TIMEOUT: u64 = 2_000;
 
 /// The most names of a station (our choice).
 pub const MAX_NAMES: usize = 254;
-
-/// The most bytes of a capture that are looked at: 16 MiB (our choice).
-pub const MAX_INPUT: usize = 16_777_216;
-
-/// The interrupts in a row after which a reader or a writer is given up (our choice).
-pub const MAX_INTERRUPTS: u32 = 1_024;

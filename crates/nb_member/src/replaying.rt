@@ -1,23 +1,23 @@
 //! Replaying a capture in a member.
 ghost use Rattle.std.specs.Prelude.{◌≡◌, ◌≢◌, ◌≤◌, ℕ, List, length, IfErr, OnOk, Err};
 ghost use Rattle.std.specs.Io.KnownBytes.{Consumes};
+ghost use Rattle.nb_names.specs.declared.limits.TheConstants.{MAX_INPUT};
+ghost use Rattle.nb_names.specs.Devices.{GrowTo, ShowsUnread, ShowsWriteFault};
 ghost use Rattle.nb_member.specs.declared.event.Event.{Event};
-ghost use Rattle.nb_member.specs.declared.limits.TheConstants.{MAX_INPUT};
 ghost use Rattle.nb_member.specs.Acting.{StopsAt, WritesLine};
-ghost use Rattle.nb_member.specs.Devices.{GrowTo, ShowsUnread, ShowsWriteFault};
 ghost use Rattle.nb_member.specs.Live.{Timed, live};
 ghost use Rattle.nb_member.specs.Member.{StandsOver};
 ghost use Rattle.nb_member.specs.Replaying.{EndsReplay, Replays};
 ghost use Rattle.nb_member.specs.Running.{Stands};
 
 use crate::acting::act_on;
-use crate::input::read_input;
 use crate::limits::MAX_LINE;
-use crate::lines::next_line;
 use crate::member::Member;
-use crate::output::write_whole;
 use crate::replay_fault::ReplayFault;
 use nb_names::Counted;
+use nb_names::input::read_input;
+use nb_names::lines::split_line;
+use nb_names::output::write_whole;
 use std::alloc::Global;
 use std::io::{Read, Write};
 
@@ -47,8 +47,8 @@ use std::io::{Read, Write};
 ///   ended is judged by its length alone. The report of the lines before it is written, and the
 ///   member acted on them.
 /// - [`ReplayFault::Read`] where the reader failed, was interrupted 1,024 times in a row, or gave
-///   more than [`MAX_INPUT`](crate::limits::MAX_INPUT) bytes, and no line among the bytes that came
-///   is malformed. The report of the finished lines is written, and the member acted on them.
+///   more than [`MAX_INPUT`](nb_names::limits::MAX_INPUT) bytes, and no line among the bytes that
+///   came is malformed. The report of the finished lines is written, and the member acted on them.
 /// - [`ReplayFault::Write`] where the writer failed, took nothing, or was interrupted 1,024 times
 ///   in a row.
 /// - [`ReplayFault::NoMemory`] where memory ran out.
@@ -76,7 +76,10 @@ pub fn replay<R: Read, W: Write>(
     ensures settings { member.new.settings ≡ member.old.settings }
     ensures names { member.new.names ≡ member.old.names }
 {
-    let input = read_input(alloc, reader)?;
+    let input = match read_input(alloc, reader) {
+        Ok(input) => input,
+        Err(_) => return Err(ReplayFault::NoMemory),
+    };
     replay_lines(alloc, input.front(), input.is_whole, writer, member)
 }
 
@@ -99,7 +102,7 @@ fn replay_lines<W: Write>(
 {
     let mut rest = bytes;
     let mut number = 0;
-    while let Some((line, after)) = next_line(rest) {
+    while let Some((line, after)) = split_line(rest) {
         number += 1;
         replay_line(alloc, number, line, writer, member)?;
         rest = after;
@@ -143,5 +146,8 @@ fn replay_line<W: Write>(
     ensures names { member.new.names ≡ member.old.names }
 {
     let text = act_on(alloc, number, line, member)?;
-    write_whole(writer, text.as_bytes())
+    match write_whole(writer, text.as_bytes()) {
+        Ok(()) => Ok(()),
+        Err(_) => Err(ReplayFault::Write),
+    }
 }

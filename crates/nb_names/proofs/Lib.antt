@@ -15,3 +15,6 @@ pub mod FrontLemmas
 pub mod PartsLemmas
 pub mod TextTotalityLemmas
 pub mod WrittenLemmas
+pub mod OutputLemmas
+pub mod InputLemmas
+pub mod LineLawLemmas

@@ -13,3 +13,7 @@ pub mod TextFaults
 pub mod Code
 pub mod Tally
 pub mod Counted
+pub mod Devices
+pub mod DeviceFacts
+pub mod Lines
+pub mod LineFacts

@@ -4,7 +4,7 @@ ghost use Rattle.std.specs.List.{sum_by};
 ghost use Rattle.std.specs.Int.{w16, to_be_bytes};
 ghost use Rattle.nb_names.specs.declared.fault.NameFault.{NameFault};
 ghost use Rattle.nb_names.specs.declared.fault.NameFault.TheVariants.{Truncated};
-ghost use Rattle.nb_names.specs.declared.limits.TheConstants.{MAX_LABEL, MAX_SPELLING, MAX_SCOPE, NAME_LENGTH, FRONT_LENGTH, LETTERS, POINTED_OFFSETS};
+ghost use Rattle.nb_names.specs.declared.limits.TheConstants.{MAX_LABEL, MAX_SPELLING, MAX_SCOPE, NAME_LENGTH, FRONT_LENGTH, LETTERS, POINTED_OFFSETS, MAX_INPUT, MAX_INTERRUPTS};
 ghost use Rattle.nb_names.specs.declared.pointers.Pointers.{Pointers};
 ghost use Rattle.nb_names.specs.DomainName.{spelling, AreBytes, IsDomain};
 ghost use Rattle.nb_names.specs.FirstLevel.{letters, IsLetter};
@@ -21,6 +21,8 @@ pub fn numbers()
     ensures front { FRONT_LENGTH ≡ 15 }
     ensures letters { LETTERS ≡ 32 }
     ensures pointed { POINTED_OFFSETS ≡ 16384 }
+    ensures input { MAX_INPUT ≡ 16777216 }
+    ensures interrupts { MAX_INTERRUPTS ≡ 1024 }
     ensures byte { (byte : ℕ) → AreBytes (byte ∷ []) ↔ (byte < 256) }
 {}
 

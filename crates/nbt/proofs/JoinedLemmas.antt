@@ -1,6 +1,7 @@
 -- What `nbt merge` and `nbt agree` have done once the tables of the whole input are read.
 use Rattle.std.proofs.Common.{◌≡◌, ◌≢◌, ◌≤◌, ◌<◌, ◌+◌, [], ◌∷◌, ℕ, List, length, take, get_or, slice_get, Option, Some, refl, sym, ◌∙◌, ap₂, subst, arith}
 use Rattle.std.specs.Io.KnownBytes.{Consumes, IsAtEnd}
+use Rattle.nb_names.specs.declared.limits.TheConstants.{MAX_INPUT}
 use Rattle.nb_table.specs.Contents.{Contents}
 use Rattle.nb_table.specs.Join.{join, joined_all, AreTaken}
 use Rattle.nb_table.specs.Limits.{TableValue}
@@ -29,7 +30,7 @@ join_fails first others index why fault found told = record {
 }
 
 pub merges_tables : (IsKeys : ℕ → Type 0) (old_in new_in old_out new_out : Option (List ℕ)) (text read_text : List ℕ) (n : ℕ) (ts : List TableValue)
-    (first : TableValue) (others : List TableValue) (t : Contents) → read_text ≡ text → Consumes old_in new_in text → IsAtEnd new_in → length text ≤ 16777216 → IsKeys n → AreTables n read_text ts
+    (first : TableValue) (others : List TableValue) (t : Contents) → read_text ≡ text → Consumes old_in new_in text → IsAtEnd new_in → length text ≤ MAX_INPUT → IsKeys n → AreTables n read_text ts
     → ts ≡ first ∷ others → AreTaken join (Fits first.limits) first.contents (contents_of others) → t ≡ joined_all join first.contents (contents_of others) → PrintsLine old_out new_out (saved_digits t)
     → MergesTables IsKeys old_in new_in old_out new_out
 merges_tables IsKeys old_in new_in old_out new_out text read_text n ts first others t same read ended within given tables are taken joined printed = record {
@@ -47,7 +48,7 @@ merges_tables IsKeys old_in new_in old_out new_out text read_text n ts first oth
 }
 
 pub compares_tables : (old_in new_in old_out new_out : Option (List ℕ)) (text read_text : List ℕ) (ts : List TableValue) (first second : TableValue) (status : Status)
-    → read_text ≡ text → Consumes old_in new_in text → IsAtEnd new_in → length text ≤ 16777216 → AreTables 4294967295 read_text ts → ts ≡ first ∷ second ∷ []
+    → read_text ≡ text → Consumes old_in new_in text → IsAtEnd new_in → length text ≤ MAX_INPUT → AreTables 4294967295 read_text ts → ts ≡ first ∷ second ∷ []
     → Tells first.contents second.contents status old_out new_out → ComparesTables old_in new_in old_out new_out status
 compares_tables old_in new_in old_out new_out text read_text ts first second status same read ended within tables are told = record {
   text = text;

@@ -1,6 +1,4 @@
 mod CommandShapes
-pub mod WritingTurns
-pub mod ReadingTurns
 pub mod AloneWords
 pub mod SavingTurns
 pub mod ReplayingTurns

@@ -2,6 +2,7 @@
 use Rattle.std.proofs.Common.{◌≡◌, ◌≤◌, ◌+◌, ◌++◌, ◌∷◌, ℕ, List, Option, Ok, length, take, sym, subst}
 use Rattle.std.specs.Io.KnownBytes.{Consumes, IsAtEnd}
 use Rattle.std.proofs.lemmas.List.{take_all}
+use Rattle.nb_names.specs.declared.limits.TheConstants.{MAX_INPUT}
 use Rattle.nb_table.specs.Limits.{TableValue}
 use Rattle.nb_member.specs.declared.line.Line.{Line}
 use Rattle.nb_member.specs.Capture.{Reads}
@@ -12,7 +13,7 @@ use Rattle.nbt.specs.Saving.{IsLine, TakesLine, TakesLines, TakesSaid, SavesCapt
 
 -- the lines before the rest made the first member this one, and are counted
 pub record IsTaking (first now : MemberValue) (capture rest : List ℕ) (number : ℕ) : Type 0 where
-  pub counted : number + length rest ≤ 16777217
+  pub counted : number + length rest ≤ MAX_INPUT + 1
   pub took : (new : MemberValue) → TakesLines now rest new → TakesLines first capture new
 
 -- what a line says was taken
@@ -28,8 +29,8 @@ took_more first now next new capture rest line after parts is_line takes before 
 
 -- the table of a member that took the whole input is printed
 pub saves_capture : (IsKeys : ℕ → Type 0) (old_in new_in old_out new_out : Option (List ℕ)) (bytes : List ℕ) (n : ℕ) (new : MemberValue) (t : TableValue)
-    → Consumes old_in new_in bytes → IsAtEnd new_in × (length bytes ≤ 16777216) → IsKeys n
-    → TakesLines (new_saver n) (take 16777216 bytes) new → t ≡ new.timed.table → PrintsLine old_out new_out (saved_digits t.contents)
+    → Consumes old_in new_in bytes → IsAtEnd new_in × (length bytes ≤ MAX_INPUT) → IsKeys n
+    → TakesLines (new_saver n) (take MAX_INPUT bytes) new → t ≡ new.timed.table → PrintsLine old_out new_out (saved_digits t.contents)
     → SavesCapture IsKeys old_in new_in old_out new_out
 saves_capture IsKeys old_in new_in old_out new_out bytes n new t read whole given took is printed = record {
   capture = bytes;
@@ -39,6 +40,6 @@ saves_capture IsKeys old_in new_in old_out new_out bytes n new t read whole give
   ended = whole.0;
   within = whole.1;
   given = given;
-  took = subst (λ (taken : List ℕ). TakesLines (new_saver n) taken new) (take_all 16777216 bytes whole.1) took;
+  took = subst (λ (taken : List ℕ). TakesLines (new_saver n) taken new) (take_all MAX_INPUT bytes whole.1) took;
   printed = subst (λ (u : TableValue). PrintsLine old_out new_out (saved_digits u.contents)) is printed;
 }

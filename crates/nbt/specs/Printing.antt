@@ -3,12 +3,12 @@ use Rattle.std.specs.Prelude.{◌≡◌, ◌≢◌, ◌⊎◌, ◌<◌, ℕ, Lis
 use Rattle.std.specs.Io.KnownBytes.{Appends, Keeps}
 use Rattle.hex.specs.Hex.{encode_lower, decode_of}
 use Rattle.nb_names.specs.declared.pointers.Pointers.TheVariants.{Refused}
+use Rattle.nb_names.specs.Devices.{AppendsFront}
 use Rattle.nb_names.specs.DomainName.{spelling}
 use Rattle.nb_names.specs.Name.{NetbiosName, labels_of_name}
 use Rattle.nb_names.specs.NameText.{IsText, IsFaultOf, written}
 use Rattle.nb_names.specs.Labels.{NameAt}
 use Rattle.nb_names.specs.NameFaults.{NetbiosFaultAt}
-use Rattle.nbt.specs.Output.{AppendsFront}
 use Rattle.nbt.specs.declared.fault.Fault.{Fault}
 use Rattle.nbt.specs.declared.fault.Fault.TheVariants.{Text, Name, BadHex, TrailingBytes, Arguments, TooLong, ZeroPiece, Line, Full, TooManyNames, Load, NoTables, TwoTablesWanted, Read, Write, Memory}
 

@@ -3,6 +3,7 @@
 use Rattle.std.specs.Prelude.{◌≡◌, ◌≢◌, ◌⊎◌, ◌<◌, ◌≤◌, ℕ, List, [], ◌∷◌, ◌++◌, length, All, Option, None, Some, Result, Ok, Err}
 use Rattle.std.specs.FinMap as maps
 use Rattle.std.specs.Io.KnownBytes.{Consumes, IsAtEnd}
+use Rattle.nb_names.specs.declared.limits.TheConstants.{MAX_INPUT}
 use Rattle.nb_table.specs.declared.fault.TableFault.TheVariants.{MisplacedFirst, TooLong, Full, NoMemory}
 use Rattle.nb_member.specs.declared.line.Line.{Line}
 use Rattle.nb_member.specs.declared.line.Line.TheVariants.{Packet as PacketLine, Tick}
@@ -82,7 +83,7 @@ pub record SavesCapture (IsKeys : ℕ → Type 0) (old_in new_in old_out new_out
   pub new : MemberValue
   pub read : Consumes old_in new_in capture
   pub ended : IsAtEnd new_in
-  pub within : length capture ≤ 16777216
+  pub within : length capture ≤ MAX_INPUT
   pub given : IsKeys keys
   pub took : TakesLines (new_saver keys) capture new
   pub printed : PrintsLine old_out new_out (saved_digits (contents new))

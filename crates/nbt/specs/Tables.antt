@@ -3,6 +3,7 @@
 use Rattle.std.specs.Prelude.{◌≡◌, ◌≢◌, ◌⊎◌, ◌+◌, ◌<◌, ◌≤◌, ℕ, List, [], ◌∷◌, ◌++◌, length, map, take, slice_get, Option, Some, codes, Ok, IsErr}
 use Rattle.std.specs.Io.KnownBytes.{Consumes, IsAtEnd}
 use Rattle.hex.specs.Hex.{decode_of}
+use Rattle.nb_names.specs.declared.limits.TheConstants.{MAX_INPUT}
 use Rattle.nb_table.specs.declared.fault.TableFault.{TableFault}
 use Rattle.nb_table.specs.declared.fault.TableFault.TheVariants as tables
 use Rattle.nb_table.specs.declared.load_fault.LoadFault.TheVariants as loads
@@ -121,7 +122,7 @@ pub record MergesTables (IsKeys : ℕ → Type 0) (old_in new_in old_out new_out
   pub others : List TableValue
   pub read : Consumes old_in new_in text
   pub ended : IsAtEnd new_in
-  pub within : length text ≤ 16777216
+  pub within : length text ≤ MAX_INPUT
   pub given : IsKeys keys
   pub tables : AreTables keys text (first ∷ others)
   pub taken : AreTaken join (Fits first.limits) first.contents (contents_of others)
@@ -148,6 +149,6 @@ pub record ComparesTables (old_in new_in old_out new_out : Option (List ℕ)) (s
   pub second : TableValue
   pub read : Consumes old_in new_in text
   pub ended : IsAtEnd new_in
-  pub within : length text ≤ 16777216
+  pub within : length text ≤ MAX_INPUT
   pub tables : AreTables 4294967295 text (first ∷ second ∷ [])
   pub told : Tells first.contents second.contents status old_out new_out

@@ -3,7 +3,7 @@ ghost use Rattle.std.specs.Prelude.{◌≡◌, ◌≢◌, IfOk, IfErr};
 ghost use Rattle.std.specs.Io.KnownBytes.{Keeps};
 ghost use Rattle.nb_names.specs.Counted.{no_calls};
 ghost use Rattle.nbt.specs.Input.{WasCut};
-ghost use Rattle.nbt.specs.Output.{ShowsFailing};
+ghost use Rattle.nb_names.specs.Devices.{ShowsWriteFault};
 ghost use Rattle.nbt.specs.Tables.{CompareFails, ComparesTables, FailsOn, Tells};
 
 use crate::fault::Fault;
@@ -41,7 +41,7 @@ pub fn run_agree<R: Read, W: Write>(
         WasCut (R.remaining input.old.inner) (R.remaining input.new.inner)
         input.old.counts input.new.counts) }
     ensures why { IfErr result (λ fault. fault ≡ Fault.Write →
-        ShowsFailing no_calls output.new.counts) }
+        ShowsWriteFault no_calls output.new.counts) }
 {
     let text = whole_input(alloc, input)?;
     if count_lines(text.as_slice()) != 2 {
@@ -69,7 +69,7 @@ fn tell_same<W: Write>(
     ensures status { IfOk result (λ status. status ≢ Status.BadUsage) }
     ensures fault { IfErr result (λ fault. fault ≡ Fault.Write) }
     ensures why { IfErr result (λ fault. fault ≡ Fault.Write →
-        ShowsFailing no_calls output.new.counts) }
+        ShowsWriteFault no_calls output.new.counts) }
 {
     if first.same(second) {
         output.print(b"equal\n")?;

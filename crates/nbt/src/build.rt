@@ -2,7 +2,7 @@
 ghost use Rattle.std.specs.Prelude.{◌≡◌, ◌≢◌, IfErr};
 ghost use Rattle.std.specs.Io.KnownBytes.{Keeps};
 ghost use Rattle.nb_names.specs.Counted.{no_calls};
-ghost use Rattle.nbt.specs.Output.{ShowsFailing};
+ghost use Rattle.nb_names.specs.Devices.{ShowsWriteFault};
 
 mod arguments;
 mod build_fault;
@@ -36,7 +36,7 @@ pub fn run_build<W: Write>(
     ensures err { IfErr result (λ fault. fault ≢ Fault.Write →
         Keeps (W.contents output.old.inner) (W.contents output.new.inner)) }
     ensures why { IfErr result (λ fault. fault ≡ Fault.Write →
-        ShowsFailing no_calls output.new.counts) }
+        ShowsWriteFault no_calls output.new.counts) }
 {
     match build(alloc, matches) {
         Ok(lines) => output.print(lines.as_bytes()),

@@ -1,5 +1,6 @@
 //! The lines of an input.
 ghost use Rattle.std.specs.Prelude.{◌≡◌, ◌≢◌, ◌<◌, ◌≤◌, [], ◌∷◌, ◌++◌, ◌+◌, length, true, All, Ok, IfOk, IfErr, IfSome, IfNone};
+ghost use Rattle.nb_member.specs.declared.limits.TheConstants.{MAX_LINE};
 ghost use Rattle.nb_member.specs.Capture.{Reads};
 ghost use Rattle.nbt.specs.Lines.{IsEndFault, IsLineFault};
 
@@ -33,7 +34,7 @@ pub fn next_line(bytes: &[u8]) -> Option<(&[u8], &[u8])>
 ///
 /// [`Fault::Line`] where it is longer than a line, then [`Fault::Read`] where the input was cut.
 pub fn last_line(number: usize, rest: &[u8], is_whole: bool) -> Result<Option<&[u8]>, Fault>
-    ensures whole { IfOk result (λ _. (is_whole ≡ true) × (length rest.now ≤ 262200)) }
+    ensures whole { IfOk result (λ _. (is_whole ≡ true) × (length rest.now ≤ MAX_LINE)) }
     ensures line { IfOk result (λ line. IfSome line (λ text.
         (text.now ≡ rest.now) × (0 < length rest.now))) }
     ensures none { IfOk result (λ line. IfNone line (rest.now ≡ [])) }

@@ -6,7 +6,6 @@ mod build;
 mod clap_answer;
 mod command_line;
 mod fault;
-mod input;
 mod lines;
 mod merge;
 mod name;
@@ -19,7 +18,6 @@ mod settings;
 mod show;
 mod status;
 mod tables;
-mod writing;
 
 use crate::fault::Fault;
 use crate::output::Output;

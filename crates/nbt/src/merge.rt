@@ -5,7 +5,7 @@ ghost use Rattle.nb_names.specs.Counted.{no_calls};
 ghost use Rattle.nb_table.specs.Join.{join, joined_all, AreTaken};
 ghost use Rattle.nb_table.specs.Merging.{Fits};
 ghost use Rattle.nbt.specs.Input.{WasCut};
-ghost use Rattle.nbt.specs.Output.{ShowsFailing};
+ghost use Rattle.nb_names.specs.Devices.{ShowsWriteFault};
 ghost use Rattle.nbt.specs.Settings.{AreKeys};
 ghost use Rattle.nbt.specs.Tables.{contents_of, FailsOn, JoinFails, MergeFails, MergesTables};
 
@@ -45,7 +45,7 @@ pub fn run_merge<R: Read, W: Write>(
         WasCut (R.remaining input.old.inner) (R.remaining input.new.inner)
         input.old.counts input.new.counts) }
     ensures why { IfErr result (λ fault. fault ≡ Fault.Write →
-        ShowsFailing no_calls output.new.counts) }
+        ShowsWriteFault no_calls output.new.counts) }
 {
     let Some(keys) = matches.get_one::<u32>("keys") else {
         return Err(Fault::Arguments);

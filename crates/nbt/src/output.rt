@@ -2,15 +2,15 @@
 ghost use Rattle.std.specs.Prelude.{◌≡◌, ◌<◌, ◌≤◌, length, take, string_bytes, OnOk, OnErr, IfOk, IfErr};
 ghost use Rattle.std.specs.Io.KnownBytes.{Appends};
 ghost use Rattle.nb_names.specs.Counted.{no_calls};
-ghost use Rattle.nbt.specs.Output.{AppendsFront, GrowTo, ShowsFailing};
+ghost use Rattle.nb_names.specs.Devices.{AppendsFront, GrowTo, ShowsWriteFault};
 ghost use Rattle.nbt.specs.Printing.{line};
 ghost use Rattle.nbt.specs.Replaying.{EndsWith, IsUnread, ReplaysIn};
 
 use crate::fault::Fault;
 use crate::replay::outcome_of;
-use crate::writing::{write_some, write_whole};
 use nb_member::{Member, replay};
 use nb_names::Counted;
+use nb_names::output::{write_some, write_whole};
 use std::alloc::Global;
 use std::io;
 use std::io::{ErrorKind, Read, Write};
@@ -65,9 +65,12 @@ impl<W> Output<W> {
         ensures fault { IfErr result (λ fault. fault ≡ Fault.Write) }
         ensures err { OnErr result (AppendsFront (W.contents self.old.inner)
             (W.contents self.new.inner) bytes.now) }
-        ensures why { OnErr result (ShowsFailing no_calls self.new.counts) }
+        ensures why { OnErr result (ShowsWriteFault no_calls self.new.counts) }
     {
-        write_whole(&mut self.device, bytes)
+        match write_whole(&mut self.device, bytes) {
+            Ok(()) => Ok(()),
+            Err(_) => Err(Fault::Write),
+        }
     }
 
     /// Replays an input in a member, and writes the report.
@@ -90,7 +93,7 @@ impl<W> Output<W> {
             IsUnread (R.remaining input.old.inner) (R.remaining input.new.inner)
             input.old.counts input.new.counts) }
         ensures why { IfErr result (λ fault. fault ≡ Fault.Write →
-            ShowsFailing no_calls self.new.counts) }
+            ShowsWriteFault no_calls self.new.counts) }
     {
         outcome_of(replay(alloc, input, &mut self.device, &mut member))
     }

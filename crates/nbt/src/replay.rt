@@ -2,7 +2,7 @@
 ghost use Rattle.std.specs.Prelude.{◌≡◌, map, Err, OnOk, IfOk, IfErr};
 ghost use Rattle.nb_names.specs.Counted.{no_calls};
 ghost use Rattle.nb_names.specs.NameText.{IsFaultOf};
-ghost use Rattle.nbt.specs.Output.{ShowsFailing};
+ghost use Rattle.nb_names.specs.Devices.{ShowsWriteFault};
 ghost use Rattle.nbt.specs.Replaying.{AddsEach, AddsName, AreTexts, EndsWith, IsNamesFault, IsRefusedName, IsReplay, IsUnread, ReplaysCapture};
 ghost use Rattle.nbt.specs.Settings.{AreKeys};
 
@@ -40,7 +40,7 @@ pub fn run_replay<R: Read, W: Write>(
         IsUnread (R.remaining input.old.inner) (R.remaining input.new.inner)
         input.old.counts input.new.counts) }
     ensures why { IfErr result (λ fault. fault ≡ Fault.Write →
-        ShowsFailing no_calls output.new.counts) }
+        ShowsWriteFault no_calls output.new.counts) }
 {
     let Some(keys) = matches.get_one::<u32>("keys") else {
         return Err(Fault::Arguments);

@@ -2,13 +2,13 @@
 ghost use Rattle.std.specs.Prelude.{◌≡◌, ◌≢◌, take, true, false, IfOk, IfErr, OnOk};
 ghost use Rattle.std.specs.Io.KnownBytes.{Keeps};
 ghost use Rattle.nb_names.specs.Counted.{no_calls};
+ghost use Rattle.nb_names.specs.declared.limits.TheConstants.{MAX_INPUT};
 ghost use Rattle.nbt.specs.Input.{WasCut};
-ghost use Rattle.nbt.specs.Output.{ShowsFailing};
+ghost use Rattle.nb_names.specs.Devices.{ShowsWriteFault};
 ghost use Rattle.nbt.specs.Saving.{new_saver, SavesCapture, TakesLine, TakesLines, TakesPayload, TakesRest, TakesSaid};
 ghost use Rattle.nbt.specs.Settings.{AreKeys};
 
 use crate::fault::Fault;
-use crate::input::{Input, read_input};
 use crate::lines::{last_line, next_line, said_by};
 use crate::output::Output;
 use crate::saved::print_saved;
@@ -16,6 +16,7 @@ use crate::settings::{PORT, settings_with};
 use clap::ArgMatches;
 use nb_member::{Line, LocalNames, Member, MemberFault};
 use nb_names::Counted;
+use nb_names::input::{Input, read_input};
 use nb_table::TableFault;
 use std::alloc::Global;
 use std::io::{Read, Write};
@@ -44,7 +45,7 @@ pub fn run_save<R: Read, W: Write>(
         WasCut (R.remaining input.old.inner) (R.remaining input.new.inner)
         input.old.counts input.new.counts) }
     ensures why { IfErr result (λ fault. fault ≡ Fault.Write →
-        ShowsFailing no_calls output.new.counts) }
+        ShowsWriteFault no_calls output.new.counts) }
 {
     let Some(keys) = matches.get_one::<u32>("keys") else {
         return Err(Fault::Arguments);
@@ -57,7 +58,7 @@ pub fn run_save<R: Read, W: Write>(
 /// A member without names that holds this many keys, after the lines of an input.
 fn member_after(alloc: Global, keys: u32, input: &Input) -> Result<Member, Fault>
     ensures took { IfOk result (λ new. (input.now.is_whole ≡ true) ×
-        TakesLines (new_saver keys) (take 16777216 input.now.bytes.items) new) }
+        TakesLines (new_saver keys) (take MAX_INPUT input.now.bytes.items) new) }
     ensures fault { IfErr result (λ fault. fault ≢ Fault.Write) }
     ensures cut { IfErr result (λ fault. fault ≡ Fault.Read → input.now.is_whole ≡ false) }
 {

@@ -1,7 +1,7 @@
 //! `nbt show`: the packets of a capture as text.
 ghost use Rattle.std.specs.Prelude.{◌≡◌, IfErr};
 ghost use Rattle.nb_names.specs.Counted.{no_calls};
-ghost use Rattle.nbt.specs.Output.{ShowsFailing};
+ghost use Rattle.nb_names.specs.Devices.{ShowsWriteFault};
 
 mod datagram;
 mod service;
@@ -9,10 +9,10 @@ mod session;
 mod texts;
 
 use crate::fault::Fault;
-use crate::input::{Input, read_input};
 use crate::lines::{last_line, next_line, said_by};
 use crate::output::Output;
 use nb_member::Line;
+use nb_names::input::{Input, read_input};
 use nb_names::{Counted, NoMemory};
 use std::alloc::Global;
 use std::io::{Read, Write};
@@ -30,7 +30,7 @@ pub fn run_show<R: Read, W: Write>(
     output: &mut Output<W>,
 ) -> Result<(), Fault>
     ensures why { IfErr result (λ fault. fault ≡ Fault.Write →
-        ShowsFailing no_calls output.new.counts) }
+        ShowsWriteFault no_calls output.new.counts) }
 {
     let input = read_input(alloc, input)?;
     show_lines(alloc, &input, output)
@@ -39,7 +39,7 @@ pub fn run_show<R: Read, W: Write>(
 /// Shows the lines that are finished, and the last one.
 fn show_lines<W: Write>(alloc: Global, input: &Input, output: &mut Output<W>) -> Result<(), Fault>
     ensures why { IfErr result (λ fault. fault ≡ Fault.Write →
-        ShowsFailing no_calls output.new.counts) }
+        ShowsWriteFault no_calls output.new.counts) }
 {
     let mut rest = input.front();
     let mut number = 1;
@@ -62,7 +62,7 @@ fn show_line<W: Write>(
     output: &mut Output<W>,
 ) -> Result<(), Fault>
     ensures why { IfErr result (λ fault. fault ≡ Fault.Write →
-        ShowsFailing no_calls output.new.counts) }
+        ShowsWriteFault no_calls output.new.counts) }
 {
     let Some(said) = said_by(alloc, number, line)? else {
         return Ok(());

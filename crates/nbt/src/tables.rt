@@ -1,14 +1,15 @@
 //! The tables that an input has: a line for each, saved, in hexadecimal.
 ghost use Rattle.std.specs.Prelude.{◌≡◌, ◌≢◌, ◌<◌, ◌≤◌, [], length, IfOk, IfErr, IfSome, IfNone};
 ghost use Rattle.std.specs.Io.KnownBytes.{Consumes, IsAtEnd};
+ghost use Rattle.nb_names.specs.declared.limits.TheConstants.{MAX_INPUT};
 ghost use Rattle.nbt.specs.Input.{WasCut};
 ghost use Rattle.nbt.specs.Tables.{AreTables, HasLines, IsElsewhere, IsFirstLine, IsTableFault, IsTableLine, TablesFail};
 
 use crate::fault::Fault;
-use crate::input::read_input;
 use crate::lines::next_line;
 use hex::FromHexError;
 use nb_names::Counted;
+use nb_names::input::read_input;
 use nb_table::{LoadFault, Table, load};
 use std::alloc::Global;
 use std::io::Read;
@@ -26,7 +27,7 @@ pub fn whole_input<R: Read>(alloc: Global, input: &mut Counted<R>) -> Result<Vec
     ensures read { IfOk result (λ bytes. Consumes (R.remaining input.old.inner)
         (R.remaining input.new.inner) bytes.items) }
     ensures ended { IfOk result (λ _. IsAtEnd (R.remaining input.new.inner)) }
-    ensures within { IfOk result (λ bytes. length bytes.items ≤ 16777216) }
+    ensures within { IfOk result (λ bytes. length bytes.items ≤ MAX_INPUT) }
     ensures elsewhere { IfErr result IsElsewhere }
     ensures fault { IfErr result (λ fault. fault ≢ Fault.Write) }
     ensures cut { IfErr result (λ fault. fault ≡ Fault.Read →

@@ -1,0 +1,88 @@
+-- Lemmas on what calls of a reader or a writer, made one after another, do together, for proofs here and in the
+-- crates above.
+use Rattle.std.proofs.Common.{◌++◌, inl, inr, ℕ, List, [], Option, Some, None, refl, sym, ◌∙◌, ap, append_assoc, arith}
+use Rattle.std.specs.Io.KnownBytes.{Appends, Consumes, Keeps}
+use Rattle.std.proofs.lemmas.List.{append-nil}
+use Rattle.nb_names.specs.Counted.{Counts}
+use Rattle.nb_names.specs.Devices.{GrowTo, ShowsReadFault, ShowsWriteFault}
+
+-- ---- bytes
+
+pub Keeps-same : (known : Option (List ℕ)) → Keeps known known
+Keeps-same None = tt
+Keeps-same (Some xs) = refl
+
+pub Keeps-kept : (a b c : Option (List ℕ)) → Keeps a b → Keeps b c → Keeps a c
+Keeps-kept None b c p q = tt
+Keeps-kept (Some a) None c p q = absurd p
+Keeps-kept (Some a) (Some b) None p q = absurd q
+Keeps-kept (Some a) (Some b) (Some c) p q = q ∙ p
+
+pub Keeps-appends : (a b c : Option (List ℕ)) (xs : List ℕ) → Keeps a b → Appends b c xs → Appends a c xs
+Keeps-appends None b c xs p q = tt
+Keeps-appends (Some a) None c xs p q = absurd p
+Keeps-appends (Some a) (Some b) None xs p q = absurd q
+Keeps-appends (Some a) (Some b) (Some c) xs p q = q ∙ ap (λ r. r ++ xs) p
+
+pub Appends-nil : (known : Option (List ℕ)) → Appends known known []
+Appends-nil None = tt
+Appends-nil (Some xs) = sym (append-nil xs)
+
+pub Appends-more : (a b c : Option (List ℕ)) (xs ys : List ℕ) → Appends a b xs → Appends b c ys → Appends a c (xs ++ ys)
+Appends-more None b c xs ys p q = tt
+Appends-more (Some a) None c xs ys p q = absurd p
+Appends-more (Some a) (Some b) None xs ys p q = absurd q
+Appends-more (Some a) (Some b) (Some c) xs ys p q = q ∙ ap (λ r. r ++ ys) p ∙ append_assoc a xs ys
+
+pub Appends-kept : (a b c : Option (List ℕ)) (xs : List ℕ) → Appends a b xs → Keeps b c → Appends a c xs
+Appends-kept None b c xs p q = tt
+Appends-kept (Some a) None c xs p q = absurd p
+Appends-kept (Some a) (Some b) None xs p q = absurd q
+Appends-kept (Some a) (Some b) (Some c) xs p q = q ∙ p
+
+pub Keeps-consumes : (a b c : Option (List ℕ)) (xs : List ℕ) → Keeps a b → Consumes b c xs → Consumes a c xs
+Keeps-consumes None b c xs p q = tt
+Keeps-consumes (Some a) None c xs p q = absurd p
+Keeps-consumes (Some a) (Some b) None xs p q = absurd q
+Keeps-consumes (Some a) (Some b) (Some c) xs p q = sym p ∙ q
+
+pub Consumes-nil : (known : Option (List ℕ)) → Consumes known known []
+Consumes-nil None = tt
+Consumes-nil (Some xs) = refl
+
+pub Consumes-more : (a b c : Option (List ℕ)) (xs ys : List ℕ) → Consumes a b xs → Consumes b c ys → Consumes a c (xs ++ ys)
+Consumes-more None b c xs ys p q = tt
+Consumes-more (Some a) None c xs ys p q = absurd p
+Consumes-more (Some a) (Some b) None xs ys p q = absurd q
+Consumes-more (Some a) (Some b) (Some c) xs ys p q = p ∙ ap (λ r. xs ++ r) q ∙ sym (append_assoc xs ys c)
+
+pub Consumes-kept : (a b c : Option (List ℕ)) (xs : List ℕ) → Consumes a b xs → Keeps b c → Consumes a c xs
+Consumes-kept None b c xs p q = tt
+Consumes-kept (Some a) None c xs p q = absurd p
+Consumes-kept (Some a) (Some b) None xs p q = absurd q
+Consumes-kept (Some a) (Some b) (Some c) xs p q = p ∙ ap (λ r. xs ++ r) (sym q)
+
+-- ---- counts
+
+pub grows_on : (old mid new : Counts) → GrowTo old mid → GrowTo mid new → GrowTo old new
+grows_on old mid new g h = record {
+  empty = omega (arith, g.empty, h.empty);
+  interrupted = omega (arith, g.interrupted, h.interrupted);
+  failed = omega (arith, g.failed, h.failed);
+}
+
+-- what failed after some calls failed after those before them too
+pub cut_from : (old mid new : Counts) → GrowTo old mid → ShowsReadFault mid new → ShowsReadFault old new
+cut_from old mid new g (inl h) = inl (omega (arith, g.failed))
+cut_from old mid new g (inr h) = inr (omega (arith, g.interrupted))
+
+pub fails_from : (old mid new : Counts) → GrowTo old mid → ShowsWriteFault mid new → ShowsWriteFault old new
+fails_from old mid new g (inl h) = inl (omega (arith, g.failed))
+fails_from old mid new g (inr (inl h)) = inr (inl (omega (arith, g.empty)))
+fails_from old mid new g (inr (inr h)) = inr (inr (omega (arith, g.interrupted)))
+
+-- and stays failed after those that follow
+pub fails_still : (old mid new : Counts) → ShowsWriteFault old mid → GrowTo mid new → ShowsWriteFault old new
+fails_still old mid new (inl h) g = inl (omega (arith, g.failed))
+fails_still old mid new (inr (inl h)) g = inr (inl (omega (arith, g.empty)))
+fails_still old mid new (inr (inr h)) g = inr (inr (omega (arith, g.interrupted)))

@@ -1,9 +1,0 @@
-use Rattle.std.proofs.Common.{◌-◌}
-use Rattle.nbt.proofs.WritingTurns.{IsWaiting}
-use Rattle.nbt.proofs.writing.write_some.Given as goal
-
-abbrev pub invariant-loop-interrupts : goal.invariant-loop-interrupts
-invariant-loop-interrupts g l = IsWaiting (g.W.Write.contents l.fn.device.inner) (g.W.Write.contents l.device.inner) l.fn.device.counts l.device.counts l.interrupts
-
-abbrev pub decreases-loop-interrupts : goal.decreases-loop-interrupts
-decreases-loop-interrupts g l = 1024 - l.interrupts

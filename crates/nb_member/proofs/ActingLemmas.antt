@@ -13,6 +13,7 @@ use Rattle.nb_member.specs.declared.replay_fault.ReplayFault.{ReplayFault}
 use Rattle.nb_member.specs.declared.replay_fault.ReplayFault.TheVariants as fault
 use Rattle.nb_member.specs.Acting.{HasActed, EndsAt, StopsAt}
 use Rattle.nb_member.specs.Answering.{Does}
+use Rattle.nb_member.specs.Code.Station.{KeepsStation}
 use Rattle.nb_member.specs.Capture.{HasValue, SaysNothing}
 use Rattle.nb_member.specs.Live.{Saying, clock, Timed, live_after}
 use Rattle.nb_member.specs.Member.{MemberValue, StandsOver, contents, with_timed}
@@ -81,22 +82,18 @@ pub always_on_err : {T E P : Type 0} (r : Result T E) → P → OnErr r P
 always_on_err (Ok x) p = tt
 always_on_err (Err e) p = p
 
--- the settings and names are those that they were
-abbrev pub KeepsSettings : MemberValue → MemberValue → Type 0
-KeepsSettings m new = (new.settings ≡ m.settings) × (new.names ≡ m.names)
-
-same_keeps : (m new : MemberValue) → new ≡ m → KeepsSettings m new
+pub same_keeps : (m new : MemberValue) → new ≡ m → KeepsStation m new
 same_keeps m new same = (ap (λ (x : MemberValue). x.settings) same, ap (λ (x : MemberValue). x.names) same)
 
 fragment_keeps : (m : MemberValue) (moment : ℕ) (f : FragmentParts) (new : MemberValue) (result : Result Outcome MemberFault)
-    → TakesFragment m moment f new result → KeepsSettings m new
+    → TakesFragment m moment f new result → KeepsStation m new
 fragment_keeps m moment f new (Ok outcome) t = (ap (λ (x : MemberValue). x.settings) t.joined, ap (λ (x : MemberValue). x.names) t.joined)
 fragment_keeps m moment f new (Err (member_fault.Packet x e)) t = absurd t
 fragment_keeps m moment f new (Err (member_fault.Table x)) t = same_keeps m new t.1
 
 -- a payload that is taken changes neither settings nor names
 pub taken_keeps : (m : MemberValue) (moment : ℕ) (payload : List ℕ) (new : MemberValue) (result : Result Outcome MemberFault)
-    → Takes m moment payload new result → KeepsSettings m new
+    → Takes m moment payload new result → KeepsStation m new
 taken_keeps m moment payload new _ (fragment f used result p t) = fragment_keeps m moment f new result t
 taken_keeps m moment payload new _ (error e used p same) = same_keeps m new same
 taken_keeps m moment payload new _ (query q used p same) = same_keeps m new same

@@ -173,10 +173,10 @@ both_did known room settings names_a names_b events_a events_b pair runs_a runs_
     }
 
 -- they agree
-pub agree : (settings : Settings) (names_a names_b : List NetbiosName) (events_a events_b : List Event) (pair : Pair) (S T : List Saying)
-    → table_from (live settings S) ≡ table_from (live settings T)
-    → BothDid settings names_a names_b events_a events_b pair S T → Agree events_a events_b pair
-agree settings names_a names_b events_a events_b pair S T same both = record {
+pub agree : {settings : Settings} {names_a names_b : List NetbiosName} {events_a events_b : List Event} {pair : Pair} {S T : List Saying}
+    → BothDid settings names_a names_b events_a events_b pair S T → table_from (live settings S) ≡ table_from (live settings T)
+    → Agree events_a events_b pair
+agree both same = record {
   took_all = both.a.took;
   took_all_there = both.b.took;
   same_table = both.a.table_is ∙ (same ∙ sym both.b.table_is);

@@ -10,6 +10,7 @@ use Rattle.nb_member.specs.declared.limits.TheConstants.{MAX_LINE}
 use Rattle.nb_member.specs.declared.replay_fault.ReplayFault.{ReplayFault}
 use Rattle.nb_member.specs.declared.replay_fault.ReplayFault.TheVariants.{Line, Read, Write, NoMemory}
 use Rattle.nb_member.specs.Acting.{WritesLine, StopsAt}
+use Rattle.nb_member.specs.Code.Station.{KeepsStation}
 use Rattle.nb_member.specs.Devices.{ShowsWriteFault}
 use Rattle.nb_member.specs.Lines.{CutInto, rest, line, with_rest}
 use Rattle.nb_member.specs.Live.{Timed, live_from, live}
@@ -18,7 +19,7 @@ use Rattle.nb_member.specs.Running.{Stands}
 use Rattle.nb_member.specs.Replaying.{Replayed, Writes, Stops, Replays, EndsReplay, AreLines, finished, whole, ended, too_long, IsWhole, looked_at}
 use Rattle.nb_member.proofs.WritingLemmas.{Appends-nil, Appends-more, Appends-kept, fails_from}
 use Rattle.nb_member.proofs.CuttingLemmas.{any_cut}
-use Rattle.nb_member.proofs.ReplayLemmas.{SoFar, with_line, report_of, replayed, nothing_yet, Turn, IsReplaying}
+use Rattle.nb_member.proofs.ReplayLemmas.{kept_on, SoFar, with_line, report_of, replayed, nothing_yet, Turn, IsReplaying}
 
 -- ---- where it ends
 
@@ -84,27 +85,27 @@ stops_within m H s came left before after done more l text front later new newer
 -- the replay ended at this line
 pub ends_at : (m : MemberValue) (H : List Event) (s : Stands m H) (came : List ℕ) (left : Option (List ℕ)) (before mid after : Option (List ℕ))
     (done more : List (List ℕ)) (l text : List ℕ) (new newer : MemberValue) (number : ℕ)
-    (t : SoFar m (live m.settings s.sayings) done text new) → new.settings ≡ m.settings → new.names ≡ m.names
+    (t : SoFar m (live m.settings s.sayings) done text new) → KeepsStation m new
     → newer.settings ≡ m.settings → Appends before mid text → number ≡ length done + 1 → AreLines came left (done ++ l ∷ more)
     → (fault : ReplayFault)
     → StopsAt new (live_from m.settings (live m.settings s.sayings) t.sayings) number l newer mid after fault
     → Replays m H (live m.settings s.sayings) came left newer before after (Err fault)
-ends_at m H s came left before mid after done more l text new newer number t same same_names still written at are (Line k) p =
+ends_at m H s came left before mid after done more l text new newer number t same still written at are (Line k) p =
     let u = stays m (live m.settings s.sayings) done text new newer t p.2 in (
       done,
       ended done more l are p.1,
       p.0 ∙ at,
       writes m H s before after done text newer u still (Appends-kept before mid after text written p.3),
     )
-ends_at m H s came left before mid after done more l text new newer number t same same_names still written at are Read p = absurd p
-ends_at m H s came left before mid after done more l text new newer number t same same_names still written at are Write p =
+ends_at m H s came left before mid after done more l text new newer number t same still written at are Read p = absurd p
+ends_at m H s came left before mid after done more l text new newer number t same still written at are Write p =
     let front = take p.front.0 p.text in
     let later = drop p.front.0 p.text in
-    let u = with_line m (live m.settings s.sayings) done l text new newer t same same_names number at p.text p.acted in
+    let u = with_line m (live m.settings s.sayings) done l text new newer t same number at p.text p.acted in
     stops_within m H s came left before after done more l text front later new newer t
     (subst (λ (bs : List ℕ). SoFar m (live m.settings s.sayings) (done ++ l ∷ []) (text ++ bs) newer) (sym (take-append-drop p.front.0 p.text)) u)
     still (Appends-more before mid after text front written p.front.2) are
-ends_at m H s came left before mid after done more l text new newer number t same same_names still written at are NoMemory p =
+ends_at m H s came left before mid after done more l text new newer number t same still written at are NoMemory p =
     elim (p.0) [
       | inl stayed ↦
           stops_behind m H s came left before after done (l ∷ more) text newer
@@ -112,7 +113,7 @@ ends_at m H s came left before mid after done more l text new newer number t sam
           (Appends-kept before mid after text written p.1) are
       | inr acted ↦
           stops_within m H s came left before after done more l text [] acted.0 new newer t
-          (with_line m (live m.settings s.sayings) done l text new newer t same same_names number at acted.0 acted.1)
+          (with_line m (live m.settings s.sayings) done l text new newer t same number at acted.0 acted.1)
           still (subst (λ (bs : List ℕ). Appends before after bs) (sym (append-nil text)) (Appends-kept before mid after text written p.1)) are
     ]
 
@@ -149,11 +150,11 @@ plus_one n k same = ap (λ (x : ℕ). x + 1) same
 pub ends_in_loop : (m : MemberValue) (before mid after : Option (List ℕ)) (old counts later : Counts) (bytes here there l : List ℕ)
     (number : ℕ) (new newer : MemberValue) (is_whole : Bool) (fault : ReplayFault)
     → IsReplaying m before mid old counts bytes here number new
-    → here ≡ l ++ 10 ∷ there → ¬ Contains l 10 → newer.settings ≡ new.settings → newer.names ≡ new.names
+    → here ≡ l ++ 10 ∷ there → ¬ Contains l 10 → KeepsStation new newer
     → ((L : List Timed) → StandsOver new L → StopsAt new L (number + 1) l newer mid after fault)
     → fault ≢ Read → (fault ≡ Write → ShowsWriteFault counts later)
     → EndsReplay m newer bytes is_whole before after old later (Err fault)
-ends_in_loop m before mid after old counts later bytes here there l number new newer is_whole fault t parts clear settings names stops unread why = record {
+ends_in_loop m before mid after old counts later bytes here there l number new newer is_whole fault t parts clear kept stops unread why = record {
   replays = λ came left is whole H s.
       let L = live m.settings s.sayings in
       let was = t.turn L s.over in
@@ -163,12 +164,11 @@ ends_in_loop m before mid after old counts later bytes here there l number new n
       let are = finished (was.done ++ l ∷ behind.lines) behind.left
       (subst (λ (bs : List ℕ). CutInto bs (was.done ++ l ∷ behind.lines) behind.left) is cut) in
       ends_at m H s came left before mid after was.done behind.lines l was.text new newer (number + 1) was.so_far
-      t.settings_stay t.names_stay (settings ∙ t.settings_stay) was.appends (plus_one number (length was.done) was.counted) are fault
+      t.kept (kept.0 ∙ t.kept.0) was.appends (plus_one number (length was.done) was.counted) are fault
       (stops (live_from m.settings L was.so_far.sayings) was.so_far.stands);
   read = λ e. let same : fault ≡ Read = cc in absurd (unread same);
   write = λ e. let same : fault ≡ Write = cc in fails_from old counts later t.grow (why same);
-  settings_stay = settings ∙ t.settings_stay;
-  names_stay = names ∙ t.names_stay;
+  kept = kept_on m new newer t.kept kept;
 }
 
 -- what is left is too long for a line
@@ -183,12 +183,11 @@ ends_too_long m before after old counts bytes here number new is_whole t clear l
         was.done,
         too_long was.done here (cut_here m L before after bytes here number new came was is clear) long,
         plus_one number (length was.done) was.counted,
-        writes m H s before after was.done was.text new was.so_far t.settings_stay was.appends,
+        writes m H s before after was.done was.text new was.so_far t.kept.0 was.appends,
       );
   read = λ e. absurd (cc);
   write = λ e. absurd (cc);
-  settings_stay = t.settings_stay;
-  names_stay = t.names_stay;
+  kept = t.kept;
 }
 
 -- the input wasn't read whole
@@ -204,12 +203,11 @@ ends_unread m before after old counts bytes here number new is_whole t clear sho
         here,
         cut_here m L before after bytes here number new came was is clear,
         short,
-        writes m H s before after was.done was.text new was.so_far t.settings_stay was.appends,
+        writes m H s before after was.done was.text new was.so_far t.kept.0 was.appends,
       );
   read = λ e. cut_off;
   write = λ e. absurd (cc);
-  settings_stay = t.settings_stay;
-  names_stay = t.names_stay;
+  kept = t.kept;
 }
 
 -- nothing is left
@@ -229,22 +227,21 @@ ends_with_line_feed m before after old counts bytes here number new is_whole t c
             (subst (λ (bs : List ℕ). CutInto (looked_at came) was.done bs) none cut),
         w,
         was.counted,
-        writes m H s before after was.done was.text new was.so_far t.settings_stay was.appends,
+        writes m H s before after was.done was.text new was.so_far t.kept.0 was.appends,
       );
   read = λ e. absurd (cc);
   write = λ e. absurd (cc);
-  settings_stay = t.settings_stay;
-  names_stay = t.names_stay;
+  kept = t.kept;
 }
 
 -- the last line lacks its line feed
 pub ends_with_rest : (m : MemberValue) (before mid after : Option (List ℕ)) (old counts later : Counts) (bytes here : List ℕ)
     (number : ℕ) (new newer : MemberValue) (is_whole : Bool)
     → IsReplaying m before mid old counts bytes here number new → ¬ Contains here 10 → 0 < length here
-    → is_whole ≡ true → newer.settings ≡ new.settings → newer.names ≡ new.names
+    → is_whole ≡ true → KeepsStation new newer
     → ((L : List Timed) → StandsOver new L → WritesLine new L (number + 1) here newer mid after)
     → EndsReplay m newer bytes is_whole before after old later (Ok (number + 1))
-ends_with_rest m before mid after old counts later bytes here number new newer is_whole t clear some whole_input settings names w = record {
+ends_with_rest m before mid after old counts later bytes here number new newer is_whole t clear some whole_input kept w = record {
   replays = λ came left is whole H s.
       let L = live m.settings s.sayings in
       let was = t.turn L s.over in
@@ -253,31 +250,30 @@ ends_with_rest m before mid after old counts later bytes here number new newer i
       let wrote = w (live_from m.settings L was.so_far.sayings) was.so_far.stands in
       let at = plus_one number (length was.done) was.counted in
       let all : with_rest was.done here ≡ was.done ++ here ∷ [] = with_rest_some was.done here some in
-      let now = with_line m L was.done here was.text new newer was.so_far t.settings_stay t.names_stay (number + 1) at wrote.text wrote.acted in (
+      let now = with_line m L was.done here was.text new newer was.so_far t.kept (number + 1) at wrote.text wrote.acted in (
         was.done,
         here,
         subst (λ (bs : List ℕ). CutInto bs was.done here) (whole_is came left input) cut,
         input,
         at ∙ sym (ap length all ∙ length-append was.done (here ∷ [])),
         subst (λ (ls : List (List ℕ)). Writes m H L ls newer before after) (sym all)
-            (writes m H s before after (was.done ++ here ∷ []) (was.text ++ wrote.text) newer now (settings ∙ t.settings_stay)
+            (writes m H s before after (was.done ++ here ∷ []) (was.text ++ wrote.text) newer now (kept.0 ∙ t.kept.0)
             (Appends-more before mid after was.text wrote.text was.appends wrote.written)),
       );
   read = λ e. absurd (cc);
   write = λ e. absurd (cc);
-  settings_stay = settings ∙ t.settings_stay;
-  names_stay = names ∙ t.names_stay;
+  kept = kept_on m new newer t.kept kept;
 }
 
 -- the replay ended at the last line, which lacks its line feed
 pub ends_at_rest : (m : MemberValue) (before mid after : Option (List ℕ)) (old counts later : Counts) (bytes here : List ℕ)
     (number : ℕ) (new newer : MemberValue) (is_whole : Bool) (fault : ReplayFault)
     → IsReplaying m before mid old counts bytes here number new → ¬ Contains here 10 → 0 < length here
-    → is_whole ≡ true → newer.settings ≡ new.settings → newer.names ≡ new.names
+    → is_whole ≡ true → KeepsStation new newer
     → ((L : List Timed) → StandsOver new L → StopsAt new L (number + 1) here newer mid after fault)
     → fault ≢ Read → (fault ≡ Write → ShowsWriteFault counts later)
     → EndsReplay m newer bytes is_whole before after old later (Err fault)
-ends_at_rest m before mid after old counts later bytes here number new newer is_whole fault t clear some whole_input settings names stops unread why = record {
+ends_at_rest m before mid after old counts later bytes here number new newer is_whole fault t clear some whole_input kept stops unread why = record {
   replays = λ came left is whole_if H s.
       let L = live m.settings s.sayings in
       let was = t.turn L s.over in
@@ -286,12 +282,11 @@ ends_at_rest m before mid after old counts later bytes here number new newer is_
       subst (λ (ls : List (List ℕ)). AreLines came left ls) (with_rest_some was.done here some)
       (whole was.done here cut (whole_if whole_input)) in
       ends_at m H s came left before mid after was.done [] here was.text new newer (number + 1) was.so_far
-      t.settings_stay t.names_stay (settings ∙ t.settings_stay) was.appends (plus_one number (length was.done) was.counted) are fault
+      t.kept (kept.0 ∙ t.kept.0) was.appends (plus_one number (length was.done) was.counted) are fault
       (stops (live_from m.settings L was.so_far.sayings) was.so_far.stands);
   read = λ e. let same : fault ≡ Read = cc in absurd (unread same);
   write = λ e. let same : fault ≡ Write = cc in fails_from old counts later t.grow (why same);
-  settings_stay = settings ∙ t.settings_stay;
-  names_stay = names ∙ t.names_stay;
+  kept = kept_on m new newer t.kept kept;
 }
 
 -- the input couldn't be held

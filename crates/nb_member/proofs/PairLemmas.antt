@@ -12,36 +12,35 @@ use Rattle.nb_member.specs.Live.{Saying}
 use Rattle.nb_member.proofs.AgreementLemmas.{BothDid}
 
 -- each hands over the datagram of a key once
-pub each_once : (settings : Settings) (names_a names_b : List NetbiosName) (events_a events_b : List Event) (pair : Pair) (S T : List Saying)
+pub each_once : {settings : Settings} {names_a names_b : List NetbiosName} {events_a events_b : List Event} {pair : Pair} {S T : List Saying}
     → BothDid settings names_a names_b events_a events_b pair S T
     → HandsOverOnce names_a (valid_cores S) (deliveries settings names_a [] S)
     → HandsOverOnce names_b (valid_cores S) (deliveries settings names_b [] T)
     → HandsOverOnce names_a (valid_cores S) pair.report_a.deliveries
     × HandsOverOnce names_b (valid_cores S) pair.report_b.deliveries
-each_once settings names_a names_b events_a events_b pair S T did here there = (
-  subst (λ (ds : List DatagramParts). HandsOverOnce names_a (valid_cores S) ds) (sym did.a.deliveries_are) here,
-  subst (λ (ds : List DatagramParts). HandsOverOnce names_b (valid_cores S) ds) (sym did.b.deliveries_are) there,
+each_once {names_a = names_a} {names_b = names_b} {S = S} did here there = (
+  subst (HandsOverOnce names_a (valid_cores S)) (sym did.a.deliveries_are) here,
+  subst (HandsOverOnce names_b (valid_cores S)) (sym did.b.deliveries_are) there,
 )
 
 -- what both hear is the same
-pub both_same : (settings : Settings) (names_a names_b : List NetbiosName) (events_a events_b : List Event) (pair : Pair) (S T : List Saying)
+pub both_same : {settings : Settings} {names_a names_b : List NetbiosName} {events_a events_b : List Event} {pair : Pair} {S T : List Saying}
     → BothDid settings names_a names_b events_a events_b pair S T
     → HandOverTheSame names_a names_b (valid_cores S) (deliveries settings names_a [] S) (deliveries settings names_b [] T)
     → HandOverTheSame names_a names_b (valid_cores S) pair.report_a.deliveries pair.report_b.deliveries
-both_same settings names_a names_b events_a events_b pair S T did told =
+both_same {settings = settings} {names_a = names_a} {names_b = names_b} {pair = pair} {S = S} did told =
     subst (λ (ds : List DatagramParts). HandOverTheSame names_a names_b (valid_cores S) ds pair.report_b.deliveries)
     (sym did.a.deliveries_are)
-    (subst (λ (es : List DatagramParts). HandOverTheSame names_a names_b (valid_cores S) (deliveries settings names_a [] S) es)
-    (sym did.b.deliveries_are) told)
+    (subst (HandOverTheSame names_a names_b (valid_cores S) (deliveries settings names_a [] S)) (sym did.b.deliveries_are) told)
 
 -- and it is the sender's
-pub both_senders : (settings : Settings) (names_a names_b : List NetbiosName) (events_a events_b : List Event) (pair : Pair) (S T : List Saying)
+pub both_senders : {settings : Settings} {names_a names_b : List NetbiosName} {events_a events_b : List Event} {pair : Pair} {S T : List Saying}
     → BothDid settings names_a names_b events_a events_b pair S T
     → HandsOverTheSenders names_a (valid_cores S) (deliveries settings names_a [] S)
     → HandsOverTheSenders names_b (valid_cores S) (deliveries settings names_b [] T)
     → HandsOverTheSenders names_a (valid_cores S) pair.report_a.deliveries
     × HandsOverTheSenders names_b (valid_cores S) pair.report_b.deliveries
-both_senders settings names_a names_b events_a events_b pair S T did here there = (
-  subst (λ (ds : List DatagramParts). HandsOverTheSenders names_a (valid_cores S) ds) (sym did.a.deliveries_are) here,
-  subst (λ (ds : List DatagramParts). HandsOverTheSenders names_b (valid_cores S) ds) (sym did.b.deliveries_are) there,
+both_senders {names_a = names_a} {names_b = names_b} {S = S} did here there = (
+  subst (HandsOverTheSenders names_a (valid_cores S)) (sym did.a.deliveries_are) here,
+  subst (HandsOverTheSenders names_b (valid_cores S)) (sym did.b.deliveries_are) there,
 )

@@ -9,6 +9,7 @@ use Rattle.nb_names.specs.Name.{NetbiosName}
 use Rattle.nb_member.specs.declared.event.Event.{Event}
 use Rattle.nb_member.specs.declared.settings.Settings.{Settings}
 use Rattle.nb_member.specs.Acting.{HasActed, WritesLine}
+use Rattle.nb_member.specs.Code.Station.{KeepsStation}
 use Rattle.nb_member.specs.Devices.{GrowTo}
 use Rattle.nb_member.specs.Lines.{CutInto, line}
 use Rattle.nb_member.specs.Live.{Saying, clock, Timed, live_after, live_from, live}
@@ -48,6 +49,10 @@ told settings names n L _ _ _ _ (tick l now p) =
 
 -- ---- what was acted on
 
+-- what is kept twice is kept
+pub kept_on : (m new newer : MemberValue) → KeepsStation m new → KeepsStation new newer → KeepsStation m newer
+kept_on m new newer before kept = (kept.0 ∙ before.0, kept.1 ∙ before.1)
+
 -- SoFar m L done text new: these lines were acted on, and text is their report
 pub record SoFar (m : MemberValue) (L : List Timed) (done : List (List ℕ)) (text : List ℕ) (new : MemberValue) : Type 0 where
   pub events : List Event
@@ -64,20 +69,20 @@ live_both settings L S T = fold-append (live_after settings) L S T
 
 -- the member's line, said of the one that it was
 acts_as : (m new : MemberValue) (n : ℕ) (L : List Timed) (l : List ℕ) (events : List Event) (text : List ℕ) (after : List Timed)
-    → new.settings ≡ m.settings → new.names ≡ m.names → Acts new.settings new.names n L l events text after
+    → KeepsStation m new → Acts new.settings new.names n L l events text after
     → Acts m.settings m.names n L l events text after
-acts_as m new n L l events text after same_settings same_names a =
-    subst (λ (x : List NetbiosName). Acts m.settings x n L l events text after) same_names
-    (subst (λ (x : Settings). Acts x new.names n L l events text after) same_settings a)
+acts_as m new n L l events text after kept a =
+    subst (λ (x : List NetbiosName). Acts m.settings x n L l events text after) kept.1
+    (subst (λ (x : Settings). Acts x new.names n L l events text after) kept.0 a)
 
 -- one line more
 pub with_line : (m : MemberValue) (L : List Timed) (done : List (List ℕ)) (l before : List ℕ)
-    (new newer : MemberValue) (t : SoFar m L done before new) → new.settings ≡ m.settings → new.names ≡ m.names
+    (new newer : MemberValue) (t : SoFar m L done before new) → KeepsStation m new
     → (number : ℕ) → number ≡ length done + 1 → (text : List ℕ) → HasActed new (live_from m.settings L t.sayings) number l newer text
     → SoFar m L (done ++ l ∷ []) (before ++ text) newer
-with_line m L done l before new newer t same_settings same_names number at text a =
+with_line m L done l before new newer t kept number at text a =
     let now = live_from m.settings L t.sayings in
-    let acts = acts_as m new (length done + 1) now l a.events text a.live same_settings same_names
+    let acts = acts_as m new (length done + 1) now l a.events text a.live kept
     (subst (λ (n : ℕ). Acts new.settings new.names n now l a.events text a.live) at a.acts) in
     let said = told m.settings m.names (length done + 1) now l a.events text a.live acts in
     let lives : live_from m.settings L (t.sayings ++ said.sayings) ≡ a.live =
@@ -137,8 +142,7 @@ pub record Turn (m : MemberValue) (L : List Timed) (before after : Option (List 
 pub record IsReplaying (m : MemberValue) (before after : Option (List ℕ)) (old counts : Counts) (bytes here : List ℕ) (number : ℕ) (new : MemberValue) : Type 0 where
   pub turn : (L : List Timed) → StandsOver m L → Turn m L before after bytes here number new
   pub within : number + length here ≤ length bytes
-  pub settings_stay : new.settings ≡ m.settings
-  pub names_stay : new.names ≡ m.names
+  pub kept : KeepsStation m new
   pub grow : GrowTo old counts
 
 pub nothing_yet : (m : MemberValue) (L : List Timed) → StandsOver m L → SoFar m L [] [] m
@@ -163,19 +167,18 @@ first_turn m before counts bytes = record {
     appends = Appends-nil before;
   };
   within = omega arith;
-  settings_stay = refl;
-  names_stay = refl;
+  kept = (refl, refl);
   grow = record { empty = omega arith; interrupted = omega arith; failed = omega arith };
 }
 
 -- behind one more line
 pub next_turn : (m : MemberValue) (before mid after : Option (List ℕ)) (old counts later : Counts) (bytes here there l : List ℕ)
     (number : ℕ) (new newer : MemberValue) → IsReplaying m before mid old counts bytes here number new
-    → here ≡ l ++ 10 ∷ there → ¬ Contains l 10 → newer.settings ≡ new.settings → newer.names ≡ new.names
+    → here ≡ l ++ 10 ∷ there → ¬ Contains l 10 → KeepsStation new newer
     → GrowTo counts later
     → ((L : List Timed) → StandsOver new L → WritesLine new L (number + 1) l newer mid after)
     → IsReplaying m before after old later bytes there (number + 1) newer
-next_turn m before mid after old counts later bytes here there l number new newer t parts clear settings names grow w =
+next_turn m before mid after old counts later bytes here there l number new newer t parts clear kept grow w =
     let size : length here ≡ length l + (1 + length there) = ap length parts ∙ (length-append l (10 ∷ there) ∙ omega arith) in
     record {
       turn = λ L s.
@@ -190,11 +193,10 @@ next_turn m before mid after old counts later bytes here there l number new newe
             cut = λ more left c.
                 subst (λ (ls : List (List ℕ)). CutInto bytes ls left) (sym (append_assoc was.done (l ∷ []) more))
                 (was.cut (l ∷ more) left (subst (λ (bs : List ℕ). CutInto bs (l ∷ more) left) (sym parts) (line l there left more clear c)));
-            so_far = with_line m L was.done l was.text new newer f t.settings_stay t.names_stay (number + 1) at wrote.text wrote.acted;
+            so_far = with_line m L was.done l was.text new newer f t.kept (number + 1) at wrote.text wrote.acted;
             appends = Appends-more before mid after was.text wrote.text was.appends wrote.written;
           };
       within = omega (arith, t.within, size);
-      settings_stay = settings ∙ t.settings_stay;
-      names_stay = names ∙ t.names_stay;
+      kept = kept_on m new newer t.kept kept;
       grow = grows_on old counts later t.grow grow;
     }

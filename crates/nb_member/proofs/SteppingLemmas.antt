@@ -18,6 +18,7 @@ use Rattle.nb_member.specs.declared.run_report.RunReport.{RunReport}
 use Rattle.nb_member.specs.declared.run_report.RunStop.{RunStop}
 use Rattle.nb_member.specs.declared.run_report.RunStop.TheVariants.{Full, NoMemory}
 use Rattle.nb_member.specs.declared.settings.Settings.{Settings}
+use Rattle.nb_member.specs.Code.Station.{KeepsStation}
 use Rattle.nb_member.specs.Answering.{Answers, Does, delivery_in, error_in}
 use Rattle.nb_member.specs.Handed.{made_by, errors_by}
 use Rattle.nb_member.specs.Hearing.{hears}
@@ -218,15 +219,15 @@ clock_step m new L now before after stands same d e = record {
 
 -- one more event
 pub one_more : (m : MemberValue) (L : List Timed) (E : List Event) (old new : MemberValue) (before after : HandedOut) (n more : ℕ)
-    (event : Event) (was : Bool) → old.settings ≡ m.settings → old.names ≡ m.names
+    (event : Event) (was : Bool) → KeepsStation m old
     → RanOver m L E old before.deliveries before.errors n
     → ((M : List Timed) → StandsOver old M → StepsTo old M event new before after (Ok was)) → more ≡ n + cond was 1 0
     → RanOver m L (E ++ event ∷ []) new after.deliveries after.errors more
-one_more m L E old new before after n more event was settings names ran step counts =
+one_more m L E old new before after n more event was kept ran step counts =
     let M = live_from m.settings L ran.sayings in
     let P : Settings → Type 0 = λ s. HasTaken s old.names M event new before after was in
     let Q : List NetbiosName → Type 0 = λ ns. HasTaken m.settings ns M event new before after was in
-    let t : HasTaken m.settings m.names M event new before after was = subst Q names (subst P settings (step M ran.over)) in
+    let t : HasTaken m.settings m.names M event new before after was = subst Q kept.1 (subst P kept.0 (step M ran.over)) in
     let R : List DatagramParts → Type 0 =
     λ ds. RanOver m L (E ++ event ∷ []) new ds (before.errors ++ errors_by m.settings m.names M t.said) (n + cond was 1 0) in
     let S : List ErrorPacket → Type 0 = λ es. RanOver m L (E ++ event ∷ []) new after.deliveries es (n + cond was 1 0) in
@@ -245,16 +246,14 @@ next_event events i event h is =
 
 -- RunSoFar m events i new out n: the first i events were taken
 pub record RunSoFar (m : MemberValue) (events : List Event) (i : ℕ) (new : MemberValue) (out : HandedOut) (n : ℕ) : Type 0 where
-  pub settings_stay : new.settings ≡ m.settings
-  pub names_stay : new.names ≡ m.names
+  pub kept : KeepsStation m new
   pub few : n ≤ i
   pub ran : (L : List Timed) → StandsOver m L → RanOver m L (take i events) new out.deliveries out.errors n
 
 pub none_so_far : (m : MemberValue) (events : List Event) (out : HandedOut) → out.deliveries ≡ [] → out.errors ≡ []
     → RunSoFar m events 0 m out 0
 none_so_far m events out d e = record {
-  settings_stay = refl;
-  names_stay = refl;
+  kept = (refl, refl);
   few = omega arith;
   ran = λ L s.
       let P : List DatagramParts → Type 0 = λ ds. RanOver m L [] m ds out.errors 0 in
@@ -269,16 +268,15 @@ at_most_one false = omega arith
 -- one more event was taken
 pub so_far_more : (m : MemberValue) (events : List Event) (i : ℕ) (event : Event) (old new : MemberValue)
     (before after : HandedOut) (n more : ℕ) (was : Bool) → i < length events → event ≡ get_or events i event
-    → RunSoFar m events i old before n → new.settings ≡ old.settings → new.names ≡ old.names
+    → RunSoFar m events i old before n → KeepsStation old new
     → ((M : List Timed) → StandsOver old M → StepsTo old M event new before after (Ok was)) → more ≡ n + cond was 1 0
     → RunSoFar m events (i + 1) new after more
-so_far_more m events i event old new before after n more was h is so_far settings names step counts = record {
-  settings_stay = settings ∙ so_far.settings_stay;
-  names_stay = names ∙ so_far.names_stay;
+so_far_more m events i event old new before after n more was h is so_far kept step counts = record {
+  kept = (kept.0 ∙ so_far.kept.0, kept.1 ∙ so_far.kept.1);
   few = let few = so_far.few in let one = at_most_one was in omega (arith, few, one, counts);
   ran = λ L s.
       subst (λ (E : List Event). RanOver m L E new after.deliveries after.errors more) (sym (next_event events i event h is))
-      (one_more m L (take i events) old new before after n more event was so_far.settings_stay so_far.names_stay
+      (one_more m L (take i events) old new before after n more event was so_far.kept
       (so_far.ran L s) step counts);
 }
 
@@ -292,7 +290,7 @@ all_taken m events i new out n report so_far h is =
     take_all i events h ∙ sym (take_all (length events) events (omega arith)) in
     subst (λ (r : RunReport). Runs m events new r) (sym is)
     (runs_from m events new (record { deliveries = out.deliveries; errors = out.errors; taken = length events; refused = n; stop = None })
-    so_far.settings_stay so_far.names_stay (omega arith) (λ L s. (
+    so_far.kept.0 so_far.kept.1 (omega arith) (λ L s. (
       subst (λ (E : List Event). RanOver m L E new out.deliveries out.errors n) same (so_far.ran L s),
       drop_of_length-le events (omega arith),
     )))
@@ -329,14 +327,14 @@ stop_is settings M events i event NoMemory h is s =
 
 pub stopped_at : (m : MemberValue) (events : List Event) (i : ℕ) (event : Event) (old new : MemberValue)
     (before after : HandedOut) (n : ℕ) (stop : RunStop) (report : RunReport) → i < length events
-    → event ≡ get_or events i event → RunSoFar m events i old before n → new.settings ≡ old.settings
-    → new.names ≡ old.names → ((M : List Timed) → StandsOver old M → StepsTo old M event new before after (Err stop))
+    → event ≡ get_or events i event → RunSoFar m events i old before n → KeepsStation old new
+    → ((M : List Timed) → StandsOver old M → StepsTo old M event new before after (Err stop))
     → report ≡ record { deliveries = after.deliveries; errors = after.errors; taken = i; refused = n; stop = Some stop }
     → Runs m events new report
-stopped_at m events i event old new before after n stop report h is so_far settings names step told =
+stopped_at m events i event old new before after n stop report h is so_far kept step told =
     subst (λ (r : RunReport). Runs m events new r) (sym told)
     (runs_from m events new (record { deliveries = after.deliveries; errors = after.errors; taken = i; refused = n; stop = Some stop })
-    (settings ∙ so_far.settings_stay) (names ∙ so_far.names_stay) (omega (arith, h)) (λ L s.
+    (kept.0 ∙ so_far.kept.0) (kept.1 ∙ so_far.kept.1) (omega (arith, h)) (λ L s.
     let r = so_far.ran L s in
     let M = live_from m.settings L r.sayings in
     let t = step M r.over in
@@ -350,5 +348,5 @@ stopped_at m events i event old new before after n stop report h is so_far setti
         refused_are = r.refused_are;
         has_room = r.has_room;
       },
-      stop_is m.settings M events i event stop h is (subst P so_far.settings_stay t.0),
+      stop_is m.settings M events i event stop h is (subst P so_far.kept.0 t.0),
     )))

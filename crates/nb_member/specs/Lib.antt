@@ -20,3 +20,4 @@ pub mod ReportTexts
 pub mod Report
 pub mod Acting
 pub mod Replaying
+pub mod Code

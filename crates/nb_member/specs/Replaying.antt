@@ -6,6 +6,7 @@ use Rattle.nb_member.specs.declared.limits.TheConstants.{MAX_INPUT, MAX_LINE}
 use Rattle.nb_member.specs.declared.replay_fault.ReplayFault.{ReplayFault}
 use Rattle.nb_member.specs.declared.replay_fault.ReplayFault.TheVariants.{Line, Read, Write, NoMemory}
 use Rattle.nb_member.specs.Capture.{IsMalformed}
+use Rattle.nb_member.specs.Code.Station.{KeepsStation}
 use Rattle.nb_names.specs.Counted.{Counts}
 use Rattle.nb_member.specs.Devices.{ShowsWriteFault}
 use Rattle.nb_member.specs.Lines.{CutInto, with_rest}
@@ -97,5 +98,4 @@ pub record EndsReplay (m new : MemberValue) (bytes : List ℕ) (is_whole : Bool)
       → Replays m H (live m.settings s.sayings) came left new before after result
   pub read : result ≡ Err Read → is_whole ≡ false
   pub write : result ≡ Err Write → ShowsWriteFault old counts
-  pub settings_stay : new.settings ≡ m.settings
-  pub names_stay : new.names ≡ m.names
+  pub kept : KeepsStation m new

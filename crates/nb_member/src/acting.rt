@@ -1,6 +1,7 @@
 //! What a member does with one line of a capture.
 ghost use Rattle.std.specs.Prelude.{◌≡◌, ◌≢◌, List, true, false, Err, IfErr, IfOk, OnErr, string_bytes};
 ghost use Rattle.nb_member.specs.Acting.{HasActed, HasActedOn, MayHaveActedOn, EndsAt};
+ghost use Rattle.nb_member.specs.Code.Station.{KeepsStation};
 ghost use Rattle.nb_member.specs.Live.{Timed};
 ghost use Rattle.nb_member.specs.Member.{StandsOver};
 
@@ -36,8 +37,7 @@ pub fn act_on(
         EndsAt member.old L number line.now member.new fault) }
     ensures no_device { IfErr result (λ fault.
         (fault ≢ ReplayFault.Read) × (fault ≢ ReplayFault.Write)) }
-    ensures settings { member.new.settings ≡ member.old.settings }
-    ensures names { member.new.names ≡ member.old.names }
+    ensures kept { KeepsStation member.old member.new }
 {
     match capture_line(alloc, line) {
         Ok(None) => Ok(String::new(alloc)),
@@ -57,8 +57,7 @@ fn act(alloc: Global, number: u64, said: &Line, member: &mut Member) -> Result<S
         HasActedOn member.old L number said.now member.new (string_bytes text)) }
     ensures fault { OnErr result ((L : List Timed) → StandsOver member.old L →
         MayHaveActedOn member.old L number said.now member.new) }
-    ensures settings { member.new.settings ≡ member.old.settings }
-    ensures names { member.new.names ≡ member.old.names }
+    ensures kept { KeepsStation member.old member.new }
 {
     match said {
         Line::Tick { now } => look(alloc, number, *now, member),
@@ -84,8 +83,7 @@ fn receive(
         (string_bytes text)) }
     ensures fault { OnErr result ((L : List Timed) → StandsOver member.old L →
         MayHaveActedOn member.old L number (Line.Packet port moment payload.now) member.new) }
-    ensures settings { member.new.settings ≡ member.old.settings }
-    ensures names { member.new.names ≡ member.old.names }
+    ensures kept { KeepsStation member.old member.new }
 {
     if port != 138 {
         return passed_line(alloc, number);
@@ -99,8 +97,7 @@ fn look(alloc: Global, number: u64, now: u64, member: &mut Member) -> Result<Str
         HasActedOn member.old L number (Line.Tick now) member.new (string_bytes text)) }
     ensures fault { OnErr result ((L : List Timed) → StandsOver member.old L →
         MayHaveActedOn member.old L number (Line.Tick now) member.new) }
-    ensures settings { member.new.settings ≡ member.old.settings }
-    ensures names { member.new.names ≡ member.old.names }
+    ensures kept { KeepsStation member.old member.new }
 {
     laws::a_member_drops_what_the_clock_ends();
     dropped_line(alloc, number, member.tick(now))
@@ -119,8 +116,7 @@ fn take(
         (string_bytes text)) }
     ensures fault { OnErr result ((L : List Timed) → StandsOver member.old L →
         MayHaveActedOn member.old L number (Line.Packet 138 moment payload.now) member.new) }
-    ensures settings { member.new.settings ≡ member.old.settings }
-    ensures names { member.new.names ≡ member.old.names }
+    ensures kept { KeepsStation member.old member.new }
 {
     laws::a_member_does_what_is_said();
     let taken = member.take(moment, payload);

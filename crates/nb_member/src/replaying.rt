@@ -4,6 +4,7 @@ ghost use Rattle.std.specs.Io.KnownBytes.{Consumes};
 ghost use Rattle.nb_member.specs.declared.event.Event.{Event};
 ghost use Rattle.nb_member.specs.declared.limits.TheConstants.{MAX_INPUT};
 ghost use Rattle.nb_member.specs.Acting.{StopsAt, WritesLine};
+ghost use Rattle.nb_member.specs.Code.Station.{KeepsStation};
 ghost use Rattle.nb_member.specs.Devices.{GrowTo, ShowsUnread, ShowsWriteFault};
 ghost use Rattle.nb_member.specs.Live.{Timed, live};
 ghost use Rattle.nb_member.specs.Member.{StandsOver};
@@ -139,8 +140,7 @@ fn replay_line<W: Write>(
     ensures why { IfErr result (λ fault. fault ≡ ReplayFault.Write →
         ShowsWriteFault writer.old.counts writer.new.counts) }
     ensures grow { GrowTo writer.old.counts writer.new.counts }
-    ensures settings { member.new.settings ≡ member.old.settings }
-    ensures names { member.new.names ≡ member.old.names }
+    ensures kept { KeepsStation member.old member.new }
 {
     let text = act_on(alloc, number, line, member)?;
     write_whole(writer, text.as_bytes())

@@ -3,6 +3,7 @@ ghost use Rattle.std.specs.Prelude.{◌≡◌, ◌<◌, ◌++◌, List, [], IsTr
 ghost use Rattle.std.specs.Option.{option_to_list};
 ghost use Rattle.nb_member.specs.declared.event.Event.TheVariants as event;
 ghost use Rattle.nb_member.specs.Answering.{delivery_in, error_in};
+ghost use Rattle.nb_member.specs.Code.Station.{KeepsStation};
 ghost use Rattle.nb_member.specs.Live.{Timed};
 ghost use Rattle.nb_member.specs.Member.{StandsOver};
 ghost use Rattle.nb_member.specs.Running.{Runs};
@@ -74,8 +75,7 @@ impl Log {
             (record { deliveries = self.old.deliveries.items; errors = self.old.errors.items })
             (record { deliveries = self.new.deliveries.items; errors = self.new.errors.items })
             result }
-        ensures settings { member.new.settings ≡ member.old.settings }
-        ensures names { member.new.names ≡ member.old.names }
+        ensures kept { KeepsStation member.old member.new }
     {
         a_member_drops_what_the_clock_ends();
         match event {
@@ -101,8 +101,7 @@ impl Log {
             (record { deliveries = self.old.deliveries.items; errors = self.old.errors.items })
             (record { deliveries = self.new.deliveries.items; errors = self.new.errors.items })
             result }
-        ensures settings { member.new.settings ≡ member.old.settings }
-        ensures names { member.new.names ≡ member.old.names }
+        ensures kept { KeepsStation member.old member.new }
     {
         a_member_does_what_is_said();
         an_answer_shows_what_is_handed_out();

@@ -1,4 +1,4 @@
-use Rattle.std.proofs.Common.{◌≡◌, List, ℕ, Result, string_bytes, subst, sym, ap, inl, inr}
+use Rattle.std.proofs.Common.{◌≡◌, List, ℕ, Result, string_bytes, subst, sym, inl, inr}
 use Rattle.std.proofs.lemmas.Result.{IfOk-weaker}
 use Rattle.nb_table.specs.declared.fault.TableFault.TheVariants.{NoMemory}
 use Rattle.nb_member.specs.declared.line.Line.TheVariants.{Packet}
@@ -7,7 +7,7 @@ use Rattle.nb_member.specs.declared.member_fault.MemberFault.TheVariants.{Table}
 use Rattle.nb_member.specs.declared.outcome.Outcome.{Outcome}
 use Rattle.nb_member.specs.Acting.{HasActed, HasActedOn}
 use Rattle.nb_member.specs.Live.{Timed}
-use Rattle.nb_member.specs.Member.{MemberValue, StandsOver}
+use Rattle.nb_member.specs.Member.{StandsOver}
 use Rattle.nb_member.specs.ReportTexts.{numbered, result_text}
 use Rattle.nb_member.specs.Taking.{Takes}
 use Rattle.nb_member.proofs.ActingLemmas.{took, always_on_err, taken_keeps}
@@ -23,25 +23,9 @@ returns-then-lacked_memory-clause-fault c =
     (subst (λ (r : Result Outcome MemberFault). Takes m moment payload new r) (c.lacked_memory.ensures.lacked c.if-lacked_memory.true) c.take-taken.ensures) in
     λ L s l h. inl same
 
-pub returns-then-lacked_memory-clause-settings : goal.returns-then-lacked_memory-clause-settings
-returns-then-lacked_memory-clause-settings c =
-    let m = c.args.member.now in
-    let new = c.take-taken.new.self in
-    let moment = c.args.moment in
-    let payload = c.args.payload.now in
-    let same = c.a_member_does_what_is_said.ensures.refused m new moment payload (Table NoMemory)
-    (subst (λ (r : Result Outcome MemberFault). Takes m moment payload new r) (c.lacked_memory.ensures.lacked c.if-lacked_memory.true) c.take-taken.ensures) in
-    ap (λ (x : MemberValue). x.settings) same
-
-pub returns-then-lacked_memory-clause-names : goal.returns-then-lacked_memory-clause-names
-returns-then-lacked_memory-clause-names c =
-    let m = c.args.member.now in
-    let new = c.take-taken.new.self in
-    let moment = c.args.moment in
-    let payload = c.args.payload.now in
-    let same = c.a_member_does_what_is_said.ensures.refused m new moment payload (Table NoMemory)
-    (subst (λ (r : Result Outcome MemberFault). Takes m moment payload new r) (c.lacked_memory.ensures.lacked c.if-lacked_memory.true) c.take-taken.ensures) in
-    ap (λ (x : MemberValue). x.names) same
+pub returns-then-lacked_memory-clause-kept : goal.returns-then-lacked_memory-clause-kept
+returns-then-lacked_memory-clause-kept c =
+    taken_keeps c.args.member.now c.args.moment c.args.payload.now c.take-taken.new.self c.take-taken.result c.take-taken.ensures
 
 pub returns-clause-acted : goal.returns-clause-acted
 returns-clause-acted c =
@@ -75,10 +59,6 @@ returns-clause-fault c =
     let does = law.does m new L moment payload result says.0 s says.1 c.take-taken.ensures (c.lacked_memory.ensures.had c.if-lacked_memory.false) in
     inr (numbered n (result_text result), took m L n moment payload new result says.0 l says.1 does h))
 
-pub returns-clause-settings : goal.returns-clause-settings
-returns-clause-settings c =
-    (taken_keeps c.args.member.now c.args.moment c.args.payload.now c.take-taken.new.self c.take-taken.result c.take-taken.ensures).0
-
-pub returns-clause-names : goal.returns-clause-names
-returns-clause-names c =
-    (taken_keeps c.args.member.now c.args.moment c.args.payload.now c.take-taken.new.self c.take-taken.result c.take-taken.ensures).1
+pub returns-clause-kept : goal.returns-clause-kept
+returns-clause-kept c =
+    taken_keeps c.args.member.now c.args.moment c.args.payload.now c.take-taken.new.self c.take-taken.result c.take-taken.ensures

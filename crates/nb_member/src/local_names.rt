@@ -112,9 +112,10 @@ impl LocalNames {
 
     /// Whether a station with these names hears the datagram. No memory is taken.
     ///
-    /// For a unique or a group name, that is where one of the names is the destination; for a
-    /// broadcast, where one has the destination's scope. RFC 1002 section 5.3; that the two types
-    /// of direct datagrams are heard alike is our choice.
+    /// A unique or group datagram is heard where one of the names is its destination, a broadcast
+    /// where one has its destination's scope. A member asks this of each datagram that becomes
+    /// whole; a station's program asks it where it has a datagram without a member. RFC 1002
+    /// section 5.3; that the two types of direct datagrams are heard alike is our choice.
     pub fn hears(&self, datagram: &Datagram) -> bool
         ensures value { result ≡ hears self.now datagram.now }
         ensures heard { IsTrue result ↔ Hears self.now datagram.now }

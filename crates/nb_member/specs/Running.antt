@@ -1,24 +1,17 @@
 -- What a run of events makes of a member, and what it reports (our choice).
-use Rattle.std.specs.Prelude.{⊤, ◌≡◌, ℕ, ◌+◌, ◌≤◌, true, List, [], ◌∷◌, ◌++◌, length, take, drop, Option, Some, None}
+use Rattle.std.specs.Prelude.{ℕ, ◌+◌, List, [], ◌∷◌, ◌≡◌, true, ⊤, Option, Some, None, take, drop, ◌≤◌, ◌++◌, length}
 use Rattle.nb_datagram.specs.declared.key.Key.{Key}
 use Rattle.nb_datagram.specs.Fragment.{FragmentParts}
 use Rattle.nb_member.specs.declared.event.Event.{Event}
+use Rattle.nb_member.specs.declared.settings.Settings.{Settings}
 use Rattle.nb_member.specs.declared.event.Event.TheVariants.{Packet, Tick}
-use Rattle.nb_member.specs.declared.run_report.RunReport.{RunReport}
 use Rattle.nb_member.specs.declared.run_report.RunStop.{RunStop}
 use Rattle.nb_member.specs.declared.run_report.RunStop.TheVariants.{Full, NoMemory}
-use Rattle.nb_member.specs.declared.settings.Settings.{Settings}
-use Rattle.nb_member.specs.Handed.{deliveries, errors}
-use Rattle.nb_member.specs.Live.{Saying, came, refused, another, clock, Timed, is_full, NoneFull, live_from, live}
-use Rattle.nb_member.specs.Member.{MemberValue, StandsOver}
-use Rattle.nb_member.specs.Saying.{Says, Say}
-
--- Stands m H: the member m stands for the events H: its table, and the moments of its keys, are those of
--- the fragments that are live after H
-pub record Stands (m : MemberValue) (H : List Event) : Type 0 where
-  pub sayings : List Saying
-  pub said : Say m.settings H sayings
-  pub over : StandsOver m (live m.settings sayings)
+use Rattle.nb_member.specs.declared.run_report.RunReport.{RunReport}
+use Rattle.nb_member.specs.Events.{Saying, came, refused, another, clock, Says, Say}
+use Rattle.nb_member.specs.Live.{Timed, is_full, NoneFull, live_from, live}
+use Rattle.nb_member.specs.Deliveries.{deliveries, errors}
+use Rattle.nb_member.specs.Member.{MemberValue, Stands}
 
 -- refused_count S: how many of the events that say S are refused
 abbrev pub refused_count : List Saying → ℕ

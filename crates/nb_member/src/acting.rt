@@ -1,7 +1,7 @@
 //! What a member does with one line of a capture.
 ghost use Rattle.std.specs.Prelude.{◌≡◌, ◌≢◌, List, true, false, Err, IfErr, IfOk, OnErr, string_bytes};
-ghost use Rattle.nb_member.specs.Acting.{HasActed, HasActedOn, MayHaveActedOn, EndsAt};
-ghost use Rattle.nb_member.specs.Code.Station.{KeepsStation};
+ghost use Rattle.nb_member.specs.Code.ReplayLines.{ReportsLine, ReportsValue, MayReportValue, HasNoReport};
+ghost use Rattle.nb_member.specs.Code.Members.{KeepsStation};
 ghost use Rattle.nb_member.specs.Live.{Timed};
 ghost use Rattle.nb_member.specs.Member.{StandsOver};
 
@@ -32,9 +32,9 @@ pub fn act_on(
     member: &mut Member,
 ) -> Result<String, ReplayFault>
     ensures acted { IfOk result (λ text. (L : List Timed) → StandsOver member.old L →
-        HasActed member.old L number line.now member.new (string_bytes text)) }
+        ReportsLine member.old L number line.now member.new (string_bytes text)) }
     ensures fault { IfErr result (λ fault. (L : List Timed) → StandsOver member.old L →
-        EndsAt member.old L number line.now member.new fault) }
+        HasNoReport member.old L number line.now member.new fault) }
     ensures no_device { IfErr result (λ fault.
         (fault ≢ ReplayFault.Read) × (fault ≢ ReplayFault.Write)) }
     ensures kept { KeepsStation member.old member.new }
@@ -54,9 +54,9 @@ pub fn act_on(
 /// [`NoMemory`] where memory ran out, before this was acted on or behind it.
 fn act(alloc: Global, number: u64, said: &Line, member: &mut Member) -> Result<String, NoMemory>
     ensures acted { IfOk result (λ text. (L : List Timed) → StandsOver member.old L →
-        HasActedOn member.old L number said.now member.new (string_bytes text)) }
+        ReportsValue member.old L number said.now member.new (string_bytes text)) }
     ensures fault { OnErr result ((L : List Timed) → StandsOver member.old L →
-        MayHaveActedOn member.old L number said.now member.new) }
+        MayReportValue member.old L number said.now member.new) }
     ensures kept { KeepsStation member.old member.new }
 {
     match said {
@@ -79,10 +79,10 @@ fn receive(
     member: &mut Member,
 ) -> Result<String, NoMemory>
     ensures acted { IfOk result (λ text. (L : List Timed) → StandsOver member.old L →
-        HasActedOn member.old L number (Line.Packet port moment payload.now) member.new
+        ReportsValue member.old L number (Line.Packet port moment payload.now) member.new
         (string_bytes text)) }
     ensures fault { OnErr result ((L : List Timed) → StandsOver member.old L →
-        MayHaveActedOn member.old L number (Line.Packet port moment payload.now) member.new) }
+        MayReportValue member.old L number (Line.Packet port moment payload.now) member.new) }
     ensures kept { KeepsStation member.old member.new }
 {
     if port != 138 {
@@ -94,9 +94,9 @@ fn receive(
 /// Looks at the clock.
 fn look(alloc: Global, number: u64, now: u64, member: &mut Member) -> Result<String, NoMemory>
     ensures acted { IfOk result (λ text. (L : List Timed) → StandsOver member.old L →
-        HasActedOn member.old L number (Line.Tick now) member.new (string_bytes text)) }
+        ReportsValue member.old L number (Line.Tick now) member.new (string_bytes text)) }
     ensures fault { OnErr result ((L : List Timed) → StandsOver member.old L →
-        MayHaveActedOn member.old L number (Line.Tick now) member.new) }
+        MayReportValue member.old L number (Line.Tick now) member.new) }
     ensures kept { KeepsStation member.old member.new }
 {
     laws::a_member_drops_what_the_clock_ends();
@@ -112,10 +112,10 @@ fn take(
     member: &mut Member,
 ) -> Result<String, NoMemory>
     ensures acted { IfOk result (λ text. (L : List Timed) → StandsOver member.old L →
-        HasActedOn member.old L number (Line.Packet 138 moment payload.now) member.new
+        ReportsValue member.old L number (Line.Packet 138 moment payload.now) member.new
         (string_bytes text)) }
     ensures fault { OnErr result ((L : List Timed) → StandsOver member.old L →
-        MayHaveActedOn member.old L number (Line.Packet 138 moment payload.now) member.new) }
+        MayReportValue member.old L number (Line.Packet 138 moment payload.now) member.new) }
     ensures kept { KeepsStation member.old member.new }
 {
     laws::a_member_does_what_is_said();

@@ -1,7 +1,6 @@
 //! The error packets that a member answers with.
 ghost use Rattle.std.specs.Prelude.{◌≡◌};
-ghost use Rattle.nb_member.specs.Hearing.{error_about, unheard};
-ghost use Rattle.nb_member.specs.Saying.{bad_name, refusal};
+ghost use Rattle.nb_member.specs.Hearing.{error_about, unheard, bad_name, refusal};
 
 use crate::settings::Settings;
 use nb_datagram::limits::HEADER_LENGTH;

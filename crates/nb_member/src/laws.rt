@@ -6,21 +6,19 @@ ghost use Rattle.nb_member.specs.declared.limits.TheConstants.{MAX_LINE, MAX_MOM
 ghost use Rattle.nb_member.specs.declared.line.Line.{Line};
 ghost use Rattle.nb_member.specs.declared.line_fault.LineFault.{LineFault};
 ghost use Rattle.nb_member.specs.declared.line_fault.LineFault.TheVariants.{BadLine, NoMemory};
-ghost use Rattle.nb_member.specs.Capture.{HasValue, SaysNothing, IsMalformed, Reads};
 ghost use Rattle.nb_member.specs.declared.settings.Settings.{Settings};
 ghost use Rattle.nb_member.specs.declared.event.Event.{Event};
 ghost use Rattle.nb_member.specs.declared.event.Event.TheVariants.{Packet};
 ghost use Rattle.nb_member.specs.declared.member_fault.MemberFault.{MemberFault};
 ghost use Rattle.nb_member.specs.declared.member_fault.MemberFault.TheVariants.{Table};
 ghost use Rattle.nb_member.specs.declared.outcome.Outcome.{Outcome};
-ghost use Rattle.nb_member.specs.Saying.{Says, Say};
-ghost use Rattle.nb_member.specs.Live.{Saying, Timed, clock, cores, HasRoom, NoneFull, live, live_after, table_from};
+ghost use Rattle.nb_member.specs.Capture.{HasValue, SaysNothing, IsMalformed, Reads};
+ghost use Rattle.nb_member.specs.Events.{Says, Say, Saying, clock};
+ghost use Rattle.nb_member.specs.Live.{Timed, cores, HasRoom, NoneFull, live, live_after, table_from};
 ghost use Rattle.nb_member.specs.Hearing.{hears};
-ghost use Rattle.nb_member.specs.Handed.{made_by, errors_by};
-ghost use Rattle.nb_member.specs.Member.{MemberValue, with_timed, StandsOver};
-ghost use Rattle.nb_member.specs.Taking.{Takes};
-ghost use Rattle.nb_member.specs.Timing.{after_clock};
-ghost use Rattle.nb_member.specs.Answering.{Answers, Does, delivery_in, error_in};
+ghost use Rattle.nb_member.specs.Deliveries.{made_by, errors_by, delivery_in, error_in};
+ghost use Rattle.nb_member.specs.Member.{MemberValue, with_timed, StandsOver, after_clock};
+ghost use Rattle.nb_member.specs.Taking.{Takes, Answers, Does};
 ghost use Rattle.nb_member.specs.Agreement.{valid, valid_cores, NoneDropped, GiveTheSame};
 
 mod cutting;

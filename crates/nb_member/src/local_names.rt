@@ -1,8 +1,7 @@
 //! The names of a station.
 ghost use Rattle.std.specs.Prelude.{◌≡◌, [], ◌≤◌, length, Contains, IsTrue, ◌↔◌};
-ghost use Rattle.nb_member.specs.Adding.{Adds};
 ghost use Rattle.nb_member.specs.declared.limits.TheConstants.{MAX_NAMES};
-ghost use Rattle.nb_member.specs.Hearing.{holds, holds_scope, hears, HoldsScope, Hears};
+ghost use Rattle.nb_member.specs.Hearing.{Adds, holds, holds_scope, hears, HoldsScope, Hears};
 
 use crate::limits::MAX_NAMES;
 use nb_datagram::{Datagram, Kind};

@@ -1,6 +1,5 @@
 //! Two members side by side.
-ghost use Rattle.nb_member.specs.Agreement.{valid_cores, AreGivenTheSame, StoppedForMemory, Agree};
-ghost use Rattle.nb_member.specs.HandedOver.{HandsOverOnce, HandOverTheSame, HandsOverTheSenders};
+ghost use Rattle.nb_member.specs.Agreement.{valid_cores, AreGivenTheSame, StoppedForMemory, Agree, HandsOverOnce, HandOverTheSame, HandsOverTheSenders};
 ghost use Rattle.nb_member.specs.Member.{new_member};
 ghost use Rattle.nb_member.specs.Running.{Runs};
 

@@ -3,13 +3,12 @@ ghost use Rattle.std.specs.Prelude.{◌≡◌, ◌≢◌, ◌≤◌, ℕ, List, 
 ghost use Rattle.std.specs.Io.KnownBytes.{Consumes};
 ghost use Rattle.nb_member.specs.declared.event.Event.{Event};
 ghost use Rattle.nb_member.specs.declared.limits.TheConstants.{MAX_INPUT};
-ghost use Rattle.nb_member.specs.Acting.{StopsAt, WritesLine};
-ghost use Rattle.nb_member.specs.Code.Station.{KeepsStation};
 ghost use Rattle.nb_member.specs.Devices.{GrowTo, ShowsUnread, ShowsWriteFault};
+ghost use Rattle.nb_member.specs.Code.ReplayLines.{HasNoWholeReport, WritesLine, EndsReplay};
+ghost use Rattle.nb_member.specs.Code.Members.{KeepsStation};
 ghost use Rattle.nb_member.specs.Live.{Timed, live};
-ghost use Rattle.nb_member.specs.Member.{StandsOver};
-ghost use Rattle.nb_member.specs.Replaying.{EndsReplay, Replays};
-ghost use Rattle.nb_member.specs.Running.{Stands};
+ghost use Rattle.nb_member.specs.Member.{StandsOver, Stands};
+ghost use Rattle.nb_member.specs.Replaying.{Replays};
 
 use crate::acting::act_on;
 use crate::input::read_input;
@@ -134,7 +133,7 @@ fn replay_line<W: Write>(
         WritesLine member.old L number line.now member.new
         (W.contents writer.old.inner) (W.contents writer.new.inner)) }
     ensures fault { IfErr result (λ fault. (L : List Timed) → StandsOver member.old L →
-        StopsAt member.old L number line.now member.new
+        HasNoWholeReport member.old L number line.now member.new
         (W.contents writer.old.inner) (W.contents writer.new.inner) fault) }
     ensures unread { IfErr result (λ fault. fault ≢ ReplayFault.Read) }
     ensures why { IfErr result (λ fault. fault ≡ ReplayFault.Write →

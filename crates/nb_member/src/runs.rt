@@ -2,12 +2,12 @@
 ghost use Rattle.std.specs.Prelude.{◌≡◌, ◌<◌, ◌++◌, List, [], IsTrue, vec_len, vec_capacity};
 ghost use Rattle.std.specs.Option.{option_to_list};
 ghost use Rattle.nb_member.specs.declared.event.Event.TheVariants as event;
-ghost use Rattle.nb_member.specs.Answering.{delivery_in, error_in};
-ghost use Rattle.nb_member.specs.Code.Station.{KeepsStation};
+ghost use Rattle.nb_member.specs.Deliveries.{delivery_in, error_in};
+ghost use Rattle.nb_member.specs.Code.Members.{KeepsStation};
 ghost use Rattle.nb_member.specs.Live.{Timed};
 ghost use Rattle.nb_member.specs.Member.{StandsOver};
 ghost use Rattle.nb_member.specs.Running.{Runs};
-ghost use Rattle.nb_member.specs.Stepping.{noted, stop_of, StepsTo};
+ghost use Rattle.nb_member.specs.Code.RunEvents.{noted, stop_of, RunsEvent};
 
 use crate::event::Event;
 use crate::laws::{
@@ -71,7 +71,7 @@ impl Log {
     /// stops before it.
     fn take(&mut self, member: &mut Member, event: &Event) -> Result<bool, RunStop>
         ensures step { (L : List Timed) → StandsOver member.old L →
-            StepsTo member.old L event.now member.new
+            RunsEvent member.old L event.now member.new
             (record { deliveries = self.old.deliveries.items; errors = self.old.errors.items })
             (record { deliveries = self.new.deliveries.items; errors = self.new.errors.items })
             result }
@@ -97,7 +97,7 @@ impl Log {
         payload: &[u8],
     ) -> Result<bool, RunStop>
         ensures step { (L : List Timed) → StandsOver member.old L →
-            StepsTo member.old L (event.Packet moment payload.now) member.new
+            RunsEvent member.old L (event.Packet moment payload.now) member.new
             (record { deliveries = self.old.deliveries.items; errors = self.old.errors.items })
             (record { deliveries = self.new.deliveries.items; errors = self.new.errors.items })
             result }

@@ -3,7 +3,7 @@ ghost use Rattle.std.specs.Prelude.{◌≡◌, false, IfOk, IfErr, OnOk, OnErr};
 ghost use Rattle.std.specs.FinMap as maps;
 ghost use Rattle.nb_table.specs.Change.{IsChange};
 ghost use Rattle.nb_table.specs.Insert.{Takes, Refuses};
-ghost use Rattle.nb_member.specs.Timing.{begun, after_fragment, after_clock};
+ghost use Rattle.nb_member.specs.Member.{begun, after_fragment, after_clock};
 
 mod merging;
 
@@ -22,7 +22,8 @@ pub struct TimedTable {
 }
 
 impl Model for TimedTable {
-    ghost use Rattle.nb_member.specs.Timing.{TimedValue, timed_code, HaveOneSetOfKeys};
+    ghost use Rattle.nb_member.specs.Member.{TimedValue};
+    ghost use Rattle.nb_member.specs.Code.Timers.{timed_code, HaveOneSetOfKeys};
 
     ghost Value = { TimedValue };
 

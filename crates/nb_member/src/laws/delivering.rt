@@ -13,11 +13,10 @@ ghost use Rattle.nb_table.specs.Contents.{table_of};
 ghost use Rattle.nb_table.specs.Whole.{IsWholeAt, datagram_at, newly_whole};
 ghost use Rattle.nb_member.specs.declared.settings.Settings.{Settings};
 ghost use Rattle.nb_member.specs.Hearing.{Hears};
-ghost use Rattle.nb_member.specs.Live.{Saying, Timed, live, live_from, table_from};
-ghost use Rattle.nb_member.specs.Handed.{made, deliveries};
-ghost use Rattle.nb_member.specs.Agreement.{valid_cores, NoneDropped, GiveTheSame};
-ghost use Rattle.nb_member.specs.HandedOver.{of_key, heard};
-ghost use Rattle.nb_member.specs.HandedOver.{HandsOverOnce, HandOverTheSame, HandsOverTheSenders};
+ghost use Rattle.nb_member.specs.Events.{Saying};
+ghost use Rattle.nb_member.specs.Live.{Timed, live, live_from, table_from};
+ghost use Rattle.nb_member.specs.Deliveries.{made, deliveries};
+ghost use Rattle.nb_member.specs.Agreement.{valid_cores, NoneDropped, GiveTheSame, of_key, heard, HandsOverOnce, HandOverTheSame, HandsOverTheSenders};
 
 use nb_table::laws::{
     all_parts_give_the_datagram, datagram_has_the_bytes_of_its_entry, parts_are_not_spoilt,

@@ -3,8 +3,7 @@ ghost use Rattle.std.specs.Prelude.{List};
 ghost use Rattle.std.specs.List.{AllByRecursion};
 ghost use Rattle.nb_member.specs.declared.event.Event.{Event};
 ghost use Rattle.nb_member.specs.declared.settings.Settings.{Settings};
-ghost use Rattle.nb_member.specs.Live.{Saying};
-ghost use Rattle.nb_member.specs.Saying.{HasBytes, Says, Say};
+ghost use Rattle.nb_member.specs.Events.{Saying, HasBytes, Says, Say};
 
 use nb_datagram::laws::packet_or_fault;
 

@@ -5,13 +5,13 @@ use Rattle.nb_member.specs.declared.line.Line.TheVariants.{Packet}
 use Rattle.nb_member.specs.declared.member_fault.MemberFault.{MemberFault}
 use Rattle.nb_member.specs.declared.member_fault.MemberFault.TheVariants.{Table}
 use Rattle.nb_member.specs.declared.outcome.Outcome.{Outcome}
-use Rattle.nb_member.specs.Acting.{HasActed, HasActedOn}
+use Rattle.nb_member.proofs.ReplayLemmas.LineReports.{took, always_on_err, taken_keeps}
+use Rattle.nb_member.proofs.acting.take.Goals as goal
+use Rattle.nb_member.specs.Code.ReplayLines.{ReportsLine, ReportsValue}
 use Rattle.nb_member.specs.Live.{Timed}
 use Rattle.nb_member.specs.Member.{StandsOver}
-use Rattle.nb_member.specs.ReportTexts.{numbered, result_text}
+use Rattle.nb_member.specs.Report.{numbered, result_text}
 use Rattle.nb_member.specs.Taking.{Takes}
-use Rattle.nb_member.proofs.ActingLemmas.{took, always_on_err, taken_keeps}
-use Rattle.nb_member.proofs.acting.take.Goals as goal
 
 pub returns-then-lacked_memory-clause-fault : goal.returns-then-lacked_memory-clause-fault
 returns-then-lacked_memory-clause-fault c =
@@ -37,11 +37,11 @@ returns-clause-acted c =
     let result = c.take-taken.result in
     let law = c.a_member_does_what_is_said.ensures in
     IfOk-weaker c.taken_line.result (λ text. string_bytes text ≡ numbered n (result_text result))
-    (λ text. (L : List Timed) → StandsOver m L → HasActedOn m L n (Packet 138 moment payload) new (string_bytes text))
+    (λ text. (L : List Timed) → StandsOver m L → ReportsValue m L n (Packet 138 moment payload) new (string_bytes text))
     (λ text is L s l h.
     let says = law.says m new L moment payload result s c.take-taken.ensures in
     let does = law.does m new L moment payload result says.0 s says.1 c.take-taken.ensures (c.lacked_memory.ensures.had c.if-lacked_memory.false) in
-    subst (λ (bytes : List ℕ). HasActed m L n l new bytes) (sym is) (took m L n moment payload new result says.0 l says.1 does h))
+    subst (λ (bytes : List ℕ). ReportsLine m L n l new bytes) (sym is) (took m L n moment payload new result says.0 l says.1 does h))
     c.taken_line.ensures
 
 pub returns-clause-fault : goal.returns-clause-fault

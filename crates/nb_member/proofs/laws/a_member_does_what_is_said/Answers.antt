@@ -1,5 +1,5 @@
-use Rattle.nb_member.proofs.SayingLemmas.{PacketsKnown}
-use Rattle.nb_member.proofs.StepLemmas.{told, does_what_is_said, room_where_no_memory, refused_keeps}
+use Rattle.nb_member.proofs.EventLemmas.OneSaying.{PacketsKnown}
+use Rattle.nb_member.proofs.TakingLemmas.Payloads.{told, does_what_is_said, room_where_no_memory, refused_keeps}
 use Rattle.nb_member.proofs.laws.a_member_does_what_is_said.Goals as goal
 
 pub returns-clause-says : goal.returns-clause-says

@@ -1,10 +1,10 @@
 use Rattle.std.proofs.Common.{Result, ℕ, Err, subst, sym, ◌∙◌, ap}
 use Rattle.std.proofs.lemmas.Result.{err_from_is_err_and}
 use Rattle.nb_member.specs.declared.replay_fault.ReplayFault.{ReplayFault}
+use Rattle.nb_member.proofs.ReplayLemmas.ReplayEnds.{ends_unheld, not_read}
+use Rattle.nb_member.proofs.replaying.replay.Goals as goal
 use Rattle.nb_member.specs.Live.{live}
 use Rattle.nb_member.specs.Replaying.{Replays}
-use Rattle.nb_member.proofs.EndingLemmas.{ends_unheld, not_read}
-use Rattle.nb_member.proofs.replaying.replay.Goals as goal
 
 pub returns-in_err-input-clause-replays : goal.returns-in_err-input-clause-replays
 returns-in_err-input-clause-replays g c =

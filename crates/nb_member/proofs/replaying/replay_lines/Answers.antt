@@ -1,7 +1,7 @@
 use Rattle.std.proofs.Common.{sym, ◌∙◌}
 use Rattle.std.proofs.lemmas.Result.{err_from_is_err_and}
-use Rattle.nb_member.proofs.ReplayLemmas.{first_turn, next_turn}
-use Rattle.nb_member.proofs.EndingLemmas.{no_bytes, some_bytes, ends_in_loop, ends_too_long, ends_unread, ends_with_line_feed, ends_with_rest, ends_at_rest}
+use Rattle.nb_member.proofs.ReplayLemmas.ReplaySoFar.{first_turn, next_turn}
+use Rattle.nb_member.proofs.ReplayLemmas.ReplayEnds.{no_bytes, some_bytes, ends_in_loop, ends_too_long, ends_unread, ends_with_line_feed, ends_with_rest, ends_at_rest}
 use Rattle.nb_member.proofs.replaying.replay_lines.Goals as goal
 
 pub loop-line-init : goal.loop-line-init

@@ -1,8 +1,8 @@
 use Rattle.std.proofs.Common.{◌≡◌, arith, sym, ap, ◌∙◌, ◌+◌, Bool, cond}
-use Rattle.nb_member.specs.Stepping.{HandedOut}
-use Rattle.nb_member.proofs.SteppingLemmas.{none_so_far, so_far_more, stopped_at, all_taken}
+use Rattle.nb_member.proofs.RunLemmas.OneEvent.{none_so_far, so_far_more, stopped_at, all_taken}
 use Rattle.nb_member.proofs.runs.run.Goals as goal
 use Rattle.nb_member.proofs.runs.run.Goals.{then-was_refused, else-was_refused}
+use Rattle.nb_member.specs.Code.RunEvents.{HandedOut}
 
 pub loop-index-init : goal.loop-index-init
 loop-index-init c =

@@ -1,4 +1,4 @@
-use Rattle.nb_member.proofs.CuttingLemmas.{any_cut, one_cut}
+use Rattle.nb_member.proofs.CaptureLemmas.CutLines.{any_cut, one_cut}
 use Rattle.nb_member.proofs.laws.cutting.bytes_are_cut_in_one_way.Goals as goal
 
 pub returns-clause-cut : goal.returns-clause-cut

@@ -1,8 +1,8 @@
 use Rattle.std.proofs.Common.{[]}
-use Rattle.nb_member.specs.Agreement.{valid_cores}
-use Rattle.nb_member.specs.Handed.{deliveries}
-use Rattle.nb_member.proofs.HandedOverLemmas.{senders}
+use Rattle.nb_member.proofs.AgreementLemmas.SameDeliveries.{senders}
 use Rattle.nb_member.proofs.laws.delivering.a_senders_datagram_is_handed_over.Goals as goal
+use Rattle.nb_member.specs.Agreement.{valid_cores}
+use Rattle.nb_member.specs.Deliveries.{deliveries}
 
 pub returns-clause-here : goal.returns-clause-here
 returns-clause-here c = λ settings S T h names.

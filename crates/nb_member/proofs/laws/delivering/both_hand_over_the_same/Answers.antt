@@ -1,10 +1,10 @@
 use Rattle.std.proofs.Common.{[]}
-use Rattle.nb_member.specs.Agreement.{valid_cores}
-use Rattle.nb_member.specs.Handed.{deliveries}
-use Rattle.nb_member.proofs.LiveLemmas.{TablesKnown}
-use Rattle.nb_member.proofs.WholeKeysLemmas.{DatagramsKnown}
-use Rattle.nb_member.proofs.HandedOverLemmas.{first_once, second_once, the_same}
+use Rattle.nb_member.proofs.LiveLemmas.LiveTables.{TablesKnown}
+use Rattle.nb_member.proofs.DeliveryLemmas.WholeKeys.{DatagramsKnown}
+use Rattle.nb_member.proofs.AgreementLemmas.SameDeliveries.{first_once, second_once, the_same}
 use Rattle.nb_member.proofs.laws.delivering.both_hand_over_the_same.Goals as goal
+use Rattle.nb_member.specs.Agreement.{valid_cores}
+use Rattle.nb_member.specs.Deliveries.{deliveries}
 
 pub returns-clause-once : goal.returns-clause-once
 returns-clause-once c =

@@ -4,9 +4,9 @@ use Rattle.std.proofs.lemmas.Result.{err_from_is_err_and}
 use Rattle.nb_datagram.specs.declared.key.Key.{Key}
 use Rattle.nb_datagram.specs.Fragment.{core_of}
 use Rattle.nb_table.specs.Limits.{TableValue}
-use Rattle.nb_member.specs.Timing.{Moments, begun}
-use Rattle.nb_member.proofs.TimingLemmas.{one_set_after, new_needs_memory, table_restored}
+use Rattle.nb_member.proofs.MemberLemmas.Timers.{one_set_after, new_needs_memory, table_restored}
 use Rattle.nb_member.proofs.timed_table.TimedTable.insert.Goals as goal
+use Rattle.nb_member.specs.Member.{Moments, begun}
 
 pub returns-in_err-change-clause-refused : goal.returns-in_err-change-clause-refused
 returns-in_err-change-clause-refused c =

@@ -1,0 +1,7 @@
+-- Lines of captures, their words, and bytes cut into lines.
+pub mod Digits
+pub mod Words
+pub mod Moments
+pub mod Payloads
+pub mod LineValues
+pub mod CutLines

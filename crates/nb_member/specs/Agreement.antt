@@ -9,7 +9,7 @@ use Rattle.std.specs.FinMap as maps
 use Rattle.std.specs.Option.{option_to_list}
 use Rattle.nb_names.specs.Name.{NetbiosName}
 use Rattle.nb_datagram.specs.declared.key.Key.{Key}
-use Rattle.nb_datagram.specs.Fragment.{Core, core_of}
+use Rattle.nb_datagram.specs.Fragment.{Core}
 use Rattle.nb_datagram.specs.Key.{same_key}
 use Rattle.nb_datagram.specs.Datagram.{DatagramParts}
 use Rattle.nb_table.specs.Contents.{table_of}
@@ -23,7 +23,7 @@ use Rattle.nb_member.specs.declared.run_report.RunReport.{RunReport}
 use Rattle.nb_member.specs.declared.run_report.RunStop.TheVariants.{NoMemory}
 use Rattle.nb_member.specs.declared.pair.Pair.{Pair}
 use Rattle.nb_member.specs.Events.{Saying, came, refused, another, clock, Say}
-use Rattle.nb_member.specs.Live.{Timed, live_after}
+use Rattle.nb_member.specs.Live.{Timed, cores, live_after}
 use Rattle.nb_member.specs.Member.{contents}
 use Rattle.nb_member.specs.Hearing.{hears, Hears}
 
@@ -36,14 +36,6 @@ valid (came moment f ∷ S) = record { moment = moment; fragment = f } ∷ valid
 valid (refused fault ∷ S) = valid S
 valid (another ∷ S) = valid S
 valid (clock now ∷ S) = valid S
-
--- the cores of the valid fragments among S, in order
-abbrev pub valid_cores : List Saying → List Core
-valid_cores [] = []
-valid_cores (came moment f ∷ S) = core_of f ∷ valid_cores S
-valid_cores (refused fault ∷ S) = valid_cores S
-valid_cores (another ∷ S) = valid_cores S
-valid_cores (clock now ∷ S) = valid_cores S
 
 -- DropsNone settings L s: it is no look at the clock that drops a key, where L are live
 abbrev pub DropsNone : Settings → List Timed → Saying → Type 0
@@ -59,12 +51,12 @@ NoneDropped settings L (s ∷ S) = DropsNone settings L s × NoneDropped setting
 
 -- the valid fragments among S have at most as many keys as a table may hold
 abbrev pub IsWithinCapacity : Settings → List Saying → Type 0
-IsWithinCapacity settings S = maps.len (table_of (valid_cores S)) ≤ settings.keys
+IsWithinCapacity settings S = maps.len (table_of (cores (valid S))) ≤ settings.keys
 
 -- the two lists have the same valid fragments, whose keys are within the limit, and no look at the clock
 -- among either drops a key
 pub record GiveTheSame (settings : Settings) (S T : List Saying) : Type 0 where
-  pub same_fragments : SameCores (valid_cores S) (valid_cores T)
+  pub same_fragments : SameCores (cores (valid S)) (cores (valid T))
   pub within_capacity : IsWithinCapacity settings S
   pub none_dropped : NoneDropped settings [] S
   pub none_dropped_there : NoneDropped settings [] T

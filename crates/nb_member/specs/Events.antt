@@ -1,8 +1,9 @@
 -- What each event says to a member (RFC 1002 sections 4.4 and 5.3). Payloads are looked at as bytes only
 -- here, in Taking, and where Hearing has what is answered to a refused one.
 --
--- Our choice: a fragment is valid where its flag F is set exactly at offset 0 and it doesn't reach past the
--- longest datagram; the flag is judged first. What follows a packet is left unread.
+-- Our choice: a fragment is valid where it passes the limits of the member's table, as nb_table's Insert has
+-- them: its flag F is set exactly at offset 0, and it doesn't reach past the longest datagram. The flag is
+-- judged first. What follows a packet is left unread.
 use Rattle.std.specs.Prelude.{ℕ, ◌≡◌, ◌==◌, ◌≤◌, ◌<◌, List, [], ◌∷◌}
 use Rattle.nb_names.specs.DomainName.{AreBytes}
 use Rattle.nb_datagram.specs.declared.fault.DatagramFault.{DatagramFault}
@@ -14,7 +15,7 @@ use Rattle.nb_datagram.specs.Packet.{IsPacket}
 use Rattle.nb_datagram.specs.DatagramFaults.{PacketFails}
 use Rattle.nb_table.specs.declared.fault.TableFault.TheVariants.{MisplacedFirst, TooLong}
 use Rattle.nb_table.specs.Limits.{Limits}
-use Rattle.nb_table.specs.Insert.{IsMisplaced}
+use Rattle.nb_table.specs.Insert.{IsMisplaced, Passes}
 use Rattle.nb_member.specs.declared.member_fault.MemberFault.{MemberFault}
 use Rattle.nb_member.specs.declared.settings.Settings.{Settings}
 use Rattle.nb_member.specs.declared.event.Event.{Event}
@@ -34,15 +35,10 @@ pub data Saying : Type 0 where
 abbrev pub limits_of : Settings → Limits
 limits_of settings = record { keys = settings.keys; longest = settings.longest }
 
--- the fragment is valid, where a datagram may have so many bytes
-pub record IsValid (longest : ℕ) (f : FragmentParts) : Type 0 where
-  pub placed : is_first f.flags ≡ (f.offset == 0)
-  pub short : reach (core_of f) ≤ longest
-
 -- Says settings event saying: what the event says to a member with these settings
 pub data Says (settings : Settings) : Event → Saying → Type 0 where
   fragment : (moment used : ℕ) (payload : List ℕ) (f : FragmentParts)
-      → IsPacket payload (Direct f) used → IsValid settings.longest f
+      → IsPacket payload (Direct f) used → Passes (limits_of settings) f
       → Says settings (Packet moment payload) (came moment f)
   misplaced : (moment used : ℕ) (payload : List ℕ) (f : FragmentParts)
       → IsPacket payload (Direct f) used → IsMisplaced f

@@ -21,12 +21,8 @@ refused_count (refused fault ∷ S) = 1 + refused_count S
 refused_count (another ∷ S) = refused_count S
 refused_count (clock now ∷ S) = refused_count S
 
--- MeetsLimit settings L rest k: the next of the events says a fragment of key k, and that is full, where L
--- are live
-pub record MeetsLimit (settings : Settings) (L : List Timed) (rest : List Event) (k : Key) : Type 0 where
-  pub event : Event
-  pub later : List Event
-  pub next : rest ≡ event ∷ later
+-- MeetsLimit settings L event k: the event says a fragment of key k, and that is full, where L are live
+pub record MeetsLimit (settings : Settings) (L : List Timed) (event : Event) (k : Key) : Type 0 where
   pub moment : ℕ
   pub f : FragmentParts
   pub says : Says settings event (came moment f)
@@ -38,18 +34,19 @@ abbrev pub IsPayload : Event → Type 0
 IsPayload (Packet moment payload) = ⊤
 IsPayload (Tick now) = ⊥
 
--- the next of the events is a payload that came
-abbrev pub NextIsPayload : List Event → Type 0
-NextIsPayload [] = ⊥
-NextIsPayload (event ∷ later) = IsPayload event
+-- StopsAt settings L event stop: a run stops before the event, where L are live: since memory ran out only
+-- where the event is a payload that doesn't meet the limit
+abbrev pub StopsAt : Settings → List Timed → Event → RunStop → Type 0
+StopsAt settings L event (Full k) = MeetsLimit settings L event k
+StopsAt settings L event NoMemory = IsPayload event × ((k : Key) → MeetsLimit settings L event k → ⊥)
 
--- StopsBefore settings L rest stop: these events are left, where L are live: there are none exactly where
--- the run didn't stop; memory runs out only before a payload, and before none that meets the limit
+-- StopsBefore settings L rest stop: these events are left, where L are live: none exactly where the run
+-- didn't stop
 abbrev pub StopsBefore : Settings → List Timed → List Event → Option RunStop → Type 0
-StopsBefore settings L rest None = rest ≡ []
-StopsBefore settings L rest (Some (Full k)) = MeetsLimit settings L rest k
-StopsBefore settings L rest (Some NoMemory) =
-    NextIsPayload rest × ((k : Key) → MeetsLimit settings L rest k → ⊥)
+StopsBefore settings L [] None = ⊤
+StopsBefore settings L [] (Some stop) = ⊥
+StopsBefore settings L (event ∷ later) None = ⊥
+StopsBefore settings L (event ∷ later) (Some stop) = StopsAt settings L event stop
 
 -- Reports m L events report: what a run of these events in the member m reports, where L are live before;
 -- none of those that were taken met the limit on keys

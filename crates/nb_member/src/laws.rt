@@ -19,7 +19,7 @@ ghost use Rattle.nb_member.specs.Hearing.{hears};
 ghost use Rattle.nb_member.specs.Deliveries.{made_by, errors_by, delivery_in, error_in};
 ghost use Rattle.nb_member.specs.Member.{MemberValue, with_timed, StandsOver, after_clock};
 ghost use Rattle.nb_member.specs.Taking.{Takes, Answers, Does};
-ghost use Rattle.nb_member.specs.Agreement.{valid, valid_cores, NoneDropped, GiveTheSame};
+ghost use Rattle.nb_member.specs.Agreement.{valid, NoneDropped, GiveTheSame};
 
 mod cutting;
 mod delivering;
@@ -122,7 +122,7 @@ pub fn live_fragments_are_the_valid_ones()
         NoneDropped settings [] S → NoneFull settings [] S → live settings S ≡ valid S }
     ensures cores { (settings : Settings) (S : List Saying) →
         NoneDropped settings [] S → NoneFull settings [] S →
-        cores (live settings S) ≡ valid_cores S }
+        cores (live settings S) ≡ cores (valid S) }
 {}
 
 /// Where events say the same fragments, whose keys are within the limit, and no look at the clock

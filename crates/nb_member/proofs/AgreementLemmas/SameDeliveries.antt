@@ -19,9 +19,9 @@ use Rattle.nb_member.proofs.DeliveryLemmas.WholeKeys.{DatagramsKnown}
 use Rattle.nb_member.proofs.DeliveryLemmas.MadeOnce.{filters_swap, all_heard_from_none}
 use Rattle.nb_member.specs.Hearing.{hears, Hears}
 use Rattle.nb_member.specs.Events.{Saying}
-use Rattle.nb_member.specs.Live.{table_from, live}
+use Rattle.nb_member.specs.Live.{table_from, live, cores}
 use Rattle.nb_member.specs.Deliveries.{deliveries}
-use Rattle.nb_member.specs.Agreement.{of_key, heard, whole_of, HandsOverOnce, HandOverTheSame, HandsOverTheSenders, valid_cores, NoneDropped, GiveTheSame}
+use Rattle.nb_member.specs.Agreement.{of_key, heard, whole_of, HandsOverOnce, HandOverTheSame, HandsOverTheSenders, valid, NoneDropped, GiveTheSame}
 
 -- a table has a key spoilt where its fragments disagree about it
 abbrev pub SpoiltKnown : Type 0
@@ -39,18 +39,18 @@ once_of known spoilt settings names S L kept e k sound =
 
 -- what is live after the first events is what both are given
 first_table : TablesKnown → (settings : Settings) (S T : List Saying) → GiveTheSame settings S T
-    → table_from (live settings S) ≡ table_of (valid_cores S)
+    → table_from (live settings S) ≡ table_of (cores (valid S))
 first_table known settings S T h = ap table_of (live_is_valid settings [] S h.none_dropped (rooms known settings S T h).0)
 
 pub first_once : TablesKnown → DatagramsKnown → SpoiltKnown → (settings : Settings) (S T : List Saying) → GiveTheSame settings S T
-    → (names : List NetbiosName) → HandsOverOnce names (valid_cores S) (deliveries settings names [] S)
+    → (names : List NetbiosName) → HandsOverOnce names (cores (valid S)) (deliveries settings names [] S)
 first_once tables known spoilt settings S T h names =
-    once_of known spoilt settings names S (valid_cores S) h.none_dropped (first_table tables settings S T h)
+    once_of known spoilt settings names S (cores (valid S)) h.none_dropped (first_table tables settings S T h)
 
 pub second_once : TablesKnown → DatagramsKnown → SpoiltKnown → (settings : Settings) (S T : List Saying) → GiveTheSame settings S T
-    → (names : List NetbiosName) → HandsOverOnce names (valid_cores S) (deliveries settings names [] T)
+    → (names : List NetbiosName) → HandsOverOnce names (cores (valid S)) (deliveries settings names [] T)
 second_once tables known spoilt settings S T h names =
-    once_of known spoilt settings names T (valid_cores S) h.none_dropped_there
+    once_of known spoilt settings names T (cores (valid S)) h.none_dropped_there
     (sym (same_live tables settings S T h) ∙ first_table tables settings S T h)
 
 -- ---- the same of what both hear

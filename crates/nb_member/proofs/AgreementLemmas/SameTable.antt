@@ -74,14 +74,14 @@ room_at settings L [] s T h = h.0
 room_at settings L (r ∷ S) s T h = room_at settings (live_after settings L r) S s T h.1
 
 -- so no run stops for the limit
-no_limit : SayingsKnown → (settings : Settings) (events : List Event) (n : ℕ) (S P : List Saying) (k : Key)
-    → Say settings events S → Say settings (take n events) P → NoneFull settings [] S
-    → ¬ MeetsLimit settings (live settings P) (drop n events) k
-no_limit known settings events n S P k all front room meets =
+no_limit : SayingsKnown → (settings : Settings) (events later : List Event) (n : ℕ) (S P : List Saying) (event : Event) (k : Key)
+    → Say settings events S → Say settings (take n events) P → NoneFull settings [] S → drop n events ≡ event ∷ later
+    → ¬ MeetsLimit settings (live settings P) event k
+no_limit known settings events later n S P event k all front room next meets =
     let back = say_front known settings n events S P all front in
-    let rest = subst (λ (es : List Event). Say settings es back.0) meets.next back.1 in
-    let first = say_by settings (meets.event ∷ meets.later) back.0 rest in
-    let is_came = known.one settings meets.event first.0 (came meets.moment meets.f) first.2 meets.says in
+    let rest = subst (λ (es : List Event). Say settings es back.0) next back.1 in
+    let first = say_by settings (event ∷ later) back.0 rest in
+    let is_came = known.one settings event first.0 (came meets.moment meets.f) first.2 meets.says in
     let split : S ≡ P ++ (came meets.moment meets.f ∷ first.1) =
     back.2 ∙ (ap (λ (xs : List Saying). P ++ xs) first.4 ∙ ap (λ (s : Saying). P ++ (s ∷ first.1)) is_came) in
     let within = subst (λ (xs : List Saying). NoneFull settings [] xs) split room in
@@ -92,10 +92,14 @@ no_limit known settings events n S P k all front room meets =
 
 -- a run that stops neither for the limit nor for memory takes all events
 ended : (settings : Settings) (L : List Timed) (rest : List Event) (stop : Option RunStop) → StopsBefore settings L rest stop
-    → ¬ (stop ≡ Some NoMemory) → ((k : Key) → ¬ MeetsLimit settings L rest k) → (rest ≡ []) × (stop ≡ None)
-ended settings L rest None stops memory limit = (stops, refl)
-ended settings L rest (Some (Full k)) stops memory limit = absurd (limit k stops)
-ended settings L rest (Some NoMemory) stops memory limit = absurd (memory refl)
+    → ¬ (stop ≡ Some NoMemory)
+    → ((event : Event) (later : List Event) (k : Key) → rest ≡ event ∷ later → ¬ MeetsLimit settings L event k)
+    → (rest ≡ []) × (stop ≡ None)
+ended settings L [] None stops memory limit = (refl, refl)
+ended settings L [] (Some stop) stops memory limit = absurd stops
+ended settings L (event ∷ later) None stops memory limit = absurd stops
+ended settings L (event ∷ later) (Some (Full k)) stops memory limit = absurd (limit event later k refl stops)
+ended settings L (event ∷ later) (Some NoMemory) stops memory limit = absurd (memory refl)
 
 -- ---- new members
 
@@ -120,7 +124,7 @@ took_all known settings names events new report S runs said room memory =
     let told = runs.reports [] start in
     let stands = runs.stands [] start in
     let end = ended settings (live settings told.sayings) (drop report.taken events) report.stop told.stops memory
-    (λ k. no_limit known settings events report.taken S told.sayings k said told.said room) in
+    (λ event later k next. no_limit known settings events later report.taken S told.sayings event k said told.said room next) in
     let left = length-drop report.taken events in
     let none_left = ap length end.0 in
     let within = runs.within in

@@ -10,12 +10,13 @@ use Rattle.nb_datagram.specs.Packet.{IsPacket}
 use Rattle.nb_datagram.specs.DatagramFaults.{PacketFails}
 use Rattle.nb_table.specs.declared.fault.TableFault.{TableFault}
 use Rattle.nb_table.specs.declared.fault.TableFault.TheVariants.{MisplacedFirst, TooLong, Full, NoMemory}
-use Rattle.nb_table.specs.Insert.{IsMisplaced}
+use Rattle.nb_table.specs.Insert.{IsMisplaced, Passes}
+use Rattle.nb_table.specs.Limits.{Limits}
 use Rattle.nb_member.specs.declared.event.Event.{Event}
 use Rattle.nb_member.specs.declared.event.Event.TheVariants.{Packet, Tick}
 use Rattle.nb_member.specs.declared.member_fault.MemberFault.TheVariants as fault
 use Rattle.nb_member.specs.declared.settings.Settings.{Settings}
-use Rattle.nb_member.specs.Events.{Saying, came, refused, another, clock, IsValid, Says, fragment, misplaced, too_long, no_packet, error, query, tick, Say, none, more}
+use Rattle.nb_member.specs.Events.{limits_of, Saying, came, refused, another, clock, Says, fragment, misplaced, too_long, no_packet, error, query, tick, Say, none, more}
 use Rattle.nb_member.specs.Hearing.{refusal}
 
 -- what the packets in bytes are known to be
@@ -35,11 +36,11 @@ IsInvalid longest f (Full k) = ⊥
 IsInvalid longest f NoMemory = ⊥
 
 -- then it isn't valid
-pub invalid_not : (longest : ℕ) (f : FragmentParts) (x : TableFault) → IsInvalid longest f x → IsValid longest f → ⊥
-invalid_not longest f MisplacedFirst i v = i v.placed
-invalid_not longest f TooLong i v = let past = i.1 in let within = v.short in omega (arith, past, within)
-invalid_not longest f (Full k) i v = i
-invalid_not longest f NoMemory i v = i
+pub invalid_not : (l : Limits) (f : FragmentParts) (x : TableFault) → IsInvalid l.longest f x → Passes l f → ⊥
+invalid_not l f MisplacedFirst i v = i v.placed
+invalid_not l f TooLong i v = let past = i.1 in let within = v.short in omega (arith, past, within)
+invalid_not l f (Full k) i v = i
+invalid_not l f NoMemory i v = i
 
 -- and for one reason
 one_invalid : (longest : ℕ) (f : FragmentParts) (x y : TableFault) → IsInvalid longest f x → IsInvalid longest f y → x ≡ y
@@ -54,7 +55,7 @@ one_invalid longest f x NoMemory i j = absurd j
 
 -- SaysOf settings payload moment s: what a payload says, by what it begins with
 pub data SaysOf (settings : Settings) (moment : ℕ) (payload : List ℕ) (s : Saying) : Type 0 where
-  of_fragment : (used : ℕ) (f : FragmentParts) → IsPacket payload (Direct f) used → IsValid settings.longest f
+  of_fragment : (used : ℕ) (f : FragmentParts) → IsPacket payload (Direct f) used → Passes (limits_of settings) f
       → s ≡ came moment f → SaysOf settings moment payload s
   of_invalid : (used : ℕ) (f : FragmentParts) (x : TableFault) → IsPacket payload (Direct f) used
       → IsInvalid settings.longest f x → s ≡ refused (fault.Table x) → SaysOf settings moment payload s
@@ -87,7 +88,7 @@ one_of known settings moment payload s t (of_fragment u f p v a) (of_fragment w 
 one_of known settings moment payload s t (of_fragment u f p v a) (of_invalid w g j q x b) =
     let same = (known.one payload (Direct f) (Direct g) u w p q).0 in
     let parts : f ≡ g = cc in
-    absurd (invalid_not settings.longest g j x (rw parts at v))
+    absurd (invalid_not (limits_of settings) g j x (rw parts at v))
 one_of known settings moment payload s t (of_fragment u f p v a) (of_fault y q b) = absurd (known.alone payload y (Direct f) u q p)
 one_of known settings moment payload s t (of_fragment u f p v a) (of_error w e q b) =
     let same = (known.one payload (Direct f) (Error e) u w p q).0 in absurd (cc)
@@ -96,7 +97,7 @@ one_of known settings moment payload s t (of_fragment u f p v a) (of_query w e q
 one_of known settings moment payload s t (of_invalid u f i p v a) (of_fragment w g q x b) =
     let same = (known.one payload (Direct f) (Direct g) u w p q).0 in
     let parts : g ≡ f = cc in
-    absurd (invalid_not settings.longest f i v (rw parts at x))
+    absurd (invalid_not (limits_of settings) f i v (rw parts at x))
 one_of known settings moment payload s t (of_invalid u f i p v a) (of_invalid w g j q x b) =
     let same = (known.one payload (Direct f) (Direct g) u w p q).0 in
     let parts : f ≡ g = cc in

@@ -19,7 +19,7 @@ use Rattle.nb_member.specs.declared.settings.Settings.{Settings}
 use Rattle.nb_member.proofs.LiveLemmas.KeyCounts.{cases_bool, HasKeysOf, fewer_keys_without}
 use Rattle.nb_member.specs.Events.{Saying, came, refused, another, clock}
 use Rattle.nb_member.specs.Live.{Timed, cores, table_from, is_full, NoneFull, live_after, live_from, live}
-use Rattle.nb_member.specs.Agreement.{valid, valid_cores, NoneDropped, GiveTheSame}
+use Rattle.nb_member.specs.Agreement.{valid, NoneDropped, GiveTheSame}
 
 -- ---- lists of fragments
 
@@ -65,17 +65,8 @@ live_is_all settings L (clock now ∷ S) kept room =
 
 -- and so are their cores
 pub live_is_valid : (settings : Settings) (L : List Timed) (S : List Saying) → NoneDropped settings L S
-    → NoneFull settings L S → cores (live_from settings L S) ≡ cores L ++ valid_cores S
-live_is_valid settings L [] kept room = sym (append-nil (cores L))
-live_is_valid settings L (came moment f ∷ S) kept room =
-    live_is_valid settings (live_after settings L (came moment f)) S kept.1 room.1
-    ∙ (ap (λ (fs : List Core). fs ++ valid_cores S) (came_cores settings L moment f room.0)
-    ∙ append_assoc (cores L) (core_of f ∷ []) (valid_cores S))
-live_is_valid settings L (refused fault ∷ S) kept room = live_is_valid settings L S kept.1 room.1
-live_is_valid settings L (another ∷ S) kept room = live_is_valid settings L S kept.1 room.1
-live_is_valid settings L (clock now ∷ S) kept room =
-    live_is_valid settings (live_after settings L (clock now)) S kept.1 room.1
-    ∙ ap (λ (M : List Timed). cores M ++ valid_cores S) kept.0
+    → NoneFull settings L S → cores (live_from settings L S) ≡ cores L ++ cores (valid S)
+live_is_valid settings L S kept room = ap cores (live_is_all settings L S kept room) ∙ cores-append L (valid S)
 
 -- ---- the limit on keys
 
@@ -141,22 +132,22 @@ room_for known settings L f V within =
 
 -- where all keys have room, no fragment meets the limit
 pub capacity_gives_room : TablesKnown → (settings : Settings) (L : List Timed) (S : List Saying)
-    → NoneDropped settings L S → maps.len (table_of (cores L ++ valid_cores S)) ≤ settings.keys
+    → NoneDropped settings L S → maps.len (table_of (cores L ++ cores (valid S))) ≤ settings.keys
     → NoneFull settings L S
 capacity_gives_room known settings L [] kept within = tt
 capacity_gives_room known settings L (came moment f ∷ S) kept within =
-    let room = room_for known settings L f (valid_cores S) within in
-    let next : cores (live_after settings L (came moment f)) ++ valid_cores S ≡ cores L ++ core_of f ∷ valid_cores S =
-    ap (λ (fs : List Core). fs ++ valid_cores S) (came_cores settings L moment f room)
-    ∙ append_assoc (cores L) (core_of f ∷ []) (valid_cores S) in
+    let room = room_for known settings L f (cores (valid S)) within in
+    let next : cores (live_after settings L (came moment f)) ++ cores (valid S) ≡ cores L ++ core_of f ∷ cores (valid S) =
+    ap (λ (fs : List Core). fs ++ cores (valid S)) (came_cores settings L moment f room)
+    ∙ append_assoc (cores L) (core_of f ∷ []) (cores (valid S)) in
     (room, capacity_gives_room known settings (live_after settings L (came moment f)) S kept.1 (rw next within))
 capacity_gives_room known settings L (refused fault ∷ S) kept within =
     (tt, capacity_gives_room known settings L S kept.1 within)
 capacity_gives_room known settings L (another ∷ S) kept within =
     (tt, capacity_gives_room known settings L S kept.1 within)
 capacity_gives_room known settings L (clock now ∷ S) kept within =
-    let same : cores (live_after settings L (clock now)) ++ valid_cores S ≡ cores L ++ valid_cores S =
-    ap (λ (M : List Timed). cores M ++ valid_cores S) kept.0 in
+    let same : cores (live_after settings L (clock now)) ++ cores (valid S) ≡ cores L ++ cores (valid S) =
+    ap (λ (M : List Timed). cores M ++ cores (valid S)) kept.0 in
     (tt, capacity_gives_room known settings (live_after settings L (clock now)) S kept.1 (rw same within))
 
 -- ---- the same fragments
@@ -165,8 +156,8 @@ capacity_gives_room known settings L (clock now ∷ S) kept within =
 pub rooms : TablesKnown → (settings : Settings) (S T : List Saying) → GiveTheSame settings S T
     → NoneFull settings [] S × NoneFull settings [] T
 rooms known settings S T h =
-    let there : maps.len (table_of (valid_cores T)) ≤ settings.keys =
-    rw (sym (known.of_same (valid_cores S) (valid_cores T) h.same_fragments)) h.within_capacity in (
+    let there : maps.len (table_of (cores (valid T))) ≤ settings.keys =
+    rw (sym (known.of_same (cores (valid S)) (cores (valid T)) h.same_fragments)) h.within_capacity in (
       capacity_gives_room known settings [] S h.none_dropped h.within_capacity,
       capacity_gives_room known settings [] T h.none_dropped_there there,
     )
@@ -177,5 +168,5 @@ pub same_live : TablesKnown → (settings : Settings) (S T : List Saying) → Gi
 same_live known settings S T h =
     let room = rooms known settings S T h in
     ap table_of (live_is_valid settings [] S h.none_dropped room.0)
-    ∙ (known.of_same (valid_cores S) (valid_cores T) h.same_fragments
+    ∙ (known.of_same (cores (valid S)) (cores (valid T)) h.same_fragments
     ∙ sym (ap table_of (live_is_valid settings [] T h.none_dropped_there room.1)))

@@ -28,8 +28,8 @@ use Rattle.nb_member.specs.Hearing.{hears}
 use Rattle.nb_member.specs.Events.{Saying, came, refused, another, clock, Says, tick}
 use Rattle.nb_member.specs.Live.{Timed, is_full, HasRoom, live_after, live_from}
 use Rattle.nb_member.specs.Member.{MemberValue, StandsOver, with_timed, after_clock}
-use Rattle.nb_member.specs.Running.{refused_count, NextIsPayload, StopsBefore, Runs}
-use Rattle.nb_member.specs.Code.RunEvents.{noted, stop_of, HandedOut, HasTaken, StopsAt, RunsEvent}
+use Rattle.nb_member.specs.Running.{refused_count, StopsAt, StopsBefore, Runs}
+use Rattle.nb_member.specs.Code.RunEvents.{noted, stop_of, HandedOut, HasTaken, RunsEvent}
 
 -- ---- what is known of a step
 
@@ -108,7 +108,7 @@ full_key : (settings : Settings) (names : List NetbiosName) (L : List Timed) (mo
 full_key settings names L moment payload (came at f) k says a =
     let e = a.1 in
     let same : f.key ≡ k = cc in
-    (at, f, says, same, subst (λ (j : Key). is_full settings L j ≡ true) same a.0)
+    record { moment = at; f = f; says = says; key = same; full = subst (λ (j : Key). is_full settings L j ≡ true) same a.0 }
 full_key settings names L moment payload (refused x) k says a =
     let same : x ≡ fault.Table (table_fault.Full k) = cc in
     absurd (never_full_of settings moment payload k (says_by settings (Packet moment payload) (refused (fault.Table (table_fault.Full k)))
@@ -278,6 +278,10 @@ so_far_more m events i event old new before after n more was h is so_far kept st
       (so_far.ran L s) step counts);
 }
 
+-- no event is left where a run didn't stop
+none_left : (settings : Settings) (M : List Timed) (E : List Event) → E ≡ [] → StopsBefore settings M E None
+none_left settings M E is = subst (λ (F : List Event). StopsBefore settings M F None) (sym is) tt
+
 -- all events were taken
 pub all_taken : (m : MemberValue) (events : List Event) (i : ℕ) (new : MemberValue) (out : HandedOut) (n : ℕ) (report : RunReport)
     → RunSoFar m events i new out n → length events ≤ i
@@ -290,38 +294,16 @@ all_taken m events i new out n report so_far h is =
     (runs_from m events new (record { deliveries = out.deliveries; errors = out.errors; taken = length events; refused = n; stop = None })
     so_far.kept.0 so_far.kept.1 (omega arith) (λ L s. (
       subst (λ (E : List Event). RanOver m L E new out.deliveries out.errors n) same (so_far.ran L s),
-      drop_of_length-le events (omega arith),
+      none_left m.settings _ (drop (length events) events) (drop_of_length-le events (omega arith)),
     )))
 
 -- where a run stops before an event
 stop_is : (settings : Settings) (M : List Timed) (events : List Event) (i : ℕ) (event : Event) (stop : RunStop)
     → i < length events → event ≡ get_or events i event → StopsAt settings M event stop
     → StopsBefore settings M (drop i events) (Some stop)
-stop_is settings M events i event (Full k) h is s = record {
-  event = event;
-  later = drop (suc i) events;
-  next = drop-cons events i event h ∙ ap (λ (x : Event). x ∷ drop (suc i) events) (sym is);
-  moment = s.0;
-  f = s.1;
-  says = s.2;
-  key = s.3;
-  full = s.4;
-}
-stop_is settings M events i event NoMemory h is s =
-    let at : drop i events ≡ event ∷ drop (suc i) events =
-    drop-cons events i event h ∙ ap (λ (x : Event). x ∷ drop (suc i) events) (sym is) in (
-      subst (λ (E : List Event). NextIsPayload E) (sym at) s.0,
-      λ k meets.
-          let rows : event ∷ drop (suc i) events ≡ meets.event ∷ meets.later = sym at ∙ meets.next in
-          let same : meets.event ≡ event = cc in
-          s.1 k (
-            meets.moment,
-            meets.f,
-            subst (λ (x : Event). Says settings x (came meets.moment meets.f)) same meets.says,
-            meets.key,
-            meets.full,
-          ),
-    )
+stop_is settings M events i event stop h is s =
+    subst (λ (E : List Event). StopsBefore settings M E (Some stop))
+    (sym (drop-cons events i event h ∙ ap (λ (x : Event). x ∷ drop (suc i) events) (sym is))) s
 
 pub stopped_at : (m : MemberValue) (events : List Event) (i : ℕ) (event : Event) (old new : MemberValue)
     (before after : HandedOut) (n : ℕ) (stop : RunStop) (report : RunReport) → i < length events

@@ -14,29 +14,27 @@ use Rattle.nb_member.specs.Events as saying
 use Rattle.nb_member.proofs.EventLemmas.OneSaying.{SaysOf, of_fragment, of_invalid, of_fault, of_error, of_query, says_by}
 use Rattle.nb_member.proofs.MemberLemmas.LiveAfter.{full_is, is_full_is}
 use Rattle.nb_member.proofs.TakingLemmas.Payloads.{valid_is}
-use Rattle.nb_member.specs.Events.{Saying, came, limits_of, IsValid, Says}
+use Rattle.nb_member.specs.Events.{Saying, came, limits_of, Says}
 use Rattle.nb_member.specs.Live.{Timed, HasRoom, is_full}
 use Rattle.nb_member.specs.Member.{MemberValue, contents, StandsOver}
-use Rattle.nb_member.specs.Code.RunEvents.{MeetsAt, StopsAt, stop_of}
+use Rattle.nb_member.specs.Code.RunEvents.{stop_of}
+use Rattle.nb_member.specs.Running.{MeetsLimit, StopsAt}
 use Rattle.nb_member.specs.Code.Members.{MeetsFull, BeginsFull}
 
-passes_is : (l : Limits) (settings : Settings) (f : FragmentParts) → l ≡ limits_of settings → IsValid settings.longest f → Passes l f
-passes_is l settings f limits v =
-    let longest : l.longest ≡ settings.longest = ap (λ (x : Limits). x.longest) limits in
-    let short = v.short in
-    record { placed = v.placed; short = omega (arith, longest, short) }
+passes_is : (l : Limits) (settings : Settings) (f : FragmentParts) → l ≡ limits_of settings → Passes (limits_of settings) f → Passes l f
+passes_is l settings f limits v = subst (λ (x : Limits). Passes x f) (sym limits) v
 
 -- a payload that begins with a fragment of a full key says a fragment that meets the limit
 meets_limit : (m : MemberValue) (L : List Timed) (moment : ℕ) (payload : List ℕ) (k : Key) → StandsOver m L
-    → BeginsFull m payload k → MeetsAt m.settings L (Packet moment payload) k
-meets_limit m L moment payload k s b = (
-  moment,
-  b.f,
-  saying.fragment moment b.used payload b.f b.found (valid_is m.timed.table.limits m.settings b.f s.limits_are b.meets.passes),
-  b.key,
-  ap (λ (j : Key). is_full m.settings L j) (sym b.key)
-      ∙ full_is (contents m) m.timed.table.limits m.settings L b.f.key s.table_is s.limits_are b.meets.full,
-)
+    → BeginsFull m payload k → MeetsLimit m.settings L (Packet moment payload) k
+meets_limit m L moment payload k s b = record {
+  moment = moment;
+  f = b.f;
+  says = saying.fragment moment b.used payload b.f b.found (valid_is m.timed.table.limits m.settings b.f s.limits_are b.meets.passes);
+  key = b.key;
+  full = ap (λ (j : Key). is_full m.settings L j) (sym b.key)
+      ∙ full_is (contents m) m.timed.table.limits m.settings L b.f.key s.table_is s.limits_are b.meets.full;
+}
 
 -- and the other way round
 begins_of : (m : MemberValue) (L : List Timed) (moment at : ℕ) (payload : List ℕ) (f : FragmentParts) (k : Key) → StandsOver m L
@@ -61,9 +59,9 @@ begins_of m L moment at payload f k s (of_error used q p e) key full = absurd (c
 begins_of m L moment at payload f k s (of_query used q p e) key full = absurd (cc)
 
 begins_full : (m : MemberValue) (L : List Timed) (moment : ℕ) (payload : List ℕ) (k : Key) → StandsOver m L
-    → MeetsAt m.settings L (Packet moment payload) k → BeginsFull m payload k
+    → MeetsLimit m.settings L (Packet moment payload) k → BeginsFull m payload k
 begins_full m L moment payload k s h =
-    begins_of m L moment h.0 payload h.1 k s (says_by m.settings (Packet moment payload) (came h.0 h.1) h.2) h.3 h.4
+    begins_of m L moment h.moment payload h.f k s (says_by m.settings (Packet moment payload) (came h.moment h.f) h.says) h.key h.full
 
 -- a payload begins with one fragment
 pub begins_by : (m : MemberValue) (payload : List ℕ) (f : FragmentParts) (used : ℕ) (full : Option Key)
@@ -87,8 +85,8 @@ stops_at m L moment payload (Some k) s h = meets_limit m L moment payload k s h
 -- where what an event says has room, it meets no limit
 pub meets_none : (settings : Settings) (L : List Timed) (moment : ℕ) (payload : List ℕ)
     → ((s : Saying) → Says settings (Packet moment payload) s → HasRoom settings L s)
-    → (k : Key) → MeetsAt settings L (Packet moment payload) k → ⊥
+    → (k : Key) → MeetsLimit settings L (Packet moment payload) k → ⊥
 meets_none settings L moment payload room k h =
-    let open_still = room (came h.0 h.1) h.2 in
-    let full = h.4 in
-    absurd (false≢true (sym open_still ∙ (ap (λ (j : Key). is_full settings L j) h.3 ∙ full)))
+    let open_still = room (came h.moment h.f) h.says in
+    let full = h.full in
+    absurd (false≢true (sym open_still ∙ (ap (λ (j : Key). is_full settings L j) h.key ∙ full)))

@@ -21,7 +21,7 @@ use Rattle.nb_member.proofs.LiveLemmas.KeyCounts.{cases_bool}
 use Rattle.nb_member.proofs.EventLemmas.OneSaying.{PacketsKnown, one_saying}
 use Rattle.nb_member.proofs.MemberLemmas.LiveAfter.{full_is, is_full_is, stands_more}
 use Rattle.nb_member.specs.Taking.{Answers, Does, IsTaken, TakesFragment, Takes}
-use Rattle.nb_member.specs.Events.{Saying, came, refused, another, limits_of, IsValid, Says}
+use Rattle.nb_member.specs.Events.{Saying, came, refused, another, limits_of, Says}
 use Rattle.nb_member.specs.Live.{Timed, HasRoom, table_from, is_full, live_after}
 use Rattle.nb_member.specs.Member.{MemberValue, contents, StandsOver}
 use Rattle.nb_member.specs.Hearing.{refusal}
@@ -89,11 +89,8 @@ does_taken of_two m L moment f new outcome s t =
 
 -- ---- fragments
 
-pub valid_is : (l : Limits) (settings : Settings) (f : FragmentParts) → l ≡ limits_of settings → Passes l f → IsValid settings.longest f
-valid_is l settings f limits p =
-    let longest : l.longest ≡ settings.longest = ap (λ (x : Limits). x.longest) limits in
-    let short = p.short in
-    record { placed = p.placed; short = omega (arith, longest, short) }
+pub valid_is : (l : Limits) (settings : Settings) (f : FragmentParts) → l ≡ limits_of settings → Passes l f → Passes (limits_of settings) f
+valid_is l settings f limits p = subst (λ (x : Limits). Passes x f) limits p
 
 -- Told m L moment payload new result: what the payload says is this, and the member does it, if memory didn't run
 -- out

@@ -18,7 +18,7 @@ use Rattle.nb_member.specs.Hearing.{hears}
 use Rattle.nb_member.specs.Events.{Saying, Says, came}
 use Rattle.nb_member.specs.Live.{Timed, HasRoom, live_after, is_full}
 use Rattle.nb_member.specs.Member.{MemberValue, StandsOver}
-use Rattle.nb_member.specs.Running.{refused_count, IsPayload}
+use Rattle.nb_member.specs.Running.{refused_count, StopsAt}
 
 -- what a run makes of an answer: whether the event was refused, or why the run stops before it
 abbrev pub noted : Result Outcome MemberFault → Result Bool RunStop
@@ -46,18 +46,6 @@ pub record HasTaken (settings : Settings) (names : List NetbiosName) (L : List T
   pub deliveries : after.deliveries ≡ before.deliveries ++ filter (hears names) (made_by settings L said)
   pub errors : after.errors ≡ before.errors ++ errors_by settings names L said
   pub count : cond refused 1 0 ≡ refused_count (said ∷ [])
-
--- MeetsAt settings L event k: the event says a fragment of key k, and that is full, where L are live
-abbrev pub MeetsAt : Settings → List Timed → Event → Key → Type 0
-MeetsAt settings L event k =
-    (moment : ℕ) × (f : FragmentParts) × Says settings event (came moment f)
-    × (f.key ≡ k) × (is_full settings L k ≡ true)
-
--- StopsAt settings L event stop: a run stops before the event, where L are live: because memory ran out only
--- where the event is a payload that doesn't meet the limit
-abbrev pub StopsAt : Settings → List Timed → Event → RunStop → Type 0
-StopsAt settings L event (Full k) = MeetsAt settings L event k
-StopsAt settings L event NoMemory = IsPayload event × ((k : Key) → MeetsAt settings L event k → ⊥)
 
 -- why a run stops before an event for which there is no room to note an answer, by the key that is full, if
 -- there is one

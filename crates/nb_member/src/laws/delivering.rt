@@ -14,9 +14,9 @@ ghost use Rattle.nb_table.specs.Whole.{IsWholeAt, datagram_at, newly_whole};
 ghost use Rattle.nb_member.specs.declared.settings.Settings.{Settings};
 ghost use Rattle.nb_member.specs.Hearing.{Hears};
 ghost use Rattle.nb_member.specs.Events.{Saying};
-ghost use Rattle.nb_member.specs.Live.{Timed, live, live_from, table_from};
+ghost use Rattle.nb_member.specs.Live.{Timed, live, live_from, table_from, cores};
 ghost use Rattle.nb_member.specs.Deliveries.{made, deliveries};
-ghost use Rattle.nb_member.specs.Agreement.{valid_cores, NoneDropped, GiveTheSame, of_key, heard, HandsOverOnce, HandOverTheSame, HandsOverTheSenders};
+ghost use Rattle.nb_member.specs.Agreement.{valid, NoneDropped, GiveTheSame, of_key, heard, HandsOverOnce, HandOverTheSame, HandsOverTheSenders};
 
 use nb_table::laws::{
     all_parts_give_the_datagram, datagram_has_the_bytes_of_its_entry, parts_are_not_spoilt,
@@ -52,13 +52,13 @@ pub fn a_whole_key_is_handed_over_once()
 pub fn both_hand_over_the_same()
     ensures once { (settings : Settings) (S T : List Saying) → GiveTheSame settings S T →
         (names : List NetbiosName) →
-        HandsOverOnce names (valid_cores S) (deliveries settings names [] S) }
+        HandsOverOnce names (cores (valid S)) (deliveries settings names [] S) }
     ensures once_there { (settings : Settings) (S T : List Saying) → GiveTheSame settings S T →
         (names : List NetbiosName) →
-        HandsOverOnce names (valid_cores S) (deliveries settings names [] T) }
+        HandsOverOnce names (cores (valid S)) (deliveries settings names [] T) }
     ensures same { (settings : Settings) (S T : List Saying) → GiveTheSame settings S T →
         (names others : List NetbiosName) →
-        HandOverTheSame names others (valid_cores S) (deliveries settings names [] S)
+        HandOverTheSame names others (cores (valid S)) (deliveries settings names [] S)
         (deliveries settings others [] T) }
 {
     table_has_the_entry_of_its_list();
@@ -74,10 +74,10 @@ pub fn both_hand_over_the_same()
 pub fn a_senders_datagram_is_handed_over()
     ensures here { (settings : Settings) (S T : List Saying) → GiveTheSame settings S T →
         (names : List NetbiosName) →
-        HandsOverTheSenders names (valid_cores S) (deliveries settings names [] S) }
+        HandsOverTheSenders names (cores (valid S)) (deliveries settings names [] S) }
     ensures there { (settings : Settings) (S T : List Saying) → GiveTheSame settings S T →
         (names : List NetbiosName) →
-        HandsOverTheSenders names (valid_cores S) (deliveries settings names [] T) }
+        HandsOverTheSenders names (cores (valid S)) (deliveries settings names [] T) }
 {
     both_hand_over_the_same();
     parts_are_not_spoilt();

@@ -3,7 +3,8 @@ use Rattle.nb_member.proofs.LiveLemmas.LiveTables.{TablesKnown}
 use Rattle.nb_member.proofs.DeliveryLemmas.WholeKeys.{DatagramsKnown}
 use Rattle.nb_member.proofs.AgreementLemmas.SameDeliveries.{first_once, second_once, the_same}
 use Rattle.nb_member.proofs.laws.delivering.both_hand_over_the_same.Goals as goal
-use Rattle.nb_member.specs.Agreement.{valid_cores}
+use Rattle.nb_member.specs.Live.{cores}
+use Rattle.nb_member.specs.Agreement.{valid}
 use Rattle.nb_member.specs.Deliveries.{deliveries}
 
 pub returns-clause-once : goal.returns-clause-once
@@ -34,5 +35,5 @@ returns-clause-once_there c =
 
 pub returns-clause-same : goal.returns-clause-same
 returns-clause-same c = λ settings S T h names others.
-    the_same names others (valid_cores S) (deliveries settings names [] S) (deliveries settings others [] T)
+    the_same names others (cores (valid S)) (deliveries settings names [] S) (deliveries settings others [] T)
     (returns-clause-once c settings S T h names) (returns-clause-once_there c settings S T h others)

@@ -9,6 +9,20 @@ use Rattle.nb_member.specs.declared.line.Line.TheVariants.{Packet, Tick}
 use Rattle.nb_member.specs.declared.line_fault.LineFault.{LineFault}
 use Rattle.nb_member.specs.declared.line_fault.LineFault.TheVariants.{BadLine, NoMemory}
 
+-- ---- characters
+
+-- the line feed
+abbrev pub line_feed : ℕ
+line_feed = 10
+
+-- the space, which stands between words
+abbrev pub space : ℕ
+space = 32
+
+-- `#`, which begins a comment
+abbrev pub number_sign : ℕ
+number_sign = 35
+
 -- ---- the words of a line
 
 -- PortText port text: the word stands for the port of a service
@@ -43,13 +57,13 @@ pub data PayloadText : List ℕ → List ℕ → Type 0 where
 pub data HasWords : List ℕ → Line → Type 0 where
   packet : (port moment : ℕ) (payload port_text moment_text payload_text : List ℕ)
       → PortText port port_text → MomentText moment moment_text → PayloadText payload payload_text
-      → HasWords (port_text ++ 32 ∷ (moment_text ++ 32 ∷ payload_text)) (Packet port moment payload)
-  tick : (now : ℕ) (text : List ℕ) → MomentText now text → HasWords (codes "tick" ++ 32 ∷ text) (Tick now)
+      → HasWords (port_text ++ space ∷ (moment_text ++ space ∷ payload_text)) (Packet port moment payload)
+  tick : (now : ℕ) (text : List ℕ) → MomentText now text → HasWords (codes "tick" ++ space ∷ text) (Tick now)
 
 -- Blank line: the line is empty, or a comment: `#` and any bytes, without a line feed
 pub data Blank : List ℕ → Type 0 where
   nothing : Blank []
-  comment : (text : List ℕ) → ¬ Contains text 10 → Blank (35 ∷ text)
+  comment : (text : List ℕ) → ¬ Contains text line_feed → Blank (number_sign ∷ text)
 
 -- HasValue line value: this is what the line says, and it isn't too long
 pub record HasValue (line : List ℕ) (value : Line) : Type 0 where

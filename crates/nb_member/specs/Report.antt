@@ -29,7 +29,7 @@ use Rattle.nb_member.specs.Deliveries.{error_of}
 use Rattle.nb_member.specs.Events.{clock, Saying, Says}
 use Rattle.nb_member.specs.Live.{Timed, table_from, live_after}
 use Rattle.nb_member.specs.Taking.{Answers}
-use Rattle.nb_member.specs.Capture.{HasValue, SaysNothing}
+use Rattle.nb_member.specs.Capture.{line_feed, space, HasValue, SaysNothing}
 
 -- ---- texts of values
 
@@ -90,7 +90,7 @@ result_text (Err fault) = codes "refused " ++ (member_fault_text fault ++ error_
 
 -- numbered n text: the line of the report about line n of the capture
 abbrev pub numbered : ℕ → List ℕ → List ℕ
-numbered n text = decimal n ++ 32 ∷ (text ++ 10 ∷ [])
+numbered n text = decimal n ++ space ∷ (text ++ line_feed ∷ [])
 
 -- dropped settings L now: how many keys a look at the clock drops, where L are live
 abbrev pub dropped : Settings → List Timed → ℕ → ℕ

@@ -10,9 +10,9 @@ ghost use Rattle.nb_member.specs.Live.{Timed, live};
 ghost use Rattle.nb_member.specs.Member.{StandsOver, Stands};
 ghost use Rattle.nb_member.specs.Replaying.{Replays};
 
-use crate::acting::act_on;
 use crate::input::read_input;
 use crate::limits::MAX_LINE;
+use crate::line_reports::act_on;
 use crate::lines::next_line;
 use crate::member::Member;
 use crate::output::write_whole;
@@ -24,8 +24,8 @@ use std::io::{Read, Write};
 /// Replays a capture in a member: acts on its lines in order, and writes the report of them. The
 /// answer is the number of lines.
 ///
-/// Behind each line stands a line feed; bytes behind the last one are a line as well, and no bytes
-/// are none. A line has at most [`MAX_LINE`] bytes, its line feed not counted. An empty line or a
+/// A line feed ends each line. Bytes after the last one are a line as well; where there are none,
+/// there is no further line. A line has at most [`MAX_LINE`] bytes, its line feed not counted. An empty line or a
 /// comment has no line in the report. The others have one each: their number, which counts from 1,
 /// a space, and
 ///

@@ -67,8 +67,8 @@ impl Log {
         }
     }
 
-    /// Lets the member take one event, and tells whether the event was refused, or why the run
-    /// stops before it.
+    /// Lets the member take one event. Answers whether the event was refused, or why the run stops
+    /// before it.
     fn take(&mut self, member: &mut Member, event: &Event) -> Result<bool, RunStop>
         ensures step { (L : List Timed) → StandsOver member.old L →
             RunsEvent member.old L event.now member.new
@@ -89,7 +89,7 @@ impl Log {
         }
     }
 
-    /// Lets the member take a payload that came at this moment, and tells the same.
+    /// Lets the member take a payload that came at this moment, and answers the same.
     fn take_packet(
         &mut self,
         member: &mut Member,
@@ -113,7 +113,7 @@ impl Log {
     }
 
     /// Makes room for one more datagram and one more error packet, so that noting an answer takes
-    /// no memory, and tells whether there is.
+    /// no memory, and answers whether there is room.
     fn has_made_room(&mut self) -> bool
         ensures deliveries { self.new.deliveries.items ≡ self.old.deliveries.items }
         ensures errors { self.new.errors.items ≡ self.old.errors.items }

@@ -41,7 +41,7 @@ say_by : (settings : Settings) (events : List Event) (S : List Saying) → Say s
 say_by settings _ _ none = refl
 say_by settings _ _ (more event s events rest h k) = (s, rest, h, k, refl)
 
--- what two lists of events say together, parted
+-- what two lists of events say together, separated
 say_parts : (settings : Settings) (E F : List Event) (S : List Saying) → Say settings (E ++ F) S
     → (P : List Saying) × (Q : List Saying) × Say settings E P × Say settings F Q × (S ≡ P ++ Q)
 say_parts settings [] F S h = ([], S, none, h, refl)

@@ -6,7 +6,7 @@ use Rattle.std.proofs.lemmas.List.Elements.{Contains-append_right}
 use Rattle.nb_member.specs.Lines.{CutInto, rest, line}
 use Rattle.nb_member.proofs.CaptureLemmas.Words.{Contains-behind, one_split}
 
--- the lines of bytes, and what is left behind the last line feed
+-- the lines of bytes, and what is left after the last line feed
 pub record AnyCut (bytes : List ℕ) : Type 0 where
   pub lines : List (List ℕ)
   pub left : List ℕ

@@ -20,7 +20,7 @@ not_single : (c x : ℕ) → c ≢ x → ¬ Contains (c ∷ []) x
 not_single c x differ (zero, below, is) = differ is
 not_single c x differ (suc k, below, is) = absurd (omega arith)
 
--- a byte that isn't a list's first one is behind it
+-- a byte that isn't a list's first one is among the others
 pub Contains-behind : (c x : ℕ) (xs : List ℕ) → c ≢ x → Contains (c ∷ xs) x → Contains xs x
 Contains-behind c x xs differ h =
     elim (Contains-append_cases (c ∷ []) xs x h) [
@@ -100,7 +100,7 @@ port_no_space _ _ names n = digits_no_space (codes "137") (omega arith, (omega a
 port_no_space _ _ datagrams n = digits_no_space (codes "138") (omega arith, (omega arith, (omega arith, tt))) n
 port_no_space _ _ sessions n = digits_no_space (codes "139") (omega arith, (omega arith, (omega arith, tt))) n
 
--- what the words behind a port's stand for
+-- what the words after a port's stand for
 pub record IsPacket (port : ℕ) (words : List ℕ) (value : Line) : Type 0 where
   pub moment : ℕ
   pub payload : List ℕ
@@ -176,7 +176,7 @@ tick_no_space (k, below, is) = absurd (grind (arith, nat_tests))
 pub moment_no_space : (moment : ℕ) (text : List ℕ) → MomentText moment text → ¬ Contains text 32
 moment_no_space moment text h = digits_no_space text h.digits.1
 
--- behind a port's word and a space stand a packet's words
+-- after a port's word and a space stand a packet's words
 pub packet_behind : (port : ℕ) (text words : List ℕ) (value : Line) → PortText port text
     → HasWords (text ++ 32 ∷ words) value → IsPacket port words value
 packet_behind port text words value p says =
@@ -191,7 +191,7 @@ packet_behind port text words value p says =
           absurd (tick_no_port port text p parts.0)
     ]
 
--- behind `tick` and a space stands a moment
+-- after `tick` and a space stands a moment
 pub tick_behind : (digits : List ℕ) (value : Line) → HasWords (codes "tick" ++ 32 ∷ digits) value
     → (now : ℕ) × MomentText now digits × (value ≡ Tick now)
 tick_behind digits value says =

@@ -32,7 +32,7 @@ kept_first : (o p : Option ℕ) (x : ℕ) → o ≡ Some x → first_of o p ≡ 
 kept_first None p x e = absurd (none-some x e)
 kept_first (Some y) p x e = e
 
--- facts that are a datagram stay that datagram with others behind them
+-- facts that are a datagram stay that datagram with others after them
 together_is : (k : Key) (a b : EntryFacts) (d : DatagramParts) → IsDatagram k a d → IsDatagram k (facts_together a b) d
 together_is k a b d h = record {
   key = h.key;

@@ -71,7 +71,7 @@ or_false : (o : Bool) → (o || false) ≡ o
 or_false true = refl
 or_false false = refl
 
--- no key behind the first is the first
+-- no key after the first is the first
 none_behind : (q : Key) (e : Key × ℕ) (es : List (Key × ℕ)) → T (is_sorted key_cmp (e ∷ es)) → same_key q e.0 ≡ true
     → maps.find key_cmp q es ≡ None
 none_behind q e es s h =

@@ -12,7 +12,7 @@ use Rattle.nb_table.specs.Entry.{EntryValue, join_entry, facts_of}
 use Rattle.nb_table.specs.Contents.{Contents, table_of}
 use Rattle.nb_table.specs.Join.{join}
 use Rattle.nb_table.specs.Limits.{TableValue, IsFull}
-use Rattle.nb_table.specs.Insert.{Takes, NeedsNoMemory, Passes, with_fragment}
+use Rattle.nb_table.specs.Insert.{Takes as TableTakes, NeedsNoMemory, Passes, with_fragment}
 use Rattle.nb_table.specs.Lemmas.TableLemmas.{same_table}
 use Rattle.nb_table.specs.Lemmas.FragmentLemmas.{join_one, needs_new}
 use Rattle.nb_member.specs.Member.{Moments, begun}
@@ -79,7 +79,7 @@ undone t f new =
     ap (λ (j : Key). maps.get t j) ((same_key_decides q f.key).0 same) ∙ none_is (maps.get t f.key) new)))
 
 -- a new key needs memory
-pub new_needs_memory : (t : TableValue) (f : FragmentParts) → Takes t f → maps.contains_key t.contents f.key ≡ false
+pub new_needs_memory : (t : TableValue) (f : FragmentParts) → TableTakes t f → maps.contains_key t.contents f.key ≡ false
     → Passes t.limits f × (IsFull t.limits t.contents f.key → ⊥) × (NeedsNoMemory t.contents (core_of f) → ⊥)
 new_needs_memory t f takes new =
     (takes.passes, takes.room, needs_new t.contents (core_of f) (none_is (maps.get t.contents f.key) new))

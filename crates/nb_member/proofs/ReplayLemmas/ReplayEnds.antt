@@ -36,7 +36,7 @@ stays : (m : MemberValue) (L : List Timed) (done : List (List ℕ)) (text : List
     → SoFar m L done text new → newer ≡ new → SoFar m L done text newer
 stays m L done text new newer t same = subst (λ (x : MemberValue). SoFar m L done text x) (sym same) t
 
--- the replay stopped behind these lines, nothing of the next one's report being written
+-- the replay stopped after these lines, nothing of the next one's report being written
 stops_behind : (m : MemberValue) (H : List Event) (s : Stands m H) (came : List ℕ) (left : Option (List ℕ)) (before after : Option (List ℕ))
     (done more : List (List ℕ)) (text : List ℕ) (new : MemberValue) → SoFar m (live m.settings s.sayings) done text new
     → new.settings ≡ m.settings → Appends before after text → AreLines came left (done ++ more)
@@ -116,7 +116,7 @@ ends_at m H s came left before mid after done more l text new newer number t sam
           still (subst (λ (bs : List ℕ). Appends before after bs) (sym (append-nil text)) (Appends-kept before mid after text written p.1)) are
     ]
 
--- ---- what is left behind the last line feed
+-- ---- what is left after the last line feed
 
 pub no_bytes : (bytes : List ℕ) → (length bytes == 0) ≡ true → bytes ≡ []
 no_bytes [] h = refl

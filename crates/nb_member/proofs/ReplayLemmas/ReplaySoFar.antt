@@ -170,7 +170,7 @@ first_turn m before counts bytes = record {
   grow = record { empty = omega arith; interrupted = omega arith; failed = omega arith };
 }
 
--- behind one more line
+-- after one more line
 pub next_turn : (m : MemberValue) (before mid after : Option (List ℕ)) (old counts later : Counts) (bytes here there l : List ℕ)
     (number : ℕ) (new newer : MemberValue) → IsReplaying m before mid old counts bytes here number new
     → here ≡ l ++ 10 ∷ there → ¬ Contains l 10 → KeepsStation new newer

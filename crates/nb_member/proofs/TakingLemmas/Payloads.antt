@@ -27,7 +27,7 @@ use Rattle.nb_member.specs.Member.{MemberValue, contents, StandsOver}
 use Rattle.nb_member.specs.Hearing.{refusal}
 use Rattle.nb_member.specs.Code.Members.{IsFullAt}
 
--- tables of two lists behind one another
+-- tables of two lists, one after the other
 abbrev pub TablesJoin : Type 0
 TablesJoin = (L M : List Core) → table_of (L ++ M) ≡ join (table_of L) (table_of M)
 

@@ -36,7 +36,7 @@ pub record HandedOut : Type 0 where
 
 -- HasTaken settings names L event new before after refused: a member with these settings and names, which
 -- stood for L, did what the event says, which met no limit on keys, and became new; what was handed out is
--- more by what that gives, and refused tells whether the event was refused
+-- more by what that gives, and refused says whether the event was refused
 pub record HasTaken (settings : Settings) (names : List NetbiosName) (L : List Timed) (event : Event) (new : MemberValue)
     (before after : HandedOut) (refused : Bool) : Type 0 where
   pub said : Saying

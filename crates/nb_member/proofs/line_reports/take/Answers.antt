@@ -6,7 +6,7 @@ use Rattle.nb_member.specs.declared.member_fault.MemberFault.{MemberFault}
 use Rattle.nb_member.specs.declared.member_fault.MemberFault.TheVariants.{Table}
 use Rattle.nb_member.specs.declared.outcome.Outcome.{Outcome}
 use Rattle.nb_member.proofs.ReplayLemmas.LineReports.{took, always_on_err, taken_keeps}
-use Rattle.nb_member.proofs.acting.take.Goals as goal
+use Rattle.nb_member.proofs.line_reports.take.Goals as goal
 use Rattle.nb_member.specs.Code.ReplayLines.{ReportsLine, ReportsValue}
 use Rattle.nb_member.specs.Live.{Timed}
 use Rattle.nb_member.specs.Member.{StandsOver}

@@ -3,7 +3,7 @@ use Rattle.std.specs.Prelude.{codes}
 use Rattle.std.proofs.lemmas.Result.{IfOk-weaker}
 use Rattle.nb_member.specs.declared.line.Line.TheVariants.{Packet}
 use Rattle.nb_member.proofs.ReplayLemmas.LineReports.{passed_by}
-use Rattle.nb_member.proofs.acting.receive.Goals as goal
+use Rattle.nb_member.proofs.line_reports.receive.Goals as goal
 use Rattle.nb_member.specs.Code.ReplayLines.{ReportsLine, ReportsValue, MayReportValue}
 use Rattle.nb_member.specs.Live.{Timed}
 use Rattle.nb_member.specs.Member.{StandsOver}

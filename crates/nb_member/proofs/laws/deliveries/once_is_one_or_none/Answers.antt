@@ -1,6 +1,6 @@
 use Rattle.std.proofs.Common.{◌∙◌}
 use Rattle.nb_member.proofs.AgreementLemmas.SameDeliveries.{heard_is, unheard_is, once_whole, once_part, not_whole}
-use Rattle.nb_member.proofs.laws.delivering.once_is_one_or_none.Goals as goal
+use Rattle.nb_member.proofs.laws.deliveries.once_is_one_or_none.Goals as goal
 
 pub returns-clause-where_heard : goal.returns-clause-where_heard
 returns-clause-where_heard c = λ names L ds once d sound whole hears.

@@ -1,5 +1,5 @@
 use Rattle.nb_member.proofs.EventLemmas.SomeSaying.{each_says, all_say}
-use Rattle.nb_member.proofs.laws.telling.each_event_says_something.Goals as goal
+use Rattle.nb_member.proofs.laws.events.each_event_says_something.Goals as goal
 
 pub returns-clause-event : goal.returns-clause-event
 returns-clause-event c = each_says c.packet_or_fault.ensures

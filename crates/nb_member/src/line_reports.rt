@@ -24,7 +24,7 @@ use std::alloc::Global;
 /// # Errors
 ///
 /// [`ReplayFault::Line`] where the line is malformed, and the member is then as it was.
-/// [`ReplayFault::NoMemory`] where memory ran out, before the line was acted on or behind it.
+/// [`ReplayFault::NoMemory`] where memory ran out, before the line was acted on or after.
 pub fn act_on(
     alloc: Global,
     number: u64,
@@ -51,7 +51,7 @@ pub fn act_on(
 ///
 /// # Errors
 ///
-/// [`NoMemory`] where memory ran out, before this was acted on or behind it.
+/// [`NoMemory`] where memory ran out, before this was acted on or after.
 fn act(alloc: Global, number: u64, said: &Line, member: &mut Member) -> Result<String, NoMemory>
     ensures acted { IfOk result (λ text. (L : List Timed) → StandsOver member.old L →
         ReportsValue member.old L number said.now member.new (string_bytes text)) }

@@ -4,7 +4,7 @@ use Rattle.std.specs.Fmt.{decimal}
 use Rattle.std.proofs.lemmas.Result.{IfOk-weaker}
 use Rattle.nb_member.specs.declared.line.Line.TheVariants.{Tick}
 use Rattle.nb_member.proofs.ReplayLemmas.LineReports.{looked, always_on_err}
-use Rattle.nb_member.proofs.acting.look.Goals as goal
+use Rattle.nb_member.proofs.line_reports.look.Goals as goal
 use Rattle.nb_member.specs.Code.ReplayLines.{ReportsLine, ReportsValue}
 use Rattle.nb_member.specs.Live.{Timed}
 use Rattle.nb_member.specs.Member.{StandsOver}

@@ -1,7 +1,7 @@
 use Rattle.std.proofs.Common.{Option, Ok, List, ℕ, subst, sym}
 use Rattle.nb_member.specs.declared.line.Line.{Line}
 use Rattle.nb_member.proofs.ReplayLemmas.LineReports.{quiet}
-use Rattle.nb_member.proofs.acting.act_on.Goals as goal
+use Rattle.nb_member.proofs.line_reports.act_on.Goals as goal
 use Rattle.nb_member.specs.Code.ReplayLines.{ReportsLine}
 use Rattle.nb_member.specs.Capture.{Reads}
 

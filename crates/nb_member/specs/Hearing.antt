@@ -24,7 +24,6 @@ use Rattle.nb_member.specs.declared.limits.TheConstants.{MAX_NAMES}
 use Rattle.nb_member.specs.declared.local_names.AddFault.{AddFault}
 use Rattle.nb_member.specs.declared.local_names.AddFault.TheVariants.{Present, TooMany, NoMemory}
 use Rattle.nb_member.specs.declared.settings.Settings.{Settings}
-use Rattle.nb_member.specs.declared.member_fault.MemberFault.TheVariants as fault
 
 -- ---- names
 

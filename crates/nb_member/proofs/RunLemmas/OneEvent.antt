@@ -1,5 +1,5 @@
 -- One event of a run, and what a run comes to.
-use Rattle.std.proofs.Common.{◌≡◌, ◌<◌, ◌≤◌, ◌+◌, ◌++◌, ℕ, suc, Bool, true, false, cond, List, [], ◌∷◌, length, take, drop, get_or, refl, sym, ap, ◌∙◌, arith, subst, append-nil, drop-cons, add-one, take_all, length-drop, Option, Some, None, Result, Ok, Err}
+use Rattle.std.proofs.Common.{◌≡◌, ◌<◌, ◌≤◌, ◌+◌, ◌++◌, ℕ, suc, Bool, true, false, cond, List, [], ◌∷◌, length, take, drop, get_or, refl, sym, ap, ◌∙◌, arith, subst, append-nil, drop-cons, add-one, take_all, Option, Some, None, Result, Ok, Err}
 use Rattle.std.specs.Prelude.{filter, MatchOption}
 use Rattle.std.proofs.Math.ListN.{drop_of_length-le}
 use Rattle.std.proofs.Math.Seq.{take-suc}
@@ -16,7 +16,7 @@ use Rattle.nb_member.specs.declared.member_fault.MemberFault.TheVariants as faul
 use Rattle.nb_member.specs.declared.outcome.Outcome.{Outcome}
 use Rattle.nb_member.specs.declared.run_report.RunReport.{RunReport}
 use Rattle.nb_member.specs.declared.run_report.RunStop.{RunStop}
-use Rattle.nb_member.specs.declared.run_report.RunStop.TheVariants.{Full, NoMemory}
+use Rattle.nb_member.specs.declared.run_report.RunStop.TheVariants.{Full}
 use Rattle.nb_member.specs.declared.settings.Settings.{Settings}
 use Rattle.nb_member.proofs.TakingLemmas.FullKeys.{stops_at, meets_none}
 use Rattle.nb_member.proofs.RunLemmas.RunSoFar.{RanOver, ran_none, ran_more, runs_from}

@@ -1,10 +1,9 @@
 -- What one event of a run makes of a member, and of what the run hands out (our choice).
-use Rattle.std.specs.Prelude.{Bool, true, false, Result, Ok, Err, List, ◌≡◌, ◌++◌, cond, [], ◌∷◌, filter, ℕ, Option, Some, None}
+use Rattle.std.specs.Prelude.{Bool, true, false, Result, Ok, Err, List, ◌≡◌, ◌++◌, cond, [], ◌∷◌, filter, Option, Some, None}
 use Rattle.nb_names.specs.Name.{NetbiosName}
 use Rattle.nb_datagram.specs.declared.packet.ErrorPacket.{ErrorPacket}
 use Rattle.nb_datagram.specs.declared.key.Key.{Key}
 use Rattle.nb_datagram.specs.Datagram.{DatagramParts}
-use Rattle.nb_datagram.specs.Fragment.{FragmentParts}
 use Rattle.nb_table.specs.declared.fault.TableFault.TheVariants as table_fault
 use Rattle.nb_member.specs.declared.member_fault.MemberFault.{MemberFault}
 use Rattle.nb_member.specs.declared.member_fault.MemberFault.TheVariants.{Packet, Table}
@@ -15,8 +14,8 @@ use Rattle.nb_member.specs.declared.event.Event.{Event}
 use Rattle.nb_member.specs.declared.settings.Settings.{Settings}
 use Rattle.nb_member.specs.Deliveries.{made_by, errors_by}
 use Rattle.nb_member.specs.Hearing.{hears}
-use Rattle.nb_member.specs.Events.{Saying, Says, came}
-use Rattle.nb_member.specs.Live.{Timed, HasRoom, live_after, is_full}
+use Rattle.nb_member.specs.Events.{Saying, Says}
+use Rattle.nb_member.specs.Live.{Timed, HasRoom, live_after}
 use Rattle.nb_member.specs.Member.{MemberValue, StandsOver}
 use Rattle.nb_member.specs.Running.{refused_count, StopsAt}
 

@@ -1,6 +1,7 @@
 -- When two members that are given two lists of events are given the same fragments, within the limit on
 -- keys, and before any timer runs out; that they then have the same table; and what they hand over: for each
--- key that isn't spoilt the same datagram, once (our choice).
+-- key that isn't spoilt the same datagram, once (our choice). The clauses of `two_members` lead from the first
+-- part of this page to the others.
 --
 -- S and T are what the events of the two lists say, L the cores of the fragments that are given, and ds the
 -- datagrams that a member hands over.

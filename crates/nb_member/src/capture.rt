@@ -73,8 +73,10 @@ fn value_of(alloc: Global, line: &[u8]) -> Result<Line, LineFault>
 /// The port that a packet's line begins with, and what stands after it and a space.
 fn after_port(line: &[u8]) -> Option<(u16, &[u8])>
     ensures { MatchOption result
-        ((port : ℕ) (text words : List ℕ) → PortText port text → ¬ (line.now ≡ text ++ space ∷ words))
-        (λ read. (text : List ℕ) × PortText read.0 text × (line.now ≡ text ++ space ∷ read.1.now)) }
+        ((port : ℕ) (text words : List ℕ) → PortText port text →
+        ¬ (line.now ≡ text ++ space ∷ words))
+        (λ read. (text : List ℕ) × PortText read.0 text
+        × (line.now ≡ text ++ space ∷ read.1.now)) }
 {
     if let Some(words) = line.strip_prefix(b"137 ") {
         return Some((137, words));
@@ -110,7 +112,8 @@ fn packet_of(alloc: Global, port: u16, words: &[u8]) -> Result<Line, LineFault>
 /// What stands before the first space, and what after it.
 fn at_space(text: &[u8]) -> Option<(&[u8], &[u8])>
     ensures { MatchOption result (¬ Contains text.now space)
-        (λ parts. (text.now ≡ parts.0.now ++ space ∷ parts.1.now) × (¬ Contains parts.0.now space)) }
+        (λ parts. (text.now ≡ parts.0.now ++ space ∷ parts.1.now)
+        × (¬ Contains parts.0.now space)) }
 {
     let at = text.iter().position(|byte| *byte == b' ')?;
     Some((&text[..at], &text[at + 1..]))

@@ -24,10 +24,9 @@ use std::io::{Read, Write};
 /// Replays a capture in a member: acts on its lines in order, and writes the report of them. The
 /// answer is the number of lines.
 ///
-/// A line feed ends each line. Bytes after the last one are a line as well; where there are none,
-/// there is no further line. A line has at most [`MAX_LINE`] bytes, its line feed not counted. An empty line or a
-/// comment has no line in the report. The others have one each: their number, which counts from 1,
-/// a space, and
+/// A line feed ends each line; bytes after the last one are a line as well, where there are any. A
+/// line has at most [`MAX_LINE`] bytes, its line feed not counted. An empty line or a comment has
+/// no line in the report. The others have one each: their number, which counts from 1, a space, and
 ///
 /// - `passed` for a payload of port 137 or 139;
 /// - `dropped COUNT` for a look at the clock;

@@ -28,10 +28,10 @@ pub both_same : {settings : Settings} {names_a names_b : List NetbiosName} {even
     → BothDid settings names_a names_b events_a events_b pair S T
     → HandOverTheSame names_a names_b (cores (valid S)) (deliveries settings names_a [] S) (deliveries settings names_b [] T)
     → HandOverTheSame names_a names_b (cores (valid S)) pair.report_a.deliveries pair.report_b.deliveries
-both_same {settings = settings} {names_a = names_a} {names_b = names_b} {pair = pair} {S = S} did told =
+both_same {settings = settings} {names_a = names_a} {names_b = names_b} {pair = pair} {S = S} did same =
     subst (λ (ds : List DatagramParts). HandOverTheSame names_a names_b (cores (valid S)) ds pair.report_b.deliveries)
     (sym did.a.deliveries_are)
-    (subst (HandOverTheSame names_a names_b (cores (valid S)) (deliveries settings names_a [] S)) (sym did.b.deliveries_are) told)
+    (subst (HandOverTheSame names_a names_b (cores (valid S)) (deliveries settings names_a [] S)) (sym did.b.deliveries_are) same)
 
 -- and it is the sender's
 pub both_senders : {settings : Settings} {names_a names_b : List NetbiosName} {events_a events_b : List Event} {pair : Pair} {S T : List Saying}

@@ -121,10 +121,10 @@ pub took_all : SayingsKnown → (settings : Settings) (names : List NetbiosName)
 unfolding new_stands
 took_all known settings names events new report S runs said room memory =
     let start = new_stands settings names in
-    let told = runs.reports [] start in
+    let reported = runs.reports [] start in
     let stands = runs.stands [] start in
-    let end = ended settings (live settings told.sayings) (drop report.taken events) report.stop told.stops memory
-    (λ event later k next. no_limit known settings events later report.taken S told.sayings event k said told.said room next) in
+    let end = ended settings (live settings reported.sayings) (drop report.taken events) report.stop reported.stops memory
+    (λ event later k next. no_limit known settings events later report.taken S reported.sayings event k said reported.said room next) in
     let left = length-drop report.taken events in
     let none_left = ap length end.0 in
     let within = runs.within in
@@ -137,13 +137,13 @@ took_all known settings names events new report S runs said room memory =
     subst (λ (es : List Event). Say settings es stands.sayings) all
     (subst (λ (t : Settings). Say t (take report.taken events) stands.sayings) same_settings stands.said) in
     let same = known.row settings events stands.sayings S here said in
-    let told_all : Say settings events told.sayings = subst (λ (es : List Event). Say settings es told.sayings) all told.said in
-    let same_told = known.row settings events told.sayings S told_all said in (
+    let reported_all : Say settings events reported.sayings = subst (λ (es : List Event). Say settings es reported.sayings) all reported.said in
+    let same_reported = known.row settings events reported.sayings S reported_all said in (
       record { all = taken; no_stop = end.1 },
       stands.over.table_is
           ∙ (ap (λ (t : Settings). table_from (live t stands.sayings)) same_settings
           ∙ ap (λ (xs : List Saying). table_from (live settings xs)) same),
-      told.deliveries_are ∙ ap (λ (xs : List Saying). deliveries settings names [] xs) same_told,
+      reported.deliveries_are ∙ ap (λ (xs : List Saying). deliveries settings names [] xs) same_reported,
     )
 
 -- Did settings names events new report S: a member with these names took all events, which say S, holds the

@@ -18,8 +18,8 @@ use Rattle.nb_member.specs.Events.{Saying, came, refused, another, clock, HasByt
 use Rattle.nb_member.specs.Hearing.{refusal}
 
 -- bytes begin with a packet, or have a fault
-abbrev pub Told : Type 0
-Told = (bytes : List ℕ) → AreBytes bytes →
+abbrev pub PacketOrFault : Type 0
+PacketOrFault = (bytes : List ℕ) → AreBytes bytes →
     ((packet : AnyPacket) × (used : ℕ) × IsPacket bytes packet used) ⊎ ((x : DatagramFault) × PacketFails bytes x)
 
 same_or_not : (a b : Bool) → (a ≡ b) ⊎ (a ≢ b)
@@ -48,22 +48,22 @@ says_packet settings moment used payload (Error e) p = (another, error moment us
 says_packet settings moment used payload (Query q) p = (another, query moment used payload q p)
 
 -- each event says something
-pub each_says : Told → (settings : Settings) (event : Event) → HasBytes event → (s : Saying) × Says settings event s
-each_says told settings (Packet moment payload) h =
-    elim (told payload h) [
+pub each_says : PacketOrFault → (settings : Settings) (event : Event) → HasBytes event → (s : Saying) × Says settings event s
+each_says known settings (Packet moment payload) h =
+    elim (known payload h) [
       | inl found ↦ says_packet settings moment found.1 payload found.0 found.2
       | inr fails ↦ (
         refused (fault.Packet fails.0 (refusal settings payload fails.0)),
         no_packet moment payload fails.0 fails.1,
       )
     ]
-each_says told settings (Tick now) h = (clock now, tick now)
+each_says known settings (Tick now) h = (clock now, tick now)
 
 -- and so do events in a row
-pub all_say : Told → (settings : Settings) (events : List Event) → AllByRecursion HasBytes events
+pub all_say : PacketOrFault → (settings : Settings) (events : List Event) → AllByRecursion HasBytes events
     → (S : List Saying) × Say settings events S
-all_say told settings [] h = ([], none)
-all_say told settings (event ∷ events) h =
-    let first = each_says told settings event h.0 in
-    let rest = all_say told settings events h.1 in
+all_say known settings [] h = ([], none)
+all_say known settings (event ∷ events) h =
+    let first = each_says known settings event h.0 in
+    let rest = all_say known settings events h.1 in
     (first.0 ∷ rest.0, more event first.0 events rest.0 first.1 rest.1)

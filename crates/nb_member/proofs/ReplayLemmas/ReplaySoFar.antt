@@ -31,19 +31,19 @@ say_both settings _ F _ T saying.none q = q
 say_both settings _ F _ T (saying.more e s E S p ps) q = saying.more e s (E ++ F) (S ++ T) p (say_both settings E F S T ps q)
 
 -- what a line's events say, after which these are live
-pub record Told (settings : Settings) (L : List Timed) (events : List Event) (after : List Timed) : Type 0 where
+pub record LineSays (settings : Settings) (L : List Timed) (events : List Event) (after : List Timed) : Type 0 where
   pub sayings : List Saying
   pub said : Say settings events sayings
   pub live : after ≡ live_from settings L sayings
 
-pub told : (settings : Settings) (names : List NetbiosName) (n : ℕ) (L : List Timed) (l : List ℕ) (events : List Event)
+pub line_says : (settings : Settings) (names : List NetbiosName) (n : ℕ) (L : List Timed) (l : List ℕ) (events : List Event)
     (text : List ℕ) (after : List Timed) → ReportOfLine settings names n L l events text after
-    → Told settings L events after
-told settings names n L _ _ _ _ (nothing l p) = record { sayings = []; said = saying.none; live = refl }
-told settings names n L _ _ _ _ (passed l payload port moment p q) = record { sayings = []; said = saying.none; live = refl }
-told settings names n L _ _ _ _ (taken l payload moment s result p q r) =
+    → LineSays settings L events after
+line_says settings names n L _ _ _ _ (nothing l p) = record { sayings = []; said = saying.none; live = refl }
+line_says settings names n L _ _ _ _ (passed l payload port moment p q) = record { sayings = []; said = saying.none; live = refl }
+line_says settings names n L _ _ _ _ (taken l payload moment s result p q r) =
     record { sayings = s ∷ []; said = saying.more _ s [] [] q saying.none; live = refl }
-told settings names n L _ _ _ _ (tick l now p) =
+line_says settings names n L _ _ _ _ (tick l now p) =
     record { sayings = clock now ∷ []; said = saying.more _ (clock now) [] [] (saying.tick now) saying.none; live = refl }
 
 -- ---- what was acted on
@@ -83,7 +83,7 @@ with_line m L done l before new newer t kept number at text a =
     let now = live_from m.settings L t.sayings in
     let acts = acts_as m new (length done + 1) now l a.events text a.live kept
     (subst (λ (n : ℕ). ReportOfLine new.settings new.names n now l a.events text a.live) at a.acts) in
-    let said = told m.settings m.names (length done + 1) now l a.events text a.live acts in
+    let said = line_says m.settings m.names (length done + 1) now l a.events text a.live acts in
     let lives : live_from m.settings L (t.sayings ++ said.sayings) ≡ a.live =
     live_both m.settings L t.sayings said.sayings ∙ sym said.live in
     let size : length (done ++ l ∷ []) ≡ length done + 1 = length-append done (l ∷ []) in

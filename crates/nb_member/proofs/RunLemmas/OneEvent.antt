@@ -311,8 +311,8 @@ pub stopped_at : (m : MemberValue) (events : List Event) (i : ℕ) (event : Even
     → ((M : List Timed) → StandsOver old M → RunsEvent old M event new before after (Err stop))
     → report ≡ record { deliveries = after.deliveries; errors = after.errors; taken = i; refused = n; stop = Some stop }
     → Runs m events new report
-stopped_at m events i event old new before after n stop report h is so_far kept step told =
-    subst (λ (r : RunReport). Runs m events new r) (sym told)
+stopped_at m events i event old new before after n stop report h is so_far kept step reported =
+    subst (λ (r : RunReport). Runs m events new r) (sym reported)
     (runs_from m events new (record { deliveries = after.deliveries; errors = after.errors; taken = i; refused = n; stop = Some stop })
     (kept.0 ∙ so_far.kept.0) (kept.1 ∙ so_far.kept.1) (omega (arith, h)) (λ L s.
     let r = so_far.ran L s in

@@ -92,31 +92,31 @@ does_taken of_two m L moment f new outcome s t =
 pub valid_is : (l : Limits) (settings : Settings) (f : FragmentParts) → l ≡ limits_of settings → Passes l f → Passes (limits_of settings) f
 valid_is l settings f limits p = subst (λ (x : Limits). Passes x f) limits p
 
--- Told m L moment payload new result: what the payload says is this, and the member does it, if memory didn't run
+-- SaysAndDoes m L moment payload new result: what the payload says is this, and the member does it, if memory didn't run
 -- out
-pub record Told (m : MemberValue) (L : List Timed) (moment : ℕ) (payload : List ℕ) (new : MemberValue) (result : Result Outcome MemberFault) : Type 0 where
+pub record SaysAndDoes (m : MemberValue) (L : List Timed) (moment : ℕ) (payload : List ℕ) (new : MemberValue) (result : Result Outcome MemberFault) : Type 0 where
   pub said : Saying
   pub says : Says m.settings (Packet moment payload) said
   pub does : (result ≡ Err (fault.Table NoMemory) → ⊥) → Does m L said new result
   pub room : result ≡ Err (fault.Table NoMemory) → HasRoom m.settings L said
 
-fragment_told : TablesJoin → (m : MemberValue) (L : List Timed) (moment used : ℕ) (payload : List ℕ) (f : FragmentParts)
+fragment_says_and_does : TablesJoin → (m : MemberValue) (L : List Timed) (moment used : ℕ) (payload : List ℕ) (f : FragmentParts)
     (new : MemberValue) (result : Result Outcome MemberFault) → IsPacket payload (Direct f) used → StandsOver m L
-    → TakesFragment m moment f new result → Told m L moment payload new result
-fragment_told of_two m L moment used payload f new (Ok outcome) p s t = record {
+    → TakesFragment m moment f new result → SaysAndDoes m L moment payload new result
+fragment_says_and_does of_two m L moment used payload f new (Ok outcome) p s t = record {
   said = came moment f;
   says = saying.fragment moment used payload f p (valid_is m.timed.table.limits m.settings f s.limits_are t.takes.passes);
   does = λ memory. does_taken of_two m L moment f new outcome s t;
   room = λ h. has_room m L f s t.takes.room;
 }
-fragment_told of_two m L moment used payload f new (Err (fault.Packet x error)) p s t = absurd t
-fragment_told of_two m L moment used payload f new (Err (fault.Table MisplacedFirst)) p s t = record {
+fragment_says_and_does of_two m L moment used payload f new (Err (fault.Packet x error)) p s t = absurd t
+fragment_says_and_does of_two m L moment used payload f new (Err (fault.Table MisplacedFirst)) p s t = record {
   said = refused (fault.Table MisplacedFirst);
   says = saying.misplaced moment used payload f p t.0;
   does = λ memory. same_member m new L (refused (fault.Table MisplacedFirst)) (Err (fault.Table MisplacedFirst)) t.1 s refl;
   room = λ h. tt;
 }
-fragment_told of_two m L moment used payload f new (Err (fault.Table TooLong)) p s t =
+fragment_says_and_does of_two m L moment used payload f new (Err (fault.Table TooLong)) p s t =
     let longest : m.timed.table.limits.longest ≡ m.settings.longest = ap (λ (x : Limits). x.longest) s.limits_are in
     let past = t.0.1 in
     record {
@@ -125,7 +125,7 @@ fragment_told of_two m L moment used payload f new (Err (fault.Table TooLong)) p
       does = λ memory. same_member m new L (refused (fault.Table TooLong)) (Err (fault.Table TooLong)) t.1 s refl;
       room = λ h. tt;
     }
-fragment_told of_two m L moment used payload f new (Err (fault.Table (Full k))) p s t =
+fragment_says_and_does of_two m L moment used payload f new (Err (fault.Table (Full k))) p s t =
     let full = full_is (contents m) m.timed.table.limits m.settings L f.key s.table_is s.limits_are t.0.1.1 in
     record {
       said = came moment f;
@@ -136,7 +136,7 @@ fragment_told of_two m L moment used payload f new (Err (fault.Table (Full k))) 
           (full, ap (λ (j : Key). fault.Table (Full j)) t.0.1.0);
       room = λ h. absurd (cc);
     }
-fragment_told of_two m L moment used payload f new (Err (fault.Table NoMemory)) p s t = record {
+fragment_says_and_does of_two m L moment used payload f new (Err (fault.Table NoMemory)) p s t = record {
   said = came moment f;
   says = saying.fragment moment used payload f p (valid_is m.timed.table.limits m.settings f s.limits_are t.0.0);
   does = λ memory. absurd (memory refl);
@@ -145,24 +145,24 @@ fragment_told of_two m L moment used payload f new (Err (fault.Table NoMemory)) 
 
 -- ---- payloads
 
-pub told : TablesJoin → (m : MemberValue) (L : List Timed) (moment : ℕ) (payload : List ℕ) (new : MemberValue)
+pub says_and_does : TablesJoin → (m : MemberValue) (L : List Timed) (moment : ℕ) (payload : List ℕ) (new : MemberValue)
     (result : Result Outcome MemberFault) → StandsOver m L → Takes m moment payload new result
-    → Told m L moment payload new result
-told of_two m L moment payload new _ s (taking.fragment f used result p t) =
-    fragment_told of_two m L moment used payload f new result p s t
-told of_two m L moment payload new _ s (taking.error e used p same) = record {
+    → SaysAndDoes m L moment payload new result
+says_and_does of_two m L moment payload new _ s (taking.fragment f used result p t) =
+    fragment_says_and_does of_two m L moment used payload f new result p s t
+says_and_does of_two m L moment payload new _ s (taking.error e used p same) = record {
   said = another;
   says = saying.error moment used payload e p;
   does = λ memory. same_member m new L another _ same s refl;
   room = λ h. tt;
 }
-told of_two m L moment payload new _ s (taking.query q used p same) = record {
+says_and_does of_two m L moment payload new _ s (taking.query q used p same) = record {
   said = another;
   says = saying.query moment used payload q p;
   does = λ memory. same_member m new L another _ same s refl;
   room = λ h. tt;
 }
-told of_two m L moment payload new _ s (taking.no_packet x p same) = record {
+says_and_does of_two m L moment payload new _ s (taking.no_packet x p same) = record {
   said = refused (fault.Packet x (refusal m.settings payload x));
   says = saying.no_packet moment payload x p;
   does = λ memory. same_member m new L (refused (fault.Packet x (refusal m.settings payload x))) _ same s refl;
@@ -174,7 +174,7 @@ pub does_what_is_said : PacketsKnown → TablesJoin → (m new : MemberValue) (L
     (result : Result Outcome MemberFault) (s : Saying) → StandsOver m L → Says m.settings (Packet moment payload) s
     → Takes m moment payload new result → (result ≡ Err (fault.Table NoMemory) → ⊥) → Does m L s new result
 does_what_is_said known of_two m new L moment payload result s stands says takes memory =
-    let t = told of_two m L moment payload new result stands takes in
+    let t = says_and_does of_two m L moment payload new result stands takes in
     subst (λ (x : Saying). Does m L x new result) (one_saying known m.settings (Packet moment payload) t.said s t.says says) (t.does memory)
 
 -- memory is wanted only where there is room
@@ -182,7 +182,7 @@ pub room_where_no_memory : PacketsKnown → TablesJoin → (m new : MemberValue)
     (s : Saying) → StandsOver m L → Says m.settings (Packet moment payload) s
     → Takes m moment payload new (Err (fault.Table NoMemory)) → HasRoom m.settings L s
 room_where_no_memory known of_two m new L moment payload s stands says takes =
-    let t = told of_two m L moment payload new (Err (fault.Table NoMemory)) stands takes in
+    let t = says_and_does of_two m L moment payload new (Err (fault.Table NoMemory)) stands takes in
     subst (λ (x : Saying). HasRoom m.settings L x) (one_saying known m.settings (Packet moment payload) t.said s t.says says) (t.room refl)
 
 -- a payload that is refused changes nothing

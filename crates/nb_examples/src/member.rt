@@ -3,7 +3,6 @@
 mod lines;
 mod many;
 mod outcomes;
-mod refusals;
 mod replays;
 mod running;
 mod stations;
@@ -28,8 +27,6 @@ pub fn answer(alloc: Global, call: &str, words: &mut Words<'_>) -> Result<String
         "report" => replays::reported(alloc, words),
         "replay" => replays::replayed(alloc, words),
         "written" => replays::written(alloc, words),
-        "error" => refusals::error(alloc, words),
-        "refusal" => refusals::refusal(alloc, words),
         "compare" => values::compared(alloc, words),
         "memory" => values::memory(alloc),
         _ => Err(ExampleFault::NoSuchCall),

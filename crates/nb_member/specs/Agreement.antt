@@ -1,20 +1,34 @@
 -- When two members that are given two lists of events are given the same fragments, within the limit on
--- keys, and before any timer runs out; and what follows (our choice).
+-- keys, and before any timer runs out; that they then have the same table; and what they hand over: for each
+-- key that isn't spoilt the same datagram, once (our choice). The clauses of `two_members` lead from the first
+-- part of this page to the others.
 --
--- S and T are what the events of the two lists say.
-use Rattle.std.specs.Prelude.{◌≡◌, ◌≤◌, List, [], ◌∷◌, length, Some, None}
+-- S and T are what the events of the two lists say, L the cores of the fragments that are given, and ds the
+-- datagrams that a member hands over.
+use Rattle.std.specs.Prelude.{List, [], ◌∷◌, ◌≡◌, ◌≤◌, Some, length, None, filter}
 use Rattle.std.specs.FinMap as maps
-use Rattle.nb_datagram.specs.Fragment.{Core, core_of}
+use Rattle.std.specs.Option.{option_to_list}
+use Rattle.nb_names.specs.Name.{NetbiosName}
+use Rattle.nb_datagram.specs.declared.key.Key.{Key}
+use Rattle.nb_datagram.specs.Fragment.{Core}
+use Rattle.nb_datagram.specs.Key.{same_key}
+use Rattle.nb_datagram.specs.Datagram.{DatagramParts}
 use Rattle.nb_table.specs.Contents.{table_of}
 use Rattle.nb_table.specs.Join.{SameCores}
+use Rattle.nb_table.specs.Whole.{datagram_at}
+use Rattle.nb_table.specs.Conflict.{IsSpoilt}
+use Rattle.nb_table.specs.Sender.{HasPartsAlone, HasAll}
+use Rattle.nb_member.specs.declared.settings.Settings.{Settings}
 use Rattle.nb_member.specs.declared.event.Event.{Event}
-use Rattle.nb_member.specs.declared.pair.Pair.{Pair}
 use Rattle.nb_member.specs.declared.run_report.RunReport.{RunReport}
 use Rattle.nb_member.specs.declared.run_report.RunStop.TheVariants.{NoMemory}
-use Rattle.nb_member.specs.declared.settings.Settings.{Settings}
-use Rattle.nb_member.specs.Live.{Saying, came, refused, another, clock, Timed, live_after}
+use Rattle.nb_member.specs.declared.pair.Pair.{Pair}
+use Rattle.nb_member.specs.Events.{Saying, came, refused, another, clock, Say}
+use Rattle.nb_member.specs.Live.{Timed, cores, live_after}
 use Rattle.nb_member.specs.Member.{contents}
-use Rattle.nb_member.specs.Saying.{Say}
+use Rattle.nb_member.specs.Hearing.{hears, Hears}
+
+-- ---- given the same
 
 -- the valid fragments among S, each with its moment, in order
 abbrev pub valid : List Saying → List Timed
@@ -23,14 +37,6 @@ valid (came moment f ∷ S) = record { moment = moment; fragment = f } ∷ valid
 valid (refused fault ∷ S) = valid S
 valid (another ∷ S) = valid S
 valid (clock now ∷ S) = valid S
-
--- the cores of the valid fragments among S, in order
-abbrev pub valid_cores : List Saying → List Core
-valid_cores [] = []
-valid_cores (came moment f ∷ S) = core_of f ∷ valid_cores S
-valid_cores (refused fault ∷ S) = valid_cores S
-valid_cores (another ∷ S) = valid_cores S
-valid_cores (clock now ∷ S) = valid_cores S
 
 -- DropsNone settings L s: it is no look at the clock that drops a key, where L are live
 abbrev pub DropsNone : Settings → List Timed → Saying → Type 0
@@ -46,12 +52,12 @@ NoneDropped settings L (s ∷ S) = DropsNone settings L s × NoneDropped setting
 
 -- the valid fragments among S have at most as many keys as a table may hold
 abbrev pub IsWithinCapacity : Settings → List Saying → Type 0
-IsWithinCapacity settings S = maps.len (table_of (valid_cores S)) ≤ settings.keys
+IsWithinCapacity settings S = maps.len (table_of (cores (valid S))) ≤ settings.keys
 
 -- the two lists have the same valid fragments, whose keys are within the limit, and no look at the clock
 -- among either drops a key
 pub record GiveTheSame (settings : Settings) (S T : List Saying) : Type 0 where
-  pub same_fragments : SameCores (valid_cores S) (valid_cores T)
+  pub same_fragments : SameCores (cores (valid S)) (cores (valid T))
   pub within_capacity : IsWithinCapacity settings S
   pub none_dropped : NoneDropped settings [] S
   pub none_dropped_there : NoneDropped settings [] T
@@ -64,7 +70,7 @@ pub record AreGivenTheSame (settings : Settings) (events_a events_b : List Event
   pub said_there : Say settings events_b sayings_there
   pub same : GiveTheSame settings sayings sayings_there
 
--- ---- what follows
+-- ---- the same table
 
 -- the run stopped for want of memory
 abbrev pub StoppedForMemory : RunReport → Type 0
@@ -80,3 +86,35 @@ pub record Agree (events_a events_b : List Event) (pair : Pair) : Type 0 where
   pub took_all : TookAll events_a pair.report_a
   pub took_all_there : TookAll events_b pair.report_b
   pub same_table : contents pair.a ≡ contents pair.b
+
+-- ---- the same datagrams, once
+
+-- of_key k ds: the datagrams of key k among ds, in order
+abbrev pub of_key : Key → List DatagramParts → List DatagramParts
+of_key k ds = filter (λ d. same_key k d.key) ds
+
+-- heard names ds: the datagrams among ds that a station with these names hears, in order
+abbrev pub heard : List NetbiosName → List DatagramParts → List DatagramParts
+heard names ds = filter (hears names) ds
+
+-- whole_of L k: the one datagram of key k where L makes it whole, and none otherwise
+abbrev pub whole_of : List Core → Key → List DatagramParts
+whole_of L k = option_to_list (datagram_at (table_of L) k)
+
+-- HandsOverOnce names L ds: for each key that isn't spoilt, ds has exactly one datagram where the key is
+-- whole and a station with these names hears it, and none otherwise
+abbrev pub HandsOverOnce : List NetbiosName → List Core → List DatagramParts → Type 0
+HandsOverOnce names L ds = (k : Key) → (IsSpoilt L k → ⊥) → of_key k ds ≡ heard names (whole_of L k)
+
+-- HandOverTheSame names others L ds es: for each key that isn't spoilt, what one member hands over and
+-- the other hears is what the other hands over and the one hears
+abbrev pub HandOverTheSame : List NetbiosName → List NetbiosName → List Core → List DatagramParts
+    → List DatagramParts → Type 0
+HandOverTheSame names others L ds es =
+    (k : Key) → (IsSpoilt L k → ⊥) → heard others (of_key k ds) ≡ heard names (of_key k es)
+
+-- HandsOverTheSenders names L ds: where all fragments with the key of a datagram are parts of it, cover
+-- its places, and one says that no more follows, ds has it once, and no other of its key, if it is heard
+abbrev pub HandsOverTheSenders : List NetbiosName → List Core → List DatagramParts → Type 0
+HandsOverTheSenders names L ds =
+    (d : DatagramParts) → HasPartsAlone L d → HasAll L d → Hears names d → of_key d.key ds ≡ d ∷ []

@@ -1,15 +1,27 @@
 -- The lines of a capture (our choice), each without its line feed. Numbers of bytes count from the
--- line's first.
---
--- 10 is the line feed, 32 the space and 35 `#`. A moment is in milliseconds.
-use Rattle.std.specs.Prelude.{◌≡◌, ℕ, ◌<◌, ◌≤◌, ◌^◌, List, [], ◌∷◌, ◌++◌, length, codes, Contains, Option, Some, None, Result, Ok, Err}
+-- line's first. A moment is in milliseconds.
+use Rattle.std.specs.Prelude.{ℕ, List, codes, ◌≡◌, ◌<◌, ◌≤◌, ◌^◌, length, [], ◌∷◌, ◌++◌, Contains, Result, Ok, Err, Option, Some, None}
 use Rattle.std.specs.Str.Parse.{IsNumeral, digits_value}
 use Rattle.nb_names.specs.NameText.{IsHexDigit, byte_of}
-use Rattle.nb_member.specs.declared.limits.TheConstants.{MAX_LINE, MAX_MOMENT_DIGITS}
+use Rattle.nb_member.specs.declared.limits.TheConstants.{MAX_MOMENT_DIGITS, MAX_LINE}
 use Rattle.nb_member.specs.declared.line.Line.{Line}
 use Rattle.nb_member.specs.declared.line.Line.TheVariants.{Packet, Tick}
 use Rattle.nb_member.specs.declared.line_fault.LineFault.{LineFault}
 use Rattle.nb_member.specs.declared.line_fault.LineFault.TheVariants.{BadLine, NoMemory}
+
+-- ---- characters
+
+-- the line feed
+abbrev pub line_feed : ℕ
+line_feed = 10
+
+-- the space, which stands between words
+abbrev pub space : ℕ
+space = 32
+
+-- `#`, which begins a comment
+abbrev pub number_sign : ℕ
+number_sign = 35
 
 -- ---- the words of a line
 
@@ -41,21 +53,21 @@ pub data PayloadText : List ℕ → List ℕ → Type 0 where
 
 -- ---- lines
 
--- Says line value: the words of the line, with one space between them, stand for this
-pub data Says : List ℕ → Line → Type 0 where
+-- HasWords line value: the words of the line, with one space between them, stand for this
+pub data HasWords : List ℕ → Line → Type 0 where
   packet : (port moment : ℕ) (payload port_text moment_text payload_text : List ℕ)
       → PortText port port_text → MomentText moment moment_text → PayloadText payload payload_text
-      → Says (port_text ++ 32 ∷ (moment_text ++ 32 ∷ payload_text)) (Packet port moment payload)
-  tick : (now : ℕ) (text : List ℕ) → MomentText now text → Says (codes "tick" ++ 32 ∷ text) (Tick now)
+      → HasWords (port_text ++ space ∷ (moment_text ++ space ∷ payload_text)) (Packet port moment payload)
+  tick : (now : ℕ) (text : List ℕ) → MomentText now text → HasWords (codes "tick" ++ space ∷ text) (Tick now)
 
 -- Blank line: the line is empty, or a comment: `#` and any bytes, without a line feed
 pub data Blank : List ℕ → Type 0 where
   nothing : Blank []
-  comment : (text : List ℕ) → ¬ Contains text 10 → Blank (35 ∷ text)
+  comment : (text : List ℕ) → ¬ Contains text line_feed → Blank (number_sign ∷ text)
 
 -- HasValue line value: this is what the line says, and it isn't too long
 pub record HasValue (line : List ℕ) (value : Line) : Type 0 where
-  pub says : Says line value
+  pub says : HasWords line value
   pub length : length line ≤ MAX_LINE
 
 -- the line says nothing, and isn't too long
@@ -68,22 +80,24 @@ pub record IsMalformed (line : List ℕ) : Type 0 where
   pub not_blank : ¬ SaysNothing line
   pub no_value : (value : Line) → ¬ HasValue line value
 
--- TakesMemory value: memory is taken for what the line says: it is a packet whose payload isn't empty
-pub data TakesMemory : Line → Type 0 where
+-- ---- what is answered of a line
+
+-- NeedsMemory value: what the line says needs memory: it is a packet whose payload isn't empty
+pub data NeedsMemory : Line → Type 0 where
   for_payload : (port moment : ℕ) (payload : List ℕ) → 0 < length payload
-      → TakesMemory (Packet port moment payload)
+      → NeedsMemory (Packet port moment payload)
 
--- ReadsBy Says Takes result: what is answered of words that say what `Says` relates them to; memory
--- counts only where they say something that it is taken for, as `Takes` says
+-- ReadsBy StandFor NeedsMemory result: what is answered of words that stand for what `StandFor` says; that
+-- memory ran out is answered only where they stand for something that needs memory, as `NeedsMemory` says
 abbrev pub ReadsBy : {A : Type 0} → (A → Type 0) → (A → Type 0) → Result A LineFault → Type 0
-ReadsBy Says Takes (Ok value) = Says value
-ReadsBy {A} Says Takes (Err BadLine) = (value : A) → ¬ Says value
-ReadsBy {A} Says Takes (Err NoMemory) = (value : A) × Says value × Takes value
+ReadsBy StandFor NeedsMemory (Ok value) = StandFor value
+ReadsBy {A} StandFor NeedsMemory (Err BadLine) = (value : A) → ¬ StandFor value
+ReadsBy {A} StandFor NeedsMemory (Err NoMemory) = (value : A) × StandFor value × NeedsMemory value
 
--- Reads line result: what is answered of the line; memory counts only where it has a payload that isn't
+-- Reads line result: what is answered of the line; that memory ran out only where it has a payload that isn't
 -- empty
 abbrev pub Reads : List ℕ → Result (Option Line) LineFault → Type 0
 Reads line (Ok None) = SaysNothing line
 Reads line (Ok (Some value)) = HasValue line value
 Reads line (Err BadLine) = IsMalformed line
-Reads line (Err NoMemory) = (value : Line) × HasValue line value × TakesMemory value
+Reads line (Err NoMemory) = (value : Line) × HasValue line value × NeedsMemory value

@@ -1,27 +1,16 @@
--- What events say to a member, and the fragments that are still live after them (RFC 1002 section 5.3).
+-- The fragments that are live after events (RFC 1002 section 5.3).
 --
--- Own: the first fragment of a key starts the timer, at its own moment, and later ones leave it alone,
+-- Our choice: the first fragment of a key starts the timer, at its own moment, and later ones leave it alone,
 -- whatever their moments. Only a look at the clock drops a key. Moments and times are in milliseconds.
-use Rattle.std.specs.Prelude.{◌≡◌, ◌+◌, ℕ, Bool, false, not, ◌&&◌, nat_le, cond, List, [], ◌∷◌, ◌++◌, map, filter, fold, Option, Some, None}
+use Rattle.std.specs.Prelude.{ℕ, List, map, cond, [], ◌∷◌, Option, Some, None, ◌+◌, Bool, false, nat_le, not, ◌&&◌, ◌++◌, filter, fold, ◌≡◌}
 use Rattle.std.specs.FinMap as maps
 use Rattle.nb_datagram.specs.declared.key.Key.{Key}
-use Rattle.nb_datagram.specs.Key.{same_key}
 use Rattle.nb_datagram.specs.Fragment.{FragmentParts, Core, core_of}
+use Rattle.nb_datagram.specs.Key.{same_key}
 use Rattle.nb_table.specs.Contents.{Contents, table_of}
-use Rattle.nb_table.specs.Limits.{Limits}
 use Rattle.nb_member.specs.declared.limits.TheConstants.{FRAGMENT_TIMEOUT}
-use Rattle.nb_member.specs.declared.member_fault.MemberFault.{MemberFault}
 use Rattle.nb_member.specs.declared.settings.Settings.{Settings}
-
--- ---- what an event says
-
--- what an event says to a member: that a fragment came at a moment; that a payload is refused, and why; that
--- another packet came; or what the clock shows
-pub data Saying : Type 0 where
-  came : ℕ → FragmentParts → Saying
-  refused : MemberFault → Saying
-  another : Saying
-  clock : ℕ → Saying
+use Rattle.nb_member.specs.Events.{Saying, came, refused, another, clock}
 
 -- ---- live fragments
 
@@ -51,10 +40,6 @@ is_over now (Some start) = nat_le (start + FRAGMENT_TIMEOUT) now
 -- outlives L now k: the key k isn't dropped where the clock shows now
 abbrev pub outlives : List Timed → ℕ → Key → Bool
 outlives L now k = not (is_over now (start_at L k))
-
--- the limits of a member's table
-abbrev pub limits_of : Settings → Limits
-limits_of settings = record { keys = settings.keys; longest = settings.longest }
 
 -- is_full settings L k: a fragment of key k is not taken in, since the key is new and as many keys are live
 -- as may be

@@ -1,19 +1,16 @@
 -- What a replay makes of a reader's bytes, a writer, and a member (our choice).
-use Rattle.std.specs.Prelude.{◌≡◌, ◌+◌, ◌<◌, ◌≤◌, ◌++◌, ◌∷◌, ℕ, Bool, true, false, List, length, take, Option, Result, Ok, Err}
-use Rattle.std.specs.Io.KnownBytes.{Appends, IsAtEnd}
-use Rattle.nb_member.specs.declared.event.Event.{Event}
+use Rattle.std.specs.Prelude.{ℕ, List, take, ◌≤◌, length, Option, ◌+◌, ◌<◌, ◌++◌, ◌∷◌, ◌≡◌, Result, Ok, Err}
+use Rattle.std.specs.Io.KnownBytes.{IsAtEnd, Appends}
 use Rattle.nb_member.specs.declared.limits.TheConstants.{MAX_LINE}
+use Rattle.nb_names.specs.declared.limits.TheConstants.{MAX_INPUT}
+use Rattle.nb_member.specs.declared.event.Event.{Event}
 use Rattle.nb_member.specs.declared.replay_fault.ReplayFault.{ReplayFault}
 use Rattle.nb_member.specs.declared.replay_fault.ReplayFault.TheVariants.{Line, Read, Write, NoMemory}
-use Rattle.nb_member.specs.Capture.{IsMalformed}
-use Rattle.nb_names.specs.declared.limits.TheConstants.{MAX_INPUT}
-use Rattle.nb_names.specs.Counted.{Counts}
-use Rattle.nb_names.specs.Devices.{ShowsWriteFault}
 use Rattle.nb_names.specs.Lines.{CutInto, with_rest}
-use Rattle.nb_member.specs.Live.{Timed, live}
-use Rattle.nb_member.specs.Member.{MemberValue}
+use Rattle.nb_member.specs.Capture.{IsMalformed}
+use Rattle.nb_member.specs.Live.{Timed}
+use Rattle.nb_member.specs.Member.{MemberValue, Stands}
 use Rattle.nb_member.specs.Report.{ReportOf}
-use Rattle.nb_member.specs.Running.{Stands}
 
 -- ---- the lines among the bytes that came
 
@@ -34,7 +31,7 @@ pub data AreLines (bytes : List ℕ) (left : Option (List ℕ)) : List (List ℕ
   whole : (lines : List (List ℕ)) (rest : List ℕ) → CutInto (looked_at bytes) lines rest → IsWhole bytes left
       → AreLines bytes left (with_rest lines rest)
 
--- ComesMalformed bytes left lines: behind these lines comes a malformed one. Of one that neither a line
+-- ComesMalformed bytes left lines: after these lines comes a malformed one. Of one that neither a line
 -- feed nor the input's end has ended, the length alone is judged
 pub data ComesMalformed (bytes : List ℕ) (left : Option (List ℕ)) : List (List ℕ) → Type 0 where
   ended : (lines more : List (List ℕ)) (line : List ℕ) → AreLines bytes left (lines ++ line ∷ more)
@@ -88,15 +85,3 @@ Replays m H L bytes left new before after (Err Read) =
     × (length rest ≤ MAX_LINE) × Writes m H L lines new before after
 Replays m H L bytes left new before after (Err Write) = Stops m H L bytes left new before after
 Replays m H L bytes left new before after (Err NoMemory) = Stops m H L bytes left new before after
-
--- EndsReplay m new bytes is_whole before after old counts result: the same where these are the bytes that
--- are looked at, and a flag tells whether they are the whole input
-pub record EndsReplay (m new : MemberValue) (bytes : List ℕ) (is_whole : Bool) (before after : Option (List ℕ))
-    (old counts : Counts) (result : Result ℕ ReplayFault) : Type 0 where
-  pub replays : (came : List ℕ) (left : Option (List ℕ)) → bytes ≡ looked_at came
-      → (is_whole ≡ true → IsWhole came left) → (H : List Event) (s : Stands m H)
-      → Replays m H (live m.settings s.sayings) came left new before after result
-  pub read : result ≡ Err Read → is_whole ≡ false
-  pub write : result ≡ Err Write → ShowsWriteFault old counts
-  pub settings_stay : new.settings ≡ m.settings
-  pub names_stay : new.names ≡ m.names

@@ -1,41 +1,115 @@
 -- What the lines of a capture have happen to a member, and the report of them (our choice).
 --
 -- A payload of port 138 and a look at the clock are events of the member. Payloads of the other ports pass
--- it by. Empty lines and comments are counted, and have no line in the report.
-use Rattle.std.specs.Prelude.{◌≢◌, ◌+◌, ◌-◌, ◌++◌, ℕ, List, [], ◌∷◌, codes, Result}
-use Rattle.std.specs.FinMap as maps
+-- it by. Empty lines and comments are counted, and have no line in the report. Numbers are decimal, bytes are
+-- hexadecimal in lower case.
+use Rattle.std.specs.Prelude.{ℕ, List, ◌++◌, slice_index, codes, [], ◌∷◌, Option, Some, None, Result, Ok, Err, ◌-◌, ◌≢◌, ◌+◌}
 use Rattle.std.specs.Fmt.{decimal}
+use Rattle.std.specs.Int.{w16, to_be_bytes}
+use Rattle.std.specs.FinMap as maps
+use Rattle.hex.specs.Hex.{encode_lower}
+use Rattle.nb_names.specs.NameText.{written}
 use Rattle.nb_names.specs.Name.{NetbiosName}
+use Rattle.nb_datagram.specs.declared.key.Key.{Key}
+use Rattle.nb_datagram.specs.declared.kind.Kind.{Kind}
+use Rattle.nb_datagram.specs.declared.kind.Kind.TheVariants.{Unique, Group, Broadcast}
+use Rattle.nb_datagram.specs.declared.packet.ErrorPacket.{ErrorPacket}
+use Rattle.nb_datagram.specs.declared.packet.Packet.TheVariants.{Error}
+use Rattle.nb_datagram.specs.Datagram.{DatagramParts}
+use Rattle.nb_datagram.specs.Packet.{packet_bytes}
+use Rattle.nb_member.specs.declared.outcome.Outcome.{Outcome}
+use Rattle.nb_member.specs.declared.outcome.Outcome.TheVariants.{Kept, Spoilt, Delivered, Unheard, Other}
+use Rattle.nb_member.specs.declared.member_fault.MemberFault.{MemberFault}
+use Rattle.nb_member.specs.declared.settings.Settings.{Settings}
 use Rattle.nb_member.specs.declared.event.Event.{Event}
 use Rattle.nb_member.specs.declared.event.Event.TheVariants as event
 use Rattle.nb_member.specs.declared.line.Line.TheVariants.{Packet, Tick}
-use Rattle.nb_member.specs.declared.member_fault.MemberFault.{MemberFault}
-use Rattle.nb_member.specs.declared.outcome.Outcome.{Outcome}
-use Rattle.nb_member.specs.declared.settings.Settings.{Settings}
-use Rattle.nb_member.specs.Answering.{Answers}
-use Rattle.nb_member.specs.Capture.{HasValue, SaysNothing}
-use Rattle.nb_member.specs.Live.{Saying, clock, Timed, table_from, live_after}
-use Rattle.nb_member.specs.ReportTexts.{numbered, result_text}
-use Rattle.nb_member.specs.Saying.{Says}
+use Rattle.nb_member.specs.FaultTexts.{member_fault_text}
+use Rattle.nb_member.specs.Deliveries.{error_of}
+use Rattle.nb_member.specs.Events.{clock, Saying, Says}
+use Rattle.nb_member.specs.Live.{Timed, table_from, live_after}
+use Rattle.nb_member.specs.Taking.{Answers}
+use Rattle.nb_member.specs.Capture.{line_feed, space, HasValue, SaysNothing}
+
+-- ---- texts of values
+
+-- an IPv4 address: its four numbers, with dots between them
+abbrev pub address_text : List ℕ → List ℕ
+address_text ip =
+    decimal (slice_index ip 0)
+    ++ (codes "." ++ (decimal (slice_index ip 1)
+    ++ (codes "." ++ (decimal (slice_index ip 2) ++ (codes "." ++ decimal (slice_index ip 3))))))
+
+-- a key: the address, the port, and the identifier as four hexadecimal digits
+abbrev pub key_text : Key → List ℕ
+key_text k =
+    address_text k.ip ++ (codes ":" ++ (decimal k.port ++ (codes "/" ++ encode_lower (to_be_bytes w16 k.id))))
+
+-- the word for a kind
+abbrev pub kind_text : Kind → List ℕ
+kind_text Unique = codes "unique"
+kind_text Group = codes "group"
+kind_text Broadcast = codes "broadcast"
+
+-- data in hexadecimal, or `empty`
+abbrev pub data_text : List ℕ → List ℕ
+data_text [] = codes "empty"
+data_text (b ∷ bytes) = encode_lower (b ∷ bytes)
+
+-- a datagram's kind, source, destination and data, each after a space
+abbrev pub parts_text : DatagramParts → List ℕ
+parts_text d =
+    codes " " ++ (kind_text d.kind ++ (codes " " ++ (written d.source
+    ++ (codes " " ++ (written d.destination ++ (codes " " ++ data_text d.bytes))))))
+
+-- a datagram: its key and its parts
+abbrev pub datagram_text : DatagramParts → List ℕ
+datagram_text d = key_text d.key ++ parts_text d
+
+-- what is said of the error packet that is answered, if there is one: its bytes
+abbrev pub error_text : Option ErrorPacket → List ℕ
+error_text None = []
+error_text (Some e) = codes " error " ++ encode_lower (packet_bytes (Error e))
+
+-- ---- what became of a payload
+
+-- what became of a payload that was taken
+abbrev pub outcome_text : Outcome → List ℕ
+outcome_text (Kept k) = codes "kept " ++ key_text k
+outcome_text (Spoilt k) = codes "spoilt " ++ key_text k
+outcome_text (Delivered d) = codes "delivered " ++ datagram_text d
+outcome_text (Unheard k error) = codes "unheard " ++ (key_text k ++ error_text error)
+outcome_text Other = codes "other"
+
+-- the same, or why it was refused, with the error packet that is answered
+abbrev pub result_text : Result Outcome MemberFault → List ℕ
+result_text (Ok outcome) = outcome_text outcome
+result_text (Err fault) = codes "refused " ++ (member_fault_text fault ++ error_text (error_of fault))
+
+-- ---- lines and their report
+
+-- numbered n text: the line of the report about line n of the capture
+abbrev pub numbered : ℕ → List ℕ → List ℕ
+numbered n text = decimal n ++ space ∷ (text ++ line_feed ∷ [])
 
 -- dropped settings L now: how many keys a look at the clock drops, where L are live
 abbrev pub dropped : Settings → List Timed → ℕ → ℕ
 dropped settings L now = maps.len (table_from L) - maps.len (table_from (live_after settings L (clock now)))
 
--- Acts settings names n L line events text after: where L are live in a station with these names, line n
+-- ReportOfLine settings names n L line events text after: where L are live in a station with these names, line n
 -- of the capture is these events of the station, text is its line in the report, if it has one, and after
 -- it these are live
-pub data Acts (settings : Settings) (names : List NetbiosName) (n : ℕ) (L : List Timed) : List ℕ → List Event → List ℕ → List Timed → Type 0 where
-  nothing : (line : List ℕ) → SaysNothing line → Acts settings names n L line [] [] L
+pub data ReportOfLine (settings : Settings) (names : List NetbiosName) (n : ℕ) (L : List Timed) : List ℕ → List Event → List ℕ → List Timed → Type 0 where
+  nothing : (line : List ℕ) → SaysNothing line → ReportOfLine settings names n L line [] [] L
   passed : (line payload : List ℕ) (port moment : ℕ) → HasValue line (Packet port moment payload) → port ≢ 138
-      → Acts settings names n L line [] (numbered n (codes "passed")) L
+      → ReportOfLine settings names n L line [] (numbered n (codes "passed")) L
   taken : (line payload : List ℕ) (moment : ℕ) (said : Saying) (result : Result Outcome MemberFault)
       → HasValue line (Packet 138 moment payload) → Says settings (event.Packet moment payload) said
       → Answers settings names L said result
-      → Acts settings names n L line (event.Packet moment payload ∷ []) (numbered n (result_text result))
+      → ReportOfLine settings names n L line (event.Packet moment payload ∷ []) (numbered n (result_text result))
       (live_after settings L said)
   tick : (line : List ℕ) (now : ℕ) → HasValue line (Tick now)
-      → Acts settings names n L line (event.Tick now ∷ [])
+      → ReportOfLine settings names n L line (event.Tick now ∷ [])
       (numbered n (codes "dropped " ++ decimal (dropped settings L now)))
       (live_after settings L (clock now))
 
@@ -44,6 +118,6 @@ pub data Acts (settings : Settings) (names : List NetbiosName) (n : ℕ) (L : Li
 pub data ReportOf (settings : Settings) (names : List NetbiosName) : ℕ → List Timed → List (List ℕ) → List Event → List ℕ → Type 0 where
   none : (n : ℕ) (L : List Timed) → ReportOf settings names n L [] [] []
   more : (n : ℕ) (L after : List Timed) (line : List ℕ) (lines : List (List ℕ)) (events others : List Event)
-      (text report : List ℕ) → Acts settings names n L line events text after
+      (text report : List ℕ) → ReportOfLine settings names n L line events text after
       → ReportOf settings names (n + 1) after lines others report
       → ReportOf settings names n L (line ∷ lines) (events ++ others) (text ++ report)

@@ -1,24 +1,17 @@
 -- What a run of events makes of a member, and what it reports (our choice).
-use Rattle.std.specs.Prelude.{⊤, ◌≡◌, ℕ, ◌+◌, ◌≤◌, true, List, [], ◌∷◌, ◌++◌, length, take, drop, Option, Some, None}
+use Rattle.std.specs.Prelude.{ℕ, ◌+◌, List, [], ◌∷◌, ◌≡◌, true, ⊤, Option, Some, None, take, drop, ◌≤◌, ◌++◌, length}
 use Rattle.nb_datagram.specs.declared.key.Key.{Key}
 use Rattle.nb_datagram.specs.Fragment.{FragmentParts}
 use Rattle.nb_member.specs.declared.event.Event.{Event}
+use Rattle.nb_member.specs.declared.settings.Settings.{Settings}
 use Rattle.nb_member.specs.declared.event.Event.TheVariants.{Packet, Tick}
-use Rattle.nb_member.specs.declared.run_report.RunReport.{RunReport}
 use Rattle.nb_member.specs.declared.run_report.RunStop.{RunStop}
 use Rattle.nb_member.specs.declared.run_report.RunStop.TheVariants.{Full, NoMemory}
-use Rattle.nb_member.specs.declared.settings.Settings.{Settings}
-use Rattle.nb_member.specs.Handed.{deliveries, errors}
-use Rattle.nb_member.specs.Live.{Saying, came, refused, another, clock, Timed, is_full, NoneFull, live_from, live}
-use Rattle.nb_member.specs.Member.{MemberValue, StandsOver}
-use Rattle.nb_member.specs.Saying.{Says, Say}
-
--- Stands m H: the member m stands for the events H: its table, and the moments of its keys, are those of
--- the fragments that are live after H
-pub record Stands (m : MemberValue) (H : List Event) : Type 0 where
-  pub sayings : List Saying
-  pub said : Say m.settings H sayings
-  pub over : StandsOver m (live m.settings sayings)
+use Rattle.nb_member.specs.declared.run_report.RunReport.{RunReport}
+use Rattle.nb_member.specs.Events.{Saying, came, refused, another, clock, Says, Say}
+use Rattle.nb_member.specs.Live.{Timed, is_full, NoneFull, live_from, live}
+use Rattle.nb_member.specs.Deliveries.{deliveries, errors}
+use Rattle.nb_member.specs.Member.{MemberValue, Stands}
 
 -- refused_count S: how many of the events that say S are refused
 abbrev pub refused_count : List Saying → ℕ
@@ -28,12 +21,8 @@ refused_count (refused fault ∷ S) = 1 + refused_count S
 refused_count (another ∷ S) = refused_count S
 refused_count (clock now ∷ S) = refused_count S
 
--- MeetsLimit settings L rest k: the next of the events says a fragment of key k, and that is full, where L
--- are live
-pub record MeetsLimit (settings : Settings) (L : List Timed) (rest : List Event) (k : Key) : Type 0 where
-  pub event : Event
-  pub later : List Event
-  pub next : rest ≡ event ∷ later
+-- MeetsLimit settings L event k: the event says a fragment of key k, and that is full, where L are live
+pub record MeetsLimit (settings : Settings) (L : List Timed) (event : Event) (k : Key) : Type 0 where
   pub moment : ℕ
   pub f : FragmentParts
   pub says : Says settings event (came moment f)
@@ -45,18 +34,19 @@ abbrev pub IsPayload : Event → Type 0
 IsPayload (Packet moment payload) = ⊤
 IsPayload (Tick now) = ⊥
 
--- the next of the events is a payload that came
-abbrev pub NextIsPayload : List Event → Type 0
-NextIsPayload [] = ⊥
-NextIsPayload (event ∷ later) = IsPayload event
+-- StopsAt settings L event stop: a run stops before the event, where L are live: since memory ran out only
+-- where the event is a payload that doesn't meet the limit
+abbrev pub StopsAt : Settings → List Timed → Event → RunStop → Type 0
+StopsAt settings L event (Full k) = MeetsLimit settings L event k
+StopsAt settings L event NoMemory = IsPayload event × ((k : Key) → MeetsLimit settings L event k → ⊥)
 
--- StopsBefore settings L rest stop: these events are left, where L are live: there are none exactly where
--- the run didn't stop; memory runs out only before a payload, and before none that meets the limit
+-- StopsBefore settings L rest stop: these events are left, where L are live: none exactly where the run
+-- didn't stop
 abbrev pub StopsBefore : Settings → List Timed → List Event → Option RunStop → Type 0
-StopsBefore settings L rest None = rest ≡ []
-StopsBefore settings L rest (Some (Full k)) = MeetsLimit settings L rest k
-StopsBefore settings L rest (Some NoMemory) =
-    NextIsPayload rest × ((k : Key) → MeetsLimit settings L rest k → ⊥)
+StopsBefore settings L [] None = ⊤
+StopsBefore settings L [] (Some stop) = ⊥
+StopsBefore settings L (event ∷ later) None = ⊥
+StopsBefore settings L (event ∷ later) (Some stop) = StopsAt settings L event stop
 
 -- Reports m L events report: what a run of these events in the member m reports, where L are live before;
 -- none of those that were taken met the limit on keys

@@ -1,29 +1,38 @@
--- What a member does with a payload (RFC 1002 section 5.3).
-use Rattle.std.specs.Prelude.{◌≡◌, ℕ, cond, List, Result, Ok, Err}
+-- What a member does with a payload (RFC 1002 section 5.3), first by its bytes, and then by what it says and what
+-- is live; and with another's table (our choice).
+use Rattle.std.specs.Prelude.{cond, List, ◌≡◌, ℕ, Result, Ok, Err, false, true, Option, Some, None, filter}
+use Rattle.std.specs.FinMap as maps
 use Rattle.nb_names.specs.Name.{NetbiosName}
-use Rattle.nb_datagram.specs.declared.fault.DatagramFault.{DatagramFault}
 use Rattle.nb_datagram.specs.declared.key.Key.{Key}
+use Rattle.nb_datagram.specs.declared.fault.DatagramFault.{DatagramFault}
 use Rattle.nb_datagram.specs.declared.packet.ErrorPacket.{ErrorPacket}
 use Rattle.nb_datagram.specs.declared.packet.QueryPacket.{QueryPacket}
 use Rattle.nb_datagram.specs.declared.packet.Packet.TheVariants.{Direct, Error, Query}
 use Rattle.nb_datagram.specs.Datagram.{DatagramParts}
-use Rattle.nb_datagram.specs.DatagramFaults.{PacketFails}
 use Rattle.nb_datagram.specs.Fragment.{FragmentParts}
+use Rattle.nb_datagram.specs.DatagramFaults.{PacketFails}
 use Rattle.nb_datagram.specs.Packet.{IsPacket}
 use Rattle.nb_table.specs.declared.change.Change.{Change}
 use Rattle.nb_table.specs.declared.change.Change.TheVariants as change
+use Rattle.nb_table.specs.declared.fault.TableFault.TheVariants.{Full}
 use Rattle.nb_table.specs.Change.{IsChange}
-use Rattle.nb_table.specs.Insert.{Passes, Refuses, Takes as TableTakes}
-use Rattle.nb_table.specs.Limits.{IsFull}
+use Rattle.nb_table.specs.Insert.{Takes as TableTakes, Refuses}
+use Rattle.nb_table.specs.Maps.{first_of}
+use Rattle.nb_table.specs.Contents.{Contents}
+use Rattle.nb_table.specs.Join.{join}
+use Rattle.nb_table.specs.Limits.{with_contents}
+use Rattle.nb_table.specs.Merging.{Fits, newly_handed}
+use Rattle.nb_member.specs.declared.outcome.Outcome.{Outcome}
+use Rattle.nb_member.specs.declared.outcome.Outcome.TheVariants.{Delivered, Unheard, Kept, Spoilt, Other}
+use Rattle.nb_member.specs.declared.settings.Settings.{Settings}
 use Rattle.nb_member.specs.declared.member_fault.MemberFault.{MemberFault}
 use Rattle.nb_member.specs.declared.member_fault.MemberFault.TheVariants.{Packet, Table}
-use Rattle.nb_member.specs.declared.outcome.Outcome.{Outcome}
-use Rattle.nb_member.specs.declared.outcome.Outcome.TheVariants.{Kept, Spoilt, Delivered, Unheard, Other}
-use Rattle.nb_member.specs.declared.settings.Settings.{Settings}
-use Rattle.nb_member.specs.Hearing.{hears, unheard}
-use Rattle.nb_member.specs.Member.{MemberValue, contents, with_timed}
-use Rattle.nb_member.specs.Saying.{refusal}
-use Rattle.nb_member.specs.Timing.{after_fragment}
+use Rattle.nb_member.specs.Hearing.{hears, unheard, refusal}
+use Rattle.nb_member.specs.Member.{MemberValue, contents, with_timed, after_fragment, StandsOver, Moments, TimedValue}
+use Rattle.nb_member.specs.Events.{Saying, came, refused, another, clock}
+use Rattle.nb_member.specs.Live.{Timed, table_from, is_full, live_after}
+
+-- ---- a payload, by its bytes
 
 -- handed settings names k d: what is answered where the datagram d of key k became whole
 abbrev pub handed : Settings → List NetbiosName → Key → DatagramParts → Outcome
@@ -60,21 +69,58 @@ pub data Takes (m : MemberValue) (moment : ℕ) (payload : List ℕ) (new : Memb
   no_packet : (fault : DatagramFault) → PacketFails payload fault → new ≡ m
       → Takes m moment payload new (Err (Packet fault (refusal m.settings payload fault)))
 
--- ---- payloads for which there is no room
+-- ---- a payload, by what it says
 
--- IsFullAt m k: the member's table has no room for the key k
-abbrev pub IsFullAt : MemberValue → Key → Type 0
-IsFullAt m k = IsFull m.timed.table.limits (contents m) k
+-- IsAnswered settings names L s f outcome: the event says s, that the fragment f came; it is taken in, since
+-- its key isn't full where L are live, and the outcome shows what it changed at its key
+pub record IsAnswered (settings : Settings) (names : List NetbiosName) (L : List Timed) (s : Saying)
+    (f : FragmentParts) (outcome : Outcome) : Type 0 where
+  pub room : is_full settings L f.key ≡ false
+  pub change : Change
+  pub changed : IsChange (table_from L) (table_from (live_after settings L s)) f.key change
+  pub answered : outcome ≡ outcome_of settings names f.key change
 
--- MeetsFull m f: the fragment f passes, and the member m has no room for its key
-pub record MeetsFull (m : MemberValue) (f : FragmentParts) : Type 0 where
-  pub passes : Passes m.timed.table.limits f
-  pub full : IsFullAt m f.key
+-- AnswersFragment settings names L s f result: what is answered where the event says s, that the fragment f
+-- came: an outcome, or that its key is full
+abbrev pub AnswersFragment : Settings → List NetbiosName → List Timed → Saying → FragmentParts → Result Outcome MemberFault → Type 0
+AnswersFragment settings names L s f (Ok outcome) = IsAnswered settings names L s f outcome
+AnswersFragment settings names L s f (Err fault) =
+    (is_full settings L f.key ≡ true) × (fault ≡ Table (Full f.key))
 
--- BeginsFull m payload k: the payload begins with such a fragment, which has the key k
-pub record BeginsFull (m : MemberValue) (payload : List ℕ) (k : Key) : Type 0 where
-  pub f : FragmentParts
-  pub used : ℕ
-  pub found : IsPacket payload (Direct f) used
-  pub meets : MeetsFull m f
-  pub key : f.key ≡ k
+-- Answers settings names L s result: what a station with these settings and names answers to a payload that
+-- says s, where L are live before
+abbrev pub Answers : Settings → List NetbiosName → List Timed → Saying → Result Outcome MemberFault → Type 0
+Answers settings names L (came moment f) result = AnswersFragment settings names L (came moment f) f result
+Answers settings names L (refused fault) result = result ≡ Err fault
+Answers settings names L another result = result ≡ Ok Other
+Answers settings names L (clock now) result = ⊥
+
+-- Does m L s new result: the member m, which stands for the fragments L, does what a payload that says s asks
+-- for: it becomes new, which stands for the fragments that are live then, and answers with result
+pub record Does (m : MemberValue) (L : List Timed) (s : Saying) (new : MemberValue) (result : Result Outcome MemberFault) : Type 0 where
+  pub stands : StandsOver new (live_after m.settings L s)
+  pub settings_stay : new.settings ≡ m.settings
+  pub names_stay : new.names ≡ m.names
+  pub answers : Answers m.settings m.names L s result
+
+-- ---- another's table
+
+-- start_after moments other moment k: when the key k came, once the other table was merged at this moment:
+-- as before, if it was there, else then, if the other table has it
+abbrev pub start_after : Moments → Contents → ℕ → Key → Option ℕ
+start_after moments other moment k =
+    first_of (maps.get moments k) (cond (maps.contains_key other k) (Some moment) None)
+
+-- IsMerged t other moment new: the table t and its moments, with the other table merged at this moment, are
+-- new; the limits stay
+pub record IsMerged (t : TimedValue) (other : Contents) (moment : ℕ) (new : TimedValue) : Type 0 where
+  pub table_is : new.table ≡ with_contents t.table (join t.table.contents other)
+  pub moments_are : (k : Key) → maps.get new.moments k ≡ start_after t.moments other moment k
+
+-- Absorbs m other moment new datagrams: the member m merged the other table at this moment, became new, and
+-- handed over these datagrams: of those that became whole, by ascending key, the ones that it hears
+pub record Absorbs (m : MemberValue) (other : Contents) (moment : ℕ) (new : MemberValue) (datagrams : List DatagramParts) : Type 0 where
+  pub fits : Fits m.timed.table.limits (contents m) other
+  pub stays : new ≡ with_timed m new.timed
+  pub merged : IsMerged m.timed other moment new.timed
+  pub heard : datagrams ≡ filter (hears m.names) (newly_handed (contents m) (contents new))

@@ -3,7 +3,7 @@ ghost use Rattle.std.specs.Prelude.{◌≡◌, ℕ, ◌<◌, ◌++◌, ◌∷◌
 ghost use Rattle.std.specs.List.{list_all};
 ghost use Rattle.std.specs.Char.{is_ascii_digit, is_ascii_hexdigit};
 ghost use Rattle.nb_names.specs.NameText.{IsHexDigit};
-ghost use Rattle.nb_member.specs.Capture.{PortText, MomentText, PayloadText, HexText, Reads, ReadsBy, TakesMemory, Blank, Says};
+ghost use Rattle.nb_member.specs.Capture.{space, PortText, MomentText, PayloadText, HexText, Reads, ReadsBy, NeedsMemory, Blank, HasWords};
 
 use crate::limits::{MAX_LINE, MAX_MOMENT_DIGITS};
 use crate::line::Line;
@@ -56,7 +56,7 @@ fn is_blank(line: &[u8]) -> bool
 
 /// What a line says that is neither empty nor a comment, whatever its length.
 fn value_of(alloc: Global, line: &[u8]) -> Result<Line, LineFault>
-    ensures { ReadsBy (Says line.now) TakesMemory result }
+    ensures { ReadsBy (HasWords line.now) NeedsMemory result }
 {
     if let Some(digits) = line.strip_prefix(b"tick ") {
         return match moment_of(digits) {
@@ -73,8 +73,10 @@ fn value_of(alloc: Global, line: &[u8]) -> Result<Line, LineFault>
 /// The port that a packet's line begins with, and what stands after it and a space.
 fn after_port(line: &[u8]) -> Option<(u16, &[u8])>
     ensures { MatchOption result
-        ((port : ℕ) (text words : List ℕ) → PortText port text → ¬ (line.now ≡ text ++ 32 ∷ words))
-        (λ read. (text : List ℕ) × PortText read.0 text × (line.now ≡ text ++ 32 ∷ read.1.now)) }
+        ((port : ℕ) (text words : List ℕ) → PortText port text →
+        ¬ (line.now ≡ text ++ space ∷ words))
+        (λ read. (text : List ℕ) × PortText read.0 text
+        × (line.now ≡ text ++ space ∷ read.1.now)) }
 {
     if let Some(words) = line.strip_prefix(b"137 ") {
         return Some((137, words));
@@ -91,7 +93,7 @@ fn after_port(line: &[u8]) -> Option<(u16, &[u8])>
 /// The packet of a line with this port and, after it, these words.
 fn packet_of(alloc: Global, port: u16, words: &[u8]) -> Result<Line, LineFault>
     ensures { (text : List ℕ) → PortText port text →
-        ReadsBy (Says (text ++ 32 ∷ words.now)) TakesMemory result }
+        ReadsBy (HasWords (text ++ space ∷ words.now)) NeedsMemory result }
 {
     let Some((digits, hexadecimal)) = at_space(words) else {
         return Err(LineFault::BadLine);
@@ -109,8 +111,9 @@ fn packet_of(alloc: Global, port: u16, words: &[u8]) -> Result<Line, LineFault>
 
 /// What stands before the first space, and what after it.
 fn at_space(text: &[u8]) -> Option<(&[u8], &[u8])>
-    ensures { MatchOption result (¬ Contains text.now 32)
-        (λ parts. (text.now ≡ parts.0.now ++ 32 ∷ parts.1.now) × (¬ Contains parts.0.now 32)) }
+    ensures { MatchOption result (¬ Contains text.now space)
+        (λ parts. (text.now ≡ parts.0.now ++ space ∷ parts.1.now)
+        × (¬ Contains parts.0.now space)) }
 {
     let at = text.iter().position(|byte| *byte == b' ')?;
     Some((&text[..at], &text[at + 1..]))

@@ -1,7 +1,6 @@
 //! The error packets that a member answers with.
 ghost use Rattle.std.specs.Prelude.{◌≡◌};
-ghost use Rattle.nb_member.specs.Hearing.{error_about, unheard};
-ghost use Rattle.nb_member.specs.Saying.{bad_name, refusal};
+ghost use Rattle.nb_member.specs.Hearing.{error_about, unheard, bad_name, refusal};
 
 use crate::settings::Settings;
 use nb_datagram::limits::HEADER_LENGTH;
@@ -13,7 +12,7 @@ impl Settings {
     ///
     /// RFC 1002 sections 4.4.3 and 5.3; its address and port, the member's, and its flags, 02, are
     /// our choice.
-    pub fn error_about(&self, kind: Kind, id: u16, code: u8) -> Option<ErrorPacket>
+    fn error_about(&self, kind: Kind, id: u16, code: u8) -> Option<ErrorPacket>
         ensures { result ≡ error_about self.now kind id code }
     {
         match kind {
@@ -31,7 +30,7 @@ impl Settings {
     }
 
     /// The error packet about a datagram that became whole and isn't heard.
-    pub fn unheard(&self, datagram: &Datagram) -> Option<ErrorPacket>
+    pub(crate) fn unheard(&self, datagram: &Datagram) -> Option<ErrorPacket>
         ensures { result ≡ unheard self.now datagram.now }
     {
         self.error_about(
@@ -43,7 +42,7 @@ impl Settings {
 
     /// The error packet about a payload that is refused with this fault, which is sent where a name
     /// of a direct unique datagram is bad.
-    pub fn refusal(&self, payload: &[u8], fault: DatagramFault) -> Option<ErrorPacket>
+    pub(crate) fn refusal(&self, payload: &[u8], fault: DatagramFault) -> Option<ErrorPacket>
         ensures { result ≡ refusal self.now payload.now fault }
     {
         match fault {

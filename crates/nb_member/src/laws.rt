@@ -6,38 +6,36 @@ ghost use Rattle.nb_member.specs.declared.limits.TheConstants.{MAX_LINE, MAX_MOM
 ghost use Rattle.nb_member.specs.declared.line.Line.{Line};
 ghost use Rattle.nb_member.specs.declared.line_fault.LineFault.{LineFault};
 ghost use Rattle.nb_member.specs.declared.line_fault.LineFault.TheVariants.{BadLine, NoMemory};
-ghost use Rattle.nb_member.specs.Capture.{HasValue, SaysNothing, IsMalformed, Reads};
 ghost use Rattle.nb_member.specs.declared.settings.Settings.{Settings};
 ghost use Rattle.nb_member.specs.declared.event.Event.{Event};
 ghost use Rattle.nb_member.specs.declared.event.Event.TheVariants.{Packet};
 ghost use Rattle.nb_member.specs.declared.member_fault.MemberFault.{MemberFault};
 ghost use Rattle.nb_member.specs.declared.member_fault.MemberFault.TheVariants.{Table};
 ghost use Rattle.nb_member.specs.declared.outcome.Outcome.{Outcome};
-ghost use Rattle.nb_member.specs.Saying.{Says, Say};
-ghost use Rattle.nb_member.specs.Live.{Saying, Timed, clock, cores, HasRoom, NoneFull, live, live_after, table_from};
+ghost use Rattle.nb_member.specs.Capture.{line_feed, space, number_sign, HasValue, SaysNothing, IsMalformed, Reads};
+ghost use Rattle.nb_member.specs.Events.{Says, Say, Saying, clock};
+ghost use Rattle.nb_member.specs.Live.{Timed, cores, HasRoom, NoneFull, live, live_after, table_from};
 ghost use Rattle.nb_member.specs.Hearing.{hears};
-ghost use Rattle.nb_member.specs.Handed.{made_by, errors_by};
-ghost use Rattle.nb_member.specs.Member.{MemberValue, with_timed, StandsOver};
-ghost use Rattle.nb_member.specs.Taking.{Takes};
-ghost use Rattle.nb_member.specs.Timing.{after_clock};
-ghost use Rattle.nb_member.specs.Answering.{Answers, Does, delivery_in, error_in};
-ghost use Rattle.nb_member.specs.Agreement.{valid, valid_cores, NoneDropped, GiveTheSame};
+ghost use Rattle.nb_member.specs.Deliveries.{made_by, errors_by, delivery_in, error_in};
+ghost use Rattle.nb_member.specs.Member.{MemberValue, with_timed, StandsOver, after_clock};
+ghost use Rattle.nb_member.specs.Taking.{Takes, Answers, Does};
+ghost use Rattle.nb_member.specs.Agreement.{valid, NoneDropped, GiveTheSame};
 
-mod delivering;
+mod deliveries;
+mod events;
 mod merging;
-mod telling;
 
-pub use delivering::{
+pub use deliveries::{
     a_senders_datagram_is_handed_over, a_whole_key_is_handed_over_once, both_hand_over_the_same,
     once_is_one_or_none,
 };
+pub use events::each_event_says_something;
 pub use merging::{a_new_member_stands_for_no_event, merging_gives_the_table_of_both};
 use nb_datagram::laws::{one_datagram_fault, one_packet};
 use nb_table::laws::{
     keeping_keys_keeps_their_fragments, same_cores_make_the_same_table,
     table_has_the_entry_of_its_list, table_of_two_lists_is_the_join,
 };
-pub use telling::each_event_says_something;
 
 /// A line of a capture says one thing at most, and none that says nothing.
 pub fn a_line_has_one_value()
@@ -122,7 +120,7 @@ pub fn live_fragments_are_the_valid_ones()
         NoneDropped settings [] S → NoneFull settings [] S → live settings S ≡ valid S }
     ensures cores { (settings : Settings) (S : List Saying) →
         NoneDropped settings [] S → NoneFull settings [] S →
-        cores (live settings S) ≡ valid_cores S }
+        cores (live settings S) ≡ cores (valid S) }
 {}
 
 /// Where events say the same fragments, whose keys are within the limit, and no look at the clock
@@ -138,10 +136,13 @@ pub fn the_same_fragments_make_the_same_table()
     same_cores_make_the_same_table();
 }
 
-/// The limits, as numbers.
+/// The limits, and the characters of a capture's lines, as numbers.
 pub fn limits_are_these_numbers()
     ensures line { MAX_LINE ≡ 262200 }
     ensures digits { MAX_MOMENT_DIGITS ≡ 20 }
     ensures timeout { FRAGMENT_TIMEOUT ≡ 2000 }
     ensures names { MAX_NAMES ≡ 254 }
+    ensures line_feed { line_feed ≡ 10 }
+    ensures space { space ≡ 32 }
+    ensures number_sign { number_sign ≡ 35 }
 {}

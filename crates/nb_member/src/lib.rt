@@ -1,7 +1,6 @@
 //! Members: stations that take the payloads of a capture.
 #![tactic(auto)]
 
-mod acting;
 mod capture;
 mod error_packets;
 mod event;
@@ -9,6 +8,7 @@ pub mod laws;
 pub mod limits;
 mod line;
 mod line_fault;
+mod line_reports;
 mod local_names;
 mod member;
 mod member_fault;

@@ -1,8 +1,7 @@
 //! The names of a station.
 ghost use Rattle.std.specs.Prelude.{◌≡◌, [], ◌≤◌, length, Contains, IsTrue, ◌↔◌};
-ghost use Rattle.nb_member.specs.Adding.{Adds};
 ghost use Rattle.nb_member.specs.declared.limits.TheConstants.{MAX_NAMES};
-ghost use Rattle.nb_member.specs.Hearing.{holds, holds_scope, hears, HoldsScope, Hears};
+ghost use Rattle.nb_member.specs.Hearing.{Adds, holds, holds_scope, hears, HoldsScope, Hears};
 
 use crate::limits::MAX_NAMES;
 use nb_datagram::{Datagram, Kind};
@@ -112,9 +111,10 @@ impl LocalNames {
 
     /// Whether a station with these names hears the datagram. No memory is taken.
     ///
-    /// For a unique or a group name, that is where one of the names is the destination; for a
-    /// broadcast, where one has the destination's scope. RFC 1002 section 5.3; that the two types
-    /// of direct datagrams are heard alike is our choice.
+    /// A unique or group datagram is heard where one of the names is its destination, a broadcast
+    /// where one has its destination's scope. A member asks this of each datagram that becomes
+    /// whole; a station's program asks it where it has a datagram without a member. RFC 1002
+    /// section 5.3; that the two types of direct datagrams are heard alike is our choice.
     pub fn hears(&self, datagram: &Datagram) -> bool
         ensures value { result ≡ hears self.now datagram.now }
         ensures heard { IsTrue result ↔ Hears self.now datagram.now }

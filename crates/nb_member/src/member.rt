@@ -1,11 +1,11 @@
 //! Members.
 ghost use Rattle.std.specs.Prelude.{◌≡◌, ◌+◌, ◌↔◌, IsTrue, MatchOption};
 ghost use Rattle.std.specs.FinMap as maps;
-ghost use Rattle.nb_member.specs.Live.{limits_of};
-ghost use Rattle.nb_member.specs.Member.{contents, new_member, with_timed};
-ghost use Rattle.nb_member.specs.Taking.{Takes, TakesFragment, IsFullAt, MeetsFull, BeginsFull, handed, outcome_of};
 ghost use Rattle.nb_datagram.specs.declared.key.Key.{Key};
-ghost use Rattle.nb_member.specs.Timing.{after_clock};
+ghost use Rattle.nb_member.specs.Events.{limits_of};
+ghost use Rattle.nb_member.specs.Member.{contents, new_member, with_timed, after_clock};
+ghost use Rattle.nb_member.specs.Taking.{Takes, TakesFragment, handed, outcome_of};
+ghost use Rattle.nb_member.specs.Code.Members.{IsFullAt, MeetsFull, BeginsFull};
 
 mod absorbing;
 
@@ -30,8 +30,9 @@ pub struct Member {
 
 impl Model for Member {
     ghost use Rattle.std.specs.Prelude.{◌≡◌};
-    ghost use Rattle.nb_member.specs.Live.{limits_of};
-    ghost use Rattle.nb_member.specs.Member.{MemberValue, member_code};
+    ghost use Rattle.nb_member.specs.Events.{limits_of};
+    ghost use Rattle.nb_member.specs.Member.{MemberValue};
+    ghost use Rattle.nb_member.specs.Code.Members.{member_code};
 
     ghost Value = { MemberValue };
 

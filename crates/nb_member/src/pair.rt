@@ -1,6 +1,6 @@
 //! Two members side by side.
-ghost use Rattle.nb_member.specs.Agreement.{valid_cores, AreGivenTheSame, StoppedForMemory, Agree};
-ghost use Rattle.nb_member.specs.HandedOver.{HandsOverOnce, HandOverTheSame, HandsOverTheSenders};
+ghost use Rattle.nb_member.specs.Agreement.{valid, AreGivenTheSame, StoppedForMemory, Agree, HandsOverOnce, HandOverTheSame, HandsOverTheSenders};
+ghost use Rattle.nb_member.specs.Live.{cores};
 ghost use Rattle.nb_member.specs.Member.{new_member};
 ghost use Rattle.nb_member.specs.Running.{Runs};
 
@@ -54,16 +54,16 @@ pub fn two_members(
         Agree events_a.now events_b.now result }
     ensures once { (given : AreGivenTheSame settings events_a.now events_b.now) →
         ¬ StoppedForMemory result.report_a → ¬ StoppedForMemory result.report_b →
-        HandsOverOnce names_a (valid_cores given.sayings) result.report_a.deliveries
-        × HandsOverOnce names_b (valid_cores given.sayings) result.report_b.deliveries }
+        HandsOverOnce names_a (cores (valid given.sayings)) result.report_a.deliveries
+        × HandsOverOnce names_b (cores (valid given.sayings)) result.report_b.deliveries }
     ensures same { (given : AreGivenTheSame settings events_a.now events_b.now) →
         ¬ StoppedForMemory result.report_a → ¬ StoppedForMemory result.report_b →
-        HandOverTheSame names_a names_b (valid_cores given.sayings) result.report_a.deliveries
+        HandOverTheSame names_a names_b (cores (valid given.sayings)) result.report_a.deliveries
         result.report_b.deliveries }
     ensures senders { (given : AreGivenTheSame settings events_a.now events_b.now) →
         ¬ StoppedForMemory result.report_a → ¬ StoppedForMemory result.report_b →
-        HandsOverTheSenders names_a (valid_cores given.sayings) result.report_a.deliveries
-        × HandsOverTheSenders names_b (valid_cores given.sayings) result.report_b.deliveries }
+        HandsOverTheSenders names_a (cores (valid given.sayings)) result.report_a.deliveries
+        × HandsOverTheSenders names_b (cores (valid given.sayings)) result.report_b.deliveries }
 {
     an_event_says_one_thing();
     the_same_fragments_make_the_same_table();

@@ -4,14 +4,14 @@ ghost use Rattle.std.specs.Io.KnownBytes.{Consumes};
 ghost use Rattle.nb_names.specs.declared.limits.TheConstants.{MAX_INPUT};
 ghost use Rattle.nb_names.specs.Devices.{GrowTo, ShowsUnread, ShowsWriteFault};
 ghost use Rattle.nb_member.specs.declared.event.Event.{Event};
-ghost use Rattle.nb_member.specs.Acting.{StopsAt, WritesLine};
+ghost use Rattle.nb_member.specs.Code.ReplayLines.{HasNoWholeReport, WritesLine, EndsReplay};
+ghost use Rattle.nb_member.specs.Code.Members.{KeepsStation};
 ghost use Rattle.nb_member.specs.Live.{Timed, live};
-ghost use Rattle.nb_member.specs.Member.{StandsOver};
-ghost use Rattle.nb_member.specs.Replaying.{EndsReplay, Replays};
-ghost use Rattle.nb_member.specs.Running.{Stands};
+ghost use Rattle.nb_member.specs.Member.{StandsOver, Stands};
+ghost use Rattle.nb_member.specs.Replaying.{Replays};
 
-use crate::acting::act_on;
 use crate::limits::MAX_LINE;
+use crate::line_reports::act_on;
 use crate::member::Member;
 use crate::replay_fault::ReplayFault;
 use nb_names::Counted;
@@ -24,10 +24,9 @@ use std::io::{Read, Write};
 /// Replays a capture in a member: acts on its lines in order, and writes the report of them. The
 /// answer is the number of lines.
 ///
-/// Behind each line stands a line feed; bytes behind the last one are a line as well, and no bytes
-/// are none. A line has at most [`MAX_LINE`] bytes, its line feed not counted. An empty line or a
-/// comment has no line in the report. The others have one each: their number, which counts from 1,
-/// a space, and
+/// A line feed ends each line; bytes after the last one are a line as well, where there are any. A
+/// line has at most [`MAX_LINE`] bytes, its line feed not counted. An empty line or a comment has
+/// no line in the report. The others have one each: their number, which counts from 1, a space, and
 ///
 /// - `passed` for a payload of port 137 or 139;
 /// - `dropped COUNT` for a look at the clock;
@@ -136,14 +135,13 @@ fn replay_line<W: Write>(
         WritesLine member.old L number line.now member.new
         (W.contents writer.old.inner) (W.contents writer.new.inner)) }
     ensures fault { IfErr result (λ fault. (L : List Timed) → StandsOver member.old L →
-        StopsAt member.old L number line.now member.new
+        HasNoWholeReport member.old L number line.now member.new
         (W.contents writer.old.inner) (W.contents writer.new.inner) fault) }
     ensures unread { IfErr result (λ fault. fault ≢ ReplayFault.Read) }
     ensures why { IfErr result (λ fault. fault ≡ ReplayFault.Write →
         ShowsWriteFault writer.old.counts writer.new.counts) }
     ensures grow { GrowTo writer.old.counts writer.new.counts }
-    ensures settings { member.new.settings ≡ member.old.settings }
-    ensures names { member.new.names ≡ member.old.names }
+    ensures kept { KeepsStation member.old member.new }
 {
     let text = act_on(alloc, number, line, member)?;
     match write_whole(writer, text.as_bytes()) {

@@ -1,7 +1,7 @@
 //! The lines of a replay's report.
 ghost use Rattle.std.specs.Prelude.{◌≡◌, ◌++◌, codes, IfOk, string_bytes};
 ghost use Rattle.std.specs.Fmt.{decimal};
-ghost use Rattle.nb_member.specs.ReportTexts.{numbered, result_text};
+ghost use Rattle.nb_member.specs.Report.{numbered, result_text};
 
 mod texts;
 

@@ -2,11 +2,12 @@
 ghost use Rattle.std.specs.Prelude.{◌≡◌, ◌<◌, ◌++◌, List, [], IsTrue, vec_len, vec_capacity};
 ghost use Rattle.std.specs.Option.{option_to_list};
 ghost use Rattle.nb_member.specs.declared.event.Event.TheVariants as event;
-ghost use Rattle.nb_member.specs.Answering.{delivery_in, error_in};
+ghost use Rattle.nb_member.specs.Deliveries.{delivery_in, error_in};
+ghost use Rattle.nb_member.specs.Code.Members.{KeepsStation};
 ghost use Rattle.nb_member.specs.Live.{Timed};
 ghost use Rattle.nb_member.specs.Member.{StandsOver};
 ghost use Rattle.nb_member.specs.Running.{Runs};
-ghost use Rattle.nb_member.specs.Stepping.{noted, stop_of, StepsTo};
+ghost use Rattle.nb_member.specs.Code.RunEvents.{noted, stop_of, RunsEvent};
 
 use crate::event::Event;
 use crate::laws::{
@@ -66,16 +67,15 @@ impl Log {
         }
     }
 
-    /// Lets the member take one event, and tells whether the event was refused, or why the run
-    /// stops before it.
+    /// Lets the member take one event. Answers whether the event was refused, or why the run stops
+    /// before it.
     fn take(&mut self, member: &mut Member, event: &Event) -> Result<bool, RunStop>
         ensures step { (L : List Timed) → StandsOver member.old L →
-            StepsTo member.old L event.now member.new
+            RunsEvent member.old L event.now member.new
             (record { deliveries = self.old.deliveries.items; errors = self.old.errors.items })
             (record { deliveries = self.new.deliveries.items; errors = self.new.errors.items })
             result }
-        ensures settings { member.new.settings ≡ member.old.settings }
-        ensures names { member.new.names ≡ member.old.names }
+        ensures kept { KeepsStation member.old member.new }
     {
         a_member_drops_what_the_clock_ends();
         match event {
@@ -89,7 +89,7 @@ impl Log {
         }
     }
 
-    /// Lets the member take a payload that came at this moment, and tells the same.
+    /// Lets the member take a payload that came at this moment, and answers the same.
     fn take_packet(
         &mut self,
         member: &mut Member,
@@ -97,12 +97,11 @@ impl Log {
         payload: &[u8],
     ) -> Result<bool, RunStop>
         ensures step { (L : List Timed) → StandsOver member.old L →
-            StepsTo member.old L (event.Packet moment payload.now) member.new
+            RunsEvent member.old L (event.Packet moment payload.now) member.new
             (record { deliveries = self.old.deliveries.items; errors = self.old.errors.items })
             (record { deliveries = self.new.deliveries.items; errors = self.new.errors.items })
             result }
-        ensures settings { member.new.settings ≡ member.old.settings }
-        ensures names { member.new.names ≡ member.old.names }
+        ensures kept { KeepsStation member.old member.new }
     {
         a_member_does_what_is_said();
         an_answer_shows_what_is_handed_out();
@@ -114,7 +113,7 @@ impl Log {
     }
 
     /// Makes room for one more datagram and one more error packet, so that noting an answer takes
-    /// no memory, and tells whether there is.
+    /// no memory, and answers whether there is room.
     fn has_made_room(&mut self) -> bool
         ensures deliveries { self.new.deliveries.items ≡ self.old.deliveries.items }
         ensures errors { self.new.errors.items ≡ self.old.errors.items }

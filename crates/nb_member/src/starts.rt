@@ -4,9 +4,10 @@ ghost use Rattle.std.specs.BTreeMap.{IsOrdered};
 ghost use Rattle.std.specs.FinMap as maps;
 ghost use Rattle.nb_datagram.specs.declared.key.Key.{Key};
 ghost use Rattle.nb_datagram.specs.Key.{key_cmp};
-ghost use Rattle.nb_member.specs.Absorbing.{start_after};
+ghost use Rattle.nb_member.specs.Taking.{start_after};
 ghost use Rattle.nb_member.specs.Live.{is_over};
-ghost use Rattle.nb_member.specs.Timing.{begun, begun_each, lasts};
+ghost use Rattle.nb_member.specs.Member.{begun, lasts};
+ghost use Rattle.nb_member.specs.Code.Timers.{begun_each};
 
 use crate::limits::FRAGMENT_TIMEOUT;
 use nb_datagram::Key;
@@ -24,7 +25,8 @@ pub struct Starts {
 
 impl Model for Starts {
     ghost use Rattle.std.specs.FinMap as maps;
-    ghost use Rattle.nb_member.specs.Timing.{Moments, moments_code};
+    ghost use Rattle.nb_member.specs.Member.{Moments};
+    ghost use Rattle.nb_member.specs.Code.Timers.{moments_code};
 
     ghost Value = { Moments };
 

@@ -2,8 +2,8 @@
 ghost use Rattle.std.specs.Prelude.{◌≡◌, false, IfOk, IfErr, OnOk, OnErr};
 ghost use Rattle.std.specs.FinMap as maps;
 ghost use Rattle.nb_table.specs.Change.{IsChange};
-ghost use Rattle.nb_table.specs.Insert.{Takes, Refuses};
-ghost use Rattle.nb_member.specs.Timing.{begun, after_fragment, after_clock};
+ghost use Rattle.nb_table.specs.Insert.{Takes as TableTakes, Refuses};
+ghost use Rattle.nb_member.specs.Member.{begun, after_fragment, after_clock};
 
 mod merging;
 
@@ -22,7 +22,8 @@ pub struct TimedTable {
 }
 
 impl Model for TimedTable {
-    ghost use Rattle.nb_member.specs.Timing.{TimedValue, timed_code, HaveOneSetOfKeys};
+    ghost use Rattle.nb_member.specs.Member.{TimedValue};
+    ghost use Rattle.nb_member.specs.Code.Timers.{timed_code, HaveOneSetOfKeys};
 
     ghost Value = { TimedValue };
 
@@ -63,7 +64,7 @@ impl TimedTable {
     ///
     /// Those of the table, which is then as it was, and so are the moments.
     pub fn insert(&mut self, moment: u64, fragment: &Fragment<'_>) -> Result<Change, TableFault>
-        ensures taken { OnOk result (Takes self.old.table fragment.now) }
+        ensures taken { OnOk result (TableTakes self.old.table fragment.now) }
         ensures joined { OnOk result (self.new ≡ after_fragment self.old moment fragment.now) }
         ensures change { IfOk result
             (IsChange self.old.table.contents self.new.table.contents fragment.now.key) }

@@ -9,8 +9,8 @@ use Rattle.nb_member.specs.declared.replay_fault.ReplayFault.{ReplayFault}
 use Rattle.nb_member.specs.Live.{live}
 use Rattle.nb_member.specs.Member.{MemberValue, new_member}
 use Rattle.nb_member.specs.Replaying.{Replays}
-use Rattle.nb_member.specs.Running.{Stands}
-use Rattle.nb_member.specs.Saying.{none as none_said}
+use Rattle.nb_member.specs.Member.{Stands}
+use Rattle.nb_member.specs.Events.{none as none_said}
 use Rattle.nb_datagram.specs.Key.{key_cmp}
 use Rattle.nbt.specs.declared.fault.Fault.{Fault}
 use Rattle.nbt.specs.declared.fault.Fault.TheVariants.{Text, Arguments, TooManyNames, Line, Read, Write, Memory}

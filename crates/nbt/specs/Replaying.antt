@@ -13,7 +13,7 @@ use Rattle.nb_member.specs.declared.replay_fault.ReplayFault.TheVariants as repl
 use Rattle.nb_member.specs.Live.{live}
 use Rattle.nb_member.specs.Member.{MemberValue, new_member}
 use Rattle.nb_member.specs.Replaying.{Replays}
-use Rattle.nb_member.specs.Running.{Stands}
+use Rattle.nb_member.specs.Member.{Stands}
 use Rattle.nbt.specs.declared.fault.Fault.{Fault}
 use Rattle.nbt.specs.declared.fault.Fault.TheVariants.{Text, Arguments, Line, TooManyNames, Read, Write, Memory}
 use Rattle.nbt.specs.Settings.{program_settings}

@@ -11,10 +11,10 @@ use Rattle.nb_member.specs.declared.member_fault.MemberFault.{MemberFault}
 use Rattle.nb_member.specs.declared.member_fault.MemberFault.TheVariants.{Packet, Table}
 use Rattle.nb_member.specs.declared.outcome.Outcome.{Outcome}
 use Rattle.nb_member.specs.Capture.{Reads}
-use Rattle.nb_member.specs.Live.{limits_of}
+use Rattle.nb_member.specs.Events.{limits_of}
 use Rattle.nb_member.specs.Member.{MemberValue, contents, with_timed}
 use Rattle.nb_member.specs.Taking.{Takes}
-use Rattle.nb_member.specs.Timing.{after_clock}
+use Rattle.nb_member.specs.Member.{after_clock}
 use Rattle.nbt.specs.Printing.{PrintsLine}
 use Rattle.nbt.specs.Saved.{saved_digits}
 use Rattle.nbt.specs.Settings.{program_settings}

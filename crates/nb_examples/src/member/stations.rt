@@ -4,9 +4,9 @@
 //! may hold, how many bytes a datagram may have, and its address and port, as `10.0.0.9:138`. What
 //! is left out from the right on is 16 keys, 65,535 bytes, and 10.0.0.9:138.
 
+use crate::datagram::texts::kind_of;
 use crate::fault::ExampleFault;
 use crate::member::outcomes::say;
-use crate::member::refusals::kind_of;
 use crate::words::{Words, split};
 use nb_datagram::{Datagram, Key};
 use nb_member::{AddFault, LocalNames, Member, Settings};

@@ -5,8 +5,7 @@ ghost use Rattle.nb_table.specs.Join.{join};
 ghost use Rattle.nb_member.specs.declared.event.Event.{Event};
 ghost use Rattle.nb_member.specs.declared.settings.Settings.{Settings};
 ghost use Rattle.nb_member.specs.Live.{live, table_from};
-ghost use Rattle.nb_member.specs.Member.{MemberValue, contents, new_member};
-ghost use Rattle.nb_member.specs.Running.{Stands};
+ghost use Rattle.nb_member.specs.Member.{MemberValue, contents, new_member, Stands};
 
 use nb_table::laws::{
     lists_swapped_have_the_same_cores, same_cores_make_the_same_table,

@@ -1,7 +1,7 @@
 //! Members that take in another's table.
 ghost use Rattle.std.specs.Prelude.{◌≡◌, filter, IfOk, IfErr, OnErr};
 ghost use Rattle.nb_table.specs.Merging.{IsRefused};
-ghost use Rattle.nb_member.specs.Absorbing.{Absorbs};
+ghost use Rattle.nb_member.specs.Taking.{Absorbs};
 ghost use Rattle.nb_member.specs.Hearing.{hears};
 ghost use Rattle.nb_member.specs.Member.{contents};
 

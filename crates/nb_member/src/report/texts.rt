@@ -1,6 +1,6 @@
 //! Parts of the report's lines.
 ghost use Rattle.std.specs.Prelude.{◌≡◌, ◌++◌, IfOk, OnOk, string_bytes, Err};
-ghost use Rattle.nb_member.specs.ReportTexts.{address_text, data_text, datagram_text, error_text, kind_text, key_text, outcome_text, parts_text, result_text};
+ghost use Rattle.nb_member.specs.Report.{address_text, data_text, datagram_text, error_text, kind_text, key_text, outcome_text, parts_text, result_text};
 
 use crate::member_fault::MemberFault;
 use crate::outcome::Outcome;

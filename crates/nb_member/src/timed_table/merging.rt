@@ -1,7 +1,7 @@
 //! Timed tables that take in another table.
 ghost use Rattle.std.specs.Prelude.{◌≡◌, IfOk, IfErr, OnOk, OnErr};
 ghost use Rattle.nb_table.specs.Merging.{Fits, IsRefused, newly_handed};
-ghost use Rattle.nb_member.specs.Absorbing.{IsMerged};
+ghost use Rattle.nb_member.specs.Taking.{IsMerged};
 
 use super::TimedTable;
 use nb_datagram::Datagrams;

@@ -1,8 +1,8 @@
 use Rattle.std.specs.Prelude.{codes}
 use Rattle.std.proofs.lemmas.Slice.Eq.{strip_prefix_is}
 use Rattle.std.proofs.lemmas.Bool.Decides.{Decides-eqb}
-use Rattle.nb_member.specs.Capture.{names, datagrams, sessions}
 use Rattle.nb_member.proofs.capture.after_port.Goals as goal
+use Rattle.nb_member.specs.Capture.{names, datagrams, sessions}
 
 pub returns-in-Some : goal.returns-in-Some
 returns-in-Some c =

@@ -1,5 +1,5 @@
 use Rattle.std.proofs.Common.{sym, ◌∙◌, ap, Some, refl}
-use Rattle.nb_member.proofs.WordsLemmas.{blank_if_empty, comment_test}
+use Rattle.nb_member.proofs.CaptureLemmas.Words.{blank_if_empty, comment_test}
 use Rattle.nb_member.proofs.capture.is_blank.Goals as goal
 
 pub returns-in-None : goal.returns-in-None

@@ -1,7 +1,7 @@
 use Rattle.std.proofs.Common.{◌≡◌, ◌≢◌, ◌<◌, ◌%◌, length, arith, sym, ◌∙◌}
 use Rattle.std.proofs.lemmas.Bool.{false≢true}
 use Rattle.std.proofs.lemmas.Bool.Decides.{nat_tests}
-use Rattle.nb_member.proofs.PayloadLemmas.{hex_test, no_odd_hex}
+use Rattle.nb_member.proofs.CaptureLemmas.Payloads.{hex_test, no_odd_hex}
 use Rattle.nb_member.proofs.capture.is_hexadecimal.Goals as goal
 use Rattle.nb_member.proofs.capture.is_hexadecimal.Goals.{then-not-is_empty, else-not-is_empty}
 

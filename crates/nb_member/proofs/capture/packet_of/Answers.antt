@@ -1,7 +1,7 @@
 use Rattle.std.proofs.lemmas.Result.{err_from_is_err_and}
-use Rattle.nb_member.specs.Capture.{packet}
-use Rattle.nb_member.proofs.WordsLemmas.{packet_behind, packet_at_space, packet_has_space, packet_err}
+use Rattle.nb_member.proofs.CaptureLemmas.Words.{packet_behind, packet_at_space, packet_has_space, packet_err}
 use Rattle.nb_member.proofs.capture.packet_of.Goals as goal
+use Rattle.nb_member.specs.Capture.{packet}
 
 pub returns-in_default : goal.returns-in_default
 returns-in_default c =

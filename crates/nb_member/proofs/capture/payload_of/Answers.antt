@@ -1,8 +1,8 @@
 use Rattle.std.proofs.lemmas.Bool.Decides.{Decides-eqb}
 use Rattle.std.proofs.lemmas.Slice.Eq.{slice_eq-Decides}
-use Rattle.nb_member.specs.Capture.{empty, digits}
-use Rattle.nb_member.proofs.PayloadLemmas.{decoded, hex_has_bytes}
+use Rattle.nb_member.proofs.CaptureLemmas.Payloads.{decoded, hex_has_bytes}
 use Rattle.nb_member.proofs.capture.payload_of.Goals as goal
+use Rattle.nb_member.specs.Capture.{empty, digits}
 
 pub returns-then-eq : goal.returns-then-eq
 returns-then-eq c =

@@ -1,4 +1,4 @@
-use Rattle.nb_member.proofs.LineLemmas.{value_answer, nothing_answer, malformed_answer}
+use Rattle.nb_member.proofs.CaptureLemmas.LineValues.{value_answer, nothing_answer, malformed_answer}
 use Rattle.nb_member.proofs.laws.a_line_has_one_answer.Goals as goal
 
 pub returns-clause-value : goal.returns-clause-value

@@ -1,4 +1,4 @@
-use Rattle.nb_member.proofs.LineLemmas.{one_value, not_blank}
+use Rattle.nb_member.proofs.CaptureLemmas.LineValues.{one_value, not_blank}
 use Rattle.nb_member.proofs.laws.a_line_has_one_value.Goals as goal
 
 pub returns-clause-one : goal.returns-clause-one

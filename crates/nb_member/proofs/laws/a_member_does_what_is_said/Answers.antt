@@ -1,10 +1,10 @@
-use Rattle.nb_member.proofs.SayingLemmas.{PacketsKnown}
-use Rattle.nb_member.proofs.StepLemmas.{told, does_what_is_said, room_where_no_memory, refused_keeps}
+use Rattle.nb_member.proofs.EventLemmas.OneSaying.{PacketsKnown}
+use Rattle.nb_member.proofs.TakingLemmas.Payloads.{says_and_does, does_what_is_said, room_where_no_memory, refused_keeps}
 use Rattle.nb_member.proofs.laws.a_member_does_what_is_said.Goals as goal
 
 pub returns-clause-says : goal.returns-clause-says
 returns-clause-says c = λ m new L moment payload result stands takes.
-    let t = told c.table_of_two_lists_is_the_join.ensures m L moment payload new result stands takes in
+    let t = says_and_does c.table_of_two_lists_is_the_join.ensures m L moment payload new result stands takes in
     (t.said, t.says)
 
 pub returns-clause-does : goal.returns-clause-does

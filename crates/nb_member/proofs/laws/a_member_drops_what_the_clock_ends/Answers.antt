@@ -1,4 +1,4 @@
-use Rattle.nb_member.proofs.StandingLemmas.{stands_left}
+use Rattle.nb_member.proofs.MemberLemmas.LiveAfter.{stands_left}
 use Rattle.nb_member.proofs.laws.a_member_drops_what_the_clock_ends.Goals as goal
 
 pub returns : goal.returns

@@ -1,4 +1,4 @@
-use Rattle.nb_member.proofs.EndingLemmas.{ends_unheld}
+use Rattle.nb_member.proofs.ReplayLemmas.ReplayEnds.{ends_unheld}
 use Rattle.nb_member.proofs.replaying.replay.Goals as goal
 
 pub returns-in-Err-clause-replays : goal.returns-in-Err-clause-replays

@@ -1,5 +1,5 @@
 use Rattle.std.proofs.Common.{length}
-use Rattle.nb_member.proofs.ReplayLemmas.{IsReplaying}
+use Rattle.nb_member.proofs.ReplayLemmas.ReplaySoFar.{IsReplaying}
 use Rattle.nb_member.proofs.replaying.replay_lines.Given as goal
 
 abbrev pub invariant-loop-line : goal.invariant-loop-line

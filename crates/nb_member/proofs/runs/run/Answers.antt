@@ -1,8 +1,8 @@
 use Rattle.std.proofs.Common.{◌≡◌, arith, sym, ap, ◌∙◌, ◌+◌, Bool, cond}
-use Rattle.nb_member.specs.Stepping.{HandedOut}
-use Rattle.nb_member.proofs.SteppingLemmas.{none_so_far, so_far_more, stopped_at, all_taken}
+use Rattle.nb_member.proofs.RunLemmas.OneEvent.{none_so_far, so_far_more, stopped_at, all_taken}
 use Rattle.nb_member.proofs.runs.run.Goals as goal
 use Rattle.nb_member.proofs.runs.run.Goals.{then-was_refused, else-was_refused}
+use Rattle.nb_member.specs.Code.RunEvents.{HandedOut}
 
 pub loop-index-init : goal.loop-index-init
 loop-index-init c =
@@ -16,7 +16,7 @@ returns-in-Err c =
     let after : HandedOut = record { deliveries = c.take.new.self.deliveries.items; errors = c.take.new.self.errors.items } in
     stopped_at c.args.member.now c.args.events.now c.loop-index.index c.index-events-index.result c.loop-index.member
     c.take.new.member before after c.loop-index.refused c.in-Err.stop c.into_report.result c.loop-index-test.true
-    c.index-events-index.is c.loop-index.invariant c.take.ensures.settings c.take.ensures.names c.in-Err.ensures.step
+    c.index-events-index.is c.loop-index.invariant c.take.ensures.kept c.in-Err.ensures.step
     c.into_report.ensures
 
 pub loop-index-preserved : goal.loop-index-preserved
@@ -32,7 +32,7 @@ loop-index-preserved c =
     ] in
     so_far_more c.args.member.now c.args.events.now c.loop-index.index c.index-events-index.result c.loop-index.member
     c.take.new.member before after c.loop-index.refused c.if-was_refused.refused c.in-Ok.was_refused c.loop-index-test.true
-    c.index-events-index.is c.loop-index.invariant c.take.ensures.settings c.take.ensures.names c.in-Ok.ensures.step counts
+    c.index-events-index.is c.loop-index.invariant c.take.ensures.kept c.in-Ok.ensures.step counts
 
 pub returns : goal.returns
 returns c =

@@ -1,4 +1,4 @@
-use Rattle.nb_member.proofs.SteppingLemmas.{RunSoFar}
+use Rattle.nb_member.proofs.RunLemmas.OneEvent.{RunSoFar}
 use Rattle.nb_member.proofs.runs.run.Given as goal
 
 abbrev pub invariant-loop-index : goal.invariant-loop-index

@@ -1,5 +1,5 @@
 use Rattle.std.proofs.Common.{◌≡◌}
-use Rattle.nb_member.proofs.ExpiringLemmas.{dropped_each}
+use Rattle.nb_member.proofs.MemberLemmas.DroppedKeys.{dropped_each}
 use Rattle.nb_member.proofs.starts.drop_over.Given as goal
 
 abbrev pub invariant-loop-key : goal.invariant-loop-key

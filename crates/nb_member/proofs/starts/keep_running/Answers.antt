@@ -1,7 +1,7 @@
 use Rattle.std.proofs.Common.{not, Some, rules}
 use Rattle.std.proofs.lemmas.Map.Made.{filter_same_pairs}
-use Rattle.nb_member.specs.Live.{is_over}
 use Rattle.nb_member.proofs.starts.keep_running.Goals as goal
+use Rattle.nb_member.specs.Live.{is_over}
 
 pub returns-clause-kept : goal.returns-clause-kept
 returns-clause-kept c =

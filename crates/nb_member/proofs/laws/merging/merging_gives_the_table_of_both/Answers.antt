@@ -1,4 +1,4 @@
-use Rattle.nb_member.proofs.AgreementLemmas.{MergingKnown, merged}
+use Rattle.nb_member.proofs.AgreementLemmas.SameTable.{MergingKnown, merged}
 use Rattle.nb_member.proofs.laws.merging.merging_gives_the_table_of_both.Goals as goal
 
 pub returns : goal.returns

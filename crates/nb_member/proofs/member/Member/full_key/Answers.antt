@@ -2,7 +2,7 @@ use Rattle.std.proofs.Common.{sym, ◌∙◌, subst}
 use Rattle.nb_datagram.specs.declared.packet.Packet.{Packet as AnyPacket}
 use Rattle.nb_datagram.specs.declared.packet.Packet.TheVariants.{Direct}
 use Rattle.nb_datagram.specs.Packet.{IsPacket}
-use Rattle.nb_member.proofs.FullLemmas.{begins_by}
+use Rattle.nb_member.proofs.TakingLemmas.FullKeys.{begins_by}
 use Rattle.nb_member.proofs.member.Member.full_key.Goals as goal
 
 pub returns-in-Ok-Direct-default : goal.returns-in-Ok-Direct-default

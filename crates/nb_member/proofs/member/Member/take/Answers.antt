@@ -1,8 +1,8 @@
 use Rattle.std.proofs.Common.{refl, subst}
 use Rattle.nb_datagram.specs.declared.packet.Packet.{Packet as AnyPacket}
 use Rattle.nb_datagram.specs.Packet.{IsPacket}
-use Rattle.nb_member.specs.Taking.{fragment, error, query, no_packet}
 use Rattle.nb_member.proofs.member.Member.take.Goals as goal
+use Rattle.nb_member.specs.Taking.{fragment, error, query, no_packet}
 
 pub returns-in-Ok-Direct-default : goal.returns-in-Ok-Direct-default
 returns-in-Ok-Direct-default c =

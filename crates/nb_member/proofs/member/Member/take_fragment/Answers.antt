@@ -1,9 +1,9 @@
 use Rattle.std.proofs.Common.{ap, ◌∙◌}
 use Rattle.nb_datagram.specs.declared.key.Key.{Key}
-use Rattle.nb_member.specs.Member.{MemberValue, with_timed}
-use Rattle.nb_member.specs.Taking.{outcome_of}
 use Rattle.nb_member.proofs.member.Member.take_fragment.Goals as goal
 use Rattle.nb_member.proofs.member.Member.take_fragment.Goals.{in-Ok, in-Err}
+use Rattle.nb_member.specs.Member.{MemberValue, with_timed}
+use Rattle.nb_member.specs.Taking.{outcome_of}
 
 pub returns : goal.returns
 returns c =

@@ -1,7 +1,7 @@
 use Rattle.std.proofs.Common.{filter, rules, ap, ◌∙◌}
 use Rattle.std.proofs.lemmas.Fn.{filter_same}
-use Rattle.nb_member.specs.Hearing.{hears}
 use Rattle.nb_member.proofs.member.absorbing.heard_of.Goals as goal
+use Rattle.nb_member.specs.Hearing.{hears}
 
 pub returns : goal.returns
 returns c =

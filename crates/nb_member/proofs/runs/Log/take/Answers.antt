@@ -1,16 +1,16 @@
 use Rattle.std.proofs.Common.{sym, ap, ◌∙◌, subst, refl, false}
 use Rattle.nb_member.specs.declared.event.Event.{Event}
 use Rattle.nb_member.specs.declared.event.Event.TheVariants.{Packet}
-use Rattle.nb_member.specs.Stepping.{HandedOut, HasTaken, StepsTo}
-use Rattle.nb_member.proofs.SteppingLemmas.{clock_step}
+use Rattle.nb_member.proofs.RunLemmas.OneEvent.{clock_step}
 use Rattle.nb_member.proofs.runs.Log.take.Goals as goal
+use Rattle.nb_member.specs.Code.RunEvents.{HandedOut, HasTaken, RunsEvent}
 
 pub returns-in-Packet-clause-step : goal.returns-in-Packet-clause-step
 returns-in-Packet-clause-step c = λ L stands.
     let before : HandedOut = record { deliveries = c.args.self.now.deliveries.items; errors = c.args.self.now.errors.items } in
     let after : HandedOut = record { deliveries = c.take_packet.new.self.deliveries.items; errors = c.take_packet.new.self.errors.items } in
     let event = c.in-Packet.is ∙ ap (Packet c.in-Packet.moment) (sym c.as_slice.ensures) in
-    subst (λ (e : Event). StepsTo c.args.member.now L e c.take_packet.new.member before after c.take_packet.result) (sym event)
+    subst (λ (e : Event). RunsEvent c.args.member.now L e c.take_packet.new.member before after c.take_packet.result) (sym event)
     (c.take_packet.ensures.step L stands)
 
 pub returns-in-Tick-clause-step : goal.returns-in-Tick-clause-step

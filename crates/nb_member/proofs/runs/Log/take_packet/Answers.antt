@@ -3,17 +3,17 @@ use Rattle.nb_datagram.specs.declared.packet.ErrorPacket.{ErrorPacket}
 use Rattle.nb_datagram.specs.Datagram.{DatagramParts}
 use Rattle.nb_member.specs.declared.event.Event.TheVariants.{Packet}
 use Rattle.nb_member.specs.declared.run_report.RunStop.{RunStop}
-use Rattle.nb_member.specs.Answering.{delivery_in, error_in}
-use Rattle.nb_member.specs.Stepping.{HandedOut, StepsTo}
-use Rattle.nb_member.proofs.SteppingLemmas.{StepsKnown, payload_step, no_room_step}
+use Rattle.nb_member.proofs.RunLemmas.OneEvent.{StepsKnown, payload_step, no_room_step}
 use Rattle.nb_member.proofs.runs.Log.take_packet.Goals as goal
+use Rattle.nb_member.specs.Deliveries.{delivery_in, error_in}
+use Rattle.nb_member.specs.Code.RunEvents.{HandedOut, RunsEvent}
 
 pub returns-then-not-has_made_room-clause-step : goal.returns-then-not-has_made_room-clause-step
 returns-then-not-has_made_room-clause-step c = λ L stands.
     let m = c.args.member.now in
     let before : HandedOut = record { deliveries = c.args.self.now.deliveries.items; errors = c.args.self.now.errors.items } in
     let after : HandedOut = record { deliveries = c.has_made_room.new.self.deliveries.items; errors = c.has_made_room.new.self.errors.items } in
-    subst (λ (stop : RunStop). StepsTo m L (Packet c.args.moment c.args.payload.now) m before after (Err stop)) (sym c.stop_of.ensures)
+    subst (λ (stop : RunStop). RunsEvent m L (Packet c.args.moment c.args.payload.now) m before after (Err stop)) (sym c.stop_of.ensures)
     (no_room_step m L c.args.moment c.args.payload.now c.full_key.result before after stands c.full_key.ensures
     c.has_made_room.ensures.deliveries c.has_made_room.ensures.errors)
 

@@ -6,7 +6,7 @@ use Rattle.nb_datagram.specs.declared.key.Key.{Key}
 use Rattle.nb_datagram.specs.Key.{key_cmp}
 use Rattle.nb_datagram.specs.KeyOrder.{key_cmp_total, key_cmp_exact}
 use Rattle.nb_table.specs.Lemmas.TreeLemmas.{entries_are}
-use Rattle.nb_member.proofs.ExpiringLemmas.{running_is}
+use Rattle.nb_member.proofs.MemberLemmas.DroppedKeys.{running_is}
 use Rattle.nb_member.proofs.starts.Starts.expire.Goals as goal
 
 pub returns-clause-moments : goal.returns-clause-moments

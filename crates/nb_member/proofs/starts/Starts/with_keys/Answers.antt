@@ -2,9 +2,10 @@ use Rattle.std.proofs.Common.{◌≡◌, ap, ◌∙◌}
 use Rattle.std.specs.FinMap as maps
 use Rattle.std.proofs.lemmas.Map.Entries.{entries_from_clone}
 use Rattle.nb_datagram.specs.Key.{key_cmp}
-use Rattle.nb_member.specs.Timing.{Moments, begun_each}
-use Rattle.nb_member.proofs.AbsorbingLemmas.{begun_of}
+use Rattle.nb_member.proofs.TakingLemmas.MergedMoments.{begun_of}
 use Rattle.nb_member.proofs.starts.Starts.with_keys.Goals as goal
+use Rattle.nb_member.specs.Member.{Moments}
+use Rattle.nb_member.specs.Code.Timers.{begun_each}
 
 pub returns : goal.returns
 returns c =

@@ -1,0 +1,101 @@
+-- What members hand over that are given the same fragments.
+use Rattle.std.proofs.Common.{◌≡◌, ◌↔◌, Bool, cond, List, [], ◌∷◌, Option, Some, None, refl, sym, ap, ◌∙◌, inl, inr}
+use Rattle.std.specs.Option.{option_to_list}
+use Rattle.std.specs.FinMap as maps
+use Rattle.nb_names.specs.Name.{NetbiosName}
+use Rattle.nb_datagram.specs.declared.key.Key.{Key}
+use Rattle.nb_datagram.specs.Fragment.{Core}
+use Rattle.nb_datagram.specs.Datagram.{DatagramParts}
+use Rattle.nb_table.specs.Slot.{Spoilt}
+use Rattle.nb_table.specs.Conflict.{IsSpoilt}
+use Rattle.nb_table.specs.Contents.{Contents, table_of}
+use Rattle.nb_table.specs.Whole.{IsWholeAt, datagram_at}
+use Rattle.nb_table.specs.Sender.{HasPartsAlone, HasAll, Gives}
+use Rattle.nb_member.specs.declared.settings.Settings.{Settings}
+use Rattle.nb_member.proofs.LiveLemmas.KeyCounts.{cases_bool}
+use Rattle.nb_member.proofs.HearingLemmas.{Hears-from_test, test-from_Hears}
+use Rattle.nb_member.proofs.LiveLemmas.LiveTables.{TablesKnown, live_is_valid, rooms, same_live}
+use Rattle.nb_member.proofs.DeliveryLemmas.WholeKeys.{DatagramsKnown}
+use Rattle.nb_member.proofs.DeliveryLemmas.MadeOnce.{filters_swap, all_heard_from_none}
+use Rattle.nb_member.specs.Hearing.{hears, Hears}
+use Rattle.nb_member.specs.Events.{Saying}
+use Rattle.nb_member.specs.Live.{table_from, live, cores}
+use Rattle.nb_member.specs.Deliveries.{deliveries}
+use Rattle.nb_member.specs.Agreement.{of_key, heard, whole_of, HandsOverOnce, HandOverTheSame, HandsOverTheSenders, valid, NoneDropped, GiveTheSame}
+
+-- a table has a key spoilt where its fragments disagree about it
+abbrev pub SpoiltKnown : Type 0
+SpoiltKnown = (L : List Core) (k : Key) → (maps.get (table_of L) k ≡ Some Spoilt) ↔ IsSpoilt L k
+
+-- ---- each key once
+
+once_of : DatagramsKnown → SpoiltKnown → (settings : Settings) (names : List NetbiosName) (S : List Saying) (L : List Core)
+    → NoneDropped settings [] S → table_from (live settings S) ≡ table_of L
+    → HandsOverOnce names L (deliveries settings names [] S)
+once_of known spoilt settings names S L kept e k sound =
+    all_heard_from_none known settings names S k kept
+    (λ s. sound ((spoilt L k).0 (ap (λ (t : Contents). maps.get t k) (sym e) ∙ s)))
+    ∙ ap (λ (t : Contents). heard names (option_to_list (datagram_at t k))) e
+
+-- what is live after the first events is what both are given
+first_table : TablesKnown → (settings : Settings) (S T : List Saying) → GiveTheSame settings S T
+    → table_from (live settings S) ≡ table_of (cores (valid S))
+first_table known settings S T h = ap table_of (live_is_valid settings [] S h.none_dropped (rooms known settings S T h).0)
+
+pub first_once : TablesKnown → DatagramsKnown → SpoiltKnown → (settings : Settings) (S T : List Saying) → GiveTheSame settings S T
+    → (names : List NetbiosName) → HandsOverOnce names (cores (valid S)) (deliveries settings names [] S)
+first_once tables known spoilt settings S T h names =
+    once_of known spoilt settings names S (cores (valid S)) h.none_dropped (first_table tables settings S T h)
+
+pub second_once : TablesKnown → DatagramsKnown → SpoiltKnown → (settings : Settings) (S T : List Saying) → GiveTheSame settings S T
+    → (names : List NetbiosName) → HandsOverOnce names (cores (valid S)) (deliveries settings names [] T)
+second_once tables known spoilt settings S T h names =
+    once_of known spoilt settings names T (cores (valid S)) h.none_dropped_there
+    (sym (same_live tables settings S T h) ∙ first_table tables settings S T h)
+
+-- ---- the same of what both hear
+
+pub the_same : (names others : List NetbiosName) (L : List Core) (ds es : List DatagramParts) → HandsOverOnce names L ds
+    → HandsOverOnce others L es → HandOverTheSame names others L ds es
+the_same names others L ds es first second k sound =
+    ap (heard others) (first k sound)
+    ∙ (filters_swap (hears others) (hears names) (whole_of L k)
+    ∙ sym (ap (heard names) (second k sound)))
+
+-- ---- what is heard of one datagram
+
+pub heard_is : (names : List NetbiosName) (d : DatagramParts) → Hears names d → heard names (d ∷ []) ≡ d ∷ []
+heard_is names d h = ap (λ (b : Bool). cond b (d ∷ []) []) (test-from_Hears names d.kind d.destination h)
+
+pub unheard_is : (names : List NetbiosName) (d : DatagramParts) → (Hears names d → ⊥) → heard names (d ∷ []) ≡ []
+unheard_is names d h =
+    elim (cases_bool (hears names d)) [
+      | inl hearing ↦ absurd (h (Hears-from_test names d.kind d.destination hearing))
+      | inr deaf ↦ ap (λ (b : Bool). cond b (d ∷ []) []) deaf
+    ]
+
+-- what is handed over of a key whose datagram is known
+pub once_whole : (names : List NetbiosName) (L : List Core) (ds : List DatagramParts) → HandsOverOnce names L ds → (k : Key)
+    → (IsSpoilt L k → ⊥) → (d : DatagramParts) → datagram_at (table_of L) k ≡ Some d → of_key k ds ≡ heard names (d ∷ [])
+once_whole names L ds once k sound d e = once k sound ∙ ap (λ o. heard names (option_to_list o)) e
+
+pub once_part : (names : List NetbiosName) (L : List Core) (ds : List DatagramParts) → HandsOverOnce names L ds → (k : Key)
+    → (IsSpoilt L k → ⊥) → datagram_at (table_of L) k ≡ None → of_key k ds ≡ []
+once_part names L ds once k sound e = once k sound ∙ ap (λ o. heard names (option_to_list o)) e
+
+no_datagram : (o : Option DatagramParts) → ((d : DatagramParts) → o ≡ Some d → ⊥) → o ≡ None
+no_datagram None h = refl
+no_datagram (Some d) h = absurd (h d refl)
+
+-- a key that isn't whole has no datagram
+pub not_whole : ((t : Contents) (k : Key) → IsWholeAt t k ↔ ((d : DatagramParts) × (datagram_at t k ≡ Some d)))
+    → (L : List Core) (k : Key) → (IsWholeAt (table_of L) k → ⊥) → datagram_at (table_of L) k ≡ None
+not_whole whole L k part = no_datagram (datagram_at (table_of L) k) (λ d e. part ((whole (table_of L) k).1 (d, e)))
+
+-- ---- what a sender cut
+
+pub senders : ((L : List Core) (d : DatagramParts) → HasPartsAlone L d → IsSpoilt L d.key → ⊥)
+    → ((L : List Core) (d : DatagramParts) → HasPartsAlone L d → HasAll L d → Gives (table_of L) d)
+    → (names : List NetbiosName) (L : List Core) (ds : List DatagramParts) → HandsOverOnce names L ds → HandsOverTheSenders names L ds
+senders sound gives names L ds once d parts all hears =
+    once_whole names L ds once d.key (sound L d parts) d (gives L d parts all) ∙ heard_is names d hears

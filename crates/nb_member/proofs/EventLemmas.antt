@@ -1,0 +1,3 @@
+-- What events say: something, and one thing.
+pub mod OneSaying
+pub mod SomeSaying

@@ -1,0 +1,174 @@
+-- Members stand for the fragments that are live: after a fragment, and after a look at the clock.
+use Rattle.std.proofs.Common.{◌≡◌, ℕ, ◌≤◌, Bool, true, false, not, ◌&&◌, cond, List, [], ◌∷◌, ◌++◌, refl, sym, ap, ◌∙◌, arith, Option, Some, None}
+use Rattle.std.specs.Prelude.{filter, nat_le, is_some}
+use Rattle.std.specs.FinMap as maps
+use Rattle.std.proofs.lemmas.Bool.{false≢true}
+use Rattle.nb_datagram.specs.declared.key.Key.{Key}
+use Rattle.nb_datagram.specs.Key.{same_key}
+use Rattle.nb_datagram.specs.KeyOrder.{key_cmp_total, same_key_decides}
+use Rattle.nb_datagram.specs.Fragment.{FragmentParts, Core, core_of}
+use Rattle.nb_table.specs.ConflictTests.{keyed}
+use Rattle.nb_table.specs.Entry.{EntryValue}
+use Rattle.nb_table.specs.Contents.{Contents, table_of}
+use Rattle.nb_table.specs.Join.{join}
+use Rattle.nb_table.specs.Limits.{Limits, IsFull}
+use Rattle.nb_table.specs.Lemmas.SameLemmas.{le_is, is_le}
+use Rattle.nb_member.specs.declared.settings.Settings.{Settings}
+use Rattle.nb_member.proofs.MemberLemmas.DroppedKeys.{get-lasting}
+use Rattle.nb_member.proofs.LiveLemmas.LiveTables.{cores-append, cores-filter}
+use Rattle.nb_member.specs.Events.{clock, limits_of}
+use Rattle.nb_member.specs.Live.{Timed, cores, table_from, start_at, is_over, outlives, is_full, live_after}
+use Rattle.nb_member.specs.Member.{MemberValue, with_timed, StandsOver, Moments, begun, lasts, after_fragment, after_clock}
+
+-- ---- full keys
+
+full_from : (o : Option EntryValue) (keys held : ℕ) → o ≡ None → keys ≤ held → (not (is_some o) && nat_le keys held) ≡ true
+full_from None keys held h le = is_le keys held le
+full_from (Some x) keys held h le = absurd (cc)
+
+full_to : (o : Option EntryValue) (keys held : ℕ) → (not (is_some o) && nat_le keys held) ≡ true → (o ≡ None) × (keys ≤ held)
+full_to None keys held h = (refl, le_is keys held h)
+full_to (Some x) keys held h = absurd (false≢true h)
+
+-- a key for which the table of what is live has no room is full
+pub full_is : (t : Contents) (l : Limits) (settings : Settings) (L : List Timed) (k : Key) → t ≡ table_from L
+    → l ≡ limits_of settings → IsFull l t k → is_full settings L k ≡ true
+full_is t l settings L k table limits full =
+    let keys : l.keys ≡ settings.keys = ap (λ (x : Limits). x.keys) limits in
+    let held : maps.len t ≡ maps.len (table_from L) = ap (λ (u : Contents). maps.len u) table in
+    let most = full.no_room in
+    full_from (maps.get (table_from L) k) settings.keys (maps.len (table_from L))
+    (ap (λ (u : Contents). maps.get u k) (sym table) ∙ full.is_new) (omega (arith, keys, held, most))
+
+-- and the other way round
+pub is_full_is : (t : Contents) (l : Limits) (settings : Settings) (L : List Timed) (k : Key) → t ≡ table_from L
+    → l ≡ limits_of settings → is_full settings L k ≡ true → IsFull l t k
+is_full_is t l settings L k table limits full =
+    let keys : l.keys ≡ settings.keys = ap (λ (x : Limits). x.keys) limits in
+    let held : maps.len t ≡ maps.len (table_from L) = ap (λ (u : Contents). maps.len u) table in
+    let parts = full_to (maps.get (table_from L) k) settings.keys (maps.len (table_from L)) full in
+    let most = parts.1 in
+    record {
+      is_new = ap (λ (u : Contents). maps.get u k) table ∙ parts.0;
+      no_room = omega (arith, keys, held, most);
+    }
+
+-- ---- one fragment more
+
+-- what there is first
+abbrev pub earlier : Option ℕ → Option ℕ → Option ℕ
+earlier None later = later
+earlier (Some x) later = Some x
+
+start_step : (b : Bool) (x : ℕ) (o later : Option ℕ) → cond b (Some x) (earlier o later) ≡ earlier (cond b (Some x) o) later
+start_step true x o later = refl
+start_step false x o later = refl
+
+-- the start of a key in a list with one more fragment
+start-append : (L : List Timed) (t : Timed) (k : Key)
+    → start_at (L ++ t ∷ []) k ≡ earlier (start_at L k) (cond (same_key k t.fragment.key) (Some t.moment) None)
+start-append [] t k = refl
+start-append (u ∷ L) t k =
+    ap (λ (o : Option ℕ). cond (same_key k u.fragment.key) (Some u.moment) o) (start-append L t k)
+    ∙ start_step (same_key k u.fragment.key) u.moment (start_at L k) (cond (same_key k t.fragment.key) (Some t.moment) None)
+
+earlier_none : (o : Option ℕ) → o ≡ earlier o None
+earlier_none None = refl
+earlier_none (Some x) = refl
+
+earlier_some : (o later : Option ℕ) → is_some o ≡ true → o ≡ earlier o later
+earlier_some None later h = absurd (false≢true h)
+earlier_some (Some x) later h = refl
+
+later_alone : (o : Option ℕ) (x : ℕ) → is_some o ≡ false → Some x ≡ earlier o (Some x)
+later_alone None x h = refl
+later_alone (Some y) x h = absurd (false≢true (sym h))
+
+-- where the key has a moment already
+kept_moment : (b : Bool) (m : Moments) (k q : Key) (v : ℕ) → maps.contains_key m k ≡ true → same_key q k ≡ b
+    → maps.get m q ≡ earlier (maps.get m q) (cond b (Some v) None)
+kept_moment true m k q v has same =
+    earlier_some (maps.get m q) (Some v) (ap (λ (j : Key). maps.contains_key m j) ((same_key_decides q k).0 same) ∙ has)
+kept_moment false m k q v has same = earlier_none (maps.get m q)
+
+-- where it has none
+new_moment : (b : Bool) (m : Moments) (k q : Key) (v : ℕ) → maps.contains_key m k ≡ false → same_key q k ≡ b
+    → cond b (Some v) (maps.get m q) ≡ earlier (maps.get m q) (cond b (Some v) None)
+new_moment true m k q v new same =
+    later_alone (maps.get m q) v (ap (λ (j : Key). maps.contains_key m j) ((same_key_decides q k).0 same) ∙ new)
+new_moment false m k q v new same = earlier_none (maps.get m q)
+
+get_begun_by : (b : Bool) (m : Moments) (k q : Key) (v : ℕ) → maps.contains_key m k ≡ b
+    → maps.get (cond b m (maps.insert m k v)) q ≡ earlier (maps.get m q) (cond (same_key q k) (Some v) None)
+get_begun_by true m k q v h = kept_moment (same_key q k) m k q v h refl
+get_begun_by false m k q v h =
+    maps.get-insert key_cmp_total m k v q ∙ new_moment (same_key q k) m k q v h refl
+
+-- the moments with one begun
+get-begun : (m : Moments) (k q : Key) (v : ℕ)
+    → maps.get (begun m k v) q ≡ earlier (maps.get m q) (cond (same_key q k) (Some v) None)
+get-begun m k q v = get_begun_by (maps.contains_key m k) m k q v refl
+
+-- the table with one fragment more
+table_more : ((L M : List Core) → table_of (L ++ M) ≡ join (table_of L) (table_of M)) → (L : List Timed) (t : Timed)
+    → join (table_from L) (table_of (core_of t.fragment ∷ [])) ≡ table_from (L ++ t ∷ [])
+table_more of_two L t =
+    sym (ap table_of (cores-append L (t ∷ [])) ∙ of_two (cores L) (core_of t.fragment ∷ []))
+
+-- a member that took a fragment in stands for one more
+pub stands_more : ((L M : List Core) → table_of (L ++ M) ≡ join (table_of L) (table_of M)) → (m : MemberValue)
+    (L : List Timed) (moment : ℕ) (f : FragmentParts) → StandsOver m L
+    → StandsOver (with_timed m (after_fragment m.timed moment f)) (L ++ record { moment = moment; fragment = f } ∷ [])
+stands_more of_two m L moment f s = record {
+  table_is = ap (λ (t : Contents). join t (table_of (core_of f ∷ []))) s.table_is
+      ∙ table_more of_two L (record { moment = moment; fragment = f });
+  limits_are = s.limits_are;
+  moments_are = λ k.
+      get-begun m.timed.moments f.key k moment
+      ∙ (ap (λ (o : Option ℕ). earlier o (cond (same_key k f.key) (Some moment) None)) (s.moments_are k)
+      ∙ sym (start-append L (record { moment = moment; fragment = f }) k));
+}
+
+-- ---- the clock
+
+nothing_kept : (b : Bool) (o : Option ℕ) → o ≡ None → o ≡ cond b o None
+nothing_kept true o h = refl
+nothing_kept false o h = h
+
+start_kept : (a b : Bool) (p : Key → Bool) (k : Key) (t : Timed) (rest : List Timed) (o : Option ℕ)
+    → start_at rest k ≡ cond (p k) o None → p t.fragment.key ≡ a → same_key k t.fragment.key ≡ b
+    → start_at (cond a (t ∷ rest) rest) k ≡ cond (p k) (cond b (Some t.moment) o) None
+start_kept true true p k t rest o rec keeps same =
+    ap (λ (b : Bool). cond b (Some t.moment) (start_at rest k)) same
+    ∙ sym (ap (λ (b : Bool). cond b (Some t.moment) None) (ap p ((same_key_decides k t.fragment.key).0 same) ∙ keeps))
+start_kept true false p k t rest o rec keeps same =
+    ap (λ (b : Bool). cond b (Some t.moment) (start_at rest k)) same ∙ rec
+start_kept false true p k t rest o rec keeps same =
+    let drops = ap p ((same_key_decides k t.fragment.key).0 same) ∙ keeps in
+    rec ∙ (ap (λ (b : Bool). cond b o None) drops ∙ sym (ap (λ (b : Bool). cond b (Some t.moment) None) drops))
+start_kept false false p k t rest o rec keeps same = rec
+
+-- the start of a key among the fragments whose keys pass a test
+start-filter : (p : Key → Bool) (L : List Timed) (k : Key)
+    → start_at (filter (λ t. p t.fragment.key) L) k ≡ cond (p k) (start_at L k) None
+start-filter p [] k = nothing_kept (p k) None refl
+start-filter p (t ∷ L) k =
+    start_kept (p t.fragment.key) (same_key k t.fragment.key) p k t (filter (λ u. p u.fragment.key) L) (start_at L k)
+    (start-filter p L k) refl refl
+
+-- a member that looked at the clock stands for the fragments that are live still
+pub stands_left : ((L : List Core) (p : Key → Bool) → maps.retain_keys (table_of L) p ≡ table_of (keyed p L))
+    → (m : MemberValue) (L : List Timed) (now : ℕ) → StandsOver m L
+    → StandsOver (with_timed m (after_clock m.timed now)) (live_after m.settings L (clock now))
+stands_left keeping m L now s =
+    let same : lasts m.timed.moments now ≡ outlives L now = λ i k. not (is_over now (s.moments_are k i)) in
+    record {
+      table_is = ap (λ (t : Contents). maps.retain_keys t (lasts m.timed.moments now)) s.table_is
+          ∙ (ap (λ (p : Key → Bool). maps.retain_keys (table_from L) p) same
+          ∙ (keeping (cores L) (outlives L now) ∙ sym (ap table_of (cores-filter (outlives L now) L))));
+      limits_are = s.limits_are;
+      moments_are = λ k.
+          get-lasting m.timed.moments m.timed.moments now k
+          ∙ (ap (λ (o : Option ℕ). cond (not (is_over now o)) o None) (s.moments_are k)
+          ∙ sym (start-filter (outlives L now) L k));
+    }

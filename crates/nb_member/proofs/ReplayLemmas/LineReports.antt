@@ -1,0 +1,97 @@
+-- What acting on one line comes to.
+use Rattle.std.proofs.Common.{◌≡◌, ◌≢◌, ◌+◌, ◌++◌, ◌∷◌, ℕ, List, [], Option, Result, Ok, Err, OnErr, sym, subst, ap, arith}
+use Rattle.std.specs.Prelude.{codes}
+use Rattle.std.specs.FinMap as maps
+use Rattle.std.specs.Fmt.{decimal}
+use Rattle.nb_member.specs.declared.event.Event.TheVariants as event
+use Rattle.nb_member.specs.declared.line.Line.TheVariants.{Packet, Tick}
+use Rattle.nb_member.specs.declared.member_fault.MemberFault.{MemberFault}
+use Rattle.nb_member.specs.declared.member_fault.MemberFault.TheVariants as member_fault
+use Rattle.nb_datagram.specs.Fragment.{FragmentParts}
+use Rattle.nb_member.specs.declared.outcome.Outcome.{Outcome}
+use Rattle.nb_member.specs.declared.replay_fault.ReplayFault.{ReplayFault}
+use Rattle.nb_member.specs.declared.replay_fault.ReplayFault.TheVariants as fault
+use Rattle.nb_names.specs.DeviceFacts.{Keeps-same}
+use Rattle.nb_member.specs.Code.ReplayLines.{ReportsLine, HasNoReport, HasNoWholeReport}
+use Rattle.nb_member.specs.Taking.{Does, Takes, TakesFragment, fragment, error, query, no_packet}
+use Rattle.nb_member.specs.Code.Members.{KeepsStation}
+use Rattle.nb_member.specs.Capture.{HasValue, SaysNothing}
+use Rattle.nb_member.specs.Events.{Saying, clock, Says}
+use Rattle.nb_member.specs.Live.{Timed, live_after}
+use Rattle.nb_member.specs.Member.{MemberValue, StandsOver, contents, with_timed, after_clock}
+use Rattle.nb_member.specs.Report.{ReportOfLine, nothing, passed, taken, tick, dropped, numbered, result_text}
+
+-- a line that says nothing
+pub quiet : (m : MemberValue) (L : List Timed) (n : ℕ) (line : List ℕ) → StandsOver m L → SaysNothing line
+    → ReportsLine m L n line m []
+quiet m L n line s h = record { events = []; live = L; acts = nothing line h; stands = s }
+
+-- a payload of another port
+pub passed_by : (m : MemberValue) (L : List Timed) (n port moment : ℕ) (payload line : List ℕ) → StandsOver m L
+    → port ≢ 138 → HasValue line (Packet port moment payload)
+    → ReportsLine m L n line m (numbered n (codes "passed"))
+passed_by m L n port moment payload line s other h =
+    record { events = []; live = L; acts = passed line payload port moment h other; stands = s }
+
+-- a look at the clock
+pub looked : (m : MemberValue) (L : List Timed) (n now keys : ℕ) (new : MemberValue) (line : List ℕ) → StandsOver m L
+    → StandsOver (with_timed m (after_clock m.timed now)) (live_after m.settings L (clock now))
+    → new ≡ with_timed m (after_clock m.timed now) → keys + maps.len (contents new) ≡ maps.len (contents m)
+    → HasValue line (Tick now)
+    → ReportsLine m L n line new (numbered n (codes "dropped " ++ decimal keys))
+looked m L n now keys new line s after is count h =
+    let stands : StandsOver new (live_after m.settings L (clock now)) =
+    subst (λ (x : MemberValue). StandsOver x (live_after m.settings L (clock now))) (sym is) after in
+    let number : dropped m.settings L now ≡ keys = omega (arith, count, ap maps.len s.table_is, ap maps.len stands.table_is) in
+    record {
+      events = event.Tick now ∷ [];
+      live = live_after m.settings L (clock now);
+      acts = subst (λ (k : ℕ). ReportOfLine m.settings m.names n L line (event.Tick now ∷ []) (numbered n (codes "dropped " ++ decimal k)) (live_after m.settings L (clock now)))
+          number (tick line now h);
+      stands = stands;
+    }
+
+-- a payload
+pub took : (m : MemberValue) (L : List Timed) (n moment : ℕ) (payload : List ℕ) (new : MemberValue)
+    (result : Result Outcome MemberFault) (said : Saying) (line : List ℕ)
+    → Says m.settings (event.Packet moment payload) said → Does m L said new result
+    → HasValue line (Packet 138 moment payload)
+    → ReportsLine m L n line new (numbered n (result_text result))
+took m L n moment payload new result said line says does h = record {
+  events = event.Packet moment payload ∷ [];
+  live = live_after m.settings L said;
+  acts = taken line payload moment said result h says does.answers;
+  stands = does.stands;
+}
+
+-- a line that has no report leaves the writer as it was
+pub unwritten : (m : MemberValue) (L : List Timed) (n : ℕ) (line : List ℕ) (new : MemberValue) (known : Option (List ℕ))
+    (why : ReplayFault) → HasNoReport m L n line new why → HasNoWholeReport m L n line new known known why
+unwritten m L n line new known (fault.Line k) e = (e.0, e.1, e.2, Keeps-same known)
+unwritten m L n line new known fault.Read e = absurd e
+unwritten m L n line new known fault.Write e = absurd e
+unwritten m L n line new known fault.NoMemory e = (e, Keeps-same known)
+
+-- ---- what stays
+
+-- what holds in any case holds where there is an error
+pub always_on_err : {T E P : Type 0} (r : Result T E) → P → OnErr r P
+always_on_err (Ok x) p = tt
+always_on_err (Err e) p = p
+
+pub same_keeps : (m new : MemberValue) → new ≡ m → KeepsStation m new
+same_keeps m new same = (ap (λ (x : MemberValue). x.settings) same, ap (λ (x : MemberValue). x.names) same)
+
+fragment_keeps : (m : MemberValue) (moment : ℕ) (f : FragmentParts) (new : MemberValue) (result : Result Outcome MemberFault)
+    → TakesFragment m moment f new result → KeepsStation m new
+fragment_keeps m moment f new (Ok outcome) t = (ap (λ (x : MemberValue). x.settings) t.joined, ap (λ (x : MemberValue). x.names) t.joined)
+fragment_keeps m moment f new (Err (member_fault.Packet x e)) t = absurd t
+fragment_keeps m moment f new (Err (member_fault.Table x)) t = same_keeps m new t.1
+
+-- a payload that is taken changes neither settings nor names
+pub taken_keeps : (m : MemberValue) (moment : ℕ) (payload : List ℕ) (new : MemberValue) (result : Result Outcome MemberFault)
+    → Takes m moment payload new result → KeepsStation m new
+taken_keeps m moment payload new _ (fragment f used result p t) = fragment_keeps m moment f new result t
+taken_keeps m moment payload new _ (error e used p same) = same_keeps m new same
+taken_keeps m moment payload new _ (query q used p same) = same_keeps m new same
+taken_keeps m moment payload new _ (no_packet x p same) = same_keeps m new same

@@ -1,0 +1,3 @@
+-- Runs of events.
+pub mod RunSoFar
+pub mod OneEvent

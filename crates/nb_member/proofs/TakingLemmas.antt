@@ -1,0 +1,4 @@
+-- Payloads that a member takes, and others' tables.
+pub mod Payloads
+pub mod FullKeys
+pub mod MergedMoments

@@ -1,0 +1,92 @@
+-- Payloads for which a member's table has no room.
+use Rattle.std.proofs.Common.{◌≡◌, ℕ, true, List, sym, ap, subst, ◌∙◌, Option, Some, None}
+use Rattle.std.specs.Prelude.{MatchOption}
+use Rattle.std.proofs.lemmas.Bool.{false≢true}
+use Rattle.nb_datagram.specs.declared.key.Key.{Key}
+use Rattle.nb_datagram.specs.declared.packet.Packet.TheVariants.{Direct}
+use Rattle.nb_datagram.specs.Fragment.{FragmentParts}
+use Rattle.nb_datagram.specs.Packet.{IsPacket}
+use Rattle.nb_table.specs.Insert.{Passes}
+use Rattle.nb_table.specs.Limits.{Limits}
+use Rattle.nb_member.specs.declared.event.Event.TheVariants.{Packet}
+use Rattle.nb_member.specs.declared.settings.Settings.{Settings}
+use Rattle.nb_member.specs.Events as saying
+use Rattle.nb_member.proofs.EventLemmas.OneSaying.{SaysOf, of_fragment, of_invalid, of_fault, of_error, of_query, says_by}
+use Rattle.nb_member.proofs.MemberLemmas.LiveAfter.{full_is, is_full_is}
+use Rattle.nb_member.proofs.TakingLemmas.Payloads.{valid_is}
+use Rattle.nb_member.specs.Events.{Saying, came, limits_of, Says}
+use Rattle.nb_member.specs.Live.{Timed, HasRoom, is_full}
+use Rattle.nb_member.specs.Member.{MemberValue, contents, StandsOver}
+use Rattle.nb_member.specs.Code.RunEvents.{stop_of}
+use Rattle.nb_member.specs.Running.{MeetsLimit, StopsAt}
+use Rattle.nb_member.specs.Code.Members.{MeetsFull, BeginsFull}
+
+passes_is : (l : Limits) (settings : Settings) (f : FragmentParts) → l ≡ limits_of settings → Passes (limits_of settings) f → Passes l f
+passes_is l settings f limits v = subst (λ (x : Limits). Passes x f) (sym limits) v
+
+-- a payload that begins with a fragment of a full key says a fragment that meets the limit
+meets_limit : (m : MemberValue) (L : List Timed) (moment : ℕ) (payload : List ℕ) (k : Key) → StandsOver m L
+    → BeginsFull m payload k → MeetsLimit m.settings L (Packet moment payload) k
+meets_limit m L moment payload k s b = record {
+  moment = moment;
+  f = b.f;
+  says = saying.fragment moment b.used payload b.f b.found (valid_is m.timed.table.limits m.settings b.f s.limits_are b.meets.passes);
+  key = b.key;
+  full = ap (λ (j : Key). is_full m.settings L j) (sym b.key)
+      ∙ full_is (contents m) m.timed.table.limits m.settings L b.f.key s.table_is s.limits_are b.meets.full;
+}
+
+-- and the other way round
+begins_of : (m : MemberValue) (L : List Timed) (moment at : ℕ) (payload : List ℕ) (f : FragmentParts) (k : Key) → StandsOver m L
+    → SaysOf m.settings moment payload (came at f) → f.key ≡ k → is_full m.settings L k ≡ true → BeginsFull m payload k
+begins_of m L moment at payload f k s (of_fragment used g p v e) key full =
+    let same : g ≡ f = cc in
+    let key_is : g.key ≡ k = ap (λ (x : FragmentParts). x.key) same ∙ key in
+    record {
+      f = g;
+      used = used;
+      found = p;
+      meets = record {
+        passes = passes_is m.timed.table.limits m.settings g s.limits_are v;
+        full = is_full_is (contents m) m.timed.table.limits m.settings L g.key s.table_is s.limits_are
+            (ap (λ (j : Key). is_full m.settings L j) key_is ∙ full);
+      };
+      key = key_is;
+    }
+begins_of m L moment at payload f k s (of_invalid used g x p i e) key full = absurd (cc)
+begins_of m L moment at payload f k s (of_fault x p e) key full = absurd (cc)
+begins_of m L moment at payload f k s (of_error used q p e) key full = absurd (cc)
+begins_of m L moment at payload f k s (of_query used q p e) key full = absurd (cc)
+
+begins_full : (m : MemberValue) (L : List Timed) (moment : ℕ) (payload : List ℕ) (k : Key) → StandsOver m L
+    → MeetsLimit m.settings L (Packet moment payload) k → BeginsFull m payload k
+begins_full m L moment payload k s h =
+    begins_of m L moment h.moment payload h.f k s (says_by m.settings (Packet moment payload) (came h.moment h.f) h.says) h.key h.full
+
+-- a payload begins with one fragment
+pub begins_by : (m : MemberValue) (payload : List ℕ) (f : FragmentParts) (used : ℕ) (full : Option Key)
+    → IsPacket payload (Direct f) used
+    → ((g : FragmentParts) (behind : ℕ) → IsPacket payload (Direct g) behind → Direct f ≡ Direct g)
+    → MatchOption full (¬ MeetsFull m f) (λ k. MeetsFull m f × (f.key ≡ k))
+    → MatchOption full ((k : Key) → ¬ BeginsFull m payload k) (BeginsFull m payload)
+begins_by m payload f used None found only h = λ k b.
+    let one = only b.f b.used b.found in
+    let same : b.f ≡ f = cc in
+    h (subst (λ (g : FragmentParts). MeetsFull m g) same b.meets)
+begins_by m payload f used (Some k) found only h = record { f = f; used = used; found = found; meets = h.0; key = h.1 }
+
+-- so a run stops before a payload where there is no room to note an answer
+pub stops_at : (m : MemberValue) (L : List Timed) (moment : ℕ) (payload : List ℕ) (full : Option Key) → StandsOver m L
+    → MatchOption full ((k : Key) → ¬ BeginsFull m payload k) (BeginsFull m payload)
+    → StopsAt m.settings L (Packet moment payload) (stop_of full)
+stops_at m L moment payload None s h = (tt, λ k meets. h k (begins_full m L moment payload k s meets))
+stops_at m L moment payload (Some k) s h = meets_limit m L moment payload k s h
+
+-- where what an event says has room, it meets no limit
+pub meets_none : (settings : Settings) (L : List Timed) (moment : ℕ) (payload : List ℕ)
+    → ((s : Saying) → Says settings (Packet moment payload) s → HasRoom settings L s)
+    → (k : Key) → MeetsLimit settings L (Packet moment payload) k → ⊥
+meets_none settings L moment payload room k h =
+    let open_still = room (came h.moment h.f) h.says in
+    let full = h.full in
+    absurd (false≢true (sym open_still ∙ (ap (λ (j : Key). is_full settings L j) h.key ∙ full)))

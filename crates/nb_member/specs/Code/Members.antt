@@ -1,0 +1,52 @@
+-- How a member is kept, what no call changes of it, and how it finds a payload for whose key there is no room
+-- (our choice).
+use Rattle.std.specs.Prelude.{ℕ, List, refl, ◌≡◌}
+use Rattle.std.specs.Coded.{Coded, code_by, coded×, coded_ℕ, coded_list}
+use Rattle.nb_names.specs.Name.{NetbiosName, name_code}
+use Rattle.nb_datagram.specs.declared.key.Key.{Key}
+use Rattle.nb_datagram.specs.declared.packet.Packet.TheVariants.{Direct}
+use Rattle.nb_datagram.specs.Fragment.{FragmentParts}
+use Rattle.nb_datagram.specs.Packet.{IsPacket}
+use Rattle.nb_table.specs.Limits.{IsFull}
+use Rattle.nb_table.specs.Insert.{Passes}
+use Rattle.nb_member.specs.declared.settings.Settings.{Settings}
+use Rattle.nb_member.specs.Member.{TimedValue, MemberValue, contents}
+use Rattle.nb_member.specs.Code.Timers.{timed_code}
+
+-- settings as the tuple of their fields
+abbrev pub settings_code : Coded Settings
+settings_code =
+    code_by (List ℕ × (ℕ × (ℕ × ℕ))) (coded× (coded_list coded_ℕ) (coded× coded_ℕ (coded× coded_ℕ coded_ℕ)))
+    (λ s. (s.ip, (s.port, (s.keys, s.longest))))
+    (λ p. record { ip = p.0; port = p.1.0; keys = p.1.1.0; longest = p.1.1.1 }) (λ _. refl)
+
+-- a member as the tuple of its parts
+abbrev pub member_code : Coded MemberValue
+member_code =
+    code_by (Settings × (List NetbiosName × TimedValue))
+    (coded× settings_code (coded× (coded_list name_code) timed_code))
+    (λ m. (m.settings, (m.names, m.timed))) (λ p. record { settings = p.0; names = p.1.0; timed = p.1.1 })
+    (λ _. refl)
+
+-- KeepsStation m new: the settings and the names are those that the member m had
+abbrev pub KeepsStation : MemberValue → MemberValue → Type 0
+KeepsStation m new = (new.settings ≡ m.settings) × (new.names ≡ m.names)
+
+-- ---- payloads for which there is no room
+
+-- IsFullAt m k: the member's table has no room for the key k
+abbrev pub IsFullAt : MemberValue → Key → Type 0
+IsFullAt m k = IsFull m.timed.table.limits (contents m) k
+
+-- MeetsFull m f: the fragment f passes, and the member m has no room for its key
+pub record MeetsFull (m : MemberValue) (f : FragmentParts) : Type 0 where
+  pub passes : Passes m.timed.table.limits f
+  pub full : IsFullAt m f.key
+
+-- BeginsFull m payload k: the payload begins with such a fragment, which has the key k
+pub record BeginsFull (m : MemberValue) (payload : List ℕ) (k : Key) : Type 0 where
+  pub f : FragmentParts
+  pub used : ℕ
+  pub found : IsPacket payload (Direct f) used
+  pub meets : MeetsFull m f
+  pub key : f.key ≡ k

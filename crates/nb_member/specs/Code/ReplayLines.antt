@@ -1,0 +1,74 @@
+-- What a replay makes of one line of a capture, and of the writer that its report goes to (our choice).
+use Rattle.std.specs.Prelude.{ℕ, List, ◌≡◌, ◌⊎◌, Option, Bool, true, false, Result, Err}
+use Rattle.std.specs.Io.KnownBytes.{Appends, Keeps}
+use Rattle.nb_names.specs.Counted.{Counts}
+use Rattle.nb_member.specs.declared.event.Event.{Event}
+use Rattle.nb_member.specs.declared.replay_fault.ReplayFault.{ReplayFault}
+use Rattle.nb_member.specs.declared.replay_fault.ReplayFault.TheVariants.{Line, Read, Write, NoMemory}
+use Rattle.nb_member.specs.declared.line.Line.{Line as Value}
+use Rattle.nb_member.specs.Live.{Timed, live}
+use Rattle.nb_member.specs.Member.{MemberValue, StandsOver, Stands}
+use Rattle.nb_member.specs.Report.{ReportOfLine}
+use Rattle.nb_member.specs.Capture.{IsMalformed, HasValue}
+use Rattle.nb_names.specs.Devices.{AppendsFront, ShowsWriteFault}
+use Rattle.nb_member.specs.Code.Members.{KeepsStation}
+use Rattle.nb_member.specs.Replaying.{looked_at, IsWhole, Replays}
+
+-- ReportsLine m L n line new text: the member m, which stands for the fragments L, acted on line n of a capture
+-- and became new; text is the line's report
+pub record ReportsLine (m : MemberValue) (L : List Timed) (n : ℕ) (line : List ℕ) (new : MemberValue) (text : List ℕ) : Type 0 where
+  pub events : List Event
+  pub live : List Timed
+  pub acts : ReportOfLine m.settings m.names n L line events text live
+  pub stands : StandsOver new live
+
+-- MayReportLine m L n line new: the same, or the member stayed as it was
+abbrev pub MayReportLine : MemberValue → List Timed → ℕ → List ℕ → MemberValue → Type 0
+MayReportLine m L n line new = (new ≡ m) ⊎ ((text : List ℕ) × ReportsLine m L n line new text)
+
+-- HasNoReport m L n line new fault: the line has no report for this fault
+abbrev pub HasNoReport : MemberValue → List Timed → ℕ → List ℕ → MemberValue → ReplayFault → Type 0
+HasNoReport m L n line new (Line k) = (k ≡ n) × IsMalformed line × (new ≡ m)
+HasNoReport m L n line new Read = ⊥
+HasNoReport m L n line new Write = ⊥
+HasNoReport m L n line new NoMemory = MayReportLine m L n line new
+
+-- WritesLine m L n line new before after: the member acted on the line, and the writer has its report
+pub record WritesLine (m : MemberValue) (L : List Timed) (n : ℕ) (line : List ℕ) (new : MemberValue) (before after : Option (List ℕ)) : Type 0 where
+  pub text : List ℕ
+  pub acted : ReportsLine m L n line new text
+  pub written : Appends before after text
+
+-- WritesFront m L n line new before after: the same, but the writer has a front of the report alone
+pub record WritesFront (m : MemberValue) (L : List Timed) (n : ℕ) (line : List ℕ) (new : MemberValue) (before after : Option (List ℕ)) : Type 0 where
+  pub text : List ℕ
+  pub acted : ReportsLine m L n line new text
+  pub front : AppendsFront before after text
+
+-- HasNoWholeReport m L n line new before after fault: the line's report isn't written whole, for this fault
+abbrev pub HasNoWholeReport : MemberValue → List Timed → ℕ → List ℕ → MemberValue → Option (List ℕ) → Option (List ℕ) → ReplayFault → Type 0
+HasNoWholeReport m L n line new before after (Line k) = (k ≡ n) × IsMalformed line × (new ≡ m) × Keeps before after
+HasNoWholeReport m L n line new before after Read = ⊥
+HasNoWholeReport m L n line new before after Write = WritesFront m L n line new before after
+HasNoWholeReport m L n line new before after NoMemory = MayReportLine m L n line new × Keeps before after
+
+-- ReportsValue m L n value new text: the member acted on each line that has this value
+abbrev pub ReportsValue : MemberValue → List Timed → ℕ → Value → MemberValue → List ℕ → Type 0
+ReportsValue m L n value new text = (line : List ℕ) → HasValue line value → ReportsLine m L n line new text
+
+-- MayReportValue m L n value new: the same, or the member stayed as it was
+abbrev pub MayReportValue : MemberValue → List Timed → ℕ → Value → MemberValue → Type 0
+MayReportValue m L n value new = (line : List ℕ) → HasValue line value → MayReportLine m L n line new
+
+-- ---- all lines
+
+-- EndsReplay m new bytes is_whole before after old counts result: what is answered where these are the bytes
+-- that are looked at, and the flag says whether they are the whole input
+pub record EndsReplay (m new : MemberValue) (bytes : List ℕ) (is_whole : Bool) (before after : Option (List ℕ))
+    (old counts : Counts) (result : Result ℕ ReplayFault) : Type 0 where
+  pub replays : (came : List ℕ) (left : Option (List ℕ)) → bytes ≡ looked_at came
+      → (is_whole ≡ true → IsWhole came left) → (H : List Event) (s : Stands m H)
+      → Replays m H (live m.settings s.sayings) came left new before after result
+  pub read : result ≡ Err Read → is_whole ≡ false
+  pub write : result ≡ Err Write → ShowsWriteFault old counts
+  pub kept : KeepsStation m new

@@ -1,0 +1,142 @@
+//! What a member does with one line of a capture.
+ghost use Rattle.std.specs.Prelude.{◌≡◌, ◌≢◌, List, true, false, Err, IfErr, IfOk, OnErr, string_bytes};
+ghost use Rattle.nb_member.specs.Code.ReplayLines.{ReportsLine, ReportsValue, MayReportValue, HasNoReport};
+ghost use Rattle.nb_member.specs.Code.Members.{KeepsStation};
+ghost use Rattle.nb_member.specs.Live.{Timed};
+ghost use Rattle.nb_member.specs.Member.{StandsOver};
+
+use crate::capture::capture_line;
+use crate::laws;
+use crate::line::Line;
+use crate::line_fault::LineFault;
+use crate::member::Member;
+use crate::member_fault::MemberFault;
+use crate::outcome::Outcome;
+use crate::replay_fault::ReplayFault;
+use crate::report::{dropped_line, passed_line, taken_line};
+use nb_names::NoMemory;
+use nb_table::TableFault;
+use std::alloc::Global;
+
+/// Acts on the line of a capture with this number, and answers its line of the report, which is
+/// empty where it has none.
+///
+/// # Errors
+///
+/// [`ReplayFault::Line`] where the line is malformed, and the member is then as it was.
+/// [`ReplayFault::NoMemory`] where memory ran out, before the line was acted on or after.
+pub fn act_on(
+    alloc: Global,
+    number: u64,
+    line: &[u8],
+    member: &mut Member,
+) -> Result<String, ReplayFault>
+    ensures acted { IfOk result (λ text. (L : List Timed) → StandsOver member.old L →
+        ReportsLine member.old L number line.now member.new (string_bytes text)) }
+    ensures fault { IfErr result (λ fault. (L : List Timed) → StandsOver member.old L →
+        HasNoReport member.old L number line.now member.new fault) }
+    ensures no_device { IfErr result (λ fault.
+        (fault ≢ ReplayFault.Read) × (fault ≢ ReplayFault.Write)) }
+    ensures kept { KeepsStation member.old member.new }
+{
+    match capture_line(alloc, line) {
+        Ok(None) => Ok(String::new(alloc)),
+        Ok(Some(said)) => act(alloc, number, &said, member).map_err(|_| ReplayFault::NoMemory),
+        Err(LineFault::BadLine) => Err(ReplayFault::Line(number)),
+        Err(LineFault::NoMemory) => Err(ReplayFault::NoMemory),
+    }
+}
+
+/// Acts on what a line says.
+///
+/// # Errors
+///
+/// [`NoMemory`] where memory ran out, before this was acted on or after.
+fn act(alloc: Global, number: u64, said: &Line, member: &mut Member) -> Result<String, NoMemory>
+    ensures acted { IfOk result (λ text. (L : List Timed) → StandsOver member.old L →
+        ReportsValue member.old L number said.now member.new (string_bytes text)) }
+    ensures fault { OnErr result ((L : List Timed) → StandsOver member.old L →
+        MayReportValue member.old L number said.now member.new) }
+    ensures kept { KeepsStation member.old member.new }
+{
+    match said {
+        Line::Tick { now } => look(alloc, number, *now, member),
+        Line::Packet {
+            port,
+            moment,
+            payload,
+        } => receive(alloc, number, *port, *moment, payload.as_slice(), member),
+    }
+}
+
+/// Takes a payload of port 138, and passes others by.
+fn receive(
+    alloc: Global,
+    number: u64,
+    port: u16,
+    moment: u64,
+    payload: &[u8],
+    member: &mut Member,
+) -> Result<String, NoMemory>
+    ensures acted { IfOk result (λ text. (L : List Timed) → StandsOver member.old L →
+        ReportsValue member.old L number (Line.Packet port moment payload.now) member.new
+        (string_bytes text)) }
+    ensures fault { OnErr result ((L : List Timed) → StandsOver member.old L →
+        MayReportValue member.old L number (Line.Packet port moment payload.now) member.new) }
+    ensures kept { KeepsStation member.old member.new }
+{
+    if port != 138 {
+        return passed_line(alloc, number);
+    }
+    take(alloc, number, moment, payload, member)
+}
+
+/// Looks at the clock.
+fn look(alloc: Global, number: u64, now: u64, member: &mut Member) -> Result<String, NoMemory>
+    ensures acted { IfOk result (λ text. (L : List Timed) → StandsOver member.old L →
+        ReportsValue member.old L number (Line.Tick now) member.new (string_bytes text)) }
+    ensures fault { OnErr result ((L : List Timed) → StandsOver member.old L →
+        MayReportValue member.old L number (Line.Tick now) member.new) }
+    ensures kept { KeepsStation member.old member.new }
+{
+    laws::a_member_drops_what_the_clock_ends();
+    dropped_line(alloc, number, member.tick(now))
+}
+
+/// Takes a payload.
+fn take(
+    alloc: Global,
+    number: u64,
+    moment: u64,
+    payload: &[u8],
+    member: &mut Member,
+) -> Result<String, NoMemory>
+    ensures acted { IfOk result (λ text. (L : List Timed) → StandsOver member.old L →
+        ReportsValue member.old L number (Line.Packet 138 moment payload.now) member.new
+        (string_bytes text)) }
+    ensures fault { OnErr result ((L : List Timed) → StandsOver member.old L →
+        MayReportValue member.old L number (Line.Packet 138 moment payload.now) member.new) }
+    ensures kept { KeepsStation member.old member.new }
+{
+    laws::a_member_does_what_is_said();
+    let taken = member.take(moment, payload);
+    if lacked_memory(&taken) {
+        return Err(NoMemory);
+    }
+    taken_line(alloc, number, &taken)
+}
+
+/// Whether memory ran out where a payload was to be taken.
+fn lacked_memory(taken: &Result<Outcome, MemberFault>) -> bool
+    ensures lacked { result ≡ true → taken.now ≡ Err (MemberFault.Table TableFault.NoMemory) }
+    ensures had { result ≡ false → taken.now ≢ Err (MemberFault.Table TableFault.NoMemory) }
+{
+    match taken {
+        Ok(_) => false,
+        Err(MemberFault::Packet(_, _)) => false,
+        Err(MemberFault::Table(TableFault::NoMemory)) => true,
+        Err(MemberFault::Table(TableFault::MisplacedFirst)) => false,
+        Err(MemberFault::Table(TableFault::TooLong)) => false,
+        Err(MemberFault::Table(TableFault::Full(_))) => false,
+    }
+}

@@ -1,5 +1,5 @@
--- Words of the code's own data and loops (our choice). No public clause cites them, nor what they are made of: each is
--- held against the definitions by a contract of a private function.
+-- Words of the code's own data and loops (our choice). No public clause reaches them: contracts of private functions say
+-- how they stand to the definitions.
 pub mod Change
 pub mod State
 pub mod Fitting

@@ -1,4 +1,4 @@
-//! Maps of bytes by place, held against the bytes of one fragment, and put in order.
+//! Maps of bytes by place: compared with the bytes of one fragment, and put in order.
 ghost use Rattle.std.specs.Prelude.{◌≡◌, ◌↔◌, ◌+◌, ◌<◌, ◌^◌, ℕ, length, IsTrue, IsSome, IfOk, OnOk, Some};
 ghost use Rattle.std.specs.Ordering.{nat_cmp};
 ghost use Rattle.std.specs.List.{list_all};

@@ -1,4 +1,4 @@
-//! Two maps of bytes by place, held against each other and united.
+//! Two maps of bytes by place, compared and united.
 ghost use Rattle.std.specs.Prelude.{◌≡◌, OnOk};
 ghost use Rattle.std.specs.Ordering.{nat_cmp};
 ghost use Rattle.std.specs.List.{list_all};

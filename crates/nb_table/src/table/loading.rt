@@ -14,8 +14,8 @@ use std::alloc::Global;
 /// The table whose saved bytes these are, with these limits: how many keys it may hold, and how
 /// many bytes a datagram may have.
 ///
-/// The bytes are those that [`Table::save`] gives for the table, and no others: what is answered
-/// says that of them. No memory is taken before all of the input and the limits are judged.
+/// The bytes are those that [`Table::save`] gives for the table, and no others. No memory is taken
+/// before all of the input and the limits are judged.
 ///
 /// # Errors
 ///

@@ -1,7 +1,9 @@
 -- What `nbt merge` and `nbt agree` have done once the tables of the whole input are read.
-use Rattle.std.proofs.Common.{◌≡◌, ◌≢◌, ◌≤◌, ◌<◌, ◌+◌, [], ◌∷◌, ℕ, List, length, take, get_or, slice_get, Option, Some, refl, sym, ◌∙◌, ap₂, subst, arith}
+use Rattle.std.proofs.Common.{◌≡◌, ◌≢◌, ◌≤◌, ◌<◌, [], ◌∷◌, ℕ, List, length, take, get_or, slice_get, Option, Some, refl, sym, ap, ◌∙◌, ap₂, subst, suc, arith}
 use Rattle.std.specs.Io.KnownBytes.{Consumes, IsAtEnd}
+use Rattle.std.specs.List.{AllZip}
 use Rattle.nb_names.specs.declared.limits.TheConstants.{MAX_INPUT}
+use Rattle.nb_names.specs.Lines.{HasLines}
 use Rattle.nb_table.specs.Contents.{Contents}
 use Rattle.nb_table.specs.Join.{join, joined_all, AreTaken}
 use Rattle.nb_table.specs.Limits.{TableValue}
@@ -12,8 +14,8 @@ use Rattle.nbt.specs.declared.fault.Fault.TheVariants.{Memory, NoTables, TwoTabl
 use Rattle.nbt.specs.declared.status.Status.{Status}
 use Rattle.nbt.specs.Printing.{PrintsLine}
 use Rattle.nbt.specs.Saved.{saved_digits}
-use Rattle.nbt.specs.Tables.{AreTables, contents_of, fault_of_join, FailsOn, HasLines, IsElsewhere, JoinFails, MergeFails, MergesTables, CompareFails, Tells, ComparesTables}
-use Rattle.nbt.specs.Tables.{TablesFail, no_table, one_more, none, more, line_fails, no_line, not_joined, not_two, one_fails}
+use Rattle.nbt.specs.Tables.{AreTables, contents_of, fault_of_join, FailsOn, IsElsewhere, IsTableLine, JoinFails, MergeFails, MergesTables, CompareFails, Tells, ComparesTables}
+use Rattle.nbt.specs.Tables.{TablesFail, line_fails, no_line, not_joined, not_two, one_fails}
 
 -- one of the tables isn't joined to those before it, and this is told
 pub join_fails : (first : TableValue) (others : List TableValue) (index : ℕ) (why : TableFault) (fault : Fault)
@@ -74,29 +76,37 @@ two_items (t ∷ u ∷ v ∷ ts) first second many few is_first is_second = absu
 not_memory : (fault : Fault) → ¬ IsElsewhere fault → fault ≢ Memory
 not_memory fault here is = here (subst (λ (f : Fault). IsElsewhere f) (sym is) tt)
 
--- no tables stand in no line
-pub none_of_none : (keys : ℕ) (text : List ℕ) (ts : List TableValue) → AreTables keys text ts → length ts ≡ 0 → text ≡ []
-none_of_none keys _ _ no_table empty = refl
-none_of_none keys _ _ (one_more text line rest t ts first table later) empty = absurd (omega (arith, empty))
-
 -- there are as many lines as tables
-pub as_many : (keys : ℕ) (text : List ℕ) (ts : List TableValue) → AreTables keys text ts → HasLines text (length ts)
-as_many keys _ _ no_table = none
-as_many keys _ _ (one_more text line rest t ts first table later) =
-    let next : length (t ∷ ts) ≡ 1 + length ts = omega arith in
-    subst (λ (n : ℕ). HasLines text n) (sym next) (more text line rest (length ts) first (as_many keys rest ts later))
+as_long : (keys : ℕ) (lines : List (List ℕ)) (ts : List TableValue) → AllZip (IsTableLine keys) lines ts → length lines ≡ length ts
+as_long keys [] [] are = refl
+as_long keys [] (t ∷ ts) are = absurd are
+as_long keys (line ∷ lines) [] are = absurd are
+as_long keys (line ∷ lines) (t ∷ ts) are = ap suc (as_long keys lines ts are.1)
+
+pub as_many : (keys : ℕ) (text : List ℕ) (ts : List TableValue) → AreTables keys text ts
+    → (lines : List (List ℕ)) × HasLines text lines × (length lines ≡ length ts)
+as_many keys text ts tables = (tables.lines, tables.has, as_long keys tables.lines ts tables.are)
+
+no_items : (lines : List (List ℕ)) → length lines ≡ 0 → lines ≡ []
+no_items [] empty = refl
+no_items (line ∷ lines) empty = absurd (omega (arith, empty))
+
+-- no tables stand in no line
+pub none_of_none : (keys : ℕ) (text : List ℕ) (ts : List TableValue) → AreTables keys text ts → length ts ≡ 0 → HasLines text []
+none_of_none keys text ts tables empty =
+    subst (λ (lines : List (List ℕ)). HasLines text lines) (no_items tables.lines (as_long keys tables.lines ts tables.are ∙ empty)) tables.has
 
 pub merge_of_line : (IsKeys : ℕ → Type 0) (old_in new_in : Option (List ℕ)) (text read_text : List ℕ) (keys : ℕ) (fault : Fault) → read_text ≡ text
-    → Consumes old_in new_in text → IsAtEnd new_in → IsKeys keys → (fault ≢ Memory → TablesFail keys 1 read_text fault)
+    → Consumes old_in new_in text → IsAtEnd new_in → IsKeys keys → (fault ≢ Memory → TablesFail keys read_text fault)
     → FailsOn (MergeFails IsKeys) old_in new_in fault
 merge_of_line IsKeys old_in new_in text read_text keys fault same read ended given fails here =
-    (text, read, ended, line_fails keys given (subst (λ (bytes : List ℕ). TablesFail keys 1 bytes fault) same (fails (not_memory fault here))))
+    (text, read, ended, line_fails keys given (subst (λ (bytes : List ℕ). TablesFail keys bytes fault) same (fails (not_memory fault here))))
 
 pub merge_of_none : (IsKeys : ℕ → Type 0) (old_in new_in : Option (List ℕ)) (text read_text : List ℕ) (keys : ℕ) (ts : List TableValue) → read_text ≡ text
     → Consumes old_in new_in text → IsAtEnd new_in → AreTables keys read_text ts → length ts ≡ 0
     → FailsOn (MergeFails IsKeys) old_in new_in NoTables
 merge_of_none IsKeys old_in new_in text read_text keys ts same read ended tables empty here =
-    (text, read, ended, no_line (sym same ∙ none_of_none keys read_text ts tables empty) refl)
+    (text, read, ended, no_line (subst (λ (bytes : List ℕ). HasLines bytes []) same (none_of_none keys read_text ts tables empty)) refl)
 
 pub merge_of_join : (IsKeys : ℕ → Type 0) (old_in new_in : Option (List ℕ)) (text read_text : List ℕ) (keys : ℕ) (ts : List TableValue)
     (first : TableValue) (others : List TableValue) (fault : Fault) → read_text ≡ text → Consumes old_in new_in text → IsAtEnd new_in → IsKeys keys
@@ -105,14 +115,14 @@ merge_of_join IsKeys old_in new_in text read_text keys ts first others fault sam
     let parted = subst (λ (us : List TableValue). AreTables keys read_text us) are tables in
     (text, read, ended, not_joined keys first others given (subst (λ (bytes : List ℕ). AreTables keys bytes (first ∷ others)) same parted) fails)
 
-pub compare_of_count : (old_in new_in : Option (List ℕ)) (text read_text : List ℕ) (n : ℕ) → read_text ≡ text → Consumes old_in new_in text → IsAtEnd new_in
-    → HasLines read_text n → n ≢ 2 → FailsOn CompareFails old_in new_in TwoTablesWanted
-compare_of_count old_in new_in text read_text n same read ended lines other here =
-    (text, read, ended, not_two n (subst (λ (bytes : List ℕ). HasLines bytes n) same lines) other refl)
+pub compare_of_count : (old_in new_in : Option (List ℕ)) (text read_text : List ℕ) (lines : List (List ℕ)) → read_text ≡ text
+    → Consumes old_in new_in text → IsAtEnd new_in → HasLines read_text lines → length lines ≢ 2 → FailsOn CompareFails old_in new_in TwoTablesWanted
+compare_of_count old_in new_in text read_text lines same read ended has other here =
+    (text, read, ended, not_two lines (subst (λ (bytes : List ℕ). HasLines bytes lines) same has) other refl)
 
 pub compare_of_line : (old_in new_in : Option (List ℕ)) (text count_text read_text : List ℕ) (n : ℕ) (fault : Fault) → count_text ≡ text → read_text ≡ text
-    → Consumes old_in new_in text → IsAtEnd new_in → HasLines count_text n → n ≡ 2 → (fault ≢ Memory → TablesFail 4294967295 1 read_text fault)
-    → FailsOn CompareFails old_in new_in fault
+    → Consumes old_in new_in text → IsAtEnd new_in → (lines : List (List ℕ)) × HasLines count_text lines × (n ≡ length lines) → n ≡ 2
+    → (fault ≢ Memory → TablesFail 4294967295 read_text fault) → FailsOn CompareFails old_in new_in fault
 compare_of_line old_in new_in text count_text read_text n fault counted same read ended lines two fails here =
-    let has = subst (λ (bytes : List ℕ). HasLines bytes n) counted lines in
-    (text, read, ended, one_fails (subst (λ (m : ℕ). HasLines text m) two has) (subst (λ (bytes : List ℕ). TablesFail 4294967295 1 bytes fault) same (fails (not_memory fault here))))
+    let has = subst (λ (bytes : List ℕ). HasLines bytes lines.0) counted lines.1 in
+    (text, read, ended, one_fails lines.0 has (sym lines.2 ∙ two) (subst (λ (bytes : List ℕ). TablesFail 4294967295 bytes fault) same (fails (not_memory fault here))))

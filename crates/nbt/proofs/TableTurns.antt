@@ -1,64 +1,112 @@
 -- What counting lines, and reading the table of each, keeps from turn to turn.
 use Rattle.std.proofs.Common.{◌≡◌, ◌≤◌, ◌<◌, ◌+◌, ◌++◌, [], ◌∷◌, ℕ, List, length, refl, sym, ◌∙◌, ap, subst, append_assoc, arith}
-use Rattle.std.proofs.lemmas.List.{append-nil}
+use Rattle.std.specs.List.{AllZip}
+use Rattle.std.proofs.lemmas.List.{append-nil, length-append}
+use Rattle.nb_names.specs.Lines.{IsLine, HasLines}
+use Rattle.nb_names.specs.LineFacts.{any_lines, first_line, no_lines, one_line, same_lines}
 use Rattle.nb_table.specs.Limits.{TableValue}
 use Rattle.nbt.specs.declared.fault.Fault.{Fault}
-use Rattle.nbt.specs.Tables.{IsFirstLine, IsTableLine, IsTableFault, HasLines, AreTables, TablesFail, none, more, no_table, one_more, here, behind}
+use Rattle.nbt.specs.Tables.{IsTableLine, IsTableFault, AreTables, TablesFail}
 
--- the lines before the rest are counted
+-- so many lines stand before the rest
 pub record IsCounting (text rest : List ℕ) (count : ℕ) : Type 0 where
   pub within : count + length rest ≤ length text
-  pub has : (n m : ℕ) → m ≡ count + n → HasLines rest n → HasLines text m
+  pub done : List (List ℕ)
+  pub counted : count ≡ length done
+  pub has : (lines : List (List ℕ)) → HasLines rest lines → HasLines text (done ++ lines)
 
 pub counting_none : (text : List ℕ) → IsCounting text text 0
 counting_none text = record {
   within = omega arith;
-  has = λ n m is has. let same : m ≡ n = omega (arith, is) in subst (λ (k : ℕ). HasLines text k) (sym same) has;
+  done = [];
+  counted = refl;
+  has = λ lines has. has;
 }
 
-pub counted_more : (text rest line after : List ℕ) (count : ℕ) → IsFirstLine rest line after → length after < length rest
-    → IsCounting text rest count → IsCounting text after (count + 1)
-counted_more text rest line after count is_first size before = record {
+pub counted_more : (text rest line after : List ℕ) (count : ℕ) → ((lines : List (List ℕ)) → HasLines after lines → HasLines rest (line ∷ lines))
+    → length after < length rest → IsCounting text rest count → IsCounting text after (count + 1)
+counted_more text rest line after count first size before = record {
   within = omega (arith, size, before.within);
-  has = λ n m is later. before.has (1 + n) m (omega (arith, is)) (more rest line after n is_first later);
+  done = before.done ++ line ∷ [];
+  counted = ap (λ (n : ℕ). n + 1) before.counted ∙ sym (length-append before.done (line ∷ []));
+  has = λ lines has.
+      subst (λ (all : List (List ℕ)). HasLines text all) (sym (append_assoc before.done (line ∷ []) lines))
+      (before.has (line ∷ lines) (first lines has));
 }
 
-pub counted_all : (text rest : List ℕ) (count : ℕ) → rest ≡ [] → IsCounting text rest count → HasLines text count
-counted_all text rest count empty before =
-    before.has 0 count (omega arith) (subst (λ (bytes : List ℕ). HasLines bytes 0) (sym empty) none)
+pub all_lines : (text rest : List ℕ) (count : ℕ) → rest ≡ [] → (before : IsCounting text rest count) → HasLines text before.done
+all_lines text rest count none before =
+    subst (λ (all : List (List ℕ)). HasLines text all) (append-nil before.done) (before.has [] (no_lines rest none))
 
--- so many lines before the rest are these tables
+pub counted_all : (text rest : List ℕ) (count : ℕ) → rest ≡ [] → IsCounting text rest count
+    → (lines : List (List ℕ)) × HasLines text lines × (count ≡ length lines)
+counted_all text rest count none before = (before.done, all_lines text rest count none before, before.counted)
+
+-- so many lines stand before the rest, and are these tables
 pub record IsReadingTables (keys : ℕ) (text rest : List ℕ) (number : ℕ) (ts : List TableValue) : Type 0 where
   pub within : number + length rest ≤ length text
-  pub found : (us : List TableValue) → AreTables keys rest us → AreTables keys text (ts ++ us)
-  pub fails : (fault : Fault) (n : ℕ) → n ≡ number + 1 → TablesFail keys n rest fault → TablesFail keys 1 text fault
+  pub counting : IsCounting text rest number
+  pub are : AllZip (IsTableLine keys) counting.done ts
 
 pub reading_none : (keys : ℕ) (text : List ℕ) (ts : List TableValue) → ts ≡ [] → IsReadingTables keys text text 0 ts
+unfolding counting_none
 reading_none keys text ts empty = record {
   within = omega arith;
-  found = λ us found. subst (λ (xs : List TableValue). AreTables keys text (xs ++ us)) (sym empty) found;
-  fails = λ fault n is fails. let same : n ≡ 1 = omega (arith, is) in subst (λ (k : ℕ). TablesFail keys k text fault) same fails;
+  counting = counting_none text;
+  are = subst (λ (us : List TableValue). AllZip (IsTableLine keys) [] us) (sym empty) tt;
 }
 
-pub read_more : (keys number : ℕ) (text rest line after : List ℕ) (ts new : List TableValue) (t : TableValue) → IsFirstLine rest line after
-    → length after < length rest → IsTableLine keys line t → new ≡ ts ++ t ∷ []
+are_more : (keys : ℕ) (lines : List (List ℕ)) (ts : List TableValue) (line : List ℕ) (t : TableValue)
+    → AllZip (IsTableLine keys) lines ts → IsTableLine keys line t → AllZip (IsTableLine keys) (lines ++ line ∷ []) (ts ++ t ∷ [])
+are_more keys [] [] line t are is = (is, tt)
+are_more keys [] (u ∷ ts) line t are is = absurd are
+are_more keys (l ∷ lines) [] line t are is = absurd are
+are_more keys (l ∷ lines) (u ∷ ts) line t are is = (are.0, are_more keys lines ts line t are.1 is)
+
+pub read_more : (keys number : ℕ) (text rest line after : List ℕ) (ts new : List TableValue) (t : TableValue)
+    → ((lines : List (List ℕ)) → HasLines after lines → HasLines rest (line ∷ lines)) → length after < length rest
+    → IsTableLine keys line t → new ≡ ts ++ t ∷ []
     → IsReadingTables keys text rest number ts → IsReadingTables keys text after (number + 1) new
-read_more keys number text rest line after ts new t is_first size is_table pushed before = record {
-  within = omega (arith, size, before.within);
-  found = λ us later.
-      subst (λ (all : List TableValue). AreTables keys text all) (sym (ap (λ xs. xs ++ us) pushed ∙ append_assoc ts (t ∷ []) us))
-      (before.found (t ∷ us) (one_more rest line after t us is_first is_table later));
-  fails = λ fault n is later.
-      let next : n ≡ 1 + (number + 1) = omega (arith, is) in
-      before.fails fault (number + 1) refl (behind (number + 1) rest line after t fault is_first is_table (subst (λ (k : ℕ). TablesFail keys k after fault) next later));
+unfolding counted_more
+read_more keys number text rest line after ts new t first size is_table pushed so_far = record {
+  within = omega (arith, size, so_far.within);
+  counting = counted_more text rest line after number first size so_far.counting;
+  are =
+      subst (λ (us : List TableValue). AllZip (IsTableLine keys) (so_far.counting.done ++ line ∷ []) us) (sym pushed)
+      (are_more keys so_far.counting.done ts line t so_far.are is_table);
 }
 
 pub read_all : (keys number : ℕ) (text rest : List ℕ) (ts : List TableValue) → rest ≡ [] → IsReadingTables keys text rest number ts → AreTables keys text ts
-read_all keys number text rest ts empty before =
-    subst (λ (all : List TableValue). AreTables keys text all) (append-nil ts)
-    (before.found [] (subst (λ (bytes : List ℕ). AreTables keys bytes []) (sym empty) no_table))
+read_all keys number text rest ts none so_far = record {
+  lines = so_far.counting.done;
+  has = all_lines text rest number none so_far.counting;
+  are = so_far.are;
+}
 
-pub fails_here : (keys number : ℕ) (text rest line after : List ℕ) (ts : List TableValue) (fault : Fault) → IsFirstLine rest line after
-    → IsTableFault keys (number + 1) line fault → IsReadingTables keys text rest number ts → TablesFail keys 1 text fault
-fails_here keys number text rest line after ts fault is_first is_fault before =
-    before.fails fault (number + 1) refl (here (number + 1) rest line after fault is_first is_fault)
+pub fails_here : (keys number : ℕ) (text rest line after : List ℕ) (ts : List TableValue) (fault : Fault)
+    → ((lines : List (List ℕ)) → HasLines after lines → HasLines rest (line ∷ lines))
+    → IsTableFault keys (number + 1) line fault → IsReadingTables keys text rest number ts → TablesFail keys text fault
+fails_here keys number text rest line after ts fault first is_fault so_far =
+    let later = any_lines after in record {
+      before = so_far.counting.done;
+      line = line;
+      after = later.0;
+      tables = ts;
+      has = so_far.counting.has (line ∷ later.0) (first later.0 later.1);
+      are = so_far.are;
+      fails = subst (λ (n : ℕ). IsTableFault keys (n + 1) line fault) so_far.counting.counted is_fault;
+    }
+
+-- ---- the first line of a text
+
+-- it ends with a line feed
+pub first_finished : (text l after : List ℕ) → text ≡ l ++ 10 ∷ after → IsLine l
+    → (lines : List (List ℕ)) → HasLines after lines → HasLines text (l ∷ lines)
+first_finished text l after parts is_line lines has = first_line text l after lines parts is_line has
+
+-- it is the only one
+pub first_alone : (text : List ℕ) → IsLine text → 0 < length text
+    → (lines : List (List ℕ)) → HasLines [] lines → HasLines text (text ∷ lines)
+first_alone text is_line some lines has =
+    subst (λ (all : List (List ℕ)). HasLines text (text ∷ all)) (same_lines [] [] lines (no_lines [] refl) has)
+    (one_line text is_line some)

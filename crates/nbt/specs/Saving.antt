@@ -1,9 +1,10 @@
 -- What `nbt save` makes of a capture: a member without names takes its payloads of port 138 and looks at
 -- the clock at its ticks (our choice).
-use Rattle.std.specs.Prelude.{◌≡◌, ◌≢◌, ◌⊎◌, ◌<◌, ◌≤◌, ℕ, List, [], ◌∷◌, ◌++◌, length, All, Option, None, Some, Result, Ok, Err}
+use Rattle.std.specs.Prelude.{◌≡◌, ◌≢◌, ◌⊎◌, ◌<◌, ◌≤◌, ℕ, List, [], ◌∷◌, length, Option, None, Some, Result, Ok, Err}
 use Rattle.std.specs.FinMap as maps
 use Rattle.std.specs.Io.KnownBytes.{Consumes, IsAtEnd}
 use Rattle.nb_names.specs.declared.limits.TheConstants.{MAX_INPUT}
+use Rattle.nb_names.specs.Lines.{HasLines}
 use Rattle.nb_table.specs.declared.fault.TableFault.TheVariants.{MisplacedFirst, TooLong, Full, NoMemory}
 use Rattle.nb_member.specs.declared.line.Line.{Line}
 use Rattle.nb_member.specs.declared.line.Line.TheVariants.{Packet as PacketLine, Tick}
@@ -59,21 +60,22 @@ pub record TakesLine (m : MemberValue) (line : List ℕ) (new : MemberValue) : T
   pub reads : Reads line (Ok said)
   pub takes : TakesSaid m said new
 
--- the text has no line feed
-abbrev pub IsLine : List ℕ → Type 0
-IsLine text = All (λ byte. byte ≢ 10) text
-
 -- TakesRest m rest new: what follows the last line feed, a line unless it is empty, makes the member m the
 -- member new
 abbrev pub TakesRest : MemberValue → List ℕ → MemberValue → Type 0
 TakesRest m rest new = ((rest ≡ []) × (new ≡ m)) ⊎ ((0 < length rest) × TakesLine m rest new)
 
--- TakesLines m capture new: the lines of the capture, one after the other, make the member m the member
--- new. Each ends with a line feed, 10, which the last may lack where it isn't empty
-pub data TakesLines : MemberValue → List ℕ → MemberValue → Type 0 where
-  ends : {m new : MemberValue} (rest : List ℕ) → IsLine rest → TakesRest m rest new → TakesLines m rest new
-  more : {m between new : MemberValue} (line rest : List ℕ) → IsLine line → TakesLine m line between
-      → TakesLines between rest new → TakesLines m (line ++ 10 ∷ rest) new
+-- TakesEach m lines new: the lines, one after the other, make the member m the member new
+pub data TakesEach : MemberValue → List (List ℕ) → MemberValue → Type 0 where
+  none : {m : MemberValue} → TakesEach m [] m
+  more : {m between new : MemberValue} (line : List ℕ) (lines : List (List ℕ)) → TakesLine m line between
+      → TakesEach between lines new → TakesEach m (line ∷ lines) new
+
+-- TakesLines m capture new: the lines of the capture make the member m the member new
+pub record TakesLines (m : MemberValue) (capture : List ℕ) (new : MemberValue) : Type 0 where
+  pub lines : List (List ℕ)
+  pub has : HasLines capture lines
+  pub takes : TakesEach m lines new
 
 -- SavesCapture given old_in new_in old_out new_out: the whole input was read, a member that holds as many
 -- keys as are given took its lines, and the table that it then has was printed

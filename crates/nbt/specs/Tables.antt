@@ -2,8 +2,10 @@
 -- (our choice). Lines are numbered from 1.
 use Rattle.std.specs.Prelude.{◌≡◌, ◌≢◌, ◌⊎◌, ◌+◌, ◌<◌, ◌≤◌, ℕ, List, [], ◌∷◌, ◌++◌, length, map, take, slice_get, Option, Some, codes, Ok, IsErr}
 use Rattle.std.specs.Io.KnownBytes.{Consumes, IsAtEnd}
+use Rattle.std.specs.List.{AllZip}
 use Rattle.hex.specs.Hex.{decode_of}
 use Rattle.nb_names.specs.declared.limits.TheConstants.{MAX_INPUT}
+use Rattle.nb_names.specs.Lines.{HasLines}
 use Rattle.nb_table.specs.declared.fault.TableFault.{TableFault}
 use Rattle.nb_table.specs.declared.fault.TableFault.TheVariants as tables
 use Rattle.nb_table.specs.declared.load_fault.LoadFault.TheVariants as loads
@@ -18,7 +20,6 @@ use Rattle.nbt.specs.declared.status.Status.{Status}
 use Rattle.nbt.specs.declared.status.Status.TheVariants.{Done, Refused}
 use Rattle.nbt.specs.Printing.{PrintsLine}
 use Rattle.nbt.specs.Saved.{saved_digits}
-use Rattle.nbt.specs.Saving.{IsLine}
 
 -- what a table may hold that is read: so many keys, and datagrams of at most 65,535 bytes
 abbrev pub reading : ℕ → Limits
@@ -45,30 +46,21 @@ IsTableFault keys number line (Load fault) =
 IsTableFault keys number line Memory = Unit {0}
 IsTableFault keys number line _ = ⊥
 
--- IsFirstLine text line rest: the line stands first in the text, and the rest behind its line feed, 10, which
--- the last line may lack where it isn't empty
-pub record IsFirstLine (text line rest : List ℕ) : Type 0 where
-  pub is_line : IsLine line
-  pub parts : (text ≡ line ++ 10 ∷ rest) ⊎ ((text ≡ line) × (rest ≡ []) × (0 < length line))
-
--- HasLines text n: the text has so many lines
-pub data HasLines : List ℕ → ℕ → Type 0 where
-  none : HasLines [] 0
-  more : (text line rest : List ℕ) (n : ℕ) → IsFirstLine text line rest → HasLines rest n → HasLines text (1 + n)
-
 -- AreTables keys text ts: the lines of the text are the tables, in order
-pub data AreTables (keys : ℕ) : List ℕ → List TableValue → Type 0 where
-  no_table : AreTables keys [] []
-  one_more : (text line rest : List ℕ) (t : TableValue) (ts : List TableValue) → IsFirstLine text line rest
-      → IsTableLine keys line t → AreTables keys rest ts → AreTables keys text (t ∷ ts)
+pub record AreTables (keys : ℕ) (text : List ℕ) (ts : List TableValue) : Type 0 where
+  pub lines : List (List ℕ)
+  pub has : HasLines text lines
+  pub are : AllZip (IsTableLine keys) lines ts
 
--- TablesFail keys number text fault: of the lines of the text, which are numbered from `number` on, this is
--- why the first that is no table isn't
-pub data TablesFail (keys : ℕ) : ℕ → List ℕ → Fault → Type 0 where
-  here : (number : ℕ) (text line rest : List ℕ) (fault : Fault) → IsFirstLine text line rest
-      → IsTableFault keys number line fault → TablesFail keys number text fault
-  behind : (number : ℕ) (text line rest : List ℕ) (t : TableValue) (fault : Fault) → IsFirstLine text line rest
-      → IsTableLine keys line t → TablesFail keys (1 + number) rest fault → TablesFail keys number text fault
+-- TablesFail keys text fault: why the first of the text's lines that is no table isn't; those before it are
+pub record TablesFail (keys : ℕ) (text : List ℕ) (fault : Fault) : Type 0 where
+  pub before : List (List ℕ)
+  pub line : List ℕ
+  pub after : List (List ℕ)
+  pub tables : List TableValue
+  pub has : HasLines text (before ++ line ∷ after)
+  pub are : AllZip (IsTableLine keys) before tables
+  pub fails : IsTableFault keys (length before + 1) line fault
 
 -- ---- what is made of the tables
 
@@ -108,8 +100,8 @@ FailsOn Fails old_in new_in fault =
 -- MergeFails IsKeys text fault: why the lines of the text aren't merged: the first that is no table, there is
 -- none, or their tables can't be joined
 pub data MergeFails (IsKeys : ℕ → Type 0) (text : List ℕ) (fault : Fault) : Type 0 where
-  line_fails : (keys : ℕ) → IsKeys keys → TablesFail keys 1 text fault → MergeFails IsKeys text fault
-  no_line : text ≡ [] → fault ≡ NoTables → MergeFails IsKeys text fault
+  line_fails : (keys : ℕ) → IsKeys keys → TablesFail keys text fault → MergeFails IsKeys text fault
+  no_line : HasLines text [] → fault ≡ NoTables → MergeFails IsKeys text fault
   not_joined : (keys : ℕ) (first : TableValue) (others : List TableValue) → IsKeys keys
       → AreTables keys text (first ∷ others) → JoinFails first others fault → MergeFails IsKeys text fault
 
@@ -131,8 +123,8 @@ pub record MergesTables (IsKeys : ℕ → Type 0) (old_in new_in old_out new_out
 -- CompareFails text fault: why the lines of the text aren't compared: they aren't two, or the first that is
 -- no table
 pub data CompareFails (text : List ℕ) (fault : Fault) : Type 0 where
-  not_two : (n : ℕ) → HasLines text n → n ≢ 2 → fault ≡ TwoTablesWanted → CompareFails text fault
-  one_fails : HasLines text 2 → TablesFail 4294967295 1 text fault → CompareFails text fault
+  not_two : (lines : List (List ℕ)) → HasLines text lines → length lines ≢ 2 → fault ≡ TwoTablesWanted → CompareFails text fault
+  one_fails : (lines : List (List ℕ)) → HasLines text lines → length lines ≡ 2 → TablesFail 4294967295 text fault → CompareFails text fault
 
 -- Tells t u status old new: whether the tables are equal is printed, and the status is that of refused input
 -- where they aren't

@@ -1,5 +1,5 @@
 //! The lines of an input.
-ghost use Rattle.std.specs.Prelude.{◌≡◌, ◌≢◌, ◌<◌, ◌≤◌, [], ◌∷◌, ◌++◌, ◌+◌, length, true, All, Ok, IfOk, IfErr, IfSome, IfNone};
+ghost use Rattle.std.specs.Prelude.{◌≡◌, ◌<◌, ◌≤◌, [], length, true, Ok, IfOk, IfErr, IfSome, IfNone};
 ghost use Rattle.nb_member.specs.declared.limits.TheConstants.{MAX_LINE};
 ghost use Rattle.nb_member.specs.Capture.{Reads};
 ghost use Rattle.nbt.specs.Lines.{IsEndFault, IsLineFault};
@@ -8,24 +8,6 @@ use crate::fault::Fault;
 use nb_member::limits::MAX_LINE;
 use nb_member::{Line, LineFault, capture_line};
 use std::alloc::Global;
-
-/// The first line, without its line feed, and what follows it; `None` where there is no line feed.
-pub fn next_line(bytes: &[u8]) -> Option<(&[u8], &[u8])>
-    ensures found { IfSome result (λ parts. bytes.now ≡ parts.0.now ++ 10 ∷ parts.1.now) }
-    ensures first { IfSome result (λ parts. All (λ byte. byte ≢ 10) parts.0.now) }
-    ensures shorter { IfSome result (λ parts.
-        length parts.0.now + 1 + length parts.1.now ≡ length bytes.now) }
-    ensures none { IfNone result (All (λ byte. byte ≢ 10) bytes.now) }
-{
-    let mut end = 0;
-    while end < bytes.len() {
-        if bytes[end] == b'\n' {
-            return Some((&bytes[..end], &bytes[end + 1..]));
-        }
-        end += 1;
-    }
-    None
-}
 
 /// What is to be acted on of what follows the last line feed, which is line `number`: a line, where
 /// the input ends there and it isn't empty. Else only its length is judged.

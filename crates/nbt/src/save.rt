@@ -9,7 +9,7 @@ ghost use Rattle.nbt.specs.Saving.{new_saver, SavesCapture, TakesLine, TakesLine
 ghost use Rattle.nbt.specs.Settings.{AreKeys};
 
 use crate::fault::Fault;
-use crate::lines::{last_line, next_line, said_by};
+use crate::lines::{last_line, said_by};
 use crate::output::Output;
 use crate::saved::print_saved;
 use crate::settings::{PORT, settings_with};
@@ -17,6 +17,7 @@ use clap::ArgMatches;
 use nb_member::{Line, LocalNames, Member, MemberFault};
 use nb_names::Counted;
 use nb_names::input::{Input, read_input};
+use nb_names::lines::split_line;
 use nb_table::TableFault;
 use std::alloc::Global;
 use std::io::{Read, Write};
@@ -65,7 +66,7 @@ fn member_after(alloc: Global, keys: u32, input: &Input) -> Result<Member, Fault
     let mut member = Member::new(alloc, settings_with(keys), LocalNames::new(alloc));
     let mut rest = input.front();
     let mut number = 1;
-    while let Some((line, after)) = next_line(rest) {
+    while let Some((line, after)) = split_line(rest) {
         take_line(alloc, number, line, &mut member)?;
         rest = after;
         number += 1;

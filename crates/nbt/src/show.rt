@@ -9,10 +9,11 @@ mod session;
 mod texts;
 
 use crate::fault::Fault;
-use crate::lines::{last_line, next_line, said_by};
+use crate::lines::{last_line, said_by};
 use crate::output::Output;
 use nb_member::Line;
 use nb_names::input::{Input, read_input};
+use nb_names::lines::split_line;
 use nb_names::{Counted, NoMemory};
 use std::alloc::Global;
 use std::io::{Read, Write};
@@ -43,7 +44,7 @@ fn show_lines<W: Write>(alloc: Global, input: &Input, output: &mut Output<W>) ->
 {
     let mut rest = input.front();
     let mut number = 1;
-    while let Some((line, after)) = next_line(rest) {
+    while let Some((line, after)) = split_line(rest) {
         show_line(alloc, number, line, output)?;
         rest = after;
         number += 1;

@@ -1,15 +1,16 @@
 //! The tables that an input has: a line for each, saved, in hexadecimal.
-ghost use Rattle.std.specs.Prelude.{◌≡◌, ◌≢◌, ◌<◌, ◌≤◌, [], length, IfOk, IfErr, IfSome, IfNone};
+ghost use Rattle.std.specs.Prelude.{◌≡◌, ◌≢◌, ◌<◌, ◌≤◌, ℕ, List, [], ◌∷◌, length, IfOk, IfErr, IfSome, IfNone};
 ghost use Rattle.std.specs.Io.KnownBytes.{Consumes, IsAtEnd};
 ghost use Rattle.nb_names.specs.declared.limits.TheConstants.{MAX_INPUT};
+ghost use Rattle.nb_names.specs.Lines.{HasLines};
 ghost use Rattle.nbt.specs.Input.{WasCut};
-ghost use Rattle.nbt.specs.Tables.{AreTables, HasLines, IsElsewhere, IsFirstLine, IsTableFault, IsTableLine, TablesFail};
+ghost use Rattle.nbt.specs.Tables.{AreTables, IsElsewhere, IsTableFault, IsTableLine, TablesFail};
 
 use crate::fault::Fault;
-use crate::lines::next_line;
 use hex::FromHexError;
 use nb_names::Counted;
 use nb_names::input::read_input;
+use nb_names::lines::split_line;
 use nb_table::{LoadFault, Table, load};
 use std::alloc::Global;
 use std::io::Read;
@@ -44,11 +45,11 @@ pub fn whole_input<R: Read>(alloc: Global, input: &mut Counted<R>) -> Result<Vec
 
 /// How many lines a text has; the last may lack its line feed.
 pub fn count_lines(text: &[u8]) -> usize
-    ensures { HasLines text.now result }
+    ensures { (lines : List (List ℕ)) × HasLines text.now lines × (result ≡ length lines) }
 {
     let mut rest = text;
     let mut count = 0;
-    while let Some((_, after)) = split_line(rest) {
+    while let Some((_, after)) = first_line(rest) {
         count += 1;
         rest = after;
     }
@@ -65,14 +66,14 @@ pub fn count_lines(text: &[u8]) -> usize
 pub fn tables_of(alloc: Global, text: &[u8], keys: u32) -> Result<Vec<Table>, Fault>
     ensures found { IfOk result (λ tables. AreTables keys text.now tables.items) }
     ensures fault { IfErr result (λ fault. fault ≢ Fault.Memory →
-        TablesFail keys 1 text.now fault) }
+        TablesFail keys text.now fault) }
     ensures no_read { IfErr result (λ fault. fault ≢ Fault.Read) }
     ensures no_write { IfErr result (λ fault. fault ≢ Fault.Write) }
 {
     let mut tables = Vec::new(alloc);
     let mut rest = text;
     let mut number = 0;
-    while let Some((line, after)) = split_line(rest) {
+    while let Some((line, after)) = first_line(rest) {
         number += 1;
         let table = table_of(alloc, number, line, keys)?;
         tables.push(table)?;
@@ -83,15 +84,16 @@ pub fn tables_of(alloc: Global, text: &[u8], keys: u32) -> Result<Vec<Table>, Fa
 
 /// The first line, without its line feed, and what follows it; `None` where there is no line. The
 /// last one may lack its line feed.
-fn split_line(text: &[u8]) -> Option<(&[u8], &[u8])>
-    ensures found { IfSome result (λ parts. IsFirstLine text.now parts.0.now parts.1.now) }
+fn first_line(text: &[u8]) -> Option<(&[u8], &[u8])>
+    ensures found { IfSome result (λ parts. (lines : List (List ℕ)) →
+        HasLines parts.1.now lines → HasLines text.now (parts.0.now ∷ lines)) }
     ensures shorter { IfSome result (λ parts. length parts.1.now < length text.now) }
     ensures none { IfNone result (text.now ≡ []) }
 {
     if text.is_empty() {
         return None;
     }
-    match next_line(text) {
+    match split_line(text) {
         Some(parts) => Some(parts),
         None => Some((text, &[])),
     }

@@ -1,6 +1,6 @@
 use Rattle.std.proofs.Common.{sym, ap, ◌∙◌, length, arith}
-use Rattle.std.proofs.lemmas.Result.{IfOk-weaker}
-use Rattle.nbt.proofs.JoinedLemmas.{as_many, compare_of_count, compares_tables, two_items}
+use Rattle.std.proofs.lemmas.Result.{IfOk-weaker, err_from_is_err_and}
+use Rattle.nbt.proofs.JoinedLemmas.{as_many, compare_of_count, compare_of_line, compares_tables, two_items}
 use Rattle.nbt.proofs.agree.run_agree.Goals as goal
 use Rattle.nbt.proofs.agree.run_agree.Goals.{in_default, in_default-2}
 
@@ -16,7 +16,15 @@ returns-in-len2-clause-printed g c =
 pub returns-then-count_lines-ne2-clause-fault : goal.returns-then-count_lines-ne2-clause-fault
 returns-then-count_lines-ne2-clause-fault g c =
     let text = c.in_ok-text.ensures in
-    compare_of_count _ _ _ _ _ c.as_slice.ensures.value text.read text.ended c.count_lines.ensures c.if-count_lines-ne2.true
+    let count = c.count_lines.ensures in
+    compare_of_count _ _ _ _ count.0 c.as_slice.ensures.value text.read text.ended count.1 (λ two. c.if-count_lines-ne2.true (count.2 ∙ two))
+
+pub returns-in_err-tables-clause-fault : goal.returns-in_err-tables-clause-fault
+returns-in_err-tables-clause-fault g c =
+    let text = c.in_ok-text.ensures in
+    let p = err_from_is_err_and c.from_residual-in_err-tables.result c.from_residual-in_err-tables.ensures.1 in
+    rw (p.1, p.2) (compare_of_line _ _ _ _ _ _ _ c.as_slice.ensures.value c.as_slice-2.ensures.value text.read text.ended
+    c.count_lines.ensures c.if-count_lines-ne2.false c.in_err-tables.ensures.fault)
 
 pub returns-clause-fault : goal.returns-clause-fault
 returns-clause-fault g c =
@@ -24,6 +32,6 @@ returns-clause-fault g c =
     let size = ap length c.as_slice-3.ensures.value in
     let lines = as_many 4294967295 _ _ c.in_ok-tables.ensures.found in
     elim c.if-as_slice-lt2.branch [
-      | in_default w ↦ rw w.result-is (compare_of_count _ _ _ _ _ c.as_slice-2.ensures.value text.read text.ended lines (λ two. omega (arith, two, size, w.in_default.len_below)))
-      | in_default-2 w ↦ rw w.result-is (compare_of_count _ _ _ _ _ c.as_slice-2.ensures.value text.read text.ended lines (λ two. omega (arith, two, size, w.in_default.len_at_least)))
+      | in_default w ↦ rw w.result-is (compare_of_count _ _ _ _ lines.0 c.as_slice-2.ensures.value text.read text.ended lines.1 (λ two. omega (arith, two, lines.2, size, w.in_default.len_below)))
+      | in_default-2 w ↦ rw w.result-is (compare_of_count _ _ _ _ lines.0 c.as_slice-2.ensures.value text.read text.ended lines.1 (λ two. omega (arith, two, lines.2, size, w.in_default.len_at_least)))
     ]

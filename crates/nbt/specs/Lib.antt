@@ -10,5 +10,6 @@ pub mod Lines
 pub mod Settings
 pub mod Saved
 pub mod Saving
+pub mod SaveFaults
 pub mod Replaying
 pub mod Tables

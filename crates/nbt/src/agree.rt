@@ -1,10 +1,9 @@
 //! `nbt agree`: whether two saved tables are the same.
 ghost use Rattle.std.specs.Prelude.{◌≡◌, ◌≢◌, IfOk, IfErr};
 ghost use Rattle.std.specs.Io.KnownBytes.{Keeps};
-ghost use Rattle.nb_names.specs.Counted.{no_calls};
 ghost use Rattle.nbt.specs.Input.{WasCut};
 ghost use Rattle.nbt.specs.Output.{ShowsFailing};
-ghost use Rattle.nbt.specs.Tables.{CompareFails, ComparesTables, FailsOn, Tells};
+ghost use Rattle.nbt.specs.Tables.{CompareFails, ComparesTables, FailsOn, Tells, TellsFront};
 
 use crate::fault::Fault;
 use crate::output::Output;
@@ -29,19 +28,23 @@ pub fn run_agree<R: Read, W: Write>(
     input: &mut Counted<R>,
     output: &mut Output<W>,
 ) -> Result<Status, Fault>
-    ensures printed { IfOk result (ComparesTables
-        (R.remaining input.old.inner) (R.remaining input.new.inner)
-        (W.contents output.old.inner) (W.contents output.new.inner)) }
+    ensures printed { IfOk result (λ status. ComparesTables (λ t u. Tells t u status
+        (W.contents output.old.inner) (W.contents output.new.inner))
+        (R.remaining input.old.inner) (R.remaining input.new.inner)) }
     ensures status { IfOk result (λ status. status ≢ Status.BadUsage) }
     ensures err { IfErr result (λ fault. fault ≢ Fault.Write →
         Keeps (W.contents output.old.inner) (W.contents output.new.inner)) }
+    ensures write { IfErr result (λ fault. fault ≡ Fault.Write →
+        ComparesTables (λ t u. TellsFront t u
+        (W.contents output.old.inner) (W.contents output.new.inner))
+        (R.remaining input.old.inner) (R.remaining input.new.inner)) }
     ensures fault { IfErr result (FailsOn CompareFails
         (R.remaining input.old.inner) (R.remaining input.new.inner)) }
     ensures cut { IfErr result (λ fault. fault ≡ Fault.Read →
         WasCut (R.remaining input.old.inner) (R.remaining input.new.inner)
         input.old.counts input.new.counts) }
     ensures why { IfErr result (λ fault. fault ≡ Fault.Write →
-        ShowsFailing no_calls output.new.counts) }
+        ShowsFailing output.old.counts output.new.counts) }
 {
     let text = whole_input(alloc, input)?;
     if count_lines(text.as_slice()) != 2 {
@@ -68,8 +71,10 @@ fn tell_same<W: Write>(
         (W.contents output.old.inner) (W.contents output.new.inner)) }
     ensures status { IfOk result (λ status. status ≢ Status.BadUsage) }
     ensures fault { IfErr result (λ fault. fault ≡ Fault.Write) }
+    ensures write { IfErr result (λ _. TellsFront first.now.contents second.now.contents
+        (W.contents output.old.inner) (W.contents output.new.inner)) }
     ensures why { IfErr result (λ fault. fault ≡ Fault.Write →
-        ShowsFailing no_calls output.new.counts) }
+        ShowsFailing output.old.counts output.new.counts) }
 {
     if first.same(second) {
         output.print(b"equal\n")?;

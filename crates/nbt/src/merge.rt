@@ -1,13 +1,13 @@
 //! `nbt merge`: saved tables, joined.
 ghost use Rattle.std.specs.Prelude.{◌≡◌, ◌≢◌, OnOk, IfErr};
 ghost use Rattle.std.specs.Io.KnownBytes.{Keeps};
-ghost use Rattle.nb_names.specs.Counted.{no_calls};
 ghost use Rattle.nb_table.specs.Join.{join, joined_all, AreTaken};
 ghost use Rattle.nb_table.specs.Merging.{Fits};
 ghost use Rattle.nbt.specs.Input.{WasCut};
 ghost use Rattle.nbt.specs.Output.{ShowsFailing};
+ghost use Rattle.nbt.specs.Printing.{PrintsFront, PrintsLine};
 ghost use Rattle.nbt.specs.Settings.{AreKeys};
-ghost use Rattle.nbt.specs.Tables.{contents_of, FailsOn, JoinFails, MergeFails, MergesTables};
+ghost use Rattle.nbt.specs.Tables.{contents_of, JoinFails, MergeStops, MergesTables};
 
 use crate::fault::Fault;
 use crate::output::Output;
@@ -34,18 +34,20 @@ pub fn run_merge<R: Read, W: Write>(
     output: &mut Output<W>,
 ) -> Result<(), Fault>
     ensures printed { OnOk result (MergesTables (AreKeys matches.now)
-        (R.remaining input.old.inner) (R.remaining input.new.inner)
-        (W.contents output.old.inner) (W.contents output.new.inner)) }
+        (PrintsLine (W.contents output.old.inner) (W.contents output.new.inner))
+        (R.remaining input.old.inner) (R.remaining input.new.inner)) }
     ensures err { IfErr result (λ fault. fault ≢ Fault.Write →
         Keeps (W.contents output.old.inner) (W.contents output.new.inner)) }
-    ensures fault { IfErr result (λ fault. fault ≢ Fault.Arguments →
-        FailsOn (MergeFails (AreKeys matches.now))
-        (R.remaining input.old.inner) (R.remaining input.new.inner) fault) }
+    ensures write { IfErr result (λ fault. fault ≡ Fault.Write → MergesTables (AreKeys matches.now)
+        (PrintsFront (W.contents output.old.inner) (W.contents output.new.inner))
+        (R.remaining input.old.inner) (R.remaining input.new.inner)) }
+    ensures fault { IfErr result (MergeStops (AreKeys matches.now)
+        (R.remaining input.old.inner) (R.remaining input.new.inner)) }
     ensures cut { IfErr result (λ fault. fault ≡ Fault.Read →
         WasCut (R.remaining input.old.inner) (R.remaining input.new.inner)
         input.old.counts input.new.counts) }
     ensures why { IfErr result (λ fault. fault ≡ Fault.Write →
-        ShowsFailing no_calls output.new.counts) }
+        ShowsFailing output.old.counts output.new.counts) }
 {
     let Some(keys) = matches.get_one::<u32>("keys") else {
         return Err(Fault::Arguments);

@@ -1,7 +1,6 @@
 //! `nbt name`: the spelling of a name's text, and the text of a spelling.
 ghost use Rattle.std.specs.Prelude.{◌≡◌, ℕ, List, codes, IfOk, IfErr, OnOk, Ok, IsErr, string_bytes};
 ghost use Rattle.hex.specs.Hex.{decode_of};
-ghost use Rattle.nb_names.specs.Counted.{no_calls};
 ghost use Rattle.nbt.specs.Output.{ShowsFailing};
 ghost use Rattle.nbt.specs.NameCommand.{IsValue, IsFlag, OutcomeOf};
 ghost use Rattle.nbt.specs.Printing.{Leaves, PrintsSpelling, PrintsName, IsSpellingOf, IsSpellingFault, IsNameOf, IsNameFault, IsDecodeFault, IsNoWrite};
@@ -34,7 +33,7 @@ pub fn run_name<W: Write>(
         → OutcomeOf PrintsName IsNameFault IsNameOf value result
         (W.contents output.old.inner) (W.contents output.new.inner) }
     ensures why { IfErr result (λ fault. fault ≡ Fault.Write →
-        ShowsFailing no_calls output.new.counts) }
+        ShowsFailing output.old.counts output.new.counts) }
 {
     let Some(value) = matches.get_str("VALUE") else {
         return Err(Fault::Arguments);
@@ -63,7 +62,7 @@ pub fn print_spelling<W: Write>(
     ensures err { IfErr result (Leaves (IsSpellingOf text.now)
         (W.contents output.old.inner) (W.contents output.new.inner)) }
     ensures why { IfErr result (λ fault. fault ≡ Fault.Write →
-        ShowsFailing no_calls output.new.counts) }
+        ShowsFailing output.old.counts output.new.counts) }
 {
     let line = with_line_feed(spelling_of(alloc, text)?)?;
     output.print(line.as_bytes())
@@ -87,7 +86,7 @@ pub fn print_name<W: Write>(
     ensures err { IfErr result (Leaves (IsNameOf digits.now)
         (W.contents output.old.inner) (W.contents output.new.inner)) }
     ensures why { IfErr result (λ fault. fault ≡ Fault.Write →
-        ShowsFailing no_calls output.new.counts) }
+        ShowsFailing output.old.counts output.new.counts) }
 {
     let line = with_line_feed(name_of(alloc, digits)?)?;
     output.print(line.as_bytes())

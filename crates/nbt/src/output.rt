@@ -65,7 +65,8 @@ impl<W> Output<W> {
         ensures fault { IfErr result (λ fault. fault ≡ Fault.Write) }
         ensures err { OnErr result (AppendsFront (W.contents self.old.inner)
             (W.contents self.new.inner) bytes.now) }
-        ensures why { OnErr result (ShowsFailing no_calls self.new.counts) }
+        ensures grow { GrowTo self.old.counts self.new.counts }
+        ensures why { OnErr result (ShowsFailing self.old.counts self.new.counts) }
     {
         write_whole(&mut self.device, bytes)
     }
@@ -90,7 +91,7 @@ impl<W> Output<W> {
             IsUnread (R.remaining input.old.inner) (R.remaining input.new.inner)
             input.old.counts input.new.counts) }
         ensures why { IfErr result (λ fault. fault ≡ Fault.Write →
-            ShowsFailing no_calls self.new.counts) }
+            ShowsFailing self.old.counts self.new.counts) }
     {
         outcome_of(replay(alloc, input, &mut self.device, &mut member))
     }

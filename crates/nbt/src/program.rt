@@ -2,7 +2,6 @@
 ghost use Rattle.std.specs.Prelude.{◌≡◌, ◌≢◌, ◌≤◌, map, string_bytes, Ok, Err, OnOk, IfOk, IfErr};
 ghost use Rattle.std.specs.Io.KnownBytes.{Keeps};
 ghost use Rattle.clap.specs.Words.{kind_of, subcommand_name_of};
-ghost use Rattle.nb_names.specs.Counted.{no_calls};
 ghost use Rattle.nbt.specs.Output.{ShowsFailing};
 ghost use Rattle.nbt.specs.FaultTexts.{status_after};
 ghost use Rattle.nbt.specs.CommandLine.{AreAlone, DoesRead};
@@ -87,7 +86,7 @@ fn run_command<R: Read, W: Write>(
     ensures status { IfOk result (λ status. status ≢ Status.BadUsage) }
     ensures unread { ¬ DoesRead (subcommand_name_of matches.now) → input.new ≡ input.old }
     ensures why { IfErr result (λ fault. fault ≡ Fault.Write →
-        ShowsFailing no_calls output.new.counts) }
+        ShowsFailing output.old.counts output.new.counts) }
 {
     match matches.subcommand() {
         Some(("name", matches)) => done(run_name(alloc, matches, output)),

@@ -1,6 +1,5 @@
 //! `nbt replay`: the report of a capture, in a member with names.
 ghost use Rattle.std.specs.Prelude.{◌≡◌, map, Err, OnOk, IfOk, IfErr};
-ghost use Rattle.nb_names.specs.Counted.{no_calls};
 ghost use Rattle.nb_names.specs.NameText.{IsFaultOf};
 ghost use Rattle.nbt.specs.Output.{ShowsFailing};
 ghost use Rattle.nbt.specs.Replaying.{AddsEach, AddsName, AreTexts, EndsWith, IsNamesFault, IsRefusedName, IsReplay, IsUnread, ReplaysCapture};
@@ -33,14 +32,15 @@ pub fn run_replay<R: Read, W: Write>(
 ) -> Result<(), Fault>
     ensures printed { IsReplay (ReplaysCapture (AreKeys matches.now) (AreTexts matches.now)
         (R.remaining input.old.inner) (R.remaining input.new.inner)
-        (W.contents output.old.inner) (W.contents output.new.inner)) (AreTexts matches.now)
+        (W.contents output.old.inner) (W.contents output.new.inner))
+        (AreKeys matches.now) (AreTexts matches.now)
         (R.remaining input.old.inner) (R.remaining input.new.inner)
         (W.contents output.old.inner) (W.contents output.new.inner) result }
     ensures cut { IfErr result (λ fault. fault ≡ Fault.Read →
         IsUnread (R.remaining input.old.inner) (R.remaining input.new.inner)
         input.old.counts input.new.counts) }
     ensures why { IfErr result (λ fault. fault ≡ Fault.Write →
-        ShowsFailing no_calls output.new.counts) }
+        ShowsFailing output.old.counts output.new.counts) }
 {
     let Some(keys) = matches.get_one::<u32>("keys") else {
         return Err(Fault::Arguments);

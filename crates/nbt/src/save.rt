@@ -1,9 +1,10 @@
 //! `nbt save`: what a capture says of datagrams, as a saved table.
 ghost use Rattle.std.specs.Prelude.{◌≡◌, ◌≢◌, take, true, false, IfOk, IfErr, OnOk};
 ghost use Rattle.std.specs.Io.KnownBytes.{Keeps};
-ghost use Rattle.nb_names.specs.Counted.{no_calls};
 ghost use Rattle.nbt.specs.Input.{WasCut};
 ghost use Rattle.nbt.specs.Output.{ShowsFailing};
+ghost use Rattle.nbt.specs.Printing.{PrintsFront, PrintsLine};
+ghost use Rattle.nbt.specs.SaveFaults.{LineStops, PayloadStops, RestStops, SaidStops, SaveFails, StopsTaking};
 ghost use Rattle.nbt.specs.Saving.{new_saver, SavesCapture, TakesLine, TakesLines, TakesPayload, TakesRest, TakesSaid};
 ghost use Rattle.nbt.specs.Settings.{AreKeys};
 
@@ -36,15 +37,21 @@ pub fn run_save<R: Read, W: Write>(
     output: &mut Output<W>,
 ) -> Result<(), Fault>
     ensures printed { OnOk result (SavesCapture (AreKeys matches.now)
-        (R.remaining input.old.inner) (R.remaining input.new.inner)
-        (W.contents output.old.inner) (W.contents output.new.inner)) }
+        (PrintsLine (W.contents output.old.inner) (W.contents output.new.inner))
+        (R.remaining input.old.inner) (R.remaining input.new.inner)) }
     ensures err { IfErr result (λ fault. fault ≢ Fault.Write →
         Keeps (W.contents output.old.inner) (W.contents output.new.inner)) }
+    ensures write { IfErr result (λ fault. fault ≡ Fault.Write → SavesCapture (AreKeys matches.now)
+        (PrintsFront (W.contents output.old.inner) (W.contents output.new.inner))
+        (R.remaining input.old.inner) (R.remaining input.new.inner)) }
+    ensures fault { IfErr result (SaveFails (AreKeys matches.now)
+        (R.remaining input.old.inner) (R.remaining input.new.inner)
+        input.old.counts input.new.counts) }
     ensures cut { IfErr result (λ fault. fault ≡ Fault.Read →
         WasCut (R.remaining input.old.inner) (R.remaining input.new.inner)
         input.old.counts input.new.counts) }
     ensures why { IfErr result (λ fault. fault ≡ Fault.Write →
-        ShowsFailing no_calls output.new.counts) }
+        ShowsFailing output.old.counts output.new.counts) }
 {
     let Some(keys) = matches.get_one::<u32>("keys") else {
         return Err(Fault::Arguments);
@@ -60,6 +67,8 @@ fn member_after(alloc: Global, keys: u32, input: &Input) -> Result<Member, Fault
         TakesLines (new_saver keys) (take 16777216 input.now.bytes.items) new) }
     ensures fault { IfErr result (λ fault. fault ≢ Fault.Write) }
     ensures cut { IfErr result (λ fault. fault ≡ Fault.Read → input.now.is_whole ≡ false) }
+    ensures stops { IfErr result (StopsTaking input.now.is_whole 1
+        (new_saver keys) (take 16777216 input.now.bytes.items)) }
 {
     let mut member = Member::new(alloc, settings_with(keys), LocalNames::new(alloc));
     let mut rest = input.front();
@@ -84,6 +93,7 @@ fn take_rest(
     ensures took { OnOk result ((is_whole ≡ true) × TakesRest member.old rest.now member.new) }
     ensures fault { IfErr result (λ fault. fault ≢ Fault.Write) }
     ensures cut { IfErr result (λ fault. fault ≡ Fault.Read → is_whole ≡ false) }
+    ensures stops { IfErr result (RestStops is_whole number member.old rest.now) }
 {
     match last_line(number, rest, is_whole)? {
         Some(line) => take_line(alloc, number, line, member),
@@ -96,6 +106,7 @@ fn take_line(alloc: Global, number: usize, line: &[u8], member: &mut Member) -> 
     ensures took { OnOk result (TakesLine member.old line.now member.new) }
     ensures fault { IfErr result (λ fault. fault ≢ Fault.Write) }
     ensures no_read { IfErr result (λ fault. fault ≢ Fault.Read) }
+    ensures stops { IfErr result (LineStops number member.old line.now) }
 {
     let said = said_by(alloc, number, line)?;
     take_said(said, member)
@@ -106,6 +117,7 @@ fn take_said(said: Option<Line>, member: &mut Member) -> Result<(), Fault>
     ensures took { OnOk result (TakesSaid member.old said member.new) }
     ensures fault { IfErr result (λ fault. fault ≢ Fault.Write) }
     ensures no_read { IfErr result (λ fault. fault ≢ Fault.Read) }
+    ensures stops { IfErr result (SaidStops member.old said) }
 {
     match said {
         None => Ok(()),
@@ -133,6 +145,7 @@ fn take_payload(moment: u64, payload: &[u8], member: &mut Member) -> Result<(), 
     ensures took { OnOk result (TakesPayload member.old moment payload.now member.new) }
     ensures fault { IfErr result (λ fault. fault ≢ Fault.Write) }
     ensures no_read { IfErr result (λ fault. fault ≢ Fault.Read) }
+    ensures stops { IfErr result (PayloadStops member.old moment payload.now) }
 {
     match member.take(moment, payload) {
         Err(MemberFault::Table(TableFault::Full(_))) => Err(Fault::Full),

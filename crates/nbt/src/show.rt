@@ -1,7 +1,6 @@
 //! `nbt show`: the packets of a capture as text.
 ghost use Rattle.std.specs.Prelude.{◌≡◌, IfErr};
-ghost use Rattle.nb_names.specs.Counted.{no_calls};
-ghost use Rattle.nbt.specs.Output.{ShowsFailing};
+ghost use Rattle.nbt.specs.Output.{GrowTo, ShowsFailing};
 
 mod datagram;
 mod service;
@@ -30,7 +29,7 @@ pub fn run_show<R: Read, W: Write>(
     output: &mut Output<W>,
 ) -> Result<(), Fault>
     ensures why { IfErr result (λ fault. fault ≡ Fault.Write →
-        ShowsFailing no_calls output.new.counts) }
+        ShowsFailing output.old.counts output.new.counts) }
 {
     let input = read_input(alloc, input)?;
     show_lines(alloc, &input, output)
@@ -39,7 +38,7 @@ pub fn run_show<R: Read, W: Write>(
 /// Shows the lines that are finished, and the last one.
 fn show_lines<W: Write>(alloc: Global, input: &Input, output: &mut Output<W>) -> Result<(), Fault>
     ensures why { IfErr result (λ fault. fault ≡ Fault.Write →
-        ShowsFailing no_calls output.new.counts) }
+        ShowsFailing output.old.counts output.new.counts) }
 {
     let mut rest = input.front();
     let mut number = 1;
@@ -61,8 +60,9 @@ fn show_line<W: Write>(
     line: &[u8],
     output: &mut Output<W>,
 ) -> Result<(), Fault>
+    ensures grow { GrowTo output.old.counts output.new.counts }
     ensures why { IfErr result (λ fault. fault ≡ Fault.Write →
-        ShowsFailing no_calls output.new.counts) }
+        ShowsFailing output.old.counts output.new.counts) }
 {
     let Some(said) = said_by(alloc, number, line)? else {
         return Ok(());

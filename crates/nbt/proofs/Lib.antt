@@ -2,6 +2,7 @@ mod CommandShapes
 pub mod WritingTurns
 pub mod ReadingTurns
 pub mod AloneWords
+pub mod BuildingTurns
 pub mod SavingTurns
 pub mod ReplayingTurns
 pub mod TableTurns

@@ -1,7 +1,8 @@
 //! `nbt build`: packets as the lines of a capture.
-ghost use Rattle.std.specs.Prelude.{◌≡◌, ◌≢◌, IfErr};
-ghost use Rattle.std.specs.Io.KnownBytes.{Keeps};
-ghost use Rattle.nbt.specs.Output.{ShowsFailing};
+ghost use Rattle.std.specs.Prelude.{◌≡◌, ◌≢◌, IfOk, IfErr, OnOk, string_bytes};
+ghost use Rattle.std.specs.Io.KnownBytes.{Appends, Keeps};
+ghost use Rattle.nbt.specs.Building.{AreLines, BuildsLines, payload_line};
+ghost use Rattle.nbt.specs.Output.{AppendsFront, ShowsFailing};
 
 mod arguments;
 mod build_fault;
@@ -32,6 +33,10 @@ pub fn run_build<W: Write>(
     matches: &ArgMatches<'_>,
     output: &mut Output<W>,
 ) -> Result<(), Fault>
+    ensures printed { OnOk result (BuildsLines
+        (Appends (W.contents output.old.inner) (W.contents output.new.inner))) }
+    ensures write { IfErr result (λ fault. fault ≡ Fault.Write → BuildsLines
+        (AppendsFront (W.contents output.old.inner) (W.contents output.new.inner))) }
     ensures err { IfErr result (λ fault. fault ≢ Fault.Write →
         Keeps (W.contents output.old.inner) (W.contents output.new.inner)) }
     ensures why { IfErr result (λ fault. fault ≡ Fault.Write →
@@ -48,7 +53,9 @@ pub fn run_build<W: Write>(
 }
 
 /// The lines of the packets that the words ask for.
-fn build(alloc: Global, matches: &ArgMatches<'_>) -> Result<String, BuildFault> {
+fn build(alloc: Global, matches: &ArgMatches<'_>) -> Result<String, BuildFault>
+    ensures { IfOk result (λ lines. AreLines (string_bytes lines)) }
+{
     let what = matches.get_str("WHAT").unwrap_or("");
     let words = matches.get_strs("ARG").unwrap_or(&[]);
     match what {
@@ -71,19 +78,25 @@ fn service_line(
     what: &str,
     words: &[&str],
     broadcast: bool,
-) -> Result<String, BuildFault> {
+) -> Result<String, BuildFault>
+    ensures { IfOk result (λ lines. AreLines (string_bytes lines)) }
+{
     let packet = service::build(alloc, what, words, broadcast)?;
     Ok(line(alloc, 137, &packet)?)
 }
 
 /// The line of a session packet.
-fn session_line(alloc: Global, what: &str, words: &[&str]) -> Result<String, BuildFault> {
+fn session_line(alloc: Global, what: &str, words: &[&str]) -> Result<String, BuildFault>
+    ensures { IfOk result (λ lines. AreLines (string_bytes lines)) }
+{
     let packet = session::build(alloc, what, words)?;
     Ok(line(alloc, 139, &packet)?)
 }
 
 /// The lines of the packets of a datagram, or of one that is no fragment.
-fn datagram_lines(alloc: Global, what: &str, words: &[&str]) -> Result<String, BuildFault> {
+fn datagram_lines(alloc: Global, what: &str, words: &[&str]) -> Result<String, BuildFault>
+    ensures { IfOk result (λ lines. AreLines (string_bytes lines)) }
+{
     let packets = datagram::build(alloc, what, words)?;
     let mut lines = String::new(alloc);
     for packet in packets.as_slice() {
@@ -93,7 +106,9 @@ fn datagram_lines(alloc: Global, what: &str, words: &[&str]) -> Result<String, B
 }
 
 /// The capture line of a payload, at moment 0.
-fn line(alloc: Global, port: u16, payload: &Bytes) -> Result<String, NoMemory> {
+fn line(alloc: Global, port: u16, payload: &Bytes) -> Result<String, NoMemory>
+    ensures { IfOk result (λ text. string_bytes text ≡ payload_line port payload.now) }
+{
     let digits = hex::encode(alloc, payload.as_slice())?;
     Ok(format!(in alloc; "{port} 0 {digits}\n")?)
 }

@@ -1,23 +1,17 @@
 //! `nbt`: NetBIOS packets on the command line.
 #![tactic(auto)]
 
-mod agree;
-mod build;
 mod clap_answer;
 mod command_line;
+mod commands;
 mod fault;
 mod help;
 mod input;
 mod lines;
-mod merge;
-mod name;
 mod output;
 mod program;
-mod replay;
-mod save;
 mod saved;
 mod settings;
-mod show;
 mod status;
 mod tables;
 mod writing;

@@ -6,8 +6,8 @@ ghost use Rattle.nbt.specs.Output.{AppendsFront, GrowTo, ShowsFailing};
 ghost use Rattle.nbt.specs.Printing.{line};
 ghost use Rattle.nbt.specs.Replaying.{EndsWith, IsUnread, ReplaysIn};
 
+use crate::commands::replay::outcome_of;
 use crate::fault::Fault;
-use crate::replay::outcome_of;
 use crate::writing::{write_some, write_whole};
 use nb_member::{Member, replay};
 use nb_names::Counted;

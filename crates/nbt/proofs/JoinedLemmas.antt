@@ -1,5 +1,5 @@
 -- What `nbt merge` and `nbt agree` have done once the tables of the whole input are read.
-use Rattle.std.proofs.Common.{◌≡◌, ◌≢◌, ◌≤◌, ◌<◌, [], ◌∷◌, ℕ, List, length, take, get_or, slice_get, Option, Some, refl, sym, ap, ◌∙◌, ap₂, subst, suc, arith}
+use Rattle.std.proofs.Common.{◌≡◌, ◌≢◌, ◌⊎◌, inl, inr, ◌≤◌, ◌<◌, [], ◌∷◌, ℕ, List, length, take, get_or, slice_get, Option, Some, refl, sym, ap, ◌∙◌, ap₂, subst, suc, arith}
 use Rattle.std.specs.Io.KnownBytes.{Consumes, IsAtEnd}
 use Rattle.std.specs.List.{AllZip}
 use Rattle.nb_names.specs.declared.limits.TheConstants.{MAX_INPUT}
@@ -10,32 +10,32 @@ use Rattle.nb_table.specs.Limits.{TableValue}
 use Rattle.nb_table.specs.Merging.{Fits, IsRefused}
 use Rattle.nb_table.specs.declared.fault.TableFault.{TableFault}
 use Rattle.nbt.specs.declared.fault.Fault.{Fault}
-use Rattle.nbt.specs.declared.fault.Fault.TheVariants.{Memory, NoTables, TwoTablesWanted}
-use Rattle.nbt.specs.declared.status.Status.{Status}
-use Rattle.nbt.specs.Printing.{PrintsLine}
-use Rattle.nbt.specs.Saved.{saved_digits}
-use Rattle.nbt.specs.Tables.{AreTables, contents_of, fault_of_join, FailsOn, IsElsewhere, IsTableLine, JoinFails, MergeFails, MergesTables, CompareFails, Tells, ComparesTables}
+use Rattle.nbt.specs.declared.fault.Fault.TheVariants.{Memory, NoTables, TwoTablesWanted, Write}
+use Rattle.nbt.specs.Printing.{Leaves, PrintsFront}
+use Rattle.nbt.specs.Saved.{IsSavedOf, saved_digits}
+use Rattle.nbt.specs.Tables.{AreTables, contents_of, fault_of_join, FailsOn, IsElsewhere, IsTableLine, JoinFails, MergeFails, MergesTables, CompareFails, ComparesTables}
 use Rattle.nbt.specs.Tables.{TablesFail, line_fails, no_line, not_joined, not_two, one_fails}
 
--- one of the tables isn't joined to those before it, and this is told
+-- one of the tables isn't joined to those before it, and this is reported
 pub join_fails : (first : TableValue) (others : List TableValue) (index : ℕ) (why : TableFault) (fault : Fault)
     → (other : TableValue) × (slice_get others index ≡ Some other)
     × IsRefused first.limits (joined_all join first.contents (contents_of (take index others))) other.contents why
-    → fault ≡ fault_of_join why → JoinFails first others fault
-join_fails first others index why fault found told = record {
+    → AreTaken join (Fits first.limits) first.contents (contents_of (take index others)) → fault ≡ fault_of_join why → JoinFails first others fault
+join_fails first others index why fault found before reported = record {
   index = index;
   other = found.0;
   why = why;
   stands = found.1;
+  before = before;
   refused = found.2;
-  told = told;
+  reported = reported;
 }
 
-pub merges_tables : (IsKeys : ℕ → Type 0) (old_in new_in old_out new_out : Option (List ℕ)) (text read_text : List ℕ) (n : ℕ) (ts : List TableValue)
+pub merges_tables : (IsKeys : ℕ → Type 0) (IsPrinted : List ℕ → Type 0) (old_in new_in : Option (List ℕ)) (text read_text : List ℕ) (n : ℕ) (ts : List TableValue)
     (first : TableValue) (others : List TableValue) (t : Contents) → read_text ≡ text → Consumes old_in new_in text → IsAtEnd new_in → length text ≤ MAX_INPUT → IsKeys n → AreTables n read_text ts
-    → ts ≡ first ∷ others → AreTaken join (Fits first.limits) first.contents (contents_of others) → t ≡ joined_all join first.contents (contents_of others) → PrintsLine old_out new_out (saved_digits t)
-    → MergesTables IsKeys old_in new_in old_out new_out
-merges_tables IsKeys old_in new_in old_out new_out text read_text n ts first others t same read ended within given tables are taken joined printed = record {
+    → ts ≡ first ∷ others → AreTaken join (Fits first.limits) first.contents (contents_of others) → t ≡ joined_all join first.contents (contents_of others) → IsPrinted (saved_digits t)
+    → MergesTables IsKeys IsPrinted old_in new_in
+merges_tables IsKeys IsPrinted old_in new_in text read_text n ts first others t same read ended within given tables are taken joined printed = record {
   text = text;
   keys = n;
   first = first;
@@ -46,13 +46,13 @@ merges_tables IsKeys old_in new_in old_out new_out text read_text n ts first oth
   given = given;
   tables = subst (λ (bytes : List ℕ). AreTables n bytes (first ∷ others)) same (subst (λ (us : List TableValue). AreTables n read_text us) are tables);
   taken = taken;
-  printed = subst (λ (u : Contents). PrintsLine old_out new_out (saved_digits u)) joined printed;
+  printed = subst (λ (u : Contents). IsPrinted (saved_digits u)) joined printed;
 }
 
-pub compares_tables : (old_in new_in old_out new_out : Option (List ℕ)) (text read_text : List ℕ) (ts : List TableValue) (first second : TableValue) (status : Status)
+pub compares_tables : (IsPrinted : Contents → Contents → Type 0) (old_in new_in : Option (List ℕ)) (text read_text : List ℕ) (ts : List TableValue) (first second : TableValue)
     → read_text ≡ text → Consumes old_in new_in text → IsAtEnd new_in → length text ≤ MAX_INPUT → AreTables 4294967295 read_text ts → ts ≡ first ∷ second ∷ []
-    → Tells first.contents second.contents status old_out new_out → ComparesTables old_in new_in old_out new_out status
-compares_tables old_in new_in old_out new_out text read_text ts first second status same read ended within tables are told = record {
+    → IsPrinted first.contents second.contents → ComparesTables IsPrinted old_in new_in
+compares_tables IsPrinted old_in new_in text read_text ts first second same read ended within tables are printed = record {
   text = text;
   first = first;
   second = second;
@@ -60,7 +60,7 @@ compares_tables old_in new_in old_out new_out text read_text ts first second sta
   ended = ended;
   within = within;
   tables = subst (λ (bytes : List ℕ). AreTables 4294967295 bytes (first ∷ second ∷ [])) same (subst (λ (us : List TableValue). AreTables 4294967295 read_text us) are tables);
-  told = told;
+  printed = printed;
 }
 
 -- a list of two, by what it has at each place
@@ -71,10 +71,26 @@ two_items (t ∷ []) first second many few is_first is_second = absurd (omega (a
 two_items (t ∷ u ∷ []) first second many few is_first is_second = ap₂ (λ (x y : TableValue). x ∷ y ∷ []) (sym is_first) (sym is_second)
 two_items (t ∷ u ∷ v ∷ ts) first second many few is_first is_second = absurd (omega (arith, few))
 
+-- where a saved table can't be written, a front of its line is printed
+pub saved_front : (t : Contents) (old new : Option (List ℕ)) (fault : Fault) → Leaves (IsSavedOf t) old new fault → fault ≡ Write
+    → PrintsFront old new (saved_digits t)
+saved_front t old new fault leaves is =
+    let front : Leaves (IsSavedOf t) old new Write = subst (λ (f : Fault). Leaves (IsSavedOf t) old new f) is leaves in
+    subst (λ (digits : List ℕ). PrintsFront old new digits) front.1 front.2
+
 -- ---- faults
 
 not_memory : (fault : Fault) → ¬ IsElsewhere fault → fault ≢ Memory
 not_memory fault here is = here (subst (λ (f : Fault). IsElsewhere f) (sym is) tt)
+
+-- nothing is said of faults that lie elsewhere
+pub elsewhere : (Fails : List ℕ → Fault → Type 0) (old_in new_in : Option (List ℕ)) (fault : Fault) → IsElsewhere fault → FailsOn Fails old_in new_in fault
+elsewhere Fails old_in new_in fault is here = absurd (here is)
+
+pub printing_fails : (Fails : List ℕ → Fault → Type 0) (old_in new_in : Option (List ℕ)) (fault : Fault) → (fault ≡ Memory) ⊎ (fault ≡ Write)
+    → FailsOn Fails old_in new_in fault
+printing_fails Fails old_in new_in fault (inl is) here = absurd (here (subst (λ (f : Fault). IsElsewhere f) (sym is) tt))
+printing_fails Fails old_in new_in fault (inr is) here = absurd (here (subst (λ (f : Fault). IsElsewhere f) (sym is) tt))
 
 -- there are as many lines as tables
 as_long : (keys : ℕ) (lines : List (List ℕ)) (ts : List TableValue) → AllZip (IsTableLine keys) lines ts → length lines ≡ length ts
@@ -97,32 +113,34 @@ none_of_none keys text ts tables empty =
     subst (λ (lines : List (List ℕ)). HasLines text lines) (no_items tables.lines (as_long keys tables.lines ts tables.are ∙ empty)) tables.has
 
 pub merge_of_line : (IsKeys : ℕ → Type 0) (old_in new_in : Option (List ℕ)) (text read_text : List ℕ) (keys : ℕ) (fault : Fault) → read_text ≡ text
-    → Consumes old_in new_in text → IsAtEnd new_in → IsKeys keys → (fault ≢ Memory → TablesFail keys read_text fault)
+    → Consumes old_in new_in text → IsAtEnd new_in → length text ≤ MAX_INPUT → IsKeys keys → (fault ≢ Memory → TablesFail keys read_text fault)
     → FailsOn (MergeFails IsKeys) old_in new_in fault
-merge_of_line IsKeys old_in new_in text read_text keys fault same read ended given fails here =
-    (text, read, ended, line_fails keys given (subst (λ (bytes : List ℕ). TablesFail keys bytes fault) same (fails (not_memory fault here))))
+merge_of_line IsKeys old_in new_in text read_text keys fault same read ended within given fails here =
+    (text, read, ended, within, line_fails keys given (subst (λ (bytes : List ℕ). TablesFail keys bytes fault) same (fails (not_memory fault here))))
 
 pub merge_of_none : (IsKeys : ℕ → Type 0) (old_in new_in : Option (List ℕ)) (text read_text : List ℕ) (keys : ℕ) (ts : List TableValue) → read_text ≡ text
-    → Consumes old_in new_in text → IsAtEnd new_in → AreTables keys read_text ts → length ts ≡ 0
+    → Consumes old_in new_in text → IsAtEnd new_in → length text ≤ MAX_INPUT → AreTables keys read_text ts → length ts ≡ 0
     → FailsOn (MergeFails IsKeys) old_in new_in NoTables
-merge_of_none IsKeys old_in new_in text read_text keys ts same read ended tables empty here =
-    (text, read, ended, no_line (subst (λ (bytes : List ℕ). HasLines bytes []) same (none_of_none keys read_text ts tables empty)) refl)
+merge_of_none IsKeys old_in new_in text read_text keys ts same read ended within tables empty here =
+    (text, read, ended, within, no_line (subst (λ (bytes : List ℕ). HasLines bytes []) same (none_of_none keys read_text ts tables empty)) refl)
 
 pub merge_of_join : (IsKeys : ℕ → Type 0) (old_in new_in : Option (List ℕ)) (text read_text : List ℕ) (keys : ℕ) (ts : List TableValue)
-    (first : TableValue) (others : List TableValue) (fault : Fault) → read_text ≡ text → Consumes old_in new_in text → IsAtEnd new_in → IsKeys keys
+    (first : TableValue) (others : List TableValue) (fault : Fault) → read_text ≡ text → Consumes old_in new_in text → IsAtEnd new_in → length text ≤ MAX_INPUT → IsKeys keys
     → AreTables keys read_text ts → ts ≡ first ∷ others → JoinFails first others fault → FailsOn (MergeFails IsKeys) old_in new_in fault
-merge_of_join IsKeys old_in new_in text read_text keys ts first others fault same read ended given tables are fails here =
-    let parted = subst (λ (us : List TableValue). AreTables keys read_text us) are tables in
-    (text, read, ended, not_joined keys first others given (subst (λ (bytes : List ℕ). AreTables keys bytes (first ∷ others)) same parted) fails)
+merge_of_join IsKeys old_in new_in text read_text keys ts first others fault same read ended within given tables are fails here =
+    let split = subst (λ (us : List TableValue). AreTables keys read_text us) are tables in
+    (text, read, ended, within, not_joined keys first others given (subst (λ (bytes : List ℕ). AreTables keys bytes (first ∷ others)) same split) fails)
 
 pub compare_of_count : (old_in new_in : Option (List ℕ)) (text read_text : List ℕ) (lines : List (List ℕ)) → read_text ≡ text
-    → Consumes old_in new_in text → IsAtEnd new_in → HasLines read_text lines → length lines ≢ 2 → FailsOn CompareFails old_in new_in TwoTablesWanted
-compare_of_count old_in new_in text read_text lines same read ended has other here =
-    (text, read, ended, not_two lines (subst (λ (bytes : List ℕ). HasLines bytes lines) same has) other refl)
+    → Consumes old_in new_in text → IsAtEnd new_in → length text ≤ MAX_INPUT → HasLines read_text lines → length lines ≢ 2
+    → FailsOn CompareFails old_in new_in TwoTablesWanted
+compare_of_count old_in new_in text read_text lines same read ended within has other here =
+    (text, read, ended, within, not_two lines (subst (λ (bytes : List ℕ). HasLines bytes lines) same has) other refl)
 
 pub compare_of_line : (old_in new_in : Option (List ℕ)) (text count_text read_text : List ℕ) (n : ℕ) (fault : Fault) → count_text ≡ text → read_text ≡ text
-    → Consumes old_in new_in text → IsAtEnd new_in → (lines : List (List ℕ)) × HasLines count_text lines × (n ≡ length lines) → n ≡ 2
+    → Consumes old_in new_in text → IsAtEnd new_in → length text ≤ MAX_INPUT
+    → (lines : List (List ℕ)) × HasLines count_text lines × (n ≡ length lines) → n ≡ 2
     → (fault ≢ Memory → TablesFail 4294967295 read_text fault) → FailsOn CompareFails old_in new_in fault
-compare_of_line old_in new_in text count_text read_text n fault counted same read ended lines two fails here =
+compare_of_line old_in new_in text count_text read_text n fault counted same read ended within lines two fails here =
     let has = subst (λ (bytes : List ℕ). HasLines bytes lines.0) counted lines.1 in
-    (text, read, ended, one_fails lines.0 has (sym lines.2 ∙ two) (subst (λ (bytes : List ℕ). TablesFail 4294967295 bytes fault) same (fails (not_memory fault here))))
+    (text, read, ended, within, one_fails lines.0 has (sym lines.2 ∙ two) (subst (λ (bytes : List ℕ). TablesFail 4294967295 bytes fault) same (fails (not_memory fault here))))

@@ -1,5 +1,6 @@
 mod CommandShapes
 pub mod AloneWords
+pub mod BuildingTurns
 pub mod SavingTurns
 pub mod ReplayingTurns
 pub mod TableTurns

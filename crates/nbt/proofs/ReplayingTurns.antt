@@ -83,13 +83,13 @@ ends_weaker P Q (Err Memory) step p = step _ p
 ends_weaker P Q (Err _) step p = absurd p
 
 -- a replay that was begun answers as it ends
-is_replay : (P : Result ℕ ReplayFault → Type 0) (AreWords : List (List ℕ) → Type 0) (old_in new_in old_out new_out : Option (List ℕ)) (result : Result Unit Fault)
-    → EndsWith P result → IsReplay P AreWords old_in new_in old_out new_out result
-is_replay P AreWords old_in new_in old_out new_out (Err (Text fault)) ends = absurd ends
-is_replay P AreWords old_in new_in old_out new_out (Err TooManyNames) ends = absurd ends
-is_replay P AreWords old_in new_in old_out new_out (Err Arguments) ends = absurd ends
-is_replay P AreWords old_in new_in old_out new_out (Err Memory) ends = inl ends
-is_replay P AreWords old_in new_in old_out new_out result ends = ends
+is_replay : (P : Result ℕ ReplayFault → Type 0) (IsKeys : ℕ → Type 0) (AreWords : List (List ℕ) → Type 0) (old_in new_in old_out new_out : Option (List ℕ)) (result : Result Unit Fault)
+    → EndsWith P result → IsReplay P IsKeys AreWords old_in new_in old_out new_out result
+is_replay P IsKeys AreWords old_in new_in old_out new_out (Err (Text fault)) ends = absurd ends
+is_replay P IsKeys AreWords old_in new_in old_out new_out (Err TooManyNames) ends = absurd ends
+is_replay P IsKeys AreWords old_in new_in old_out new_out (Err Arguments) ends = absurd ends
+is_replay P IsKeys AreWords old_in new_in old_out new_out (Err Memory) ends = inl ends
+is_replay P IsKeys AreWords old_in new_in old_out new_out result ends = ends
 
 -- what a new member replayed
 of_new : (IsKeys : ℕ → Type 0) (AreWords : List (List ℕ) → Type 0) (old_in new_in old_out new_out : Option (List ℕ)) (n : ℕ)
@@ -116,9 +116,9 @@ of_new IsKeys AreWords old_in new_in old_out new_out n words names given said na
 pub replays_capture : (IsKeys : ℕ → Type 0) (AreWords : List (List ℕ) → Type 0) (old_in new_in old_out new_out : Option (List ℕ)) (n : ℕ)
     (words : List (List ℕ)) (names : List NetbiosName) (m : MemberValue) (result : Result Unit Fault) → IsKeys n → AreWords words
     → AddsEach words names → m ≡ new_member (program_settings n) names → EndsWith (ReplaysIn m old_in new_in old_out new_out) result
-    → IsReplay (ReplaysCapture IsKeys AreWords old_in new_in old_out new_out) AreWords old_in new_in old_out new_out result
+    → IsReplay (ReplaysCapture IsKeys AreWords old_in new_in old_out new_out) IsKeys AreWords old_in new_in old_out new_out result
 replays_capture IsKeys AreWords old_in new_in old_out new_out n words names m result given said named is ends =
-    is_replay (ReplaysCapture IsKeys AreWords old_in new_in old_out new_out) AreWords old_in new_in old_out new_out result
+    is_replay (ReplaysCapture IsKeys AreWords old_in new_in old_out new_out) IsKeys AreWords old_in new_in old_out new_out result
     (ends_weaker (ReplaysIn m old_in new_in old_out new_out) (ReplaysCapture IsKeys AreWords old_in new_in old_out new_out) result (λ answer r.
     of_new IsKeys AreWords old_in new_in old_out new_out n words names given said named answer
     (subst (λ (first : MemberValue). ReplaysIn first old_in new_in old_out new_out answer) is r)) ends)

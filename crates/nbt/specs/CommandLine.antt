@@ -9,7 +9,7 @@ use Rattle.clap.specs.declared.builder.value_parser.ValueParser.TheVariants.{Uns
 abbrev pub flag_rule : Text → Rule
 flag_rule name = record (new_rule name) { long = Some name; action = Some SetTrue }
 
--- a word that has to be there
+-- a word that is required
 abbrev pub value_rule : Text → Rule
 value_rule name = record (new_rule name) { required = true; action = Some Set }
 

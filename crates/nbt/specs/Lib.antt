@@ -7,7 +7,9 @@ pub mod Input
 pub mod CommandLine
 pub mod Lines
 pub mod Settings
+pub mod Building
 pub mod Saved
 pub mod Saving
+pub mod SaveFaults
 pub mod Replaying
 pub mod Tables

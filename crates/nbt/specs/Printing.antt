@@ -16,9 +16,13 @@ use Rattle.nbt.specs.declared.fault.Fault.TheVariants.{Text, Name, BadHex, Trail
 abbrev pub line : List ℕ → List ℕ
 line text = text ++ 10 ∷ []
 
--- PrintsLine old new text: an output that held the old bytes has the line of the text behind them now
+-- PrintsLine old new text: an output that held the old bytes has the line of the text after them now
 abbrev pub PrintsLine : Option (List ℕ) → Option (List ℕ) → List ℕ → Type 0
 PrintsLine old new text = Appends old new (line text)
+
+-- PrintsFront old new text: an output that held the old bytes has a front of the line of the text after them now
+abbrev pub PrintsFront : Option (List ℕ) → Option (List ℕ) → List ℕ → Type 0
+PrintsFront old new text = AppendsFront old new (line text)
 
 -- IsSpellingOf text digits: the digits are the spelling, in hexadecimal, of the name that the text
 -- stands for
@@ -82,7 +86,7 @@ IsNameFault digits Memory = Unit {0}
 -- Leaves IsText fault old new: a fault in writing leaves a front of the text's line after the bytes
 -- that the output held, and any other leaves the output as it was
 abbrev pub Leaves : (List ℕ → Type 0) → Option (List ℕ) → Option (List ℕ) → Fault → Type 0
-Leaves IsText old new Write = (text : List ℕ) × IsText text × AppendsFront old new (line text)
+Leaves IsText old new Write = (text : List ℕ) × IsText text × PrintsFront old new text
 Leaves IsText old new _ = Keeps old new
 
 -- the fault isn't one of writing

@@ -16,7 +16,7 @@ use Rattle.nb_member.specs.Replaying.{Replays}
 use Rattle.nb_member.specs.Member.{Stands}
 use Rattle.nbt.specs.declared.fault.Fault.{Fault}
 use Rattle.nbt.specs.declared.fault.Fault.TheVariants.{Text, Arguments, Line, TooManyNames, Read, Write, Memory}
-use Rattle.nbt.specs.Settings.{program_settings}
+use Rattle.nbt.specs.Settings.{HaveNoKeys, program_settings}
 
 -- ---- the names
 
@@ -96,16 +96,17 @@ pub record ReplaysCapture (AreKeys : ℕ → Type 0) (AreWords : List (List ℕ)
   pub read : Consumes old_in new_in bytes
   pub replays : Replays (new_member (program_settings keys) names) [] [] bytes new_in new old_out new_out answer
 
--- IsReplay IsAnswer AreWords old_in new_in old_out new_out result: what the program answers: as a replay with
--- such an answer ends, or a word was refused or memory ran out before it, and nothing is read or printed
-abbrev pub IsReplay : (Result ℕ ReplayFault → Type 0) → (List (List ℕ) → Type 0)
+-- IsReplay IsAnswer IsKeys AreWords old_in new_in old_out new_out result: what the program answers: as a replay
+-- with such an answer ends, or a word was refused, no number of keys or no words are given, or memory ran out
+-- before it, and nothing is read or printed
+abbrev pub IsReplay : (Result ℕ ReplayFault → Type 0) → (ℕ → Type 0) → (List (List ℕ) → Type 0)
     → Option (List ℕ) → Option (List ℕ) → Option (List ℕ) → Option (List ℕ) → Result Unit Fault → Type 0
-IsReplay IsAnswer AreWords old_in new_in old_out new_out (Err (Text fault)) =
+IsReplay IsAnswer IsKeys AreWords old_in new_in old_out new_out (Err (Text fault)) =
     (words : List (List ℕ)) × AreWords words × IsNamesFault words (Text fault) × Keeps old_in new_in × Keeps old_out new_out
-IsReplay IsAnswer AreWords old_in new_in old_out new_out (Err TooManyNames) =
+IsReplay IsAnswer IsKeys AreWords old_in new_in old_out new_out (Err TooManyNames) =
     (words : List (List ℕ)) × AreWords words × IsNamesFault words TooManyNames × Keeps old_in new_in × Keeps old_out new_out
-IsReplay IsAnswer AreWords old_in new_in old_out new_out (Err Arguments) =
-    Keeps old_in new_in × Keeps old_out new_out
-IsReplay IsAnswer AreWords old_in new_in old_out new_out (Err Memory) =
+IsReplay IsAnswer IsKeys AreWords old_in new_in old_out new_out (Err Arguments) =
+    (HaveNoKeys IsKeys ⊎ ((words : List (List ℕ)) → ¬ AreWords words)) × Keeps old_in new_in × Keeps old_out new_out
+IsReplay IsAnswer IsKeys AreWords old_in new_in old_out new_out (Err Memory) =
     IsAnswer (Err replay.NoMemory) ⊎ (Keeps old_in new_in × Keeps old_out new_out)
-IsReplay IsAnswer AreWords old_in new_in old_out new_out result = EndsWith IsAnswer result
+IsReplay IsAnswer IsKeys AreWords old_in new_in old_out new_out result = EndsWith IsAnswer result

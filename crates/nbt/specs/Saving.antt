@@ -16,7 +16,6 @@ use Rattle.nb_member.specs.Events.{limits_of}
 use Rattle.nb_member.specs.Member.{MemberValue, contents, with_timed}
 use Rattle.nb_member.specs.Taking.{Takes}
 use Rattle.nb_member.specs.Member.{after_clock}
-use Rattle.nbt.specs.Printing.{PrintsLine}
 use Rattle.nbt.specs.Saved.{saved_digits}
 use Rattle.nbt.specs.Settings.{program_settings}
 
@@ -77,9 +76,9 @@ pub record TakesLines (m : MemberValue) (capture : List ℕ) (new : MemberValue)
   pub has : HasLines capture lines
   pub takes : TakesEach m lines new
 
--- SavesCapture given old_in new_in old_out new_out: the whole input was read, a member that holds as many
--- keys as are given took its lines, and the table that it then has was printed
-pub record SavesCapture (IsKeys : ℕ → Type 0) (old_in new_in old_out new_out : Option (List ℕ)) : Type 0 where
+-- SavesCapture IsKeys IsPrinted old_in new_in: the whole input was read, a member that holds as many keys as are
+-- given took its lines, and the table that it then has was printed, as IsPrinted says of its digits
+pub record SavesCapture (IsKeys : ℕ → Type 0) (IsPrinted : List ℕ → Type 0) (old_in new_in : Option (List ℕ)) : Type 0 where
   pub capture : List ℕ
   pub keys : ℕ
   pub new : MemberValue
@@ -88,4 +87,4 @@ pub record SavesCapture (IsKeys : ℕ → Type 0) (old_in new_in old_out new_out
   pub within : length capture ≤ MAX_INPUT
   pub given : IsKeys keys
   pub took : TakesLines (new_saver keys) capture new
-  pub printed : PrintsLine old_out new_out (saved_digits (contents new))
+  pub printed : IsPrinted (saved_digits (contents new))

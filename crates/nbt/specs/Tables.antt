@@ -15,11 +15,12 @@ use Rattle.nb_table.specs.Limits.{KeepsLimits, Limits, TableValue}
 use Rattle.nb_table.specs.LoadFaults.{IsReadAs, LoadFails}
 use Rattle.nb_table.specs.Merging.{Fits, IsRefused}
 use Rattle.nbt.specs.declared.fault.Fault.{Fault}
-use Rattle.nbt.specs.declared.fault.Fault.TheVariants.{TooLong, Line, Full, Load, NoTables, TwoTablesWanted, Read, Write, Memory}
+use Rattle.nbt.specs.declared.fault.Fault.TheVariants.{Arguments, TooLong, Line, Full, Load, NoTables, TwoTablesWanted, Read, Write, Memory}
 use Rattle.nbt.specs.declared.status.Status.{Status}
 use Rattle.nbt.specs.declared.status.Status.TheVariants.{Done, Refused}
-use Rattle.nbt.specs.Printing.{PrintsLine}
+use Rattle.nbt.specs.Printing.{PrintsFront, PrintsLine}
 use Rattle.nbt.specs.Saved.{saved_digits}
+use Rattle.nbt.specs.Settings.{HaveNoKeys}
 
 -- what a table may hold that is read: so many keys, and datagrams of at most 65,535 bytes
 abbrev pub reading : ℕ → Limits
@@ -68,21 +69,23 @@ pub record TablesFail (keys : ℕ) (text : List ℕ) (fault : Fault) : Type 0 wh
 abbrev pub contents_of : List TableValue → List Contents
 contents_of ts = map (λ t. t.contents) ts
 
--- what is told of a table that can't be joined to those before it
+-- what is reported of a table that can't be joined to those before it
 abbrev pub fault_of_join : TableFault → Fault
 fault_of_join tables.MisplacedFirst = TooLong
 fault_of_join tables.TooLong = TooLong
 fault_of_join (tables.Full key) = Full
 fault_of_join tables.NoMemory = Memory
 
--- JoinFails first others fault: why one of the others can't be joined to the first with those before it
+-- JoinFails first others fault: why one of the others can't be joined to the first with those before it, each of
+-- which was taken in its turn
 pub record JoinFails (first : TableValue) (others : List TableValue) (fault : Fault) : Type 0 where
   pub index : ℕ
   pub other : TableValue
   pub why : TableFault
   pub stands : slice_get others index ≡ Some other
+  pub before : AreTaken join (Fits first.limits) first.contents (contents_of (take index others))
   pub refused : IsRefused first.limits (joined_all join first.contents (contents_of (take index others))) other.contents why
-  pub told : fault ≡ fault_of_join why
+  pub reported : fault ≡ fault_of_join why
 
 -- the fault is one of a device or of memory, and not of what stands in the input
 abbrev pub IsElsewhere : Fault → Type 0
@@ -91,11 +94,11 @@ IsElsewhere Write = Unit {0}
 IsElsewhere Memory = Unit {0}
 IsElsewhere _ = ⊥
 
--- FailsOn Fails old_in new_in fault: the whole input was read, and this is a fault of it; nothing is said of
--- faults that lie elsewhere
+-- FailsOn Fails old_in new_in fault: the whole input was read, within its limit, and this is a fault of it;
+-- nothing is said of faults that lie elsewhere
 abbrev pub FailsOn : (List ℕ → Fault → Type 0) → Option (List ℕ) → Option (List ℕ) → Fault → Type 0
 FailsOn Fails old_in new_in fault =
-    ¬ IsElsewhere fault → (text : List ℕ) × Consumes old_in new_in text × IsAtEnd new_in × Fails text fault
+    ¬ IsElsewhere fault → (text : List ℕ) × Consumes old_in new_in text × IsAtEnd new_in × (length text ≤ MAX_INPUT) × Fails text fault
 
 -- MergeFails IsKeys text fault: why the lines of the text aren't merged: the first that is no table, there is
 -- none, or their tables can't be joined
@@ -105,9 +108,15 @@ pub data MergeFails (IsKeys : ℕ → Type 0) (text : List ℕ) (fault : Fault) 
   not_joined : (keys : ℕ) (first : TableValue) (others : List TableValue) → IsKeys keys
       → AreTables keys text (first ∷ others) → JoinFails first others fault → MergeFails IsKeys text fault
 
--- MergesTables IsKeys old_in new_in old_out new_out: the whole input was read, its lines are tables, at least
--- one, each is taken into those before it, and their join was printed
-pub record MergesTables (IsKeys : ℕ → Type 0) (old_in new_in old_out new_out : Option (List ℕ)) : Type 0 where
+-- MergeStops IsKeys old_in new_in fault: why the tables of the input aren't merged: no number of keys is given,
+-- or it is a fault of the input
+pub data MergeStops (IsKeys : ℕ → Type 0) (old_in new_in : Option (List ℕ)) (fault : Fault) : Type 0 where
+  no_keys : HaveNoKeys IsKeys → fault ≡ Arguments → MergeStops IsKeys old_in new_in fault
+  input_fails : FailsOn (MergeFails IsKeys) old_in new_in fault → MergeStops IsKeys old_in new_in fault
+
+-- MergesTables IsKeys IsPrinted old_in new_in: the whole input was read, its lines are tables, at least one, each
+-- is taken into those before it, and their join was printed, as IsPrinted says of its digits
+pub record MergesTables (IsKeys : ℕ → Type 0) (IsPrinted : List ℕ → Type 0) (old_in new_in : Option (List ℕ)) : Type 0 where
   pub text : List ℕ
   pub keys : ℕ
   pub first : TableValue
@@ -118,7 +127,7 @@ pub record MergesTables (IsKeys : ℕ → Type 0) (old_in new_in old_out new_out
   pub given : IsKeys keys
   pub tables : AreTables keys text (first ∷ others)
   pub taken : AreTaken join (Fits first.limits) first.contents (contents_of others)
-  pub printed : PrintsLine old_out new_out (saved_digits (joined_all join first.contents (contents_of others)))
+  pub printed : IsPrinted (saved_digits (joined_all join first.contents (contents_of others)))
 
 -- CompareFails text fault: why the lines of the text aren't compared: they aren't two, or the first that is
 -- no table
@@ -133,9 +142,13 @@ Tells t u status old new =
     ((t ≡ u) × (status ≡ Done) × PrintsLine old new (codes "equal"))
     ⊎ ((t ≢ u) × (status ≡ Refused) × PrintsLine old new (codes "different"))
 
--- ComparesTables old_in new_in old_out new_out status: the whole input was read, its lines are two tables, and
--- whether these are equal is told
-pub record ComparesTables (old_in new_in old_out new_out : Option (List ℕ)) (status : Status) : Type 0 where
+-- TellsFront t u old new: a front of the line that says whether the tables are equal is printed
+abbrev pub TellsFront : Contents → Contents → Option (List ℕ) → Option (List ℕ) → Type 0
+TellsFront t u old new = ((t ≡ u) × PrintsFront old new (codes "equal")) ⊎ ((t ≢ u) × PrintsFront old new (codes "different"))
+
+-- ComparesTables IsPrinted old_in new_in: the whole input was read, its lines are two tables, and whether these
+-- are equal was printed, as IsPrinted says of the two
+pub record ComparesTables (IsPrinted : Contents → Contents → Type 0) (old_in new_in : Option (List ℕ)) : Type 0 where
   pub text : List ℕ
   pub first : TableValue
   pub second : TableValue
@@ -143,4 +156,4 @@ pub record ComparesTables (old_in new_in old_out new_out : Option (List ℕ)) (s
   pub ended : IsAtEnd new_in
   pub within : length text ≤ MAX_INPUT
   pub tables : AreTables 4294967295 text (first ∷ second ∷ [])
-  pub told : Tells first.contents second.contents status old_out new_out
+  pub printed : IsPrinted first.contents second.contents

@@ -1,21 +1,16 @@
 //! `nbt`: NetBIOS packets on the command line.
 #![tactic(auto)]
 
-mod agree;
-mod build;
 mod clap_answer;
 mod command_line;
+mod commands;
 mod fault;
+mod help;
 mod lines;
-mod merge;
-mod name;
 mod output;
 mod program;
-mod replay;
-mod save;
 mod saved;
 mod settings;
-mod show;
 mod status;
 mod tables;
 
@@ -41,7 +36,7 @@ fn main(rt: HostRuntime) -> ExitCode {
 /// # Errors
 ///
 /// Those of [`words_of`], [`Fault::Memory`] where there is no memory for a buffer, and
-/// [`Fault::Write`] where what was printed can't be written out: this is then told alone.
+/// [`Fault::Write`] where what was printed can't be written out: this is then reported alone.
 fn run_buffered(rt: &HostRuntime) -> Result<u8, Fault> {
     let words = words_of(rt)?;
     let mut input = rt.stdin();
@@ -60,12 +55,12 @@ fn run_buffered(rt: &HostRuntime) -> Result<u8, Fault> {
     if printed.is_ok() {
         let _ = errors.flush();
     }
-    let (_stderr, _untold) = errors.into_parts();
+    let (_stderr, _unwritten) = errors.into_parts();
     printed?;
     Ok(code)
 }
 
-/// A device behind a buffer of fixed size.
+/// A device with a buffer of fixed size before it.
 fn buffered<W: Write + Drop>(alloc: Global, device: W) -> Result<BufWriter<Output<W>>, Fault> {
     BufWriter::new(alloc, Output::new(device)).map_err(|_| Fault::Memory)
 }

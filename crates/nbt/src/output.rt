@@ -6,8 +6,8 @@ ghost use Rattle.nb_names.specs.Devices.{AppendsFront, ShowsWriteFault};
 ghost use Rattle.nbt.specs.Printing.{line};
 ghost use Rattle.nbt.specs.Replaying.{EndsWith, IsUnread, ReplaysIn};
 
+use crate::commands::replay::outcome_of;
 use crate::fault::Fault;
-use crate::replay::outcome_of;
 use nb_member::{Member, replay};
 use nb_names::Counted;
 use nb_names::output::{write_some, write_whole};
@@ -65,7 +65,8 @@ impl<W> Output<W> {
         ensures fault { IfErr result (λ fault. fault ≡ Fault.Write) }
         ensures err { OnErr result (AppendsFront (W.contents self.old.inner)
             (W.contents self.new.inner) bytes.now) }
-        ensures why { OnErr result (ShowsWriteFault no_calls self.new.counts) }
+        ensures grow { GrowTo self.old.counts self.new.counts }
+        ensures why { OnErr result (ShowsWriteFault self.old.counts self.new.counts) }
     {
         match write_whole(&mut self.device, bytes) {
             Ok(()) => Ok(()),
@@ -93,7 +94,7 @@ impl<W> Output<W> {
             IsUnread (R.remaining input.old.inner) (R.remaining input.new.inner)
             input.old.counts input.new.counts) }
         ensures why { IfErr result (λ fault. fault ≡ Fault.Write →
-            ShowsWriteFault no_calls self.new.counts) }
+            ShowsWriteFault self.old.counts self.new.counts) }
     {
         outcome_of(replay(alloc, input, &mut self.device, &mut member))
     }

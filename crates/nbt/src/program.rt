@@ -2,23 +2,22 @@
 ghost use Rattle.std.specs.Prelude.{◌≡◌, ◌≢◌, ◌≤◌, map, string_bytes, Ok, Err, OnOk, IfOk, IfErr};
 ghost use Rattle.std.specs.Io.KnownBytes.{Keeps};
 ghost use Rattle.clap.specs.Words.{kind_of, subcommand_name_of};
-ghost use Rattle.nb_names.specs.Counted.{no_calls};
 ghost use Rattle.nb_names.specs.Devices.{ShowsWriteFault};
 ghost use Rattle.nbt.specs.FaultTexts.{status_after};
 ghost use Rattle.nbt.specs.CommandLine.{AreAlone, DoesRead};
 ghost use Rattle.nbt.specs.ClapAnswer.{Reports, answer_to};
 
-use crate::agree::run_agree;
-use crate::build::run_build;
 use crate::clap_answer::ClapAnswer;
 use crate::command_line::command;
+use crate::commands::agree::run_agree;
+use crate::commands::build::run_build;
+use crate::commands::merge::run_merge;
+use crate::commands::name::run_name;
+use crate::commands::replay::run_replay;
+use crate::commands::save::run_save;
+use crate::commands::show::run_show;
 use crate::fault::Fault;
-use crate::merge::run_merge;
-use crate::name::run_name;
 use crate::output::Output;
-use crate::replay::run_replay;
-use crate::save::run_save;
-use crate::show::run_show;
 use crate::status::Status;
 use clap::{ArgMatches, Error};
 use nb_names::Counted;
@@ -87,7 +86,7 @@ fn run_command<R: Read, W: Write>(
     ensures status { IfOk result (λ status. status ≢ Status.BadUsage) }
     ensures unread { ¬ DoesRead (subcommand_name_of matches.now) → input.new ≡ input.old }
     ensures why { IfErr result (λ fault. fault ≡ Fault.Write →
-        ShowsWriteFault no_calls output.new.counts) }
+        ShowsWriteFault output.old.counts output.new.counts) }
 {
     match matches.subcommand() {
         Some(("name", matches)) => done(run_name(alloc, matches, output)),

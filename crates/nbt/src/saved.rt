@@ -1,6 +1,5 @@
 //! Tables in hexadecimal.
 ghost use Rattle.std.specs.Prelude.{◌≡◌, ◌⊎◌, OnOk, IfErr};
-ghost use Rattle.nb_names.specs.Counted.{no_calls};
 ghost use Rattle.nb_names.specs.Devices.{ShowsWriteFault};
 ghost use Rattle.nbt.specs.Printing.{Leaves, PrintsLine};
 ghost use Rattle.nbt.specs.Saved.{saved_digits, IsSavedOf};
@@ -28,7 +27,7 @@ pub fn print_saved<W: Write>(
     ensures err { IfErr result (Leaves (IsSavedOf table.now.contents)
         (W.contents output.old.inner) (W.contents output.new.inner)) }
     ensures why { IfErr result (λ fault. fault ≡ Fault.Write →
-        ShowsWriteFault no_calls output.new.counts) }
+        ShowsWriteFault output.old.counts output.new.counts) }
 {
     let saved = table.save()?;
     let digits = hex::encode(alloc, saved.as_slice()).map_err(|_| Fault::Memory)?;

@@ -1,9 +1,0 @@
-use Rattle.std.proofs.Common.{◌+◌, ◌≤◌, length}
-use Rattle.nb_names.specs.declared.limits.TheConstants.{MAX_INPUT}
-use Rattle.nbt.proofs.show.show_lines.Given as goal
-
-abbrev pub invariant-loop-line : goal.invariant-loop-line
-invariant-loop-line g l = l.number + length l.rest ≤ MAX_INPUT + 1
-
-abbrev pub decreases-loop-line : goal.decreases-loop-line
-decreases-loop-line g l = length l.rest

@@ -1,0 +1,86 @@
+//! `nbt agree`: whether two saved tables are the same.
+ghost use Rattle.std.specs.Prelude.{◌≡◌, ◌≢◌, IfOk, IfErr};
+ghost use Rattle.std.specs.Io.KnownBytes.{Keeps};
+ghost use Rattle.nbt.specs.Input.{WasCut};
+ghost use Rattle.nb_names.specs.Devices.{ShowsWriteFault};
+ghost use Rattle.nbt.specs.Tables.{CompareFails, ComparesTables, FailsOn, Tells, TellsFront};
+
+use crate::fault::Fault;
+use crate::output::Output;
+use crate::status::Status;
+use crate::tables::{count_lines, tables_of, whole_input};
+use nb_names::Counted;
+use nb_table::Table;
+use std::alloc::Global;
+use std::io::{Read, Write};
+
+/// `nbt agree`: reads two saved tables in hexadecimal, a line each, and prints whether they are
+/// equal. Where they aren't, the status is that of refused input.
+///
+/// # Errors
+///
+/// [`Fault::Read`] where the input couldn't be read to its end; then [`Fault::TwoTablesWanted`] for
+/// another number of lines; then the first malformed line, as [`tables_of`] has it.
+/// [`Fault::Memory`] where memory ran out. Nothing is printed then. [`Fault::Write`] where the
+/// output failed.
+pub fn run_agree<R: Read, W: Write>(
+    alloc: Global,
+    input: &mut Counted<R>,
+    output: &mut Output<W>,
+) -> Result<Status, Fault>
+    ensures printed { IfOk result (λ status. ComparesTables (λ t u. Tells t u status
+        (W.contents output.old.inner) (W.contents output.new.inner))
+        (R.remaining input.old.inner) (R.remaining input.new.inner)) }
+    ensures status { IfOk result (λ status. status ≢ Status.BadUsage) }
+    ensures err { IfErr result (λ fault. fault ≢ Fault.Write →
+        Keeps (W.contents output.old.inner) (W.contents output.new.inner)) }
+    ensures write { IfErr result (λ fault. fault ≡ Fault.Write →
+        ComparesTables (λ t u. TellsFront t u
+        (W.contents output.old.inner) (W.contents output.new.inner))
+        (R.remaining input.old.inner) (R.remaining input.new.inner)) }
+    ensures fault { IfErr result (FailsOn CompareFails
+        (R.remaining input.old.inner) (R.remaining input.new.inner)) }
+    ensures cut { IfErr result (λ fault. fault ≡ Fault.Read →
+        WasCut (R.remaining input.old.inner) (R.remaining input.new.inner)
+        input.old.counts input.new.counts) }
+    ensures why { IfErr result (λ fault. fault ≡ Fault.Write →
+        ShowsWriteFault output.old.counts output.new.counts) }
+{
+    let text = whole_input(alloc, input)?;
+    if count_lines(text.as_slice()) != 2 {
+        return Err(Fault::TwoTablesWanted);
+    }
+    let tables = tables_of(alloc, text.as_slice(), u32::MAX)?;
+    match tables.as_slice() {
+        [first, second] => tell_same(first, second, output),
+        _ => Err(Fault::TwoTablesWanted),
+    }
+}
+
+/// Prints whether two tables are the same, and answers the status for it.
+///
+/// # Errors
+///
+/// [`Fault::Write`] where the output failed.
+fn tell_same<W: Write>(
+    first: &Table,
+    second: &Table,
+    output: &mut Output<W>,
+) -> Result<Status, Fault>
+    ensures told { IfOk result (λ status. Tells first.now.contents second.now.contents status
+        (W.contents output.old.inner) (W.contents output.new.inner)) }
+    ensures status { IfOk result (λ status. status ≢ Status.BadUsage) }
+    ensures fault { IfErr result (λ fault. fault ≡ Fault.Write) }
+    ensures write { IfErr result (λ _. TellsFront first.now.contents second.now.contents
+        (W.contents output.old.inner) (W.contents output.new.inner)) }
+    ensures why { IfErr result (λ fault. fault ≡ Fault.Write →
+        ShowsWriteFault output.old.counts output.new.counts) }
+{
+    if first.same(second) {
+        output.print(b"equal\n")?;
+        Ok(Status::Done)
+    } else {
+        output.print(b"different\n")?;
+        Ok(Status::Refused)
+    }
+}

@@ -1,0 +1,114 @@
+//! `nbt build`: packets as the lines of a capture.
+ghost use Rattle.std.specs.Prelude.{◌≡◌, ◌≢◌, IfOk, IfErr, OnOk, string_bytes};
+ghost use Rattle.std.specs.Io.KnownBytes.{Appends, Keeps};
+ghost use Rattle.nbt.specs.Building.{AreLines, BuildsLines, payload_line};
+ghost use Rattle.nb_names.specs.Devices.{AppendsFront, ShowsWriteFault};
+
+mod arguments;
+mod build_fault;
+mod datagram;
+mod service;
+mod session;
+
+use crate::commands::build::build_fault::BuildFault;
+use crate::fault::Fault;
+use crate::output::Output;
+use clap::ArgMatches;
+use nb_names::{Bytes, NoMemory};
+use std::alloc::Global;
+use std::io::Write;
+
+/// `nbt build [--broadcast] WHAT ARG..`: prints a capture line for each packet built.
+///
+/// WHAT is judged before the number of arguments, and that before each of them from left to right.
+///
+/// # Errors
+///
+/// [`Fault::Text`] for a bad name; [`Fault::Arguments`] for another WHAT, another number of
+/// arguments, or another bad one; [`Fault::TooLong`] for more data than a packet takes;
+/// [`Fault::ZeroPiece`] for pieces of no bytes; [`Fault::Memory`]. Nothing is printed then.
+/// [`Fault::Write`] where the output failed.
+pub fn run_build<W: Write>(
+    alloc: Global,
+    matches: &ArgMatches<'_>,
+    output: &mut Output<W>,
+) -> Result<(), Fault>
+    ensures printed { OnOk result (BuildsLines
+        (Appends (W.contents output.old.inner) (W.contents output.new.inner))) }
+    ensures write { IfErr result (λ fault. fault ≡ Fault.Write → BuildsLines
+        (AppendsFront (W.contents output.old.inner) (W.contents output.new.inner))) }
+    ensures err { IfErr result (λ fault. fault ≢ Fault.Write →
+        Keeps (W.contents output.old.inner) (W.contents output.new.inner)) }
+    ensures why { IfErr result (λ fault. fault ≡ Fault.Write →
+        ShowsWriteFault output.old.counts output.new.counts) }
+{
+    match build(alloc, matches) {
+        Ok(lines) => output.print(lines.as_bytes()),
+        Err(BuildFault::Text(fault)) => Err(Fault::Text(fault)),
+        Err(BuildFault::Arguments) => Err(Fault::Arguments),
+        Err(BuildFault::TooLong) => Err(Fault::TooLong),
+        Err(BuildFault::ZeroPiece) => Err(Fault::ZeroPiece),
+        Err(BuildFault::Memory) => Err(Fault::Memory),
+    }
+}
+
+/// The lines of the packets that the words ask for.
+fn build(alloc: Global, matches: &ArgMatches<'_>) -> Result<String, BuildFault>
+    ensures { IfOk result (λ lines. AreLines (string_bytes lines)) }
+{
+    let what = matches.get_str("WHAT").unwrap_or("");
+    let words = matches.get_strs("ARG").unwrap_or(&[]);
+    match what {
+        "query" | "status" | "registration" | "refresh" | "release" => {
+            service_line(alloc, what, words, matches.get_flag("broadcast"))
+        }
+        "request" | "message" | "positive" | "negative" | "retarget" | "keepalive" => {
+            session_line(alloc, what, words)
+        }
+        "unique" | "group" | "broadcast" | "error" | "find" | "found" | "missing" => {
+            datagram_lines(alloc, what, words)
+        }
+        _ => Err(BuildFault::Arguments),
+    }
+}
+
+/// The line of a name service packet.
+fn service_line(
+    alloc: Global,
+    what: &str,
+    words: &[&str],
+    broadcast: bool,
+) -> Result<String, BuildFault>
+    ensures { IfOk result (λ lines. AreLines (string_bytes lines)) }
+{
+    let packet = service::build(alloc, what, words, broadcast)?;
+    Ok(line(alloc, 137, &packet)?)
+}
+
+/// The line of a session packet.
+fn session_line(alloc: Global, what: &str, words: &[&str]) -> Result<String, BuildFault>
+    ensures { IfOk result (λ lines. AreLines (string_bytes lines)) }
+{
+    let packet = session::build(alloc, what, words)?;
+    Ok(line(alloc, 139, &packet)?)
+}
+
+/// The lines of the packets of a datagram, or of one that is no fragment.
+fn datagram_lines(alloc: Global, what: &str, words: &[&str]) -> Result<String, BuildFault>
+    ensures { IfOk result (λ lines. AreLines (string_bytes lines)) }
+{
+    let packets = datagram::build(alloc, what, words)?;
+    let mut lines = String::new(alloc);
+    for packet in packets.as_slice() {
+        lines.push_str(line(alloc, 138, packet)?.as_str())?;
+    }
+    Ok(lines)
+}
+
+/// The capture line of a payload, at moment 0.
+fn line(alloc: Global, port: u16, payload: &Bytes) -> Result<String, NoMemory>
+    ensures { IfOk result (λ text. string_bytes text ≡ payload_line port payload.now) }
+{
+    let digits = hex::encode(alloc, payload.as_slice())?;
+    Ok(format!(in alloc; "{port} 0 {digits}\n")?)
+}

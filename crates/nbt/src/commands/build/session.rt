@@ -1,0 +1,76 @@
+//! Session packets from arguments.
+
+use crate::commands::build::arguments::{address, bytes, code, number};
+use crate::commands::build::build_fault::BuildFault;
+use nb_names::{Bytes, name_from_text};
+use nb_session::{MessageData, Packet, encode};
+use std::alloc::Global;
+
+/// The bytes of the packet that WHAT and its arguments give.
+///
+/// `request` takes CALLED CALLING, `message` HEX, `negative` CODE, `retarget` ADDRESS PORT, and
+/// `positive` and `keepalive` take none.
+pub fn build(alloc: Global, what: &str, words: &[&str]) -> Result<Bytes, BuildFault> {
+    match what {
+        "request" => request(alloc, words),
+        "message" => message(alloc, words),
+        "positive" => bare(alloc, words, &Packet::Positive),
+        "negative" => negative(alloc, words),
+        "retarget" => retarget(alloc, words),
+        "keepalive" => bare(alloc, words, &Packet::Keepalive),
+        _ => Err(BuildFault::Arguments),
+    }
+}
+
+/// The bytes of a request, from CALLED CALLING.
+fn request(alloc: Global, words: &[&str]) -> Result<Bytes, BuildFault> {
+    let [called, calling] = words else {
+        return Err(BuildFault::Arguments);
+    };
+    let called = name_from_text(called)?;
+    let calling = name_from_text(calling)?;
+    encoded(alloc, &Packet::Request { called, calling })
+}
+
+/// The bytes of a message, from HEX.
+fn message(alloc: Global, words: &[&str]) -> Result<Bytes, BuildFault> {
+    let [digits] = words else {
+        return Err(BuildFault::Arguments);
+    };
+    let bytes = bytes(alloc, digits)?;
+    match MessageData::new(bytes.as_slice()) {
+        Ok(message) => encoded(alloc, &Packet::Message(message)),
+        Err(_) => Err(BuildFault::TooLong),
+    }
+}
+
+/// The bytes of a negative response, from CODE.
+fn negative(alloc: Global, words: &[&str]) -> Result<Bytes, BuildFault> {
+    let [digits] = words else {
+        return Err(BuildFault::Arguments);
+    };
+    encoded(alloc, &Packet::Negative(code(digits)?))
+}
+
+/// The bytes of a retarget response, from ADDRESS PORT.
+fn retarget(alloc: Global, words: &[&str]) -> Result<Bytes, BuildFault> {
+    let [place, port] = words else {
+        return Err(BuildFault::Arguments);
+    };
+    let address = address(place)?;
+    let port = number(port)?;
+    encoded(alloc, &Packet::Retarget { address, port })
+}
+
+/// The bytes of a packet that takes no arguments.
+fn bare(alloc: Global, words: &[&str], packet: &Packet<'_>) -> Result<Bytes, BuildFault> {
+    match words {
+        [] => encoded(alloc, packet),
+        _ => Err(BuildFault::Arguments),
+    }
+}
+
+/// The bytes of a packet.
+fn encoded(alloc: Global, packet: &Packet<'_>) -> Result<Bytes, BuildFault> {
+    Ok(encode(alloc, packet)?)
+}

@@ -1,0 +1,128 @@
+//! `nbt name`: the spelling of a name's text, and the text of a spelling.
+ghost use Rattle.std.specs.Prelude.{◌≡◌, ℕ, List, codes, IfOk, IfErr, OnOk, Ok, IsErr, string_bytes};
+ghost use Rattle.hex.specs.Hex.{decode_of};
+ghost use Rattle.nb_names.specs.Devices.{ShowsWriteFault};
+ghost use Rattle.nbt.specs.NameCommand.{IsValue, IsFlag, OutcomeOf};
+ghost use Rattle.nbt.specs.Printing.{Leaves, PrintsSpelling, PrintsName, IsSpellingOf, IsSpellingFault, IsNameOf, IsNameFault, IsDecodeFault, IsNoWrite};
+
+use crate::fault::Fault;
+use crate::output::{Output, with_line_feed};
+use clap::ArgMatches;
+use hex::FromHexError;
+use nb_names::{Pointers, name_from_text, name_text, read_name, write_domain};
+use std::alloc::Global;
+use std::io::Write;
+
+/// `nbt name [--bytes] VALUE`.
+///
+/// # Errors
+///
+/// Those of [`print_spelling`], and with `--bytes` those of [`print_name`]. [`Fault::Arguments`]
+/// where there is no VALUE.
+pub fn run_name<W: Write>(
+    alloc: Global,
+    matches: &ArgMatches<'_>,
+    output: &mut Output<W>,
+) -> Result<(), Fault>
+    ensures spelling { (value : List ℕ) → IsValue matches.now value
+        → IsFlag matches.now (codes "false")
+        → OutcomeOf PrintsSpelling IsSpellingFault IsSpellingOf value result
+        (W.contents output.old.inner) (W.contents output.new.inner) }
+    ensures name { (value : List ℕ) → IsValue matches.now value
+        → IsFlag matches.now (codes "true")
+        → OutcomeOf PrintsName IsNameFault IsNameOf value result
+        (W.contents output.old.inner) (W.contents output.new.inner) }
+    ensures why { IfErr result (λ fault. fault ≡ Fault.Write →
+        ShowsWriteFault output.old.counts output.new.counts) }
+{
+    let Some(value) = matches.get_str("VALUE") else {
+        return Err(Fault::Arguments);
+    };
+    if matches.get_flag("bytes") {
+        print_name(alloc, value, output)
+    } else {
+        print_spelling(alloc, value, output)
+    }
+}
+
+/// Prints the spelling, in hexadecimal, of the name that a text stands for.
+///
+/// # Errors
+///
+/// [`Fault::Text`] where the text is no name's, [`Fault::Memory`] where memory ran out; nothing
+/// is printed then. [`Fault::Write`] where the output failed.
+pub fn print_spelling<W: Write>(
+    alloc: Global,
+    text: &str,
+    output: &mut Output<W>,
+) -> Result<(), Fault>
+    ensures printed { OnOk result (PrintsSpelling text.now
+        (W.contents output.old.inner) (W.contents output.new.inner)) }
+    ensures fault { IfErr result (IsSpellingFault text.now) }
+    ensures err { IfErr result (Leaves (IsSpellingOf text.now)
+        (W.contents output.old.inner) (W.contents output.new.inner)) }
+    ensures why { IfErr result (λ fault. fault ≡ Fault.Write →
+        ShowsWriteFault output.old.counts output.new.counts) }
+{
+    let line = with_line_feed(spelling_of(alloc, text)?)?;
+    output.print(line.as_bytes())
+}
+
+/// Prints the text of the name whose spelling the digits are, in hexadecimal of either case.
+///
+/// # Errors
+///
+/// In this order: [`Fault::BadHex`]; [`Fault::Name`] where no name stands there, pointers refused;
+/// [`Fault::TrailingBytes`] where bytes follow it; [`Fault::Memory`] where memory ran out; nothing
+/// is printed then. [`Fault::Write`] where the output failed.
+pub fn print_name<W: Write>(
+    alloc: Global,
+    digits: &str,
+    output: &mut Output<W>,
+) -> Result<(), Fault>
+    ensures printed { OnOk result (PrintsName digits.now
+        (W.contents output.old.inner) (W.contents output.new.inner)) }
+    ensures fault { IfErr result (IsNameFault digits.now) }
+    ensures err { IfErr result (Leaves (IsNameOf digits.now)
+        (W.contents output.old.inner) (W.contents output.new.inner)) }
+    ensures why { IfErr result (λ fault. fault ≡ Fault.Write →
+        ShowsWriteFault output.old.counts output.new.counts) }
+{
+    let line = with_line_feed(name_of(alloc, digits)?)?;
+    output.print(line.as_bytes())
+}
+
+/// The spelling, in hexadecimal, of the name that a text stands for.
+fn spelling_of(alloc: Global, text: &str) -> Result<String, Fault>
+    ensures found { IfOk result (λ digits. IsSpellingOf text.now (string_bytes digits)) }
+    ensures fault { IfErr result (λ fault. IsSpellingFault text.now fault × IsNoWrite fault) }
+{
+    let name = name_from_text(text)?;
+    let spelling = write_domain(alloc, &name.to_domain())?;
+    hex::encode(alloc, spelling.as_slice()).map_err(|_| Fault::Memory)
+}
+
+/// The text of the name whose spelling the digits are.
+fn name_of(alloc: Global, digits: &str) -> Result<String, Fault>
+    ensures found { IfOk result (λ text. IsNameOf digits.now (string_bytes text)) }
+    ensures fault { IfErr result (λ fault. IsNameFault digits.now fault × IsNoWrite fault) }
+{
+    let bytes = decoded(alloc, digits)?;
+    let (name, next) = read_name(bytes.as_slice(), 0, Pointers::Refused)?;
+    if next < bytes.len() {
+        return Err(Fault::TrailingBytes(next));
+    }
+    Ok(name_text(alloc, &name)?)
+}
+
+/// The bytes that the digits give.
+fn decoded(alloc: Global, digits: &str) -> Result<Vec<u8>, Fault>
+    ensures found { IfOk result (λ bytes. decode_of digits.now ≡ Ok bytes.items) }
+    ensures fault { IfErr result (IsDecodeFault digits.now) }
+{
+    match hex::decode(alloc, digits) {
+        Ok(bytes) => Ok(bytes),
+        Err(FromHexError::OutOfMemory) => Err(Fault::Memory),
+        Err(_) => Err(Fault::BadHex),
+    }
+}

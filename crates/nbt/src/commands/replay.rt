@@ -1,0 +1,97 @@
+//! `nbt replay`: the report of a capture, in a member with names.
+ghost use Rattle.std.specs.Prelude.{◌≡◌, map, Err, OnOk, IfOk, IfErr};
+ghost use Rattle.nb_names.specs.NameText.{IsFaultOf};
+ghost use Rattle.nb_names.specs.Devices.{ShowsWriteFault};
+ghost use Rattle.nbt.specs.Replaying.{AddsEach, AddsName, AreTexts, EndsWith, IsNamesFault, IsRefusedName, IsReplay, IsUnread, ReplaysCapture};
+ghost use Rattle.nbt.specs.Settings.{AreKeys};
+
+use crate::fault::Fault;
+use crate::output::Output;
+use crate::settings::settings_with;
+use clap::ArgMatches;
+use nb_member::{AddFault, LocalNames, Member, ReplayFault};
+use nb_names::{Counted, name_from_text};
+use std::alloc::Global;
+use std::io::{Read, Write};
+
+/// `nbt replay [--keys N] NAME..`: replays the input in a member with these names, and prints the
+/// report. A name that is repeated is passed over.
+///
+/// # Errors
+///
+/// The first that is met: [`Fault::Text`] for a bad name, [`Fault::TooManyNames`] for one
+/// different name more than a station holds; nothing is read or printed then. [`Fault::Line`] for a
+/// malformed line, [`Fault::Read`] where the input couldn't be read to its end, [`Fault::Memory`]
+/// where memory ran out: the report of the lines before it is printed. [`Fault::Write`] where the
+/// output failed.
+pub fn run_replay<R: Read, W: Write>(
+    alloc: Global,
+    matches: &ArgMatches<'_>,
+    input: &mut Counted<R>,
+    output: &mut Output<W>,
+) -> Result<(), Fault>
+    ensures printed { IsReplay (ReplaysCapture (AreKeys matches.now) (AreTexts matches.now)
+        (R.remaining input.old.inner) (R.remaining input.new.inner)
+        (W.contents output.old.inner) (W.contents output.new.inner))
+        (AreKeys matches.now) (AreTexts matches.now)
+        (R.remaining input.old.inner) (R.remaining input.new.inner)
+        (W.contents output.old.inner) (W.contents output.new.inner) result }
+    ensures cut { IfErr result (λ fault. fault ≡ Fault.Read →
+        IsUnread (R.remaining input.old.inner) (R.remaining input.new.inner)
+        input.old.counts input.new.counts) }
+    ensures why { IfErr result (λ fault. fault ≡ Fault.Write →
+        ShowsWriteFault output.old.counts output.new.counts) }
+{
+    let Some(keys) = matches.get_one::<u32>("keys") else {
+        return Err(Fault::Arguments);
+    };
+    let Some(words) = matches.get_strs("NAME") else {
+        return Err(Fault::Arguments);
+    };
+    let names = names_of(alloc, words)?;
+    let member = Member::new(alloc, settings_with(keys), names);
+    output.replay(alloc, member, input)
+}
+
+/// What the program answers where a replay answers this.
+pub fn outcome_of(replayed: Result<u64, ReplayFault>) -> Result<(), Fault>
+    ensures ends { EndsWith (λ answer. answer ≡ replayed) result }
+    ensures write { result ≡ Err Fault.Write → replayed ≡ Err ReplayFault.Write }
+{
+    match replayed {
+        Ok(_) => Ok(()),
+        Err(ReplayFault::Line(number)) => Err(Fault::Line(number as usize)),
+        Err(ReplayFault::Read) => Err(Fault::Read),
+        Err(ReplayFault::Write) => Err(Fault::Write),
+        Err(ReplayFault::NoMemory) => Err(Fault::Memory),
+    }
+}
+
+/// The names that the words stand for, each once.
+///
+/// # Errors
+///
+/// For the first word that is refused, [`Fault::Text`] or [`Fault::TooManyNames`];
+/// [`Fault::Memory`] where memory ran out.
+fn names_of(alloc: Global, words: &[&str]) -> Result<LocalNames, Fault>
+    ensures named { IfOk result (λ names. AddsEach (map (λ w. w.now) words.now) names) }
+    ensures fault { IfErr result (IsNamesFault (map (λ w. w.now) words.now)) }
+{
+    let mut names = LocalNames::new(alloc);
+    for word in words {
+        add_name(&mut names, word)?;
+    }
+    Ok(names)
+}
+
+/// Adds the name that a word stands for, unless it is held already.
+fn add_name(names: &mut LocalNames, word: &str) -> Result<(), Fault>
+    ensures added { OnOk result (AddsName names.old word.now names.new) }
+    ensures fault { IfErr result (IsRefusedName names.old word.now) }
+{
+    match names.add(name_from_text(word)?) {
+        Ok(()) | Err(AddFault::Present) => Ok(()),
+        Err(AddFault::TooMany) => Err(Fault::TooManyNames),
+        Err(AddFault::NoMemory) => Err(Fault::Memory),
+    }
+}

@@ -55,7 +55,7 @@ type_range (Query q) = let r = query_range q.kind in (omega (arith, r.0), r.1)
 
 -- ---- a packet's names
 
--- the name behind a front of bytes is read there
+-- the name after a front of bytes is read there
 name_behind : NameLaws → (front : List ℕ) (name : NetbiosName) (rest : List ℕ) (at : ℕ) → IsName name → length front ≡ at →
     NameAt (front ++ (name_bytes name ++ rest)) Refused at (labels_of_name name) (at + length (name_bytes name))
 name_behind laws front name rest at formed long =

@@ -68,7 +68,7 @@ keys_same type flags key kind bits other f g e =
     let port = numbers_same key.port other.port [] [] f.port g.port (ap (λ (l : List ℕ). l ++ []) ip.1) in
     (cc, cc, λ i. record { ip = ip.0 i; port = port.0 i; id = id.0 i })
 
--- behind the header stands the same too
+-- after the header stands the same too
 pub headers_same : (type flags : ℕ) (key : Key) (kind bits : ℕ) (other : Key) (x y bytes more others : List ℕ) → IsKey key → IsKey other →
     bytes ≡ (header_bytes type flags key ++ x) ++ more → bytes ≡ (header_bytes kind bits other ++ y) ++ others →
     (type ≡ kind) × (flags ≡ bits) × (key ≡ other) × (x ++ more ≡ y ++ others)
@@ -104,7 +104,7 @@ one_query Negative Request e = absurd (omega (arith, e))
 one_query Negative Positive e = absurd (omega (arith, e))
 one_query Negative Negative e = refl
 
--- the bytes behind the header of a fragment's packet, one field after the other
+-- the bytes after the header of a fragment's packet, one field after the other
 pub direct_behind : (f : FragmentParts) (rest : List ℕ) → direct_bytes f ++ rest
     ≡ to_be_bytes w16 (named_length f.source f.destination f.bytes) ++ (to_be_bytes w16 f.offset ++ (name_bytes f.source ++ (name_bytes f.destination ++ (f.bytes ++ rest))))
 direct_behind f rest =

@@ -111,7 +111,7 @@ more_set true false = refl
 more_set false true = refl
 more_set false false = refl
 
--- the place behind a piece's last byte
+-- the place after a piece's last byte
 piece_reach : (d : DatagramParts) (m j : ℕ) → 1 ≤ m → j < piece_count (length d.bytes) m → reach (core_of (piece d m j)) ≡ min ((j + 1) * m) (length d.bytes)
 piece_reach d m j h below =
     let start = start_within (length d.bytes) m j h below in

@@ -23,7 +23,7 @@ use Rattle.nb_datagram.specs.declared.fault.DatagramFault.TheVariants.{Destinati
 use Rattle.nb_datagram.specs.declared.kind.Kind.TheVariants.{Unique, Group, Broadcast}
 use Rattle.nb_datagram.specs.declared.packet.QueryKind.TheVariants.{Request, Positive, Negative}
 use Rattle.nb_datagram.specs.DatagramFaults.{HasType, DirectFails, PacketFails, direct_fails, query_fails}
-use Rattle.nb_datagram.specs.Reading.{number_of, HasHeader}
+use Rattle.nb_datagram.specs.Code.Reading.{number_of, HasHeader}
 use Rattle.nb_datagram.proofs.StandsLemmas.{stands_then, stands_front, stands_whole, stands_one, stands_in_all, spelled_at}
 
 -- a header has its type
@@ -37,7 +37,7 @@ header_type bytes h there = record {
 pub header_long : (type flags : ℕ) (key : Key) → length key.ip ≡ 4 → length (header_bytes type flags key) ≡ 10
 header_long type flags key four = omega (arith, length-append key.ip (to_be_bytes w16 key.port), four)
 
--- what stands behind a header stands with it
+-- what stands after a header stands with it
 pub behind_header : (bytes : List ℕ) (h : Header) (type : ℕ) (more : List ℕ) → HasHeader bytes h → number_of h.form ≡ type → StandsAt bytes 10 more →
     StandsAt bytes 0 (header_bytes type h.flags h.key ++ more)
 behind_header bytes h type more there is g =
@@ -102,7 +102,7 @@ named_there bytes size offset source destination behind start f =
     let second = spelled_at _ behind behind (labels_of_name destination) start f.destination_there in
     omega (arith, first.1, second.1, data_long bytes size offset source destination behind start f)
 
--- the bytes behind the header
+-- the bytes after the header
 direct_there : (bytes : List ℕ) (size offset : ℕ) (source destination : NetbiosName) (behind start : ℕ) → HasFragment bytes size offset source destination behind start →
     StandsAt bytes 10 (to_be_bytes w16 size ++ (to_be_bytes w16 offset ++ (name_bytes source ++ (name_bytes destination ++ data_of bytes size start))))
 direct_there bytes size offset source destination behind start f =

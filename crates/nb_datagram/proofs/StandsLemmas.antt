@@ -14,7 +14,7 @@ stands_first bytes some = rw (drop_more bytes 0 0 some) refl
 pub stands_one : (bytes : List ℕ) (at : ℕ) → at < length bytes → StandsAt bytes at (get_or bytes at 0 ∷ [])
 stands_one bytes at inside = rw (drop_more bytes at 0 inside) refl
 
--- what stands behind what stands, stands with it
+-- what stands after what stands, stands with it
 pub stands_then : (bytes : List ℕ) (at : ℕ) (xs ys : List ℕ) → StandsAt bytes at xs → StandsAt bytes (at + length xs) ys → StandsAt bytes at (xs ++ ys)
 stands_then bytes at xs ys h g =
     ap (λ (n : ℕ). take n (drop at bytes)) (length-append xs ys)
@@ -30,7 +30,7 @@ stands_front bytes at xs ys h =
     ∙ ap (λ (r : List ℕ). take (length xs) r) h
     ∙ take-append_seam xs ys
 
--- and the rest behind it
+-- and the rest after it
 pub stands_back : (bytes : List ℕ) (at : ℕ) (xs ys : List ℕ) → StandsAt bytes at (xs ++ ys) → StandsAt bytes (at + length xs) ys
 stands_back bytes at xs ys h =
     sym (ap (λ (r : List ℕ). take (length ys) r) (drop-drop (length xs) at bytes))

@@ -25,7 +25,7 @@ use Rattle.nb_datagram.specs.declared.packet.QueryKind.TheVariants.{Request, Pos
 use Rattle.nb_datagram.specs.Header.{header_bytes}
 use Rattle.nb_datagram.specs.Packet.{IsPacket}
 use Rattle.nb_datagram.specs.DatagramFaults.{HasType, in_source, in_destination, no_fields, no_data, in_names, PacketFails, no_header, no_type, no_code}
-use Rattle.nb_datagram.specs.Reading.{number_of, HasHeader}
+use Rattle.nb_datagram.specs.Code.Reading.{number_of, HasHeader}
 use Rattle.nb_datagram.proofs.StandsLemmas.{stands_first, stands_one, stands_then, spelled_at}
 use Rattle.nb_datagram.proofs.ReadingLemmas.{header_type, error_there, query_there, fragment_there, query_named, direct_failed}
 
@@ -115,7 +115,7 @@ header_there bytes form each fits is =
       refl,
     )
 
--- ---- what stands behind it
+-- ---- what stands after it
 
 names_or_fault : NameOrFault → (bytes : List ℕ) (header : Header) (kind : Kind) (size : ℕ) → AreBytes bytes → HasHeader bytes header → header.form ≡ Direct kind →
     NumberAt bytes 10 w16 size → 14 + size ≤ length bytes → Outcome bytes

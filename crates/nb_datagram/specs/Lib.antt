@@ -9,5 +9,5 @@ pub mod Header
 pub mod Packet
 pub mod DatagramFaults
 pub mod FaultTexts
-pub mod Reading
 pub mod Pieces
+pub mod Code

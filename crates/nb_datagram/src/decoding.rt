@@ -3,7 +3,7 @@ ghost use Rattle.std.specs.Prelude.{◌≡◌, ◌≤◌, ℕ, length, IfOk, IfE
 ghost use Rattle.nb_datagram.specs.declared.packet.Packet.{Packet};
 ghost use Rattle.nb_datagram.specs.DatagramFaults.{DirectFails, PacketFails};
 ghost use Rattle.nb_datagram.specs.Packet.{IsPacket};
-ghost use Rattle.nb_datagram.specs.Reading.{HasHeader};
+ghost use Rattle.nb_datagram.specs.Code.Reading.{HasHeader};
 
 use crate::fault::DatagramFault;
 use crate::form::Form;

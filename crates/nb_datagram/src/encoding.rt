@@ -4,9 +4,9 @@ ghost use Rattle.nb_datagram.specs.Header.{header_bytes};
 ghost use Rattle.nb_datagram.specs.Packet.{name_bytes, direct_bytes, packet_bytes, IsPacket};
 
 use crate::fitting::packet_fits;
-use crate::form::ERROR_TYPE;
 use crate::fragment::Fragment;
 use crate::key::Key;
+use crate::limits::ERROR_TYPE;
 use crate::packet::Packet;
 use nb_names::{Bytes, Name, NoMemory};
 use std::alloc::Global;

@@ -1,7 +1,7 @@
 //! The header that all packets begin with.
 ghost use Rattle.std.specs.Prelude.{IfOk, IfErr};
 ghost use Rattle.nb_datagram.specs.DatagramFaults.{PacketFails};
-ghost use Rattle.nb_datagram.specs.Reading.{HasHeader};
+ghost use Rattle.nb_datagram.specs.Code.Reading.{HasHeader};
 
 use crate::fault::DatagramFault;
 use crate::form::{Form, form_of};

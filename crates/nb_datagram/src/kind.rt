@@ -2,6 +2,8 @@
 ghost use Rattle.std.specs.Prelude.{◌≡◌};
 ghost use Rattle.nb_datagram.specs.Kind.{type_of};
 
+use crate::limits::{BROADCAST, DIRECT_GROUP, DIRECT_UNIQUE};
+
 /// Whom a datagram is for (RFC 1002 section 4.4.1, MSG_TYPE 10 to 12).
 #[derive(Clone, Copy, Debug, PartialEq, Eq)]
 pub enum Kind {
@@ -19,9 +21,9 @@ impl Kind {
         ensures { result ≡ type_of self }
     {
         match self {
-            Kind::Unique => 0x10,
-            Kind::Group => 0x11,
-            Kind::Broadcast => 0x12,
+            Kind::Unique => DIRECT_UNIQUE,
+            Kind::Group => DIRECT_GROUP,
+            Kind::Broadcast => BROADCAST,
         }
     }
 }

@@ -4,6 +4,7 @@ ghost use Rattle.nb_datagram.specs.Header.{query_type};
 
 use crate::fragment::Fragment;
 use crate::key::Key;
+use crate::limits::{NEGATIVE_RESPONSE, POSITIVE_RESPONSE, QUERY_REQUEST};
 use nb_names::Name;
 
 /// A packet of the datagram service (RFC 1002 section 4.4).
@@ -61,9 +62,9 @@ impl QueryKind {
         ensures { result ≡ query_type self }
     {
         match self {
-            QueryKind::Request => 0x14,
-            QueryKind::Positive => 0x15,
-            QueryKind::Negative => 0x16,
+            QueryKind::Request => QUERY_REQUEST,
+            QueryKind::Positive => POSITIVE_RESPONSE,
+            QueryKind::Negative => NEGATIVE_RESPONSE,
         }
     }
 }

@@ -80,7 +80,7 @@ end_fits (LabelDigit _) t done parts r e f = absurd (cc)
 
 -- ---- the ends of a loop over a text
 
--- a text that isn't formed is no name's
+-- a text that isn't formed is that of no name
 pub no_name_unformed : (text : List ℕ) → ¬ IsFormed text → (name : NetbiosName) → ¬ IsText name text
 no_name_unformed text h name is = h (is.parts, is.form)
 

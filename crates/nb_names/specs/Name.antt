@@ -48,7 +48,7 @@ name_eq = eq_of_both (on (λ n. n.bytes) (pointwise ◌==◌)) (on (λ n. n.scop
 abbrev pub name_cmp : NetbiosName → NetbiosName → Ordering
 name_cmp = then_cmp (on (λ n. n.bytes) (slice_cmp nat_cmp)) (on (λ n. n.scope) domain_cmp)
 
--- IsNoName labels place: why these labels are no name's, as a place in their spelling: its start, if the
+-- IsNoName labels place: why these labels are of no name, as a place in their spelling: its start, if the
 -- first label is missing or of another length than a name's letters; otherwise where the first label
 -- has its first byte that is no letter
 pub data IsNoName : List (List ℕ) → ℕ → Type 0 where

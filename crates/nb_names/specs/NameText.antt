@@ -102,7 +102,7 @@ pub record IsBad (text : List ℕ) (place : ℕ) : Type 0 where
   pub front : IsFront text place
   pub longest : (count : ℕ) → place < count → count ≤ length text → ¬ IsFront text count
 
--- IsFaultOf text fault: why the text is no name's; it is TooLong only where it has the form, and
+-- IsFaultOf text fault: why the text is of no name; it is TooLong only where it has the form, and
 -- BadText only where it hasn't
 abbrev pub IsFaultOf : List ℕ → TextFault → Type 0
 IsFaultOf text (BadText place) = (¬ IsFormed text) × IsBad text place

@@ -46,7 +46,7 @@ pub fn one_fault()
         FaultAt packet pointers at fault → FaultAt packet pointers at other → fault ≡ other }
 {}
 
-/// Where a NetBIOS name has a fault, no name's labels stand, and there is no other fault.
+/// Where a NetBIOS name has a fault, the labels of no name stand, and there is no other fault.
 pub fn one_netbios_fault()
     ensures alone { (packet : List ℕ) (pointers : Pointers) (at : ℕ) (fault : NameFault)
         (name : NetbiosName) (next : ℕ) →
@@ -117,8 +117,8 @@ pub fn letters_by_place()
         slice_index (letters bytes) (2 * place + 1) ≡ 65 + slice_index bytes place % 16 }
 {}
 
-/// At a place above 0 that is answered for labels that are no name's, the byte of their spelling
-/// is no letter, and those between the length byte and it are.
+/// At a place above 0 that is answered for labels of no name, the byte of their spelling is no
+/// letter, and those between the length byte and it are.
 pub fn place_in_spelling()
     ensures there { (labels : List (List ℕ)) (place : ℕ) → IsNoName labels place → 0 < place →
         ¬ IsLetter (slice_index (spelling labels) place) }

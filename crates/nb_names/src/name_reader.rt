@@ -63,6 +63,7 @@ impl<'a, 'r> NameReader<'a, 'r> {
     /// Those of [`read_domain`](crate::read_domain).
     ///
     /// RFC 1002 section 4.1.
+    #[inline]
     pub fn read_domain(
         &self,
         at: usize,

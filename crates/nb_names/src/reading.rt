@@ -13,6 +13,7 @@ use crate::pointer_ends::end_from;
 use crate::pointers::Pointers;
 
 /// Reads the domain name at an offset of a packet, of whose chains of pointers ends are known.
+#[inline]
 pub(crate) fn read_along(
     packet: &[u8],
     ends: &[u16],

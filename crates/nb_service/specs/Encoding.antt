@@ -1,6 +1,6 @@
 -- The bytes that a packet is written as (RFC 1002 section 4.2.1). Numbers are big-endian.
 --
--- Own: a record's name that has a label and is the first question's is written as a pointer to where
+-- Our choice: a record's name that has a label and is the first question's is written as a pointer to where
 -- that name stands, at the first offset after the header. All other names are spelled, also the one in
 -- the RDATA of a record of kind NS.
 use Rattle.std.specs.Prelude.{ℕ, ◌<◌, ◌^◌, Bool, false, List, [], ◌∷◌, ◌++◌, length, if◌then◌else◌}

@@ -2,13 +2,12 @@ pub mod Header
 pub mod Record
 pub mod Packet
 pub mod ServiceFaults
-pub mod Steps
 pub mod Building
 pub mod Flags
 pub mod FaultTexts
 pub mod Encoding
 pub mod Views
-pub mod Pieces
 pub mod Requests
 pub mod Equality
 pub mod EqualityFacts
+pub mod Code

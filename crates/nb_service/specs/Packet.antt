@@ -5,9 +5,9 @@
 -- Names are read over all of the bytes, their pointers followed, so a label may reach into bytes after
 -- the last record.
 --
--- Own: those bytes count as no part of the packet.
+-- Our choice: those bytes count as no part of the packet.
 --
--- Own: the RDATA of a record of kind NS is a domain name, which ends where the RDATA does.
+-- Our choice: the RDATA of a record of kind NS is a domain name, which ends where the RDATA does.
 use Rattle.std.specs.Prelude.{◌≡◌, ◌≢◌, ℕ, ◌+◌, ◌≤◌, List, [], ◌∷◌, ◌++◌, length}
 use Rattle.std.specs.Int.{w16, w32}
 use Rattle.nb_names.specs.declared.pointers.Pointers.TheVariants.{Followed}

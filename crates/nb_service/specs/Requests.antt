@@ -1,7 +1,7 @@
 -- The requests that are built (RFC 1002 sections 4.2.2, 4.2.4, 4.2.9, 4.2.12 and 4.2.17), as packets.
 -- A request asks about one name in its one question.
 --
--- Own: a refresh has opcode 8, and RD is clear in it.
+-- Our choice: a refresh has opcode 8, and RD is clear in it.
 use Rattle.std.specs.Prelude.{ℕ, ◌+◌, ◌*◌, ◌^◌, Bool, true, false, List, [], ◌∷◌}
 use Rattle.nb_names.specs.Name.{NetbiosName, labels_of_name}
 use Rattle.nb_service.specs.declared.classes.TheConstants.{IN}

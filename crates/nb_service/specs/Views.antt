@@ -1,7 +1,7 @@
 -- What the RDATA of records of two kinds says: NB_FLAGS and addresses (RFC 1002 section 4.2.13), and the
 -- names of a node (RFC 1002 section 4.2.18). Numbers are big-endian, and lengths are in bytes.
 --
--- Own: of what follows the names of a node, any length is taken for its statistics.
+-- Our choice: of what follows the names of a node, any length is taken for its statistics.
 use Rattle.std.specs.Prelude.{◌≡◌, ℕ, ◌*◌, ◌%◌, ◌≤◌, List, ◌∷◌, ◌++◌, length}
 use Rattle.std.specs.Int.{w16, to_be_bytes}
 use Rattle.std.specs.List.{flat_map}

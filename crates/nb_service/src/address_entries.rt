@@ -17,7 +17,7 @@ pub struct AddressEntries<'a> {
 impl<'a> Model for AddressEntries<'a> {
     ghost use Rattle.std.specs.Prelude.{List};
     ghost use Rattle.nb_service.specs.declared.address_entry.AddressEntry.{AddressEntry};
-    ghost use Rattle.nb_service.specs.Pieces.{entries_of};
+    ghost use Rattle.nb_service.specs.Code.Pieces.{entries_of};
 
     ghost Value = { List AddressEntry };
 

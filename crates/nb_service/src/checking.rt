@@ -1,7 +1,7 @@
 //! Rows of questions and records, walked without memory.
 ghost use Rattle.std.specs.Prelude.{IfOk, IfErr};
 ghost use Rattle.nb_service.specs.Packet.{QuestionAt, RecordAt};
-ghost use Rattle.nb_service.specs.Steps.{HasRow};
+ghost use Rattle.nb_service.specs.Code.Steps.{HasRow};
 ghost use Rattle.nb_service.specs.ServiceFaults.{QuestionsFail, RecordsFail};
 
 use crate::fault::ServiceFault;

@@ -3,7 +3,7 @@ ghost use Rattle.std.specs.Prelude.{◌≡◌, ◌≤◌, ℕ, length, IfOk, IfE
 ghost use Rattle.nb_service.specs.declared.fault.ServiceFault.TheVariants.{NoMemory};
 ghost use Rattle.nb_service.specs.Header.{HasHeader};
 ghost use Rattle.nb_service.specs.Packet.{ServicePacket, IsPacket, HasSections};
-ghost use Rattle.nb_service.specs.Steps.{header_value, item_count, HasPacket, OrMemory};
+ghost use Rattle.nb_service.specs.Code.Steps.{header_value, item_count, HasPacket, OrMemory};
 ghost use Rattle.nb_service.specs.ServiceFaults.{PacketFails, IsRefused};
 
 use crate::checking::{skip_questions, skip_records};

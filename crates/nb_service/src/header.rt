@@ -1,7 +1,7 @@
 //! The header of a packet.
 ghost use Rattle.std.specs.Prelude.{IfOk, IfErr};
 ghost use Rattle.nb_service.specs.Header.{HasHeader};
-ghost use Rattle.nb_service.specs.Steps.{header_value};
+ghost use Rattle.nb_service.specs.Code.Steps.{header_value};
 ghost use Rattle.nb_service.specs.ServiceFaults.{PacketFails};
 
 use crate::fault::ServiceFault;

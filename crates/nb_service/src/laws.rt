@@ -44,6 +44,7 @@ pub fn node_flags()
 {}
 
 /// A flag word is the sum of its fields: R, OPCODE, the seven bits of NM_FLAGS, and RCODE.
+/// NM_FLAGS are AA, TC, RD, RA, two bits that are reserved, and B.
 pub fn word_is_its_fields()
     ensures sum { (word : ℕ) → word ≡ word / 32768 * 32768
         + (opcode_of word * 2048 + (word / 16 % 128 * 16 + rcode_of word)) }
@@ -69,6 +70,8 @@ pub fn name_in_rdata()
 
 /// The answers of a packet, its authorities and its additional records stand one after the other
 /// from where its questions end.
+///
+/// RFC 1002 section 4.2.1.
 pub fn sections_in_order()
     ensures { (bytes : List ℕ) (packet : ServicePacket) (used : ℕ) →
         IsPacket bytes packet used → HasSections bytes packet used }

@@ -17,7 +17,7 @@ pub struct NodeStatus<'a> {
 
 impl<'a> Model for NodeStatus<'a> {
     ghost use Rattle.nb_service.specs.Views.{StatusParts};
-    ghost use Rattle.nb_service.specs.Pieces.{node_names_of};
+    ghost use Rattle.nb_service.specs.Code.Pieces.{node_names_of};
 
     ghost Value = { StatusParts };
 

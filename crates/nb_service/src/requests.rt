@@ -138,7 +138,7 @@ pub fn registration<'a>(
 ///
 /// [`NoMemory`] where memory ran out.
 ///
-/// RFC 1002 section 4.2.4. Own: the opcode is 8, and RD is clear.
+/// RFC 1002 section 4.2.4. Our choice: the opcode is 8, and RD is clear.
 pub fn refresh<'a>(
     alloc: Global,
     id: u16,

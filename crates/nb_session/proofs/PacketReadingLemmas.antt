@@ -8,7 +8,7 @@ use Rattle.nb_session.specs.declared.header.Header.{Header}
 use Rattle.nb_session.specs.declared.kind.Kind.{Kind}
 use Rattle.nb_session.specs.declared.kind.Kind.TheVariants.{Request}
 use Rattle.nb_session.specs.declared.parsing.Parsed.TheVariants.{Refused}
-use Rattle.nb_session.specs.Filling.{TakesPart}
+use Rattle.nb_session.specs.Code.Filling.{TakesPart}
 use Rattle.nb_session.specs.Header.{HasHeader, IsGood, body_length, packet_length}
 use Rattle.nb_session.specs.PacketReading.{IsEarliest}
 use Rattle.nb_session.specs.Parsing.{Lacks, HeaderFails, RequestFails, Parses, header_fails, body_lacks, body_fails}

@@ -5,5 +5,5 @@ pub mod StreamValue
 pub mod Stream
 pub mod Cutting
 pub mod PacketReading
-pub mod Filling
 pub mod FaultTexts
+pub mod Code

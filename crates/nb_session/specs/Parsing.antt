@@ -1,7 +1,7 @@
 -- What stands at the front of bytes: a session packet, the front of one, or neither. Offsets count from
 -- the first byte.
 --
--- Own: the header is judged as soon as it is there, before more is asked for; its faults come in the
+-- Our choice: the header is judged as soon as it is there, before more is asked for; its faults come in the
 -- order of the cases here, and before those of the body.
 use Rattle.std.specs.Prelude.{◌≡◌, ℕ, ◌-◌, ◌<◌, ◌≤◌, List, length, take, Option, Some, None}
 use Rattle.nb_names.specs.declared.pointers.Pointers.TheVariants.{Refused as refused}

@@ -1,6 +1,6 @@
 //! Filling a buffer from a reader.
 ghost use Rattle.std.specs.Prelude.{◌<◌, length};
-ghost use Rattle.nb_session.specs.Filling.{Fills, Shows};
+ghost use Rattle.nb_session.specs.Code.Filling.{Fills, Shows};
 
 use crate::limits::MAX_INTERRUPTS;
 use nb_names::{Counted, Told};

@@ -1,6 +1,6 @@
 use Rattle.std.proofs.Common.{arith, subst, ap}
 use Rattle.nb_datagram.specs.DatagramFaults.{HasType, no_code}
-use Rattle.nb_datagram.specs.Reading.{number_of}
+use Rattle.nb_datagram.specs.Code.Reading.{number_of}
 use Rattle.nb_datagram.proofs.ReadingLemmas.{header_type, error_there}
 use Rattle.nb_datagram.proofs.decoding.read_error.Goals as goal
 

@@ -1,5 +1,5 @@
 use Rattle.nb_service.specs.Packet.{QuestionAt}
-use Rattle.nb_service.specs.Steps.{HasRow}
+use Rattle.nb_service.specs.Code.Steps.{HasRow}
 use Rattle.nb_service.proofs.checking.skip_questions.Given as goal
 
 abbrev pub invariant-loop : goal.invariant-loop

@@ -1,5 +1,5 @@
 use Rattle.nb_service.specs.Packet.{RecordAt}
-use Rattle.nb_service.specs.Steps.{HasRow}
+use Rattle.nb_service.specs.Code.Steps.{HasRow}
 use Rattle.nb_service.proofs.checking.skip_records.Given as goal
 
 abbrev pub invariant-loop : goal.invariant-loop

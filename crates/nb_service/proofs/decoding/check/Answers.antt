@@ -1,6 +1,6 @@
 use Rattle.std.proofs.lemmas.Result.{err_from_is_err_and}
 use Rattle.nb_service.proofs.StepLemmas.{packet_there, check_questions, check_records}
-use Rattle.nb_service.specs.Steps.{header_value}
+use Rattle.nb_service.specs.Code.Steps.{header_value}
 use Rattle.nb_service.proofs.decoding.check.Goals as goal
 
 pub returns-in_err-after-clause-fault : goal.returns-in_err-after-clause-fault

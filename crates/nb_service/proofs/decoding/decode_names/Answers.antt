@@ -1,7 +1,7 @@
 use Rattle.std.proofs.Common.{ℕ, List, subst}
 use Rattle.std.proofs.lemmas.Result.{err_from_is_err_and, IfOk-weaker, IfErr-weaker, MatchResult-from_both}
 use Rattle.nb_service.specs.Header.{HasHeader}
-use Rattle.nb_service.specs.Steps.{header_value}
+use Rattle.nb_service.specs.Code.Steps.{header_value}
 use Rattle.nb_service.specs.ServiceFaults.{malformed}
 use Rattle.nb_service.proofs.StepLemmas.{refused_build, only_memory, packet_within}
 use Rattle.nb_service.proofs.decoding.decode_names.Goals as goal

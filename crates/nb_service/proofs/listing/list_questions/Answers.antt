@@ -1,7 +1,7 @@
 use Rattle.std.proofs.Common.{arith}
 use Rattle.std.proofs.lemmas.Result.{err_from_is_err_and}
 use Rattle.nb_service.specs.Packet.{QuestionAt}
-use Rattle.nb_service.specs.Steps.{fails, memory}
+use Rattle.nb_service.specs.Code.Steps.{fails, memory}
 use Rattle.nb_service.specs.ServiceFaults.{QuestionFails}
 use Rattle.nb_service.proofs.StepLemmas.{row_begun, row_turn, row_stopped}
 use Rattle.nb_service.proofs.listing.list_questions.Goals as goal

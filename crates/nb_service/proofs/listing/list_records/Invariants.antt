@@ -1,5 +1,5 @@
 use Rattle.nb_service.specs.Packet.{RecordAt}
-use Rattle.nb_service.specs.Steps.{RowOf}
+use Rattle.nb_service.specs.Code.Steps.{RowOf}
 use Rattle.nb_service.proofs.listing.list_records.Given as goal
 
 abbrev pub invariant-loop : goal.invariant-loop

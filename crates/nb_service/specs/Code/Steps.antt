@@ -1,5 +1,4 @@
--- What the code's steps answer while a packet is checked, listed and decoded; no public contract cites
--- this.
+-- What the code's steps answer while a packet is checked, listed and decoded.
 use Rattle.std.specs.Prelude.{◌≡◌, ℕ, ◌+◌, ◌<◌, List, length}
 use Rattle.nb_service.specs.declared.fault.ServiceFault.{ServiceFault}
 use Rattle.nb_service.specs.declared.fault.ServiceFault.TheVariants.{NoMemory}

@@ -1,4 +1,4 @@
--- What the code's own functions say of a packet while it is read; no public contract cites this.
+-- What the code's own functions say of a packet while it is read.
 use Rattle.std.specs.Prelude.{ℕ, ◌≤◌, List, length}
 use Rattle.nb_names.specs.Labels.{StandsAt}
 use Rattle.nb_datagram.specs.declared.form.Form.{Form}

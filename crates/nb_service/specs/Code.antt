@@ -1,0 +1,4 @@
+-- Words of the code's own steps and views (our choice). They are no part of what a packet is: each is held
+-- against the definitions by a contract.
+pub mod Steps
+pub mod Pieces

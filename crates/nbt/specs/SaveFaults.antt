@@ -14,7 +14,7 @@ use Rattle.nb_member.specs.Member.{MemberValue}
 use Rattle.nb_member.specs.Taking.{Takes}
 use Rattle.nbt.specs.declared.fault.Fault.{Fault}
 use Rattle.nbt.specs.declared.fault.Fault.TheVariants.{Arguments, Full, Write, Memory}
-use Rattle.nbt.specs.Input.{IsCut}
+use Rattle.nb_names.specs.Devices.{ShowsUnread}
 use Rattle.nbt.specs.Lines.{IsEndFault, IsLineFault}
 use Rattle.nbt.specs.Saving.{TakesLine, new_saver}
 use Rattle.nbt.specs.Settings.{HaveNoKeys}
@@ -61,7 +61,7 @@ pub record StopsSaving (IsKeys : ℕ → Type 0) (old_in new_in : Option (List �
   pub keys : ℕ
   pub read : Consumes old_in new_in bytes
   pub whole : is_whole ≡ true → IsAtEnd new_in × (length bytes ≤ MAX_INPUT)
-  pub cut : is_whole ≡ false → IsCut bytes old new
+  pub cut : is_whole ≡ false → ShowsUnread bytes old new
   pub given : IsKeys keys
   pub stops : StopsTaking is_whole 1 (new_saver keys) (take MAX_INPUT bytes) fault
 

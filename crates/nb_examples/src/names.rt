@@ -1,6 +1,7 @@
 //! The calls of nb_names.
 
 mod devices;
+mod lines;
 pub mod values;
 
 use crate::byte_text::{bytes_of, text_of_bytes};
@@ -28,6 +29,11 @@ pub fn answer(alloc: Global, call: &str, words: &mut Words<'_>) -> Result<String
         "from_domain" => from_domain(alloc, words),
         "counted_read" => devices::read(alloc, words),
         "counted_write" => devices::written(alloc, words),
+        "read_some" => devices::some_read(alloc, words),
+        "read_input" => devices::input(alloc, words),
+        "write_some" => devices::some_written(alloc, words),
+        "write_whole" => devices::whole_written(alloc, words),
+        "split_line" => lines::split(alloc, words),
         _ => values::answer(alloc, call, words),
     }
 }

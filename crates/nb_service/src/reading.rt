@@ -1,4 +1,6 @@
 //! Questions and records, read where they stand in a packet.
+//!
+//! They are read in line with their callers: a check then makes no copy of what it doesn't keep.
 ghost use Rattle.std.specs.Prelude.{◌≡◌, ◌≤◌, ◌+◌, length, IfOk, IfErr};
 ghost use Rattle.nb_service.specs.Packet.{QuestionAt, RdataAt, RecordAt};
 ghost use Rattle.nb_service.specs.Record.{rdata_of};
@@ -19,6 +21,7 @@ const QUESTION_FIELDS: usize = 4;
 const RECORD_FIELDS: usize = 10;
 
 /// The question that stands at an offset, and the offset after it. No memory is taken.
+#[inline(always)]
 pub(crate) fn read_question(
     names: &NameReader<'_, '_>,
     at: usize,
@@ -41,6 +44,7 @@ pub(crate) fn read_question(
 }
 
 /// The RDATA of a record of a kind: the `size` bytes at `begin`.
+#[inline(always)]
 fn read_rdata<'a>(
     names: &NameReader<'a, '_>,
     begin: usize,
@@ -63,6 +67,7 @@ fn read_rdata<'a>(
 }
 
 /// The record that stands at an offset, and the offset after it. No memory is taken.
+#[inline(always)]
 pub(crate) fn read_record<'a>(
     names: &NameReader<'a, '_>,
     at: usize,

@@ -33,8 +33,8 @@ took_line m new line said reads takes = record { said = said; reads = reads; tak
 pub took_more : (first now next new : MemberValue) (capture rest line after : List ℕ) → rest ≡ line ++ 10 ∷ after → IsLine line
     → TakesLine now line next → ((new : MemberValue) → TakesLines now rest new → TakesLines first capture new)
     → TakesLines next after new → TakesLines first capture new
-took_more first now next new capture rest line after parts is_line takes before behind =
-    before new (subst (λ (bytes : List ℕ). TakesLines now bytes new) (sym parts) (more line after is_line takes behind))
+took_more first now next new capture rest line after parts is_line takes before after_it =
+    before new (subst (λ (bytes : List ℕ). TakesLines now bytes new) (sym parts) (more line after is_line takes after_it))
 
 -- a line is taken before the one that isn't
 pub stops_later : (is_whole : Bool) (first now next : MemberValue) (capture rest line after : List ℕ) (number : ℕ) (fault : Fault)

@@ -3,7 +3,7 @@ use Rattle.std.proofs.Common.{◌≡◌, ◌≤◌, ◌<◌, ◌+◌, ◌++◌, 
 use Rattle.std.proofs.lemmas.List.{append-nil}
 use Rattle.nb_table.specs.Limits.{TableValue}
 use Rattle.nbt.specs.declared.fault.Fault.{Fault}
-use Rattle.nbt.specs.Tables.{IsFirstLine, IsTableLine, IsTableFault, HasLines, AreTables, TablesFail, none, more, no_table, one_more, here, behind}
+use Rattle.nbt.specs.Tables.{IsFirstLine, IsTableLine, IsTableFault, HasLines, AreTables, TablesFail, none, more, no_table, one_more, here, later}
 
 -- the lines before the rest are counted
 pub record IsCounting (text rest : List ℕ) (count : ℕ) : Type 0 where
@@ -48,9 +48,9 @@ read_more keys number text rest line after ts new t is_first size is_table pushe
   found = λ us later.
       subst (λ (all : List TableValue). AreTables keys text all) (sym (ap (λ xs. xs ++ us) pushed ∙ append_assoc ts (t ∷ []) us))
       (before.found (t ∷ us) (one_more rest line after t us is_first is_table later));
-  fails = λ fault n is later.
+  fails = λ fault n is fails.
       let next : n ≡ 1 + (number + 1) = omega (arith, is) in
-      before.fails fault (number + 1) refl (behind (number + 1) rest line after t fault is_first is_table (subst (λ (k : ℕ). TablesFail keys k after fault) next later));
+      before.fails fault (number + 1) refl (later (number + 1) rest line after t fault is_first is_table (subst (λ (k : ℕ). TablesFail keys k after fault) next fails));
 }
 
 pub read_all : (keys number : ℕ) (text rest : List ℕ) (ts : List TableValue) → rest ≡ [] → IsReadingTables keys text rest number ts → AreTables keys text ts

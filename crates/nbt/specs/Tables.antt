@@ -37,7 +37,7 @@ pub record IsTableLine (keys : ℕ) (line : List ℕ) (t : TableValue) : Type 0 
   pub keeps : KeepsLimits t
 
 -- IsTableFault keys number line fault: why line `number` is no table: it is empty or no hexadecimal, or its
--- bytes aren't loaded, for another reason than want of memory
+-- bytes aren't loaded, for another reason than that memory ran out
 abbrev pub IsTableFault : ℕ → ℕ → List ℕ → Fault → Type 0
 IsTableFault keys number line (Line n) = (n ≡ number) × ((line ≡ []) ⊎ IsErr (decode_of line))
 IsTableFault keys number line (Load fault) =
@@ -67,7 +67,7 @@ pub data AreTables (keys : ℕ) : List ℕ → List TableValue → Type 0 where
 pub data TablesFail (keys : ℕ) : ℕ → List ℕ → Fault → Type 0 where
   here : (number : ℕ) (text line rest : List ℕ) (fault : Fault) → IsFirstLine text line rest
       → IsTableFault keys number line fault → TablesFail keys number text fault
-  behind : (number : ℕ) (text line rest : List ℕ) (t : TableValue) (fault : Fault) → IsFirstLine text line rest
+  later : (number : ℕ) (text line rest : List ℕ) (t : TableValue) (fault : Fault) → IsFirstLine text line rest
       → IsTableLine keys line t → TablesFail keys (1 + number) rest fault → TablesFail keys number text fault
 
 -- ---- what is made of the tables

@@ -1,4 +1,4 @@
--- The command line takes a subcommand that may stand alone, and clap fails for want of memory alone then.
+-- The command line takes a subcommand that may stand alone, and clap fails then only where memory ran out.
 use Rattle.std.proofs.Common.{◌≡◌, ◌≢◌, inl, inr, [], ◌∷◌, true, refl, codes, ap, ◌∙◌, ℕ, List, Option}
 use Rattle.clap.specs.Words.{takes, Text}
 use Rattle.clap.proofs.OnLiterals.{clap_on_literals}

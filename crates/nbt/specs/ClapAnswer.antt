@@ -8,7 +8,7 @@ use Rattle.nbt.specs.declared.clap_answer.ClapAnswer.TheVariants.{Asked, Misused
 use Rattle.nbt.specs.declared.status.Status.{Status}
 use Rattle.nbt.specs.declared.status.Status.TheVariants.{Done, BadUsage, Failed}
 
--- help and the version are asked for; all else but want of memory is a bad command line
+-- help and the version are asked for; all else is a bad command line, unless memory ran out
 abbrev pub answer_to : ErrorKind → ClapAnswer
 answer_to DisplayHelp = Asked
 answer_to DisplayVersion = Asked

@@ -24,7 +24,7 @@ use Rattle.nbt.specs.Settings.{HaveNoKeys, program_settings}
 abbrev pub AreTexts : ArgMatches → List (List ℕ) → Type 0
 AreTexts matches texts = option_map raw_values (matched_of (found_of matches) (codes "NAME")) ≡ Some texts
 
--- AddsName old text new: the text stands for a name that is held already, or is now held behind the others,
+-- AddsName old text new: the text stands for a name that is held already, or is now held after the others,
 -- which are fewer than a station holds
 pub record AddsName (old : List NetbiosName) (text : List ℕ) (new : List NetbiosName) : Type 0 where
   pub name : NetbiosName

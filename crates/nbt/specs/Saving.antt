@@ -1,4 +1,4 @@
--- What `nbt save` makes of a capture: a member without names takes its payloads of port 138 and looks at
+-- What `nbt save` makes of a capture: a member without names takes its payloads of port 138 and sets
 -- the clock at its ticks (our choice).
 use Rattle.std.specs.Prelude.{◌≡◌, ◌≢◌, ◌⊎◌, ◌<◌, ◌≤◌, ℕ, List, [], ◌∷◌, length, Option, None, Some, Result, Ok, Err}
 use Rattle.std.specs.FinMap as maps

@@ -67,7 +67,7 @@ fn tell_same<W: Write>(
     second: &Table,
     output: &mut Output<W>,
 ) -> Result<Status, Fault>
-    ensures told { IfOk result (λ status. Tells first.now.contents second.now.contents status
+    ensures printed { IfOk result (λ status. Tells first.now.contents second.now.contents status
         (W.contents output.old.inner) (W.contents output.new.inner)) }
     ensures status { IfOk result (λ status. status ≢ Status.BadUsage) }
     ensures fault { IfErr result (λ fault. fault ≡ Fault.Write) }

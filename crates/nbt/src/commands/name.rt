@@ -49,7 +49,7 @@ pub fn run_name<W: Write>(
 ///
 /// # Errors
 ///
-/// [`Fault::Text`] where the text is no name's, [`Fault::Memory`] where memory ran out; nothing
+/// [`Fault::Text`] where the text is of no name, [`Fault::Memory`] where memory ran out; nothing
 /// is printed then. [`Fault::Write`] where the output failed.
 pub fn print_spelling<W: Write>(
     alloc: Global,

@@ -23,7 +23,7 @@ use nb_table::TableFault;
 use std::alloc::Global;
 use std::io::{Read, Write};
 
-/// `nbt save [--keys N]`: reads the whole input, takes its payloads of port 138 and looks at the
+/// `nbt save [--keys N]`: reads the whole input, takes its payloads of port 138 and sets the
 /// clock at its ticks, in a member without names, and prints the member's table in hexadecimal.
 ///
 /// # Errors
@@ -114,7 +114,7 @@ fn take_line(alloc: Global, number: usize, line: &[u8], member: &mut Member) -> 
     take_said(said, member)
 }
 
-/// Has the member take a payload of port 138, or what the clock shows; all else is passed over.
+/// Has the member take a payload of port 138, or set its clock; all else is passed over.
 fn take_said(said: Option<Line>, member: &mut Member) -> Result<(), Fault>
     ensures took { OnOk result (TakesSaid member.old said member.new) }
     ensures fault { IfErr result (λ fault. fault ≢ Fault.Write) }

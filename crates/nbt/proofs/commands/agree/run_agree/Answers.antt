@@ -11,7 +11,7 @@ returns-in-len2-clause-printed g c =
     let items = two_items _ c.first-item.result c.second-item.result c.in-len2.len_at_least c.in-len2.len_below c.first-item.is c.second-item.is in
     IfOk-weaker c.tell_same.result _ _
     (λ status told. compares_tables _ _ _ _ _ _ _ _ c.as_slice-2.ensures.value text.read text.ended text.within c.in_ok-tables.ensures.found (sym tables ∙ items) told)
-    c.tell_same.ensures.told
+    c.tell_same.ensures.printed
 
 pub returns-in-len2-clause-write : goal.returns-in-len2-clause-write
 returns-in-len2-clause-write g c =

@@ -36,11 +36,11 @@ took_line m new line said reads takes = record { said = said; reads = reads; tak
 pub took_more : (first now next new : MemberValue) (capture rest line after : List ℕ) → rest ≡ line ++ 10 ∷ after → IsLine line
     → TakesLine now line next → ((new : MemberValue) → TakesLines now rest new → TakesLines first capture new)
     → TakesLines next after new → TakesLines first capture new
-took_more first now next new capture rest line after parts is_line takes before later =
+took_more first now next new capture rest line after parts is_line takes before rest_taken =
     before new (record {
-      lines = line ∷ later.lines;
-      has = first_line rest line after later.lines parts is_line later.has;
-      takes = more line later.lines takes later.takes;
+      lines = line ∷ rest_taken.lines;
+      has = first_line rest line after rest_taken.lines parts is_line rest_taken.has;
+      takes = more line rest_taken.lines takes rest_taken.takes;
     })
 
 -- what follows the last line feed was taken

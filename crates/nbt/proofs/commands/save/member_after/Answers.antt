@@ -7,7 +7,7 @@ use Rattle.nbt.proofs.commands.save.member_after.Goals as goal
 pub loop-line-preserved : goal.loop-line-preserved
 loop-line-preserved c = record {
   counted = omega (arith, c.loop-line.invariant.counted, c.in-Some.ensures.shorter);
-  took = λ new behind. took_more _ _ _ new _ _ c.in-Some.line.now c.in-Some.after.now c.in-Some.ensures.found c.in-Some.ensures.first c.in_ok-take_line.ensures.took c.loop-line.invariant.took behind;
+  took = λ new taken. took_more _ _ _ new _ _ c.in-Some.line.now c.in-Some.after.now c.in-Some.ensures.found c.in-Some.ensures.first c.in_ok-take_line.ensures.took c.loop-line.invariant.took taken;
   stops = λ fault stops. stops_later _ _ _ _ _ _ c.in-Some.line.now c.in-Some.after.now _ fault c.in-Some.ensures.found c.in-Some.ensures.first c.in_ok-take_line.ensures.took c.loop-line.invariant.stops stops;
 }
 

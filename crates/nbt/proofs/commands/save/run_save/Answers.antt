@@ -31,7 +31,7 @@ returns-in_default-clause-fault g c =
 pub returns-in_err-input-clause-fault : goal.returns-in_err-input-clause-fault
 returns-in_err-input-clause-fault g c =
     let p = err_from_is_err_and c.from_residual.result c.from_residual.ensures.1 in
-    rw (p.1, p.2) (elsewhere (inl c.in_err-input.ensures.fault))
+    rw p.1 (elsewhere (inl p.2))
 
 pub returns-in_err-member-clause-fault : goal.returns-in_err-member-clause-fault
 returns-in_err-member-clause-fault g c =

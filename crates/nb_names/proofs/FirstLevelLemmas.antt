@@ -1,7 +1,7 @@
 -- Letters, two at a time.
-use Rattle.std.proofs.Common.{◌≡◌, ◌<◌, ◌≤◌, ◌+◌, ◌*◌, ◌/◌, ◌%◌, ℕ, List, [], ◌∷◌, ◌++◌, length, get_or, set, take, refl, ap, sym, ◌∙◌, arith, inl, inr, append_assoc, length-set}
-use Rattle.std.proofs.lemmas.List.{take_more, take_more_set, take_all}
-use Rattle.std.proofs.lemmas.Bool.{cases_lt}
+use Rattle.std.proofs.Common.{◌≡◌, ◌<◌, ◌≤◌, ◌+◌, ◌*◌, ◌/◌, ◌%◌, ◌&&◌, nat_lt, ℕ, Bool, true, List, [], ◌∷◌, ◌++◌, length, get_or, set, take, drop, refl, ap, sym, ◌∙◌, arith, inl, inr, append_assoc, length-set}
+use Rattle.std.proofs.lemmas.List.{take_more, take_more_set, take_all, drop_more, length-drop}
+use Rattle.std.proofs.lemmas.Bool.{cases_lt, and_parts, ltb-true}
 use Rattle.nb_names.specs.FirstLevel.{letter, letters, IsLetter}
 
 pub letters-append : (xs ys : List ℕ) → letters (xs ++ ys) ≡ letters xs ++ letters ys
@@ -70,3 +70,62 @@ letters_two_more ls i high low h l first second done k below =
         | inr two ↦ let at : k ≡ 2 * i + 1 = omega arith in (omega (arith, ap (λ (n : ℕ). get_or ls n 0) at, second), omega (arith, ap (λ (n : ℕ). get_or ls n 0) at, second))
       ]
     ]
+
+-- ---- letters, a pair at a time
+
+-- LettersRead ls bytes rest good i: the letters of so many pairs are read into the bytes, or some byte of theirs is no
+-- letter
+pub record LettersRead (ls bytes rest : List ℕ) (good : Bool) (i : ℕ) : Type 0 where
+  pub size : length ls ≡ 2 * length bytes
+  pub behind : rest ≡ drop (2 * i) ls
+  pub left : length rest + 2 * i ≡ length ls
+  pub read : good ≡ true → take (2 * i) ls ≡ letters (take i bytes)
+
+-- no pair is read yet
+pub no_pair : (ls bytes : List ℕ) → length ls ≡ 2 * length bytes → LettersRead ls bytes ls true 0
+no_pair ls bytes size = record {
+  size = size;
+  behind = refl;
+  left = omega arith;
+  read = λ _. refl;
+}
+
+-- what is left, at a whole pair
+drop_pair : (ls : List ℕ) (i : ℕ) → 2 * i + 1 < length ls
+    → drop (2 * i) ls ≡ get_or ls (2 * i) 0 ∷ get_or ls (2 * i + 1) 0 ∷ drop (2 * (i + 1)) ls
+drop_pair ls i fits =
+    let a = drop_more ls (2 * i) 0 (omega arith) in
+    let b = drop_more ls (2 * i + 1) 0 (omega arith) in
+    let two : 2 * i + 1 + 1 ≡ 2 * (i + 1) = omega arith in
+    rw (a, b, two) refl
+
+-- a byte that is 'A' plus a half
+letter_of : (byte half : ℕ) → byte < 256 → half ≡ (byte + 191) % 256 → half < 16 → byte ≡ letter half
+letter_of byte half small is less = omega (arith, small, is, less)
+
+-- one pair more is read
+pub pair_more : (ls bytes rest pair behind : List ℕ) (good : Bool) (i high low : ℕ) → LettersRead ls bytes rest good i
+    → i < length bytes → ((k : ℕ) → get_or ls k 0 < 256) → pair ≡ take 2 rest → behind ≡ drop 2 rest
+    → high ≡ (get_or pair 0 0 + 191) % 256 → low ≡ (get_or pair 1 0 + 191) % 256
+    → LettersRead ls (set bytes i ((high * 16 % 256 + low) % 256)) behind (good && nat_lt high 16 && nat_lt low 16) (i + 1)
+pair_more ls bytes rest pair behind good i high low so_far fits small is_pair is_behind ah al =
+    let size = so_far.size in
+    let at = so_far.behind ∙ drop_pair ls i (omega (arith, size, fits)) in
+    let whole : pair ≡ get_or ls (2 * i) 0 ∷ get_or ls (2 * i + 1) 0 ∷ [] = is_pair ∙ ap (take 2) at in
+    let first : get_or pair 0 0 ≡ get_or ls (2 * i) 0 = ap (λ (xs : List ℕ). get_or xs 0 0) whole in
+    let second : get_or pair 1 0 ≡ get_or ls (2 * i + 1) 0 = ap (λ (xs : List ℕ). get_or xs 1 0) whole in
+    let after : behind ≡ drop (2 * (i + 1)) ls = is_behind ∙ ap (drop 2) at in
+    record {
+      size = rw (length-set bytes i ((high * 16 % 256 + low) % 256)) size;
+      behind = after;
+      left = rw (after, length-drop (2 * (i + 1)) ls) (omega (arith, size, fits));
+      read = λ e.
+          let parts = and_parts (good && nat_lt high 16) (nat_lt low 16) e in
+          let front = and_parts good (nat_lt high 16) parts.0 in
+          let h : high < 16 = ltb-true high 16 front.1 in
+          let l : low < 16 = ltb-true low 16 parts.1 in
+          let byte : (high * 16 % 256 + low) % 256 ≡ high * 16 + low = omega (arith, h, l) in
+          let one = letter_of (get_or ls (2 * i) 0) high (small (2 * i)) (rw first at ah) h in
+          let two = letter_of (get_or ls (2 * i + 1) 0) low (small (2 * i + 1)) (rw second at al) l in
+          rw byte (bytes_turn ls bytes i high low (omega (arith, size, fits)) fits h l one two (so_far.read front.0));
+    }

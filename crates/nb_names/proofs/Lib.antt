@@ -18,3 +18,4 @@ pub mod WrittenLemmas
 pub mod OutputLemmas
 pub mod InputLemmas
 pub mod LineLawLemmas
+pub mod HexadecimalLemmas

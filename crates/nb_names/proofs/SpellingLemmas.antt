@@ -1,9 +1,10 @@
 -- A spelling gives its labels back.
-use Rattle.std.proofs.Common.{◌≡◌, ℕ, ◌+◌, ◌-◌, ◌<◌, ◌≤◌, List, [], ◌∷◌, ◌++◌, length, take, drop, zero, suc, refl, ◌∙◌, ap, append_assoc, arith, length-append, append-nil, ◌⊎◌, ◌≢◌}
+use Rattle.std.proofs.Common.{◌≡◌, ℕ, ◌+◌, ◌-◌, ◌<◌, ◌≤◌, List, [], ◌∷◌, ◌++◌, length, take, drop, zero, suc, refl, ◌∙◌, ap, append_assoc, arith, length-append, append-nil, ◌⊎◌, ◌≢◌, Option, Some, None}
+use Rattle.std.specs.Option.{MatchOption}
 use Rattle.std.specs.List.{AllByRecursion}
 use Rattle.std.proofs.Math.Seq.{take-append_seam, drop-append_seam}
 use Rattle.nb_names.specs.DomainName.{spelling, AreBytes, AreByteLabels, IsLabel, IsDomain}
-use Rattle.nb_names.specs.Code.Spelled.{labels_within, labels_of, IsSpelled}
+use Rattle.nb_names.specs.Code.Spelled.{labels_within, labels_of, IsSpelled, BeginsWith}
 
 -- with fuel for them all, the labels that a spelling has
 pub labels_within-spelling : (n : ℕ) (ls : List (List ℕ)) → AllByRecursion IsLabel ls → length (spelling ls) ≤ n → labels_within n (spelling ls) ≡ ls
@@ -96,3 +97,12 @@ pub AreByteLabels-spelled : (ls : List (List ℕ)) → AreBytes (spelling ls) �
 AreByteLabels-spelled [] a = tt
 AreByteLabels-spelled (l ∷ ls) a =
     let parts = AllByRecursion-split _ l (spelling ls) a.1 in (parts.0, AreByteLabels-spelled ls parts.1)
+
+-- a domain name's first label, and the spelling of the others
+pub split_is : {S : Type 0} (ls : List (List ℕ)) (label others : S → List ℕ) (split : Option S) → IsDomain ls
+    → MatchOption split (ls ≡ []) (λ s. BeginsWith ls (label s) (others s))
+    → MatchOption split (ls ≡ []) (λ s. (ls ≡ label s ∷ labels_of (others s)) × IsSpelled (others s))
+split_is ls label others None domain h = h
+split_is ls label others (Some s) domain h =
+    let rest = IsDomain-rest ls (label s) h.0 h.1 domain in
+    (rw (labels_of-spelled h.0 (others s) rest h.2) h.1, spelled (others s) h.0 rest h.2)

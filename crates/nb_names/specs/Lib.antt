@@ -9,6 +9,8 @@ pub mod Numbers
 pub mod PacketFacts
 pub mod FaultTexts
 pub mod NameText
+pub mod Hexadecimal
+pub mod HexadecimalFacts
 pub mod TextFaults
 pub mod Code
 pub mod Tally

@@ -4,6 +4,7 @@ ghost use Rattle.std.proofs.Common.{rules};
 ghost use Rattle.std.specs.Cmp.{partial_order_from_own_ties};
 ghost use Rattle.std.specs.Cmp.Rules.{comparing};
 ghost use Rattle.std.specs.Ordering.{as_partial_cmp};
+ghost use Rattle.nb_names.specs.Code.Spelled.{labels_of, IsSpelled};
 ghost use Rattle.nb_names.specs.DomainName.{spelling, domain_eq, domain_cmp, AreBytes, AreByteLabels, IsLabel, IsDomain, Pushes};
 ghost use Rattle.nb_names.specs.declared.limits.TheConstants.{MAX_SPELLING};
 
@@ -118,16 +119,23 @@ impl DomainName {
         DomainName { bytes }
     }
 
-    /// The first label, and the name of the labels after it.
-    pub(crate) fn split_first(&self) -> Option<(&[u8], DomainName)>
+    /// The first label, and the spelling of the labels after it.
+    pub(crate) fn split_first(&self) -> Option<(&[u8], &[u8])>
         ensures split { MatchOption result (self.now ≡ [])
-            (λ split. self.now ≡ split.0.now ∷ split.1) }
+            (λ split. (self.now ≡ split.0.now ∷ labels_of split.1.now) × IsSpelled split.1.now) }
         ensures domain { IsDomain self.now }
     {
-        let (label, rest) = split_label(self.bytes.as_slice())?;
+        split_label(self.bytes.as_slice())
+    }
+
+    /// The name with this spelling.
+    pub(crate) fn of_spelling(spelled: &[u8]) -> DomainName
+        requires { IsSpelled spelled.now }
+        ensures { result ≡ labels_of spelled.now }
+    {
         let mut bytes = ArrayVec::new();
-        bytes.try_extend_from_slice(rest).unwrap();
-        Some((label, DomainName { bytes }))
+        bytes.try_extend_from_slice(spelled).unwrap();
+        DomainName { bytes }
     }
 
     /// Adds a label after the others.

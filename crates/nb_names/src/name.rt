@@ -104,6 +104,7 @@ impl Name {
     /// [`NotNetbios`] where no name has them. A letter in lower case is none (our choice).
     ///
     /// RFC 1001 section 14.1.
+    #[inline(always)]
     pub fn from_domain(domain: &DomainName) -> Result<Name, NotNetbios>
         ensures found { IfOk result (λ name. labels_of_name name ≡ domain.now) }
         ensures name { IfOk result IsByteName }
@@ -118,7 +119,10 @@ impl Name {
             return Err(NotNetbios { place: 0 });
         }
         match bytes_of(first) {
-            Ok(bytes) => Ok(Name::new(bytes, Scope::of_domain(rest))),
+            Ok(bytes) => {
+                let scope = Scope::of_domain(DomainName::of_spelling(rest));
+                Ok(Name::new(bytes, scope))
+            }
             Err(place) => Err(NotNetbios { place: 1 + place }),
         }
     }

@@ -1,5 +1,5 @@
 //! Names, read where they stand in a packet.
-ghost use Rattle.std.specs.Prelude.{◌≡◌, ◌≤◌, ℕ, List, length, IfOk, IfErr, IsOkAnd};
+ghost use Rattle.std.specs.Prelude.{◌≡◌, ◌≤◌, [], ℕ, List, length, IfOk, IfErr, IsOkAnd};
 ghost use Rattle.nb_names.specs.Code.PointerEnds.{AreEnds};
 ghost use Rattle.nb_names.specs.Labels.{NameAt};
 ghost use Rattle.nb_names.specs.Name.{NetbiosName, IsName, IsByteName, labels_of_name};
@@ -28,6 +28,28 @@ pub(crate) fn read_along(
     ensures fault { IfErr result (FaultAt packet.now pointers at) }
 {
     let mut name = DomainName::root();
+    let next = read_labels(packet, ends, at, pointers, &mut name)?;
+    Ok((name, next))
+}
+
+/// Reads the labels at an offset of a packet into a name without labels, and answers the offset
+/// that follows them. Where it fails, the name has some first labels.
+#[inline]
+fn read_labels(
+    packet: &[u8],
+    ends: &[u16],
+    at: usize,
+    pointers: Pointers,
+    name: &mut DomainName,
+) -> Result<usize, NameFault>
+    requires ends { AreEnds packet.now ends.now }
+    requires root { name.old ≡ [] }
+    ensures found { IfOk result (NameAt packet.now pointers at name.new) }
+    ensures only { (labels : List (List ℕ)) (next : ℕ) → NameAt packet.now pointers at labels next →
+        IsOkAnd result (λ read. (name.new ≡ labels) × (read ≡ next)) }
+    ensures within { IfOk result (λ read. read ≤ length packet.now) }
+    ensures fault { IfErr result (FaultAt packet.now pointers at) }
+{
     let mut start = at;
     let mut here = at;
     let mut next = None;
@@ -35,7 +57,7 @@ pub(crate) fn read_along(
         match length_byte_at(packet, here) {
             LengthByte::Cut => return Err(NameFault::Truncated(at.max(packet.len()))),
             LengthByte::Reserved => return Err(NameFault::ReservedLabel(here)),
-            LengthByte::End => return Ok((name, next.unwrap_or(here + 1))),
+            LengthByte::End => return Ok(next.unwrap_or(here + 1)),
             LengthByte::Label(size) => {
                 let behind = here + 1 + size;
                 match name.push(&packet[here + 1..behind]) {
@@ -110,7 +132,8 @@ pub fn read_name(packet: &[u8], at: usize, pointers: Pointers) -> Result<(Name, 
     // Which fault it is, and where.
     ensures fault { IfErr result (NetbiosFaultAt packet.now pointers at) }
 {
-    let (domain, next) = read_domain(packet, at, pointers)?;
+    let mut domain = DomainName::root();
+    let next = read_labels(packet, &[], at, pointers, &mut domain)?;
     match Name::from_domain(&domain) {
         Ok(name) => Ok((name, next)),
         Err(fault) => Err(NameFault::NotNetbios(fault.place)),

@@ -30,6 +30,20 @@ pub fn name_text(alloc: Global, name: &Name) -> Result<String, NoMemory>
     Ok(text)
 }
 
+/// Adds the text of a name, as [`name_text`] has it.
+///
+/// # Errors
+///
+/// [`NoMemory`] where memory ran out; some of the text may then be added.
+///
+/// The form is our choice.
+pub fn push_name(text: &mut String, name: &Name) -> Result<(), NoMemory>
+    ensures { OnOk result (string_bytes text.new ≡ string_bytes text.old ++ written name.now) }
+{
+    push_bytes(text, name.bytes())?;
+    push_labels(text, name.scope().as_domain(), 0)
+}
+
 /// The text of a domain name: the items of its labels with `.` between them; the root is `.`.
 ///
 /// # Errors

@@ -7,10 +7,10 @@ use Rattle.nb_names.proofs.LabelsLemmas.{one_reading, next_within}
 use Rattle.nb_names.proofs.FaultLemmas.{no_name}
 use Rattle.nb_names.proofs.ReadingLemmas.{reading_begun, reading_ended, reading_fails, label_turn, label_past, pointer_turn}
 use Rattle.nb_names.proofs.ChainLemmas.{chain_turns, ends_lower}
-use Rattle.nb_names.proofs.reading.read_along.Goals as goal
+use Rattle.nb_names.proofs.reading.read_labels.Goals as goal
 
 pub way-init : goal.way-init
-way-init c = rw c.root-name.ensures (reading_begun c.args.packet.now c.args.pointers c.args.at)
+way-init c = rw c.requires.root (reading_begun c.args.packet.now c.args.pointers c.args.at)
 
 pub returns-in-Cut-clause-fault : goal.returns-in-Cut-clause-fault
 returns-in-Cut-clause-fault c = reading_fails _ _ _ _ _ _ _ _ c.way.invariant (rw c.max.ensures (cut c.in-Cut.ensures))
@@ -41,11 +41,11 @@ returns-then-target-start-clause-only c = no_name _ _ _ _ (reading_fails _ _ _ _
 
 pub way-preserved : goal.way-preserved
 way-preserved c =
-    chain_turns _ _ _ _ _ _ _ c.in-Followed.is (c.end_from-start.ensures c.args.packet.now c.requires)
+    chain_turns _ _ _ _ _ _ _ c.in-Followed.is (c.end_from-start.ensures c.args.packet.now c.requires.ends)
     (pointer_turn _ _ _ _ _ _ _ _ _ c.way.invariant c.in-Followed.is c.in-Pointer.ensures c.if-target-start.false c.unwrap_or-in-Pointer.ensures)
 
 pub way-smaller : goal.way-smaller
-way-smaller c = omega (arith, ends_lower _ _ _ (c.end_from-start.ensures c.args.packet.now c.requires))
+way-smaller c = omega (arith, ends_lower _ _ _ (c.end_from-start.ensures c.args.packet.now c.requires.ends))
 
 pub returns-in-End-clause-only : goal.returns-in-End-clause-only
 returns-in-End-clause-only c labels next there =

@@ -1,6 +1,6 @@
 use Rattle.std.proofs.Common.{arith, length-set}
 use Rattle.nb_names.proofs.FirstLevelLemmas.{bytes_turn, all_letters, letters_two_more}
-use Rattle.nb_names.proofs.first_level.bytes_of.Goals as goal
+use Rattle.nb_names.proofs.first_level.bytes_in_turn.Goals as goal
 
 pub loop-place-preserved : goal.loop-place-preserved
 loop-place-preserved c =

@@ -1,6 +1,6 @@
 use Rattle.std.proofs.Common.{◌≡◌, ◌*◌, ◌<◌, ℕ, take, get_or, length}
 use Rattle.nb_names.specs.FirstLevel.{letters, IsLetter}
-use Rattle.nb_names.proofs.first_level.bytes_of.Given as goal
+use Rattle.nb_names.proofs.first_level.bytes_in_turn.Given as goal
 
 abbrev pub invariant-loop-place : goal.invariant-loop-place
 invariant-loop-place l = record {

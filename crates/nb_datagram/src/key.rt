@@ -32,8 +32,11 @@ impl Ord for Key {
     ghost matches_eq = { Prim.search (comparing, rules) };
 
     fn cmp(&self, other: &Self) -> Ordering {
-        let port_and_id = self.port.cmp(&other.port).then(self.id.cmp(&other.id));
-        self.ip.cmp(&other.ip).then(port_and_id)
+        self.ip.cmp(&other.ip).then_with(|| {
+            self.port
+                .cmp(&other.port)
+                .then_with(|| self.id.cmp(&other.id))
+        })
     }
 }
 

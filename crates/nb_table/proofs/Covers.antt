@@ -2,4 +2,3 @@
 pub mod PlacedLemmas
 pub mod PutLemmas
 pub mod PlacesLemmas
-pub mod UnitingLemmas

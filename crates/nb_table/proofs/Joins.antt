@@ -1,3 +1,5 @@
 -- On specs/Join: values joined one after the other.
 pub mod EachLemmas
+pub mod GotLemmas
+pub mod TakenBackLemmas
 pub mod JoinLemmas

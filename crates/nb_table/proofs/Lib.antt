@@ -8,5 +8,6 @@ mod Limits
 mod Joins
 mod TableReads
 mod Runs
+mod KeptRuns
 mod SavedBytes
 mod SavedReading

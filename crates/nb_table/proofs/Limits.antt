@@ -2,3 +2,4 @@
 pub mod LimitsLemmas
 pub mod FittingLemmas
 pub mod MergingLemmas
+pub mod HandedLemmas

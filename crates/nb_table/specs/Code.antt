@@ -3,8 +3,14 @@
 pub mod Change
 pub mod State
 pub mod Fitting
+pub mod Parties
 pub mod Places
 pub mod Plain
 pub mod Each
+pub mod TakenBack
+pub mod Handed
+pub mod Part
 pub mod SavedRuns
 pub mod SavedTables
+pub mod RunSteps
+pub mod RunCodes

@@ -15,6 +15,7 @@ pub mod Plain
 pub mod Change
 pub mod Insert
 pub mod State
+pub mod RunCount
 pub mod Equal
 pub mod FaultTexts
 pub mod Runs

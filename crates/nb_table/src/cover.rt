@@ -1,21 +1,18 @@
 //! Covers: what is known of a datagram's data.
 //!
-//! That the bytes are kept in a map by place is known in this folder alone.
+//! That the bytes are kept as runs is known in this folder alone, and by what loads them.
 ghost use Rattle.std.specs.Prelude.{◌≡◌, IfOk};
 ghost use Rattle.nb_datagram.specs.Fragment.{core_of};
 ghost use Rattle.nb_table.specs.Slot.{Held};
 ghost use Rattle.nb_table.specs.Cover.{cover_of};
 
 mod joining;
-mod placed;
 mod places;
-mod running;
-mod united;
+pub(crate) mod runs;
 
 use nb_datagram::Fragment;
 use nb_names::NoMemory;
 pub(crate) use places::Places;
-pub(crate) use running::Run;
 use std::alloc::Global;
 use std::marker::Model;
 

@@ -5,13 +5,14 @@ ghost use Rattle.nb_datagram.specs.declared.limits.TheConstants.{MAX_LENGTH};
 ghost use Rattle.nb_table.specs.Slot.{Spoilt, Held};
 ghost use Rattle.nb_table.specs.Entry.{facts_of, join_entry};
 ghost use Rattle.nb_table.specs.Limits.{IsShort};
-ghost use Rattle.nb_table.specs.Code.Change.{KeyChange};
+ghost use Rattle.nb_table.specs.Code.Change.{KeyChange, change_of};
 ghost use Rattle.nb_table.specs.Code.State.{IsEntryState};
+ghost use Rattle.nb_table.specs.RunCount.{entry_run_count};
 
 mod joining;
 mod whole;
 
-use crate::change::Change;
+use crate::change::BoxedChange;
 use crate::facts::Facts;
 use crate::state::State;
 use nb_datagram::Fragment;
@@ -67,11 +68,14 @@ impl Entry {
     }
 
     /// What one fragment says of its datagram, and what that changes at its key, which was new.
-    pub(crate) fn first(alloc: Global, fragment: &Fragment<'_>) -> Result<(Entry, Change), NoMemory>
+    pub(crate) fn first(
+        alloc: Global,
+        fragment: &Fragment<'_>,
+    ) -> Result<(Entry, BoxedChange), NoMemory>
         requires { reach (core_of fragment.now) ≤ MAX_LENGTH }
         ensures entry { IfOk result (λ made. made.0 ≡ Held (facts_of (core_of fragment.now))) }
         ensures change { IfOk result (λ made.
-            KeyChange fragment.now.key None (Some made.0) made.1) }
+            KeyChange fragment.now.key None (Some made.0) (change_of made.1)) }
     {
         let (facts, change) = Facts::first(alloc, fragment)?;
         Ok((Entry { facts: Some(facts) }, change))
@@ -79,13 +83,17 @@ impl Entry {
 
     /// Joins a fragment in place. All memory is taken before anything changes, and none where the
     /// join is spoilt or adds nothing.
-    pub(crate) fn add(&mut self, alloc: Global, fragment: &Fragment<'_>) -> Result<Change, NoMemory>
+    pub(crate) fn add(
+        &mut self,
+        alloc: Global,
+        fragment: &Fragment<'_>,
+    ) -> Result<BoxedChange, NoMemory>
         requires entry { IsShort MAX_LENGTH self.old }
         requires fragment { reach (core_of fragment.now) ≤ MAX_LENGTH }
         ensures joined { OnOk result
             (self.new ≡ join_entry self.old (Held (facts_of (core_of fragment.now)))) }
         ensures change { IfOk result (λ change.
-            KeyChange fragment.now.key (Some self.old) (Some self.new) change) }
+            KeyChange fragment.now.key (Some self.old) (Some self.new) (change_of change)) }
         ensures kept { OnErr result (self.new ≡ self.old) }
         ensures not_spoilt { OnErr result
             (join_entry self.old (Held (facts_of (core_of fragment.now))) ≢ Spoilt) }
@@ -93,13 +101,24 @@ impl Entry {
             (join_entry self.old (Held (facts_of (core_of fragment.now))) ≢ self.old) }
     {
         let Some(facts) = &mut self.facts else {
-            return Ok(Change::Same);
+            return Ok(BoxedChange::Same);
         };
         if !facts.agrees_with(fragment) {
             self.facts = None;
-            return Ok(Change::Spoilt);
+            return Ok(BoxedChange::Spoilt);
         }
         facts.grow(alloc, fragment)
+    }
+
+    /// How many runs its bytes make up, if it isn't spoilt.
+    pub(crate) fn run_count(&self) -> Option<u32>
+        requires { IsShort MAX_LENGTH self.now }
+        ensures { result ≡ entry_run_count self.now }
+    {
+        match &self.facts {
+            Some(facts) => Some(facts.run_count()),
+            None => None,
+        }
     }
 
     /// What is known of the datagram. No memory is taken.

@@ -4,15 +4,19 @@ ghost use Rattle.nb_datagram.specs.Fragment.{core_of};
 ghost use Rattle.nb_datagram.specs.declared.limits.TheConstants.{MAX_LENGTH};
 ghost use Rattle.nb_table.specs.Slot.{Held};
 ghost use Rattle.nb_table.specs.Entry.{AreEntryFacts, FactsFit, facts_agree, facts_of, facts_together};
+ghost use Rattle.nb_table.specs.Cover.{CoversFit, cover_of, covers_together};
 ghost use Rattle.nb_table.specs.Code.Places.{Holds};
+ghost use Rattle.nb_table.specs.Limits.{AreShort};
+ghost use Rattle.nb_table.specs.Runs.{runs_of_map};
 ghost use Rattle.nb_table.specs.Whole.{IsWholeCover, bytes_to, datagram_with};
-ghost use Rattle.nb_table.specs.Code.Change.{KeyChange};
+ghost use Rattle.nb_table.specs.Code.Change.{KeyChange, change_of};
 ghost use Rattle.nb_table.specs.Code.Change.{grown_to as grown};
 
 mod uniting;
 
-use crate::change::Change;
+use crate::change::BoxedChange;
 use crate::cover::Places;
+use crate::parties::Parties;
 use nb_datagram::{Datagram, Fragment, Key, Kind};
 use nb_names::{Bytes, Name, NoMemory};
 use std::alloc::Global;
@@ -22,8 +26,7 @@ use std::marker::Model;
 #[derive(Drop)]
 pub(crate) struct Facts {
     pub(crate) kind: Kind,
-    pub(crate) source: Name,
-    pub(crate) destination: Name,
+    pub(crate) parties: Parties,
     pub(crate) places: Places,
 }
 
@@ -38,8 +41,8 @@ impl Model for Facts {
 
     ghost view = { λ f. record {
       kind = f.kind;
-      source = f.source;
-      destination = f.destination;
+      source = f.parties.source;
+      destination = f.parties.destination;
       cover = f.places;
     } };
 
@@ -47,31 +50,37 @@ impl Model for Facts {
 }
 
 /// What facts that grow come to: the datagram, if they are whole.
-fn grown_to(datagram: Option<Datagram>) -> Change
-    ensures { result ≡ grown datagram }
+fn grown_to(alloc: Global, datagram: Option<Datagram>) -> Result<BoxedChange, NoMemory>
+    ensures { IfOk result (λ change. change_of change ≡ grown datagram) }
 {
     match datagram {
-        Some(datagram) => Change::Whole(datagram),
-        None => Change::Grown,
+        Some(datagram) => Ok(BoxedChange::Whole(Box::new(alloc, datagram)?)),
+        None => Ok(BoxedChange::Grown),
     }
 }
 
 impl Facts {
-    /// The facts of these parts.
-    pub(crate) fn new(kind: Kind, source: Name, destination: Name, places: Places) -> Facts
-        ensures { result ≡ record {
+    /// The facts of these parts. The names are copied.
+    pub(crate) fn new(
+        alloc: Global,
+        kind: Kind,
+        source: &Name,
+        destination: &Name,
+        places: Places,
+    ) -> Result<Facts, NoMemory>
+        ensures { IfOk result (λ facts. facts ≡ record {
           kind = kind;
-          source = source;
-          destination = destination;
+          source = source.now;
+          destination = destination.now;
           cover = places;
-        } }
+        }) }
     {
-        Facts {
+        let parties = Parties::copy(alloc, source, destination)?;
+        Ok(Facts {
             kind,
-            source,
-            destination,
+            parties,
             places,
-        }
+        })
     }
 
     /// What one fragment says.
@@ -79,12 +88,14 @@ impl Facts {
         ensures { IfOk result (λ facts. facts ≡ facts_of (core_of fragment.now)) }
     {
         let places = Places::of(alloc, fragment)?;
-        Ok(Facts {
-            kind: fragment.kind(),
-            source: fragment.source().copied(),
-            destination: fragment.destination().copied(),
+        let kind = fragment.kind();
+        Facts::new(
+            alloc,
+            kind,
+            fragment.source(),
+            fragment.destination(),
             places,
-        })
+        )
     }
 
     /// Whether a fragment doesn't contradict what is known.
@@ -92,8 +103,8 @@ impl Facts {
         ensures { result ≡ facts_agree self.now (facts_of (core_of fragment.now)) }
     {
         self.kind == fragment.kind()
-            && self.source == *fragment.source()
-            && self.destination == *fragment.destination()
+            && *self.parties.source() == *fragment.source()
+            && *self.parties.destination() == *fragment.destination()
             && self.places.agrees_with(fragment)
     }
 
@@ -108,8 +119,8 @@ impl Facts {
           bytes = bytes;
         } }
     {
-        let source = self.source.copied();
-        let destination = self.destination.copied();
+        let source = self.parties.source().copied();
+        let destination = self.parties.destination().copied();
         Datagram::new(key, self.kind, source, destination, bytes).unwrap()
     }
 
@@ -131,13 +142,34 @@ impl Facts {
         }
     }
 
+    /// The datagram of a fragment's key, if the facts are whole with it. No memory is taken where
+    /// they aren't.
+    fn datagram_with(
+        &self,
+        alloc: Global,
+        fragment: &Fragment<'_>,
+    ) -> Result<Option<Datagram>, NoMemory>
+        requires fits { CoversFit self.now.cover (cover_of (core_of fragment.now)) }
+        requires short { (n : ℕ)
+            → (covers_together self.now.cover (cover_of (core_of fragment.now))).end ≡ Some n
+            → n ≤ MAX_LENGTH }
+        ensures { IfOk result (λ datagram. datagram ≡ datagram_with fragment.now.key self.now
+            (bytes_to (covers_together self.now.cover (cover_of (core_of fragment.now))).bytes
+            (covers_together self.now.cover (cover_of (core_of fragment.now))).end)) }
+    {
+        match self.places.whole_with(alloc, fragment)? {
+            Some(bytes) => Ok(Some(self.datagram_from(fragment.key(), bytes))),
+            None => Ok(None),
+        }
+    }
+
     /// Joins a fragment, which doesn't contradict what is known. All memory is taken before
     /// anything changes.
     pub(crate) fn grow(
         &mut self,
         alloc: Global,
         fragment: &Fragment<'_>,
-    ) -> Result<Change, NoMemory>
+    ) -> Result<BoxedChange, NoMemory>
         requires fits { FactsFit self.old (facts_of (core_of fragment.now)) }
         requires short { (n : ℕ)
             → (facts_together self.old (facts_of (core_of fragment.now))).cover.end ≡ Some n
@@ -145,31 +177,44 @@ impl Facts {
         ensures joined { OnOk result
             (self.new ≡ facts_together self.old (facts_of (core_of fragment.now))) }
         ensures change { IfOk result (λ change.
-            KeyChange fragment.now.key (Some (Held self.old)) (Some (Held self.new)) change) }
+            KeyChange fragment.now.key (Some (Held self.old)) (Some (Held self.new))
+            (change_of change)) }
         ensures formed { AreEntryFacts self.new }
         ensures kept { OnErr result (self.new ≡ self.old) }
         ensures more { OnErr result
             (Holds self.old.cover (facts_of (core_of fragment.now)).cover → ⊥) }
     {
         if self.places.holds(fragment) {
-            return Ok(Change::Same);
+            return Ok(BoxedChange::Same);
         }
-        let places = self.places.with(fragment)?;
-        let datagram = self.datagram(alloc, fragment.key(), &places)?;
-        self.places = places;
-        Ok(grown_to(datagram))
+        let datagram = self.datagram_with(alloc, fragment)?;
+        let change = grown_to(alloc, datagram)?;
+        self.places.add(alloc, fragment)?;
+        Ok(change)
     }
 
     /// What one fragment says, and what that changes at its key, which was new.
-    pub(crate) fn first(alloc: Global, fragment: &Fragment<'_>) -> Result<(Facts, Change), NoMemory>
+    pub(crate) fn first(
+        alloc: Global,
+        fragment: &Fragment<'_>,
+    ) -> Result<(Facts, BoxedChange), NoMemory>
         requires { (n : ℕ) → (facts_of (core_of fragment.now)).cover.end ≡ Some n → n ≤ MAX_LENGTH }
         ensures facts { IfOk result (λ made. made.0 ≡ facts_of (core_of fragment.now)) }
         ensures change { IfOk result (λ made.
-            KeyChange fragment.now.key None (Some (Held made.0)) made.1) }
+            KeyChange fragment.now.key None (Some (Held made.0)) (change_of made.1)) }
     {
         let facts = Facts::of(alloc, fragment)?;
         let datagram = facts.datagram(alloc, fragment.key(), &facts.places)?;
-        Ok((facts, grown_to(datagram)))
+        let change = grown_to(alloc, datagram)?;
+        Ok((facts, change))
+    }
+
+    /// How many runs the bytes make up.
+    pub(crate) fn run_count(&self) -> u32
+        requires { AreShort MAX_LENGTH self.now }
+        ensures { result ≡ length (runs_of_map self.now.cover.bytes) }
+    {
+        self.places.run_count() as u32
     }
 
     /// Whether the end and each byte before it are known.
@@ -190,8 +235,8 @@ impl PartialEq for Facts {
 
     fn eq(&self, other: &Self) -> bool {
         self.kind == other.kind
-            && self.source == other.source
-            && self.destination == other.destination
+            && *self.parties.source() == *other.parties.source()
+            && *self.parties.destination() == *other.parties.destination()
             && self.places == other.places
     }
 }

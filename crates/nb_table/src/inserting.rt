@@ -9,10 +9,10 @@ ghost use Rattle.nb_table.specs.Slot.{Held};
 ghost use Rattle.nb_table.specs.Entry.{EntryValue, facts_of, join_entry};
 ghost use Rattle.nb_table.specs.Limits.{Limits, IsShort, IsFull};
 ghost use Rattle.nb_table.specs.Change.{IsChange};
-ghost use Rattle.nb_table.specs.Code.Change.{KeyChange};
+ghost use Rattle.nb_table.specs.Code.Change.{KeyChange, change_of};
 ghost use Rattle.nb_table.specs.Insert.{Lacks, Refuses, Takes, with_fragment};
 
-use crate::change::Change;
+use crate::change::BoxedChange;
 use crate::entry::Entry;
 use crate::fault::TableFault;
 use crate::table::Table;
@@ -26,7 +26,7 @@ pub(crate) fn join_fragment(
     alloc: Global,
     keys: u32,
     fragment: &Fragment<'_>,
-) -> Result<Change, TableFault>
+) -> Result<BoxedChange, TableFault>
     requires fragment { reach (core_of fragment.now) ≤ MAX_LENGTH }
     requires entry { (e : EntryValue)
         → maps.get (maps.from_entries {R = key_cmp} entries.old.entries) fragment.now.key ≡ Some e
@@ -42,7 +42,7 @@ pub(crate) fn join_fragment(
         (maps.get (maps.from_entries {R = key_cmp} entries.old.entries) fragment.now.key)
         (Some (joined_onto join_entry
         (maps.get (maps.from_entries {R = key_cmp} entries.old.entries) fragment.now.key)
-        (Held (facts_of (core_of fragment.now))))) change) }
+        (Held (facts_of (core_of fragment.now))))) (change_of change)) }
     ensures refused { (l : Limits) → l.keys ≡ keys → IfErr result
         (Lacks l (maps.from_entries {R = key_cmp} entries.old.entries) fragment.now) }
     ensures kept { OnErr result (maps.from_entries {R = key_cmp} entries.new.entries

@@ -11,6 +11,7 @@ mod join;
 mod keys;
 pub mod laws;
 mod load_fault;
+mod parties;
 pub mod plain;
 mod saved;
 mod state;

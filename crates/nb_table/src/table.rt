@@ -4,6 +4,7 @@ ghost use Rattle.std.specs.FinMap as maps;
 ghost use Rattle.nb_table.specs.Limits.{KeepsLimits};
 ghost use Rattle.nb_table.specs.Change.{IsChange};
 ghost use Rattle.nb_table.specs.State.{IsState};
+ghost use Rattle.nb_table.specs.RunCount.{run_count_at};
 ghost use Rattle.nb_datagram.specs.Fragment.{core_of};
 ghost use Rattle.nb_table.specs.Insert.{NeedsNoMemory, Passes, Takes, Refuses, with_fragment};
 
@@ -111,7 +112,8 @@ impl Table {
         if fragment.reach() > u32::from(self.longest) {
             return Err(TableFault::TooLong);
         }
-        join_fragment(&mut self.entries, self.alloc, self.keys, fragment)
+        let change = join_fragment(&mut self.entries, self.alloc, self.keys, fragment)?;
+        Ok(change.into_change())
     }
 
     /// Takes a key out, and says whether it was held. No memory is taken.
@@ -132,6 +134,20 @@ impl Table {
         match self.entries.get(key) {
             Some(entry) => entry.state(),
             None => State::Absent,
+        }
+    }
+
+    /// How many maximal runs the known bytes of a key's datagram make up: 0 where none is known
+    /// yet, and 1 where they leave no gap. `None` for a key that isn't held, or is spoilt. No
+    /// memory is taken.
+    pub fn run_count(&self, key: &Key) -> Option<u32>
+        ensures { result ≡ run_count_at self.now.contents key.now }
+    {
+        // The entry's bytes lie below the limit, which is a number of its type.
+        let _longest = self.longest;
+        match self.entries.get(key) {
+            Some(entry) => entry.run_count(),
+            None => None,
         }
     }
 

@@ -83,7 +83,7 @@ short_of n f h = record {
   ends = λ m e. (let ends = ((end_of_decides f m).0 e).1 in omega (arith, h, ends));
 }
 
-short_join : (n : ℕ) (a b : EntryValue) → IsShort n a → IsShort n b → IsShort n (join_entry a b)
+pub short_join : (n : ℕ) (a b : EntryValue) → IsShort n a → IsShort n b → IsShort n (join_entry a b)
 short_join n Spoilt b p q = tt
 short_join n (Held a) Spoilt p q = tt
 short_join n (Held a) (Held b) p q = at (facts_agree a b)
@@ -95,7 +95,7 @@ short_join n (Held a) (Held b) p q = at (facts_agree a b)
     }
     at false = tt
 
-short_onto : (n : ℕ) (o : Option EntryValue) (b : EntryValue) → ((e : EntryValue) → o ≡ Some e → IsShort n e) → IsShort n b → IsShort n (joined_onto join_entry o b)
+pub short_onto : (n : ℕ) (o : Option EntryValue) (b : EntryValue) → ((e : EntryValue) → o ≡ Some e → IsShort n e) → IsShort n b → IsShort n (joined_onto join_entry o b)
 short_onto n None b p q = q
 short_onto n (Some a) b p q = short_join n a b (p a refl) q
 
@@ -105,7 +105,7 @@ pub memory_alone : {X : Type 0} (r : Result X TableFault) (P : TableFault → Ty
 memory_alone (Ok x) P h p = tt
 memory_alone (Err e) P h p = subst P (sym h) p
 
-pub on_any_err : {X : Type 0} (r : Result X TableFault) (P : Type 0) → P → OnErr r P
+pub on_any_err : {X E : Type 0} (r : Result X E) (P : Type 0) → P → OnErr r P
 on_any_err (Ok x) P p = tt
 on_any_err (Err e) P p = p
 

@@ -1,6 +1,6 @@
 -- What the bytes of a fragment, one place after the other, say of the cover that they make; and what a
 -- cover holds of another.
-use Rattle.std.proofs.Common.{◌≡◌, ◌<◌, ◌≤◌, ℕ, zero, suc, ◌+◌, ◌-◌, slice_get, length, List, [], ◌∷◌, Bool, true, false, cond, Option, Some, None, refl, sym, ◌∙◌, ap, ap₂, subst, arith, ◌==◌, inl, inr, is_some, get_or}
+use Rattle.std.proofs.Common.{◌≡◌, ◌<◌, ◌≤◌, ℕ, zero, suc, ◌+◌, ◌-◌, slice_get, length, List, [], ◌∷◌, Bool, true, false, cond, Option, Some, None, refl, sym, ◌∙◌, ap, ap₂, subst, arith, ◌==◌}
 use Rattle.std.specs.Ordering.{nat_cmp}
 use Rattle.std.specs.List.{list_all}
 use Rattle.std.specs.FinMap as maps
@@ -9,9 +9,8 @@ use Rattle.std.specs.FinMap.{nat_cmp-IsAntisymmetric}
 use Rattle.nb_datagram.specs.Fragment.{Core, Covers, reach}
 use Rattle.nb_table.specs.Maps.{first_of}
 use Rattle.nb_table.specs.Cover.{CoverFacts, CoversFit, LiesBelow, AreCoverFacts, IsCover, placed, cover_of, same_where, bytes_agree, covers_together}
-use Rattle.nb_table.specs.Code.Places.{Holds, AreCovered, is_there, with_bytes}
-use Rattle.nb_table.specs.Whole.{IsWholeCover, bytes_below}
-use Rattle.nb_table.proofs.Wholeness.WholeLemmas.{below_found}
+use Rattle.nb_table.specs.Code.Places.{Holds, is_there, with_bytes}
+use Rattle.nb_table.specs.Whole.{IsWholeCover}
 use Rattle.nb_table.specs.Lemmas.MapsLemmas.{and_left, and_right, and_both, all_entries_found, all_entries_from}
 use Rattle.nb_table.specs.Lemmas.SameLemmas.{eq_is, is_eq}
 use Rattle.nb_table.specs.Lemmas.CoverLemmas.{in_union, same_cover, agree_of}
@@ -19,8 +18,6 @@ use Rattle.nb_table.specs.Lemmas.EntryLemmas.{join_cover_formed}
 use Rattle.nb_table.specs.Slot.{Spoilt, Held}
 use Rattle.nb_table.proofs.Covers.PutLemmas.{get-with_bytes}
 use Rattle.std.specs.Option.{option_or}
-use Rattle.std.proofs.lemmas.Bool.{cases_lt}
-use Rattle.std.proofs.lemmas.Option.{slice_get-get_or}
 use Rattle.nb_table.proofs.Covers.PlacedLemmas.{get-cover_of, byte_of_decides, covers_below}
 
 -- ---- each byte of a fragment
@@ -174,32 +171,3 @@ with_is a f fit = same_cover _ _
 -- two that agree are well formed together if each is
 pub together_formed : (a b : CoverFacts) → CoversFit a b → AreCoverFacts a → AreCoverFacts b → AreCoverFacts (covers_together a b)
 together_formed a b fit f g = subst IsCover (ap (λ t. cond t (Held (covers_together a b)) Spoilt) (agree_of a b fit)) (join_cover_formed (Held a) (Held b) f g)
-
--- ---- places below an end
-
-some_of : (o : Option ℕ) → is_some o ≡ true → (x : ℕ) × (o ≡ Some x)
-some_of None h = absurd (cc)
-some_of (Some x) h = (x, refl)
-
-pub covered_none : (look : ℕ → Option ℕ) → AreCovered look 0
-covered_none look i h = absurd (omega arith)
-
-pub covered_more : (look : ℕ → Option ℕ) (n : ℕ) → AreCovered look n → is_some (look n) ≡ true → AreCovered look (n + 1)
-covered_more look n below last i h = elim (cases_lt i n) [
-  | inl f ↦ below i f
-  | inr f ↦ let here : i ≡ n = omega (arith, f, h) in let w = some_of (look n) last in (w.0, ap look here ∙ w.1)
-]
-
-pub covered_not : (look : ℕ → Option ℕ) (n i : ℕ) → i < n → is_some (look i) ≡ false → AreCovered look n → ⊥
-covered_not look n i h e below = let w = below i h in let clash : true ≡ false = sym (ap is_some w.1) ∙ e in cc clash
-
--- where not each place below n is covered, there are no bytes below n
-pub below_uncovered : (m : maps.FinMap nat_cmp ℕ) (look : ℕ → Option ℕ) → ((q : ℕ) → maps.get m q ≡ look q) → (n : ℕ) → (AreCovered look n → ⊥) → bytes_below m n ≡ None
-below_uncovered m look same n h = none (bytes_below m n) refl
-  where
-    none : (o : Option (List ℕ)) → bytes_below m n ≡ o → bytes_below m n ≡ None
-    none None e = e
-    none (Some xs) e = absurd (h (λ i f. (let b = below_found m n xs e in
-        let size = b.count in
-        let inside : i < length xs = omega (arith, f, size) in
-        (get_or xs i 0, sym (same i) ∙ b.each i f ∙ slice_get-get_or xs i 0 inside))))

@@ -1,5 +1,5 @@
 -- The entries of one finite map joined into another one after the other, in the order of their keys.
-use Rattle.std.proofs.Common.{◌≡◌, ℕ, ◌+◌, List, [], ◌∷◌, Bool, true, false, cond, filter, length, Option, Some, None, is_some, is_none, refl, sym, ◌∙◌, ap, ap₂, arith}
+use Rattle.std.proofs.Common.{◌≡◌, ℕ, ◌+◌, ◌++◌, List, [], ◌∷◌, Bool, true, false, cond, filter, length, Option, Some, None, is_some, is_none, refl, sym, ◌∙◌, ap, ap₂, arith}
 use Rattle.std.proofs.Common.{map as list_map}
 use Rattle.std.specs.Prelude.{T}
 use Rattle.std.specs.declared.cmp.Ordering.{Ordering}
@@ -9,13 +9,8 @@ use Rattle.std.specs.FinMap.{is_sorted}
 use Rattle.std.specs.FinMap.Entries.{below_all}
 use Rattle.std.specs.FinMap as map
 use Rattle.nb_table.specs.Maps.{joined_at, joined_onto, joined, union}
+use Rattle.nb_table.specs.Code.Each.{joined_each}
 use Rattle.nb_table.specs.Lemmas.MapsLemmas.{one_key, get-joined, below_none, lt_not_eq, T_left, T_right}
-
-module _ {K X : Type 0} {R : K → K → Ordering} where
-  -- joined_each f m es: each of the entries es joined into the map m in turn
-  abbrev pub joined_each : (X → X → X) → map.FinMap R X → List (K × X) → map.FinMap R X
-  joined_each f m [] = m
-  joined_each f m (e ∷ es) = joined_each f (map.insert m e.0 (joined_onto f (map.get m e.0) e.1)) es
 
 alone : {X : Type 0} (f : X → X → X) (a : Option X) → a ≡ joined_at f a None
 alone f None = refl
@@ -25,7 +20,7 @@ onto : {X : Type 0} (f : X → X → X) (a : Option X) (y : X) → Some (joined_
 onto f None y = refl
 onto f (Some x) y = refl
 
-get-joined_each : {K X : Type 0} {R : K → K → Ordering} (o : IsTotalOrder R) (exact : map.IsAntisymmetric R) (f : X → X → X) (m : map.FinMap R X) (es : List (K × X)) → T (is_sorted R es) → (q : K) → map.get (joined_each f m es) q ≡ joined_at f (map.get m q) (map.find R q es)
+pub get-joined_each : {K X : Type 0} {R : K → K → Ordering} (o : IsTotalOrder R) (exact : map.IsAntisymmetric R) (f : X → X → X) (m : map.FinMap R X) (es : List (K × X)) → T (is_sorted R es) → (q : K) → map.get (joined_each f m es) q ≡ joined_at f (map.get m q) (map.find R q es)
 get-joined_each o exact f m [] s q = alone f (map.get m q)
 get-joined_each {R = R} o exact f m (e ∷ es) s q =
     get-joined_each o exact f (map.insert m e.0 (joined_onto f (map.get m e.0) e.1)) es (T_right _ _ s) q
@@ -40,6 +35,11 @@ get-joined_each {R = R} o exact f m (e ∷ es) s q =
         ∙ onto f (map.get m e.0) e.1
         ∙ ap (λ k. joined_at f (map.get m k) (Some e.1)) (sym one)
     step false h = refl
+
+-- the last one is joined to the others
+pub joined_each-more : {K X : Type 0} {R : K → K → Ordering} (f : X → X → X) (m : map.FinMap R X) (es : List (K × X)) (k : K) (x : X) → joined_each f m (es ++ (k, x) ∷ []) ≡ map.insert (joined_each f m es) k (joined_onto f (map.get (joined_each f m es) k) x)
+joined_each-more f m [] k x = refl
+joined_each-more f m (e ∷ es) k x = joined_each-more f (map.insert m e.0 (joined_onto f (map.get m e.0) e.1)) es k x
 
 -- the entries of a map joined in turn are the join of both maps
 pub joined_each_is : {K X : Type 0} {R : K → K → Ordering} (o : IsTotalOrder R) (exact : map.IsAntisymmetric R) (f : X → X → X) (m n : map.FinMap R X) → joined_each f m (map.entries n) ≡ joined f m n

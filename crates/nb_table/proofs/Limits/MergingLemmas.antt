@@ -1,25 +1,26 @@
--- Tables merged: the limits are kept, and what is handed over.
-use Rattle.std.proofs.Common.{◌≡◌, ◌<◌, ◌≤◌, ◌++◌, inl, inr, ℕ, cond, Bool, true, false, List, [], ◌∷◌, length, slice_get, Option, Some, None, refl, sym, ◌∙◌, ap, subst, arith, append_assoc}
+-- Tables merged: the limits are kept.
+use Rattle.std.proofs.Common.{◌≡◌, ◌<◌, ◌≤◌, ◌++◌, inl, inr, ℕ, cond, Bool, true, false, List, [], ◌∷◌, length, slice_get, Option, Some, None, refl, sym, ◌∙◌, ap, subst, arith}
 use Rattle.std.proofs.lemmas.Bool.{cases_lt}
 use Rattle.std.proofs.lemmas.Option.{none-some, same_Some, slice_get-get_or}
-use Rattle.std.specs.List.{filter_map, cons_option}
+use Rattle.std.specs.Prelude.{T}
+use Rattle.std.specs.Ordering.{eq_by_cmp}
+use Rattle.std.specs.List.{AllByRecursion}
+use Rattle.std.specs.FinMap.{is_sorted}
 use Rattle.std.specs.FinMap as maps
 use Rattle.nb_datagram.specs.declared.key.Key.{Key}
-use Rattle.nb_datagram.specs.Datagram.{DatagramParts}
-use Rattle.nb_table.specs.Maps.{joined_at}
-use Rattle.nb_table.specs.Slot.{Spoilt, Held}
-use Rattle.nb_table.specs.Entry.{EntryFacts, EntryValue, facts_agree, facts_together, join_entry}
+use Rattle.nb_datagram.specs.Key.{key_cmp}
+use Rattle.nb_table.specs.Maps.{joined_at, joined_onto}
+use Rattle.nb_table.specs.Entry.{EntryValue, join_entry}
 use Rattle.nb_table.specs.Contents.{Contents}
 use Rattle.nb_table.specs.Join.{join, IsTable}
-use Rattle.nb_table.specs.Limits.{TableValue, KeepsLimits, IsShort, AreShort, with_contents}
-use Rattle.nb_table.specs.Merging.{Fits, every_key, new_keys}
-use Rattle.nb_table.specs.Whole.{IsWholeAt, datagram_at, newly}
+use Rattle.nb_table.specs.Limits.{TableValue, KeepsLimits, IsShort, with_contents}
+use Rattle.nb_table.specs.Merging.{AllShort, Fits, every_key, new_keys}
 use Rattle.nb_table.specs.Lemmas.SameLemmas.{key_cmp_total, key_cmp_exact}
-use Rattle.nb_table.specs.Lemmas.CoverLemmas.{below_both, first_either}
+use Rattle.nb_table.specs.Lemmas.MapsLemmas.{one_key, tied_self, below_none, T_left, T_right}
 use Rattle.nb_table.specs.Lemmas.TableLemmas.{get-join, join_formed}
+use Rattle.nb_table.proofs.Changes.InsertLemmas.{short_join, short_onto}
 use Rattle.nb_table.proofs.Joins.EachLemmas.{len-joined}
 use Rattle.nb_table.proofs.Limits.FittingLemmas.{held_every}
-use Rattle.nb_table.proofs.Wholeness.WholeLemmas.{whole_at_exactly, whole_none}
 
 -- ---- the limits
 
@@ -33,25 +34,10 @@ none_past ks n h = elim (cases_lt n (length ks)) [
     inside [] f e = omega arith
     inside (q ∷ qs) f e = absurd (none-some _ (sym e ∙ slice_get-get_or (q ∷ qs) n q f))
 
-together_short : (n : ℕ) (a b : EntryFacts) → AreShort n a → AreShort n b → AreShort n (facts_together a b)
-together_short n a b p q = record {
-  below = below_both n a.cover b.cover p.below q.below;
-  ends = λ m e. elim (first_either a.cover.end b.cover.end m e) [ inl h ↦ p.ends m h | inr h ↦ q.ends m h ];
-}
-
-join_short : (n : ℕ) (a b : EntryValue) → IsShort n a → IsShort n b → IsShort n (join_entry a b)
-join_short n Spoilt b p q = tt
-join_short n (Held a) Spoilt p q = tt
-join_short n (Held a) (Held b) p q = chosen (facts_agree a b)
-  where
-    chosen : (t : Bool) → IsShort n (cond t (Held (facts_together a b)) Spoilt)
-    chosen true = together_short n a b p q
-    chosen false = tt
-
 at_short : (n : ℕ) (a b : Option EntryValue) → ((e : EntryValue) → a ≡ Some e → IsShort n e) → ((e : EntryValue) → b ≡ Some e → IsShort n e) → (e : EntryValue) → joined_at join_entry a b ≡ Some e → IsShort n e
 at_short n None b f g e h = g e h
 at_short n (Some x) None f g e h = f e h
-at_short n (Some x) (Some y) f g e h = subst (IsShort n) (same_Some (join_entry x y) e h) (join_short n x y (f x refl) (g y refl))
+at_short n (Some x) (Some y) f g e h = subst (IsShort n) (same_Some (join_entry x y) e h) (short_join n x y (f x refl) (g y refl))
 
 -- what fits keeps the limits
 pub merge_keeps : (t : TableValue) (o : Contents) → KeepsLimits t → IsTable o → Fits t.limits t.contents o → KeepsLimits (with_contents t (join t.contents o))
@@ -71,17 +57,44 @@ merged_keeps inside now o new seen keeps formed =
     subst (λ (t : TableValue). Fits t.limits t.contents o → new ≡ join t.contents o → KeepsLimits (with_contents inside new)) seen
     (λ fits e. subst (λ c. KeepsLimits (with_contents inside c)) (sym e) (merge_keeps inside o keeps formed fits))
 
--- ---- what is handed over
+-- what fits is short by the limit of the table that takes it in, as the tables are seen
+pub others_short : (inside now other others : TableValue) → inside ≡ now → other ≡ others → Fits now.limits now.contents others.contents → AllShort inside.limits.longest other.contents
+others_short inside now other others seen seen_too fits =
+    subst (λ (t : TableValue). AllShort inside.limits.longest t.contents) (sym seen_too)
+    (subst (λ (t : TableValue). AllShort t.limits.longest others.contents) (sym seen) fits.short)
 
--- a key that was whole is newly whole never, and one that wasn't wherever it is whole
-pub newly_never : (t : Contents) (k : Key) (o : Option DatagramParts) → IsWholeAt t k → None ≡ newly (datagram_at t k) o
-newly_never t k o w = let d = (whole_at_exactly t k).0 w in sym (ap (λ a. newly a o) d.1)
+-- ---- short entries of a table that another's are joined to
 
-pub newly_always : (t : Contents) (k : Key) (o : Option DatagramParts) → (IsWholeAt t k → ⊥) → o ≡ newly (datagram_at t k) o
-newly_always t k o n = sym (ap (λ a. newly a o) (whole_none t k (datagram_at t k) refl n))
+insert_short : (n : ℕ) (t : Contents) (k : Key) (v : EntryValue) → AllShort n t → IsShort n v → AllShort n (maps.insert t k v)
+insert_short n t k v all short q x h = step (eq_by_cmp key_cmp q k) (sym (maps.get-insert key_cmp_total t k v q) ∙ h)
+  where
+    step : (b : Bool) → cond b (Some v) (maps.get t q) ≡ Some x → IsShort n x
+    step true g = subst (IsShort n) (same_Some v x g) short
+    step false g = all q x g
 
-pub handed_one : (f : Key → Option DatagramParts) (ds : List DatagramParts) (k : Key) (ks : List Key) (d : DatagramParts) → f k ≡ Some d → (ds ++ d ∷ []) ++ filter_map f ks ≡ ds ++ filter_map f (k ∷ ks)
-handed_one f ds k ks d e = append_assoc ds (d ∷ []) (filter_map f ks) ∙ ap (λ o. ds ++ cons_option o (filter_map f ks)) (sym e)
+-- a table whose entries are short, with one more joined
+pub one_more_short : (n : ℕ) (t new : Contents) (k : Key) (e : EntryValue) → AllShort n t → IsShort n e → new ≡ maps.insert t k (joined_onto join_entry (maps.get t k) e) → AllShort n new
+one_more_short n t new k e all short is =
+    subst (AllShort n) (sym is) (insert_short n t k (joined_onto join_entry (maps.get t k) e) all (short_onto n (maps.get t k) e (all k) short))
 
-pub handed_none : (f : Key → Option DatagramParts) (ds : List DatagramParts) (k : Key) (ks : List Key) → f k ≡ None → ds ++ filter_map f ks ≡ ds ++ filter_map f (k ∷ ks)
-handed_none f ds k ks e = ap (λ o. ds ++ cons_option o (filter_map f ks)) (sym e)
+-- ---- the entries of a table in order
+
+found_after : (e : Key × EntryValue) (es : List (Key × EntryValue)) → T (is_sorted key_cmp (e ∷ es)) → (q : Key) (x : EntryValue) (b : Bool) → eq_by_cmp key_cmp q e.0 ≡ b → maps.find key_cmp q es ≡ Some x → cond b (Some e.1) (maps.find key_cmp q es) ≡ Some x
+found_after e es s q x true h f = absurd (none-some x (sym (ap (λ k. maps.find key_cmp k es) (one_key key_cmp_exact q e.0 h) ∙ below_none key_cmp e.0 es (T_left _ _ s)) ∙ f))
+found_after e es s q x false h f = f
+
+found_short : (n : ℕ) (es : List (Key × EntryValue)) → T (is_sorted key_cmp es) → ((q : Key) (x : EntryValue) → maps.find key_cmp q es ≡ Some x → IsShort n x) → AllByRecursion (λ (e : Key × EntryValue). IsShort n e.1) es
+found_short n [] s h = tt
+found_short n (e ∷ es) s h = (
+  h e.0 e.1 (ap (λ b. cond b (Some e.1) (maps.find key_cmp e.0 es)) (tied_self key_cmp_total e.0)),
+  found_short n es (T_right _ _ s) (λ q x f. h q x (found_after e es s q x (eq_by_cmp key_cmp q e.0) refl f)),
+)
+
+-- they are short where the table's are
+pub entries_short : (n : ℕ) (t : Contents) → AllShort n t → AllByRecursion (λ (e : Key × EntryValue). IsShort n e.1) (maps.entries t)
+entries_short n t all = found_short n (maps.entries t) (maps.entries_sorted t) (λ q x h. all q x (maps.get-entries t q ∙ h))
+
+-- and so all but the last one, and the last one
+pub front_short : (n : ℕ) (es : List (Key × EntryValue)) (k : Key) (e : EntryValue) → AllByRecursion (λ (e : Key × EntryValue). IsShort n e.1) (es ++ (k, e) ∷ []) → AllByRecursion (λ (e : Key × EntryValue). IsShort n e.1) es × IsShort n e
+front_short n [] k e h = (tt, h.0)
+front_short n (f ∷ es) k e h = let rest = front_short n es k e h.1 in ((h.0, rest.0), rest.1)

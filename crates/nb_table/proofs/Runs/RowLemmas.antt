@@ -3,7 +3,6 @@ use Rattle.std.proofs.Common.{◌≡◌, ◌+◌, ◌<◌, ◌≤◌, ◌&&◌, 
 use Rattle.std.specs.Prelude.{nat_le, nat_lt}
 use Rattle.std.specs.Int.{w16, from_be_bytes}
 use Rattle.std.specs.List.{list_all, AllByRecursion}
-use Rattle.std.specs.Ordering.{nat_cmp}
 use Rattle.std.specs.Cmp.{nat_cmp_total}
 use Rattle.std.specs.FinMap as maps
 use Rattle.std.specs.FinMap.{nat_cmp-IsAntisymmetric}
@@ -14,14 +13,12 @@ use Rattle.std.proofs.lemmas.Nat.{from_be_bytes-to_be_bytes_2}
 use Rattle.nb_names.specs.Labels.{StandsAt}
 use Rattle.nb_names.specs.Numbers.{NumberAt}
 use Rattle.nb_table.specs.Cover.{placed}
-use Rattle.nb_table.specs.Code.Each.{with_each}
-use Rattle.nb_table.specs.Code.Places.{with_bytes}
 use Rattle.nb_table.specs.Runs.{RunValue, run_end, AreApart, places_of, map_of_runs}
 use Rattle.nb_table.specs.SavedReading.{gives, goes_on, whole, good, number_at, bytes_at, run_at, row_at}
 use Rattle.nb_table.specs.Code.SavedRuns.{number_in, run_of, after_run, RunThere, row_of, RowThere}
 use Rattle.nb_table.specs.Lemmas.MapsLemmas.{and_both}
 use Rattle.nb_table.specs.Lemmas.SameLemmas.{is_le, le_not}
-use Rattle.nb_table.proofs.Runs.EachPutLemmas.{each_more, each_is, bytes_each, sorted_entries}
+use Rattle.nb_table.proofs.Runs.EachPutLemmas.{sorted_entries}
 use Rattle.nb_table.proofs.SavedReading.FoundLemmas.{row_found}
 use Rattle.nb_table.proofs.Runs.RunsLemmas.{sorted_places}
 
@@ -31,7 +28,7 @@ use Rattle.nb_table.proofs.Runs.RunsLemmas.{sorted_places}
 pub number_is : (bytes : List ℕ) (at n : ℕ) → NumberAt bytes at w16 n → number_in bytes at ≡ n
 number_is bytes at n h = ap (λ (xs : List ℕ). from_be_bytes w16 xs) h.bytes ∙ from_be_bytes-to_be_bytes_2 n h.fits
 
--- what stands after an offset
+-- what stands behind an offset
 behind_is : (input : List ℕ) (at more n : ℕ) → NumberAt input (at + more) w16 n → number_in (drop at input) more ≡ n
 behind_is input at more n h =
     ap (λ (xs : List ℕ). from_be_bytes w16 (take 2 xs)) (drop-drop more at input) ∙ number_is input (at + more) n h
@@ -149,12 +146,6 @@ pub all_short : (n : ℕ) (rs : List RunValue) → AllByRecursion (λ (r : RunVa
 all_short n [] h = refl
 all_short n (r ∷ rs) h = and_both _ _ (is_le (run_end r) n h.0) (all_short n rs h.1)
 
--- ---- the map of runs
-
--- the places of the runs, put one after the other, make it
-pub runs_each : (rs : List RunValue) → AreApart rs → with_each (maps.empty {R = nat_cmp}) (places_of rs) ≡ map_of_runs rs
-runs_each rs a = each_is nat_cmp_total nat_cmp-IsAntisymmetric (places_of rs) (sorted_places rs a)
-
 -- ---- rows, one run after the other
 
 row_open : (n k : ℕ) (bs : List ℕ) → n ≡ suc k → RowThere n bs → RunThere bs × RowThere k (after_run bs)
@@ -178,13 +169,4 @@ row_short limit n k bs behind r all e same rest few h =
     ap (λ (xs : List ℕ). list_all (λ (r : RunValue). nat_le (run_end r) limit) (row_of k xs)) rest
     ∙ sym (ap (λ b. b && list_all (λ (r : RunValue). nat_le (run_end r) limit) (row_of k (after_run bs))) yes)
     ∙ ap (λ (m : ℕ). list_all (λ (r : RunValue). nat_le (run_end r) limit) (row_of m bs)) (sym e)
-    ∙ h
-
--- a run's bytes are put
-pub row_put : (m new all : maps.FinMap nat_cmp ℕ) (n k : ℕ) (bs behind : List ℕ) (r : RunValue) → n ≡ suc k → r ≡ run_of bs → behind ≡ after_run bs → new ≡ with_bytes m r.start r.bytes → with_each m (places_of (row_of n bs)) ≡ all → with_each new (places_of (row_of k behind)) ≡ all
-row_put m new all n k bs behind r e same rest put h =
-    ap (λ (xs : List ℕ). with_each new (places_of (row_of k xs))) rest
-    ∙ ap (λ q. with_each q (places_of (row_of k (after_run bs)))) (put ∙ bytes_each m r.start r.bytes ∙ ap (λ (q : RunValue). with_each m (placed q.start q.bytes)) same)
-    ∙ sym (each_more m (placed (run_of bs).start (run_of bs).bytes) (places_of (row_of k (after_run bs))))
-    ∙ ap (λ (j : ℕ). with_each m (places_of (row_of j bs))) (sym e)
     ∙ h

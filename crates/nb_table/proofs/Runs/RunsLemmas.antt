@@ -9,13 +9,10 @@ use Rattle.std.specs.FinMap.{nat_cmp-IsAntisymmetric, is_sorted}
 use Rattle.std.specs.FinMap.Entries.{below_all}
 use Rattle.std.proofs.lemmas.Bool.{cases_lt}
 use Rattle.std.proofs.lemmas.Bool.Decides.{nat_tests}
-use Rattle.std.specs.BTreeMap as tree
-use Rattle.std.specs.BTreeMap.{BTreeMap}
 use Rattle.nb_table.specs.Cover.{placed}
 use Rattle.nb_table.specs.Runs.{RunValue, run_end, StartsPast, AreApart, places_of, map_of_runs, in_front, runs_in, runs_of_map}
 use Rattle.nb_table.specs.Lemmas.MapsLemmas.{T_left, T_right}
 use Rattle.nb_table.specs.Lemmas.SameLemmas.{eq_is, is_eq}
-use Rattle.nb_table.specs.Lemmas.TreeLemmas.{entries_are}
 
 -- ---- the places of runs
 
@@ -172,54 +169,3 @@ apart_in (e ∷ es) s = apart_front e.0 e.1 (runs_in es) (apart_in es (T_right _
 
 pub runs_apart : (m : maps.FinMap nat_cmp ℕ) → AreApart (runs_of_map m)
 runs_apart m = apart_in (maps.entries m) (maps.entries_sorted m)
-
--- ---- runs, one byte after the other
-
-placed_more : (i : ℕ) (xs : List ℕ) (x : ℕ) (es : List (ℕ × ℕ)) → placed i (xs ++ x ∷ []) ++ es ≡ placed i xs ++ (i + length xs, x) ∷ es
-placed_more i [] x es = let here : i ≡ i + 0 = omega arith in ap (λ n. (n, x) ∷ es) here
-placed_more i (y ∷ ys) x es =
-    let on : i + 1 + length ys ≡ i + suc (length ys) = omega arith in
-    ap (λ fs. (i, y) ∷ fs) (placed_more (i + 1) ys x es ∙ ap (λ n. placed (i + 1) ys ++ (n, x) ∷ es) on)
-
-run_cut : (s : ℕ) (xs : List ℕ) (es : List (ℕ × ℕ)) → 0 < length xs → NotAt (s + length xs) (runs_in es) → runs_in (placed s xs ++ es) ≡ record { start = s; bytes = xs } ∷ runs_in es
-run_cut s [] es h n = absurd (omega arith)
-run_cut s (y ∷ ys) es h n = run_first ys s y es n
-
-not_front : (n i x : ℕ) (rs : List RunValue) → (i == n) ≡ false → NotAt n (in_front i x rs)
-not_front n i x [] h = h
-not_front n i x (r ∷ rs) h = step (r.start == i + 1)
-  where
-    step : (b : Bool) → NotAt n (cond b (record { start = i; bytes = x ∷ r.bytes } ∷ rs) (record { start = i; bytes = x ∷ [] } ∷ r ∷ rs))
-    step true = h
-    step false = h
-
-snoc_then : (rs : List RunValue) (r : RunValue) (ss : List RunValue) → (rs ++ r ∷ []) ++ ss ≡ rs ++ r ∷ ss
-snoc_then [] r ss = refl
-snoc_then (q ∷ qs) r ss = ap (λ ts. q ∷ ts) (snoc_then qs r ss)
-
--- a byte that follows the run that is being read
-pub run_grows : (all rs : List RunValue) (s place x : ℕ) (bs : List ℕ) (rest es : List (ℕ × ℕ)) → place ≡ s + length bs → rest ≡ (place, x) ∷ es → rs ++ runs_in (placed s bs ++ rest) ≡ all → rs ++ runs_in (placed s (bs ++ x ∷ []) ++ es) ≡ all
-run_grows all rs s place x bs rest es e t h =
-    ap (λ fs. rs ++ runs_in fs) (placed_more s bs x es)
-    ∙ ap (λ n. rs ++ runs_in (placed s bs ++ (n, x) ∷ es)) (sym e)
-    ∙ ap (λ fs. rs ++ runs_in (placed s bs ++ fs)) (sym t)
-    ∙ h
-
--- a byte that doesn't
-pub run_ends : (all rs : List RunValue) (s place x : ℕ) (bs : List ℕ) (rest es : List (ℕ × ℕ)) → 0 < length bs → (place == s + length bs) ≡ false → rest ≡ (place, x) ∷ es → rs ++ runs_in (placed s bs ++ rest) ≡ all → (rs ++ record { start = s; bytes = bs } ∷ []) ++ runs_in (placed place (x ∷ []) ++ es) ≡ all
-run_ends all rs s place x bs rest es some other t h =
-    snoc_then rs (record { start = s; bytes = bs }) (runs_in ((place, x) ∷ es))
-    ∙ ap (λ ss. rs ++ ss) (sym (run_cut s bs ((place, x) ∷ es) some (not_front (s + length bs) place x (runs_in es) other)))
-    ∙ ap (λ fs. rs ++ runs_in (placed s bs ++ fs)) (sym t)
-    ∙ h
-
--- the last run
-pub run_last : (all rs : List RunValue) (s : ℕ) (bs : List ℕ) (rest : List (ℕ × ℕ)) → 0 < length bs → rest ≡ [] → rs ++ runs_in (placed s bs ++ rest) ≡ all → rs ++ record { start = s; bytes = bs } ∷ [] ≡ all
-run_last all rs s bs rest some t h =
-    ap (λ ss. rs ++ ss) (sym (run_cut s bs [] some tt))
-    ∙ ap (λ fs. rs ++ runs_in (placed s bs ++ fs)) (sym t)
-    ∙ h
-
--- the runs of a tree's entries are those of its finite map
-pub tree_runs : (m : BTreeMap ℕ ℕ) → tree.IsOrdered nat_cmp m → runs_in m.entries ≡ runs_of_map (maps.from_entries m.entries)
-tree_runs m o = ap runs_in (sym (entries_are nat_cmp_total nat_cmp-IsAntisymmetric m o))

@@ -54,16 +54,24 @@ few_runs : (n : ℕ) (rs : List RunValue) → AreApart rs → EndBy n rs → len
 few_runs n [] apart h = omega arith
 few_runs n (r ∷ rs) apart h = omega (arith, apart.0, few_past n (run_end r) rs apart.1.1 apart.1.0 h.1 h.0)
 
+-- each place of a short cover lies below the limit
+places_below : (c : CoverFacts) → LiesBelow MAX_LENGTH c → AllByRecursion (λ e. e.0 < MAX_LENGTH) (maps.entries c.bytes)
+places_below c below =
+    each_found nat_cmp nat_cmp_total nat_cmp-IsAntisymmetric (λ i x. i < MAX_LENGTH) (maps.entries c.bytes) (maps.entries_sorted c.bytes)
+    (λ i x f. below.bytes i x (maps.get-entries c.bytes i ∙ f))
+
+-- the runs of a short entry are no more than its places
+pub few_runs_of : (c : CoverFacts) → LiesBelow MAX_LENGTH c → length (runs_of_map c.bytes) < 2 ^ 32
+few_runs_of c below =
+    omega (arith, few_runs MAX_LENGTH (runs_of_map c.bytes) (runs_apart c.bytes) (runs_end MAX_LENGTH (maps.entries c.bytes) (places_below c below)))
+
 runs_fit : (rs : List RunValue) → EndBy MAX_LENGTH rs → AllByRecursion FitsRun rs
 runs_fit [] h = tt
 runs_fit (r ∷ rs) h = (record { start = omega (arith, h.0); size = omega (arith, h.0) }, runs_fit rs h.1)
 
 cover_fits : (c : CoverFacts) → LiesBelow MAX_LENGTH c → ((m : ℕ) → c.end ≡ Some m → m ≤ MAX_LENGTH) → FitsCover c
 cover_fits c below ends =
-    let listed : AllByRecursion (λ e. e.0 < MAX_LENGTH) (maps.entries c.bytes) =
-    each_found nat_cmp nat_cmp_total nat_cmp-IsAntisymmetric (λ i x. i < MAX_LENGTH) (maps.entries c.bytes) (maps.entries_sorted c.bytes)
-    (λ i x f. below.bytes i x (maps.get-entries c.bytes i ∙ f)) in
-    let runs = runs_end MAX_LENGTH (maps.entries c.bytes) listed in
+    let runs = runs_end MAX_LENGTH (maps.entries c.bytes) (places_below c below) in
     record {
       end = λ n e. (let most = ends n e in omega (arith, most));
       count = omega (arith, few_runs MAX_LENGTH (runs_of_map c.bytes) (runs_apart c.bytes) runs);
@@ -89,7 +97,7 @@ each_held P (x ∷ es) h k e f = step (eq_by_cmp key_cmp k x.0) refl f (each_hel
     step true is f rec = subst (λ y. P (k, y)) (same_Some x.1 e f) (subst (λ q. P (q, x.1)) (sym (one_key key_cmp_exact k x.0 is)) h.0)
     step false is f rec = rec f
 
-all_short : (t : TableValue) → KeepsLimits t → t.limits.longest ≤ MAX_LENGTH → AllShort MAX_LENGTH t.contents
+pub all_short : (t : TableValue) → KeepsLimits t → t.limits.longest ≤ MAX_LENGTH → AllShort MAX_LENGTH t.contents
 all_short t keeps most k e f = short_more t.limits.longest MAX_LENGTH e most (keeps.short k e f)
 
 -- a table that keeps its limits, which are fields' numbers, fits if its entries have names

@@ -1,24 +1,22 @@
 //! The bytes that are known of a datagram's data, by place, and its end.
-ghost use Rattle.std.specs.Prelude.{◌≡◌, ◌↔◌, ◌&&◌, ℕ, IfOk, IsTrue, Some};
+ghost use Rattle.std.specs.Prelude.{◌≡◌, ◌↔◌, ◌&&◌, ℕ, IfOk, IsTrue, OnOk, OnErr, Some, length};
 ghost use Rattle.std.specs.FinMap as maps;
 ghost use Rattle.nb_datagram.specs.Fragment.{core_of};
 ghost use Rattle.nb_table.specs.Cover.{CoversFit, cover_of, covers_agree, covers_together, is_below_end};
 ghost use Rattle.nb_table.specs.Cover.{ends_agree as same_ends};
 ghost use Rattle.nb_table.specs.Cover.{bytes_agree as same_bytes};
 ghost use Rattle.nb_table.specs.Code.Places.{Holds};
+ghost use Rattle.nb_table.specs.Runs.{runs_of_map};
 ghost use Rattle.nb_table.specs.Whole.{bytes_to, IsWholeCover};
 
 mod loading;
 mod saving;
 mod uniting;
 
-use crate::cover::placed::{
-    are_equal, bytes_agree, bytes_below, covers_below, has_bytes, lies_below, put_bytes,
-};
+use crate::cover::runs::Runs;
 use nb_datagram::Fragment;
 use nb_names::{Bytes, NoMemory};
 use std::alloc::Global;
-use std::collections::BTreeMap;
 use std::marker::Model;
 
 /// The bytes by place, and the end, if it is known. No byte lies at or past the end.
@@ -26,12 +24,11 @@ use std::marker::Model;
 /// Places count from the first byte of the datagram's data.
 #[derive(Drop)]
 pub(crate) struct Places {
-    bytes: BTreeMap<u32, u8>,
+    bytes: Runs,
     end: Option<u32>,
 }
 
 impl Model for Places {
-    ghost use Rattle.std.specs.FinMap as maps;
     ghost use Rattle.nb_table.specs.Codes.{cover_facts_code};
     ghost use Rattle.nb_table.specs.Cover.{CoverFacts, AreCoverFacts};
 
@@ -39,12 +36,9 @@ impl Model for Places {
 
     ghost coded = { cover_facts_code };
 
-    ghost view = { λ p. record { bytes = maps.from_entries p.bytes.entries; end = p.end } };
+    ghost view = { λ p. record { bytes = p.bytes; end = p.end } };
 
-    ghost invariant = { λ p. AreCoverFacts (record {
-      bytes = maps.from_entries p.bytes.entries;
-      end = p.end;
-    }) };
+    ghost invariant = { λ p. AreCoverFacts (record { bytes = p.bytes; end = p.end }) };
 }
 
 /// Where a fragment ends, if it does.
@@ -93,9 +87,9 @@ impl Places {
     pub(crate) fn of(alloc: Global, fragment: &Fragment<'_>) -> Result<Places, NoMemory>
         ensures { IfOk result (λ places. places ≡ cover_of (core_of fragment.now)) }
     {
-        let mut bytes = BTreeMap::new(alloc);
+        let mut bytes = Runs::new(alloc);
         let end = end_of(fragment);
-        put_bytes(&mut bytes, u32::from(fragment.offset()), fragment.bytes())?;
+        bytes.put(alloc, u32::from(fragment.offset()), fragment.bytes())?;
         Ok(Places { bytes, end })
     }
 
@@ -104,7 +98,7 @@ impl Places {
         ensures { result ≡ is_below_end end self.now }
     {
         match end {
-            Some(end) => lies_below(&self.bytes, end),
+            Some(end) => self.bytes.lie_below(end),
             None => true,
         }
     }
@@ -114,7 +108,7 @@ impl Places {
         ensures { result ≡ same_bytes self.now.bytes (cover_of (core_of fragment.now)).bytes }
     {
         let start = u32::from(fragment.offset());
-        bytes_agree(&self.bytes, start, fragment.bytes())
+        self.bytes.agree(start, fragment.bytes())
     }
 
     /// Whether what is known lies below a fragment's end, and the fragment below the known end.
@@ -142,7 +136,7 @@ impl Places {
             → maps.get self.now.bytes i ≡ Some x) }
     {
         let start = u32::from(fragment.offset());
-        has_bytes(&self.bytes, start, fragment.bytes())
+        self.bytes.hold(start, fragment.bytes())
     }
 
     /// Whether all that a fragment says is known.
@@ -152,16 +146,37 @@ impl Places {
         has_end(self.end, end_of(fragment)) && self.holds_bytes(fragment)
     }
 
-    /// What is known with what a fragment says, which doesn't contradict it.
-    pub(crate) fn with(&self, fragment: &Fragment<'_>) -> Result<Places, NoMemory>
-        requires { CoversFit self.now (cover_of (core_of fragment.now)) }
-        ensures { IfOk result (λ places.
-            places ≡ covers_together self.now (cover_of (core_of fragment.now))) }
+    /// Adds what a fragment says, which doesn't contradict what is known. All memory is taken
+    /// before anything changes.
+    pub(crate) fn add(&mut self, alloc: Global, fragment: &Fragment<'_>) -> Result<(), NoMemory>
+        requires { CoversFit self.old (cover_of (core_of fragment.now)) }
+        ensures ok { OnOk result
+            (self.new ≡ covers_together self.old (cover_of (core_of fragment.now))) }
+        ensures err { OnErr result (self.new ≡ self.old) }
     {
-        let mut bytes = self.bytes.clone()?;
-        put_bytes(&mut bytes, u32::from(fragment.offset()), fragment.bytes())?;
-        let end = self.end.or(end_of(fragment));
-        Ok(Places { bytes, end })
+        let start = u32::from(fragment.offset());
+        self.bytes.put(alloc, start, fragment.bytes())?;
+        self.end = self.end.or(end_of(fragment));
+        Ok(())
+    }
+
+    /// The bytes up to the end, in order, of what is known with what a fragment says, which doesn't
+    /// contradict it, if all are known. No memory is taken where one isn't.
+    pub(crate) fn whole_with(
+        &self,
+        alloc: Global,
+        fragment: &Fragment<'_>,
+    ) -> Result<Option<Bytes>, NoMemory>
+        requires { CoversFit self.now (cover_of (core_of fragment.now)) }
+        ensures { IfOk result (λ bytes. bytes
+            ≡ bytes_to (covers_together self.now (cover_of (core_of fragment.now))).bytes
+            (covers_together self.now (cover_of (core_of fragment.now))).end) }
+    {
+        let start = u32::from(fragment.offset());
+        match self.end.or(end_of(fragment)) {
+            Some(end) => self.bytes.bytes_with(alloc, end, start, fragment.bytes()),
+            None => Ok(None),
+        }
     }
 
     /// The bytes up to the end, in order, if all are known. No memory is taken where one isn't.
@@ -169,9 +184,16 @@ impl Places {
         ensures { IfOk result (λ bytes. bytes ≡ bytes_to self.now.bytes self.now.end) }
     {
         match self.end {
-            Some(end) => bytes_below(alloc, &self.bytes, end),
+            Some(end) => self.bytes.bytes_below(alloc, end),
             None => Ok(None),
         }
+    }
+
+    /// How many runs the bytes make up.
+    pub(crate) fn run_count(&self) -> usize
+        ensures { result ≡ length (runs_of_map self.now.bytes) }
+    {
+        self.bytes.count()
     }
 
     /// Whether the end and each byte before it are known.
@@ -179,7 +201,7 @@ impl Places {
         ensures { IsTrue result ↔ IsWholeCover self.now }
     {
         match self.end {
-            Some(end) => covers_below(&self.bytes, end),
+            Some(end) => self.bytes.cover_below(end),
             None => false,
         }
     }
@@ -194,6 +216,6 @@ impl PartialEq for Places {
     ghost laws = { cover_facts_per };
 
     fn eq(&self, other: &Self) -> bool {
-        are_equal(&self.bytes, &other.bytes) && self.end == other.end
+        self.bytes.are(&other.bytes) && self.end == other.end
     }
 }

@@ -1,16 +1,35 @@
 //! The facts of two entries that don't contradict each other, united.
-ghost use Rattle.std.specs.Prelude.{◌≡◌, ◌&&◌, IfOk};
+ghost use Rattle.std.specs.Prelude.{◌≡◌, ◌≤◌, ◌&&◌, cond, IfOk, MatchOption, Some, None};
+ghost use Rattle.nb_datagram.specs.Fragment.{has_more};
+ghost use Rattle.nb_table.specs.Slot.{Held};
 ghost use Rattle.nb_table.specs.Cover.{lies_below};
 ghost use Rattle.nb_table.specs.Code.Fitting.{ends_by};
+ghost use Rattle.nb_table.specs.Code.Part.{IsPart};
 ghost use Rattle.nb_table.specs.Limits.{AreShort};
 ghost use Rattle.nb_table.specs.Whole.{bytes_to, datagram_with};
 ghost use Rattle.nb_datagram.specs.declared.limits.TheConstants.{MAX_LENGTH};
 ghost use Rattle.nb_table.specs.Entry.{FactsFit, facts_agree, facts_together};
 
 use super::Facts;
-use nb_datagram::{Datagram, Key};
+use crate::cover::Places;
+use nb_datagram::limits::{MAX_LENGTH, MORE};
+use nb_datagram::{Datagram, Fragment, Key};
 use nb_names::NoMemory;
 use std::alloc::Global;
+
+/// The flags of a fragment that reaches this far and says this of the end, if one can.
+fn flags_to(end: Option<u32>, reach: usize) -> Option<u8>
+    ensures { MatchOption result (Unit {0})
+        (λ flags. (end ≡ cond (has_more flags) None (Some reach)) × (reach ≤ MAX_LENGTH)) }
+{
+    if reach > MAX_LENGTH {
+        return None;
+    }
+    match end {
+        None => Some(MORE),
+        Some(end) => { if end as usize == reach { Some(0) } else { None } }
+    }
+}
 
 impl Facts {
     /// Whether the two don't contradict each other.
@@ -20,13 +39,30 @@ impl Facts {
         if self.kind != other.kind {
             return false;
         }
-        if self.source != other.source {
+        if *self.parties.source() != *other.parties.source() {
             return false;
         }
-        if self.destination != other.destination {
+        if *self.parties.destination() != *other.parties.destination() {
             return false;
         }
         self.places.agree(&other.places)
+    }
+
+    /// The same kind and names, with these places.
+    fn with(&self, places: Places) -> Result<Facts, NoMemory>
+        ensures { IfOk result (λ facts. facts ≡ record {
+          kind = self.now.kind;
+          source = self.now.source;
+          destination = self.now.destination;
+          cover = places;
+        }) }
+    {
+        let parties = self.parties.copied()?;
+        Ok(Facts {
+            kind: self.kind,
+            parties,
+            places,
+        })
     }
 
     /// What two that don't contradict each other say together.
@@ -35,12 +71,7 @@ impl Facts {
         ensures { IfOk result (λ facts. facts ≡ facts_together self.now other.now) }
     {
         let places = self.places.together(&other.places)?;
-        Ok(Facts {
-            kind: self.kind,
-            source: self.source.copied(),
-            destination: self.destination.copied(),
-            places,
-        })
+        self.with(places)
     }
 
     /// Whether all places lie below this one, and the end, if it is known, is at most there.
@@ -56,12 +87,29 @@ impl Facts {
         ensures { IfOk result (λ facts. facts ≡ self.now) }
     {
         let places = self.places.copied()?;
-        Ok(Facts {
-            kind: self.kind,
-            source: self.source.copied(),
-            destination: self.destination.copied(),
-            places,
-        })
+        self.with(places)
+    }
+
+    /// The fragment of the key that says all of the facts, if one can.
+    pub(crate) fn as_fragment(&self, key: Key) -> Option<Fragment<'_>>
+        ensures { MatchOption result (Unit {0}) (IsPart key (Held self.now)) }
+    {
+        let Some((start, bytes)) = self.places.only() else {
+            return None;
+        };
+        let Ok(offset) = u16::try_from(start) else {
+            return None;
+        };
+        let reach = usize::from(offset) + bytes.len();
+        let Some(flags) = flags_to(self.places.end(), reach) else {
+            return None;
+        };
+        let source = self.parties.source().copied();
+        let destination = self.parties.destination().copied();
+        match Fragment::new(self.kind, flags, key, offset, source, destination, bytes) {
+            Ok(fragment) => Some(fragment),
+            Err(_) => None,
+        }
     }
 
     /// The datagram of the key, if the facts are whole. No memory is taken where they aren't.

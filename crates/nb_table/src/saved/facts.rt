@@ -103,9 +103,7 @@ impl<'a> SavedFacts<'a> {
         ensures { IfOk result (λ facts. facts ≡ self.now) }
     {
         let places = Places::load(alloc, &self.runs, self.end)?;
-        let source = self.source.copied();
-        let destination = self.destination.copied();
-        Ok(Facts::new(self.kind, source, destination, places))
+        Facts::new(alloc, self.kind, &self.source, &self.destination, places)
     }
 }
 
@@ -116,12 +114,12 @@ impl Facts {
         ensures named { IsNamed self.now }
     {
         // For the clause `named`; the calls do nothing.
-        let _ = self.source.bytes();
-        let _ = self.destination.bytes();
+        let _ = self.parties.source().bytes();
+        let _ = self.parties.destination().bytes();
         saved.push(self.kind.message_type())?;
-        saved.extend_from_slice(self.source.to_domain().spelling())?;
-        saved.extend_from_slice(self.destination.to_domain().spelling())?;
-        self.places.save(alloc, saved)
+        saved.extend_from_slice(self.parties.source().to_domain().spelling())?;
+        saved.extend_from_slice(self.parties.destination().to_domain().spelling())?;
+        self.places.save(saved)
     }
 }
 

@@ -1,18 +1,19 @@
-//! Rows of saved runs, which borrow their bytes: read, and written.
-ghost use Rattle.std.specs.Prelude.{◌≡◌, ◌≤◌, ◌++◌, OnOk, length, nat_le, nat_lt};
+//! Rows of saved runs, which borrow their bytes.
+ghost use Rattle.std.specs.Prelude.{◌≡◌, ◌≤◌, IfOk, length, nat_le, nat_lt};
 ghost use Rattle.std.specs.List.{list_all};
 ghost use Rattle.std.specs.FinMap as maps;
 ghost use Rattle.nb_datagram.specs.declared.limits.TheConstants.{MAX_LENGTH};
+ghost use Rattle.nb_table.specs.Code.RunSteps.{values_of};
 ghost use Rattle.nb_table.specs.Runs.{run_end, map_of_runs};
-ghost use Rattle.nb_table.specs.Saved.{run_bytes, runs_bytes};
 ghost use Rattle.nb_table.specs.SavedReading.{start_at, size_at, run_at, runs_at};
 ghost use Rattle.nb_table.specs.Code.SavedRuns.{RunThere, RowThere, run_of, row_of, after_run};
 
-use super::fields::{push_number, read_bytes, read_number};
-use crate::cover::Run;
+use super::fields::{read_bytes, read_number};
+use crate::cover::runs::{Run, Runs, add_run};
 use crate::load_fault::LoadFault;
 use nb_names::NoMemory;
 use nb_names::numbers::number_16;
+use std::alloc::Global;
 use std::marker::Model;
 
 /// A saved run: the place of its first byte, and its bytes in order.
@@ -170,6 +171,21 @@ fn row_is_short(bytes: &[u8], count: u16, limit: u16) -> bool
     true
 }
 
+/// The runs, as many as these, which the bytes begin with.
+fn kept_runs(alloc: Global, bytes: &[u8], count: u16) -> Result<Vec<Run>, NoMemory>
+    requires { RowThere count bytes.now }
+    ensures { IfOk result (λ runs. values_of runs.items ≡ row_of count bytes.now) }
+{
+    let mut runs = Vec::with_capacity(alloc, usize::from(count))?;
+    let mut rest = bytes;
+    for _ in 0..count {
+        let (run, after) = split_run(rest);
+        add_run(alloc, &mut runs, run.start(), run.bytes())?;
+        rest = after;
+    }
+    Ok(runs)
+}
+
 impl<'a> SavedRuns<'a> {
     /// Whether no run reaches past the limit.
     pub(crate) fn are_short(&self, limit: u16) -> bool
@@ -178,25 +194,12 @@ impl<'a> SavedRuns<'a> {
     {
         row_is_short(self.bytes, self.count, limit)
     }
-}
 
-/// Adds a run after the bytes: its start, how many bytes it has, and these.
-fn push_run(saved: &mut Vec<u8>, run: &Run) -> Result<(), NoMemory>
-    ensures { OnOk result (saved.new.items ≡ saved.old.items ++ run_bytes run.now) }
-{
-    push_number(saved, u64::from(run.start))?;
-    push_number(saved, run.bytes.len() as u64)?;
-    saved.extend_from_slice(&run.bytes)?;
-    Ok(())
-}
-
-/// Adds runs after the bytes, how many there are in front.
-pub(crate) fn push_runs(saved: &mut Vec<u8>, runs: &[Run]) -> Result<(), NoMemory>
-    ensures { OnOk result (saved.new.items ≡ saved.old.items ++ runs_bytes runs.now) }
-{
-    push_number(saved, runs.len() as u64)?;
-    for run in runs {
-        push_run(saved, run)?;
+    /// The runs, kept.
+    pub(crate) fn to_runs(&self, alloc: Global) -> Result<Runs, NoMemory>
+        ensures { IfOk result (λ runs. runs ≡ map_of_runs self.now) }
+    {
+        let runs = kept_runs(alloc, self.bytes, self.count)?;
+        Ok(Runs::of_runs(runs))
     }
-    Ok(())
 }

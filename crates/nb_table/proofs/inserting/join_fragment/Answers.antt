@@ -8,7 +8,7 @@ use Rattle.nb_table.specs.Slot.{Held}
 use Rattle.nb_table.specs.Entry.{EntryValue, facts_of, join_entry}
 use Rattle.nb_table.specs.Contents.{Contents}
 use Rattle.nb_table.specs.Limits.{Limits, IsFull}
-use Rattle.nb_table.specs.Code.Change.{KeyChange}
+use Rattle.nb_table.specs.Code.Change.{KeyChange, change_of}
 use Rattle.nb_table.specs.Insert.{Lacks}
 use Rattle.nb_table.specs.Lemmas.SameLemmas.{key_cmp_total, key_cmp_exact}
 use Rattle.nb_table.specs.Lemmas.TreeLemmas.{get_is, len_is, changed_is, kept_is, insert_is}
@@ -66,8 +66,8 @@ returns-in_ok-add-in-Some-clause-change c =
     let b = facts_of (core_of c.args.fragment.now) in
     let at = ap (maps.get t) (sym c.key-key.ensures) ∙ get_is key_cmp_total m c.key-key.result ∙ sym c.in-Some.ensures.value in
     let now = ap (λ (x : EntryValue). Some x) (c.in_ok-add-in-Some.ensures.joined ∙ ap (λ o. joined_onto join_entry o (Held b)) (sym at)) in
-    subst (λ o. KeyChange k o (Some (joined_onto join_entry (maps.get t k) (Held b))) c.in_ok-add-in-Some.field-0) (sym at)
-    (subst (λ o. KeyChange k (Some c.in-Some.entry.now) o c.in_ok-add-in-Some.field-0) now c.in_ok-add-in-Some.ensures.change)
+    subst (λ o. KeyChange k o (Some (joined_onto join_entry (maps.get t k) (Held b))) (change_of c.in_ok-add-in-Some.field-0)) (sym at)
+    (subst (λ o. KeyChange k (Some c.in-Some.entry.now) o (change_of c.in_ok-add-in-Some.field-0)) now c.in_ok-add-in-Some.ensures.change)
 
 -- ---- a new key
 
@@ -119,8 +119,8 @@ returns-in-Ok-clause-change c =
     let b = facts_of (core_of c.args.fragment.now) in
     let none = ap (maps.get t) (sym c.key-key.ensures) ∙ get_is key_cmp_total m c.key-key.result ∙ sym c.in-None.ensures.value in
     let now = ap (λ (x : EntryValue). Some x) (c.in_ok-entry-in-None.ensures.entry ∙ ap (λ o. joined_onto join_entry o (Held b)) (sym none)) in
-    subst (λ o. KeyChange k o (Some (joined_onto join_entry (maps.get t k) (Held b))) c.in_ok-entry-in-None.change) (sym none)
-    (subst (λ o. KeyChange k None o c.in_ok-entry-in-None.change) now c.in_ok-entry-in-None.ensures.change)
+    subst (λ o. KeyChange k o (Some (joined_onto join_entry (maps.get t k) (Held b))) (change_of c.in_ok-entry-in-None.change)) (sym none)
+    (subst (λ o. KeyChange k None o (change_of c.in_ok-entry-in-None.change)) now c.in_ok-entry-in-None.ensures.change)
 
 pub returns-in-Err-clause-refused : goal.returns-in-Err-clause-refused
 returns-in-Err-clause-refused c l same =

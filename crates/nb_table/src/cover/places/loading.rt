@@ -19,7 +19,7 @@ impl Places {
         ensures { IfOk result (λ places.
             places ≡ record { bytes = map_of_runs runs.now; end = end }) }
     {
-        let bytes = runs.to_map(alloc)?;
+        let bytes = runs.to_runs(alloc)?;
         Ok(Places { bytes, end })
     }
 }

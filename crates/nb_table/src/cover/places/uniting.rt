@@ -1,10 +1,10 @@
 //! Two covers that don't contradict each other, united.
-ghost use Rattle.std.specs.Prelude.{◌≡◌, ◌&&◌, IfOk};
-ghost use Rattle.nb_table.specs.Cover.{CoversFit, bytes_agree, covers_agree, covers_together, lies_below};
+ghost use Rattle.std.specs.Prelude.{◌≡◌, ◌&&◌, IfOk, MatchOption};
+ghost use Rattle.std.specs.FinMap as maps;
+ghost use Rattle.nb_table.specs.Cover.{CoversFit, bytes_agree, covers_agree, covers_together, lies_below, placed};
 ghost use Rattle.nb_table.specs.Code.Fitting.{ends_by};
 
 use super::{Places, ends_agree};
-use crate::cover::united::{maps_agree, put_all};
 use nb_names::NoMemory;
 
 impl Places {
@@ -12,7 +12,7 @@ impl Places {
     fn bytes_agree(&self, other: &Places) -> bool
         ensures { result ≡ bytes_agree self.now.bytes other.now.bytes }
     {
-        maps_agree(&self.bytes, &other.bytes)
+        self.bytes.agree_all(&other.bytes)
     }
 
     /// Whether the two don't contradict each other.
@@ -36,8 +36,7 @@ impl Places {
         requires { CoversFit self.now other.now }
         ensures { IfOk result (λ places. places ≡ covers_together self.now other.now) }
     {
-        let mut bytes = self.bytes.clone()?;
-        put_all(&mut bytes, &other.bytes)?;
+        let bytes = self.bytes.together(&other.bytes)?;
         let end = self.end.or(other.end);
         Ok(Places { bytes, end })
     }
@@ -55,12 +54,27 @@ impl Places {
         }
     }
 
+    /// The place of the first byte, and the bytes, if all are in one run.
+    pub(crate) fn only(&self) -> Option<(u32, &[u8])>
+        ensures { MatchOption result (Unit {0})
+            (λ one. self.now.bytes ≡ maps.from_entries (placed one.0 one.1.now)) }
+    {
+        self.bytes.only()
+    }
+
+    /// The end, if it is known.
+    pub(crate) fn end(&self) -> Option<u32>
+        ensures { result ≡ self.now.end }
+    {
+        self.end
+    }
+
     /// A copy.
     pub(crate) fn copied(&self) -> Result<Places, NoMemory>
         ensures { IfOk result (λ places. places ≡ self.now) }
     {
         Ok(Places {
-            bytes: self.bytes.clone()?,
+            bytes: self.bytes.copied()?,
             end: self.end,
         })
     }

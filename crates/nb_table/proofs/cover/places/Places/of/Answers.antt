@@ -1,22 +1,24 @@
 use Rattle.std.proofs.Common.{◌≡◌, ap, ap₂, sym, subst, ◌∙◌}
-use Rattle.std.specs.Ordering.{nat_cmp}
 use Rattle.std.specs.FinMap as maps
 use Rattle.nb_datagram.specs.Fragment.{core_of}
 use Rattle.nb_table.specs.Cover.{CoverFacts, cover_of, AreCoverFacts}
 use Rattle.nb_table.specs.Code.Places.{with_bytes}
 use Rattle.nb_table.proofs.Covers.PlacedLemmas.{cover_of_formed}
 use Rattle.nb_table.proofs.Covers.PutLemmas.{put_alone}
+use Rattle.nb_table.proofs.KeptRuns.RunPlacesLemmas.{empty_agrees}
 use Rattle.nb_table.proofs.cover.places.Places.of.Goals as goal
 
-bytes_are : (c : goal.In_ok-put_bytes) → maps.from_entries {R = nat_cmp} c.put_bytes.new.map.entries ≡ (cover_of (core_of c.args.fragment.now)).bytes
-bytes_are c =
-    c.in_ok-put_bytes.ensures
-    ∙ ap (λ es. with_bytes (maps.from_entries {R = nat_cmp} es) c.from.result c.bytes.result.now) c.new-bytes.ensures.empty
-    ∙ ap₂ (with_bytes maps.empty) (c.from.ensures ∙ c.offset.ensures) c.bytes.ensures.value
-    ∙ put_alone c.args.fragment.now.offset c.args.fragment.now.bytes
+pub put-requires : goal.put-requires
+put-requires c = empty_agrees _ _ _ c.new-bytes.ensures
 
-facts_are : (c : goal.In_ok-put_bytes) → ◌≡◌ {A = CoverFacts} (record { bytes = maps.from_entries {R = nat_cmp} c.put_bytes.new.map.entries; end = c.end_of-end.result }) (cover_of (core_of c.args.fragment.now))
-facts_are c = let bytes = bytes_are c in let end = c.end_of-end.ensures in λ i. record { bytes = bytes i; end = end i }
+facts_are : (c : goal.In_ok-put) → ◌≡◌ {A = CoverFacts} (record { bytes = c.put.new.self; end = c.end_of-end.result }) (cover_of (core_of c.args.fragment.now))
+facts_are c =
+    let bytes = c.in_ok-put.ensures.ok
+    ∙ ap (λ m. with_bytes m c.from.result c.bytes.result.now) c.new-bytes.ensures
+    ∙ ap₂ (with_bytes maps.empty) (c.from.ensures ∙ c.offset.ensures) c.bytes.ensures.value
+    ∙ put_alone c.args.fragment.now.offset c.args.fragment.now.bytes in
+    let end = c.end_of-end.ensures in
+    λ i. record { bytes = bytes i; end = end i }
 
 pub invariant_of-result : goal.invariant_of-result
 invariant_of-result c = subst AreCoverFacts (sym (facts_are c)) (cover_of_formed (core_of c.args.fragment.now))

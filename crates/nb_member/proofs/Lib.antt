@@ -8,3 +8,5 @@ pub mod DeliveryLemmas
 pub mod RunLemmas
 pub mod AgreementLemmas
 pub mod ReplayLemmas
+pub mod ReportLemmas
+pub mod LineLemmas

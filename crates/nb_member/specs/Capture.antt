@@ -2,7 +2,7 @@
 -- line's first. A moment is in milliseconds.
 use Rattle.std.specs.Prelude.{ℕ, List, codes, ◌≡◌, ◌<◌, ◌≤◌, ◌^◌, length, [], ◌∷◌, ◌++◌, Contains, Result, Ok, Err, Option, Some, None}
 use Rattle.std.specs.Str.Parse.{IsNumeral, digits_value}
-use Rattle.nb_names.specs.NameText.{IsHexDigit, byte_of}
+use Rattle.nb_names.specs.Hexadecimal.{HexText}
 use Rattle.nb_member.specs.declared.limits.TheConstants.{MAX_MOMENT_DIGITS, MAX_LINE}
 use Rattle.nb_member.specs.declared.line.Line.{Line}
 use Rattle.nb_member.specs.declared.line.Line.TheVariants.{Packet, Tick}
@@ -38,12 +38,6 @@ pub record MomentText (moment : ℕ) (text : List ℕ) : Type 0 where
   pub most : length text ≤ MAX_MOMENT_DIGITS
   pub value : moment ≡ digits_value 10 text
   pub fits : moment < 2 ^ 64
-
--- HexText bytes text: the text is two hexadecimal digits for each byte, in order
-pub data HexText : List ℕ → List ℕ → Type 0 where
-  no_byte : HexText [] []
-  one_more : (high low : ℕ) (bytes text : List ℕ) → IsHexDigit high → IsHexDigit low
-      → HexText bytes text → HexText (byte_of high low ∷ bytes) (high ∷ low ∷ text)
 
 -- PayloadText payload text: the word is the digits of the payload's bytes, or `empty` where it has none
 pub data PayloadText : List ℕ → List ℕ → Type 0 where

@@ -4,3 +4,4 @@ pub mod Timers
 pub mod Members
 pub mod RunEvents
 pub mod ReplayLines
+pub mod LineSteps

@@ -9,5 +9,8 @@ pub mod Deliveries
 pub mod Running
 pub mod Agreement
 pub mod Report
+pub mod LineRoom
+pub mod LineReading
+pub mod LinesSoFar
 pub mod Replaying
 pub mod Code

@@ -1,14 +1,13 @@
 //! Reading a line of a capture.
 ghost use Rattle.std.specs.Prelude.{◌≡◌, ℕ, ◌<◌, ◌++◌, ◌∷◌, List, [], length, Contains, IfOk, MatchOption, IsTrue, ◌↔◌, Result, Ok, Err};
 ghost use Rattle.std.specs.List.{list_all};
-ghost use Rattle.std.specs.Char.{is_ascii_digit, is_ascii_hexdigit};
-ghost use Rattle.nb_names.specs.NameText.{IsHexDigit};
-ghost use Rattle.nb_member.specs.Capture.{space, PortText, MomentText, PayloadText, HexText, Reads, ReadsBy, NeedsMemory, Blank, HasWords};
+ghost use Rattle.std.specs.Char.{is_ascii_digit};
+ghost use Rattle.nb_member.specs.Capture.{space, PortText, MomentText, PayloadText, Reads, ReadsBy, NeedsMemory, Blank, HasWords};
 
 use crate::limits::{MAX_LINE, MAX_MOMENT_DIGITS};
 use crate::line::Line;
 use crate::line_fault::LineFault;
-use nb_names::Bytes;
+use nb_names::{Bytes, DigitsFault, bytes_of_digits};
 use std::alloc::Global;
 use std::str;
 
@@ -151,12 +150,13 @@ fn payload_of(alloc: Global, text: &[u8]) -> Result<Bytes, LineFault>
     if text == b"empty".as_slice() {
         return Ok(no_bytes(alloc));
     }
-    if !is_hexadecimal(text) {
+    if text.is_empty() {
         return Err(LineFault::BadLine);
     }
-    match hex::decode(alloc, text) {
-        Ok(payload) => Ok(Bytes::from_vec(payload)),
-        Err(_) => Err(LineFault::NoMemory),
+    match bytes_of_digits(alloc, text) {
+        Ok(payload) => Ok(payload),
+        Err(DigitsFault::BadDigits) => Err(LineFault::BadLine),
+        Err(DigitsFault::NoMemory) => Err(LineFault::NoMemory),
     }
 }
 
@@ -165,19 +165,4 @@ fn no_bytes(alloc: Global) -> Bytes
     ensures { result ≡ [] }
 {
     Bytes::from_vec(Vec::new(alloc))
-}
-
-/// Whether a word is pairs of hexadecimal digits, at least one.
-fn is_hexadecimal(text: &[u8]) -> bool
-    ensures { IsTrue result ↔
-        ((0 < length text.now) × ((bytes : List ℕ) × HexText bytes text.now)) }
-{
-    !text.is_empty() && text.len() % 2 == 0 && are_hexadecimal_digits(text)
-}
-
-/// Whether each byte is a hexadecimal digit, in either case.
-fn are_hexadecimal_digits(text: &[u8]) -> bool
-    ensures { result ≡ list_all is_ascii_hexdigit text.now }
-{
-    text.iter().all(|digit| digit.is_ascii_hexdigit())
 }

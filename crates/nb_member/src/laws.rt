@@ -2,7 +2,7 @@
 ghost use Rattle.std.specs.Prelude.{◌≡◌, ◌≢◌, ◌⊎◌, ℕ, List, [], filter, Option, Some, None, Result, Ok, Err};
 ghost use Rattle.nb_names.specs.Name.{NetbiosName};
 ghost use Rattle.nb_table.specs.declared.fault.TableFault.TheVariants as table_fault;
-ghost use Rattle.nb_member.specs.declared.limits.TheConstants.{MAX_LINE, MAX_MOMENT_DIGITS, FRAGMENT_TIMEOUT, MAX_NAMES};
+ghost use Rattle.nb_member.specs.declared.limits.TheConstants.{MAX_LINE, MAX_READ, MAX_HELD, MAX_MOMENT_DIGITS, FRAGMENT_TIMEOUT, MAX_NAMES};
 ghost use Rattle.nb_member.specs.declared.line.Line.{Line};
 ghost use Rattle.nb_member.specs.declared.line_fault.LineFault.{LineFault};
 ghost use Rattle.nb_member.specs.declared.line_fault.LineFault.TheVariants.{BadLine, NoMemory};
@@ -139,6 +139,8 @@ pub fn the_same_fragments_make_the_same_table()
 /// The limits, and the characters of a capture's lines, as numbers.
 pub fn limits_are_these_numbers()
     ensures line { MAX_LINE ≡ 262200 }
+    ensures read { MAX_READ ≡ 4096 }
+    ensures held { MAX_HELD ≡ 266296 }
     ensures digits { MAX_MOMENT_DIGITS ≡ 20 }
     ensures timeout { FRAGMENT_TIMEOUT ≡ 2000 }
     ensures names { MAX_NAMES ≡ 254 }

@@ -3,6 +3,12 @@
 /// The longest line of a capture, in bytes, its line feed not counted (our choice).
 pub const MAX_LINE: usize = 262_200;
 
+/// The most bytes that one read of a line asks for (our choice).
+pub const MAX_READ: usize = 4_096;
+
+/// The most bytes that a room for lines has: a longest line, and a read after it.
+pub const MAX_HELD: usize = 266_296;
+
 /// The most digits of a moment (our choice).
 pub const MAX_MOMENT_DIGITS: usize = 20;
 

@@ -1,22 +1,21 @@
 //! Replaying a capture in a member.
 ghost use Rattle.std.specs.Prelude.{◌≡◌, ◌≢◌, ◌≤◌, ℕ, List, length, IfErr, OnOk, Err};
 ghost use Rattle.std.specs.Io.KnownBytes.{Consumes};
-ghost use Rattle.nb_names.specs.declared.limits.TheConstants.{MAX_INPUT};
 ghost use Rattle.nb_names.specs.Devices.{GrowTo, ShowsUnread, ShowsWriteFault};
 ghost use Rattle.nb_member.specs.declared.event.Event.{Event};
-ghost use Rattle.nb_member.specs.Code.ReplayLines.{HasNoWholeReport, WritesLine, EndsReplay};
+ghost use Rattle.nb_member.specs.Code.ReplayLines.{HasNoWholeReport, WritesLine};
 ghost use Rattle.nb_member.specs.Code.Members.{KeepsStation};
 ghost use Rattle.nb_member.specs.Live.{Timed, live};
 ghost use Rattle.nb_member.specs.Member.{StandsOver, Stands};
 ghost use Rattle.nb_member.specs.Replaying.{Replays};
 
-use crate::limits::MAX_LINE;
+use crate::line_read_fault::LineReadFault;
+use crate::line_reading::next_from;
 use crate::line_reports::act_on;
+use crate::line_room::LineRoom;
 use crate::member::Member;
 use crate::replay_fault::ReplayFault;
 use nb_names::Counted;
-use nb_names::input::read_input;
-use nb_names::lines::split_line;
 use nb_names::output::write_whole;
 use std::alloc::Global;
 use std::io::{Read, Write};
@@ -25,8 +24,9 @@ use std::io::{Read, Write};
 /// answer is the number of lines.
 ///
 /// A line feed ends each line; bytes after the last one are a line as well, where there are any. A
-/// line has at most [`MAX_LINE`] bytes, its line feed not counted. An empty line or a comment has
-/// no line in the report. The others have one each: their number, which counts from 1, a space, and
+/// line has at most [`MAX_LINE`](crate::limits::MAX_LINE) bytes, its line feed not counted. An
+/// empty line or a comment has no line in the report. The others have one each: their number, which
+/// counts from 1, a space, and
 ///
 /// - `passed` for a payload of port 137 or 139;
 /// - `dropped COUNT` for a look at the clock;
@@ -75,48 +75,20 @@ pub fn replay<R: Read, W: Write>(
     ensures settings { member.new.settings ≡ member.old.settings }
     ensures names { member.new.names ≡ member.old.names }
 {
-    let input = match read_input(alloc, reader) {
-        Ok(input) => input,
-        Err(_) => return Err(ReplayFault::NoMemory),
-    };
-    replay_lines(alloc, input.front(), input.is_whole, writer, member)
-}
-
-/// Acts on the lines among these bytes, and on what follows them where the input ends there.
-///
-/// # Errors
-///
-/// Those of [`replay`].
-fn replay_lines<W: Write>(
-    alloc: Global,
-    bytes: &[u8],
-    is_whole: bool,
-    writer: &mut Counted<W>,
-    member: &mut Member,
-) -> Result<u64, ReplayFault>
-    requires { length bytes.now ≤ MAX_INPUT }
-    ensures { EndsReplay member.old member.new bytes.now is_whole
-        (W.contents writer.old.inner) (W.contents writer.new.inner)
-        writer.old.counts writer.new.counts result }
-{
-    let mut rest = bytes;
+    let mut room = LineRoom::new(alloc);
     let mut number = 0;
-    while let Some((line, after)) = split_line(rest) {
-        number += 1;
-        replay_line(alloc, number, line, writer, member)?;
-        rest = after;
+    'lines: loop {
+        match next_from(&mut room, reader) {
+            Ok(Some(line)) => {
+                number += 1;
+                replay_line(alloc, number, line, writer, member)?;
+            }
+            Ok(None) => return Ok(number),
+            Err(LineReadFault::TooLong) => return Err(ReplayFault::Line(number + 1)),
+            Err(LineReadFault::Read) => return Err(ReplayFault::Read),
+            Err(LineReadFault::NoMemory) => return Err(ReplayFault::NoMemory),
+        }
     }
-    if MAX_LINE < rest.len() {
-        return Err(ReplayFault::Line(number + 1));
-    }
-    if !is_whole {
-        return Err(ReplayFault::Read);
-    }
-    if rest.is_empty() {
-        return Ok(number);
-    }
-    replay_line(alloc, number + 1, rest, writer, member)?;
-    Ok(number + 1)
 }
 
 /// Acts on the line with this number, and writes its line of the report, if it has one.

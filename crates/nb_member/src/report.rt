@@ -3,6 +3,7 @@ ghost use Rattle.std.specs.Prelude.{◌≡◌, ◌++◌, codes, IfOk, string_byt
 ghost use Rattle.std.specs.Fmt.{decimal};
 ghost use Rattle.nb_member.specs.Report.{numbered, result_text};
 
+mod digits;
 mod texts;
 
 use crate::member_fault::MemberFault;
@@ -11,11 +12,14 @@ use crate::report::texts::push_result;
 use nb_names::NoMemory;
 use std::alloc::Global;
 
+/// The room that a line takes, in bytes, its data and long scopes aside.
+const USUAL_ROOM: usize = 160;
+
 /// The report's line about a payload that isn't the member's to take.
 pub fn passed_line(alloc: Global, number: u64) -> Result<String, NoMemory>
     ensures { IfOk result (λ text. string_bytes text ≡ numbered number (codes "passed")) }
 {
-    let mut text = String::new(alloc);
+    let mut text = String::with_capacity(alloc, USUAL_ROOM)?;
     write!(text, "{number} passed\n")?;
     Ok(text)
 }
@@ -25,7 +29,7 @@ pub fn dropped_line(alloc: Global, number: u64, dropped: Dropped) -> Result<Stri
     ensures { IfOk result (λ text. string_bytes text ≡
         numbered number (codes "dropped " ++ decimal dropped.keys)) }
 {
-    let mut text = String::new(alloc);
+    let mut text = String::with_capacity(alloc, USUAL_ROOM)?;
     let keys = dropped.keys;
     write!(text, "{number} dropped {keys}\n")?;
     Ok(text)
@@ -39,9 +43,17 @@ pub fn taken_line(
 ) -> Result<String, NoMemory>
     ensures { IfOk result (λ text. string_bytes text ≡ numbered number (result_text taken.now)) }
 {
-    let mut text = String::new(alloc);
+    let mut text = String::with_capacity(alloc, room_for(taken))?;
     write!(text, "{number} ")?;
     push_result(alloc, taken, &mut text)?;
     text.push('\n')?;
     Ok(text)
+}
+
+/// The room that a line about this takes, in bytes, long scopes aside.
+fn room_for(taken: &Result<Outcome, MemberFault>) -> usize {
+    match taken {
+        Ok(Outcome::Delivered(datagram)) => USUAL_ROOM + 2 * datagram.bytes().len(),
+        _ => USUAL_ROOM,
+    }
 }

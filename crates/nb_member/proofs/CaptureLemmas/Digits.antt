@@ -1,17 +1,18 @@
 -- Digits: tests of them, numbers of ten, and pairs of sixteen.
 use Rattle.std.proofs.Common.{◌≡◌, ℕ, ◌+◌, ◌*◌, ◌%◌, ◌<◌, true, List, [], ◌∷◌, length, refl, ap, ◌∙◌, arith, Ok, Some}
 use Rattle.std.specs.List.{list_all}
-use Rattle.std.specs.Char.{is_ascii_digit, is_ascii_hexdigit, digit_value}
+use Rattle.std.specs.Char.{is_ascii_digit, digit_value}
 use Rattle.std.specs.Str.{IsAscii}
 use Rattle.std.specs.Str.Parse.{AllDigits}
 use Rattle.std.proofs.lemmas.Bool.{and_parts}
 use Rattle.std.proofs.lemmas.Bool.Decides.{nat_tests}
 use Rattle.std.proofs.lemmas.Str.Ascii.{IsAscii-nil, IsAscii-cons}
 use Rattle.nb_names.specs.NameText.{IsHexDigit, byte_of}
+use Rattle.nb_names.specs.Hexadecimal.{HexText, no_byte, one_more}
+use Rattle.nb_names.specs.HexadecimalFacts.{length-HexText}
 use Rattle.hex.specs.Hex.{decode_of, decode_pairs, pair_value, hex_digit_value}
 use Rattle.hex.proofs.HexLemmas.{decode_of-even}
 use Rattle.hex.proofs.Pairs.{cons_byte, decode_pairs-ok_pair}
-use Rattle.nb_member.specs.Capture.{HexText, no_byte, one_more}
 
 -- ---- decimal digits
 
@@ -43,12 +44,6 @@ IsAscii-from_digits (c ∷ cs) h = IsAscii-cons c cs (digit_ascii c h.0) (IsAsci
 
 -- ---- hexadecimal digits
 
-hex_digit_at : (c : ℕ) → is_ascii_hexdigit c ≡ true → IsHexDigit c
-hex_digit_at c h = grind (arith, nat_tests)
-
-at_hex_digit : (c : ℕ) → IsHexDigit c → is_ascii_hexdigit c ≡ true
-at_hex_digit c h = grind (arith, nat_tests)
-
 -- the crate's value of a digit is std's
 hex_value : (c : ℕ) → IsHexDigit c → hex_digit_value c ≡ Some (digit_value c)
 hex_value c h = grind (arith, nat_tests)
@@ -65,29 +60,6 @@ decode_pairs-from_HexText i _ _ (one_more high low bytes text h l rest) =
     let rec = decode_pairs-from_HexText (i + 2) bytes text rest in
     decode_pairs-ok_pair i high low (byte_of high low) text (pair_is high low i h l)
     ∙ ap (cons_byte (byte_of high low)) rec
-
--- the digits of bytes are two for each
-pub length-HexText : (bytes text : List ℕ) → HexText bytes text → length text ≡ 2 * length bytes
-length-HexText _ _ no_byte = refl
-length-HexText _ _ (one_more high low bytes text h l rest) =
-    let rec = length-HexText bytes text rest in omega (arith, rec)
-
--- and pass the test
-pub test-from_HexText : (bytes text : List ℕ) → HexText bytes text → list_all is_ascii_hexdigit text ≡ true
-test-from_HexText _ _ no_byte = refl
-test-from_HexText _ _ (one_more high low bytes text h l rest) =
-    rw (at_hex_digit high h, at_hex_digit low l) (test-from_HexText bytes text rest)
-
--- an even number of digits gives bytes
-pub HexText-from_test : (text : List ℕ) → list_all is_ascii_hexdigit text ≡ true → length text % 2 ≡ 0
-    → (bytes : List ℕ) × HexText bytes text
-HexText-from_test [] h even = ([], no_byte)
-HexText-from_test (high ∷ []) h even = absurd (omega (arith, even))
-HexText-from_test (high ∷ low ∷ text) h even =
-    let first = and_parts (is_ascii_hexdigit high) (list_all is_ascii_hexdigit (low ∷ text)) h in
-    let second = and_parts (is_ascii_hexdigit low) (list_all is_ascii_hexdigit text) first.1 in
-    let rest = HexText-from_test text second.1 (omega (arith, even)) in
-    (byte_of high low ∷ rest.0, one_more high low rest.0 text (hex_digit_at high first.0) (hex_digit_at low second.0) rest.1)
 
 -- what the crate decodes digits to
 pub decode_of-from_HexText : (bytes text : List ℕ) → HexText bytes text → decode_of text ≡ Ok bytes

@@ -13,7 +13,8 @@ use Rattle.nb_member.specs.declared.line.Line.TheVariants.{Packet, Tick}
 use Rattle.nb_member.specs.declared.line_fault.LineFault.{LineFault}
 use Rattle.nb_member.specs.declared.line_fault.LineFault.TheVariants.{BadLine, NoMemory}
 use Rattle.nb_member.specs.declared.limits.TheConstants.{MAX_LINE, MAX_MOMENT_DIGITS}
-use Rattle.nb_member.proofs.CaptureLemmas.Digits.{AllDigits-from_test, test-from_AllDigits, HexText-from_test, test-from_HexText}
+use Rattle.nb_member.proofs.CaptureLemmas.Digits.{AllDigits-from_test, test-from_AllDigits}
+use Rattle.nb_names.specs.HexadecimalFacts.{HexText-from_test, test-from_HexText}
 use Rattle.nb_member.proofs.CaptureLemmas.Payloads.{PayloadText-cases, no_odd_hex, one_payload}
 use Rattle.nb_member.proofs.CaptureLemmas.Words.{Contains-behind, Contains-before, Blank-cases, Says-cases, packet_behind, packet_at_space, packet_has_space, tick_behind, moment_no_space, port_no_space, tick_no_space, one_split}
 use Rattle.nb_member.specs.Capture.{PortText, names, datagrams, sessions, MomentText, PayloadText, empty, digits, HasWords, packet, tick, Blank, nothing, comment, HasValue, SaysNothing, IsMalformed, Reads}

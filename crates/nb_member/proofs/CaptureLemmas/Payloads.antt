@@ -1,21 +1,12 @@
 -- Payloads: what a word stands for.
-use Rattle.std.proofs.Common.{◌≡◌, ◌≢◌, ℕ, ◌%◌, ◌<◌, Bool, List, [], length, refl, sym, ap, ◌∙◌, arith, Ok, ◌⊎◌, inl, inr}
-use Rattle.std.specs.Prelude.{IsTrue, codes}
-use Rattle.std.specs.List.{list_all}
-use Rattle.std.specs.Char.{is_ascii_hexdigit}
-use Rattle.hex.specs.Hex.{decode_of}
-use Rattle.nb_member.proofs.CaptureLemmas.Digits.{HexText-from_test, test-from_HexText, length-HexText, decode_of-from_HexText, one_HexText}
-use Rattle.nb_member.specs.Capture.{HexText, PayloadText, empty, digits}
-
--- the test of digits, where there is an even number of them, at least two
-pub hex_test : (text : List ℕ) (r : Bool) → 0 < length text → length text % 2 ≡ 0
-    → r ≡ list_all is_ascii_hexdigit text
-    → (IsTrue r → (0 < length text) × ((bytes : List ℕ) × HexText bytes text))
-    × ((0 < length text) × ((bytes : List ℕ) × HexText bytes text) → IsTrue r)
-hex_test text r some even is = (
-  λ t. (some, HexText-from_test text (sym is ∙ t) even),
-  λ h. is ∙ test-from_HexText h.1.0 text h.1.1,
-)
+use Rattle.std.proofs.Common.{◌≡◌, ◌≢◌, ℕ, ◌%◌, ◌<◌, List, [], length, refl, sym, ap, ◌∙◌, arith, Result, Ok, Err, ◌⊎◌, inl, inr}
+use Rattle.std.specs.Prelude.{codes}
+use Rattle.nb_names.specs.Hexadecimal.{HexText, ReadsDigits}
+use Rattle.nb_names.specs.declared.hexadecimal.DigitsFault.{DigitsFault}
+use Rattle.nb_names.specs.declared.hexadecimal.DigitsFault.TheVariants.{NoMemory}
+use Rattle.nb_member.proofs.CaptureLemmas.Digits.{one_HexText}
+use Rattle.nb_names.specs.HexadecimalFacts.{length-HexText}
+use Rattle.nb_member.specs.Capture.{PayloadText, empty, digits}
 
 -- an odd number of digits gives no bytes
 pub no_odd_hex : (text : List ℕ) → length text % 2 ≢ 0 → ¬ ((bytes : List ℕ) × HexText bytes text)
@@ -23,17 +14,17 @@ no_odd_hex text odd h =
     let len = length-HexText h.0 text h.1 in
     odd (omega (arith, len))
 
--- digits give at least one byte where there are any
-pub hex_has_bytes : (bytes text : List ℕ) → HexText bytes text → 0 < length text → 0 < length bytes
-hex_has_bytes bytes text h some =
-    let len = length-HexText bytes text h in
-    omega (arith, len, some)
+-- what is read of digits
+pub some_payload : (text : List ℕ) (r : Result (List ℕ) DigitsFault) (payload : List ℕ) → ReadsDigits text r → r ≡ Ok payload
+    → HexText payload text
+some_payload text r payload reads is = rw is at reads
 
--- what the crate decodes is what the digits give
-pub decoded : (text bytes items : List ℕ) → HexText bytes text → decode_of text ≡ Ok items → HexText items text
-decoded text bytes items h e =
-    let same : items ≡ bytes = cc (decode_of-from_HexText bytes text h) in
-    rw same h
+-- where there is no room for the bytes of digits
+pub no_room : (text : List ℕ) (r : Result (List ℕ) DigitsFault) (fault : DigitsFault) → 0 < length text → ReadsDigits text r
+    → r ≡ Err fault → fault ≡ NoMemory → (payload : List ℕ) × PayloadText payload text × 0 < length payload
+no_room text r fault some reads is lacks =
+    let found = rw (is, lacks) at reads in
+    (found.0, digits found.0 text some found.1, found.2)
 
 -- a payload's word is `empty`, or digits
 pub PayloadText-cases : (payload text : List ℕ) → PayloadText payload text

@@ -1,24 +1,26 @@
 -- How a replay ends.
-use Rattle.std.proofs.Common.{◌≡◌, ◌+◌, ◌≤◌, ◌++◌, ℕ, List, [], ◌∷◌, length, take, drop, Option, Ok, Err, ◌≢◌, ◌<◌, Bool, true, false, refl, sym, subst, ◌∙◌, ap, inl, inr, append_assoc, arith}
-use Rattle.std.specs.Prelude.{◌==◌, Contains}
-use Rattle.std.specs.Io.KnownBytes.{Appends}
-use Rattle.std.proofs.lemmas.List.{append-nil, length-append, take-append-drop, take_all}
-use Rattle.nb_table.specs.Lemmas.SameLemmas.{eq_is}
+use Rattle.std.proofs.Common.{◌≡◌, ◌⊎◌, ◌+◌, ◌≤◌, ◌++◌, ℕ, List, [], ◌∷◌, length, take, drop, Option, Some, None, Result, Ok, Err, ◌≢◌, refl, sym, subst, ◌∙◌, ap, inl, inr, append_assoc, arith}
+use Rattle.std.specs.Io.KnownBytes.{Appends, Consumes}
+use Rattle.std.proofs.lemmas.List.{append-nil, take-append-drop, take_all}
 use Rattle.nb_names.specs.Counted.{Counts}
+use Rattle.nb_names.specs.Devices.{ShowsUnread}
+use Rattle.nb_names.specs.DeviceFacts.{Appends-more, Appends-kept}
+use Rattle.nb_names.specs.LineFacts.{any_cut}
+use Rattle.nb_names.specs.Lines.{CutInto, rest, line, with_rest}
+use Rattle.nb_names.specs.declared.limits.TheConstants.{MAX_INPUT}
 use Rattle.nb_member.specs.declared.event.Event.{Event}
-use Rattle.nb_member.specs.declared.limits.TheConstants.{MAX_LINE}
+use Rattle.nb_member.specs.declared.line_read_fault.LineReadFault.TheVariants as fault
 use Rattle.nb_member.specs.declared.replay_fault.ReplayFault.{ReplayFault}
 use Rattle.nb_member.specs.declared.replay_fault.ReplayFault.TheVariants.{Line, Read, Write, NoMemory}
-use Rattle.nb_names.specs.Devices.{ShowsWriteFault}
-use Rattle.nb_names.specs.Lines.{CutInto, rest, line, with_rest}
-use Rattle.nb_names.specs.DeviceFacts.{Appends-nil, Appends-more, Appends-kept, fails_from}
-use Rattle.nb_names.specs.LineFacts.{any_cut}
-use Rattle.nb_member.proofs.ReplayLemmas.ReplaySoFar.{kept_on, SoFar, with_line, report_of, replayed, nothing_yet, Turn, IsReplaying}
-use Rattle.nb_member.specs.Code.ReplayLines.{WritesLine, HasNoWholeReport, EndsReplay}
+use Rattle.nb_member.specs.Code.ReplayLines.{HasNoWholeReport}
 use Rattle.nb_member.specs.Code.Members.{KeepsStation}
+use Rattle.nb_member.specs.LineReading.{ReadsLine}
+use Rattle.nb_member.specs.LineRoom.{RoomValue}
+use Rattle.nb_member.specs.LinesSoFar.{HandedOut, cut_both, was_reading, came, kept_are, none_over, handed_more, handed_all, shows_unread, LongFirst, open_end, with_feed, long_first, long_line}
 use Rattle.nb_member.specs.Live.{Timed, live_from, live}
 use Rattle.nb_member.specs.Member.{MemberValue, StandsOver, Stands}
-use Rattle.nb_member.specs.Replaying.{Replayed, Writes, Stops, Replays, AreLines, finished, whole, ended, too_long, IsWhole, looked_at}
+use Rattle.nb_member.specs.Replaying.{Replayed, Writes, Stops, Replays, AreLines, finished, whole, ComesMalformed, ended, too_long, looked_at}
+use Rattle.nb_member.proofs.ReplayLemmas.ReplaySoFar.{SoFar, with_line, report_of, replayed, IsReplaying}
 
 -- ---- where it ends
 
@@ -37,11 +39,11 @@ stays : (m : MemberValue) (L : List Timed) (done : List (List ℕ)) (text : List
 stays m L done text new newer t same = subst (λ (x : MemberValue). SoFar m L done text x) (sym same) t
 
 -- the replay stopped after these lines, nothing of the next one's report being written
-stops_behind : (m : MemberValue) (H : List Event) (s : Stands m H) (came : List ℕ) (left : Option (List ℕ)) (before after : Option (List ℕ))
+stops_after : (m : MemberValue) (H : List Event) (s : Stands m H) (came : List ℕ) (left : Option (List ℕ)) (before after : Option (List ℕ))
     (done more : List (List ℕ)) (text : List ℕ) (new : MemberValue) → SoFar m (live m.settings s.sayings) done text new
     → new.settings ≡ m.settings → Appends before after text → AreLines came left (done ++ more)
     → Stops m H (live m.settings s.sayings) came left new before after
-stops_behind m H s came left before after done more text new t same written are = record {
+stops_after m H s came left before after done more text new t same written are = record {
   ready = done;
   last = [];
   more = more;
@@ -107,7 +109,7 @@ ends_at m H s came left before mid after done more l text new newer number t sam
 ends_at m H s came left before mid after done more l text new newer number t same still written at are NoMemory p =
     elim (p.0) [
       | inl stayed ↦
-          stops_behind m H s came left before after done (l ∷ more) text newer
+          stops_after m H s came left before after done (l ∷ more) text newer
           (stays m (live m.settings s.sayings) done text new newer t stayed) still
           (Appends-kept before mid after text written p.1) are
       | inr acted ↦
@@ -116,182 +118,209 @@ ends_at m H s came left before mid after done more l text new newer number t sam
           still (subst (λ (bs : List ℕ). Appends before after bs) (sym (append-nil text)) (Appends-kept before mid after text written p.1)) are
     ]
 
--- ---- what is left after the last line feed
+-- ---- the lines among the bytes that came
 
-pub no_bytes : (bytes : List ℕ) → (length bytes == 0) ≡ true → bytes ≡ []
-no_bytes [] h = refl
-no_bytes (b ∷ bytes) h = let same : length (b ∷ bytes) ≡ 0 = eq_is (length (b ∷ bytes)) 0 h in absurd (omega (arith, same))
+-- EndsReplay m first left counts later new before after result: what a replay says of the bytes that it took
+abbrev pub EndsReplay : MemberValue → Option (List ℕ) → Option (List ℕ) → Counts → Counts → MemberValue
+    → Option (List ℕ) → Option (List ℕ) → Result ℕ ReplayFault → Type 0
+EndsReplay m first left counts later new before after result =
+    (bytes : List ℕ) × Consumes first left bytes
+    × ((result ≡ Err Read → ShowsUnread bytes counts later)
+    × ((H : List Event) (s : Stands m H) → Replays m H (live m.settings s.sayings) bytes left new before after result))
 
-pub some_bytes : (bytes : List ℕ) → (length bytes == 0) ≡ false → 0 < length bytes
-some_bytes [] h = absurd (cc)
-some_bytes (b ∷ bytes) h = omega arith
+-- all the bytes are looked at where they are no more than the limit
+all_looked_at : (bytes : List ℕ) → length bytes ≤ MAX_INPUT → looked_at bytes ≡ bytes
+all_looked_at bytes within = take_all MAX_INPUT bytes within
 
-with_rest_some : (lines : List (List ℕ)) (left : List ℕ) → 0 < length left → with_rest lines left ≡ lines ++ left ∷ []
-with_rest_some lines [] h = absurd (omega (arith, h))
-with_rest_some lines (b ∷ left) h = refl
+-- the lines that were handed out, and those among what is held
+record LinesHeld (bytes : List ℕ) (left : Option (List ℕ)) (acted : List (List ℕ)) : Type 0 where
+  pub more : List (List ℕ)
+  pub are : AreLines bytes left (acted ++ more)
 
--- all the bytes are looked at where they are the whole input
-whole_is : (came : List ℕ) (left : Option (List ℕ)) → IsWhole came left → looked_at came ≡ came
-whole_is came left w = take_all _ came w.within
-
--- the lines so far, and the rest
-cut_here : (m : MemberValue) (L : List Timed) (before after : Option (List ℕ)) (bytes here : List ℕ) (number : ℕ) (new : MemberValue)
-    (came : List ℕ) (t : Turn m L before after bytes here number new) → bytes ≡ looked_at came → ¬ Contains here 10
-    → CutInto (looked_at came) t.done here
-cut_here m L before after bytes here number new came t is clear =
-    subst (λ (bs : List ℕ). CutInto bs t.done here) is
-    (subst (λ (ls : List (List ℕ)). CutInto bytes ls here) (append-nil t.done) (t.cut [] here (rest here clear)))
+lines_held : (first now : Option (List ℕ)) (counts later : Counts) (room : RoomValue) (lines : List (List ℕ)) (last : List ℕ)
+    (h : HandedOut first now counts later room lines last) → LinesHeld (h.passed ++ room.rest) now (with_rest lines last)
+lines_held first now counts later room lines last h =
+    let within : length (h.passed ++ room.rest) ≤ MAX_INPUT = omega (arith, h.within, h.taken) in
+    let all = all_looked_at (h.passed ++ room.rest) within in
+    elim (h.stands) [
+      | inl reading ↦
+          let held = any_cut room.rest in
+          let acted : lines ≡ with_rest lines last = ap (with_rest lines) (sym reading.1) in
+          record {
+            more = held.lines;
+            are = subst (λ (ls : List (List ℕ)). AreLines (h.passed ++ room.rest) now (ls ++ held.lines)) acted
+                (finished (lines ++ held.lines) held.left
+                (subst (λ (bs : List ℕ). CutInto bs (lines ++ held.lines) held.left) (sym all)
+                (cut_both h.passed room.rest lines held.lines last held.left reading.1 h.cut held.cut)));
+          }
+      | inr stopped ↦
+          let front : h.passed ++ room.rest ≡ h.passed = ap (λ (bs : List ℕ). h.passed ++ bs) stopped.1 ∙ append-nil h.passed in
+          record {
+            more = [];
+            are = subst (λ (ls : List (List ℕ)). AreLines (h.passed ++ room.rest) now ls) (sym (append-nil (with_rest lines last)))
+                (whole lines last (subst (λ (bs : List ℕ). CutInto bs lines last) (sym (all ∙ front)) h.cut)
+                (record { at_end = stopped.2; within = within }));
+          }
+    ]
 
 plus_one : (n k : ℕ) → n ≡ k → n + 1 ≡ k + 1
 plus_one n k same = ap (λ (x : ℕ). x + 1) same
 
--- the replay ended at a finished line
-pub ends_in_loop : (m : MemberValue) (before mid after : Option (List ℕ)) (old counts later : Counts) (bytes here there l : List ℕ)
-    (number : ℕ) (new newer : MemberValue) (is_whole : Bool) (fault : ReplayFault)
-    → IsReplaying m before mid old counts bytes here number new
-    → here ≡ l ++ 10 ∷ there → ¬ Contains l 10 → KeepsStation new newer
+-- ---- how the loop ends
+
+-- the replay ended at a line
+pub ends_at_line : (m : MemberValue) (first now next : Option (List ℕ)) (counts_in later_in after_in : Counts)
+    (before mid after : Option (List ℕ)) (old counts : Counts) (room left : RoomValue) (l : List ℕ)
+    (number : ℕ) (new newer : MemberValue) (fault : ReplayFault)
+    → IsReplaying m first now counts_in later_in before mid old counts room number new
+    → ReadsLine room now next later_in after_in (Ok (Some l)) left → KeepsStation new newer
     → ((L : List Timed) → StandsOver new L → HasNoWholeReport new L (number + 1) l newer mid after fault)
-    → fault ≢ Read → (fault ≡ Write → ShowsWriteFault counts later)
-    → EndsReplay m newer bytes is_whole before after old later (Err fault)
-ends_in_loop m before mid after old counts later bytes here there l number new newer is_whole fault t parts clear kept stops unread why = record {
-  replays = λ came left is whole H s.
-      let L = live m.settings s.sayings in
-      let was = t.turn L s.over in
-      let behind = any_cut there in
-      let cut = was.cut (l ∷ behind.lines) behind.left
-      (subst (λ (bs : List ℕ). CutInto bs (l ∷ behind.lines) behind.left) (sym parts) (line l there behind.left behind.lines clear behind.cut)) in
-      let are = finished (was.done ++ l ∷ behind.lines) behind.left
-      (subst (λ (bs : List ℕ). CutInto bs (was.done ++ l ∷ behind.lines) behind.left) is cut) in
-      ends_at m H s came left before mid after was.done behind.lines l was.text new newer (number + 1) was.so_far
-      t.kept (kept.0 ∙ t.kept.0) was.appends (plus_one number (length was.done) was.counted) are fault
-      (stops (live_from m.settings L was.so_far.sayings) was.so_far.stands);
-  read = λ e. let same : fault ≡ Read = cc in absurd (unread same);
-  write = λ e. let same : fault ≡ Write = cc in fails_from old counts later t.grow (why same);
-  kept = kept_on m new newer t.kept kept;
-}
+    → fault ≢ Read → EndsReplay m first next counts_in after_in newer before after (Err fault)
+ends_at_line m first now next counts_in later_in after_in before mid after old counts room left l number new newer fault t r kept stops unread =
+    let o = handed_more first now next counts_in later_in after_in room left t.lines t.last l t.handed r in
+    let acted = with_rest t.lines t.last in
+    let held = lines_held first next counts_in after_in left o.lines o.last o.handed in
+    let bytes = o.handed.passed ++ left.rest in
+    let are : AreLines bytes next (acted ++ l ∷ held.more) =
+    subst (λ (ls : List (List ℕ)). AreLines bytes next ls) (append_assoc acted (l ∷ []) held.more)
+    (subst (λ (ls : List (List ℕ)). AreLines bytes next (ls ++ held.more)) o.are held.are) in (
+      bytes,
+      o.handed.consumes,
+      (
+        (λ e. let same : fault ≡ Read = cc e in absurd (unread same)),
+        (λ H s.
+            let L = live m.settings s.sayings in
+            let was = t.turn L s.over in
+            ends_at m H s bytes next before mid after acted held.more l was.text new newer (number + 1) was.so_far
+            t.kept (kept.0 ∙ t.kept.0) was.appends (plus_one number (length acted) t.counted) are fault
+            (stops (live_from m.settings L was.so_far.sayings) was.so_far.stands)),
+      ),
+    )
 
--- what is left is too long for a line
-pub ends_too_long : (m : MemberValue) (before after : Option (List ℕ)) (old counts : Counts) (bytes here : List ℕ)
-    (number : ℕ) (new : MemberValue) (is_whole : Bool)
-    → IsReplaying m before after old counts bytes here number new → ¬ Contains here 10 → MAX_LINE < length here
-    → EndsReplay m new bytes is_whole before after old counts (Err (Line (number + 1)))
-ends_too_long m before after old counts bytes here number new is_whole t clear long = record {
-  replays = λ came left is whole H s.
-      let L = live m.settings s.sayings in
-      let was = t.turn L s.over in (
-        was.done,
-        too_long was.done here (cut_here m L before after bytes here number new came was is clear) long,
-        plus_one number (length was.done) was.counted,
-        writes m H s before after was.done was.text new was.so_far t.kept.0 was.appends,
-      );
-  read = λ e. absurd (cc);
-  write = λ e. absurd (cc);
-  kept = t.kept;
-}
+comes_malformed : (bytes : List ℕ) (left : Option (List ℕ)) (passed held : List ℕ) (lines : List (List ℕ))
+    → CutInto passed lines [] → looked_at bytes ≡ passed ++ held → LongFirst held → ComesMalformed bytes left lines
+comes_malformed bytes left passed _ lines before is (open_end held clear long) =
+    too_long lines held (subst (λ (bs : List ℕ). CutInto bs lines held) (sym is)
+    (subst (λ (ls : List (List ℕ)). CutInto (passed ++ held) ls held) (append-nil lines)
+    (cut_both passed held lines [] [] held refl before (rest held clear)))) long
+comes_malformed bytes left passed _ lines before is (with_feed l after clear long) =
+    let c = any_cut after in
+    ended lines c.lines l (finished (lines ++ l ∷ c.lines) c.left (subst (λ (bs : List ℕ). CutInto bs (lines ++ l ∷ c.lines) c.left) (sym is)
+    (cut_both passed (l ++ 10 ∷ after) lines (l ∷ c.lines) [] c.left refl before (line l after c.left c.lines clear c.cut)))) (long_line l long)
 
--- the input wasn't read whole
-pub ends_unread : (m : MemberValue) (before after : Option (List ℕ)) (old counts : Counts) (bytes here : List ℕ)
-    (number : ℕ) (new : MemberValue) (is_whole : Bool)
-    → IsReplaying m before after old counts bytes here number new → ¬ Contains here 10 → length here ≤ MAX_LINE
-    → is_whole ≡ false → EndsReplay m new bytes is_whole before after old counts (Err Read)
-ends_unread m before after old counts bytes here number new is_whole t clear short cut_off = record {
-  replays = λ came left is whole H s.
-      let L = live m.settings s.sayings in
-      let was = t.turn L s.over in (
-        was.done,
-        here,
-        cut_here m L before after bytes here number new came was is clear,
-        short,
-        writes m H s before after was.done was.text new was.so_far t.kept.0 was.appends,
-      );
-  read = λ e. cut_off;
-  write = λ e. absurd (cc);
-  kept = t.kept;
-}
+-- the next line is too long
+pub ends_too_long : (m : MemberValue) (first now next : Option (List ℕ)) (counts_in later_in after_in : Counts)
+    (before after : Option (List ℕ)) (old counts : Counts) (room left : RoomValue) (number : ℕ) (new : MemberValue)
+    → IsReplaying m first now counts_in later_in before after old counts room number new
+    → ReadsLine room now next later_in after_in (Err fault.TooLong) left
+    → EndsReplay m first next counts_in after_in new before after (Err (Line (number + 1)))
+ends_too_long m first now next counts_in later_in after_in before after old counts room left number new t r =
+    let was = was_reading first now counts_in later_in room t.lines t.last (Err fault.TooLong) t.handed r.again (λ e. absurd (cc e)) in
+    let c = came first now next counts_in later_in after_in room left t.lines t.last (Err fault.TooLong) t.handed was.1 r in
+    let none = none_over room now next later_in after_in (Err fault.TooLong) left r (λ e. absurd (cc e)) in
+    let held = room.rest ++ r.got in
+    let acted : t.lines ≡ with_rest t.lines t.last = ap (with_rest t.lines) (sym was.1) in
+    let bytes = (c.passed ++ held) ++ r.over in (
+      bytes,
+      c.consumes,
+      (
+        (λ e. absurd (cc e)),
+        (λ H s.
+            let turn = t.turn (live m.settings s.sayings) s.over in (
+              with_rest t.lines t.last,
+              subst (λ (ls : List (List ℕ)). ComesMalformed bytes next ls) acted
+                  (comes_malformed bytes next c.passed held t.lines c.cut
+                  (kept_are first next counts_in after_in t.lines held r.over left.taken c (inl none)) (long_first held r.answers.0)),
+              plus_one number (length (with_rest t.lines t.last)) t.counted,
+              writes m H s before after (with_rest t.lines t.last) turn.text new turn.so_far t.kept.0 turn.appends,
+            )),
+      ),
+    )
 
--- nothing is left
-pub ends_with_line_feed : (m : MemberValue) (before after : Option (List ℕ)) (old counts : Counts) (bytes here : List ℕ)
-    (number : ℕ) (new : MemberValue) (is_whole : Bool)
-    → IsReplaying m before after old counts bytes here number new → ¬ Contains here 10 → here ≡ []
-    → is_whole ≡ true → EndsReplay m new bytes is_whole before after old counts (Ok number)
-ends_with_line_feed m before after old counts bytes here number new is_whole t clear none whole_input = record {
-  replays = λ came left is whole H s.
-      let L = live m.settings s.sayings in
-      let was = t.turn L s.over in
-      let w = whole whole_input in
-      let cut = cut_here m L before after bytes here number new came was is clear in (
-        was.done,
-        [],
-        subst (λ (bs : List ℕ). CutInto bs was.done []) (whole_is came left w)
-            (subst (λ (bs : List ℕ). CutInto (looked_at came) was.done bs) none cut),
-        w,
-        was.counted,
-        writes m H s before after was.done was.text new was.so_far t.kept.0 was.appends,
-      );
-  read = λ e. absurd (cc);
-  write = λ e. absurd (cc);
-  kept = t.kept;
-}
+-- the input can't be read further
+pub ends_unread : (m : MemberValue) (first now next : Option (List ℕ)) (counts_in later_in after_in : Counts)
+    (before after : Option (List ℕ)) (old counts : Counts) (room left : RoomValue) (number : ℕ) (new : MemberValue)
+    → IsReplaying m first now counts_in later_in before after old counts room number new
+    → ReadsLine room now next later_in after_in (Err fault.Read) left
+    → EndsReplay m first next counts_in after_in new before after (Err Read)
+ends_unread m first now next counts_in later_in after_in before after old counts room left number new t r =
+    let was = was_reading first now counts_in later_in room t.lines t.last (Err fault.Read) t.handed r.again (λ e. absurd (cc e)) in
+    let c = came first now next counts_in later_in after_in room left t.lines t.last (Err fault.Read) t.handed was.1 r in
+    let held = room.rest ++ r.got in
+    let over : (r.over ≡ []) ⊎ (left.taken ≡ MAX_INPUT) = elim (r.kept) [
+      | inl none ↦ inl none
+      | inr full ↦ inr full.1
+    ] in
+    let acted : t.lines ≡ with_rest t.lines t.last = ap (with_rest t.lines) (sym was.1) in
+    let cut : CutInto (c.passed ++ held) t.lines held =
+    subst (λ (ls : List (List ℕ)). CutInto (c.passed ++ held) ls held) (append-nil t.lines)
+    (cut_both c.passed held t.lines [] [] held refl c.cut (rest held r.answers.0.1)) in (
+      (c.passed ++ held) ++ r.over,
+      c.consumes,
+      (
+        (λ e. shows_unread first now next counts_in later_in after_in room left t.lines t.last t.handed r c was.0),
+        (λ H s.
+            let turn = t.turn (live m.settings s.sayings) s.over in (
+              with_rest t.lines t.last,
+              held,
+              subst (λ (ls : List (List ℕ)). CutInto (looked_at ((c.passed ++ held) ++ r.over)) ls held) acted
+                  (subst (λ (bs : List ℕ). CutInto bs t.lines held)
+                  (sym (kept_are first next counts_in after_in t.lines held r.over left.taken c over)) cut),
+              r.answers.0.0,
+              writes m H s before after (with_rest t.lines t.last) turn.text new turn.so_far t.kept.0 turn.appends,
+            )),
+      ),
+    )
 
--- the last line lacks its line feed
-pub ends_with_rest : (m : MemberValue) (before mid after : Option (List ℕ)) (old counts later : Counts) (bytes here : List ℕ)
-    (number : ℕ) (new newer : MemberValue) (is_whole : Bool)
-    → IsReplaying m before mid old counts bytes here number new → ¬ Contains here 10 → 0 < length here
-    → is_whole ≡ true → KeepsStation new newer
-    → ((L : List Timed) → StandsOver new L → WritesLine new L (number + 1) here newer mid after)
-    → EndsReplay m newer bytes is_whole before after old later (Ok (number + 1))
-ends_with_rest m before mid after old counts later bytes here number new newer is_whole t clear some whole_input kept w = record {
-  replays = λ came left is whole H s.
-      let L = live m.settings s.sayings in
-      let was = t.turn L s.over in
-      let input = whole whole_input in
-      let cut = cut_here m L before mid bytes here number new came was is clear in
-      let wrote = w (live_from m.settings L was.so_far.sayings) was.so_far.stands in
-      let at = plus_one number (length was.done) was.counted in
-      let all : with_rest was.done here ≡ was.done ++ here ∷ [] = with_rest_some was.done here some in
-      let now = with_line m L was.done here was.text new newer was.so_far t.kept (number + 1) at wrote.text wrote.acted in (
-        was.done,
-        here,
-        subst (λ (bs : List ℕ). CutInto bs was.done here) (whole_is came left input) cut,
-        input,
-        at ∙ sym (ap length all ∙ length-append was.done (here ∷ [])),
-        subst (λ (ls : List (List ℕ)). Writes m H L ls newer before after) (sym all)
-            (writes m H s before after (was.done ++ here ∷ []) (was.text ++ wrote.text) newer now (kept.0 ∙ t.kept.0)
-            (Appends-more before mid after was.text wrote.text was.appends wrote.written)),
-      );
-  read = λ e. absurd (cc);
-  write = λ e. absurd (cc);
-  kept = kept_on m new newer t.kept kept;
-}
+-- there is no memory for the next line
+pub ends_unheld : (m : MemberValue) (first now next : Option (List ℕ)) (counts_in later_in after_in : Counts)
+    (before after : Option (List ℕ)) (old counts : Counts) (room left : RoomValue) (number : ℕ) (new : MemberValue)
+    → IsReplaying m first now counts_in later_in before after old counts room number new
+    → ReadsLine room now next later_in after_in (Err fault.NoMemory) left
+    → EndsReplay m first next counts_in after_in new before after (Err NoMemory)
+ends_unheld m first now next counts_in later_in after_in before after old counts room left number new t r =
+    let was = was_reading first now counts_in later_in room t.lines t.last (Err fault.NoMemory) t.handed r.again (λ e. absurd (cc e)) in
+    let c = came first now next counts_in later_in after_in room left t.lines t.last (Err fault.NoMemory) t.handed was.1 r in
+    let none = none_over room now next later_in after_in (Err fault.NoMemory) left r (λ e. absurd (cc e)) in
+    let held = room.rest ++ r.got in
+    let cut = any_cut held in
+    let acted : t.lines ≡ with_rest t.lines t.last = ap (with_rest t.lines) (sym was.1) in
+    let bytes = (c.passed ++ held) ++ r.over in
+    let are : AreLines bytes next (t.lines ++ cut.lines) =
+    finished (t.lines ++ cut.lines) cut.left (subst (λ (bs : List ℕ). CutInto bs (t.lines ++ cut.lines) cut.left)
+    (sym (kept_are first next counts_in after_in t.lines held r.over left.taken c (inl none)))
+    (cut_both c.passed held t.lines cut.lines [] cut.left refl c.cut cut.cut)) in (
+      bytes,
+      c.consumes,
+      (
+        (λ e. absurd (cc e)),
+        (λ H s.
+            let turn = t.turn (live m.settings s.sayings) s.over in
+            stops_after m H s bytes next before after (with_rest t.lines t.last) cut.lines turn.text new turn.so_far t.kept.0 turn.appends
+            (subst (λ (ls : List (List ℕ)). AreLines bytes next (ls ++ cut.lines)) acted are)),
+      ),
+    )
 
--- the replay ended at the last line, which lacks its line feed
-pub ends_at_rest : (m : MemberValue) (before mid after : Option (List ℕ)) (old counts later : Counts) (bytes here : List ℕ)
-    (number : ℕ) (new newer : MemberValue) (is_whole : Bool) (fault : ReplayFault)
-    → IsReplaying m before mid old counts bytes here number new → ¬ Contains here 10 → 0 < length here
-    → is_whole ≡ true → KeepsStation new newer
-    → ((L : List Timed) → StandsOver new L → HasNoWholeReport new L (number + 1) here newer mid after fault)
-    → fault ≢ Read → (fault ≡ Write → ShowsWriteFault counts later)
-    → EndsReplay m newer bytes is_whole before after old later (Err fault)
-ends_at_rest m before mid after old counts later bytes here number new newer is_whole fault t clear some whole_input kept stops unread why = record {
-  replays = λ came left is whole_if H s.
-      let L = live m.settings s.sayings in
-      let was = t.turn L s.over in
-      let cut = cut_here m L before mid bytes here number new came was is clear in
-      let are : AreLines came left (was.done ++ here ∷ []) =
-      subst (λ (ls : List (List ℕ)). AreLines came left ls) (with_rest_some was.done here some)
-      (whole was.done here cut (whole_if whole_input)) in
-      ends_at m H s came left before mid after was.done [] here was.text new newer (number + 1) was.so_far
-      t.kept (kept.0 ∙ t.kept.0) was.appends (plus_one number (length was.done) was.counted) are fault
-      (stops (live_from m.settings L was.so_far.sayings) was.so_far.stands);
-  read = λ e. let same : fault ≡ Read = cc in absurd (unread same);
-  write = λ e. let same : fault ≡ Write = cc in fails_from old counts later t.grow (why same);
-  kept = kept_on m new newer t.kept kept;
-}
-
--- the input couldn't be held
-pub ends_unheld : (m : MemberValue) (H : List Event) (s : Stands m H) (came : List ℕ) (left before : Option (List ℕ))
-    → Replays m H (live m.settings s.sayings) came left m before before (Err NoMemory)
-ends_unheld m H s came left before =
-    let behind = any_cut (looked_at came) in
-    stops_behind m H s came left before before [] behind.lines [] m (nothing_yet m (live m.settings s.sayings) s.over) refl (Appends-nil before)
-    (finished behind.lines behind.left behind.cut)
+-- the input is at its end
+pub ends_at_end : (m : MemberValue) (first now next : Option (List ℕ)) (counts_in later_in after_in : Counts)
+    (before after : Option (List ℕ)) (old counts : Counts) (room left : RoomValue) (number : ℕ) (new : MemberValue)
+    → IsReplaying m first now counts_in later_in before after old counts room number new
+    → ReadsLine room now next later_in after_in (Ok None) left
+    → EndsReplay m first next counts_in after_in new before after (Ok number)
+ends_at_end m first now next counts_in later_in after_in before after old counts room left number new t r =
+    let a = handed_all first now next counts_in later_in after_in room left t.lines t.last t.handed r in (
+      a.bytes,
+      a.consumes,
+      (
+        (λ e. absurd (cc e)),
+        (λ H s.
+            let turn = t.turn (live m.settings s.sayings) s.over in (
+              t.lines,
+              t.last,
+              a.cut,
+              record { at_end = a.at_end; within = a.within },
+              t.counted,
+              writes m H s before after (with_rest t.lines t.last) turn.text new turn.so_far t.kept.0 turn.appends,
+            )),
+      ),
+    )

@@ -1,6 +1,5 @@
 -- What a replay keeps from line to line.
-use Rattle.std.proofs.Common.{◌≡◌, ◌+◌, ◌≤◌, ◌++◌, ℕ, List, [], ◌∷◌, length, Option, refl, sym, subst, ◌∙◌, ap, append_assoc, arith}
-use Rattle.std.specs.Prelude.{Contains}
+use Rattle.std.proofs.Common.{◌≡◌, ◌+◌, ◌≤◌, ◌++◌, ℕ, List, [], ◌∷◌, length, Option, Some, Ok, refl, sym, subst, ◌∙◌, ap, append_assoc, arith}
 use Rattle.std.specs.Io.KnownBytes.{Appends}
 use Rattle.std.proofs.lemmas.List.{append-nil, length-append}
 use Rattle.std.proofs.lemmas.List.Sums.{fold-append}
@@ -9,7 +8,7 @@ use Rattle.nb_names.specs.Name.{NetbiosName}
 use Rattle.nb_member.specs.declared.event.Event.{Event}
 use Rattle.nb_member.specs.declared.settings.Settings.{Settings}
 use Rattle.nb_names.specs.Devices.{GrowTo}
-use Rattle.nb_names.specs.Lines.{CutInto, line}
+use Rattle.nb_names.specs.Lines.{with_rest}
 use Rattle.nb_member.specs.Report as reports
 use Rattle.nb_member.specs.Events as saying
 use Rattle.nb_names.specs.DeviceFacts.{Appends-nil, Appends-more, grows_on}
@@ -20,6 +19,9 @@ use Rattle.nb_member.specs.Live.{Timed, live_after, live_from, live}
 use Rattle.nb_member.specs.Member.{MemberValue, StandsOver, Stands}
 use Rattle.nb_member.specs.Report.{ReportOfLine, nothing, passed, taken, tick, ReportOf}
 use Rattle.nb_member.specs.Replaying.{Replayed}
+use Rattle.nb_member.specs.LineReading.{ReadsLine}
+use Rattle.nb_member.specs.LineRoom.{RoomValue, nothing_held}
+use Rattle.nb_member.specs.LinesSoFar.{HandedOut, nothing_handed, handed_more, bytes_less}
 
 -- ---- sayings
 
@@ -126,22 +128,24 @@ replayed m H s done text new t same = record {
 
 -- ---- turns of the loop
 
--- Turn m L before after bytes here number new: so many lines of the bytes were acted on, their report is
--- written, and what is left begins here
-pub record Turn (m : MemberValue) (L : List Timed) (before after : Option (List ℕ)) (bytes here : List ℕ) (number : ℕ) (new : MemberValue) : Type 0 where
-  pub done : List (List ℕ)
+-- Turn m L before after acted new: these lines were acted on, and their report is written
+pub record Turn (m : MemberValue) (L : List Timed) (before after : Option (List ℕ)) (acted : List (List ℕ)) (new : MemberValue) : Type 0 where
   pub text : List ℕ
-  pub counted : number ≡ length done
-  pub cut : (more : List (List ℕ)) (left : List ℕ) → CutInto here more left → CutInto bytes (done ++ more) left
-  pub so_far : SoFar m L done text new
+  pub so_far : SoFar m L acted text new
   pub appends : Appends before after text
 
--- IsReplaying m before after old counts bytes here number new: the same for whatever fragments m stands over
-pub record IsReplaying (m : MemberValue) (before after : Option (List ℕ)) (old counts : Counts) (bytes here : List ℕ) (number : ℕ) (new : MemberValue) : Type 0 where
-  pub turn : (L : List Timed) → StandsOver m L → Turn m L before after bytes here number new
-  pub within : number + length here ≤ length bytes
+-- IsReplaying m first now counts_in later_in before after counts later room number new: so many lines of what was
+-- read were handed out and acted on, for whatever fragments m stands over, and their report is written
+pub record IsReplaying (m : MemberValue) (first now : Option (List ℕ)) (counts_in later_in : Counts)
+    (before after : Option (List ℕ)) (counts later : Counts) (room : RoomValue) (number : ℕ) (new : MemberValue) : Type 0 where
+  pub lines : List (List ℕ)
+  pub last : List ℕ
+  pub handed : HandedOut first now counts_in later_in room lines last
+  pub counted : number ≡ length (with_rest lines last)
+  pub within : number + length room.rest ≤ room.taken
+  pub turn : (L : List Timed) → StandsOver m L → Turn m L before after (with_rest lines last) new
   pub kept : KeepsStation m new
-  pub grow : GrowTo old counts
+  pub grow : GrowTo counts later
 
 pub nothing_yet : (m : MemberValue) (L : List Timed) → StandsOver m L → SoFar m L [] [] m
 nothing_yet m L s = record {
@@ -153,48 +157,50 @@ nothing_yet m L s = record {
 }
 
 -- before the first line
-pub first_turn : (m : MemberValue) (before : Option (List ℕ)) (counts : Counts) (bytes : List ℕ)
-    → IsReplaying m before before counts counts bytes bytes 0 m
-first_turn m before counts bytes = record {
-  turn = λ L s. record {
-    done = [];
-    text = [];
-    counted = refl;
-    cut = λ more left c. c;
-    so_far = nothing_yet m L s;
-    appends = Appends-nil before;
-  };
-  within = omega arith;
+pub first_turn : (m : MemberValue) (known before : Option (List ℕ)) (counts_in counts : Counts) (room : RoomValue) → room ≡ nothing_held
+    → IsReplaying m known known counts_in counts_in before before counts counts room 0 m
+first_turn m known before counts_in counts room is = record {
+  lines = [];
+  last = [];
+  handed = nothing_handed known counts_in room is;
+  counted = refl;
+  within = rw is (omega arith);
+  turn = λ L s. record { text = []; so_far = nothing_yet m L s; appends = Appends-nil before };
   kept = (refl, refl);
   grow = record { empty = omega arith; interrupted = omega arith; failed = omega arith };
 }
 
+-- a line more, and its report
+pub turn_more : (m : MemberValue) (L : List Timed) (before mid after : Option (List ℕ)) (acted : List (List ℕ)) (l : List ℕ)
+    (number : ℕ) (new newer : MemberValue) → StandsOver m L → Turn m L before mid acted new → KeepsStation m new → number ≡ length acted
+    → ((M : List Timed) → StandsOver new M → WritesLine new M (number + 1) l newer mid after)
+    → Turn m L before after (acted ++ l ∷ []) newer
+turn_more m L before mid after acted l number new newer s t kept counted w =
+    let wrote = w (live_from m.settings L t.so_far.sayings) t.so_far.stands in
+    let at : number + 1 ≡ length acted + 1 = ap (λ (n : ℕ). n + 1) counted in record {
+      text = t.text ++ wrote.text;
+      so_far = with_line m L acted l t.text new newer t.so_far kept (number + 1) at wrote.text wrote.acted;
+      appends = Appends-more before mid after t.text wrote.text t.appends wrote.written;
+    }
+
 -- after one more line
-pub next_turn : (m : MemberValue) (before mid after : Option (List ℕ)) (old counts later : Counts) (bytes here there l : List ℕ)
-    (number : ℕ) (new newer : MemberValue) → IsReplaying m before mid old counts bytes here number new
-    → here ≡ l ++ 10 ∷ there → ¬ Contains l 10 → KeepsStation new newer
-    → GrowTo counts later
+pub next_turn : (m : MemberValue) (first now next : Option (List ℕ)) (counts_in later_in after_in : Counts)
+    (before mid after : Option (List ℕ)) (old counts later : Counts) (room left : RoomValue) (l : List ℕ)
+    (number : ℕ) (new newer : MemberValue) → IsReplaying m first now counts_in later_in before mid old counts room number new
+    → ReadsLine room now next later_in after_in (Ok (Some l)) left → KeepsStation new newer → GrowTo counts later
     → ((L : List Timed) → StandsOver new L → WritesLine new L (number + 1) l newer mid after)
-    → IsReplaying m before after old later bytes there (number + 1) newer
-next_turn m before mid after old counts later bytes here there l number new newer t parts clear kept grow w =
-    let size : length here ≡ length l + (1 + length there) = ap length parts ∙ (length-append l (10 ∷ there) ∙ omega arith) in
-    record {
-      turn = λ L s.
-          let was = t.turn L s in
-          let f = was.so_far in
-          let wrote = w (live_from m.settings L f.sayings) f.stands in
-          let at : number + 1 ≡ length was.done + 1 = ap (λ (n : ℕ). n + 1) was.counted in
-          record {
-            done = was.done ++ l ∷ [];
-            text = was.text ++ wrote.text;
-            counted = at ∙ sym (length-append was.done (l ∷ []));
-            cut = λ more left c.
-                subst (λ (ls : List (List ℕ)). CutInto bytes ls left) (sym (append_assoc was.done (l ∷ []) more))
-                (was.cut (l ∷ more) left (subst (λ (bs : List ℕ). CutInto bs (l ∷ more) left) (sym parts) (line l there left more clear c)));
-            so_far = with_line m L was.done l was.text new newer f t.kept (number + 1) at wrote.text wrote.acted;
-            appends = Appends-more before mid after was.text wrote.text was.appends wrote.written;
-          };
-      within = omega (arith, t.within, size);
+    → IsReplaying m first next counts_in after_in before after old later left (number + 1) newer
+next_turn m first now next counts_in later_in after_in before mid after old counts later room left l number new newer t r kept grow w =
+    let o = handed_more first now next counts_in later_in after_in room left t.lines t.last l t.handed r in
+    let size : length (with_rest t.lines t.last ++ l ∷ []) ≡ length (with_rest t.lines t.last) + 1 =
+    length-append (with_rest t.lines t.last) (l ∷ []) in record {
+      lines = o.lines;
+      last = o.last;
+      handed = o.handed;
+      counted = ap (λ (n : ℕ). n + 1) t.counted ∙ sym size ∙ ap length (sym o.are);
+      within = omega (arith, t.within, bytes_less room left now next later_in after_in l r);
+      turn = λ L s. subst (λ (ls : List (List ℕ)). Turn m L before after ls newer) (sym o.are)
+          (turn_more m L before mid after (with_rest t.lines t.last) l number new newer s (t.turn L s) t.kept t.counted w);
       kept = kept_on m new newer t.kept kept;
       grow = grows_on old counts later t.grow grow;
     }

@@ -1,18 +1,15 @@
 -- What a replay makes of one line of a capture, and of the writer that its report goes to (our choice).
-use Rattle.std.specs.Prelude.{ℕ, List, ◌≡◌, ◌⊎◌, Option, Bool, true, false, Result, Err}
+use Rattle.std.specs.Prelude.{ℕ, List, ◌≡◌, ◌⊎◌, Option}
 use Rattle.std.specs.Io.KnownBytes.{Appends, Keeps}
-use Rattle.nb_names.specs.Counted.{Counts}
 use Rattle.nb_member.specs.declared.event.Event.{Event}
 use Rattle.nb_member.specs.declared.replay_fault.ReplayFault.{ReplayFault}
 use Rattle.nb_member.specs.declared.replay_fault.ReplayFault.TheVariants.{Line, Read, Write, NoMemory}
 use Rattle.nb_member.specs.declared.line.Line.{Line as Value}
-use Rattle.nb_member.specs.Live.{Timed, live}
-use Rattle.nb_member.specs.Member.{MemberValue, StandsOver, Stands}
+use Rattle.nb_member.specs.Live.{Timed}
+use Rattle.nb_member.specs.Member.{MemberValue, StandsOver}
 use Rattle.nb_member.specs.Report.{ReportOfLine}
 use Rattle.nb_member.specs.Capture.{IsMalformed, HasValue}
-use Rattle.nb_names.specs.Devices.{AppendsFront, ShowsWriteFault}
-use Rattle.nb_member.specs.Code.Members.{KeepsStation}
-use Rattle.nb_member.specs.Replaying.{looked_at, IsWhole, Replays}
+use Rattle.nb_names.specs.Devices.{AppendsFront}
 
 -- ReportsLine m L n line new text: the member m, which stands for the fragments L, acted on line n of a capture
 -- and became new; text is the line's report
@@ -59,16 +56,3 @@ ReportsValue m L n value new text = (line : List ℕ) → HasValue line value �
 -- MayReportValue m L n value new: the same, or the member stayed as it was
 abbrev pub MayReportValue : MemberValue → List Timed → ℕ → Value → MemberValue → Type 0
 MayReportValue m L n value new = (line : List ℕ) → HasValue line value → MayReportLine m L n line new
-
--- ---- all lines
-
--- EndsReplay m new bytes is_whole before after old counts result: what is answered where these are the bytes
--- that are looked at, and the flag says whether they are the whole input
-pub record EndsReplay (m new : MemberValue) (bytes : List ℕ) (is_whole : Bool) (before after : Option (List ℕ))
-    (old counts : Counts) (result : Result ℕ ReplayFault) : Type 0 where
-  pub replays : (came : List ℕ) (left : Option (List ℕ)) → bytes ≡ looked_at came
-      → (is_whole ≡ true → IsWhole came left) → (H : List Event) (s : Stands m H)
-      → Replays m H (live m.settings s.sayings) came left new before after result
-  pub read : result ≡ Err Read → is_whole ≡ false
-  pub write : result ≡ Err Write → ShowsWriteFault old counts
-  pub kept : KeepsStation m new

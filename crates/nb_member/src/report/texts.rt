@@ -1,11 +1,13 @@
 //! Parts of the report's lines.
-ghost use Rattle.std.specs.Prelude.{◌≡◌, ◌++◌, IfOk, OnOk, string_bytes, Err};
+ghost use Rattle.std.specs.Prelude.{◌≡◌, ◌++◌, codes, OnOk, string_bytes, Err};
+ghost use Rattle.nb_names.specs.NameText.{written};
 ghost use Rattle.nb_member.specs.Report.{address_text, data_text, datagram_text, error_text, kind_text, key_text, outcome_text, parts_text, result_text};
 
 use crate::member_fault::MemberFault;
 use crate::outcome::Outcome;
+use crate::report::digits::push_digits;
 use nb_datagram::{Datagram, ErrorPacket, Key, Kind, Packet, encode};
-use nb_names::{NoMemory, name_text};
+use nb_names::{Name, NoMemory, push_name};
 use std::alloc::Global;
 
 /// Adds what became of a payload.
@@ -30,15 +32,15 @@ fn push_outcome(alloc: Global, outcome: &Outcome, text: &mut String) -> Result<(
     match outcome {
         Outcome::Kept(key) => {
             text.push_str("kept ")?;
-            push_key(alloc, *key, text)
+            push_key(*key, text)
         }
         Outcome::Spoilt(key) => {
             text.push_str("spoilt ")?;
-            push_key(alloc, *key, text)
+            push_key(*key, text)
         }
         Outcome::Delivered(datagram) => {
             text.push_str("delivered ")?;
-            push_datagram(alloc, datagram, text)
+            push_datagram(datagram, text)
         }
         Outcome::Unheard(key, error) => {
             text.push_str("unheard ")?;
@@ -64,25 +66,34 @@ fn push_refused(alloc: Global, fault: MemberFault, text: &mut String) -> Result<
 }
 
 /// Adds a datagram.
-fn push_datagram(alloc: Global, datagram: &Datagram, text: &mut String) -> Result<(), NoMemory>
+fn push_datagram(datagram: &Datagram, text: &mut String) -> Result<(), NoMemory>
     ensures { OnOk result
         (string_bytes text.new ≡ string_bytes text.old ++ datagram_text datagram.now) }
 {
-    push_key(alloc, datagram.key(), text)?;
-    push_parts(alloc, datagram, text)
+    push_key(datagram.key(), text)?;
+    push_parts(datagram, text)
 }
 
 /// Adds a datagram's kind, names and data.
-fn push_parts(alloc: Global, datagram: &Datagram, text: &mut String) -> Result<(), NoMemory>
+fn push_parts(datagram: &Datagram, text: &mut String) -> Result<(), NoMemory>
     ensures { OnOk result
         (string_bytes text.new ≡ string_bytes text.old ++ parts_text datagram.now) }
 {
-    let kind = kind_name(datagram.kind());
-    let source = name_text(alloc, datagram.source())?;
-    let destination = name_text(alloc, datagram.destination())?;
-    let data = data_of(alloc, datagram.bytes())?;
-    write!(text, " {kind} {source} {destination} {data}")?;
-    Ok(())
+    text.push(' ')?;
+    text.push_str(kind_name(datagram.kind()))?;
+    push_word(datagram.source(), text)?;
+    push_word(datagram.destination(), text)?;
+    text.push(' ')?;
+    push_data(datagram.bytes(), text)
+}
+
+/// Adds a space and a name.
+fn push_word(name: &Name, text: &mut String) -> Result<(), NoMemory>
+    ensures { OnOk result
+        (string_bytes text.new ≡ string_bytes text.old ++ (codes " " ++ written name.now)) }
+{
+    text.push(' ')?;
+    push_name(text, name)
 }
 
 /// Adds the key of a datagram that isn't heard, and the error packet that is answered.
@@ -95,20 +106,18 @@ fn push_unheard(
     ensures { OnOk result
         (string_bytes text.new ≡ string_bytes text.old ++ (key_text key ++ error_text error)) }
 {
-    push_key(alloc, key, text)?;
+    push_key(key, text)?;
     push_error(alloc, error, text)
 }
 
 /// Adds a key.
-fn push_key(alloc: Global, key: Key, text: &mut String) -> Result<(), NoMemory>
+fn push_key(key: Key, text: &mut String) -> Result<(), NoMemory>
     ensures { OnOk result (string_bytes text.new ≡ string_bytes text.old ++ key_text key) }
 {
     push_address(key.ip, text)?;
     let port = key.port;
     write!(text, ":{port}/")?;
-    let identifier = key.id.to_be_bytes();
-    text.push_str(hex::encode(alloc, identifier.as_slice())?.as_str())?;
-    Ok(())
+    push_digits(&key.id.to_be_bytes(), text)
 }
 
 /// Adds an address.
@@ -131,14 +140,16 @@ fn kind_name(kind: Kind) -> &'static str
     }
 }
 
-/// The text of data.
-fn data_of(alloc: Global, bytes: &[u8]) -> Result<String, NoMemory>
-    ensures { IfOk result (λ text. string_bytes text ≡ data_text bytes.now) }
+/// Adds data.
+fn push_data(bytes: &[u8], text: &mut String) -> Result<(), NoMemory>
+    ensures { OnOk result
+        (string_bytes text.new ≡ string_bytes text.old ++ data_text bytes.now) }
 {
     if bytes.is_empty() {
-        return Ok(String::from_str(alloc, "empty")?);
+        text.push_str("empty")?;
+        return Ok(());
     }
-    Ok(hex::encode(alloc, bytes)?)
+    push_digits(bytes, text)
 }
 
 /// Adds the bytes of an error packet, if there is one.
@@ -150,6 +161,5 @@ fn push_error(alloc: Global, error: Option<ErrorPacket>, text: &mut String) -> R
     };
     let bytes = encode(alloc, &Packet::Error(error))?;
     text.push_str(" error ")?;
-    text.push_str(hex::encode(alloc, bytes.as_slice())?.as_str())?;
-    Ok(())
+    push_digits(bytes.as_slice(), text)
 }

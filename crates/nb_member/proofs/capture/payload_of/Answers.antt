@@ -1,6 +1,7 @@
-use Rattle.std.proofs.lemmas.Bool.Decides.{Decides-eqb}
+use Rattle.std.proofs.Common.{◌<◌, length, arith}
+use Rattle.std.proofs.lemmas.Bool.Decides.{nat_tests, Decides-eqb}
 use Rattle.std.proofs.lemmas.Slice.Eq.{slice_eq-Decides}
-use Rattle.nb_member.proofs.CaptureLemmas.Payloads.{decoded, hex_has_bytes}
+use Rattle.nb_member.proofs.CaptureLemmas.Payloads.{some_payload, no_room}
 use Rattle.nb_member.proofs.capture.payload_of.Goals as goal
 use Rattle.nb_member.specs.Capture.{empty, digits}
 
@@ -11,11 +12,10 @@ returns-then-eq c =
 
 pub returns-in-Ok : goal.returns-in-Ok
 returns-in-Ok c =
-    let hex = c.is_hexadecimal.ensures.0 c.if-not-is_hexadecimal.false in
-    digits c.from_vec.result c.args.text.now hex.0
-    (rw c.from_vec.ensures (decoded c.args.text.now hex.1.0 c.in-Ok.payload.items hex.1.1 c.in-Ok.ensures.ok))
+    let some : 0 < length c.args.text.now = grind (arith, nat_tests) in
+    digits c.in-Ok.payload c.args.text.now some (some_payload c.args.text.now _ c.in-Ok.payload c.bytes_of_digits.ensures c.in-Ok.is)
 
-pub returns-in-Err : goal.returns-in-Err
-returns-in-Err c =
-    let hex = c.is_hexadecimal.ensures.0 c.if-not-is_hexadecimal.false in
-    (hex.1.0, digits hex.1.0 c.args.text.now hex.0 hex.1.1, hex_has_bytes hex.1.0 c.args.text.now hex.1.1 hex.0)
+pub returns-in-Err-NoMemory : goal.returns-in-Err-NoMemory
+returns-in-Err-NoMemory c =
+    let some : 0 < length c.args.text.now = grind (arith, nat_tests) in
+    no_room c.args.text.now _ c.in-Err-NoMemory.field-0 some c.bytes_of_digits.ensures c.in-Err-NoMemory.is c.in-Err-NoMemory.field-0-is

@@ -1,0 +1,3 @@
+-- Reading the lines of an input.
+pub mod HeldBytes
+pub mod Seeking

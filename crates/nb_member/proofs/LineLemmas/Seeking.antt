@@ -1,0 +1,322 @@
+-- What reading to a line keeps from read to read.
+use Rattle.std.proofs.Common.{◌≡◌, ◌<◌, ◌≤◌, ◌+◌, ◌++◌, ◌∷◌, ℕ, List, [], take, drop, length, Option, Some, None, Ok, Err, refl, sym, ◌∙◌, ap, subst, inl, inr, append_assoc, arith}
+use Rattle.std.specs.Prelude.{Contains}
+use Rattle.std.specs.Io.KnownBytes.{Consumes, IsAtEnd}
+use Rattle.std.proofs.lemmas.List.{append-nil, length-append, length-take-le, take_at, take_all, drop_all}
+use Rattle.nb_names.specs.Counted.{Counts}
+use Rattle.nb_names.specs.declared.limits.TheConstants.{MAX_INPUT}
+use Rattle.nb_member.specs.declared.line_reading.First.TheVariants as first
+use Rattle.nb_member.specs.declared.line_read_fault.LineReadFault.{LineReadFault}
+use Rattle.nb_member.specs.declared.line_read_fault.LineReadFault.TheVariants.{Read, TooLong, NoMemory}
+use Rattle.nb_member.specs.declared.line_room.standing.Standing.TheVariants as standing
+use Rattle.nb_names.specs.Devices.{GrowTo}
+use Rattle.nb_member.specs.Code.LineSteps.{IsFeedAt}
+use Rattle.nb_member.specs.LineReading.{ReadsLine}
+use Rattle.nb_member.specs.Code.LineSteps.{HandsFirst, ReadsMore, let_go_of, handed_out, with_standing, with_bytes}
+use Rattle.nb_member.specs.LineRoom.{RoomValue, IsOpen, IsTooLong}
+use Rattle.nb_names.specs.DeviceFacts.{Consumes-nil, Consumes-more, Consumes-kept, grows_on, cut_from}
+
+-- these bytes were read, and none so far seen is a line feed
+pub record IsSeeking (old : RoomValue) (before now : Option (List ℕ)) (counts later : Counts) (room : RoomValue) (seen : ℕ) : Type 0 where
+  pub began : old.standing ≡ standing.Reading
+  pub got : List ℕ
+  pub consumes : Consumes before now got
+  pub lent : room.lent ≡ []
+  pub standing : room.standing ≡ standing.Reading
+  pub rest : room.rest ≡ old.rest ++ got
+  pub taken : room.taken ≡ old.taken + length got
+  pub within : seen ≤ length room.rest
+  pub clear : ¬ Contains (take seen room.rest) 10
+  pub grow : GrowTo counts later
+  pub most : room.taken ≤ MAX_INPUT
+
+pub no_growth : (counts : Counts) → GrowTo counts counts
+no_growth counts = record { empty = omega arith; interrupted = omega arith; failed = omega arith }
+
+-- before the first search
+pub seeking_first : (old new : RoomValue) (known : Option (List ℕ)) (counts : Counts) → new ≡ let_go_of old → standing.Reading ≡ new.standing
+    → new.taken ≤ MAX_INPUT → IsSeeking old known known counts counts new 0
+seeking_first old new known counts is reads most = record {
+  got = [];
+  consumes = Consumes-nil known;
+  lent = ap (λ (r : RoomValue). r.lent) is;
+  standing = sym reads;
+  rest = ap (λ (r : RoomValue). r.rest) is ∙ sym (append-nil old.rest);
+  taken = ap (λ (r : RoomValue). r.taken) is ∙ omega arith;
+  within = omega arith;
+  clear = λ h. omega (arith, h.1, length-take-le 0 new.rest (omega arith));
+  grow = no_growth counts;
+  most = most;
+  began = sym (ap (λ (r : RoomValue). r.standing) is) ∙ sym reads;
+}
+
+-- a line in front
+pub hands_line : (bytes : List ℕ) (old new : RoomValue) (at : ℕ) → bytes ≡ old.rest → IsFeedAt bytes at → at ≤ 262200
+    → new ≡ handed_out (at + 1) old → HandsFirst old (first.Line at) new
+hands_line bytes old new at same f short is =
+    let line : List ℕ = take at bytes in
+    let size : length line ≡ at = length-take-le at bytes (omega (arith, f.0)) in
+    let more : length (line ++ 10 ∷ []) ≡ at + 1 = length-append line (10 ∷ []) ∙ ap (λ (n : ℕ). n + 1) size in
+    let whole : old.rest ≡ (line ++ 10 ∷ []) ++ drop (at + 1) bytes = sym same ∙ f.2 ∙ sym (append_assoc line (10 ∷ []) (drop (at + 1) bytes)) in
+    let lent : take (at + 1) old.rest ≡ line ++ 10 ∷ [] = ap (take (at + 1)) whole ∙ take_at (line ++ 10 ∷ []) (drop (at + 1) bytes) (at + 1) more in
+    let rest : new.rest ≡ drop (at + 1) bytes = ap (λ (r : RoomValue). r.rest) is ∙ ap (drop (at + 1)) (sym same) in (
+      line,
+      sym size,
+      short,
+      f.1,
+      sym same ∙ f.2 ∙ ap (λ (r : List ℕ). line ++ 10 ∷ r) (sym rest),
+      is ∙ (λ i. record { lent = lent i; rest = sym (ap (λ (r : RoomValue). r.rest) is) i; taken = old.taken; standing = old.standing }),
+    )
+
+-- ---- how a call ends
+
+pub turn_ended : (old new : RoomValue) (known : Option (List ℕ)) (counts : Counts) → new ≡ let_go_of old → standing.Ended ≡ new.standing
+    → new.rest ≡ [] → new.taken ≤ MAX_INPUT → ReadsLine old known known counts counts (Ok None) new
+turn_ended old new known counts is ended none most =
+    let rest : new.rest ≡ old.rest = ap (λ (r : RoomValue). r.rest) is in
+    let was : old.standing ≡ standing.Ended = sym (ap (λ (r : RoomValue). r.standing) is) ∙ sym ended in record {
+      got = [];
+      over = [];
+      consumes = Consumes-nil known;
+      taken = ap (λ (r : RoomValue). r.taken) is ∙ omega arith;
+      kept = inl refl;
+      answers = (append-nil old.rest ∙ sym rest ∙ none, none, ap (λ (r : RoomValue). r.lent) is, sym ended);
+      unread = λ e. absurd (cc);
+      at_end = λ e. inl (was, refl);
+      within = most;
+      again = rw was refl;
+      grow = no_growth counts;
+    }
+
+pub turn_unread : (old new : RoomValue) (known : Option (List ℕ)) (counts : Counts) → new ≡ let_go_of old → standing.Unread ≡ new.standing
+    → IsOpen new.rest → new.taken ≤ MAX_INPUT → ReadsLine old known known counts counts (Err Read) new
+turn_unread old new known counts is unread opened most =
+    let rest : new.rest ≡ old.rest ++ [] = ap (λ (r : RoomValue). r.rest) is ∙ sym (append-nil old.rest) in
+    let was : old.standing ≡ standing.Unread = sym (ap (λ (r : RoomValue). r.standing) is) ∙ sym unread in record {
+      got = [];
+      over = [];
+      consumes = Consumes-nil known;
+      taken = ap (λ (r : RoomValue). r.taken) is ∙ omega arith;
+      kept = inl refl;
+      answers = (subst IsOpen rest opened, ap (λ (r : RoomValue). r.lent) is, sym unread);
+      unread = λ e. inl was;
+      at_end = λ e. absurd (cc);
+      within = most;
+      again = rw was refl;
+      grow = no_growth counts;
+    }
+
+pub turn_long : (old new : RoomValue) (known : Option (List ℕ)) (counts : Counts) → new ≡ let_go_of old → standing.TooLong ≡ new.standing
+    → IsTooLong new.rest → new.taken ≤ MAX_INPUT → ReadsLine old known known counts counts (Err TooLong) new
+turn_long old new known counts is long far most =
+    let rest : new.rest ≡ old.rest ++ [] = ap (λ (r : RoomValue). r.rest) is ∙ sym (append-nil old.rest) in
+    let was : old.standing ≡ standing.TooLong = sym (ap (λ (r : RoomValue). r.standing) is) ∙ sym long in record {
+      got = [];
+      over = [];
+      consumes = Consumes-nil known;
+      taken = ap (λ (r : RoomValue). r.taken) is ∙ omega arith;
+      kept = inl refl;
+      answers = (subst IsTooLong rest far, ap (λ (r : RoomValue). r.lent) is, sym long);
+      unread = λ e. absurd (cc);
+      at_end = λ e. absurd (cc);
+      within = most;
+      again = rw was refl;
+      grow = no_growth counts;
+    }
+
+-- a line was found
+pub turn_line : (old room new : RoomValue) (before now : Option (List ℕ)) (counts later : Counts) (seen n : ℕ)
+    → IsSeeking old before now counts later room seen → HandsFirst room (first.Line n) new
+    → ReadsLine old before now counts later (Ok (Some (take n new.lent))) new
+turn_line old room new before now counts later seen n s p =
+    let lent : new.lent ≡ p.0 ++ 10 ∷ [] = ap (λ (r : RoomValue). r.lent) p.5 in
+    let line : take n new.lent ≡ p.0 = ap (take n) lent ∙ take_at p.0 (10 ∷ []) n (sym p.1) in
+    let reads : new.standing ≡ standing.Reading = ap (λ (r : RoomValue). r.standing) p.5 ∙ s.standing in
+    let short : length p.0 ≤ 262200 = subst (λ (k : ℕ). k ≤ 262200) p.1 p.2 in
+    rw line (record {
+      got = s.got;
+      over = [];
+      consumes = subst (λ (bs : List ℕ). Consumes before now bs) (sym (append-nil s.got)) s.consumes;
+      taken = ap (λ (r : RoomValue). r.taken) p.5 ∙ s.taken;
+      kept = inl refl;
+      answers = (short, p.3, inl (lent, sym s.rest ∙ p.4, reads));
+      unread = λ e. absurd (cc);
+      at_end = λ e. absurd (cc (reads, e));
+      within = subst (λ (k : ℕ). k ≤ MAX_INPUT) (sym (ap (λ (r : RoomValue). r.taken) p.5)) s.most;
+      again = rw s.began tt;
+      grow = s.grow;
+    })
+
+pub turn_too_long : (old room new : RoomValue) (before now : Option (List ℕ)) (counts later : Counts) (seen : ℕ)
+    → IsSeeking old before now counts later room seen → HandsFirst room first.TooLong new
+    → ReadsLine old before now counts later (Err TooLong) new
+turn_too_long old room new before now counts later seen s p =
+    let stands : new.standing ≡ standing.TooLong = ap (λ (r : RoomValue). r.standing) p.1 in record {
+      got = s.got;
+      over = [];
+      consumes = subst (λ (bs : List ℕ). Consumes before now bs) (sym (append-nil s.got)) s.consumes;
+      taken = ap (λ (r : RoomValue). r.taken) p.1 ∙ s.taken;
+      kept = inl refl;
+      answers = (subst IsTooLong s.rest p.0, ap (λ (r : RoomValue). r.lent) p.1 ∙ s.lent, stands);
+      unread = λ e. absurd (cc);
+      at_end = λ e. absurd (cc (stands, e));
+      within = subst (λ (k : ℕ). k ≤ MAX_INPUT) (sym (ap (λ (r : RoomValue). r.taken) p.1)) s.most;
+      again = rw s.began tt;
+      grow = s.grow;
+    }
+
+-- more came
+pub seeking_on : (old room opened new : RoomValue) (before now after : Option (List ℕ)) (counts mid later : Counts) (seen n k : ℕ)
+    → IsSeeking old before now counts mid room seen → HandsFirst room (first.Open n) opened
+    → ReadsMore opened now after mid later (Ok k) new → IsSeeking old before after counts later new n
+seeking_on old room opened new before now after counts mid later seen n k s p r =
+    let came : new ≡ with_bytes room r.0 = r.5 ∙ ap (λ (v : RoomValue). with_bytes v r.0) p.2 in
+    let rest : new.rest ≡ room.rest ++ r.0 = ap (λ (v : RoomValue). v.rest) came in
+    let front : take n new.rest ≡ room.rest = ap (take n) rest ∙ take_at room.rest r.0 n (sym p.1) in
+    let both : length (s.got ++ r.0) ≡ length s.got + length r.0 = length-append s.got r.0 in
+    let size : length new.rest ≡ length room.rest + length r.0 = ap length rest ∙ length-append room.rest r.0 in
+    let more : new.taken ≡ room.taken + length r.0 = ap (λ (v : RoomValue). v.taken) came in
+    let bounded : new.taken ≡ opened.taken + k = omega (arith, ap (λ (v : RoomValue). v.taken) r.5, r.1) in record {
+      got = s.got ++ r.0;
+      consumes = Consumes-more before now after s.got r.0 s.consumes r.2;
+      lent = ap (λ (v : RoomValue). v.lent) came ∙ s.lent;
+      standing = ap (λ (v : RoomValue). v.standing) came ∙ s.standing;
+      rest = rest ∙ ap (λ (bs : List ℕ). bs ++ r.0) s.rest ∙ append_assoc old.rest s.got r.0;
+      taken = omega (arith, more, both, s.taken);
+      within = omega (arith, size, p.1);
+      clear = subst (λ (bs : List ℕ). ¬ Contains bs 10) (sym front) p.0.1;
+      grow = grows_on counts mid later s.grow r.6;
+      most = subst (λ (k : ℕ). k ≤ MAX_INPUT) (sym bounded) r.3;
+      began = s.began;
+    }
+
+-- the input can't be read further
+pub turn_unreadable : (old room opened mid new : RoomValue) (before now after : Option (List ℕ)) (counts midway later : Counts) (seen n : ℕ)
+    → IsSeeking old before now counts midway room seen → HandsFirst room (first.Open n) opened → (fault : LineReadFault) → fault ≡ Read
+    → ReadsMore opened now after midway later (Err fault) mid → new ≡ with_standing standing.Unread mid
+    → ReadsLine old before after counts later (Err Read) new
+turn_unreadable old room opened mid new before now after counts midway later seen n s p fault same_fault given is =
+    let r = subst (λ (f : LineReadFault). ReadsMore opened now after midway later (Err f) mid) same_fault given in
+    let same : mid ≡ room = r.3 ∙ p.2 in
+    let stands : new.standing ≡ standing.Unread = ap (λ (v : RoomValue). v.standing) is in
+    let taken : new.taken ≡ room.taken = ap (λ (v : RoomValue). v.taken) is ∙ ap (λ (v : RoomValue). v.taken) same in
+    let there : opened.taken ≡ room.taken = ap (λ (v : RoomValue). v.taken) p.2 in record {
+      got = s.got;
+      over = r.0;
+      consumes = Consumes-more before now after s.got r.0 s.consumes r.1;
+      taken = taken ∙ s.taken;
+      kept = elim (r.2) [
+        | inl w ↦ inl w.1
+        | inr w ↦ inr (refl, taken ∙ sym there ∙ w.1)
+      ];
+      answers = (subst IsOpen s.rest p.0, ap (λ (v : RoomValue). v.lent) is ∙ ap (λ (v : RoomValue). v.lent) same ∙ s.lent, stands);
+      unread = λ e. inr (elim (r.2) [
+        | inl w ↦ inr (cut_from counts midway later s.grow w.0)
+        | inr w ↦ inl w.0
+      ]);
+      at_end = λ e. absurd (cc (stands, e));
+      within = subst (λ (k : ℕ). k ≤ MAX_INPUT) (sym taken) s.most;
+      again = rw s.began tt;
+      grow = grows_on counts midway later s.grow r.4;
+    }
+
+-- memory ran out
+pub turn_unheld : (old room opened mid : RoomValue) (before now after : Option (List ℕ)) (counts midway later : Counts) (seen n : ℕ)
+    → IsSeeking old before now counts midway room seen → HandsFirst room (first.Open n) opened → (fault : LineReadFault) → fault ≡ NoMemory
+    → ReadsMore opened now after midway later (Err fault) mid → ReadsLine old before after counts later (Err NoMemory) mid
+turn_unheld old room opened mid before now after counts midway later seen n s p fault same_fault given =
+    let r = subst (λ (f : LineReadFault). ReadsMore opened now after midway later (Err f) mid) same_fault given in
+    let same : mid ≡ room = r.1 ∙ p.2 in
+    let stands : mid.standing ≡ standing.Reading = ap (λ (v : RoomValue). v.standing) same ∙ s.standing in record {
+      got = s.got;
+      over = [];
+      consumes = subst (λ (bs : List ℕ). Consumes before after bs) (sym (append-nil s.got)) (Consumes-kept before now after s.got s.consumes r.0);
+      taken = ap (λ (v : RoomValue). v.taken) same ∙ s.taken;
+      kept = inl refl;
+      answers = (ap (λ (v : RoomValue). v.rest) same ∙ s.rest, ap (λ (v : RoomValue). v.lent) same ∙ s.lent, stands);
+      unread = λ e. absurd (cc);
+      at_end = λ e. absurd (cc (stands, e));
+      within = subst (λ (k : ℕ). k ≤ MAX_INPUT) (sym (ap (λ (v : RoomValue). v.taken) same)) s.most;
+      again = rw s.began tt;
+      grow = subst (λ (c : Counts). GrowTo counts c) (sym r.2) s.grow;
+    }
+
+empty_is : (xs : List ℕ) → length xs ≡ 0 → xs ≡ []
+empty_is [] h = refl
+empty_is (x ∷ xs) h = absurd (omega (arith, h))
+
+-- Closing old before after s.got room new: at the end the room handed out all it held
+record Closing (before after : Option (List ℕ)) (counts later : Counts) (got rest : List ℕ) (taken : ℕ) (new : RoomValue) : Type 0 where
+  pub consumes : Consumes before after (got ++ [])
+  pub lent : new.lent ≡ rest
+  pub none : new.rest ≡ []
+  pub taken_so : new.taken ≡ taken
+  pub stands : new.standing ≡ standing.Ended
+  pub at_end : IsAtEnd after
+  pub grow : GrowTo counts later
+
+closing : (old room opened mid out new : RoomValue) (before now after : Option (List ℕ)) (counts midway later : Counts) (seen n k : ℕ)
+    (s : IsSeeking old before now counts midway room seen) → HandsFirst room (first.Open n) opened
+    → ReadsMore opened now after midway later (Ok k) mid → k ≡ 0 → out ≡ handed_out n mid → new ≡ with_standing standing.Ended out
+    → Closing before after counts later s.got room.rest room.taken new
+closing old room opened mid out new before now after counts midway later seen n k s p r none handed is =
+    let nothing : r.0 ≡ [] = empty_is r.0 (sym r.1 ∙ none) in
+    let came : mid ≡ with_bytes room r.0 = r.5 ∙ ap (λ (v : RoomValue). with_bytes v r.0) p.2 in
+    let rest : mid.rest ≡ room.rest = ap (λ (v : RoomValue). v.rest) came ∙ ap (λ (bs : List ℕ). room.rest ++ bs) nothing ∙ append-nil room.rest in
+    let size : length room.rest ≤ n = omega (arith, p.1) in
+    let more : mid.taken ≡ room.taken + length r.0 = ap (λ (v : RoomValue). v.taken) came in
+    let zero_more : length r.0 ≡ 0 = sym r.1 ∙ none in
+    let taken : mid.taken ≡ room.taken = omega (arith, more, zero_more) in
+    let through : new.taken ≡ mid.taken = ap (λ (v : RoomValue). v.taken) is ∙ ap (λ (v : RoomValue). v.taken) handed in record {
+      consumes = subst (λ (bs : List ℕ). Consumes before after (s.got ++ bs)) nothing (Consumes-more before now after s.got r.0 s.consumes r.2);
+      lent = ap (λ (v : RoomValue). v.lent) is ∙ ap (λ (v : RoomValue). v.lent) handed ∙ ap (take n) rest ∙ take_all n room.rest size;
+      none = ap (λ (v : RoomValue). v.rest) is ∙ ap (λ (v : RoomValue). v.rest) handed ∙ ap (drop n) rest ∙ drop_all n room.rest size;
+      taken_so = through ∙ taken;
+      stands = ap (λ (v : RoomValue). v.standing) is;
+      at_end = r.4 none;
+      grow = grows_on counts midway later s.grow r.6;
+    }
+
+-- no line is left
+pub turn_none : (old room opened mid out new : RoomValue) (before now after : Option (List ℕ)) (counts midway later : Counts) (seen n k : ℕ)
+    → IsSeeking old before now counts midway room seen → HandsFirst room (first.Open n) opened
+    → ReadsMore opened now after midway later (Ok k) mid → k ≡ 0 → out ≡ handed_out n mid → new ≡ with_standing standing.Ended out → n ≡ 0
+    → ReadsLine old before after counts later (Ok None) new
+turn_none old room opened mid out new before now after counts midway later seen n k s p r none handed is no_bytes =
+    let e = closing old room opened mid out new before now after counts midway later seen n k s p r none handed is in
+    let empty : room.rest ≡ [] = empty_is room.rest (sym p.1 ∙ no_bytes) in record {
+      got = s.got;
+      over = [];
+      consumes = e.consumes;
+      taken = e.taken_so ∙ s.taken;
+      kept = inl refl;
+      answers = (sym s.rest ∙ empty, e.none, e.lent ∙ empty, e.stands);
+      unread = λ h. absurd (cc);
+      at_end = λ h. inr e.at_end;
+      within = subst (λ (k : ℕ). k ≤ MAX_INPUT) (sym e.taken_so) s.most;
+      again = rw s.began tt;
+      grow = e.grow;
+    }
+
+-- the last line is without a line feed
+pub turn_last : (old room opened mid out new : RoomValue) (before now after : Option (List ℕ)) (counts midway later : Counts) (seen n k : ℕ)
+    → IsSeeking old before now counts midway room seen → HandsFirst room (first.Open n) opened
+    → ReadsMore opened now after midway later (Ok k) mid → k ≡ 0 → out ≡ handed_out n mid → new ≡ with_standing standing.Ended out → 0 < n
+    → ReadsLine old before after counts later (Ok (Some (take n new.lent))) new
+turn_last old room opened mid out new before now after counts midway later seen n k s p r none handed is some =
+    let e = closing old room opened mid out new before now after counts midway later seen n k s p r none handed is in
+    let line : take n new.lent ≡ room.rest = ap (take n) e.lent ∙ take_all n room.rest (omega (arith, p.1)) in
+    let size : 0 < length room.rest = omega (arith, some, p.1) in
+    rw line (record {
+      got = s.got;
+      over = [];
+      consumes = e.consumes;
+      taken = e.taken_so ∙ s.taken;
+      kept = inl refl;
+      answers = (p.0.0, p.0.1, inr (e.lent, sym s.rest, size, e.none, e.stands));
+      unread = λ h. absurd (cc);
+      at_end = λ h. inr e.at_end;
+      within = subst (λ (k : ℕ). k ≤ MAX_INPUT) (sym e.taken_so) s.most;
+      again = rw s.began tt;
+      grow = e.grow;
+    })

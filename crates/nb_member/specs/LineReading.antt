@@ -1,0 +1,59 @@
+-- What reading the next line of an input answers, and what the room then holds (our choice).
+use Rattle.std.specs.Prelude.{◌≡◌, ◌⊎◌, ◌<◌, ◌≤◌, ◌+◌, ◌++◌, ◌∷◌, ℕ, List, [], length, Option, Some, None, Result, Ok, Err}
+use Rattle.std.specs.Io.KnownBytes.{Consumes, IsAtEnd}
+use Rattle.nb_names.specs.Counted.{Counts}
+use Rattle.nb_names.specs.Devices.{GrowTo, ShowsReadFault}
+use Rattle.nb_names.specs.Lines.{IsLine}
+use Rattle.nb_names.specs.declared.limits.TheConstants.{MAX_INPUT}
+use Rattle.nb_member.specs.declared.limits.TheConstants.{MAX_LINE}
+use Rattle.nb_member.specs.declared.line_read_fault.LineReadFault.{LineReadFault}
+use Rattle.nb_member.specs.declared.line_read_fault.LineReadFault.TheVariants.{TooLong, Read, NoMemory}
+use Rattle.nb_member.specs.declared.line_room.standing.Standing.{Standing}
+use Rattle.nb_member.specs.declared.line_room.standing.Standing.TheVariants as standing
+use Rattle.nb_member.specs.LineRoom.{RoomValue, IsOpen, IsTooLong}
+use denote.Ref.{Bor}
+
+-- HandsOut held line new: the line is the first of these bytes, with its line feed, or the last of the input
+-- without one
+abbrev pub HandsOut : List ℕ → List ℕ → RoomValue → Type 0
+HandsOut held line new =
+    (length line ≤ MAX_LINE) × IsLine line
+    × (((new.lent ≡ line ++ 10 ∷ []) × (held ≡ line ++ 10 ∷ new.rest) × (new.standing ≡ standing.Reading))
+    ⊎ ((new.lent ≡ line) × (held ≡ line) × (0 < length line) × (new.rest ≡ []) × (new.standing ≡ standing.Ended)))
+
+-- Answers held new result: what is answered where these bytes were held, and what the room then has
+abbrev pub Answers : List ℕ → RoomValue → Result (Option (List ℕ)) LineReadFault → Type 0
+Answers held new (Ok (Some line)) = HandsOut held line new
+Answers held new (Ok None) = (held ≡ []) × (new.rest ≡ []) × (new.lent ≡ []) × (new.standing ≡ standing.Ended)
+Answers held new (Err TooLong) = IsTooLong held × (new.lent ≡ []) × (new.standing ≡ standing.TooLong)
+Answers held new (Err Read) = IsOpen held × (new.lent ≡ []) × (new.standing ≡ standing.Unread)
+Answers held new (Err NoMemory) = (new.rest ≡ held) × (new.lent ≡ []) × (new.standing ≡ standing.Reading)
+
+-- Repeats standing result: a room that stands so answers this again
+abbrev pub Repeats : Standing → Result (Option (List ℕ)) LineReadFault → Type 0
+Repeats standing.Reading result = Unit {0}
+Repeats standing.Ended result = result ≡ Ok None
+Repeats standing.Unread result = result ≡ Err Read
+Repeats standing.TooLong result = result ≡ Err TooLong
+
+-- ReadsLine old before left counts later result new: a call for the next line got these bytes from the reader,
+-- which are kept, and those over the limit, which aren't, and answered so; the old room is now the new one
+pub record ReadsLine (old : RoomValue) (before left : Option (List ℕ)) (counts later : Counts)
+    (result : Result (Option (List ℕ)) LineReadFault) (new : RoomValue) : Type 0 where
+  pub got : List ℕ
+  pub over : List ℕ
+  pub consumes : Consumes before left (got ++ over)
+  pub taken : new.taken ≡ old.taken + length got
+  pub within : new.taken ≤ MAX_INPUT
+  pub kept : (over ≡ []) ⊎ ((result ≡ Err Read) × (new.taken ≡ MAX_INPUT))
+  pub answers : Answers (old.rest ++ got) new result
+  pub again : Repeats old.standing result
+  pub unread : result ≡ Err Read → (old.standing ≡ standing.Unread) ⊎ ((0 < length over) ⊎ ShowsReadFault counts later)
+  pub at_end : new.standing ≡ standing.Ended → ((old.standing ≡ standing.Ended) × (left ≡ before)) ⊎ IsAtEnd left
+  pub grow : GrowTo counts later
+
+-- what is answered, a line by its bytes
+abbrev pub lent_line : Result (Option (Bor (List ℕ))) LineReadFault → Result (Option (List ℕ)) LineReadFault
+lent_line (Ok None) = Ok None
+lent_line (Ok (Some line)) = Ok (Some line.now)
+lent_line (Err fault) = Err fault

@@ -1,0 +1,156 @@
+//! Reading the lines of an input as they come.
+ghost use Rattle.std.specs.Prelude.{◌≡◌, ◌≢◌, ◌≤◌, [], IfOk, IfSome, length, take, Contains};
+ghost use Rattle.std.specs.Borrow.{sem};
+ghost use Rattle.std.specs.Io.BufRead.{Rests};
+ghost use Rattle.nb_member.specs.contracts.line_room.LineRoom.{the_row};
+ghost use Rattle.nb_member.specs.declared.line_room.standing.Standing.TheVariants as standing;
+ghost use Rattle.nb_member.specs.LineReading.{ReadsLine, lent_line};
+ghost use Rattle.nb_member.specs.Code.LineSteps.{HandsFirst, line_of_size};
+
+mod searching;
+
+use crate::limits::MAX_LINE;
+use crate::line_read_fault::LineReadFault;
+use crate::line_reading::searching::feed_after;
+use crate::line_room::LineRoom;
+use crate::line_room::standing::Standing;
+use nb_names::Counted;
+use std::io::Read;
+
+/// Reads the next line, without its line feed; `None` where the input has no further one.
+///
+/// The line feed that ends a line may be missing after the last one, where that has bytes. A line
+/// has at most [`MAX_LINE`] bytes, its line feed not counted. A read asks for at most
+/// [`MAX_READ`](crate::limits::MAX_READ) bytes, and is made only where the room has no whole line.
+/// The line handed out before is let go, whatever the answer. Once the end was answered, no
+/// further read is made, and it is answered again.
+///
+/// # Errors
+///
+/// The first that is met:
+///
+/// - [`LineReadFault::TooLong`] where the room has more bytes of the line than [`MAX_LINE`], and no
+///   line feed among that many and one.
+/// - [`LineReadFault::Read`] where a read failed, reads were interrupted 1,024 times in a row, or
+///   the reader gave a byte more than [`MAX_INPUT`](nb_names::limits::MAX_INPUT), which isn't kept.
+/// - [`LineReadFault::NoMemory`] where memory ran out. What the room had after the last line, and
+///   what was read since, stays in it, so that the next call loses nothing.
+///
+/// `TooLong` and `Read` are final: later calls answer the same, and make no read.
+///
+/// The form of lines is our choice.
+pub fn next_line<'a, R: Read>(
+    reader: &mut Counted<R>,
+    room: &'a mut LineRoom,
+) -> Result<Option<&'a [u8]>, LineReadFault>
+    ensures* after { sem 𝓛 (Rests the_row room.entry (λ left. ReadsLine room.old
+        (R.remaining reader.old.inner) (R.remaining reader.new.inner)
+        reader.old.counts reader.new.counts (lent_line result) left)) }
+    ensures stuck { room.old.standing ≢ standing.Reading → reader.new ≡ reader.old }
+{
+    next_from(room, reader)
+}
+
+/// Reads the next line as [`next_line`] does. The room stands first, so that a caller knows what it
+/// holds once the line was let go.
+///
+/// # Errors
+///
+/// Those of [`next_line`].
+pub fn next_from<'a, R: Read>(
+    room: &'a mut LineRoom,
+    reader: &mut Counted<R>,
+) -> Result<Option<&'a [u8]>, LineReadFault>
+    ensures* after { sem 𝓛 (Rests the_row room.entry (λ left. ReadsLine room.old
+        (R.remaining reader.old.inner) (R.remaining reader.new.inner)
+        reader.old.counts reader.new.counts (lent_line result) left)) }
+    ensures stuck { room.old.standing ≢ standing.Reading → reader.new ≡ reader.old }
+{
+    match advance(room, reader) {
+        Ok(None) => Ok(None),
+        Ok(Some(size)) => Ok(Some(room.line(size))),
+        Err(fault) => Err(fault),
+    }
+}
+
+/// Reads to the next line, and answers how many bytes it has. They are the first of those that the
+/// room then has handed out.
+///
+/// # Errors
+///
+/// Those of [`next_line`].
+fn advance<R: Read>(
+    room: &mut LineRoom,
+    reader: &mut Counted<R>,
+) -> Result<Option<usize>, LineReadFault>
+    ensures reads { ReadsLine room.old (R.remaining reader.old.inner)
+        (R.remaining reader.new.inner) reader.old.counts reader.new.counts
+        (line_of_size room.new result) room.new }
+    ensures within { IfOk result (λ found. IfSome found (λ size. size ≤ length room.new.lent)) }
+    ensures stuck { room.old.standing ≢ standing.Reading → reader.new ≡ reader.old }
+{
+    room.let_go();
+    match room.standing() {
+        Standing::Reading => {}
+        Standing::Ended => return Ok(None),
+        Standing::Unread => return Err(LineReadFault::Read),
+        Standing::TooLong => return Err(LineReadFault::TooLong),
+    }
+    let mut seen = 0;
+    loop {
+        match take_first(room, seen) {
+            First::Line(size) => return Ok(Some(size)),
+            First::TooLong => return Err(LineReadFault::TooLong),
+            First::Open(size) => seen = size,
+        }
+        match room.read_more(reader) {
+            Ok(0) => break,
+            Ok(_) => {}
+            Err(LineReadFault::Read) => {
+                room.stop(Standing::Unread);
+                return Err(LineReadFault::Read);
+            }
+            Err(LineReadFault::NoMemory) => return Err(LineReadFault::NoMemory),
+            Err(LineReadFault::TooLong) => return Err(LineReadFault::TooLong),
+        }
+    }
+    room.hand_out(seen);
+    room.stop(Standing::Ended);
+    if seen == 0 {
+        return Ok(None);
+    }
+    Ok(Some(seen))
+}
+
+/// What the bytes of a room begin with.
+#[derive(Clone, Copy, Debug, PartialEq, Eq)]
+enum First {
+    /// A line of so many bytes, and a line feed.
+    Line(usize),
+    /// More bytes than a line may have.
+    TooLong,
+    /// So many bytes, which a line may have, and no line feed.
+    Open(usize),
+}
+
+/// Hands out the first line, where none of so many first bytes is a line feed.
+fn take_first(room: &mut LineRoom, seen: usize) -> First
+    requires lent { room.old.lent ≡ [] }
+    requires reading { room.old.standing ≡ standing.Reading }
+    requires within { seen ≤ length room.old.rest }
+    requires clear { ¬ Contains (take seen room.old.rest) 10 }
+    ensures { HandsFirst room.old result room.new }
+{
+    let size = room.rest().len();
+    match feed_after(room.rest(), seen) {
+        Some(at) if at <= MAX_LINE => {
+            room.hand_out(at + 1);
+            First::Line(at)
+        }
+        None if size <= MAX_LINE => First::Open(size),
+        _ => {
+            room.stop(Standing::TooLong);
+            First::TooLong
+        }
+    }
+}

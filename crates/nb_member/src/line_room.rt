@@ -1,0 +1,167 @@
+//! Room for the lines of an input.
+ghost use Rattle.std.specs.Prelude.{◌≡◌, ◌<◌, ◌≤◌, ◌+◌, [], length, take};
+ghost use Rattle.nb_names.specs.declared.limits.TheConstants.{MAX_INPUT};
+ghost use Rattle.nb_member.specs.declared.limits.TheConstants.{MAX_HELD};
+ghost use Rattle.nb_member.specs.declared.line_room.standing.Standing.TheVariants as standing;
+ghost use Rattle.nb_member.specs.LineRoom.{nothing_held, IsOpen};
+ghost use Rattle.nb_member.specs.Code.LineSteps.{Suits, let_go_of, with_standing, handed_out, ReadsMore};
+
+mod moving;
+pub mod standing;
+
+use crate::limits::MAX_READ;
+use crate::line_read_fault::LineReadFault;
+use crate::line_room::moving::{make_room, move_to_front, read_after};
+use crate::line_room::standing::Standing;
+use nb_names::Counted;
+use nb_names::limits::MAX_INPUT;
+use std::alloc::Global;
+use std::io::Read;
+use std::marker::Model;
+
+/// Room for the lines of one input.
+///
+/// It has the line handed out last and what was read after it, at most
+/// [`MAX_HELD`](crate::limits::MAX_HELD) bytes.
+#[derive(Drop)]
+pub struct LineRoom {
+    /// Bytes of the input, from `from` up to `end`; the others are room.
+    bytes: Vec<u8>,
+    /// The place of the line handed out last.
+    from: usize,
+    /// The place after it, where the bytes begin that weren't handed out.
+    start: usize,
+    /// The place after these.
+    end: usize,
+    /// How many bytes of the input were kept.
+    taken: usize,
+    standing: Standing,
+}
+
+impl Model for LineRoom {
+    ghost use Rattle.nb_member.specs.LineRoom.{RoomValue};
+    ghost use Rattle.nb_member.specs.Code.LineSteps.{IsRoom};
+    ghost use Rattle.std.specs.Prelude.{drop, take};
+
+    ghost Value = { RoomValue };
+
+    ghost view = { λ r. record {
+      lent = drop r.from (take r.start r.bytes.items);
+      rest = drop r.start (take r.end r.bytes.items);
+      taken = r.taken;
+      standing = r.standing;
+    } };
+
+    ghost invariant = { λ r. IsRoom r.bytes.items r.from r.start r.end r.taken r.standing };
+}
+
+impl LineRoom {
+    /// Room for an input of which nothing was read. No memory is taken.
+    pub fn new(alloc: Global) -> Self
+        ensures { result ≡ nothing_held }
+    {
+        LineRoom {
+            bytes: Vec::new(alloc),
+            from: 0,
+            start: 0,
+            end: 0,
+            taken: 0,
+            standing: Standing::Reading,
+        }
+    }
+
+    /// How many bytes the room has: the line that was lent last, with its line feed, if that had
+    /// come, and what was read after it.
+    pub fn held(&self) -> usize
+        ensures value { result ≡ length self.now.lent + length self.now.rest }
+        ensures within { result ≤ MAX_HELD }
+    {
+        self.end - self.from
+    }
+
+    /// How the room stands to its input.
+    pub(crate) fn standing(&self) -> Standing
+        ensures value { result ≡ self.now.standing }
+        ensures suits { Suits result self.now.rest }
+        ensures within { self.now.taken ≤ MAX_INPUT }
+    {
+        self.standing
+    }
+
+    /// Lets go of the line handed out last.
+    pub(crate) fn let_go(&mut self)
+        ensures { self.new ≡ let_go_of self.old }
+    {
+        self.from = self.start;
+    }
+
+    /// What is held besides the line handed out last.
+    pub(crate) fn rest(&self) -> &[u8]
+        ensures { result.now ≡ self.now.rest }
+    {
+        &self.bytes[self.start..self.end]
+    }
+
+    /// Hands out so many first bytes of what is held.
+    pub(crate) fn hand_out(&mut self, size: usize)
+        requires reading { self.old.standing ≡ standing.Reading }
+        requires within { size ≤ length self.old.rest }
+        ensures { self.new ≡ handed_out size self.old }
+    {
+        self.from = self.start;
+        self.start += size;
+    }
+
+    /// Reads no further.
+    pub(crate) fn stop(&mut self, standing: Standing)
+        requires { Suits standing self.old.rest }
+        ensures { self.new ≡ with_standing standing self.old }
+    {
+        self.standing = standing;
+    }
+
+    /// Reads once after the bytes held, and answers how many came: none at the end.
+    ///
+    /// # Errors
+    ///
+    /// [`LineReadFault::Read`] and [`LineReadFault::NoMemory`].
+    pub(crate) fn read_more<R: Read>(
+        &mut self,
+        reader: &mut Counted<R>,
+    ) -> Result<usize, LineReadFault>
+        requires lent { self.old.lent ≡ [] }
+        requires reading { self.old.standing ≡ standing.Reading }
+        requires open { IsOpen self.old.rest }
+        ensures { ReadsMore self.old (R.remaining reader.old.inner)
+            (R.remaining reader.new.inner) reader.old.counts reader.new.counts result self.new }
+    {
+        move_to_front(&mut self.bytes, self.start, self.end);
+        self.end -= self.start;
+        self.start = 0;
+        self.from = 0;
+        if make_room(&mut self.bytes, self.end).is_err() {
+            return Err(LineReadFault::NoMemory);
+        }
+        let left = MAX_INPUT - self.taken;
+        let most = if left == 0 { 1 } else { left.min(MAX_READ) };
+        match read_after(reader, &mut self.bytes, self.end, most) {
+            Ok(count) => {
+                if count != 0 && left == 0 {
+                    return Err(LineReadFault::Read);
+                }
+                self.end += count;
+                self.taken += count;
+                Ok(count)
+            }
+            Err(_) => Err(LineReadFault::Read),
+        }
+    }
+
+    /// So many first bytes of what was handed out last.
+    pub(crate) fn line(&self, size: usize) -> &[u8]
+        requires { size ≤ length self.now.lent }
+        ensures { result.now ≡ take size self.now.lent }
+    {
+        &self.bytes[self.from..self.from + size]
+    }
+}

@@ -1,69 +1,39 @@
 -- What taking the lines of a capture keeps from turn to turn.
-use Rattle.std.proofs.Common.{◌≡◌, ◌≤◌, ◌+◌, ◌++◌, [], ◌∷◌, ℕ, Bool, List, Option, Some, Result, Ok, Err, inl, inr, length, take, sym, subst}
-use Rattle.std.specs.Io.KnownBytes.{Consumes, IsAtEnd}
-use Rattle.std.proofs.lemmas.List.{take_all}
+use Rattle.std.proofs.Common.{◌≡◌, ◌≢◌, ◌⊎◌, ◌≤◌, ◌+◌, ◌++◌, [], ◌∷◌, ℕ, Bool, true, false, List, Option, Some, None, Result, Ok, Err, inl, inr, length, refl, sym, ap, subst, ◌∙◌, append_assoc, arith}
+use Rattle.std.specs.Io.KnownBytes.{IsAtEnd}
+use Rattle.std.proofs.lemmas.List.{append-nil, length-append}
+use Rattle.nb_names.specs.Counted.{Counts}
 use Rattle.nb_names.specs.declared.limits.TheConstants.{MAX_INPUT}
-use Rattle.nb_names.specs.Lines.{IsLine}
-use Rattle.nb_names.specs.LineFacts.{first_line, no_lines, one_line}
+use Rattle.nb_names.specs.Devices.{ShowsUnread}
+use Rattle.nb_names.specs.Lines.{CutInto, rest, line, with_rest}
 use Rattle.nb_table.specs.Limits.{TableValue}
 use Rattle.nb_datagram.specs.declared.key.Key.{Key}
 use Rattle.nb_table.specs.declared.fault.TableFault.TheVariants as tables
 use Rattle.nb_member.specs.declared.line.Line.{Line}
 use Rattle.nb_member.specs.declared.line.Line.TheVariants.{Packet as PacketLine}
+use Rattle.nb_member.specs.declared.line_read_fault.LineReadFault.{LineReadFault}
+use Rattle.nb_member.specs.declared.line_read_fault.LineReadFault.TheVariants as unread
 use Rattle.nb_member.specs.declared.member_fault.MemberFault.{MemberFault}
 use Rattle.nb_member.specs.declared.member_fault.MemberFault.TheVariants.{Table}
 use Rattle.nb_member.specs.declared.outcome.Outcome.{Outcome}
 use Rattle.nb_member.specs.Capture.{Reads}
-use Rattle.nb_member.specs.Member.{MemberValue}
+use Rattle.nb_member.specs.LineReading.{ReadsLine}
+use Rattle.nb_member.specs.LineRoom.{RoomValue, nothing_held}
+use Rattle.nb_member.specs.LinesSoFar.{HandedOut, nothing_handed, Came, came, kept_are, none_over, was_reading, handed_more, handed_all, bytes_less, shows_unread, LongFirst, open_end, with_feed, long_first, long_line}
+use Rattle.nb_member.specs.Member.{MemberValue, contents}
 use Rattle.nb_member.specs.Taking.{Takes}
 use Rattle.nbt.specs.declared.fault.Fault.{Fault}
-use Rattle.nbt.specs.declared.fault.Fault.TheVariants.{Full, Memory}
-use Rattle.nbt.specs.SaveFaults.{LineStops, PayloadStops, SaidStops, StopsTaking, here, later}
+use Rattle.nbt.specs.declared.fault.Fault.TheVariants.{Full, Memory, Read, Line as LineFault}
+use Rattle.nbt.specs.Lines.{unread_fault}
+use Rattle.nbt.specs.SaveFaults.{LineStops, PayloadStops, SaidStops, StopsTaking, StopsSaving, here, later, at_end}
 use Rattle.nbt.specs.Saved.{saved_digits}
-use Rattle.nbt.specs.Saving.{TakesEach, TakesLine, TakesLines, TakesRest, TakesSaid, SavesCapture, new_saver, more, none}
+use Rattle.nbt.specs.Saving.{TakesEach, TakesLine, TakesSaid, SavesCapture, new_saver, more, none}
 
--- the lines before the rest, which is line `number` and those after it, made the first member this one
-pub record IsTaking (is_whole : Bool) (first now : MemberValue) (capture rest : List ℕ) (number : ℕ) : Type 0 where
-  pub counted : number + length rest ≤ MAX_INPUT + 1
-  pub took : (new : MemberValue) → TakesLines now rest new → TakesLines first capture new
-  pub stops : (fault : Fault) → StopsTaking is_whole number now rest fault → StopsTaking is_whole 1 first capture fault
+-- ---- what a line says
 
 -- what a line says was taken
-pub took_line : (m new : MemberValue) (line : List ℕ) (said : Option Line) → Reads line (Ok said) → TakesSaid m said new → TakesLine m line new
-took_line m new line said reads takes = record { said = said; reads = reads; takes = takes }
-
--- a turn that took a line
-pub took_more : (first now next new : MemberValue) (capture rest line after : List ℕ) → rest ≡ line ++ 10 ∷ after → IsLine line
-    → TakesLine now line next → ((new : MemberValue) → TakesLines now rest new → TakesLines first capture new)
-    → TakesLines next after new → TakesLines first capture new
-took_more first now next new capture rest line after parts is_line takes before rest_taken =
-    before new (record {
-      lines = line ∷ rest_taken.lines;
-      has = first_line rest line after rest_taken.lines parts is_line rest_taken.has;
-      takes = more line rest_taken.lines takes rest_taken.takes;
-    })
-
--- what follows the last line feed was taken
-pub took_rest : (m new : MemberValue) (rest : List ℕ) → IsLine rest → TakesRest m rest new → TakesLines m rest new
-took_rest m new rest is_line (inl (empty, same)) = record {
-  lines = [];
-  has = no_lines rest empty;
-  takes = subst (λ (n : MemberValue). TakesEach m [] n) (sym same) none;
-}
-took_rest m new rest is_line (inr (some, takes)) = record {
-  lines = rest ∷ [];
-  has = one_line rest is_line some;
-  takes = more rest [] takes none;
-}
-
--- a line is taken before the one that isn't
-pub stops_later : (is_whole : Bool) (first now next : MemberValue) (capture rest line after : List ℕ) (number : ℕ) (fault : Fault)
-    → rest ≡ line ++ 10 ∷ after → IsLine line → TakesLine now line next
-    → ((f : Fault) → StopsTaking is_whole number now rest f → StopsTaking is_whole 1 first capture f)
-    → StopsTaking is_whole (number + 1) next after fault → StopsTaking is_whole 1 first capture fault
-stops_later is_whole first now next capture rest line after number fault parts is_line takes before stops =
-    before fault (subst (λ (bytes : List ℕ). StopsTaking is_whole number now bytes fault) (sym parts)
-    (later number now next line after fault is_line takes stops))
+pub took_line : (m new : MemberValue) (l : List ℕ) (said : Option Line) → Reads l (Ok said) → TakesSaid m said new → TakesLine m l new
+took_line m new l said reads takes = record { said = said; reads = reads; takes = takes }
 
 -- a payload for which there is no room, or no memory
 pub payload_full : (m new : MemberValue) (moment : ℕ) (payload : List ℕ) (taken : Result Outcome MemberFault) (key : Key)
@@ -82,28 +52,224 @@ pub said_stops : (m : MemberValue) (said : Option Line) (port moment : ℕ) (pay
 said_stops m said port moment payload seen fault is at same stops =
     rw is (at, subst (λ (bytes : List ℕ). PayloadStops m moment bytes fault) same stops)
 
+-- ---- turns of the loop
+
+-- IsTaking first old_in now_in counts mid room number now: the lines handed out so far, the next of which is line
+-- `number`, made the first member this one
+pub record IsTaking (first : MemberValue) (old_in now_in : Option (List ℕ)) (counts mid : Counts) (room : RoomValue) (number : ℕ) (now : MemberValue) : Type 0 where
+  pub lines : List (List ℕ)
+  pub last : List ℕ
+  pub handed : HandedOut old_in now_in counts mid room lines last
+  pub counted : number ≡ 1 + length (with_rest lines last)
+  pub within : number + length room.rest ≤ room.taken + 1
+  pub took : TakesEach first (with_rest lines last) now
+
+pub first_taking : (first m : MemberValue) (known : Option (List ℕ)) (counts : Counts) (room : RoomValue) → room ≡ nothing_held → m ≡ first
+    → IsTaking first known known counts counts room 1 m
+first_taking first m known counts room is same = record {
+  lines = [];
+  last = [];
+  handed = nothing_handed known counts room is;
+  counted = refl;
+  within = rw is (omega arith);
+  took = subst (λ (x : MemberValue). TakesEach first [] x) (sym same) none;
+}
+
+takes_more : (first now next : MemberValue) (lines : List (List ℕ)) (l : List ℕ) → TakesEach first lines now → TakesLine now l next
+    → TakesEach first (lines ++ l ∷ []) next
+takes_more first _ next _ l none takes = more l [] takes none
+takes_more first now next _ l (more k lines before others) takes =
+    more k (lines ++ l ∷ []) before (takes_more _ now next lines l others takes)
+
+-- a turn that took a line
+pub taking_more : (first m next : MemberValue) (old_in now_in new_in : Option (List ℕ)) (counts mid after : Counts) (room left : RoomValue)
+    (l : List ℕ) (number : ℕ) → IsTaking first old_in now_in counts mid room number m
+    → ReadsLine room now_in new_in mid after (Ok (Some l)) left → TakesLine m l next
+    → IsTaking first old_in new_in counts after left (number + 1) next
+taking_more first m next old_in now_in new_in counts mid after room left l number t r takes =
+    let o = handed_more old_in now_in new_in counts mid after room left t.lines t.last l t.handed r in
+    let size : length (with_rest t.lines t.last ++ l ∷ []) ≡ length (with_rest t.lines t.last) + 1 =
+    length-append (with_rest t.lines t.last) (l ∷ []) in record {
+      lines = o.lines;
+      last = o.last;
+      handed = o.handed;
+      counted = omega (arith, t.counted, size, ap length o.are);
+      within = omega (arith, t.within, bytes_less room left now_in new_in mid after l r);
+      took = subst (λ (ls : List (List ℕ)). TakesEach first ls next) (sym o.are)
+          (takes_more first m next (with_rest t.lines t.last) l t.took takes);
+    }
+
+-- ---- how the loop ends
+
+-- lines are taken before the one that isn't
+stops_after : (is_whole : Bool) (number : ℕ) (first m : MemberValue) (passed tail left : List ℕ) (lines : List (List ℕ)) (fault : Fault)
+    → left ≡ [] → CutInto passed lines left → TakesEach first lines m → StopsTaking is_whole (number + length lines) m tail fault
+    → StopsTaking is_whole number first (passed ++ tail) fault
+stops_after is_whole number first _ _ tail _ _ fault empty (rest left clear) none stops =
+    let same : number + length {A = List ℕ} [] ≡ number = omega arith in
+    rw empty (subst (λ (n : ℕ). StopsTaking is_whole n first tail fault) same stops)
+stops_after is_whole number first m _ tail _ _ fault empty (line l bytes left lines clear c) (more _ _ takes others) stops =
+    let same : number + length (l ∷ lines) ≡ number + 1 + length lines = omega arith in
+    subst (λ (bs : List ℕ). StopsTaking is_whole number first bs fault) (sym (append_assoc l (10 ∷ bytes) tail))
+    (later number first _ l (bytes ++ tail) fault clear takes
+    (stops_after is_whole (number + 1) _ m bytes tail left lines fault empty c others
+    (subst (λ (n : ℕ). StopsTaking is_whole n m tail fault) same stops)))
+
+-- StopsHere n old_in new_in counts after fault: a member that holds so many keys doesn't take the lines that were read
+abbrev pub StopsHere : ℕ → Option (List ℕ) → Option (List ℕ) → Counts → Counts → Fault → Type 0
+StopsHere n old_in new_in counts after fault = StopsSaving (λ given. given ≡ n) old_in new_in counts after fault
+
+-- the line that isn't taken is among the bytes that were held
+stops_held : (n : ℕ) (m : MemberValue) (old_in now_in new_in : Option (List ℕ)) (counts mid after : Counts) (room left : RoomValue) (number : ℕ)
+    (result : Result (Option (List ℕ)) LineReadFault) (fault : Fault) (is_whole : Bool)
+    → (t : IsTaking (new_saver n) old_in now_in counts mid room number m) → t.last ≡ []
+    → (r : ReadsLine room now_in new_in mid after result left)
+    → (c : Came old_in new_in counts after t.lines (room.rest ++ r.got) r.over left.taken)
+    → (is_whole ≡ true → IsAtEnd new_in × (r.over ≡ []))
+    → (fault ≡ Read → ShowsUnread ((c.passed ++ (room.rest ++ r.got)) ++ r.over) counts after)
+    → StopsTaking is_whole number m (room.rest ++ r.got) fault → StopsHere n old_in new_in counts after fault
+stops_held n m old_in now_in new_in counts mid after room left number result fault is_whole t empty r c whole cut stops =
+    let held = room.rest ++ r.got in
+    let acted : with_rest t.lines t.last ≡ t.lines = ap (with_rest t.lines) empty in
+    let over : (r.over ≡ []) ⊎ (left.taken ≡ MAX_INPUT) = elim (r.kept) [
+      | inl none_more ↦ inl none_more
+      | inr full ↦ inr full.1
+    ] in
+    let at : number ≡ 1 + length t.lines = t.counted ∙ ap (λ (ls : List (List ℕ)). 1 + length ls) acted in record {
+      bytes = (c.passed ++ held) ++ r.over;
+      is_whole = is_whole;
+      keys = n;
+      read = c.consumes;
+      whole = λ w. (
+        (whole w).0,
+        subst (λ (bs : List ℕ). length bs ≤ MAX_INPUT)
+            (sym (ap (λ (bs : List ℕ). (c.passed ++ held) ++ bs) (whole w).1 ∙ append-nil (c.passed ++ held)))
+            (subst (λ (k : ℕ). k ≤ MAX_INPUT) c.taken_is c.within),
+      );
+      cut = cut;
+      given = refl;
+      stops = subst (λ (bs : List ℕ). StopsTaking is_whole 1 (new_saver n) bs fault)
+          (sym (kept_are old_in new_in counts after t.lines held r.over left.taken c over))
+          (stops_after is_whole 1 (new_saver n) m c.passed held [] t.lines fault refl c.cut
+          (subst (λ (ls : List (List ℕ)). TakesEach (new_saver n) ls m) acted t.took)
+          (subst (λ (k : ℕ). StopsTaking is_whole k m held fault) at stops));
+    }
+
 -- the next line isn't taken
-pub stops_here : (is_whole : Bool) (first now : MemberValue) (capture rest line after : List ℕ) (number : ℕ) (fault : Fault)
-    → rest ≡ line ++ 10 ∷ after → IsLine line → LineStops number now line fault
-    → ((f : Fault) → StopsTaking is_whole number now rest f → StopsTaking is_whole 1 first capture f)
-    → StopsTaking is_whole 1 first capture fault
-stops_here is_whole first now capture rest line after number fault parts is_line stops before =
-    before fault (subst (λ (bytes : List ℕ). StopsTaking is_whole number now bytes fault) (sym parts)
-    (here number now line after fault is_line stops))
+pub stops_at_line : (n : ℕ) (m : MemberValue) (old_in now_in new_in : Option (List ℕ)) (counts mid after : Counts) (room left : RoomValue)
+    (l : List ℕ) (number : ℕ) (fault : Fault) → IsTaking (new_saver n) old_in now_in counts mid room number m
+    → ReadsLine room now_in new_in mid after (Ok (Some l)) left → LineStops number m l fault → fault ≢ Read
+    → StopsHere n old_in new_in counts after fault
+stops_at_line n m old_in now_in new_in counts mid after room left l number fault t r stops differs =
+    let result : Result (Option (List ℕ)) LineReadFault = Ok (Some l) in
+    let was = was_reading old_in now_in counts mid room t.lines t.last result t.handed r.again (λ e. absurd (cc e)) in
+    let c = came old_in now_in new_in counts mid after room left t.lines t.last result t.handed was.1 r in
+    let no_more = none_over room now_in new_in mid after result left r (λ e. absurd (cc e)) in
+    elim (r.answers.2) [
+      | inl a ↦ stops_held n m old_in now_in new_in counts mid after room left number result fault false t was.1 r c
+          (λ e. absurd (cc e)) (λ e. absurd (differs e))
+          (subst (λ (bs : List ℕ). StopsTaking false number m bs fault) (sym a.1) (here number m l left.rest fault r.answers.1 stops))
+      | inr a ↦ stops_held n m old_in now_in new_in counts mid after room left number result fault true t was.1 r c
+          (λ e. (
+            elim (r.at_end a.4) [
+              | inl ended ↦ absurd (cc (was.0, ended.0))
+              | inr at ↦ at
+            ],
+            no_more,
+          )) (λ e. absurd (differs e))
+          (subst (λ (bs : List ℕ). StopsTaking true number m bs fault) (sym a.1)
+          (at_end number m l fault r.answers.1 (inr (refl, a.2, stops))))
+    ]
+
+-- the next line is too long
+stops_long : (number : ℕ) (m : MemberValue) (held : List ℕ) → LongFirst held → StopsTaking false number m held (LineFault number)
+stops_long number m _ (open_end held clear long) = at_end number m held (LineFault number) clear (inl (refl, long))
+stops_long number m _ (with_feed l after clear long) = here number m l after (LineFault number) clear (inl (refl, long_line l long))
+
+stops_too_long : (n : ℕ) (m : MemberValue) (old_in now_in new_in : Option (List ℕ)) (counts mid after : Counts) (room left : RoomValue)
+    (number : ℕ) → IsTaking (new_saver n) old_in now_in counts mid room number m
+    → ReadsLine room now_in new_in mid after (Err unread.TooLong) left → StopsHere n old_in new_in counts after (LineFault number)
+stops_too_long n m old_in now_in new_in counts mid after room left number t r =
+    let result : Result (Option (List ℕ)) LineReadFault = Err unread.TooLong in
+    let was = was_reading old_in now_in counts mid room t.lines t.last result t.handed r.again (λ e. absurd (cc e)) in
+    let c = came old_in now_in new_in counts mid after room left t.lines t.last result t.handed was.1 r in
+    stops_held n m old_in now_in new_in counts mid after room left number result (LineFault number) false t was.1 r c
+    (λ e. absurd (cc e)) (λ e. absurd (cc e)) (stops_long number m (room.rest ++ r.got) (long_first (room.rest ++ r.got) r.answers.0))
+
+-- the input can't be read further
+stops_unread : (n : ℕ) (m : MemberValue) (old_in now_in new_in : Option (List ℕ)) (counts mid after : Counts) (room left : RoomValue)
+    (number : ℕ) → IsTaking (new_saver n) old_in now_in counts mid room number m
+    → ReadsLine room now_in new_in mid after (Err unread.Read) left → StopsHere n old_in new_in counts after Read
+stops_unread n m old_in now_in new_in counts mid after room left number t r =
+    let result : Result (Option (List ℕ)) LineReadFault = Err unread.Read in
+    let was = was_reading old_in now_in counts mid room t.lines t.last result t.handed r.again (λ e. absurd (cc e)) in
+    let c = came old_in now_in new_in counts mid after room left t.lines t.last result t.handed was.1 r in
+    stops_held n m old_in now_in new_in counts mid after room left number result Read false t was.1 r c
+    (λ e. absurd (cc e)) (λ e. shows_unread old_in now_in new_in counts mid after room left t.lines t.last t.handed r c was.0)
+    (at_end number m (room.rest ++ r.got) Read r.answers.0.1 (inl (refl, r.answers.0.0)))
+
+-- the next line can't be read
+pub stops_fault : (n : ℕ) (m : MemberValue) (old_in now_in new_in : Option (List ℕ)) (counts mid after : Counts) (room left : RoomValue)
+    (number : ℕ) (fault : LineReadFault) (answer : Fault) → IsTaking (new_saver n) old_in now_in counts mid room number m
+    → ReadsLine room now_in new_in mid after (Err fault) left → answer ≡ unread_fault number fault
+    → (answer ≡ Memory) ⊎ StopsHere n old_in new_in counts after answer
+stops_fault n m old_in now_in new_in counts mid after room left number unread.TooLong answer t r is =
+    inr (subst (λ (f : Fault). StopsHere n old_in new_in counts after f) (sym is)
+    (stops_too_long n m old_in now_in new_in counts mid after room left number t r))
+stops_fault n m old_in now_in new_in counts mid after room left number unread.Read answer t r is =
+    inr (subst (λ (f : Fault). StopsHere n old_in new_in counts after f) (sym is)
+    (stops_unread n m old_in now_in new_in counts mid after room left number t r))
+stops_fault n m old_in now_in new_in counts mid after room left number unread.NoMemory answer t r is = inl is
+
+-- the whole input was taken
+pub takes_all : (n : ℕ) (m : MemberValue) (old_in now_in new_in : Option (List ℕ)) (counts mid after : Counts) (room left : RoomValue)
+    (number : ℕ) → IsTaking (new_saver n) old_in now_in counts mid room number m
+    → ReadsLine room now_in new_in mid after (Ok None) left
+    → SavesCapture (λ given. given ≡ n) (λ digits. digits ≡ saved_digits (contents m)) old_in new_in
+takes_all n m old_in now_in new_in counts mid after room left number t r =
+    let a = handed_all old_in now_in new_in counts mid after room left t.lines t.last t.handed r in record {
+      capture = a.bytes;
+      keys = n;
+      new = m;
+      read = a.consumes;
+      ended = a.at_end;
+      within = a.within;
+      given = refl;
+      took = record {
+        lines = with_rest t.lines t.last;
+        has = record { finished = t.lines; last = t.last; cut = a.cut; are = refl };
+        takes = t.took;
+      };
+      printed = refl;
+    }
+
+-- ---- the number of keys that was given, and what was printed
+
+pub stops_given : (IsKeys : ℕ → Type 0) (n : ℕ) (old_in new_in : Option (List ℕ)) (counts after : Counts) (fault : Fault) → IsKeys n
+    → StopsHere n old_in new_in counts after fault → StopsSaving IsKeys old_in new_in counts after fault
+stops_given IsKeys n old_in new_in counts after fault given s = record {
+  bytes = s.bytes;
+  is_whole = s.is_whole;
+  keys = s.keys;
+  read = s.read;
+  whole = s.whole;
+  cut = s.cut;
+  given = subst IsKeys (sym s.given) given;
+  stops = s.stops;
+}
 
 -- the table of a member that took the whole input is printed
-pub saves_capture : (IsKeys : ℕ → Type 0) (IsPrinted : List ℕ → Type 0) (old_in new_in : Option (List ℕ)) (bytes : List ℕ) (n : ℕ) (new : MemberValue) (t : TableValue)
-    → Consumes old_in new_in bytes → IsAtEnd new_in × (length bytes ≤ MAX_INPUT) → IsKeys n
-    → TakesLines (new_saver n) (take MAX_INPUT bytes) new → t ≡ new.timed.table → IsPrinted (saved_digits t.contents)
-    → SavesCapture IsKeys IsPrinted old_in new_in
-saves_capture IsKeys IsPrinted old_in new_in bytes n new t read whole given took is printed = record {
-  capture = bytes;
-  keys = n;
-  new = new;
-  read = read;
-  ended = whole.0;
-  within = whole.1;
-  given = given;
-  took = subst (λ (taken : List ℕ). TakesLines (new_saver n) taken new) (take_all MAX_INPUT bytes whole.1) took;
-  printed = subst (λ (u : TableValue). IsPrinted (saved_digits u.contents)) is printed;
+pub saves_capture : (IsKeys : ℕ → Type 0) (IsPrinted : List ℕ → Type 0) (old_in new_in : Option (List ℕ)) (n : ℕ) (m : MemberValue) (t : TableValue)
+    → SavesCapture (λ given. given ≡ n) (λ digits. digits ≡ saved_digits (contents m)) old_in new_in → IsKeys n → t ≡ m.timed.table
+    → IsPrinted (saved_digits t.contents) → SavesCapture IsKeys IsPrinted old_in new_in
+saves_capture IsKeys IsPrinted old_in new_in n m t s given is printed = record {
+  capture = s.capture;
+  keys = s.keys;
+  new = s.new;
+  read = s.read;
+  ended = s.ended;
+  within = s.within;
+  given = subst IsKeys (sym s.given) given;
+  took = s.took;
+  printed = subst IsPrinted (ap (λ (u : TableValue). saved_digits u.contents) is ∙ sym s.printed) printed;
 }

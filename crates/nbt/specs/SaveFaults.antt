@@ -1,5 +1,5 @@
 -- Why `nbt save` doesn't save a capture, and at which line (our choice). Lines are numbered from 1.
-use Rattle.std.specs.Prelude.{◌≡◌, ◌⊎◌, ◌<◌, ◌≤◌, ◌+◌, ◌++◌, ◌∷◌, ℕ, Bool, true, false, List, length, take, Option, Some, Ok, Err}
+use Rattle.std.specs.Prelude.{◌≡◌, ◌⊎◌, ◌<◌, ◌≤◌, ◌+◌, ◌++◌, ◌∷◌, ℕ, Bool, true, List, length, take, Option, Some, Ok, Err}
 use Rattle.std.specs.Io.KnownBytes.{Consumes, IsAtEnd}
 use Rattle.nb_names.specs.declared.limits.TheConstants.{MAX_INPUT}
 use Rattle.nb_names.specs.Counted.{Counts}
@@ -13,7 +13,7 @@ use Rattle.nb_member.specs.Capture.{Reads}
 use Rattle.nb_member.specs.Member.{MemberValue}
 use Rattle.nb_member.specs.Taking.{Takes}
 use Rattle.nbt.specs.declared.fault.Fault.{Fault}
-use Rattle.nbt.specs.declared.fault.Fault.TheVariants.{Arguments, Full, Write, Memory}
+use Rattle.nbt.specs.declared.fault.Fault.TheVariants.{Arguments, Full, Read, Write, Memory}
 use Rattle.nb_names.specs.Devices.{ShowsUnread}
 use Rattle.nbt.specs.Lines.{IsEndFault, IsLineFault}
 use Rattle.nbt.specs.Saving.{TakesLine, new_saver}
@@ -53,15 +53,16 @@ pub data StopsTaking (is_whole : Bool) : ℕ → MemberValue → List ℕ → Fa
   at_end : (number : ℕ) (m : MemberValue) (rest : List ℕ) (fault : Fault) → IsLine rest → RestStops is_whole number m rest fault
       → StopsTaking is_whole number m rest fault
 
--- StopsSaving IsKeys old_in new_in old new fault: these bytes were read, all of the input or what came before it was
--- cut, and a member that holds as many keys as are given doesn't take the lines among them, for this reason
+-- StopsSaving IsKeys old_in new_in old new fault: these bytes were read, all of the input, or what came before it was
+-- cut or a line wasn't taken, and a member that holds as many keys as are given doesn't take the lines among them,
+-- for this reason
 pub record StopsSaving (IsKeys : ℕ → Type 0) (old_in new_in : Option (List ℕ)) (old new : Counts) (fault : Fault) : Type 0 where
   pub bytes : List ℕ
   pub is_whole : Bool
   pub keys : ℕ
   pub read : Consumes old_in new_in bytes
   pub whole : is_whole ≡ true → IsAtEnd new_in × (length bytes ≤ MAX_INPUT)
-  pub cut : is_whole ≡ false → ShowsUnread bytes old new
+  pub cut : fault ≡ Read → ShowsUnread bytes old new
   pub given : IsKeys keys
   pub stops : StopsTaking is_whole 1 (new_saver keys) (take MAX_INPUT bytes) fault
 

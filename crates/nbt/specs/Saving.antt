@@ -1,6 +1,6 @@
 -- What `nbt save` makes of a capture: a member without names takes its payloads of port 138 and sets
 -- the clock at its ticks (our choice).
-use Rattle.std.specs.Prelude.{◌≡◌, ◌≢◌, ◌⊎◌, ◌<◌, ◌≤◌, ℕ, List, [], ◌∷◌, length, Option, None, Some, Result, Ok, Err}
+use Rattle.std.specs.Prelude.{◌≡◌, ◌≢◌, ◌⊎◌, ◌≤◌, ℕ, List, [], ◌∷◌, length, Option, None, Some, Result, Ok, Err}
 use Rattle.std.specs.FinMap as maps
 use Rattle.std.specs.Io.KnownBytes.{Consumes, IsAtEnd}
 use Rattle.nb_names.specs.declared.limits.TheConstants.{MAX_INPUT}
@@ -58,11 +58,6 @@ pub record TakesLine (m : MemberValue) (line : List ℕ) (new : MemberValue) : T
   pub said : Option Line
   pub reads : Reads line (Ok said)
   pub takes : TakesSaid m said new
-
--- TakesRest m rest new: what follows the last line feed, a line unless it is empty, makes the member m the
--- member new
-abbrev pub TakesRest : MemberValue → List ℕ → MemberValue → Type 0
-TakesRest m rest new = ((rest ≡ []) × (new ≡ m)) ⊎ ((0 < length rest) × TakesLine m rest new)
 
 -- TakesEach m lines new: the lines, one after the other, make the member m the member new
 pub data TakesEach : MemberValue → List (List ℕ) → MemberValue → Type 0 where

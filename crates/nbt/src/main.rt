@@ -5,6 +5,7 @@ mod clap_answer;
 mod command_line;
 mod commands;
 mod fault;
+mod flushing;
 mod help;
 mod lines;
 mod output;
@@ -15,9 +16,11 @@ mod status;
 mod tables;
 
 use crate::fault::Fault;
+use crate::flushing::{FlushingInput, SharedOutput};
 use crate::output::Output;
 use crate::program::{report, run};
 use std::alloc::Global;
+use std::cell::RefCell;
 use std::env;
 use std::io::{BufWriter, ErrorKind, Write};
 use std::process::ExitCode;
@@ -31,7 +34,8 @@ fn main(rt: HostRuntime) -> ExitCode {
 }
 
 /// Runs the program over the streams of its process. What it prints goes through buffers of fixed
-/// size, which are written out in the end, whatever the program answers.
+/// size. What was printed is written out before each read of the input, so that it shows while more
+/// is waited for, and all of it in the end, whatever the program answers.
 ///
 /// # Errors
 ///
@@ -39,24 +43,41 @@ fn main(rt: HostRuntime) -> ExitCode {
 /// [`Fault::Write`] where what was printed can't be written out: this is then reported alone.
 fn run_buffered(rt: &HostRuntime) -> Result<u8, Fault> {
     let words = words_of(rt)?;
-    let mut input = rt.stdin();
-    let mut output = buffered(rt.alloc(), rt.stdout())?;
+    let printed = RefCell::new(buffered(rt.alloc(), rt.stdout())?);
     let mut errors = buffered(rt.alloc(), rt.stderr())?;
-    let code = run(
-        rt.alloc(),
-        words.as_slice(),
-        &mut input,
-        &mut output,
-        &mut errors,
-    );
-    let printed = output.flush();
+    let answer = run_flushing(rt, words.as_slice(), &printed, &mut errors);
+    let mut output = printed.into_inner();
+    let shown = match answer {
+        Ok(code) => output.flush().map(|()| code).map_err(|_| Fault::Write),
+        Err(fault) => Err(fault),
+    };
     // What a failed flush left is let go: it isn't written once more.
     let (_stdout, _left) = output.into_parts();
-    if printed.is_ok() {
+    if shown.is_ok() {
         let _ = errors.flush();
     }
     let (_stderr, _unwritten) = errors.into_parts();
-    printed?;
+    shown
+}
+
+/// Runs the program over the input of its process, before each read of which the output in the cell
+/// is flushed.
+///
+/// # Errors
+///
+/// [`Fault::Write`] where such a flush failed.
+fn run_flushing<W: Write, E: Write>(
+    rt: &HostRuntime,
+    words: &[String],
+    printed: &RefCell<W>,
+    errors: &mut E,
+) -> Result<u8, Fault> {
+    let mut input = FlushingInput::new(rt.stdin(), printed);
+    let mut output = SharedOutput::new(printed);
+    let code = run(rt.alloc(), words, &mut input, &mut output, errors);
+    if input.flush_failed() {
+        return Err(Fault::Write);
+    }
     Ok(code)
 }
 

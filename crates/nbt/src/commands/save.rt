@@ -1,30 +1,30 @@
 //! `nbt save`: what a capture says of datagrams, as a saved table.
-ghost use Rattle.std.specs.Prelude.{◌≡◌, ◌≢◌, take, true, false, IfOk, IfErr, OnOk};
+ghost use Rattle.std.specs.Prelude.{◌≡◌, ◌≢◌, ◌⊎◌, IfOk, IfErr, OnOk};
 ghost use Rattle.std.specs.Io.KnownBytes.{Keeps};
-ghost use Rattle.nb_names.specs.declared.limits.TheConstants.{MAX_INPUT};
+ghost use Rattle.nb_member.specs.Member.{contents};
 ghost use Rattle.nbt.specs.Input.{WasCut};
 ghost use Rattle.nb_names.specs.Devices.{ShowsWriteFault};
 ghost use Rattle.nbt.specs.Printing.{PrintsFront, PrintsLine};
-ghost use Rattle.nbt.specs.SaveFaults.{LineStops, PayloadStops, RestStops, SaidStops, SaveFails, StopsTaking};
-ghost use Rattle.nbt.specs.Saving.{new_saver, SavesCapture, TakesLine, TakesLines, TakesPayload, TakesRest, TakesSaid};
+ghost use Rattle.nbt.specs.SaveFaults.{LineStops, PayloadStops, SaidStops, SaveFails, StopsSaving};
+ghost use Rattle.nbt.specs.Saved.{saved_digits};
+ghost use Rattle.nbt.specs.Saving.{SavesCapture, TakesLine, TakesPayload, TakesSaid};
 ghost use Rattle.nbt.specs.Settings.{AreKeys};
 
 use crate::fault::Fault;
-use crate::lines::{last_line, said_by};
+use crate::lines::{said_by, unread_line};
 use crate::output::Output;
 use crate::saved::print_saved;
 use crate::settings::{PORT, settings_with};
 use clap::ArgMatches;
-use nb_member::{Line, LocalNames, Member, MemberFault};
+use nb_member::{Line, LineRoom, LocalNames, Member, MemberFault, next_from};
 use nb_names::Counted;
-use nb_names::input::{Input, read_input};
-use nb_names::lines::split_line;
 use nb_table::TableFault;
 use std::alloc::Global;
 use std::io::{Read, Write};
 
-/// `nbt save [--keys N]`: reads the whole input, takes its payloads of port 138 and sets the
-/// clock at its ticks, in a member without names, and prints the member's table in hexadecimal.
+/// `nbt save [--keys N]`: takes the payloads of port 138 and sets the clock at the ticks, each line
+/// of the input as it comes, in a member without names, and prints the member's table in
+/// hexadecimal.
 ///
 /// # Errors
 ///
@@ -58,48 +58,30 @@ pub fn run_save<R: Read, W: Write>(
     let Some(keys) = matches.get_one::<u32>("keys") else {
         return Err(Fault::Arguments);
     };
-    let input = read_input(alloc, input)?;
-    let member = member_after(alloc, keys, &input)?;
+    let member = member_after(alloc, keys, input)?;
     print_saved(alloc, member.table(), output)
 }
 
 /// A member without names that holds this many keys, after the lines of an input.
-fn member_after(alloc: Global, keys: u32, input: &Input) -> Result<Member, Fault>
-    ensures took { IfOk result (λ new. (input.now.is_whole ≡ true) ×
-        TakesLines (new_saver keys) (take MAX_INPUT input.now.bytes.items) new) }
+fn member_after<R: Read>(alloc: Global, keys: u32, input: &mut Counted<R>) -> Result<Member, Fault>
+    ensures took { IfOk result (λ new. SavesCapture (λ given. given ≡ keys)
+        (λ digits. digits ≡ saved_digits (contents new))
+        (R.remaining input.old.inner) (R.remaining input.new.inner)) }
     ensures fault { IfErr result (λ fault. fault ≢ Fault.Write) }
-    ensures cut { IfErr result (λ fault. fault ≡ Fault.Read → input.now.is_whole ≡ false) }
-    ensures stops { IfErr result (StopsTaking input.now.is_whole 1
-        (new_saver keys) (take MAX_INPUT input.now.bytes.items)) }
+    ensures stops { IfErr result (λ fault. (fault ≡ Fault.Memory) ⊎
+        StopsSaving (λ given. given ≡ keys) (R.remaining input.old.inner)
+        (R.remaining input.new.inner) input.old.counts input.new.counts fault) }
 {
     let mut member = Member::new(alloc, settings_with(keys), LocalNames::new(alloc));
-    let mut rest = input.front();
+    let mut room = LineRoom::new(alloc);
     let mut number = 1;
-    while let Some((line, after)) = split_line(rest) {
-        take_line(alloc, number, line, &mut member)?;
-        rest = after;
+    'lines: loop {
+        match next_from(&mut room, input) {
+            Ok(Some(line)) => take_line(alloc, number, line, &mut member)?,
+            Ok(None) => return Ok(member),
+            Err(fault) => return Err(unread_line(number, fault)),
+        }
         number += 1;
-    }
-    take_rest(alloc, number, rest, input.is_whole, &mut member)?;
-    Ok(member)
-}
-
-/// Has the member take what follows the last line feed: a line, where the input ends there.
-fn take_rest(
-    alloc: Global,
-    number: usize,
-    rest: &[u8],
-    is_whole: bool,
-    member: &mut Member,
-) -> Result<(), Fault>
-    ensures took { OnOk result ((is_whole ≡ true) × TakesRest member.old rest.now member.new) }
-    ensures fault { IfErr result (λ fault. fault ≢ Fault.Write) }
-    ensures cut { IfErr result (λ fault. fault ≡ Fault.Read → is_whole ≡ false) }
-    ensures stops { IfErr result (RestStops is_whole number member.old rest.now) }
-{
-    match last_line(number, rest, is_whole)? {
-        Some(line) => take_line(alloc, number, line, member),
-        None => Ok(()),
     }
 }
 

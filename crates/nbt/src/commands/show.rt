@@ -8,16 +8,14 @@ mod session;
 mod texts;
 
 use crate::fault::Fault;
-use crate::lines::{last_line, said_by};
+use crate::lines::{said_by, unread_line};
 use crate::output::Output;
-use nb_member::Line;
-use nb_names::input::{Input, read_input};
-use nb_names::lines::split_line;
+use nb_member::{Line, LineRoom, next_from};
 use nb_names::{Counted, NoMemory};
 use std::alloc::Global;
 use std::io::{Read, Write};
 
-/// `nbt show`: reads the whole input, and shows its packets in order.
+/// `nbt show`: shows the packets of the input in order, each line as it comes.
 ///
 /// # Errors
 ///
@@ -32,25 +30,15 @@ pub fn run_show<R: Read, W: Write>(
     ensures why { IfErr result (λ fault. fault ≡ Fault.Write →
         ShowsWriteFault output.old.counts output.new.counts) }
 {
-    let input = read_input(alloc, input)?;
-    show_lines(alloc, &input, output)
-}
-
-/// Shows the lines that are finished, and the last one.
-fn show_lines<W: Write>(alloc: Global, input: &Input, output: &mut Output<W>) -> Result<(), Fault>
-    ensures why { IfErr result (λ fault. fault ≡ Fault.Write →
-        ShowsWriteFault output.old.counts output.new.counts) }
-{
-    let mut rest = input.front();
+    let mut room = LineRoom::new(alloc);
     let mut number = 1;
-    while let Some((line, after)) = split_line(rest) {
-        show_line(alloc, number, line, output)?;
-        rest = after;
+    'lines: loop {
+        match next_from(&mut room, input) {
+            Ok(Some(line)) => show_line(alloc, number, line, output)?,
+            Ok(None) => return Ok(()),
+            Err(fault) => return Err(unread_line(number, fault)),
+        }
         number += 1;
-    }
-    match last_line(number, rest, input.is_whole)? {
-        Some(line) => show_line(alloc, number, line, output),
-        None => Ok(()),
     }
 }
 

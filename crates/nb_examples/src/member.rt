@@ -3,6 +3,7 @@
 mod lines;
 mod many;
 mod outcomes;
+mod reading;
 mod replays;
 mod running;
 mod stations;
@@ -24,6 +25,7 @@ pub fn answer(alloc: Global, call: &str, words: &mut Words<'_>) -> Result<String
         "run" => running::run_by_one(alloc, words),
         "two" => running::run_by_two(alloc, words),
         "many" => many::taken(alloc, words),
+        "next" => reading::each_line(alloc, words),
         "report" => replays::reported(alloc, words),
         "replay" => replays::replayed(alloc, words),
         "written" => replays::written(alloc, words),

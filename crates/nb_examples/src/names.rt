@@ -2,6 +2,7 @@
 
 mod devices;
 mod lines;
+mod texts;
 pub mod values;
 
 use crate::byte_text::{bytes_of, text_of_bytes};
@@ -22,6 +23,8 @@ pub fn answer(alloc: Global, call: &str, words: &mut Words<'_>) -> Result<String
         "from_bytes" => read_from_bytes(alloc, words),
         "name_text" => name_written(alloc, words),
         "domain_text" => domain_written(alloc, words),
+        "push_name" => texts::name_added(alloc, words),
+        "digits" => texts::digits(alloc, words),
         "spelling" => spelled(alloc, words),
         "labels" => labels(alloc, words),
         "push" => pushed(alloc, words),

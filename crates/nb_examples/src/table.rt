@@ -30,6 +30,7 @@ pub fn answer(alloc: Global, call: &str, words: &mut Words<'_>) -> Result<String
         "handed" => inserting::handed(alloc, words),
         "state" => reading::state(alloc, words),
         "states" => reading::compared_states(alloc, words),
+        "run_count" => reading::run_count(alloc, words),
         "keys" => reading::keys(alloc, words),
         "drop" => reading::dropped(alloc, words),
         "same" => reading::compared(alloc, words),

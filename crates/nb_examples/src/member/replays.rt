@@ -82,7 +82,7 @@ fn replay_by(
 }
 
 /// The bytes of a capture.
-fn capture_of(alloc: Global, word: &str) -> Result<Vec<u8>, ExampleFault> {
+pub fn capture_of(alloc: Global, word: &str) -> Result<Vec<u8>, ExampleFault> {
     let mut bytes = bytes_of(alloc, word)?;
     for byte in &mut bytes {
         if *byte == b';' {

@@ -31,6 +31,14 @@ pub fn compared_states(alloc: Global, words: &mut Words<'_>) -> Result<String, E
     comparison(alloc, &one, &other)
 }
 
+/// `run_count KEY TABLE`: how many runs the key's known bytes make up.
+pub fn run_count(alloc: Global, words: &mut Words<'_>) -> Result<String, ExampleFault> {
+    let key = words.key()?;
+    let table = table_of(alloc, words.rest())?;
+    let count = table.run_count(&key);
+    Ok(format!(in alloc; "{count:?}")?)
+}
+
 /// `keys TABLE`: how many keys there are, and these.
 pub fn keys(alloc: Global, words: &mut Words<'_>) -> Result<String, ExampleFault> {
     let table = table_of(alloc, words.rest())?;

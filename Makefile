@@ -22,9 +22,9 @@ check:
 test:
 	tests/all.sh
 
-# Build the program, and print how many packets a second it takes.
+# Build the program, and print what its commands cost: instructions, packets a second, memory.
 bench: build
-	tests/bench.sh
+	tests/bench.py
 
 # Build the program, and put it below PREFIX.
 install: build

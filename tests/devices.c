@@ -6,6 +6,7 @@
  * NBT_WRITE_INTERRUPTS  how often standard output is interrupted before each write
  * NBT_READ_FAILS        which read of standard input fails, the first being 1; interrupted ones aren't counted
  * NBT_END_FAILS         the end of standard input is a failure instead
+ * NBT_WRITE_FAILS       which write to standard output fails, the first being 1; interrupted ones aren't counted
  * NBT_OUTPUT_ROOM       how many bytes standard output takes before it fails
  * NBT_ERRORS_ROOM       the same of standard error
  * NBT_WRITES            a file that gets the number of writes to standard output, in decimal, when the program ends
@@ -34,6 +35,7 @@ static unsigned long reads;
 static unsigned long failing_read;
 static int end_fails;
 static unsigned long writes;
+static unsigned long failing_write;
 static unsigned long rooms[3];
 
 static unsigned long asked(const char *name, unsigned long otherwise)
@@ -87,6 +89,8 @@ ssize_t write(int descriptor, const void *bytes, size_t size)
         return fails(EINTR);
     if (descriptor == 1)
         writes += 1;
+    if (descriptor == 1 && writes == failing_write)
+        return fails(EIO);
     if (rooms[descriptor] == 0)
         return fails(ENOSPC);
     if (descriptor == 1 && size > most)
@@ -120,6 +124,7 @@ __attribute__((constructor)) static void begin(int count, char **words)
     read_interrupts.each = read_interrupts.waiting = asked("NBT_READ_INTERRUPTS", 0);
     write_interrupts.each = write_interrupts.waiting = asked("NBT_WRITE_INTERRUPTS", 0);
     failing_read = asked("NBT_READ_FAILS", 0);
+    failing_write = asked("NBT_WRITE_FAILS", 0);
     end_fails = getenv("NBT_END_FAILS") != NULL;
     rooms[1] = asked("NBT_OUTPUT_ROOM", 1UL << 40);
     rooms[2] = asked("NBT_ERRORS_ROOM", 1UL << 40);

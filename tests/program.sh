@@ -154,6 +154,34 @@ for words in show 'replay A<20>'; do
     [ "$writes" -ge 10 ] && [ "$writes" -lt 1000 ]
     count $? "nbt $words, 100,000 lines in $writes writes"
 done
+seq 100000 | sed 's/.*/138 0 1702000100000000008a1702000100000000008a/' >"$room/input"
+for words in show 'replay A<20>'; do
+    "$room/bin/hostile" NBT_WRITES="$room/writes" "$program" $words <"$room/input" >"$room/output"
+    [ $? -eq 0 ] && [ "$(wc -l <"$room/output")" -eq 100000 ] && [ "$(cat "$room/writes")" -le 2000 ]
+    count $? "nbt $words, 100,000 longer lines in $(cat "$room/writes") writes"
+done
+
+# What a line gives is there before the next line is sent; where it can't be written the program ends without one.
+mkfifo "$room/sent" "$room/shown"
+for words in show 'replay A<20>'; do
+    "$program" $words <"$room/sent" >"$room/shown" &
+    exec 3>"$room/sent" 4<"$room/shown"
+    for n in 1 2 3; do
+        echo "tick $n" >&3
+        IFS= read -r -t 30 line <&4
+        [[ $line == "$n tick $n" || $line == "$n dropped 0" ]]
+        count $? "nbt $words, line $n of an input that waits"
+    done
+    exec 3>&- 4<&-
+    wait $!
+    timeout 30 "$program" $words <"$room/sent" >/dev/full 2>"$room/errors" &
+    exec 3>"$room/sent"
+    echo tick 1 >&3
+    wait $!
+    [ $? -eq 3 ] && holds "$room/errors" $'nbt: write\n'
+    count $? "nbt $words, standard output full, an input that waits"
+    exec 3>&-
+done
 
 # Each request for memory refused.
 input=/dev/null

@@ -32,11 +32,12 @@ slot_back (Held a) = refl
 abbrev pub slot_code : {X : Type 0} → Coded X → Coded (Slot X)
 slot_code {X} x = code_by (Option X) (coded_option x) held slot_of slot_back
 
--- a cover's facts as the pair of them
+-- a cover's facts as the tuple of them
 abbrev pub cover_facts_code : Coded CoverFacts
 cover_facts_code =
-    code_by (maps.FinMap nat_cmp ℕ × Option ℕ) (coded× (maps.code coded_ℕ coded_ℕ) (coded_option coded_ℕ))
-    (λ c. (c.bytes, c.end)) (λ p. record { bytes = p.0; end = p.1 }) (λ _. refl)
+    code_by (maps.FinMap nat_cmp ℕ × (Option ℕ × Option ℕ))
+    (coded× (maps.code coded_ℕ coded_ℕ) (coded× (coded_option coded_ℕ) (coded_option coded_ℕ)))
+    (λ c. (c.bytes, (c.end, c.promise))) (λ p. record { bytes = p.0; end = p.1.0; promise = p.1.1 }) (λ _. refl)
 
 -- a cover as its facts, if it isn't clashed
 abbrev pub cover_code : Coded CoverValue

@@ -1,9 +1,10 @@
 -- When two fragments contradict each other, and when a key is spoilt in a list of fragments (our choice). Here
 -- stand the relations; the tests by which tables are defined stand in ConflictTests.
-use Rattle.std.specs.Prelude.{◌≡◌, ◌≢◌, ℕ, List, Contains}
+use Rattle.std.specs.Prelude.{◌≡◌, ◌≢◌, ◌≤◌, ℕ, List, Contains}
 use Rattle.nb_datagram.specs.declared.key.Key.{Key}
 use Rattle.nb_datagram.specs.Fragment.{Core, Covers, EndsAt}
-use Rattle.nb_table.specs.Cover.{LiesBelow, cover_of}
+use Rattle.nb_table.specs.Promise.{Promises}
+use Rattle.nb_table.specs.Cover.{BytesBelow, cover_of}
 
 -- both fragments cover a place, with different bytes
 pub record Overlap (f g : Core) : Type 0 where
@@ -14,14 +15,23 @@ pub record Overlap (f g : Core) : Type 0 where
   pub other_covers : Covers g place other_byte
   pub differs : byte ≢ other_byte
 
--- PastEnd f g: f ends, and not all that g says lies below that end: g covers a place at or past it
+-- PastEnd f g: f ends, and not all that g covers lies below that end: g covers a place at or past it
 pub record PastEnd (f g : Core) : Type 0 where
   pub end : ℕ
   pub ends : EndsAt f end
-  pub past : LiesBelow end (cover_of g) → ⊥
+  pub past : BytesBelow end (cover_of g).bytes → ⊥
+
+-- BreaksPromise f g: f ends at or before the place at which, or after which, g promises a byte
+pub record BreaksPromise (f g : Core) : Type 0 where
+  pub end : ℕ
+  pub promised : ℕ
+  pub ends : EndsAt f end
+  pub promises : Promises g promised
+  pub broken : end ≤ promised
 
 -- f and g contradict each other, whatever their keys: in kind or in a name, in the byte at a place, in
--- the end, or by a place of one at or past the end of the other
+-- the end, by a place of one at or past the end of the other, or by an end of one that breaks the promise of
+-- the other
 pub data Conflict (f g : Core) : Type 0 where
   kinds : f.kind ≢ g.kind → Conflict f g
   sources : f.source ≢ g.source → Conflict f g
@@ -30,6 +40,8 @@ pub data Conflict (f g : Core) : Type 0 where
   ends : (m n : ℕ) → EndsAt f m → EndsAt g n → m ≢ n → Conflict f g
   past_end : PastEnd f g → Conflict f g
   past_other_end : PastEnd g f → Conflict f g
+  breaks : BreaksPromise f g → Conflict f g
+  breaks_other : BreaksPromise g f → Conflict f g
 
 -- two fragments disagree: they have one key, and conflict
 pub record Disagree (f g : Core) : Type 0 where

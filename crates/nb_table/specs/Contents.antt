@@ -6,6 +6,7 @@ use Rattle.nb_datagram.specs.declared.key.Key.{Key}
 use Rattle.nb_datagram.specs.Key.{key_cmp}
 use Rattle.nb_datagram.specs.Fragment.{Core, Covers, EndsAt, byte_of, end_of_one}
 use Rattle.nb_table.specs.Maps.{first_of, at_keys}
+use Rattle.nb_table.specs.Promise.{Promises, latest, promise_of_one}
 use Rattle.nb_table.specs.Slot.{Spoilt, Held}
 use Rattle.nb_table.specs.Cover.{CoverFacts, placed}
 use Rattle.nb_table.specs.Entry.{EntryFacts, EntryValue}
@@ -22,6 +23,11 @@ abbrev pub first_end : List Core → Option ℕ
 first_end [] = None
 first_end (f ∷ fs) = first_of (end_of_one f) (first_end fs)
 
+-- the latest promise of these fragments, if there is one
+abbrev pub last_promise : List Core → Option ℕ
+last_promise [] = None
+last_promise (f ∷ fs) = latest (promise_of_one f) (last_promise fs)
+
 -- byte_at L k i: what the earliest fragment of the key k in L that covers place i has there
 abbrev pub byte_at : List Core → Key → ℕ → Option ℕ
 byte_at L k i = first_byte (with_key k L) i
@@ -30,8 +36,12 @@ byte_at L k i = first_byte (with_key k L) i
 abbrev pub end_of : List Core → Key → Option ℕ
 end_of L k = first_end (with_key k L)
 
+-- promise_of L k: the greatest of all places that the fragments of the key k in L promise
+abbrev pub promise_of : List Core → Key → Option ℕ
+promise_of L k = last_promise (with_key k L)
+
 -- Says L k e: these facts are what L says of key k: the kind and names of its first fragment with that
--- key, the byte at each place, and the end
+-- key, the byte at each place, the end, and the promise
 pub record Says (L : List Core) (k : Key) (e : EntryFacts) : Type 0 where
   pub first : Core
   pub is_first : slice_get (with_key k L) 0 ≡ Some first
@@ -40,6 +50,7 @@ pub record Says (L : List Core) (k : Key) (e : EntryFacts) : Type 0 where
   pub destination : e.destination ≡ first.destination
   pub bytes : (i : ℕ) → maps.get e.cover.bytes i ≡ byte_at L k i
   pub end : e.cover.end ≡ end_of L k
+  pub promise : e.cover.promise ≡ promise_of L k
 
 -- a table: an entry for each key that it has
 abbrev pub Contents : Type 0
@@ -70,6 +81,13 @@ pub record HasEnd (L : List Core) (k : Key) (n : ℕ) : Type 0 where
   pub of_key : fragment.key ≡ k
   pub ends : EndsAt fragment n
 
+-- HasPromise L k r: some fragment of L with key k promises a byte at the place r or after it
+pub record HasPromise (L : List Core) (k : Key) (r : ℕ) : Type 0 where
+  pub fragment : Core
+  pub has : Contains L fragment
+  pub of_key : fragment.key ≡ k
+  pub promises : Promises fragment r
+
 -- ---- the table of a list, as a value
 
 -- the bytes of these fragments with their places, one fragment after the other
@@ -77,9 +95,9 @@ abbrev pub all_placed : List Core → List (ℕ × ℕ)
 all_placed [] = []
 all_placed (f ∷ fs) = placed f.offset f.bytes ++ all_placed fs
 
--- the finite map of the first byte at each place, and the first end
+-- the finite map of the first byte at each place, the first end, and the latest promise
 abbrev pub cover_in : List Core → CoverFacts
-cover_in fs = record { bytes = maps.from_entries (all_placed fs); end = first_end fs }
+cover_in fs = record { bytes = maps.from_entries (all_placed fs); end = first_end fs; promise = last_promise fs }
 
 -- facts_in f fs: the kind and names of f, and the cover of fs
 abbrev pub facts_in : Core → List Core → EntryFacts

@@ -44,7 +44,7 @@ EntryValue = Slot EntryFacts
 abbrev pub join_entry : EntryValue → EntryValue → EntryValue
 join_entry = join_slot facts_agree facts_together
 
--- every place that it has a byte for lies below its end, if it has one
+-- every place that it has a byte for, and its promise, lie below its end, if it has one
 abbrev pub AreEntryFacts : EntryFacts → Type 0
 AreEntryFacts a = AreCoverFacts a.cover
 

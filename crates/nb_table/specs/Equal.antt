@@ -14,9 +14,10 @@ use Rattle.nb_table.specs.Codes.{held}
 abbrev pub same_bytes : maps.FinMap nat_cmp ℕ → maps.FinMap nat_cmp ℕ → Bool
 same_bytes m n = pointwise (λ p q. (p.0 == q.0) && (p.1 == q.1)) (maps.entries m) (maps.entries n)
 
--- the two have the same bytes, and the same end or none
+-- the two have the same bytes, the same end or none, and the same promise or none
 abbrev pub same_cover_facts : CoverFacts → CoverFacts → Bool
-same_cover_facts a b = same_bytes a.bytes b.bytes && option_eq ◌==◌ a.end b.end
+same_cover_facts a b =
+    same_bytes a.bytes b.bytes && (option_eq ◌==◌ a.end b.end && option_eq ◌==◌ a.promise b.promise)
 
 -- the two covers are equal
 abbrev pub same_cover : CoverValue → CoverValue → Bool

@@ -3,6 +3,7 @@
 pub mod MapsLemmas
 pub mod SameLemmas
 pub mod SlotLemmas
+pub mod PromiseLemmas
 pub mod CoverLemmas
 pub mod EntryLemmas
 pub mod TableLemmas

@@ -1,5 +1,6 @@
 pub mod Maps
 pub mod Slot
+pub mod Promise
 pub mod Cover
 pub mod Entry
 pub mod Conflict

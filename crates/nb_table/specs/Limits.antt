@@ -3,7 +3,7 @@ use Rattle.std.specs.Prelude.{◌≡◌, ℕ, ◌≤◌, None, Some}
 use Rattle.std.specs.FinMap as maps
 use Rattle.nb_datagram.specs.declared.key.Key.{Key}
 use Rattle.nb_table.specs.Slot.{Spoilt, Held}
-use Rattle.nb_table.specs.Cover.{LiesBelow}
+use Rattle.nb_table.specs.Cover.{BytesBelow}
 use Rattle.nb_table.specs.Entry.{EntryFacts, EntryValue}
 use Rattle.nb_table.specs.Contents.{Contents}
 use Rattle.nb_table.specs.Join.{IsTable}
@@ -19,10 +19,11 @@ pub record IsFull (l : Limits) (t : Contents) (k : Key) : Type 0 where
   pub is_new : maps.get t k ≡ None
   pub no_room : l.keys ≤ maps.len t
 
--- AreShort n e: all of the facts e lies below n, and they end at most there
+-- AreShort n e: each place that has a byte in the facts e lies below n, and they end and promise at most there
 pub record AreShort (n : ℕ) (e : EntryFacts) : Type 0 where
-  pub below : LiesBelow n e.cover
+  pub below : BytesBelow n e.cover.bytes
   pub ends : (m : ℕ) → e.cover.end ≡ Some m → m ≤ n
+  pub promises : (r : ℕ) → e.cover.promise ≡ Some r → r ≤ n
 
 -- IsShort n e: the entry e is spoilt, or its facts are short
 abbrev pub IsShort : ℕ → EntryValue → Type 0

@@ -11,7 +11,7 @@ use Rattle.nb_table.specs.Contents.{Contents}
 use Rattle.nb_table.specs.Limits.{Limits, IsShort}
 use Rattle.nb_table.specs.Whole.{newly_whole}
 
--- AllShort n t: each entry of t is spoilt, or lies below n and ends at most there
+-- AllShort n t: each entry of t is spoilt, or has its bytes below n, and ends and promises at most there
 abbrev pub AllShort : ℕ → Contents → Type 0
 AllShort n t = (k : Key) (e : EntryValue) → maps.get t k ≡ Some e → IsShort n e
 

@@ -16,9 +16,10 @@ pub record FitsRun (r : RunValue) : Type 0 where
   pub start : r.start < 2 ^ 16
   pub size : length r.bytes < 2 ^ 16
 
--- so have a cover's end and the number of its maximal runs
+-- so have a cover's end, its promise and the number of its maximal runs
 pub record FitsCover (c : CoverFacts) : Type 0 where
   pub end : (n : ℕ) → c.end ≡ Some n → n < 2 ^ 16
+  pub promise : (r : ℕ) → c.promise ≡ Some r → r < 2 ^ 16
   pub count : length (runs_of_map c.bytes) < 2 ^ 16
   pub runs : AllByRecursion FitsRun (runs_of_map c.bytes)
 

@@ -18,6 +18,8 @@ use Rattle.nb_datagram.specs.Key.{key_cmp}
 use Rattle.nb_datagram.specs.Kind.{type_of}
 use Rattle.nb_table.specs.declared.load_fault.LoadFault.{LoadFault}
 use Rattle.nb_table.specs.declared.load_fault.LoadFault.TheVariants.{BadMagic, Truncated, NotCanonical}
+use Rattle.nb_table.specs.declared.saved.form.SavedForm.{SavedForm}
+use Rattle.nb_table.specs.declared.saved.form.SavedForm.TheVariants.{First, Second}
 use Rattle.nb_table.specs.Slot.{Spoilt, Held}
 use Rattle.nb_table.specs.Entry.{EntryFacts, EntryValue}
 use Rattle.nb_table.specs.Runs.{RunValue, run_end, map_of_runs}
@@ -115,6 +117,17 @@ end_at input at =
     Then (byte_at input at) (λ mark next.
     Marked at mark (Gives None next) (Then (number_at input next) (λ end. Gives (Some end))))
 
+-- the promise lies below the end, if that is known
+abbrev pub IsBelowEnd : Option ℕ → ℕ → Type 0
+IsBelowEnd end promise = (n : ℕ) → end ≡ Some n → promise < n
+
+-- a promise, which lies below this end, or that there is none; the first form has no such field
+abbrev pub promise_at : SavedForm → List ℕ → Option ℕ → ℕ → Outcome (Option ℕ) → Type 0
+promise_at First input end at = Gives None at
+promise_at Second input end at =
+    Then (byte_at input at) (λ mark next.
+    Marked at mark (Gives None next) (Then (Then (number_at input next) (Judged at (IsBelowEnd end))) (λ promise. Gives (Some promise))))
+
 -- ---- runs
 
 -- a run's start: at least `least`, which is past the end of the run before, if there is one
@@ -153,45 +166,47 @@ most_of None = MAX_LENGTH
 most_of (Some end) = end
 
 -- what is held
-abbrev pub facts_at : List ℕ → ℕ → Outcome EntryFacts → Type 0
-facts_at input at =
+abbrev pub facts_at : SavedForm → List ℕ → ℕ → Outcome EntryFacts → Type 0
+facts_at form input at =
     Then (kind_at input at) (λ kind after_kind.
     Then (name_at input after_kind) (λ source after_source.
     Then (name_at input after_source) (λ destination after_names.
     Then (end_at input after_names) (λ end after_end.
-    Then (runs_at input (most_of end) after_end) (λ runs.
+    Then (promise_at form input end after_end) (λ promise after_promise.
+    Then (runs_at input (most_of end) after_promise) (λ runs.
     Gives (record {
       kind = kind;
       source = source;
       destination = destination;
-      cover = record { bytes = map_of_runs runs; end = end };
-    }))))))
+      cover = record { bytes = map_of_runs runs; end = end; promise = promise };
+    })))))))
 
 -- an entry
-abbrev pub entry_at : List ℕ → ℕ → Outcome EntryValue → Type 0
-entry_at input at =
+abbrev pub entry_at : SavedForm → List ℕ → ℕ → Outcome EntryValue → Type 0
+entry_at form input at =
     Then (byte_at input at) (λ state next.
-    Marked at state (Gives Spoilt next) (Then (facts_at input next) (λ facts. Gives (Held facts))))
+    Marked at state (Gives Spoilt next) (Then (facts_at form input next) (λ facts. Gives (Held facts))))
 
--- entries_at input count before at: this many keys, ascending, with their entries
-abbrev pub entries_at : List ℕ → ℕ → Option Key → ℕ → Outcome (List (Key × EntryValue)) → Type 0
-entries_at input zero before at = Gives [] at
-entries_at input (suc count) before at =
+-- entries_at form input count before at: this many keys, ascending, with their entries
+abbrev pub entries_at : SavedForm → List ℕ → ℕ → Option Key → ℕ → Outcome (List (Key × EntryValue)) → Type 0
+entries_at form input zero before at = Gives [] at
+entries_at form input (suc count) before at =
     Then (key_at input before at) (λ key after_key.
-    Then (entry_at input after_key) (λ entry next.
-    Then (entries_at input count (Some key) next) (λ entries.
+    Then (entry_at form input after_key) (λ entry next.
+    Then (entries_at form input count (Some key) next) (λ entries.
     Gives ((key, entry) ∷ entries))))
 
 -- ---- the whole input
 
 -- how many keys there are, these, and nothing after them
-abbrev pub table_at : List ℕ → ℕ → Outcome (List (Key × EntryValue)) → Type 0
-table_at input at =
+abbrev pub table_at : SavedForm → List ℕ → ℕ → Outcome (List (Key × EntryValue)) → Type 0
+table_at form input at =
     Then (Field input at 4 (NumberAt input at w32)) (λ count next.
-    Then (entries_at input count None next) (λ entries last.
+    Then (entries_at form input count None next) (λ entries last.
     Judged last (λ all. length input ≤ last) entries last))
 
 -- IsRead input o: what stands in this input: the keys with their entries, or the first fault
 pub data IsRead (input : List ℕ) : Outcome (List (Key × EntryValue)) → Type 0 where
-  no_magic : ¬ StandsAt input 0 magic → IsRead input (Err BadMagic)
-  after_magic : {o : Outcome (List (Key × EntryValue))} → StandsAt input 0 magic → table_at input (length magic) o → IsRead input o
+  no_magic : ((form : SavedForm) → ¬ StandsAt input 0 (magic form)) → IsRead input (Err BadMagic)
+  after_magic : {o : Outcome (List (Key × EntryValue))} (form : SavedForm) → StandsAt input 0 (magic form)
+      → table_at form input 4 o → IsRead input o

@@ -8,7 +8,8 @@ ghost use Rattle.nb_table.specs.Cover.{CoversFit, cover_of, covers_together};
 ghost use Rattle.nb_table.specs.Code.Places.{Holds};
 ghost use Rattle.nb_table.specs.Limits.{AreShort};
 ghost use Rattle.nb_table.specs.Runs.{runs_of_map};
-ghost use Rattle.nb_table.specs.Whole.{IsWholeCover, bytes_to, datagram_with};
+ghost use Rattle.nb_table.specs.Whole.{IsWholeCover, bytes_to, datagram_with, newly};
+ghost use Rattle.nb_table.specs.Whole.{datagram_of as entry_datagram};
 ghost use Rattle.nb_table.specs.Code.Change.{KeyChange, change_of};
 ghost use Rattle.nb_table.specs.Code.Change.{grown_to as grown};
 
@@ -163,6 +164,29 @@ impl Facts {
         }
     }
 
+    /// The datagram of a fragment's key, if the facts become whole with it. No memory is taken
+    /// where they don't.
+    fn newly_whole_with(
+        &self,
+        alloc: Global,
+        fragment: &Fragment<'_>,
+    ) -> Result<Option<Datagram>, NoMemory>
+        requires fits { CoversFit self.now.cover (cover_of (core_of fragment.now)) }
+        requires short { (n : ℕ)
+            → (covers_together self.now.cover (cover_of (core_of fragment.now))).end ≡ Some n
+            → n ≤ MAX_LENGTH }
+        ensures { IfOk result (λ datagram. datagram
+            ≡ newly (entry_datagram fragment.now.key (Held self.now))
+            (datagram_with fragment.now.key self.now
+            (bytes_to (covers_together self.now.cover (cover_of (core_of fragment.now))).bytes
+            (covers_together self.now.cover (cover_of (core_of fragment.now))).end))) }
+    {
+        if self.is_whole() {
+            return Ok(None);
+        }
+        self.datagram_with(alloc, fragment)
+    }
+
     /// Joins a fragment, which doesn't contradict what is known. All memory is taken before
     /// anything changes.
     pub(crate) fn grow(
@@ -187,7 +211,7 @@ impl Facts {
         if self.places.holds(fragment) {
             return Ok(BoxedChange::Same);
         }
-        let datagram = self.datagram_with(alloc, fragment)?;
+        let datagram = self.newly_whole_with(alloc, fragment)?;
         let change = grown_to(alloc, datagram)?;
         self.places.add(alloc, fragment)?;
         Ok(change)

@@ -12,7 +12,7 @@ pub enum TableFault {
     /// say so (our choice).
     MisplacedFirst,
     /// The fragment reaches past the table's limit for one datagram, or an entry of the other table
-    /// that isn't spoilt has a byte or an end past it.
+    /// that isn't spoilt has a byte, an end or a promise past it.
     TooLong,
     /// The key is new, and as many keys are held as the table may hold.
     Full(Key),

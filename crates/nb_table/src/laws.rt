@@ -18,9 +18,10 @@ pub use completing::{
     whole_entries_have_a_datagram, whole_keys_have_a_datagram,
 };
 pub use conflicting::{
-    a_byte_at_an_end_conflicts, byte_is_that_which_covers, conflict_test_is_the_relation,
-    cover_agreement_is_the_relation, end_is_where_it_ends, entry_agreement_is_the_relation,
-    past_an_end_a_place_is_covered, spoilt_test_is_the_relation,
+    a_byte_at_an_end_conflicts, an_end_at_a_promise_conflicts, byte_is_that_which_covers,
+    conflict_test_is_the_relation, cover_agreement_is_the_relation, end_is_where_it_ends,
+    entry_agreement_is_the_relation, past_an_end_a_place_is_covered, promise_is_what_is_promised,
+    spoilt_test_is_the_relation,
 };
 pub use equality::{
     a_change_is_one, a_state_is_one, covers_are_equal_where_contents_are,
@@ -31,9 +32,10 @@ pub use gathering::{
     lists_repeated_have_the_same_cores, lists_swapped_have_the_same_cores,
     lists_turned_round_have_the_same_cores, same_cores_make_the_same_table,
     table_has_the_bytes_of_its_fragments, table_has_the_ends_of_its_fragments,
-    table_has_the_entry_of_its_list, table_holds_what_its_list_says,
-    table_is_spoilt_where_fragments_disagree, table_lacks_the_keys_of_no_fragment,
-    table_of_a_list_is_its_table, table_of_a_list_is_the_only_one, table_of_a_list_is_well_formed,
+    table_has_the_entry_of_its_list, table_has_the_latest_promise_of_its_fragments,
+    table_holds_what_its_list_says, table_is_spoilt_where_fragments_disagree,
+    table_lacks_the_keys_of_no_fragment, table_of_a_list_is_its_table,
+    table_of_a_list_is_the_only_one, table_of_a_list_is_well_formed,
     table_of_two_lists_is_the_join,
 };
 pub use joining::{
@@ -44,8 +46,8 @@ pub use joining::{
     table_join_is_idempotent, table_join_is_well_formed, union_has_the_bytes_of_both,
 };
 pub use loading::{
-    a_saved_table_is_read, an_input_is_read_as_one_table, saved_bytes_have_one_reading,
-    what_is_read_is_saved,
+    a_saved_table_is_read, a_table_saved_in_the_first_form_is_read, an_input_is_read_as_one_table,
+    saved_bytes_have_one_reading, what_is_read_is_saved,
 };
 pub use parts::{
     all_parts_give_the_datagram, parts_are_not_spoilt, parts_are_whole_where_all_are_there,

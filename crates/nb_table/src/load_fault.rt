@@ -7,16 +7,17 @@ use std::fmt;
 /// Why bytes aren't loaded as a table (our choice).
 #[derive(Clone, Copy, Debug, PartialEq, Eq)]
 pub enum LoadFault {
-    /// They don't begin with "NBT1".
+    /// They begin with neither "NBT2" nor "NBT1".
     BadMagic,
     /// They end before or inside a field that is due.
     Truncated,
     /// At this offset stands what no saved table has there: a key that isn't greater than the one
-    /// before; a state, a kind or an end mark of no listed value; a name that isn't spelled as a
+    /// before; a state, a kind, or a mark of an end or a promise of no listed value; a promise
+    /// that isn't below the end; a name that isn't spelled as a
     /// NetBIOS name without pointers; a run's start that isn't past the end of the run before; a
     /// run's length that is 0 or passes 65,535 or the end; a byte after the last entry.
     NotCanonical(usize),
-    /// A saved run or end passes the limit for one datagram.
+    /// A saved run, end or promise passes the limit for one datagram.
     TooLong,
     /// More keys are saved than the table may hold.
     Full,

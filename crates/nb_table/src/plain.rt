@@ -10,5 +10,5 @@ mod finding;
 mod whole;
 
 pub use conflicting::is_spoilt;
-pub use finding::{byte_at, end_of};
+pub use finding::{byte_at, end_of, promise_of};
 pub use whole::{PlainFault, datagram, is_whole};

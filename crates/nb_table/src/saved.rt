@@ -5,5 +5,6 @@
 pub(crate) mod entries;
 mod facts;
 pub(crate) mod fields;
+pub(crate) mod form;
 pub(crate) mod runs;
 pub(crate) mod tables;

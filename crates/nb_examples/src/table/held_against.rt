@@ -8,7 +8,7 @@ use crate::table::merging::merge_text;
 use crate::table::steps::{all_lent, change_word, insert_into, key_of, push_part, put};
 use crate::words::Words;
 use nb_datagram::{Fragment, Key};
-use nb_table::plain::{byte_at, end_of};
+use nb_table::plain::{byte_at, end_of, promise_of};
 use nb_table::{Change, State, Table};
 use std::alloc::Global;
 
@@ -129,10 +129,21 @@ fn due_word(
     match (plain_state(before, &key), plain_state(after, &key)) {
         (State::Spoilt, _) => "same",
         (_, State::Spoilt) => "spoilt",
-        (State::Whole, _) => "same",
+        (State::Whole, _) => promise_word(before, fragment),
         (_, State::Whole) => "whole",
         (State::Absent, _) => "grown",
         (State::Partial, _) => partial_word(before, fragment),
+    }
+}
+
+/// The word for a fragment that says nothing else which is new: whether its promise is.
+fn promise_word(before: &[Fragment<'_>], fragment: &Fragment<'_>) -> &'static str {
+    if !fragment.has_more() {
+        return "same";
+    }
+    match promise_of(before, &fragment.key()) {
+        Some(promise) if fragment.reach() <= promise => "same",
+        _ => "grown",
     }
 }
 
@@ -147,7 +158,7 @@ fn partial_word(before: &[Fragment<'_>], fragment: &Fragment<'_>) -> &'static st
             return "grown";
         }
     }
-    "same"
+    promise_word(before, fragment)
 }
 
 /// Whether the table knows of both keys what the definitions say.

@@ -1,5 +1,5 @@
 -- What facts that grow change at their key.
-use Rattle.std.proofs.Common.{◌≡◌, ◌≢◌, ◌≤◌, ℕ, List, length, Option, Some, None, refl, sym, ◌∙◌, ap, ap₂, arith, cond}
+use Rattle.std.proofs.Common.{◌≡◌, ◌≢◌, ◌≤◌, ℕ, List, length, Option, Some, None, refl, sym, ◌∙◌, ap, arith, cond}
 use Rattle.nb_datagram.specs.declared.key.Key.{Key}
 use Rattle.nb_datagram.specs.Datagram.{DatagramParts}
 use Rattle.nb_table.specs.Slot.{Spoilt, Held}
@@ -7,16 +7,16 @@ use Rattle.nb_table.specs.Cover.{CoverFacts}
 use Rattle.nb_table.specs.Entry.{EntryFacts, EntryValue, FactsFit, facts_together, join_entry}
 use Rattle.nb_table.specs.Lemmas.EntryLemmas.{facts_agree_of}
 use Rattle.nb_table.specs.Code.Places.{Holds}
-use Rattle.nb_table.specs.Whole.{IsWholeCover, bytes_to, datagram_with, datagram_of, newly}
+use Rattle.nb_table.specs.Whole.{bytes_to, datagram_with, datagram_of, newly}
 use Rattle.nb_table.specs.Code.Change.{KeyChange, grown_to}
 use Rattle.nb_table.specs.Lemmas.CoverLemmas.{together_held}
-use Rattle.nb_table.proofs.Wholeness.WholeLemmas.{below_found, whole_exactly}
-use Rattle.nb_table.proofs.Covers.PlacesLemmas.{together_holds, whole_holds}
+use Rattle.nb_table.proofs.Wholeness.WholeLemmas.{below_found}
+use Rattle.nb_table.proofs.Covers.PlacesLemmas.{together_holds}
 
 -- facts that are held add nothing
 pub facts_held : (a b : EntryFacts) → Holds a.cover b.cover → a ≡ facts_together a b
 facts_held a b h =
-    let cover = together_held a.cover b.cover h.bytes h.end in
+    let cover = together_held a.cover b.cover h in
     λ i. record { kind = a.kind; source = a.source; destination = a.destination; cover = sym cover i }
 
 -- the bytes up to the end are as many as it says
@@ -38,28 +38,18 @@ held_same a b e = cc
 held_spoilt : (a : EntryFacts) → ◌≡◌ {A = Option EntryValue} (Some (Held a)) (Some Spoilt) → ⊥
 held_spoilt a e = absurd (cc)
 
-newly_none : (o : Option DatagramParts) → newly o None ≡ None
-newly_none None = refl
-newly_none (Some d) = refl
-
-not_whole : (k : Key) (a : EntryFacts) → (IsWholeCover a.cover → ⊥) → datagram_of k (Held a) ≡ None
-not_whole k a h = none (datagram_of k (Held a)) refl
-  where
-    none : (o : Option DatagramParts) → datagram_of k (Held a) ≡ o → datagram_of k (Held a) ≡ None
-    none None e = e
-    none (Some d) e = absurd (h ((whole_exactly k (Held a)).1 (d, e)))
-
 -- facts that agree with others and don't hold them grow to both together
-pub key_grown : (k : Key) (a b : EntryFacts) → FactsFit a b → (Holds a.cover b.cover → ⊥) → KeyChange k (Some (Held a)) (Some (Held (facts_together a b))) (grown_to (datagram_of k (Held (facts_together a b))))
-key_grown k a b fit more = at (datagram_of k (Held (facts_together a b))) refl
+pub key_grown : (k : Key) (a b : EntryFacts) → FactsFit a b → (Holds a.cover b.cover → ⊥) →
+    KeyChange k (Some (Held a)) (Some (Held (facts_together a b))) (grown_to (newly (datagram_of k (Held a)) (datagram_of k (Held (facts_together a b)))))
+key_grown k a b fit more = at (newly (datagram_of k (Held a)) (datagram_of k (Held (facts_together a b)))) refl
   where
-    at : (o : Option DatagramParts) → datagram_of k (Held (facts_together a b)) ≡ o → KeyChange k (Some (Held a)) (Some (Held (facts_together a b))) (grown_to o)
+    at : (o : Option DatagramParts) → newly (datagram_of k (Held a)) (datagram_of k (Held (facts_together a b))) ≡ o → KeyChange k (Some (Held a)) (Some (Held (facts_together a b))) (grown_to o)
     at None e = (
       λ same. more (together_holds a.cover b.cover fit.cover (ap (λ (x : EntryFacts). x.cover) (held_same _ _ same))),
       (λ s. held_spoilt _ s.1),
-      ap (newly (datagram_of k (Held a))) e ∙ newly_none (datagram_of k (Held a)),
+      e,
     )
-    at (Some d) e = ap₂ newly (not_whole k a (λ w. more (whole_holds a.cover b.cover fit.cover w))) e
+    at (Some d) e = e
 
 -- the facts of a new key grow
 pub key_first : (k : Key) (e : EntryFacts) → KeyChange k None (Some (Held e)) (grown_to (datagram_of k (Held e)))

@@ -22,7 +22,8 @@ use Rattle.nb_table.specs.Change.{IsChange}
 use Rattle.nb_table.specs.Code.Change.{KeyChange}
 use Rattle.nb_table.specs.Insert.{NeedsNoMemory, spoilt, contradicts, held, Passes, Lacks, Refuses}
 use Rattle.nb_table.specs.Lemmas.SameLemmas.{key_cmp_total, key_cmp_exact, same_key_decides}
-use Rattle.nb_table.specs.Lemmas.CoverLemmas.{below_both, first_either}
+use Rattle.nb_table.specs.Lemmas.CoverLemmas.{bytes_below_both, first_either}
+use Rattle.nb_table.specs.Lemmas.PromiseLemmas.{latest_either, promise_of_decides}
 use Rattle.nb_table.specs.Lemmas.EntryLemmas.{facts_fit_of}
 use Rattle.nb_table.proofs.Covers.PlacedLemmas.{end_of_decides}
 use Rattle.nb_table.proofs.Covers.PlacesLemmas.{below_by_reach}
@@ -81,6 +82,7 @@ pub short_of : (n : ℕ) (f : Core) → reach f ≤ n → AreShort n (facts_of f
 short_of n f h = record {
   below = below_by_reach f n h;
   ends = λ m e. (let ends = ((end_of_decides f m).0 e).1 in omega (arith, h, ends));
+  promises = λ r e. (let promises = ((promise_of_decides f r).0 e).1 in omega (arith, h, promises));
 }
 
 pub short_join : (n : ℕ) (a b : EntryValue) → IsShort n a → IsShort n b → IsShort n (join_entry a b)
@@ -90,8 +92,9 @@ short_join n (Held a) (Held b) p q = at (facts_agree a b)
   where
     at : (t : Bool) → IsShort n (cond t (Held (facts_together a b)) Spoilt)
     at true = record {
-      below = below_both n a.cover b.cover p.below q.below;
+      below = bytes_below_both n a.cover b.cover p.below q.below;
       ends = λ m e. elim (first_either a.cover.end b.cover.end m e) [ inl h ↦ p.ends m h | inr h ↦ q.ends m h ];
+      promises = λ r e. elim (latest_either a.cover.promise b.cover.promise r e) [ inl h ↦ p.promises r h | inr h ↦ q.promises r h ];
     }
     at false = tt
 
@@ -140,8 +143,9 @@ insert_keeps t f keeps short room =
 pub short_more : (m n : ℕ) (e : EntryValue) → m ≤ n → IsShort m e → IsShort n e
 short_more m n Spoilt h s = tt
 short_more m n (Held e) h s = record {
-  below = record { bytes = λ i x g. (let below = s.below.bytes i x g in omega (arith, h, below)) };
+  below = λ i x g. (let below = s.below i x g in omega (arith, h, below));
   ends = λ k g. (let end = s.ends k g in omega (arith, h, end));
+  promises = λ r g. (let most = s.promises r g in omega (arith, h, most));
 }
 
 -- ---- results

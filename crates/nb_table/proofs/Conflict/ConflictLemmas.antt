@@ -8,16 +8,18 @@ use Rattle.nb_datagram.specs.declared.key.Key.{Key}
 use Rattle.nb_datagram.specs.Kind.{same_kind}
 use Rattle.nb_datagram.specs.Key.{same_key}
 use Rattle.nb_datagram.specs.Fragment.{Core, Covers, EndsAt, end_of_one}
-use Rattle.nb_table.specs.Cover.{CoverFacts, LiesBelow, lies_below, same_where, bytes_agree, ends_agree, is_below_end, covers_agree, cover_of}
+use Rattle.nb_table.specs.Promise.{Promises, promise_of_one}
+use Rattle.nb_table.specs.Cover.{CoverFacts, bytes_lie_below, is_before, lies_below, same_where, bytes_agree, ends_agree, is_below_end, covers_agree, cover_of}
 use Rattle.nb_table.specs.Entry.{FactsFit, facts_agree, facts_of}
-use Rattle.nb_table.specs.Conflict.{PastEnd, Conflict, kinds, sources, destinations, overlap, ends, past_end, past_other_end, IsSpoilt}
+use Rattle.nb_table.specs.Conflict.{PastEnd, BreaksPromise, Conflict, kinds, sources, destinations, overlap, ends, past_end, past_other_end, breaks, breaks_other, IsSpoilt}
 use Rattle.nb_table.specs.ConflictTests.{conflicts, some_conflict, with_key, is_spoilt}
 use Rattle.nb_names.specs.Name.{name_eq}
 use Rattle.nb_names.specs.NameFacts.{name_eq_decides}
 use Rattle.nb_table.specs.Lemmas.MapsLemmas.{and_fails, entry_fails}
 use Rattle.nb_table.specs.Lemmas.SameLemmas.{is_eq, not_lt, refutes, same_kind_decides, same_key_decides}
 use Rattle.nb_table.proofs.Covers.PlacedLemmas.{get-cover_of, byte_of_decides, end_of_decides, cover_of_formed}
-use Rattle.nb_table.specs.Lemmas.CoverLemmas.{lies_below_decides}
+use Rattle.nb_table.specs.Lemmas.CoverLemmas.{bytes_below_decides}
+use Rattle.nb_table.specs.Lemmas.PromiseLemmas.{promise_of_decides}
 use Rattle.nb_table.specs.Lemmas.EntryLemmas.{facts_fit_of, entry_agrees, facts_unite}
 use Rattle.nb_table.proofs.Contents.OrderFreeLemmas.{in_cons, in_first, in_rest, in_none}
 
@@ -37,20 +39,24 @@ two_ends : (o p : Option ℕ) → ends_agree o p ≡ false → (m n : ℕ) × (o
 two_ends None p e = absurd (cc)
 two_ends (Some m) p e = let d = differs p m e in (m, d.0, refl, d.1, d.2)
 
-past : (o : Option ℕ) (c : CoverFacts) → is_below_end o c ≡ false → (n : ℕ) × (o ≡ Some n) × (LiesBelow n c → ⊥)
+past : (o : Option ℕ) (c : CoverFacts) → is_below_end o c ≡ false → (n : ℕ) × (o ≡ Some n) × (lies_below n c ≡ false)
 past None c e = absurd (cc)
-past (Some n) c e = (n, refl, refutes (lies_below n c) (lies_below_decides n c) e)
+past (Some n) c e = (n, refl, e)
+
+not_before : (o : Option ℕ) (n : ℕ) → is_before o n ≡ false → (r : ℕ) × (o ≡ Some r) × (n ≤ r)
+not_before None n e = absurd (cc)
+not_before (Some r) n e = (r, refl, not_lt r n e)
 
 -- g covers a place at or past an end of f
 pub past_from : (f g : Core) (n i x : ℕ) → EndsAt f n → Covers g i x → n ≤ i → PastEnd f g
-past_from f g n i x e c h = record { end = n; ends = e; past = λ p. (let below = p.bytes i x (covered g i x c) in omega (arith, below, h)) }
+past_from f g n i x e c h = record { end = n; ends = e; past = λ p. (let below = p i x (covered g i x c) in omega (arith, below, h)) }
 
 -- the place that one fragment covers at or past the end of another
 pub past_place : (f g : Core) → PastEnd f g → (n i x : ℕ) × EndsAt f n × Covers g i x × (n ≤ i)
-past_place f g p = found (lies_below p.end (cover_of g)) refl
+past_place f g p = found (bytes_lie_below p.end (cover_of g).bytes) refl
   where
-    found : (b : Bool) → lies_below p.end (cover_of g) ≡ b → (n i x : ℕ) × EndsAt f n × Covers g i x × (n ≤ i)
-    found true e = absurd (p.past ((lies_below_decides p.end (cover_of g)).0 e))
+    found : (b : Bool) → bytes_lie_below p.end (cover_of g).bytes ≡ b → (n i x : ℕ) × EndsAt f n × Covers g i x × (n ≤ i)
+    found true e = absurd (p.past ((bytes_below_decides p.end (cover_of g).bytes).0 e))
     found false e =
         let w = entry_fails nat_cmp_total nat_cmp-IsAntisymmetric (λ i _. nat_lt i p.end) (cover_of g).bytes e in
         (p.end, w.key, w.value, p.ends, covers g w.key w.value w.found, not_lt w.key p.end w.fails)
@@ -61,6 +67,10 @@ past_end_exactly f g = (past_place f g, λ w. past_from f g w.0 w.1 w.2 w.3 w.4 
 -- a byte exactly at an end conflicts with it
 pub at_end_conflicts : (f g : Core) (n x : ℕ) → EndsAt f n → Covers g n x → Conflict f g
 at_end_conflicts f g n x e c = past_end (past_from f g n n x e c (omega arith))
+
+-- so does an end exactly at a promise
+pub at_promise_conflicts : (f g : Core) (n : ℕ) → EndsAt f n → Promises g n → Conflict f g
+at_promise_conflicts f g n e p = breaks (record { end = n; promised = n; ends = e; promises = p; broken = omega arith })
 
 clash_of_bytes : (f g : Core) → bytes_agree (cover_of f).bytes (cover_of g).bytes ≡ false → Conflict f g
 clash_of_bytes f g e =
@@ -73,8 +83,16 @@ clash_of_ends f g e =
     let d = two_ends (end_of_one f) (end_of_one g) e in
     ends d.0 d.1 ((end_of_decides f d.0).0 d.2) ((end_of_decides g d.1).0 d.3) d.4
 
-past_of : (f g : Core) → is_below_end (end_of_one f) (cover_of g) ≡ false → PastEnd f g
-past_of f g e = let d = past (end_of_one f) (cover_of g) e in record { end = d.0; ends = (end_of_decides f d.0).0 d.1; past = d.2 }
+past_of : (f g : Core) → is_below_end (end_of_one f) (cover_of g) ≡ false → PastEnd f g ⊎ BreaksPromise f g
+past_of f g e =
+    let d = past (end_of_one f) (cover_of g) e in
+    let ends = (end_of_decides f d.0).0 d.1 in
+    elim (and_fails (bytes_lie_below d.0 (cover_of g).bytes) _ d.2) [
+      | inl h ↦ inl (record { end = d.0; ends = ends; past = refutes _ (bytes_below_decides d.0 (cover_of g).bytes) h })
+      | inr h ↦
+          let p = not_before (promise_of_one g) d.0 h in
+          inr (record { end = d.0; promised = p.0; ends = ends; promises = (promise_of_decides g p.0).0 p.1; broken = p.2 })
+    ]
 
 clash_of_covers : (f g : Core) → covers_agree (cover_of f) (cover_of g) ≡ false → Conflict f g
 clash_of_covers f g e = elim (and_fails (bytes_agree (cover_of f).bytes (cover_of g).bytes) _ e) [
@@ -82,8 +100,8 @@ clash_of_covers f g e = elim (and_fails (bytes_agree (cover_of f).bytes (cover_o
   | inr e ↦ elim (and_fails (ends_agree (end_of_one f) (end_of_one g)) _ e) [
     | inl h ↦ clash_of_ends f g h
     | inr e ↦ elim (and_fails (is_below_end (end_of_one g) (cover_of f)) _ e) [
-      | inl h ↦ past_other_end (past_of g f h)
-      | inr h ↦ past_end (past_of f g h)
+      | inl h ↦ elim (past_of g f h) [ inl p ↦ past_other_end p | inr p ↦ breaks_other p ]
+      | inr h ↦ elim (past_of f g h) [ inl p ↦ past_end p | inr p ↦ breaks p ]
     ]
   ]
 ]
@@ -108,8 +126,14 @@ contradicts f g a (sources h) = h a.source
 contradicts f g a (destinations h) = h a.destination
 contradicts f g a (overlap o) = o.differs (a.cover.bytes o.place o.byte o.other_byte (covered f o.place o.byte o.covers) (covered g o.place o.other_byte o.other_covers))
 contradicts f g a (ends m n p q h) = h (a.cover.ends m n ((end_of_decides f m).1 p) ((end_of_decides g n).1 q))
-contradicts f g a (past_end p) = p.past (a.cover.other_below p.end ((end_of_decides f p.end).1 p.ends))
-contradicts f g a (past_other_end p) = p.past (a.cover.own_below p.end ((end_of_decides g p.end).1 p.ends))
+contradicts f g a (past_end p) = p.past (a.cover.other_below p.end ((end_of_decides f p.end).1 p.ends)).bytes
+contradicts f g a (past_other_end p) = p.past (a.cover.own_below p.end ((end_of_decides g p.end).1 p.ends)).bytes
+contradicts f g a (breaks p) =
+    let below = (a.cover.other_below p.end ((end_of_decides f p.end).1 p.ends)).promise p.promised ((promise_of_decides g p.promised).1 p.promises) in
+    let broken = p.broken in omega (arith, below, broken)
+contradicts f g a (breaks_other p) =
+    let below = (a.cover.own_below p.end ((end_of_decides g p.end).1 p.ends)).promise p.promised ((promise_of_decides f p.promised).1 p.promises) in
+    let broken = p.broken in omega (arith, below, broken)
 
 test_of : (f g : Core) (b : Bool) → facts_agree (facts_of f) (facts_of g) ≡ b → Conflict f g → not b ≡ true
 test_of f g true e c = absurd (contradicts f g (facts_fit_of (facts_of f) (facts_of g) e) c)

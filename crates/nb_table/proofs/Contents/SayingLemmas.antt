@@ -1,5 +1,5 @@
 -- What a table has at a key, in the words of its list: nothing, spoilt, or what the fragments say.
-use Rattle.std.proofs.Common.{◌≡◌, ◌≢◌, ◌↔◌, ℕ, inl, inr, Bool, true, false, cond, List, [], ◌∷◌, Contains, slice_get, Option, Some, None, refl, sym, ◌∙◌, ap, subst}
+use Rattle.std.proofs.Common.{◌≡◌, ◌≢◌, ◌≤◌, ◌↔◌, arith, ℕ, inl, inr, Bool, true, false, cond, List, [], ◌∷◌, Contains, slice_get, Option, Some, None, refl, sym, ◌∙◌, ap, subst}
 use Rattle.std.proofs.lemmas.Bool.{cases_eq}
 use Rattle.std.proofs.lemmas.Option.{same_Some, slice_get_within, get_or_from_slice_get}
 use Rattle.std.specs.FinMap as maps
@@ -9,14 +9,14 @@ use Rattle.nb_table.specs.Slot.{Spoilt, Held}
 use Rattle.nb_table.specs.Entry.{EntryFacts, EntryValue}
 use Rattle.nb_table.specs.Conflict.{Conflict, overlap, ends, IsSpoilt}
 use Rattle.nb_table.specs.ConflictTests.{some_conflict, with_key}
-use Rattle.nb_table.specs.Contents.{Contents, facts_in, entry_in, table_of, Says, IsEntryOf, IsTableOf, HasByte, HasEnd}
+use Rattle.nb_table.specs.Contents.{Contents, facts_in, entry_in, table_of, Says, IsEntryOf, IsTableOf, HasByte, HasEnd, HasPromise}
 use Rattle.nb_table.specs.Lemmas.CoverLemmas.{same_cover}
 use Rattle.nb_table.specs.Lemmas.TableLemmas.{same_table}
 use Rattle.nb_table.proofs.Contents.ContentsLemmas.{get-cover_in}
 use Rattle.nb_table.specs.Lemmas.FragmentLemmas.{get-table_of}
 use Rattle.nb_table.proofs.Conflict.ConflictLemmas.{is_spoilt_decides, with_key_in, in_with_key}
 use Rattle.nb_table.proofs.Contents.OrderFreeLemmas.{in_first, in_none}
-use Rattle.nb_table.proofs.Contents.FirstLemmas.{first_byte_from, first_end_from, first_byte_there, first_end_there}
+use Rattle.nb_table.proofs.Contents.FirstLemmas.{first_byte_from, first_end_from, first_byte_there, first_end_there, last_promise_from, last_promise_there}
 
 -- ---- nothing
 
@@ -82,6 +82,7 @@ held_says L k e h =
       destination = ap (λ (a : EntryFacts). a.destination) (sym w.facts);
       bytes = λ i. ap (λ (a : EntryFacts). maps.get a.cover.bytes i) (sym w.facts) ∙ get-cover_in (with_key k L) i;
       end = ap (λ (a : EntryFacts). a.cover.end) (sym w.facts);
+      promise = ap (λ (a : EntryFacts). a.cover.promise) (sym w.facts);
     }
 
 -- what the list says of a key is one thing
@@ -91,7 +92,7 @@ one_saying L k a b p q =
     let kind = p.kind ∙ ap (λ (f : Core). f.kind) first ∙ sym q.kind in
     let source = p.source ∙ ap (λ (f : Core). f.source) first ∙ sym q.source in
     let destination = p.destination ∙ ap (λ (f : Core). f.destination) first ∙ sym q.destination in
-    let cover = same_cover a.cover b.cover (λ i. p.bytes i ∙ sym (q.bytes i)) (p.end ∙ sym q.end) in
+    let cover = same_cover a.cover b.cover (λ i. p.bytes i ∙ sym (q.bytes i)) (p.end ∙ sym q.end) (p.promise ∙ sym q.promise) in
     λ i. record { kind = kind i; source = source i; destination = destination i; cover = cover i }
 
 -- a key of which the list says something, and which isn't spoilt, is held
@@ -188,3 +189,31 @@ end_exactly L k e h n = (found, from)
         let there = first_end_there (with_key k L) b.fragment n has b.ends in
         let w = first_end_from (with_key k L) there.0 there.1 in
         both.1.end ∙ there.1 ∙ ap Some (same_end L k both.0 w.fragment b.fragment there.0 n w.has has w.ends b.ends)
+
+pub promise_exactly : (L : List Core) (k : Key) (e : EntryFacts) → maps.get (table_of L) k ≡ Some (Held e) → (r : ℕ) → (e.cover.promise ≡ Some r) ↔ (HasPromise L k r × ((s : ℕ) → HasPromise L k s → s ≤ r))
+promise_exactly L k e h r = (λ g. (found r g, λ s p. most r g s p), from)
+  where
+    says : Says L k e
+    says = ((held_exactly L k e).0 h).1
+
+    found : (r : ℕ) → e.cover.promise ≡ Some r → HasPromise L k r
+    found r g =
+        let w = last_promise_from (with_key k L) r (sym says.promise ∙ g) in
+        let own = in_with_key k L w.fragment w.has in
+        record { fragment = w.fragment; has = own.0; of_key = own.1; promises = w.promises }
+
+    there : (s : ℕ) → HasPromise L k s → (t : ℕ) × (e.cover.promise ≡ Some t) × (s ≤ t)
+    there s p =
+        let w = last_promise_there (with_key k L) p.fragment s (with_key_in k L p.fragment p.has p.of_key) p.promises in
+        (w.0, says.promise ∙ w.1, w.2)
+
+    most : (r : ℕ) → e.cover.promise ≡ Some r → (s : ℕ) → HasPromise L k s → s ≤ r
+    most r g s p = let w = there s p in let same = same_Some w.0 r (sym w.1 ∙ g) in let less = w.2 in omega (arith, same, less)
+
+    from : HasPromise L k r × ((s : ℕ) → HasPromise L k s → s ≤ r) → e.cover.promise ≡ Some r
+    from p =
+        let w = there r p.0 in
+        let less = w.2 in
+        let least = p.1 w.0 (found w.0 w.1) in
+        let same : w.0 ≡ r = omega (arith, less, least) in
+        w.1 ∙ ap Some same

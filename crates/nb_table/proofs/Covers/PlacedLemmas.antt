@@ -8,6 +8,7 @@ use Rattle.std.specs.FinMap as map
 use Rattle.nb_datagram.specs.Fragment.{Core, Covers, EndsAt, reach, byte_of, end_of_one}
 use Rattle.nb_table.specs.Maps.{first_of}
 use Rattle.nb_table.specs.Cover.{placed, cover_of, AreCoverFacts}
+use Rattle.nb_table.specs.Lemmas.PromiseLemmas.{promise_of_decides}
 use Rattle.nb_table.specs.Lemmas.SameLemmas.{eq_is, is_eq, le_is, is_le, not_le, le_not}
 
 -- ---- one fragment
@@ -73,6 +74,10 @@ covers_below f i x c = let inside = slice_get_within f.bytes (i - f.offset) x c.
 -- what one fragment says is well formed
 pub cover_of_formed : (f : Core) → AreCoverFacts (cover_of f)
 cover_of_formed f = λ n e. record {
+  promise = λ r p.
+      let ends = (end_of_decides f n).0 e in
+      let promises = (promise_of_decides f r).0 p in
+      let clash : true ≡ false = sym promises.0 ∙ ends.0 in absurd (cc clash);
   bytes = λ q x g.
       let ends = (end_of_decides f n).0 e in
       let covers = (byte_of_decides f q x).0 (sym (get-cover_of f q) ∙ g) in

@@ -8,9 +8,10 @@ use Rattle.std.specs.Cmp.{both_ways, nat_cmp_total}
 use Rattle.std.specs.FinMap.{nat_cmp-IsAntisymmetric}
 use Rattle.nb_datagram.specs.Fragment.{Core, Covers, reach}
 use Rattle.nb_table.specs.Maps.{first_of}
-use Rattle.nb_table.specs.Cover.{CoverFacts, CoversFit, LiesBelow, AreCoverFacts, IsCover, placed, cover_of, same_where, bytes_agree, covers_together}
+use Rattle.nb_table.specs.Cover.{CoverFacts, CoversFit, BytesBelow, AreCoverFacts, IsCover, placed, cover_of, same_where, bytes_agree, covers_together}
 use Rattle.nb_table.specs.Code.Places.{Holds, is_there, with_bytes}
-use Rattle.nb_table.specs.Whole.{IsWholeCover}
+use Rattle.nb_table.specs.Promise.{latest, promise_of_one}
+use Rattle.nb_table.specs.Lemmas.PromiseLemmas.{adds_promised}
 use Rattle.nb_table.specs.Lemmas.MapsLemmas.{and_left, and_right, and_both, all_entries_found, all_entries_from}
 use Rattle.nb_table.specs.Lemmas.SameLemmas.{eq_is, is_eq}
 use Rattle.nb_table.specs.Lemmas.CoverLemmas.{in_union, same_cover, agree_of}
@@ -110,14 +111,14 @@ last_covered f xs same h =
         let rest = last_of (z ∷ zs) (omega arith) in
         (rest.0, ap (slice_get (y ∷ z ∷ zs)) on ∙ rest.1)
 
-pub below_by_reach : (f : Core) (n : ℕ) → reach f ≤ n → LiesBelow n (cover_of f)
-below_by_reach f n h = record { bytes = λ i x g. (let below = covers_below f i x ((byte_of_decides f i x).0 (sym (get-cover_of f i) ∙ g)) in omega (arith, below, h)) }
+pub below_by_reach : (f : Core) (n : ℕ) → reach f ≤ n → BytesBelow n (cover_of f).bytes
+below_by_reach f n h i x g = let below = covers_below f i x ((byte_of_decides f i x).0 (sym (get-cover_of f i) ∙ g)) in omega (arith, below, h)
 
-pub below_if_empty : (f : Core) (n : ℕ) → length f.bytes ≡ 0 → LiesBelow n (cover_of f)
-below_if_empty f n h = record { bytes = λ i x g. (let c = (byte_of_decides f i x).0 (sym (get-cover_of f i) ∙ g) in let from = c.0 in let below = covers_below f i x c in absurd (omega (arith, below, from, h))) }
+pub below_if_empty : (f : Core) (n : ℕ) → length f.bytes ≡ 0 → BytesBelow n (cover_of f).bytes
+below_if_empty f n h i x g = let c = (byte_of_decides f i x).0 (sym (get-cover_of f i) ∙ g) in let from = c.0 in let below = covers_below f i x c in absurd (omega (arith, below, from, h))
 
-pub reach_by_below : (f : Core) (n : ℕ) → 0 < length f.bytes → LiesBelow n (cover_of f) → reach f ≤ n
-reach_by_below f n h b = let last = last_covered f f.bytes refl h in let below = b.bytes (reach f - 1) last.0 last.1 in omega (arith, below, h)
+pub reach_by_below : (f : Core) (n : ℕ) → 0 < length f.bytes → BytesBelow n (cover_of f).bytes → reach f ≤ n
+reach_by_below f n h b = let last = last_covered f f.bytes refl h in let below = b (reach f - 1) last.0 last.1 in omega (arith, below, h)
 
 -- ---- what is held
 
@@ -126,19 +127,12 @@ pub together_holds : (a b : CoverFacts) → CoversFit a b → covers_together a 
 together_holds a b fit same = record {
   bytes = λ i x g. at (maps.get a.bytes i) x refl (fit.bytes i) g (sym (in_union a b i) ∙ ap (λ (c : CoverFacts). maps.get c.bytes i) same);
   end = λ n g. at a.end n refl fit.ends g (ap (λ (c : CoverFacts). c.end) same);
+  promise = adds_promised a.promise b.promise (ap (λ (c : CoverFacts). c.promise) same);
 }
   where
     at : (o : Option ℕ) (x : ℕ) {p r : Option ℕ} → o ≡ r → ((u v : ℕ) → r ≡ Some u → p ≡ Some v → u ≡ v) → p ≡ Some x → first_of o p ≡ r → r ≡ Some x
     at None x e f g h = sym h ∙ g
     at (Some y) x e f g h = sym e ∙ ap Some (f y x (sym e) g)
-
--- a whole cover holds all that agrees with it
-pub whole_holds : (a b : CoverFacts) → CoversFit a b → IsWholeCover a → Holds a b
-whole_holds a b fit w = record {
-  bytes = λ i x g. (let below = (fit.other_below w.length w.ends).bytes i x g in
-      let c = w.covered i below in c.1 ∙ ap Some (fit.bytes i c.0 x c.1 g));
-  end = λ n g. w.ends ∙ ap Some (fit.ends w.length n w.ends g);
-}
 
 pub not_empty : (xs ys : List ℕ) → ys ≡ xs → (length ys == 0) ≡ false → 0 < length xs
 not_empty xs ys same h = let size = ap length same in above (length ys) size h
@@ -160,13 +154,14 @@ or_is None p = refl
 or_is (Some x) p = refl
 
 pub with_is : (a : CoverFacts) (f : Core) → CoversFit a (cover_of f) →
-    ◌≡◌ {A = CoverFacts} (record { bytes = with_bytes a.bytes f.offset f.bytes; end = option_or a.end (cover_of f).end }) (covers_together a (cover_of f))
+    ◌≡◌ {A = CoverFacts} (record { bytes = with_bytes a.bytes f.offset f.bytes; end = option_or a.end (cover_of f).end; promise = latest a.promise (promise_of_one f) }) (covers_together a (cover_of f))
 with_is a f fit = same_cover _ _
     (λ q. get-with_bytes a.bytes f.offset f.bytes q
     ∙ ap (λ o. first_of o (maps.get a.bytes q)) (sym (maps.get-from_entries nat_cmp_total (placed f.offset f.bytes) q))
     ∙ either_first (maps.get a.bytes q) (maps.get (cover_of f).bytes q) (fit.bytes q)
     ∙ sym (in_union a (cover_of f) q))
     (or_is a.end (cover_of f).end)
+    refl
 
 -- two that agree are well formed together if each is
 pub together_formed : (a b : CoverFacts) → CoversFit a b → AreCoverFacts a → AreCoverFacts b → AreCoverFacts (covers_together a b)

@@ -13,7 +13,7 @@ use Rattle.nb_table.specs.Merging.{AllShort, every_key, held_keys}
 use Rattle.nb_table.specs.Code.Fitting.{ends_by, is_short}
 use Rattle.nb_table.specs.Lemmas.MapsLemmas.{and_left, and_right, and_both, all_entries_found, all_entries_from}
 use Rattle.nb_table.specs.Lemmas.SameLemmas.{key_cmp_total, key_cmp_exact, le_is, is_le}
-use Rattle.nb_table.specs.Lemmas.CoverLemmas.{lies_below_decides}
+use Rattle.nb_table.specs.Lemmas.CoverLemmas.{bytes_below_decides}
 
 -- ---- short entries
 
@@ -28,8 +28,12 @@ ends_from n (Some k) h = is_le k n (h k refl)
 short_decides : (n : ℕ) (e : EntryValue) → Decides (is_short n e) (IsShort n e)
 short_decides n Spoilt = (λ _. tt, λ _. refl)
 short_decides n (Held e) = (
-  λ h. record { below = (lies_below_decides n e.cover).0 (and_left _ _ h); ends = ends_found n e.cover.end (and_right _ _ h) },
-  λ h. and_both _ _ ((lies_below_decides n e.cover).1 h.below) (ends_from n e.cover.end h.ends),
+  λ h. (let t1 = and_right _ _ h in record {
+    below = (bytes_below_decides n e.cover.bytes).0 (and_left _ _ h);
+    ends = ends_found n e.cover.end (and_left _ _ t1);
+    promises = ends_found n e.cover.promise (and_right _ _ t1);
+  }),
+  λ h. and_both _ _ ((bytes_below_decides n e.cover.bytes).1 h.below) (and_both _ _ (ends_from n e.cover.end h.ends) (ends_from n e.cover.promise h.promises)),
 )
 
 pub all_short_decides : (n : ℕ) (t : Contents) → Decides (list_all (λ e. is_short n e.1) (maps.entries t)) (AllShort n t)

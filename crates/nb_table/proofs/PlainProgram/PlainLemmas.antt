@@ -1,17 +1,19 @@
 -- What the plain program's loops over places find.
-use Rattle.std.proofs.Common.{◌≡◌, ◌<◌, ◌≤◌, ◌+◌, ◌-◌, ◌==◌, ◌↔◌, ◌&&◌, ◌||◌, inl, inr, ℕ, IsTrue, Bool, true, false, cond, not, List, ◌∷◌, take, drop, length, slice_get, get_or, nat_lt, Option, Some, None, refl, sym, ◌∙◌, ap, ap₂, arith, drop-cons, length-drop, le_of_eq, add-one, drop_of_length-le}
+use Rattle.std.proofs.Common.{◌≡◌, ◌<◌, ◌≤◌, ◌+◌, ◌-◌, ◌==◌, ◌↔◌, ◌&&◌, ◌||◌, inl, inr, ℕ, IsTrue, Bool, true, false, cond, not, nat_le, List, ◌∷◌, take, drop, length, slice_get, get_or, nat_lt, Option, Some, None, refl, sym, ◌∙◌, ap, ap₂, arith, drop-cons, length-drop, le_of_eq, add-one, drop_of_length-le}
 use Rattle.std.proofs.lemmas.List.{take_all}
 use Rattle.std.specs.List.{list_any}
 use Rattle.std.proofs.lemmas.Bool.{cases_lt}
-use Rattle.std.proofs.lemmas.Option.{slice_get-get_or, slice_get_within, same_Some}
+use Rattle.std.proofs.lemmas.Option.{slice_get-get_or, slice_get_within, none-some, same_Some}
 use Rattle.nb_datagram.specs.declared.key.Key.{Key}
 use Rattle.nb_datagram.specs.Key.{same_key}
 use Rattle.nb_datagram.specs.Fragment.{FragmentParts, core_of, cores_of, Core, Covers, reach, byte_of, end_of_one}
 use Rattle.nb_table.specs.Entry.{facts_agree, facts_of}
-use Rattle.nb_table.specs.Conflict.{Overlap, PastEnd, Conflict, kinds, sources, destinations, overlap, ends, past_end, past_other_end}
+use Rattle.nb_table.specs.Conflict.{Overlap, PastEnd, BreaksPromise, Conflict, kinds, sources, destinations, overlap, ends, past_end, past_other_end, breaks, breaks_other}
 use Rattle.nb_table.specs.ConflictTests.{conflicts, some_conflict, with_key, is_spoilt}
 use Rattle.nb_table.specs.Code.Plain.{differ, SameHeader}
-use Rattle.nb_table.specs.Lemmas.SameLemmas.{eq_is, is_eq, lt_is, is_lt}
+use Rattle.nb_table.specs.Promise.{promise_of_one}
+use Rattle.nb_table.specs.Lemmas.PromiseLemmas.{promise_of_decides}
+use Rattle.nb_table.specs.Lemmas.SameLemmas.{eq_is, is_eq, le_is, is_le, lt_is, is_lt}
 use Rattle.nb_table.specs.Lemmas.EntryLemmas.{facts_fit_of}
 use Rattle.nb_table.proofs.Conflict.ConflictLemmas.{conflicts_decides, past_from, covers}
 use Rattle.nb_table.proofs.Covers.PlacedLemmas.{byte_of_decides, end_of_decides, covers_below}
@@ -72,14 +74,30 @@ past_end_decides f g n r e some s = (
     | inl over ↦ is_lt n r over
     | inr under ↦
         let same : p.end ≡ n = same_Some p.end n (sym ((end_of_decides f p.end).1 p.ends) ∙ e) in
-        absurd (p.past (record { bytes = λ i x c. (let below = covers_below g i x (covers g i x c) in omega (arith, below, s, same, under)) }))
+        absurd (p.past (λ i x c. (let below = covers_below g i x (covers g i x c) in omega (arith, below, s, same, under))))
   ],
 )
 
 -- a fragment without data lies below each end
 pub empty_never_past : (f g : Core) → length g.bytes ≡ 0 → PastEnd f g → ⊥
 empty_never_past f g none p =
-    p.past (record { bytes = λ i x c. (let inside = slice_get_within g.bytes (i - g.offset) x (covers g i x c).1 in absurd (omega (arith, inside, none))) })
+    p.past (λ i x c. (let inside = slice_get_within g.bytes (i - g.offset) x (covers g i x c).1 in absurd (omega (arith, inside, none))))
+
+-- ---- broken promises
+
+pub breaks_decides : (f g : Core) (n r : ℕ) → end_of_one f ≡ Some n → promise_of_one g ≡ Some r → IsTrue (nat_le n r) ↔ BreaksPromise f g
+breaks_decides f g n r e s = (
+  λ h. record { end = n; promised = r; ends = (end_of_decides f n).0 e; promises = (promise_of_decides g r).0 s; broken = le_is n r h },
+  λ b. (let end : b.end ≡ n = same_Some b.end n (sym ((end_of_decides f b.end).1 b.ends) ∙ e) in
+      let promise : b.promised ≡ r = same_Some b.promised r (sym ((promise_of_decides g b.promised).1 b.promises) ∙ s) in
+      let broken = b.broken in is_le n r (omega (arith, end, promise, broken))),
+)
+
+pub no_end_keeps : (f g : Core) → end_of_one f ≡ None → BreaksPromise f g → ⊥
+no_end_keeps f g e b = none-some b.end (sym e ∙ (end_of_decides f b.end).1 b.ends)
+
+pub no_promise_keeps : (f g : Core) → promise_of_one g ≡ None → BreaksPromise f g → ⊥
+no_promise_keeps f g e b = none-some b.promised (sym e ∙ (promise_of_decides g b.promised).1 b.promises)
 
 -- ---- conflicts
 
@@ -106,15 +124,23 @@ past_conflict f g p = past_end p
 pub past_other_conflict : (f g : Core) → PastEnd g f → Conflict f g
 past_other_conflict f g p = past_other_end p
 
--- a conflict of none of the other kinds is that f covers a place past the end of g
-pub last_conflict : (f g : Core) → SameHeader f g → (Overlap f g → ⊥) → differ (end_of_one f) (end_of_one g) ≡ false → (PastEnd f g → ⊥) → Conflict f g → PastEnd g f
-last_conflict f g h o e p (kinds n) = absurd (n h.0)
-last_conflict f g h o e p (sources n) = absurd (n h.1.0)
-last_conflict f g h o e p (destinations n) = absurd (n h.1.1)
-last_conflict f g h o e p (overlap w) = absurd (o w)
-last_conflict f g h o e p (ends m n a b d) = absurd (d (same_bytes m n (ap₂ differ (sym ((end_of_decides f m).1 a)) (sym ((end_of_decides g n).1 b)) ∙ e)))
-last_conflict f g h o e p (past_end w) = absurd (p w)
-last_conflict f g h o e p (past_other_end w) = w
+pub breaks_conflict : (f g : Core) → BreaksPromise f g → Conflict f g
+breaks_conflict f g b = breaks b
+
+pub breaks_other_conflict : (f g : Core) → BreaksPromise g f → Conflict f g
+breaks_other_conflict f g b = breaks_other b
+
+-- a conflict of none of the other kinds is that g breaks a promise of f
+pub last_conflict : (f g : Core) → SameHeader f g → (Overlap f g → ⊥) → differ (end_of_one f) (end_of_one g) ≡ false → (PastEnd f g → ⊥) → (PastEnd g f → ⊥) → (BreaksPromise f g → ⊥) → Conflict f g → BreaksPromise g f
+last_conflict f g h o e p q b (kinds n) = absurd (n h.0)
+last_conflict f g h o e p q b (sources n) = absurd (n h.1.0)
+last_conflict f g h o e p q b (destinations n) = absurd (n h.1.1)
+last_conflict f g h o e p q b (overlap w) = absurd (o w)
+last_conflict f g h o e p q z (ends m n a b d) = absurd (d (same_bytes m n (ap₂ differ (sym ((end_of_decides f m).1 a)) (sym ((end_of_decides g n).1 b)) ∙ e)))
+last_conflict f g h o e p q b (past_end w) = absurd (p w)
+last_conflict f g h o e p q b (past_other_end w) = absurd (q w)
+last_conflict f g h o e p q b (breaks w) = absurd (b w)
+last_conflict f g h o e p q b (breaks_other w) = w
 
 -- ---- spoilt keys
 

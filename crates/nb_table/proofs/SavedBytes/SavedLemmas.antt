@@ -17,6 +17,7 @@ use Rattle.nb_datagram.specs.Header.{IsKey}
 use Rattle.nb_datagram.specs.Key.{key_cmp}
 use Rattle.nb_datagram.specs.Kind.{type_of, kind_of, kind_back}
 use Rattle.nb_datagram.specs.Packet.{name_bytes}
+use Rattle.nb_table.specs.declared.saved.form.SavedForm.TheVariants.{Second}
 use Rattle.nb_table.specs.Slot.{Spoilt, Held, OnHeld}
 use Rattle.nb_table.specs.Cover.{CoverFacts}
 use Rattle.nb_table.specs.Entry.{EntryFacts, EntryValue}
@@ -109,21 +110,24 @@ end_same (Some m) (Some n) x y p q e =
     let number = numbers_same m n x y (p m refl) (q n refl) (ap (λ (r : List ℕ). drop 1 r) e) in
     (ap Some number.0, number.1)
 
-pub cover_same : (c d : CoverFacts) (x y : List ℕ) → FitsCover c → FitsCover d → cover_bytes c ++ x ≡ cover_bytes d ++ y → (c ≡ d) × (x ≡ y)
+pub cover_same : (c d : CoverFacts) (x y : List ℕ) → FitsCover c → FitsCover d → cover_bytes Second c ++ x ≡ cover_bytes Second d ++ y → (c ≡ d) × (x ≡ y)
 cover_same c d x y p q e =
     let one : List ℕ = runs_bytes (runs_of_map c.bytes) in
     let two : List ℕ = runs_bytes (runs_of_map d.bytes) in
-    let end = end_same c.end d.end (one ++ x) (two ++ y) p.end q.end (sym (append_assoc (end_bytes c.end) one x) ∙ e ∙ append_assoc (end_bytes d.end) two y) in
-    let runs = runs_same (runs_of_map c.bytes) (runs_of_map d.bytes) x y p.runs q.runs p.count q.count end.1 in
+    let more_c : List ℕ = end_bytes c.promise ++ one in
+    let more_d : List ℕ = end_bytes d.promise ++ two in
+    let end = end_same c.end d.end (more_c ++ x) (more_d ++ y) p.end q.end (sym (append_assoc (end_bytes c.end) more_c x) ∙ e ∙ append_assoc (end_bytes d.end) more_d y) in
+    let promise = end_same c.promise d.promise (one ++ x) (two ++ y) p.promise q.promise (sym (append_assoc (end_bytes c.promise) one x) ∙ end.1 ∙ append_assoc (end_bytes d.promise) two y) in
+    let runs = runs_same (runs_of_map c.bytes) (runs_of_map d.bytes) x y p.runs q.runs p.count q.count promise.1 in
     let bytes : c.bytes ≡ d.bytes = sym (given_back c.bytes) ∙ ap map_of_runs runs.0 ∙ given_back d.bytes in
-    (λ i. record { bytes = bytes i; end = end.0 i }, runs.1)
+    (λ i. record { bytes = bytes i; end = end.0 i; promise = promise.0 i }, runs.1)
 
 -- ---- entries
 
-pub facts_same : NameLaws → (a b : EntryFacts) (x y : List ℕ) → FitsFacts a → FitsFacts b → facts_bytes a ++ x ≡ facts_bytes b ++ y → (a ≡ b) × (x ≡ y)
+pub facts_same : NameLaws → (a b : EntryFacts) (x y : List ℕ) → FitsFacts a → FitsFacts b → facts_bytes Second a ++ x ≡ facts_bytes Second b ++ y → (a ≡ b) × (x ≡ y)
 facts_same laws a b x y p q e =
-    let covers_a : List ℕ = cover_bytes a.cover in
-    let covers_b : List ℕ = cover_bytes b.cover in
+    let covers_a : List ℕ = cover_bytes Second a.cover in
+    let covers_b : List ℕ = cover_bytes Second b.cover in
     let to_a : List ℕ = name_bytes a.destination ++ covers_a in
     let to_b : List ℕ = name_bytes b.destination ++ covers_b in
     let type = behind (type_of a.kind) (type_of b.kind) ((name_bytes a.source ++ to_a) ++ x) ((name_bytes b.source ++ to_b) ++ y) e in
@@ -134,7 +138,7 @@ facts_same laws a b x y p q e =
     let kind : a.kind ≡ b.kind = sym (kind_back a.kind) ∙ ap kind_of type.0 ∙ kind_back b.kind in
     (λ i. record { kind = kind i; source = source.0 i; destination = destination.0 i; cover = cover.0 i }, cover.1)
 
-pub entry_same : NameLaws → (a b : EntryValue) (x y : List ℕ) → OnHeld FitsFacts a → OnHeld FitsFacts b → entry_bytes a ++ x ≡ entry_bytes b ++ y → (a ≡ b) × (x ≡ y)
+pub entry_same : NameLaws → (a b : EntryValue) (x y : List ℕ) → OnHeld FitsFacts a → OnHeld FitsFacts b → entry_bytes Second a ++ x ≡ entry_bytes Second b ++ y → (a ≡ b) × (x ≡ y)
 entry_same laws Spoilt Spoilt x y p q e = (refl, ap (λ (r : List ℕ). drop 1 r) e)
 entry_same laws Spoilt (Held b) x y p q e = absurd (omega (arith, ap (λ (r : List ℕ). get_or r 0 0) e))
 entry_same laws (Held a) Spoilt x y p q e = absurd (omega (arith, ap (λ (r : List ℕ). get_or r 0 0) e))
@@ -154,9 +158,9 @@ key_same k l x y p q e =
 abbrev pub FitsItem : Key × EntryValue → Type 0
 FitsItem e = FitsKeyed e.0 e.1
 
-pub keyed_same : NameLaws → (a b : Key × EntryValue) (x y : List ℕ) → FitsItem a → FitsItem b → keyed_bytes a ++ x ≡ keyed_bytes b ++ y → (a ≡ b) × (x ≡ y)
+pub keyed_same : NameLaws → (a b : Key × EntryValue) (x y : List ℕ) → FitsItem a → FitsItem b → keyed_bytes Second a ++ x ≡ keyed_bytes Second b ++ y → (a ≡ b) × (x ≡ y)
 keyed_same laws a b x y p q e =
-    let key = key_same a.0 b.0 (entry_bytes a.1 ++ x) (entry_bytes b.1 ++ y) p.key q.key (sym (append_assoc (key_bytes a.0) (entry_bytes a.1) x) ∙ e ∙ append_assoc (key_bytes b.0) (entry_bytes b.1) y) in
+    let key = key_same a.0 b.0 (entry_bytes Second a.1 ++ x) (entry_bytes Second b.1 ++ y) p.key q.key (sym (append_assoc (key_bytes a.0) (entry_bytes Second a.1) x) ∙ e ∙ append_assoc (key_bytes b.0) (entry_bytes Second b.1) y) in
     let entry = entry_same laws a.1 b.1 x y p.entry q.entry key.1 in
     (λ i. (key.0 i, entry.0 i), entry.1)
 
@@ -179,9 +183,9 @@ items_fit t p = each_found key_cmp key_cmp_total key_cmp_exact FitsKeyed (maps.e
 
 pub table_same : NameLaws → (t u : Contents) → FitsSaved t → FitsSaved u → saved t ≡ saved u → t ≡ u
 table_same laws t u p q e =
-    let one : List ℕ = entries_bytes (maps.entries t) in
-    let two : List ℕ = entries_bytes (maps.entries u) in
+    let one : List ℕ = entries_bytes Second (maps.entries t) in
+    let two : List ℕ = entries_bytes Second (maps.entries u) in
     let count = counts_same (maps.len t) (maps.len u) one two p.count q.count (ap (λ (r : List ℕ). drop 4 r) e) in
     let size : length (maps.entries t) ≡ length (maps.entries u) = sym (maps.len-entries t) ∙ count.0 ∙ maps.len-entries u in
-    let entries = each_same keyed_bytes FitsItem (keyed_same laws) (maps.entries t) (maps.entries u) [] [] (items_fit t p) (items_fit u q) size (append-nil one ∙ count.1 ∙ sym (append-nil two)) in
+    let entries = each_same (keyed_bytes Second) FitsItem (keyed_same laws) (maps.entries t) (maps.entries u) [] [] (items_fit t p) (items_fit u q) size (append-nil one ∙ count.1 ∙ sym (append-nil two)) in
     maps.same_entries_map t u entries.0

@@ -11,7 +11,7 @@ use Rattle.nb_datagram.specs.declared.limits.TheConstants.{MAX_LENGTH}
 use Rattle.nb_datagram.specs.Header.{IsKey}
 use Rattle.nb_datagram.specs.Key.{key_cmp}
 use Rattle.nb_table.specs.Slot.{Spoilt, Held, OnHeld}
-use Rattle.nb_table.specs.Cover.{CoverFacts, LiesBelow}
+use Rattle.nb_table.specs.Cover.{CoverFacts, BytesBelow}
 use Rattle.nb_table.specs.Entry.{EntryValue}
 use Rattle.nb_table.specs.Contents.{Contents}
 use Rattle.nb_table.specs.Limits.{IsShort, TableValue, KeepsLimits}
@@ -55,13 +55,13 @@ few_runs n [] apart h = omega arith
 few_runs n (r ∷ rs) apart h = omega (arith, apart.0, few_past n (run_end r) rs apart.1.1 apart.1.0 h.1 h.0)
 
 -- each place of a short cover lies below the limit
-places_below : (c : CoverFacts) → LiesBelow MAX_LENGTH c → AllByRecursion (λ e. e.0 < MAX_LENGTH) (maps.entries c.bytes)
+places_below : (c : CoverFacts) → BytesBelow MAX_LENGTH c.bytes → AllByRecursion (λ e. e.0 < MAX_LENGTH) (maps.entries c.bytes)
 places_below c below =
     each_found nat_cmp nat_cmp_total nat_cmp-IsAntisymmetric (λ i x. i < MAX_LENGTH) (maps.entries c.bytes) (maps.entries_sorted c.bytes)
-    (λ i x f. below.bytes i x (maps.get-entries c.bytes i ∙ f))
+    (λ i x f. below i x (maps.get-entries c.bytes i ∙ f))
 
 -- the runs of a short entry are no more than its places
-pub few_runs_of : (c : CoverFacts) → LiesBelow MAX_LENGTH c → length (runs_of_map c.bytes) < 2 ^ 32
+pub few_runs_of : (c : CoverFacts) → BytesBelow MAX_LENGTH c.bytes → length (runs_of_map c.bytes) < 2 ^ 32
 few_runs_of c below =
     omega (arith, few_runs MAX_LENGTH (runs_of_map c.bytes) (runs_apart c.bytes) (runs_end MAX_LENGTH (maps.entries c.bytes) (places_below c below)))
 
@@ -69,18 +69,19 @@ runs_fit : (rs : List RunValue) → EndBy MAX_LENGTH rs → AllByRecursion FitsR
 runs_fit [] h = tt
 runs_fit (r ∷ rs) h = (record { start = omega (arith, h.0); size = omega (arith, h.0) }, runs_fit rs h.1)
 
-cover_fits : (c : CoverFacts) → LiesBelow MAX_LENGTH c → ((m : ℕ) → c.end ≡ Some m → m ≤ MAX_LENGTH) → FitsCover c
-cover_fits c below ends =
+cover_fits : (c : CoverFacts) → BytesBelow MAX_LENGTH c.bytes → ((m : ℕ) → c.end ≡ Some m → m ≤ MAX_LENGTH) → ((r : ℕ) → c.promise ≡ Some r → r ≤ MAX_LENGTH) → FitsCover c
+cover_fits c below ends promises =
     let runs = runs_end MAX_LENGTH (maps.entries c.bytes) (places_below c below) in
     record {
       end = λ n e. (let most = ends n e in omega (arith, most));
+      promise = λ r e. (let most = promises r e in omega (arith, most));
       count = omega (arith, few_runs MAX_LENGTH (runs_of_map c.bytes) (runs_apart c.bytes) runs);
       runs = runs_fit (runs_of_map c.bytes) runs;
     }
 
 entry_fits : (e : EntryValue) → IsShort MAX_LENGTH e → OnHeld IsNamed e → OnHeld FitsFacts e
 entry_fits Spoilt short named = tt
-entry_fits (Held e) short named = record { named = named; cover = cover_fits e.cover short.below short.ends }
+entry_fits (Held e) short named = record { named = named; cover = cover_fits e.cover short.below short.ends short.promises }
 
 pub short_fits : (t : Contents) → maps.len t < 2 ^ 32 → AllShort MAX_LENGTH t → ((k : Key) (e : EntryValue) → maps.get t k ≡ Some e → IsKey k × OnHeld IsNamed e) → FitsSaved t
 short_fits t count short named = record {

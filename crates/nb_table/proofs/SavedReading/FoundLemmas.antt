@@ -2,6 +2,7 @@
 use Rattle.std.proofs.Common.{◌≡◌, ◌+◌, ◌<◌, ◌≤◌, ◌^◌, ℕ, suc, zero, List, [], ◌∷◌, ◌++◌, length, map, take, drop, Option, None, Some, Ok, refl, sym, ap, subst, ◌∙◌, arith, length-append}
 use Rattle.std.proofs.Math.Seq.{take-add}
 use Rattle.std.proofs.lemmas.List.{drop-drop, take_all}
+use Rattle.std.proofs.lemmas.Option.{none-some, same_Some}
 use Rattle.std.specs.Int.{w16, w32, to_be_bytes}
 use Rattle.std.specs.List.{concat, AllByRecursion}
 use Rattle.nb_names.specs.declared.pointers.Pointers.TheVariants.{Refused}
@@ -12,10 +13,12 @@ use Rattle.nb_datagram.specs.declared.key.Key.{Key}
 use Rattle.nb_datagram.specs.declared.kind.Kind.{Kind}
 use Rattle.nb_datagram.specs.Kind.{type_of}
 use Rattle.nb_datagram.specs.Packet.{name_bytes}
+use Rattle.nb_table.specs.declared.saved.form.SavedForm.{SavedForm}
+use Rattle.nb_table.specs.declared.saved.form.SavedForm.TheVariants.{First, Second}
 use Rattle.nb_table.specs.Entry.{EntryFacts, EntryValue}
 use Rattle.nb_table.specs.Runs.{RunValue, run_end, StartsPast, AreApart, map_of_runs, runs_of_map}
-use Rattle.nb_table.specs.Saved.{magic, run_bytes, runs_bytes, end_bytes, facts_bytes, entry_bytes, key_bytes, keyed_bytes, entries_bytes}
-use Rattle.nb_table.specs.SavedReading.{gives, goes_on, whole, good, is_0, is_1, byte_at, number_at, bytes_at, IsAfter, key_at, known, kind_at, name_at, stands, end_at, run_at, row_at, runs_at, most_of, facts_at, entry_at, entries_at, IsRead, after_magic}
+use Rattle.nb_table.specs.Saved.{magic, run_bytes, runs_bytes, end_bytes, promise_bytes, facts_bytes, entry_bytes, key_bytes, keyed_bytes, entries_bytes}
+use Rattle.nb_table.specs.SavedReading.{gives, goes_on, whole, good, is_0, is_1, byte_at, number_at, bytes_at, IsAfter, key_at, known, kind_at, name_at, stands, end_at, promise_at, IsBelowEnd, run_at, row_at, runs_at, most_of, facts_at, entry_at, entries_at, table_at}
 use Rattle.nb_table.proofs.Runs.RunsLemmas.{runs_back}
 
 -- ---- bytes in a row
@@ -40,6 +43,11 @@ spells_then input at mid next xs ys a b =
 
 spells_none : (input : List ℕ) (at : ℕ) → Spells input at [] at
 spells_none input at = record { there = refl; behind = omega arith }
+
+-- the magic has four bytes
+pub magic_size : (form : SavedForm) → length (magic form) ≡ 4
+magic_size First = refl
+magic_size Second = refl
 
 -- ---- fields
 
@@ -78,6 +86,21 @@ end_found : (input : List ℕ) (at next : ℕ) (end : Option ℕ) → end_at inp
 end_found input at next end (goes_on mark n h (is_0 e gives)) = subst (λ (t : ℕ). Spells input at (t ∷ []) n) e (byte_found input at mark n h)
 end_found input at next end (goes_on mark n h (is_1 e (goes_on m l k gives))) =
     spells_then input at n next (1 ∷ []) (to_be_bytes w16 m) (subst (λ (t : ℕ). Spells input at (t ∷ []) n) e (byte_found input at mark n h)) (number_found input n m l k).0
+
+-- what a promise that was found keeps to
+pub record IsPromise (end promise : Option ℕ) : Type 0 where
+  pub below : (r : ℕ) → promise ≡ Some r → IsBelowEnd end r
+
+pub promise_found : (form : SavedForm) (input : List ℕ) (end : Option ℕ) (at next : ℕ) (promise : Option ℕ) → promise_at form input end at (Ok (promise, next)) → Spells input at (promise_bytes form promise) next × IsPromise end promise
+promise_found First input end at next promise gives = (spells_none input at, record { below = λ r e. absurd (none-some r e) })
+promise_found Second input end at next promise (goes_on mark n h (is_0 e gives)) = (
+  subst (λ (t : ℕ). Spells input at (t ∷ []) n) e (byte_found input at mark n h),
+  record { below = λ r e. absurd (none-some r e) },
+)
+promise_found Second input end at next promise (goes_on mark n h (is_1 e (goes_on m l (goes_on q p k (good g)) gives))) = (
+  spells_then input at n next (1 ∷ []) (to_be_bytes w16 m) (subst (λ (t : ℕ). Spells input at (t ∷ []) n) e (byte_found input at mark n h)) (number_found input n m l k).0,
+  record { below = λ r e. subst (IsBelowEnd end) (same_Some m r e) g },
+)
 
 -- ---- runs
 
@@ -137,38 +160,39 @@ runs_found input most at next rs (goes_on n m h r) =
 
 -- ---- entries
 
-facts_found : (input : List ℕ) (at next : ℕ) (e : EntryFacts) → facts_at input at (Ok (e, next)) → Spells input at (facts_bytes e) next
-facts_found input at next e (goes_on kind a k (goes_on source b s (goes_on destination c d (goes_on end m n (goes_on runs l r gives))))) =
-    let row = runs_found input (most_of end) m l runs r in
+facts_found : (form : SavedForm) (input : List ℕ) (at next : ℕ) (e : EntryFacts) → facts_at form input at (Ok (e, next)) → Spells input at (facts_bytes form e) next
+facts_found form input at next e (goes_on kind a k (goes_on source b s (goes_on destination c d (goes_on end m n (goes_on promise p q (goes_on runs l r gives)))))) =
+    let row = runs_found input (most_of end) p l runs r in
     let same : runs_bytes runs ≡ runs_bytes (runs_of_map (map_of_runs runs)) = ap runs_bytes (sym (runs_back runs row.1)) in
     spells_then input at a l (type_of kind ∷ []) _ (kind_found input at a kind k)
     (spells_then input a b l (name_bytes source) _ (name_found input a b source s).0
     (spells_then input b c l (name_bytes destination) _ (name_found input b c destination d).0
     (spells_then input c m l (end_bytes end) _ (end_found input c m end n)
-    (subst (λ (bytes : List ℕ). Spells input m bytes l) same row.0))))
+    (spells_then input m p l (promise_bytes form promise) _ (promise_found form input end m p promise q).0
+    (subst (λ (bytes : List ℕ). Spells input p bytes l) same row.0)))))
 
-entry_found : (input : List ℕ) (at next : ℕ) (e : EntryValue) → entry_at input at (Ok (e, next)) → Spells input at (entry_bytes e) next
-entry_found input at next e (goes_on state n h (is_0 z gives)) = subst (λ (t : ℕ). Spells input at (t ∷ []) n) z (byte_found input at state n h)
-entry_found input at next e (goes_on state n h (is_1 z (goes_on f m k gives))) =
-    spells_then input at n m (1 ∷ []) (facts_bytes f) (subst (λ (t : ℕ). Spells input at (t ∷ []) n) z (byte_found input at state n h)) (facts_found input n m f k)
+entry_found : (form : SavedForm) (input : List ℕ) (at next : ℕ) (e : EntryValue) → entry_at form input at (Ok (e, next)) → Spells input at (entry_bytes form e) next
+entry_found form input at next e (goes_on state n h (is_0 z gives)) = subst (λ (t : ℕ). Spells input at (t ∷ []) n) z (byte_found input at state n h)
+entry_found form input at next e (goes_on state n h (is_1 z (goes_on f m k gives))) =
+    spells_then input at n m (1 ∷ []) (facts_bytes form f) (subst (λ (t : ℕ). Spells input at (t ∷ []) n) z (byte_found input at state n h)) (facts_found form input n m f k)
 
-pub entries_found : (input : List ℕ) (count : ℕ) (before : Option Key) (at next : ℕ) (es : List (Key × EntryValue)) → entries_at input count before at (Ok (es, next)) →
-    Spells input at (entries_bytes es) next × (length es ≡ count)
-entries_found input zero before at next es gives = (spells_none input at, refl)
-entries_found input (suc count) before at next es (goes_on key a k (goes_on e b h (goes_on fs c r gives))) =
-    let rest = entries_found input count (Some key) b c fs r in
-    let first = spells_then input at a b (key_bytes key) (entry_bytes e) (key_found input before at a key k).0 (entry_found input a b e h) in (
-      spells_then input at b c (keyed_bytes (key, e)) (entries_bytes fs) first rest.0,
+pub entries_found : (form : SavedForm) (input : List ℕ) (count : ℕ) (before : Option Key) (at next : ℕ) (es : List (Key × EntryValue)) → entries_at form input count before at (Ok (es, next)) →
+    Spells input at (entries_bytes form es) next × (length es ≡ count)
+entries_found form input zero before at next es gives = (spells_none input at, refl)
+entries_found form input (suc count) before at next es (goes_on key a k (goes_on e b h (goes_on fs c r gives))) =
+    let rest = entries_found form input count (Some key) b c fs r in
+    let first = spells_then input at a b (key_bytes key) (entry_bytes form e) (key_found input before at a key k).0 (entry_found form input a b e h) in (
+      spells_then input at b c (keyed_bytes form (key, e)) (entries_bytes form fs) first rest.0,
       ap suc rest.1,
     )
 
 -- the whole input
-pub read_found : (input : List ℕ) (es : List (Key × EntryValue)) (last : ℕ) → IsRead input (Ok (es, last)) → input ≡ magic ++ (to_be_bytes w32 (length es) ++ entries_bytes es)
-read_found input es last (after_magic m (goes_on n a (whole i f c) (goes_on fs b r (good g)))) =
-    let rest = entries_found input n None a b fs r in
+pub read_found : (form : SavedForm) (input : List ℕ) (es : List (Key × EntryValue)) (last : ℕ) → StandsAt input 0 (magic form) → table_at form input 4 (Ok (es, last)) → input ≡ magic form ++ (to_be_bytes w32 (length es) ++ entries_bytes form es)
+read_found form input es last m (goes_on n a (whole i f c) (goes_on fs b r (good g))) =
+    let rest = entries_found form input n None a b fs r in
     let count : Spells input 4 (to_be_bytes w32 (length fs)) a = record { there = subst (λ (i : ℕ). StandsAt input 4 (to_be_bytes w32 i)) (sym rest.1) c.bytes; behind = refl } in
-    let bytes : List ℕ = magic ++ (to_be_bytes w32 (length fs) ++ entries_bytes fs) in
+    let bytes : List ℕ = magic form ++ (to_be_bytes w32 (length fs) ++ entries_bytes form fs) in
     let all : Spells input 0 bytes b =
-    spells_then input 0 4 b magic (to_be_bytes w32 (length fs) ++ entries_bytes fs) (record { there = m; behind = refl })
-    (spells_then input 4 a b (to_be_bytes w32 (length fs)) (entries_bytes fs) count rest.0) in
+    spells_then input 0 4 b (magic form) (to_be_bytes w32 (length fs) ++ entries_bytes form fs) (record { there = m; behind = omega (arith, magic_size form) })
+    (spells_then input 4 a b (to_be_bytes w32 (length fs)) (entries_bytes form fs) count rest.0) in
     sym (take_all (length bytes) input (omega (arith, all.behind, g))) ∙ all.there

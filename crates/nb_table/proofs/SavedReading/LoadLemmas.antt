@@ -1,20 +1,22 @@
 -- What a judged input comes to, and the table that is kept of it.
-use Rattle.std.proofs.Common.{◌≡◌, ◌<◌, ◌≤◌, ◌⊎◌, inl, inr, ℕ, List, Bool, true, false, None, Ok, Err, refl, sym, ap, subst, ◌∙◌, arith}
+use Rattle.std.proofs.Common.{◌≡◌, ◌<◌, ◌≤◌, ◌⊎◌, inl, inr, ℕ, List, length, Bool, true, false, None, Ok, Err, refl, sym, ap, subst, ◌∙◌, arith}
 use Rattle.std.proofs.lemmas.Bool.{true≢false}
 use Rattle.std.specs.FinMap as maps
 use Rattle.nb_datagram.specs.declared.key.Key.{Key}
 use Rattle.nb_datagram.specs.Key.{key_cmp}
 use Rattle.nb_table.specs.declared.load_fault.LoadFault.{LoadFault}
 use Rattle.nb_table.specs.declared.load_fault.LoadFault.TheVariants.{TooLong, Full, NoMemory}
+use Rattle.nb_table.specs.declared.saved.form.SavedForm.{SavedForm}
 use Rattle.nb_table.specs.Contents.{Contents}
 use Rattle.nb_table.specs.Entry.{EntryValue}
 use Rattle.nb_table.specs.Limits.{Limits, KeepsLimits}
 use Rattle.nb_table.specs.LoadFaults.{IsReadAs, LoadFails, too_long, full, no_memory}
-use Rattle.nb_table.specs.Saved.{saved}
+use Rattle.nb_table.specs.Saved.{magic, IsSaved}
 use Rattle.nb_table.specs.SavedReading.{IsRead, entries_at}
+use Rattle.nb_names.specs.Labels.{StandsAt}
 use Rattle.nb_table.specs.Code.SavedTables.{IsJudged, AreKept}
 use Rattle.nb_table.proofs.SavedReading.LoadedLemmas.{table_with, read_inside, read_len, read_saved, read_formed, read_short}
-use Rattle.nb_table.proofs.SavedReading.OutcomeLemmas.{same_fault, same_value, apart, one_read, one_entries}
+use Rattle.nb_table.proofs.SavedReading.OutcomeLemmas.{same_fault, same_value, apart, one_form, one_read, one_entries}
 
 -- a judged input has no fault
 pub judged_sound : (input : List ℕ) (limit count : ℕ) (short : Bool) → IsJudged input limit count short → (f : LoadFault) → IsRead input (Err f) → ⊥
@@ -52,31 +54,38 @@ judged_kept input limits count short j is few =
     ((read_short input j.entries j.last limits.longest j.read).0 (sym j.tested ∙ is))
     (omega (arith, few, judged_len input limits.longest count short j))
 
+-- the entries of a judged input of this form
+judged_entries : (form : SavedForm) (input : List ℕ) (limit count : ℕ) (short : Bool) → StandsAt input 0 (magic form) → (j : IsJudged input limit count short) → entries_at form input count None 8 (Ok (j.entries, j.last))
+judged_entries form input limit count short m j =
+    let w = read_inside input j.entries j.last j.read in
+    subst (λ (n : ℕ). entries_at form input n None 8 (Ok (j.entries, j.last))) (sym j.counted)
+    (subst (λ (f : SavedForm). entries_at f input (length j.entries) None 8 (Ok (j.entries, j.last))) (one_form input w.form form w.stands m) w.entries)
+
 -- no fault comes up after a judgement
-pub judged_inside : (input : List ℕ) (limit count : ℕ) (short : Bool) → IsJudged input limit count short → (f : LoadFault) → entries_at input count None 8 (Err f) → ⊥
-judged_inside input limit count short j f h =
-    let inside = subst (λ (n : ℕ). entries_at input n None 8 (Ok (j.entries, j.last))) (sym j.counted) (read_inside input j.entries j.last j.read) in
-    apart j.entries j.last f (one_entries input count None 8 (Ok (j.entries, j.last)) (Err f) inside h)
+pub judged_inside : (form : SavedForm) (input : List ℕ) (limit count : ℕ) (short : Bool) → StandsAt input 0 (magic form) → IsJudged input limit count short → (f : LoadFault) → entries_at form input count None 8 (Err f) → ⊥
+judged_inside form input limit count short m j f h =
+    apart j.entries j.last f (one_entries form input count None 8 (Ok (j.entries, j.last)) (Err f) (judged_entries form input limit count short m j) h)
 
 -- ---- what is kept
 
 -- the map that is kept is the table of the entries that were judged
-pub kept_same : (input : List ℕ) (limit count : ℕ) (short : Bool) (kept : List (Key × EntryValue)) (j : IsJudged input limit count short) → AreKept input count 8 kept → maps.from_entries {R = key_cmp} kept ≡ table_with j.entries
-kept_same input limit count short kept j k =
-    let inside = subst (λ (n : ℕ). entries_at input n None 8 (Ok (j.entries, j.last))) (sym j.counted) (read_inside input j.entries j.last j.read) in
-    let same = same_value k.entries j.entries k.next j.last (one_entries input count None 8 (Ok (k.entries, k.next)) (Ok (j.entries, j.last)) k.read inside) in
+pub kept_same : (form : SavedForm) (input : List ℕ) (limit count : ℕ) (short : Bool) (kept : List (Key × EntryValue)) → StandsAt input 0 (magic form) → (j : IsJudged input limit count short) → AreKept form input count 8 kept → maps.from_entries {R = key_cmp} kept ≡ table_with j.entries
+kept_same form input limit count short kept m j k =
+    let inside = judged_entries form input limit count short m j in
+    let same = same_value k.entries j.entries k.next j.last (one_entries form input count None 8 (Ok (k.entries, k.next)) (Ok (j.entries, j.last)) k.read inside) in
     k.same ∙ ap (λ (v : List (Key × EntryValue) × ℕ). table_with v.0) same
 
-pub kept_read : (input : List ℕ) (limit count : ℕ) (short : Bool) (kept : List (Key × EntryValue)) → IsJudged input limit count short → AreKept input count 8 kept → IsReadAs input (maps.from_entries {R = key_cmp} kept)
-kept_read input limit count short kept j k = record { entries = j.entries; last = j.last; read = j.read; same = kept_same input limit count short kept j k }
+pub kept_read : (form : SavedForm) (input : List ℕ) (limit count : ℕ) (short : Bool) (kept : List (Key × EntryValue)) → StandsAt input 0 (magic form) → IsJudged input limit count short → AreKept form input count 8 kept → IsReadAs input (maps.from_entries {R = key_cmp} kept)
+kept_read form input limit count short kept m j k = record { entries = j.entries; last = j.last; read = j.read; same = kept_same form input limit count short kept m j k }
 
-pub kept_saved : (input : List ℕ) (limit count : ℕ) (short : Bool) (kept : List (Key × EntryValue)) → IsJudged input limit count short → AreKept input count 8 kept → input ≡ saved (maps.from_entries {R = key_cmp} kept)
-kept_saved input limit count short kept j k = read_saved input j.entries j.last j.read ∙ ap saved (sym (kept_same input limit count short kept j k))
+pub kept_saved : (form : SavedForm) (input : List ℕ) (limit count : ℕ) (short : Bool) (kept : List (Key × EntryValue)) → StandsAt input 0 (magic form) → IsJudged input limit count short → AreKept form input count 8 kept → IsSaved input (maps.from_entries {R = key_cmp} kept)
+kept_saved form input limit count short kept m j k =
+    subst (λ (t : Contents). IsSaved input t) (sym (kept_same form input limit count short kept m j k)) (read_saved input j.entries j.last j.read)
 
-pub kept_limits : (input : List ℕ) (limits : Limits) (count : ℕ) (short : Bool) (kept : List (Key × EntryValue)) → IsJudged input limits.longest count short → short ≡ true → count ≤ limits.keys → AreKept input count 8 kept
+pub kept_limits : (form : SavedForm) (input : List ℕ) (limits : Limits) (count : ℕ) (short : Bool) (kept : List (Key × EntryValue)) → StandsAt input 0 (magic form) → IsJudged input limits.longest count short → short ≡ true → count ≤ limits.keys → AreKept form input count 8 kept
     → KeepsLimits (record { contents = maps.from_entries {R = key_cmp} kept; limits = limits })
-kept_limits input limits count short kept j is few k =
-    subst (λ (t : Contents). KeepsLimits (record { contents = t; limits = limits })) (sym (kept_same input limits.longest count short kept j k))
+kept_limits form input limits count short kept m j is few k =
+    subst (λ (t : Contents). KeepsLimits (record { contents = t; limits = limits })) (sym (kept_same form input limits.longest count short kept m j k))
     (record {
       count = omega (arith, few, judged_len input limits.longest count short j);
       short = (read_short input j.entries j.last limits.longest j.read).0 (sym j.tested ∙ is);
@@ -84,7 +93,7 @@ kept_limits input limits count short kept j is few k =
     })
 
 -- what the keeping of a judged input answers where it fails
-pub keeping_failed : (input : List ℕ) (limits : Limits) (count : ℕ) (short : Bool) (f : LoadFault) → IsJudged input limits.longest count short → short ≡ true → count ≤ limits.keys
-    → (f ≡ NoMemory) ⊎ entries_at input count None 8 (Err f) → LoadFails input limits f
-keeping_failed input limits count short f j is few (inl e) = subst (LoadFails input limits) (sym e) (judged_kept input limits count short j is few)
-keeping_failed input limits count short f j is few (inr h) = absurd (judged_inside input limits.longest count short j f h)
+pub keeping_failed : (form : SavedForm) (input : List ℕ) (limits : Limits) (count : ℕ) (short : Bool) (f : LoadFault) → StandsAt input 0 (magic form) → IsJudged input limits.longest count short → short ≡ true → count ≤ limits.keys
+    → (f ≡ NoMemory) ⊎ entries_at form input count None 8 (Err f) → LoadFails input limits f
+keeping_failed form input limits count short f m j is few (inl e) = subst (LoadFails input limits) (sym e) (judged_kept input limits count short j is few)
+keeping_failed form input limits count short f m j is few (inr h) = absurd (judged_inside form input limits.longest count short m j f h)

@@ -1,5 +1,5 @@
 -- An input that was read is the saved bytes of the table of its entries.
-use Rattle.std.proofs.Common.{◌≡◌, ◌≤◌, ◌&&◌, ℕ, suc, zero, List, [], ◌∷◌, ◌++◌, length, Bool, true, false, cond, Option, None, Some, Ok, refl, sym, ap, ap₂, subst, ◌∙◌}
+use Rattle.std.proofs.Common.{◌≡◌, ◌≤◌, ◌&&◌, inl, inr, ℕ, suc, zero, List, [], ◌∷◌, ◌++◌, length, Bool, true, false, cond, Option, None, Some, Ok, refl, sym, ap, ap₂, subst, ◌∙◌}
 use Rattle.std.specs.Prelude.{T, Decides}
 use Rattle.std.proofs.lemmas.Option.{none-some, same_Some}
 use Rattle.std.specs.declared.cmp.Ordering.{Ordering}
@@ -12,21 +12,25 @@ use Rattle.std.specs.FinMap.{is_sorted}
 use Rattle.std.specs.FinMap.Entries.{below_all}
 use Rattle.nb_datagram.specs.declared.key.Key.{Key}
 use Rattle.nb_datagram.specs.Key.{key_cmp}
+use Rattle.nb_table.specs.declared.saved.form.SavedForm.{SavedForm}
+use Rattle.nb_table.specs.declared.saved.form.SavedForm.TheVariants.{First, Second}
 use Rattle.nb_table.specs.Contents.{Contents}
-use Rattle.nb_table.specs.Cover.{CoverFacts, AreCoverFacts}
+use Rattle.nb_table.specs.Cover.{AreCoverFacts}
 use Rattle.nb_table.specs.Entry.{EntryFacts, EntryValue, IsEntry}
 use Rattle.nb_table.specs.Join.{IsTable}
 use Rattle.nb_table.specs.Merging.{AllShort}
 use Rattle.nb_table.specs.Code.Fitting.{is_short}
 use Rattle.nb_table.specs.Runs.{RunValue, run_end, AreApart, map_of_runs}
-use Rattle.nb_table.specs.Saved.{magic, entries_bytes, saved}
+use Rattle.nb_table.specs.Saved.{magic, entries_bytes, saved_as, IsSaved}
 use Rattle.nb_table.specs.SavedReading.{gives, goes_on, whole, good, is_0, is_1, IsAfter, most_of, facts_at, entry_at, entries_at, IsRead, after_magic}
-use Rattle.nb_table.specs.Lemmas.CoverLemmas.{lies_below_decides}
+use Rattle.nb_table.specs.Slot.{Held, OnHeld}
+use Rattle.nb_names.specs.Labels.{StandsAt}
+use Rattle.nb_table.specs.Lemmas.CoverLemmas.{bytes_below_decides}
 use Rattle.nb_table.specs.Lemmas.MapsLemmas.{T_left, T_right}
 use Rattle.nb_table.specs.Lemmas.SameLemmas.{key_cmp_total, key_cmp_exact}
 use Rattle.nb_table.proofs.Runs.EachPutLemmas.{sorted_entries}
 use Rattle.nb_table.proofs.Limits.FittingLemmas.{all_short_decides}
-use Rattle.nb_table.proofs.SavedReading.FoundLemmas.{key_found, runs_found, entries_found, read_found}
+use Rattle.nb_table.proofs.SavedReading.FoundLemmas.{IsPromise, key_found, promise_found, runs_found, entries_found, read_found}
 use Rattle.nb_table.proofs.Runs.RowLemmas.{map_below, all_short}
 
 -- ---- keys ascend
@@ -65,10 +69,10 @@ pub record Ascend (before : Option Key) (es : List (Key × EntryValue)) : Type 0
   pub sorted : T (is_sorted key_cmp es)
   pub above : Above before es
 
-pub entries_ascend : (input : List ℕ) (count : ℕ) (before : Option Key) (at next : ℕ) (es : List (Key × EntryValue)) → entries_at input count before at (Ok (es, next)) → Ascend before es
-entries_ascend input zero before at next es gives = record { sorted = tt; above = above_none before }
-entries_ascend input (suc count) before at next es (goes_on key a k (goes_on e b h (goes_on fs c r gives))) =
-    let rest = entries_ascend input count (Some key) b c fs r in
+pub entries_ascend : (form : SavedForm) (input : List ℕ) (count : ℕ) (before : Option Key) (at next : ℕ) (es : List (Key × EntryValue)) → entries_at form input count before at (Ok (es, next)) → Ascend before es
+entries_ascend form input zero before at next es gives = record { sorted = tt; above = above_none before }
+entries_ascend form input (suc count) before at next es (goes_on key a k (goes_on e b h (goes_on fs c r gives))) =
+    let rest = entries_ascend form input count (Some key) b c fs r in
     record {
       sorted = T_both _ _ rest.above rest.sorted;
       above = above_more before key e fs (key_found input before at a key k).1 rest.above;
@@ -77,24 +81,27 @@ entries_ascend input (suc count) before at next es (goes_on key a k (goes_on e b
 -- ---- entries are well formed
 
 -- runs that don't pass the end lie below it
-pub covers_formed : (runs : List RunValue) (end : Option ℕ) → AreApart runs → AllByRecursion (λ (r : RunValue). run_end r ≤ most_of end) runs → AreCoverFacts (record { bytes = map_of_runs runs; end = end })
-covers_formed runs end apart short n e =
-    let known : CoverFacts = record { bytes = map_of_runs runs; end = end } in
+pub covers_formed : (runs : List RunValue) (end promise : Option ℕ) → AreApart runs → AllByRecursion (λ (r : RunValue). run_end r ≤ most_of end) runs → IsPromise end promise →
+    AreCoverFacts (record { bytes = map_of_runs runs; end = end; promise = promise })
+covers_formed runs end promise apart short kept n e =
     let below = subst (λ (m : ℕ). AllByRecursion (λ (r : RunValue). run_end r ≤ m) runs) (ap most_of e) short in
-    (lies_below_decides n known).0 (map_below n runs apart ∙ all_short n runs below)
+    record {
+      bytes = (bytes_below_decides n (map_of_runs runs)).0 (map_below n runs apart ∙ all_short n runs below);
+      promise = λ r f. kept.below r f n e;
+    }
 
-facts_formed : (input : List ℕ) (at next : ℕ) (e : EntryFacts) → facts_at input at (Ok (e, next)) → AreCoverFacts e.cover
-facts_formed input at next e (goes_on kind a k (goes_on source b s (goes_on destination c d (goes_on end m n (goes_on runs l r gives))))) =
-    let row = runs_found input (most_of end) m l runs r in covers_formed runs end row.1 row.2
+facts_formed : (form : SavedForm) (input : List ℕ) (at next : ℕ) (e : EntryFacts) → facts_at form input at (Ok (e, next)) → AreCoverFacts e.cover
+facts_formed form input at next e (goes_on kind a k (goes_on source b s (goes_on destination c d (goes_on end m n (goes_on promise p q (goes_on runs l r gives)))))) =
+    let row = runs_found input (most_of end) p l runs r in covers_formed runs end promise row.1 row.2 (promise_found form input end m p promise q).1
 
-entry_formed : (input : List ℕ) (at next : ℕ) (e : EntryValue) → entry_at input at (Ok (e, next)) → IsEntry e
-entry_formed input at next e (goes_on state n h (is_0 z gives)) = tt
-entry_formed input at next e (goes_on state n h (is_1 z (goes_on f m k gives))) = facts_formed input n m f k
+entry_formed : (form : SavedForm) (input : List ℕ) (at next : ℕ) (e : EntryValue) → entry_at form input at (Ok (e, next)) → IsEntry e
+entry_formed form input at next e (goes_on state n h (is_0 z gives)) = tt
+entry_formed form input at next e (goes_on state n h (is_1 z (goes_on f m k gives))) = facts_formed form input n m f k
 
-entries_formed : (input : List ℕ) (count : ℕ) (before : Option Key) (at next : ℕ) (es : List (Key × EntryValue)) → entries_at input count before at (Ok (es, next)) → AllByRecursion (λ (e : Key × EntryValue). IsEntry e.1) es
-entries_formed input zero before at next es gives = tt
-entries_formed input (suc count) before at next es (goes_on key a k (goes_on e b h (goes_on fs c r gives))) =
-    (entry_formed input a b e h, entries_formed input count (Some key) b c fs r)
+entries_formed : (form : SavedForm) (input : List ℕ) (count : ℕ) (before : Option Key) (at next : ℕ) (es : List (Key × EntryValue)) → entries_at form input count before at (Ok (es, next)) → AllByRecursion (λ (e : Key × EntryValue). IsEntry e.1) es
+entries_formed form input zero before at next es gives = tt
+entries_formed form input (suc count) before at next es (goes_on key a k (goes_on e b h (goes_on fs c r gives))) =
+    (entry_formed form input a b e h, entries_formed form input count (Some key) b c fs r)
 
 found_in : (P : EntryValue → Type 0) (es : List (Key × EntryValue)) → AllByRecursion (λ (e : Key × EntryValue). P e.1) es → (q : Key) (x : EntryValue) → maps.find key_cmp q es ≡ Some x → P x
 found_in P [] h q x f = absurd (none-some x f)
@@ -110,12 +117,23 @@ found_in P (e ∷ es) h q x f = step (eq_by_cmp key_cmp q e.0) f (found_in P es 
 abbrev pub table_with : List (Key × EntryValue) → Contents
 table_with es = maps.from_entries {R = key_cmp} es
 
-pub read_inside : (input : List ℕ) (es : List (Key × EntryValue)) (last : ℕ) → IsRead input (Ok (es, last)) → entries_at input (length es) None 8 (Ok (es, last))
-read_inside input es last (after_magic m (goes_on n a (whole i f c) (goes_on fs b r (good g)))) =
-    subst (λ (k : ℕ). entries_at input k None 8 (Ok (fs, b))) (sym (entries_found input n None 8 b fs r).1) r
+-- the form of an input that was read, and its entries
+pub record Inside (input : List ℕ) (es : List (Key × EntryValue)) (last : ℕ) : Type 0 where
+  pub form : SavedForm
+  pub stands : StandsAt input 0 (magic form)
+  pub entries : entries_at form input (length es) None 8 (Ok (es, last))
+  pub bytes : input ≡ magic form ++ (to_be_bytes w32 (length es) ++ entries_bytes form es)
+
+pub read_inside : (input : List ℕ) (es : List (Key × EntryValue)) (last : ℕ) → IsRead input (Ok (es, last)) → Inside input es last
+read_inside input es last (after_magic form m (goes_on n a (whole i f c) (goes_on fs b r (good g)))) = record {
+  form = form;
+  stands = m;
+  entries = subst (λ (k : ℕ). entries_at form input k None 8 (Ok (fs, b))) (sym (entries_found form input n None 8 b fs r).1) r;
+  bytes = read_found form input fs b m (goes_on n a (whole i f c) (goes_on fs b r (good g)));
+}
 
 read_sorted : (input : List ℕ) (es : List (Key × EntryValue)) (last : ℕ) → IsRead input (Ok (es, last)) → T (is_sorted key_cmp es)
-read_sorted input es last h = (entries_ascend input (length es) None 8 last es (read_inside input es last h)).sorted
+read_sorted input es last h = let w = read_inside input es last h in (entries_ascend w.form input (length es) None 8 last es w.entries).sorted
 
 pub read_entries : (input : List ℕ) (es : List (Key × EntryValue)) (last : ℕ) → IsRead input (Ok (es, last)) → maps.entries (table_with es) ≡ es
 read_entries input es last h = sorted_entries key_cmp_total key_cmp_exact es (read_sorted input es last h)
@@ -123,14 +141,39 @@ read_entries input es last h = sorted_entries key_cmp_total key_cmp_exact es (re
 pub read_len : (input : List ℕ) (es : List (Key × EntryValue)) (last : ℕ) → IsRead input (Ok (es, last)) → maps.len (table_with es) ≡ length es
 read_len input es last h = maps.len-entries (table_with es) ∙ ap length (read_entries input es last h)
 
-pub read_saved : (input : List ℕ) (es : List (Key × EntryValue)) (last : ℕ) → IsRead input (Ok (es, last)) → input ≡ saved (table_with es)
-read_saved input es last h =
-    read_found input es last h
-    ∙ ap₂ (λ (n : ℕ) (fs : List (Key × EntryValue)). magic ++ (to_be_bytes w32 n ++ entries_bytes fs)) (sym (read_len input es last h)) (sym (read_entries input es last h))
+-- ---- what was saved
+
+-- the first form has no promises
+facts_plain : (input : List ℕ) (at next : ℕ) (e : EntryFacts) → facts_at First input at (Ok (e, next)) → e.cover.promise ≡ None
+facts_plain input at next e (goes_on kind a k (goes_on source b s (goes_on destination c d (goes_on end m n (goes_on promise p gives (goes_on runs l r gives)))))) = refl
+
+entry_plain : (input : List ℕ) (at next : ℕ) (e : EntryValue) → entry_at First input at (Ok (e, next)) → OnHeld (λ a. a.cover.promise ≡ None) e
+entry_plain input at next e (goes_on state n h (is_0 z gives)) = tt
+entry_plain input at next e (goes_on state n h (is_1 z (goes_on f m k gives))) = facts_plain input n m f k
+
+entries_plain : (input : List ℕ) (count : ℕ) (before : Option Key) (at next : ℕ) (es : List (Key × EntryValue)) → entries_at First input count before at (Ok (es, next)) → AllByRecursion (λ (e : Key × EntryValue). OnHeld (λ a. a.cover.promise ≡ None) e.1) es
+entries_plain input zero before at next es gives = tt
+entries_plain input (suc count) before at next es (goes_on key a k (goes_on e b h (goes_on fs c r gives))) =
+    (entry_plain input a b e h, entries_plain input count (Some key) b c fs r)
+
+found_as : (form : SavedForm) (input : List ℕ) (es : List (Key × EntryValue)) → maps.len (table_with es) ≡ length es → maps.entries (table_with es) ≡ es → input ≡ magic form ++ (to_be_bytes w32 (length es) ++ entries_bytes form es) → input ≡ saved_as form (table_with es)
+found_as form input es count same h =
+    h ∙ ap₂ (λ (n : ℕ) (fs : List (Key × EntryValue)). magic form ++ (to_be_bytes w32 n ++ entries_bytes form fs)) (sym count) (sym same)
+
+pub read_saved : (input : List ℕ) (es : List (Key × EntryValue)) (last : ℕ) → IsRead input (Ok (es, last)) → IsSaved input (table_with es)
+read_saved input es last h = let w = read_inside input es last h in by_form w.form w.entries w.bytes
+  where
+    by_form : (form : SavedForm) → entries_at form input (length es) None 8 (Ok (es, last)) → input ≡ magic form ++ (to_be_bytes w32 (length es) ++ entries_bytes form es) → IsSaved input (table_with es)
+    by_form Second r b = inl (found_as Second input es (read_len input es last h) (read_entries input es last h) b)
+    by_form First r b = inr (
+      found_as First input es (read_len input es last h) (read_entries input es last h) b,
+      λ k e f. found_in (OnHeld (λ a. a.cover.promise ≡ None)) es (entries_plain input (length es) None 8 last es r) k (Held e) (sym (maps.get-from_entries key_cmp_total es k) ∙ f),
+    )
 
 pub read_formed : (input : List ℕ) (es : List (Key × EntryValue)) (last : ℕ) → IsRead input (Ok (es, last)) → IsTable (table_with es)
 read_formed input es last h k e g =
-    found_in IsEntry es (entries_formed input (length es) None 8 last es (read_inside input es last h)) k e (sym (maps.get-from_entries key_cmp_total es k) ∙ g)
+    let w = read_inside input es last h in
+    found_in IsEntry es (entries_formed w.form input (length es) None 8 last es w.entries) k e (sym (maps.get-from_entries key_cmp_total es k) ∙ g)
 
 pub read_short : (input : List ℕ) (es : List (Key × EntryValue)) (last n : ℕ) → IsRead input (Ok (es, last)) → Decides (list_all (λ (e : Key × EntryValue). is_short n e.1) es) (AllShort n (table_with es))
 read_short input es last n h =

@@ -1,5 +1,5 @@
 -- A reading of saved bytes has one outcome.
-use Rattle.std.proofs.Common.{◌≡◌, ◌+◌, ◌<◌, ◌≤◌, ℕ, suc, zero, List, [], ◌∷◌, ◌++◌, length, Option, None, Some, Ok, Err, refl, sym, ap, subst, ◌∙◌, arith}
+use Rattle.std.proofs.Common.{◌≡◌, ◌+◌, ◌<◌, ◌≤◌, ℕ, suc, zero, List, [], ◌∷◌, ◌++◌, get_or, length, Option, None, Some, Ok, Err, refl, sym, ap, subst, ◌∙◌, arith}
 use Rattle.std.specs.Int.{w16, w32, to_be_bytes}
 use Rattle.nb_names.specs.declared.pointers.Pointers.TheVariants.{Refused}
 use Rattle.nb_names.specs.Labels.{StandsAt}
@@ -13,8 +13,11 @@ use Rattle.nb_datagram.specs.declared.key.Key.{Key}
 use Rattle.nb_datagram.specs.declared.kind.Kind.{Kind}
 use Rattle.nb_datagram.specs.Kind.{type_of, kind_of, kind_back}
 use Rattle.nb_table.specs.declared.load_fault.LoadFault.{LoadFault}
+use Rattle.nb_table.specs.declared.saved.form.SavedForm.{SavedForm}
+use Rattle.nb_table.specs.declared.saved.form.SavedForm.TheVariants.{First, Second}
+use Rattle.nb_table.specs.Saved.{magic}
 use Rattle.nb_table.specs.Slot.{Spoilt, Held}
-use Rattle.nb_table.specs.SavedReading.{Outcome, Gives, gives, Then, stops, goes_on, Field, cut, whole, Judged, good, bad, Marked, is_0, is_1, is_neither, byte_at, number_at, bytes_at, KeyAt, IsAfter, key_at, KindOf, known, unknown, kind_at, name_at, fault_of_name, stands, ill, end_at, start_at, size_at, run_at, row_at, runs_at, most_of, facts_at, entry_at, entries_at, table_at, IsRead, no_magic, after_magic}
+use Rattle.nb_table.specs.SavedReading.{Outcome, Gives, gives, Then, stops, goes_on, Field, cut, whole, Judged, good, bad, Marked, is_0, is_1, is_neither, byte_at, number_at, bytes_at, KeyAt, IsAfter, key_at, KindOf, known, unknown, kind_at, name_at, fault_of_name, stands, ill, end_at, IsBelowEnd, promise_at, start_at, size_at, run_at, row_at, runs_at, most_of, facts_at, entry_at, entries_at, table_at, IsRead, no_magic, after_magic}
 use Rattle.nb_table.specs.Runs.{run_end}
 
 -- ---- how readings are made
@@ -129,6 +132,14 @@ one_end input at =
     one_marked at mark (Gives None next) (Then (number_at input next) (λ end. Gives (Some end))) (one_gives None next)
     (one_then (number_at input next) (λ end. Gives (Some end)) (one_number input next) (λ end. one_gives (Some end))))
 
+one_promise : (form : SavedForm) (input : List ℕ) (end : Option ℕ) (at : ℕ) → IsOne (promise_at form input end at)
+one_promise First input end at = one_gives None at
+one_promise Second input end at =
+    one_then (byte_at input at) _ (one_byte input at) (λ mark next.
+    let judged : IsOne (Then (number_at input next) (Judged at (IsBelowEnd end))) = one_then (number_at input next) (Judged at (IsBelowEnd end)) (one_number input next) (λ promise after. one_judged at (IsBelowEnd end) promise after) in
+    one_marked at mark (Gives None next) (Then (Then (number_at input next) (Judged at (IsBelowEnd end))) (λ promise. Gives (Some promise))) (one_gives None next)
+    (one_then (Then (number_at input next) (Judged at (IsBelowEnd end))) (λ promise. Gives (Some promise)) judged (λ promise. one_gives (Some promise))))
+
 -- ---- runs
 
 one_start : (input : List ℕ) (least at : ℕ) → IsOne (start_at input least at)
@@ -154,35 +165,44 @@ one_runs input most at = one_then (number_at input at) _ (one_number input at) (
 
 -- ---- entries
 
-one_facts : (input : List ℕ) (at : ℕ) → IsOne (facts_at input at)
-one_facts input at =
+one_facts : (form : SavedForm) (input : List ℕ) (at : ℕ) → IsOne (facts_at form input at)
+one_facts form input at =
     one_then (kind_at input at) _ (one_kind input at) (λ kind a.
     one_then (name_at input a) _ (one_name_at input a) (λ source b.
     one_then (name_at input b) _ (one_name_at input b) (λ destination c.
     one_then (end_at input c) _ (one_end input c) (λ end d.
-    one_then (runs_at input (most_of end) d) _ (one_runs input (most_of end) d) (λ runs next. one_gives _ next)))))
+    one_then (promise_at form input end d) _ (one_promise form input end d) (λ promise e.
+    one_then (runs_at input (most_of end) e) _ (one_runs input (most_of end) e) (λ runs next. one_gives _ next))))))
 
-one_entry : (input : List ℕ) (at : ℕ) → IsOne (entry_at input at)
-one_entry input at =
+one_entry : (form : SavedForm) (input : List ℕ) (at : ℕ) → IsOne (entry_at form input at)
+one_entry form input at =
     one_then (byte_at input at) _ (one_byte input at) (λ state next.
-    one_marked at state (Gives Spoilt next) (Then (facts_at input next) (λ facts. Gives (Held facts))) (one_gives Spoilt next)
-    (one_then (facts_at input next) (λ facts. Gives (Held facts)) (one_facts input next) (λ facts. one_gives (Held facts))))
+    one_marked at state (Gives Spoilt next) (Then (facts_at form input next) (λ facts. Gives (Held facts))) (one_gives Spoilt next)
+    (one_then (facts_at form input next) (λ facts. Gives (Held facts)) (one_facts form input next) (λ facts. one_gives (Held facts))))
 
-pub one_entries : (input : List ℕ) (count : ℕ) (before : Option Key) (at : ℕ) → IsOne (entries_at input count before at)
-one_entries input zero before at = one_gives [] at
-one_entries input (suc count) before at =
+pub one_entries : (form : SavedForm) (input : List ℕ) (count : ℕ) (before : Option Key) (at : ℕ) → IsOne (entries_at form input count before at)
+one_entries form input zero before at = one_gives [] at
+one_entries form input (suc count) before at =
     one_then (key_at input before at) _ (one_key input before at) (λ key behind.
-    one_then (entry_at input behind) _ (one_entry input behind) (λ entry next.
-    one_then (entries_at input count (Some key) next) _ (one_entries input count (Some key) next) (λ entries last. one_gives _ last)))
+    one_then (entry_at form input behind) _ (one_entry form input behind) (λ entry next.
+    one_then (entries_at form input count (Some key) next) _ (one_entries form input count (Some key) next) (λ entries last. one_gives _ last)))
 
-one_table : (input : List ℕ) (at : ℕ) → IsOne (table_at input at)
-one_table input at =
+one_table : (form : SavedForm) (input : List ℕ) (at : ℕ) → IsOne (table_at form input at)
+one_table form input at =
     one_then (Field input at 4 (NumberAt input at w32)) _ (one_field input at 4 (NumberAt input at w32) (λ m n h k. one_number_32 input at m n h k)) (λ count next.
-    one_then (entries_at input count None next) _ (one_entries input count None next) (λ entries last.
+    one_then (entries_at form input count None next) _ (one_entries form input count None next) (λ entries last.
     one_judged last (λ all. length input ≤ last) entries last))
+
+-- an input has one form
+pub one_form : (input : List ℕ) (f g : SavedForm) → StandsAt input 0 (magic f) → StandsAt input 0 (magic g) → f ≡ g
+one_form input First First h k = refl
+one_form input Second Second h k = refl
+one_form input First Second h k = let same = stands_same input 0 (magic First) (magic Second) h k refl in absurd (omega (arith, ap (λ (r : List ℕ). get_or r 3 0) same))
+one_form input Second First h k = let same = stands_same input 0 (magic Second) (magic First) h k refl in absurd (omega (arith, ap (λ (r : List ℕ). get_or r 3 0) same))
 
 pub one_read : (input : List ℕ) → IsOne (IsRead input)
 one_read input o p (no_magic h) (no_magic k) = refl
-one_read input o p (no_magic h) (after_magic k t) = absurd (h k)
-one_read input o p (after_magic h t) (no_magic k) = absurd (k h)
-one_read input o p (after_magic h t) (after_magic k u) = one_table input 4 o p t u
+one_read input o p (no_magic h) (after_magic g k t) = absurd (h g k)
+one_read input o p (after_magic f h t) (no_magic k) = absurd (k f h)
+one_read input o p (after_magic f h t) (after_magic g k u) =
+    one_table g input 4 o p (subst (λ (form : SavedForm). table_at form input 4 o) (one_form input f g h k) t) u

@@ -5,6 +5,7 @@ use Rattle.std.proofs.lemmas.List.Folds.{list_all-append}
 use Rattle.std.specs.List.{list_all}
 use Rattle.nb_datagram.specs.declared.key.Key.{Key}
 use Rattle.nb_table.specs.declared.load_fault.LoadFault.{LoadFault}
+use Rattle.nb_table.specs.declared.saved.form.SavedForm.{SavedForm}
 use Rattle.nb_table.specs.Entry.{EntryValue}
 use Rattle.nb_table.specs.Code.Fitting.{is_short}
 use Rattle.nb_table.specs.Runs.{RunValue, run_end}
@@ -52,36 +53,36 @@ runs_moved input m n at o e h = subst (λ (k : ℕ). runs_at input k at o) e h
 -- ---- entries
 
 -- so many entries have been read of `total`, which begin at `at`: these; the next one stands at `here`
-pub record EntriesSoFar (input : List ℕ) (total at counter : ℕ) (before : Option Key) (here : ℕ) (done : List (Key × EntryValue)) : Type 0 where
-  pub fault : (left : ℕ) (f : LoadFault) → counter + left ≡ total → entries_at input left before here (Err f) → entries_at input total None at (Err f)
-  pub found : (left next : ℕ) (es : List (Key × EntryValue)) → counter + left ≡ total → entries_at input left before here (Ok (es, next)) → entries_at input total None at (Ok (done ++ es, next))
+pub record EntriesSoFar (form : SavedForm) (input : List ℕ) (total at counter : ℕ) (before : Option Key) (here : ℕ) (done : List (Key × EntryValue)) : Type 0 where
+  pub fault : (left : ℕ) (f : LoadFault) → counter + left ≡ total → entries_at form input left before here (Err f) → entries_at form input total None at (Err f)
+  pub found : (left next : ℕ) (es : List (Key × EntryValue)) → counter + left ≡ total → entries_at form input left before here (Ok (es, next)) → entries_at form input total None at (Ok (done ++ es, next))
 
-pub entries_begun : (input : List ℕ) (total at : ℕ) → EntriesSoFar input total at 0 None at []
-entries_begun input total at = record {
-  fault = λ left f e h. (let all : left ≡ total = omega (arith, e) in subst (λ (n : ℕ). entries_at input n None at (Err f)) all h);
-  found = λ left next es e h. (let all : left ≡ total = omega (arith, e) in subst (λ (n : ℕ). entries_at input n None at (Ok (es, next))) all h);
+pub entries_begun : (form : SavedForm) (input : List ℕ) (total at : ℕ) → EntriesSoFar form input total at 0 None at []
+entries_begun form input total at = record {
+  fault = λ left f e h. (let all : left ≡ total = omega (arith, e) in subst (λ (n : ℕ). entries_at form input n None at (Err f)) all h);
+  found = λ left next es e h. (let all : left ≡ total = omega (arith, e) in subst (λ (n : ℕ). entries_at form input n None at (Ok (es, next))) all h);
 }
 
-pub entries_turn : (input : List ℕ) (total at counter : ℕ) (before : Option Key) (here behind next : ℕ) (done : List (Key × EntryValue)) (k : Key) (v : EntryValue) → EntriesSoFar input total at counter before here done
-    → key_at input before here (Ok (k, behind)) → entry_at input behind (Ok (v, next)) → EntriesSoFar input total at (counter + 1) (Some k) next (done ++ (k, v) ∷ [])
-entries_turn input total at counter before here behind next done k v s g h = record {
+pub entries_turn : (form : SavedForm) (input : List ℕ) (total at counter : ℕ) (before : Option Key) (here behind next : ℕ) (done : List (Key × EntryValue)) (k : Key) (v : EntryValue) → EntriesSoFar form input total at counter before here done
+    → key_at input before here (Ok (k, behind)) → entry_at form input behind (Ok (v, next)) → EntriesSoFar form input total at (counter + 1) (Some k) next (done ++ (k, v) ∷ [])
+entries_turn form input total at counter before here behind next done k v s g h = record {
   fault = λ left f e r. s.fault (suc left) f (omega (arith, e)) (goes_on k behind g (goes_on v next h (stops f r)));
   found = λ left last es e r.
-      subst (λ (fs : List (Key × EntryValue)). entries_at input total None at (Ok (fs, last))) (sym (append_assoc done ((k, v) ∷ []) es))
+      subst (λ (fs : List (Key × EntryValue)). entries_at form input total None at (Ok (fs, last))) (sym (append_assoc done ((k, v) ∷ []) es))
       (s.found (suc left) last ((k, v) ∷ es) (omega (arith, e)) (goes_on k behind g (goes_on v next h (goes_on es last r gives))));
 }
 
-pub key_stopped : (input : List ℕ) (total at counter : ℕ) (before : Option Key) (here : ℕ) (done : List (Key × EntryValue)) (f : LoadFault) → EntriesSoFar input total at counter before here done → counter < total
-    → key_at input before here (Err f) → entries_at input total None at (Err f)
-key_stopped input total at counter before here done f s below h = s.fault (suc (total - (counter + 1))) f (omega arith) (stops f h)
+pub key_stopped : (form : SavedForm) (input : List ℕ) (total at counter : ℕ) (before : Option Key) (here : ℕ) (done : List (Key × EntryValue)) (f : LoadFault) → EntriesSoFar form input total at counter before here done → counter < total
+    → key_at input before here (Err f) → entries_at form input total None at (Err f)
+key_stopped form input total at counter before here done f s below h = s.fault (suc (total - (counter + 1))) f (omega arith) (stops f h)
 
-pub entry_stopped : (input : List ℕ) (total at counter : ℕ) (before : Option Key) (here behind : ℕ) (done : List (Key × EntryValue)) (k : Key) (f : LoadFault) → EntriesSoFar input total at counter before here done → counter < total
-    → key_at input before here (Ok (k, behind)) → entry_at input behind (Err f) → entries_at input total None at (Err f)
-entry_stopped input total at counter before here behind done k f s below g h = s.fault (suc (total - (counter + 1))) f (omega arith) (goes_on k behind g (stops f h))
+pub entry_stopped : (form : SavedForm) (input : List ℕ) (total at counter : ℕ) (before : Option Key) (here behind : ℕ) (done : List (Key × EntryValue)) (k : Key) (f : LoadFault) → EntriesSoFar form input total at counter before here done → counter < total
+    → key_at input before here (Ok (k, behind)) → entry_at form input behind (Err f) → entries_at form input total None at (Err f)
+entry_stopped form input total at counter before here behind done k f s below g h = s.fault (suc (total - (counter + 1))) f (omega arith) (goes_on k behind g (stops f h))
 
-pub entries_ended : (input : List ℕ) (total at counter : ℕ) (before : Option Key) (here : ℕ) (done : List (Key × EntryValue)) → EntriesSoFar input total at counter before here done → counter ≡ total → entries_at input total None at (Ok (done, here))
-entries_ended input total at counter before here done s all =
-    subst (λ (es : List (Key × EntryValue)). entries_at input total None at (Ok (es, here))) (append_none done) (s.found 0 here [] (omega (arith, all)) gives)
+pub entries_ended : (form : SavedForm) (input : List ℕ) (total at counter : ℕ) (before : Option Key) (here : ℕ) (done : List (Key × EntryValue)) → EntriesSoFar form input total at counter before here done → counter ≡ total → entries_at form input total None at (Ok (done, here))
+entries_ended form input total at counter before here done s all =
+    subst (λ (es : List (Key × EntryValue)). entries_at form input total None at (Ok (es, here))) (append_none done) (s.found 0 here [] (omega (arith, all)) gives)
 
 -- a test of all but the last, and of the last
 pub tested_more : (n : ℕ) (done : List (Key × EntryValue)) (k : Key) (v : EntryValue) → list_all (λ (e : Key × EntryValue). is_short n e.1) (done ++ (k, v) ∷ []) ≡ (list_all (λ (e : Key × EntryValue). is_short n e.1) done && is_short n v)

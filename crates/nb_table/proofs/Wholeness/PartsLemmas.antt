@@ -1,14 +1,14 @@
 -- Fragments that are parts of one datagram don't conflict, and what they say together is true of it.
-use Rattle.std.proofs.Common.{◌≡◌, ◌≤◌, ℕ, Contains, List, length, slice_get, Some, sym, ◌∙◌, arith}
+use Rattle.std.proofs.Common.{◌≡◌, ◌<◌, ◌≤◌, ℕ, Contains, List, length, slice_get, Some, sym, ◌∙◌, arith}
 use Rattle.std.proofs.lemmas.Option.{slice_get_within}
 use Rattle.nb_datagram.specs.Fragment.{Core, Covers, EndsAt, reach}
 use Rattle.nb_datagram.specs.Datagram.{DatagramParts}
 use Rattle.nb_datagram.specs.Pieces.{IsPart}
-use Rattle.nb_table.specs.Cover.{LiesBelow, cover_of}
-use Rattle.nb_table.specs.Conflict.{Conflict, kinds, sources, destinations, overlap, ends, past_end, past_other_end, IsSpoilt}
+use Rattle.nb_table.specs.Cover.{BytesBelow, cover_of}
+use Rattle.nb_table.specs.Conflict.{BreaksPromise, Conflict, kinds, sources, destinations, overlap, ends, past_end, past_other_end, breaks, breaks_other, IsSpoilt}
 use Rattle.nb_table.specs.Contents.{first_byte, first_end}
 use Rattle.nb_table.specs.Sender.{HasPartsAlone}
-use Rattle.nb_table.specs.Lemmas.SameLemmas.{not_lt}
+use Rattle.nb_table.specs.Lemmas.SameLemmas.{lt_is, not_lt}
 use Rattle.nb_table.proofs.Contents.FirstLemmas.{first_byte_from, first_end_from}
 use Rattle.nb_table.proofs.Conflict.ConflictLemmas.{covers}
 
@@ -27,13 +27,21 @@ parts_byte : (f g : Core) (d : DatagramParts) (i x y : ℕ) → IsPart f d → I
 parts_byte f g d i x y p q a b = let both : Some x ≡ Some y = sym (p.bytes i x a) ∙ q.bytes i y b in cc
 
 -- what a part covers is below where another ends
-parts_below : (f g : Core) (d : DatagramParts) (n : ℕ) → IsPart f d → IsPart g d → EndsAt f n → LiesBelow n (cover_of g)
-parts_below f g d n p q e = record {
-  bytes = λ i x c.
-      let here = part_ends f d n p e in
-      let inside = slice_get_within d.bytes i x (q.bytes i x (covers g i x c)) in
-      omega arith;
-}
+parts_below : (f g : Core) (d : DatagramParts) (n : ℕ) → IsPart f d → IsPart g d → EndsAt f n → BytesBelow n (cover_of g).bytes
+parts_below f g d n p q e i x c =
+    let here = part_ends f d n p e in
+    let inside = slice_get_within d.bytes i x (q.bytes i x (covers g i x c)) in
+    omega arith
+
+-- a part that promises reaches to a place below the end of the datagram, so that no part breaks its promise
+parts_kept : (f g : Core) (d : DatagramParts) → IsPart f d → IsPart g d → BreaksPromise f g → ⊥
+parts_kept f g d p q b =
+    let here = part_ends f d b.end p b.ends in
+    let promises = b.promises in
+    let short : reach g < length d.bytes = lt_is (reach g) (length d.bytes) (sym q.more ∙ promises.0) in
+    let reached = promises.1 in
+    let broken = b.broken in
+    omega (arith, here, short, reached, broken)
 
 -- two parts don't conflict
 parts_free : (f g : Core) (d : DatagramParts) → IsPart f d → IsPart g d → Conflict f g → ⊥
@@ -44,6 +52,8 @@ parts_free f g d p q (overlap o) = o.differs (parts_byte f g d o.place o.byte o.
 parts_free f g d p q (ends m n a b h) = h (part_ends f d m p a ∙ sym (part_ends g d n q b))
 parts_free f g d p q (past_end w) = w.past (parts_below f g d w.end p q w.ends)
 parts_free f g d p q (past_other_end w) = w.past (parts_below g f d w.end q p w.ends)
+parts_free f g d p q (breaks w) = parts_kept f g d p q w
+parts_free f g d p q (breaks_other w) = parts_kept g f d q p w
 
 pub parts_not_spoilt : (L : List Core) (d : DatagramParts) → HasPartsAlone L d → IsSpoilt L d.key → ⊥
 parts_not_spoilt L d h s =

@@ -1,13 +1,16 @@
 -- Covers agree by what look-ups find, and their union is one in the sense of SlotLemmas.
-use Rattle.std.proofs.Common.{◌≡◌, ◌⊎◌, inl, inr, ℕ, true, Option, Some, None, refl, sym, ◌∙◌, ap, subst, nat_lt, Decides}
+use Rattle.std.proofs.Common.{◌≡◌, ◌⊎◌, inl, inr, ℕ, arith, true, Option, Some, None, refl, sym, ◌∙◌, ap, subst, nat_lt, Decides}
 use Rattle.std.specs.Cmp.{nat_cmp_total}
+use Rattle.std.specs.Ordering.{nat_cmp}
 use Rattle.std.proofs.lemmas.Option.{none-some, same_Some}
 use Rattle.std.specs.FinMap as map
 use Rattle.std.specs.FinMap.{nat_cmp-IsAntisymmetric}
 use Rattle.nb_table.specs.Maps.{first_of}
-use Rattle.nb_table.specs.Cover.{CoverFacts, CoversFit, LiesBelow, lies_below, is_below_end, same_where, ends_agree, covers_agree, covers_together, AreCoverFacts}
+use Rattle.nb_table.specs.Cover.{CoverFacts, CoversFit, BytesBelow, LiesBelow, bytes_lie_below, lies_below, is_below_end, same_where, ends_agree, covers_agree, covers_together, AreCoverFacts}
 use Rattle.nb_table.specs.Lemmas.MapsLemmas.{and_left, and_right, and_both, get-union, all_entries_found, all_entries_from}
 use Rattle.nb_table.specs.Lemmas.SameLemmas.{eq_is, is_eq, lt_is, is_lt}
+use Rattle.nb_table.specs.Code.Places.{Holds}
+use Rattle.nb_table.specs.Lemmas.PromiseLemmas.{latest-comm, latest-assoc, latest-itself, latest_either, latest_left, latest_right, promised_adds, before_is, before_from}
 use Rattle.nb_table.specs.Lemmas.SlotLemmas.{Unites}
 
 same_at : (o : Option ℕ) (x y : ℕ) → same_where o x ≡ true → o ≡ Some y → x ≡ y
@@ -26,11 +29,17 @@ are_ends : (o p : Option ℕ) → ((m n : ℕ) → o ≡ Some m → p ≡ Some n
 are_ends None p h = refl
 are_ends (Some k) p h = at_same p k (λ y e. h k y refl e)
 
+pub bytes_below_decides : (n : ℕ) (m : map.FinMap nat_cmp ℕ) → Decides (bytes_lie_below n m) (BytesBelow n m)
+bytes_below_decides n m = (
+  λ h q x f. lt_is q n (all_entries_found nat_cmp-IsAntisymmetric (λ i _. nat_lt i n) m h q x f),
+  λ h. all_entries_from nat_cmp_total nat_cmp-IsAntisymmetric (λ i _. nat_lt i n) m (λ q x f. is_lt q n (h q x f)),
+)
+
 below_is : (n : ℕ) (c : CoverFacts) → lies_below n c ≡ true → LiesBelow n c
-below_is n c h = record { bytes = λ q x f. lt_is q n (all_entries_found nat_cmp-IsAntisymmetric (λ i _. nat_lt i n) c.bytes h q x f) }
+below_is n c h = record { bytes = (bytes_below_decides n c.bytes).0 (and_left _ _ h); promise = before_is c.promise n (and_right _ _ h) }
 
 is_below : (n : ℕ) (c : CoverFacts) → LiesBelow n c → lies_below n c ≡ true
-is_below n c h = all_entries_from nat_cmp_total nat_cmp-IsAntisymmetric (λ i _. nat_lt i n) c.bytes (λ q x f. is_lt q n (h.bytes q x f))
+is_below n c h = and_both _ _ ((bytes_below_decides n c.bytes).1 h.bytes) (before_from c.promise n h.promise)
 
 pub lies_below_decides : (n : ℕ) (c : CoverFacts) → Decides (lies_below n c) (LiesBelow n c)
 lies_below_decides n c = (below_is n c, is_below n c)
@@ -78,13 +87,25 @@ in_union a b q = get-union nat_cmp_total nat_cmp-IsAntisymmetric a.bytes b.bytes
 
 -- what lies below a place with the union of two does so each by itself, and the other way round
 below_left : (n : ℕ) (a b : CoverFacts) → LiesBelow n (covers_together a b) → LiesBelow n a
-below_left n a b h = record { bytes = λ q x g. h.bytes q x (in_union a b q ∙ first_left _ _ x g) }
+below_left n a b h = record {
+  bytes = λ q x g. h.bytes q x (in_union a b q ∙ first_left _ _ x g);
+  promise = λ r e. (let w = latest_left a.promise b.promise r e in let below = h.promise w.0 w.1 in let less = w.2 in omega (arith, below, less));
+}
 
 below_right : (n : ℕ) (a b : CoverFacts) → CoversFit a b → LiesBelow n (covers_together a b) → LiesBelow n b
-below_right n a b ab h = record { bytes = λ q x g. h.bytes q x (in_union a b q ∙ first_right _ _ (ab.bytes q) x g) }
+below_right n a b ab h = record {
+  bytes = λ q x g. h.bytes q x (in_union a b q ∙ first_right _ _ (ab.bytes q) x g);
+  promise = λ r e. (let w = latest_right a.promise b.promise r e in let below = h.promise w.0 w.1 in let less = w.2 in omega (arith, below, less));
+}
 
-pub below_both : (n : ℕ) (a b : CoverFacts) → LiesBelow n a → LiesBelow n b → LiesBelow n (covers_together a b)
-below_both n a b h k = record { bytes = λ q x g. elim (first_either _ _ x (sym (in_union a b q) ∙ g)) [ inl f ↦ h.bytes q x f | inr f ↦ k.bytes q x f ] }
+pub bytes_below_both : (n : ℕ) (a b : CoverFacts) → BytesBelow n a.bytes → BytesBelow n b.bytes → BytesBelow n (covers_together a b).bytes
+bytes_below_both n a b h k q x g = elim (first_either _ _ x (sym (in_union a b q) ∙ g)) [ inl f ↦ h q x f | inr f ↦ k q x f ]
+
+below_both : (n : ℕ) (a b : CoverFacts) → LiesBelow n a → LiesBelow n b → LiesBelow n (covers_together a b)
+below_both n a b h k = record {
+  bytes = bytes_below_both n a b h.bytes k.bytes;
+  promise = λ r e. elim (latest_either a.promise b.promise r e) [ inl f ↦ h.promise r f | inr f ↦ k.promise r f ];
+}
 
 pub fit_left : (a b c : CoverFacts) → CoversFit (covers_together a b) c → CoversFit a c
 fit_left a b c f = record {
@@ -121,8 +142,8 @@ fit_turned a b f = record {
 -- ---- the laws of the union
 
 -- covers with the same look-ups are one
-pub same_cover : (a b : CoverFacts) → ((q : ℕ) → map.get a.bytes q ≡ map.get b.bytes q) → a.end ≡ b.end → a ≡ b
-same_cover a b m e = let bytes = map.same_map nat_cmp_total nat_cmp-IsAntisymmetric a.bytes b.bytes m in λ i. record { bytes = bytes i; end = e i }
+pub same_cover : (a b : CoverFacts) → ((q : ℕ) → map.get a.bytes q ≡ map.get b.bytes q) → a.end ≡ b.end → a.promise ≡ b.promise → a ≡ b
+same_cover a b m e p = let bytes = map.same_map nat_cmp_total nat_cmp-IsAntisymmetric a.bytes b.bytes m in λ i. record { bytes = bytes i; end = e i; promise = p i }
 
 -- two that agree, either first
 either_first : (o p : Option ℕ) → ((m n : ℕ) → o ≡ Some m → p ≡ Some n → m ≡ n) → first_of o p ≡ first_of p o
@@ -140,7 +161,7 @@ first_itself None = refl
 first_itself (Some x) = refl
 
 pub together-comm : (a b : CoverFacts) → CoversFit a b → covers_together a b ≡ covers_together b a
-together-comm a b f = same_cover _ _ (λ q. in_union a b q ∙ either_first _ _ (f.bytes q) ∙ sym (in_union b a q)) (either_first _ _ f.ends)
+together-comm a b f = same_cover _ _ (λ q. in_union a b q ∙ either_first _ _ (f.bytes q) ∙ sym (in_union b a q)) (either_first _ _ f.ends) (latest-comm a.promise b.promise)
 
 together-assoc : (a b c : CoverFacts) → covers_together (covers_together a b) c ≡ covers_together a (covers_together b c)
 together-assoc a b c = same_cover _ _
@@ -148,9 +169,10 @@ together-assoc a b c = same_cover _ _
     ∙ first_of_three (map.get a.bytes q) (map.get b.bytes q) (map.get c.bytes q)
     ∙ sym (in_union a (covers_together b c) q ∙ ap (first_of (map.get a.bytes q)) (in_union b c q)))
     (first_of_three a.end b.end c.end)
+    (latest-assoc a.promise b.promise c.promise)
 
 together-idem : (a : CoverFacts) → covers_together a a ≡ a
-together-idem a = same_cover _ _ (λ q. in_union a a q ∙ first_itself (map.get a.bytes q)) (first_itself a.end)
+together-idem a = same_cover _ _ (λ q. in_union a a q ∙ first_itself (map.get a.bytes q)) (first_itself a.end) (latest-itself a.promise)
 
 pub covers_unite : Unites covers_agree covers_together
 covers_unite = record {
@@ -183,8 +205,8 @@ pub covers_agree_decides : (a b : CoverFacts) → Decides (covers_agree a b) (Co
 covers_agree_decides a b = (fit_of a b, agree_of a b)
 
 -- a union with facts that are held already adds nothing
-pub together_held : (a b : CoverFacts) → ((i x : ℕ) → map.get b.bytes i ≡ Some x → map.get a.bytes i ≡ Some x) → ((n : ℕ) → b.end ≡ Some n → a.end ≡ Some n) → covers_together a b ≡ a
-together_held a b bytes ends = same_cover _ _ (λ i. in_union a b i ∙ first_held (map.get a.bytes i) (map.get b.bytes i) (bytes i)) (first_held a.end b.end ends)
+pub together_held : (a b : CoverFacts) → Holds a b → covers_together a b ≡ a
+together_held a b h = same_cover _ _ (λ i. in_union a b i ∙ first_held (map.get a.bytes i) (map.get b.bytes i) (h.bytes i)) (first_held a.end b.end h.end) (promised_adds a.promise b.promise h.promise)
   where
     first_held : (o p : Option ℕ) → ((x : ℕ) → p ≡ Some x → o ≡ Some x) → first_of o p ≡ o
     first_held (Some x) p h = refl

@@ -1,9 +1,10 @@
 -- Entries agree where kinds and names are the same and covers agree, and their union is one in the sense
 -- of SlotLemmas.
-use Rattle.std.proofs.Common.{◌≡◌, ap, Decides, ℕ, cond, Some, true, refl, sym, ◌∙◌}
+use Rattle.std.proofs.Common.{◌≡◌, arith, ap, Decides, cond, true, refl, sym, ◌∙◌}
 use Rattle.std.specs.FinMap as maps
 use Rattle.nb_table.specs.Slot.{Spoilt, Held, OnHeld}
 use Rattle.nb_table.specs.Cover.{CoverValue, covers_agree, join_cover, IsCover}
+use Rattle.nb_table.specs.Code.Places.{Holds}
 use Rattle.nb_table.specs.Entry.{EntryFacts, FactsFit, EntryValue, facts_agree, facts_together, join_entry, AreEntryFacts, IsEntry}
 use Rattle.nb_names.specs.NameFacts.{name_eq_decides}
 use Rattle.nb_table.specs.Lemmas.MapsLemmas.{and_left, and_right, and_both}
@@ -104,21 +105,23 @@ facts_agree_decides a b = (facts_fit_of a b, facts_agree_of a b)
 
 -- an entry joined with facts that it has already is as it was
 pub join_held : (a b : EntryFacts) → AreEntryFacts a → a.kind ≡ b.kind → a.source ≡ b.source → a.destination ≡ b.destination →
-    ((i x : ℕ) → maps.get b.cover.bytes i ≡ Some x → maps.get a.cover.bytes i ≡ Some x) → ((n : ℕ) → b.cover.end ≡ Some n → a.cover.end ≡ Some n) →
-    join_entry (Held a) (Held b) ≡ Held a
-join_held a b formed kind source destination bytes ends =
+    Holds a.cover b.cover → join_entry (Held a) (Held b) ≡ Held a
+join_held a b formed kind source destination held =
     ap (λ p. cond p (Held (facts_together a b)) Spoilt) (facts_agree_of a b (record {
       kind = kind;
       source = source;
       destination = destination;
       cover = record {
-        bytes = λ i x y e f. one_value (maps.get a.cover.bytes i) x y e (bytes i y f);
-        ends = λ m n e f. one_value a.cover.end m n e (ends n f);
-        own_below = λ n e. formed n (ends n e);
-        other_below = λ n e. record { bytes = λ i x f. (formed n e).bytes i x (bytes i x f) };
+        bytes = λ i x y e f. one_value (maps.get a.cover.bytes i) x y e (held.bytes i y f);
+        ends = λ m n e f. one_value a.cover.end m n e (held.end n f);
+        own_below = λ n e. formed n (held.end n e);
+        other_below = λ n e. record {
+          bytes = λ i x f. (formed n e).bytes i x (held.bytes i x f);
+          promise = λ r f. (let w = held.promise r f in let below = (formed n e).promise w.0 w.1 in let less = w.2 in omega (arith, below, less));
+        };
       };
     }))
-    ∙ (λ i. Held (record { kind = a.kind; source = a.source; destination = a.destination; cover = together_held a.cover b.cover bytes ends i }))
+    ∙ (λ i. Held (record { kind = a.kind; source = a.source; destination = a.destination; cover = together_held a.cover b.cover held i }))
 
 -- ---- the laws of joins of covers and entries
 

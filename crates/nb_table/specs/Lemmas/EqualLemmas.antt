@@ -44,10 +44,13 @@ bytes_decide m n = (
 
 pub cover_facts_decide : (a b : CoverFacts) → Decides (same_cover_facts a b) (a ≡ b)
 cover_facts_decide a b = (
-  λ h. (let bytes = (bytes_decide a.bytes b.bytes).0 (and_left _ _ h) in
-      let end = (options_decide ◌==◌ numbers_decide a.end b.end).0 (and_right _ _ h) in
-      λ i. record { bytes = bytes i; end = end i }),
-  λ e. and_both _ _ ((bytes_decide a.bytes b.bytes).1 (ap (λ (c : CoverFacts). c.bytes) e)) ((options_decide ◌==◌ numbers_decide a.end b.end).1 (ap (λ (c : CoverFacts). c.end) e)),
+  λ h. (let bytes = (bytes_decide a.bytes b.bytes).0 (and_left _ _ h) in let t1 = and_right _ _ h in
+      let end = (options_decide ◌==◌ numbers_decide a.end b.end).0 (and_left _ _ t1) in
+      let promise = (options_decide ◌==◌ numbers_decide a.promise b.promise).0 (and_right _ _ t1) in
+      λ i. record { bytes = bytes i; end = end i; promise = promise i }),
+  λ e. and_both _ _ ((bytes_decide a.bytes b.bytes).1 (ap (λ (c : CoverFacts). c.bytes) e))
+      (and_both _ _ ((options_decide ◌==◌ numbers_decide a.end b.end).1 (ap (λ (c : CoverFacts). c.end) e))
+      ((options_decide ◌==◌ numbers_decide a.promise b.promise).1 (ap (λ (c : CoverFacts). c.promise) e))),
 )
 
 pub entry_facts_decide : (a b : EntryFacts) → Decides (same_entry_facts a b) (a ≡ b)

@@ -86,7 +86,7 @@ first_joined (Some x) (Some y) = refl
 pub get-union : {K X : Type 0} {R : K → K → Ordering} (o : IsTotalOrder R) (exact : map.IsAntisymmetric R) (m n : map.FinMap R X) (q : K) → map.get (union m n) q ≡ first_of (map.get m q) (map.get n q)
 get-union o exact m n q = get-joined o exact (λ x y. x) m n q ∙ first_joined (map.get m q) (map.get n q)
 
-at-comm : {X : Type 0} (f : X → X → X) → ((x y : X) → f x y ≡ f y x) → (a b : Option X) → joined_at f a b ≡ joined_at f b a
+pub at-comm : {X : Type 0} (f : X → X → X) → ((x y : X) → f x y ≡ f y x) → (a b : Option X) → joined_at f a b ≡ joined_at f b a
 at-comm f h None None = refl
 at-comm f h None (Some y) = refl
 at-comm f h (Some x) None = refl
@@ -110,7 +110,7 @@ joined-assoc o exact f h m n p = map.same_map o exact _ _ (λ q.
     ∙ at-assoc f h (map.get m q) (map.get n q) (map.get p q)
     ∙ sym (get-joined o exact f m (joined f n p) q ∙ ap (joined_at f (map.get m q)) (get-joined o exact f n p q)))
 
-at-idem : {X : Type 0} (f : X → X → X) (a : Option X) → ((x : X) → a ≡ Some x → f x x ≡ x) → joined_at f a a ≡ a
+pub at-idem : {X : Type 0} (f : X → X → X) (a : Option X) → ((x : X) → a ≡ Some x → f x x ≡ x) → joined_at f a a ≡ a
 at-idem f None h = refl
 at-idem f (Some x) h = ap Some (h x refl)
 

@@ -1,11 +1,16 @@
-//! The bytes that are known of a datagram's data, by place, and its end.
-ghost use Rattle.std.specs.Prelude.{◌≡◌, ◌↔◌, ◌&&◌, ℕ, IfOk, IsTrue, OnOk, OnErr, Some, length};
+//! The bytes that are known of a datagram's data, by place, its end, and the latest promise.
+ghost use Rattle.std.specs.Option.{option_eq};
+ghost use Rattle.std.specs.Prelude.{◌≡◌, ◌==◌, ◌↔◌, ◌&&◌, ℕ, IfOk, IsTrue, OnOk, OnErr, Some, length};
 ghost use Rattle.std.specs.FinMap as maps;
 ghost use Rattle.nb_datagram.specs.Fragment.{core_of};
-ghost use Rattle.nb_table.specs.Cover.{CoversFit, cover_of, covers_agree, covers_together, is_below_end};
+ghost use Rattle.nb_table.specs.Cover.{CoversFit, cover_of, covers_agree, covers_together, is_below_end, bytes_lie_below};
+ghost use Rattle.nb_table.specs.Cover.{is_before as promise_is_before};
+ghost use Rattle.nb_table.specs.Promise.{promise_of_one};
+ghost use Rattle.nb_table.specs.Promise.{latest as later_promise};
 ghost use Rattle.nb_table.specs.Cover.{ends_agree as same_ends};
 ghost use Rattle.nb_table.specs.Cover.{bytes_agree as same_bytes};
 ghost use Rattle.nb_table.specs.Code.Places.{Holds};
+ghost use Rattle.nb_table.specs.Code.Places.{is_promised as promised_already};
 ghost use Rattle.nb_table.specs.Runs.{runs_of_map};
 ghost use Rattle.nb_table.specs.Whole.{bytes_to, IsWholeCover};
 
@@ -19,13 +24,15 @@ use nb_names::{Bytes, NoMemory};
 use std::alloc::Global;
 use std::marker::Model;
 
-/// The bytes by place, and the end, if it is known. No byte lies at or past the end.
+/// The bytes by place, the end, if it is known, and the latest promise, if there is one. No byte
+/// lies at or past the end, and no promise.
 ///
 /// Places count from the first byte of the datagram's data.
 #[derive(Drop)]
 pub(crate) struct Places {
     bytes: Runs,
     end: Option<u32>,
+    promise: Option<u32>,
 }
 
 impl Model for Places {
@@ -36,9 +43,10 @@ impl Model for Places {
 
     ghost coded = { cover_facts_code };
 
-    ghost view = { λ p. record { bytes = p.bytes; end = p.end } };
+    ghost view = { λ p. record { bytes = p.bytes; end = p.end; promise = p.promise } };
 
-    ghost invariant = { λ p. AreCoverFacts (record { bytes = p.bytes; end = p.end }) };
+    ghost invariant = { λ p.
+        AreCoverFacts (record { bytes = p.bytes; end = p.end; promise = p.promise }) };
 }
 
 /// Where a fragment ends, if it does.
@@ -49,6 +57,49 @@ fn end_of(fragment: &Fragment<'_>) -> Option<u32>
         None
     } else {
         Some(fragment.reach())
+    }
+}
+
+/// The place at which, or after which, a fragment promises a byte, if it does.
+fn promise_of(fragment: &Fragment<'_>) -> Option<u32>
+    ensures { result ≡ promise_of_one (core_of fragment.now) }
+{
+    if fragment.has_more() {
+        Some(fragment.reach())
+    } else {
+        None
+    }
+}
+
+/// The later of two promises, or the one that there is.
+fn latest(promise: Option<u32>, other: Option<u32>) -> Option<u32>
+    ensures { result ≡ later_promise promise other }
+{
+    match (promise, other) {
+        (Some(promise), Some(other)) => Some(promise.max(other)),
+        (Some(promise), None) => Some(promise),
+        (None, other) => other,
+    }
+}
+
+/// Whether the other promise, if there is one, isn't later than this one.
+fn is_promised(promise: Option<u32>, other: Option<u32>) -> bool
+    ensures { result ≡ promised_already promise other }
+{
+    match (promise, other) {
+        (Some(promise), Some(other)) => other <= promise,
+        (None, Some(_)) => false,
+        (_, None) => true,
+    }
+}
+
+/// Whether the promise, if there is one, lies below the end.
+fn is_before(promise: Option<u32>, end: u32) -> bool
+    ensures { result ≡ promise_is_before promise end }
+{
+    match promise {
+        Some(promise) => promise < end,
+        None => true,
     }
 }
 
@@ -72,12 +123,19 @@ fn has_end(end: Option<u32>, other: Option<u32>) -> bool
     }
 }
 
-/// Whether each byte of a fragment lies below the end, if there is one.
+/// Whether each byte of a fragment lies below the end.
+fn bytes_are_below(fragment: &Fragment<'_>, end: u32) -> bool
+    ensures { result ≡ bytes_lie_below end (cover_of (core_of fragment.now)).bytes }
+{
+    fragment.bytes().is_empty() || fragment.reach() <= end
+}
+
+/// Whether each byte and the promise of a fragment lie below the end, if there is one.
 fn is_below(fragment: &Fragment<'_>, end: Option<u32>) -> bool
     ensures { result ≡ is_below_end end (cover_of (core_of fragment.now)) }
 {
     match end {
-        Some(end) => fragment.bytes().is_empty() || fragment.reach() <= end,
+        Some(end) => bytes_are_below(fragment, end) && is_before(promise_of(fragment), end),
         None => true,
     }
 }
@@ -89,16 +147,28 @@ impl Places {
     {
         let mut bytes = Runs::new(alloc);
         let end = end_of(fragment);
+        let promise = promise_of(fragment);
         bytes.put(alloc, u32::from(fragment.offset()), fragment.bytes())?;
-        Ok(Places { bytes, end })
+        Ok(Places {
+            bytes,
+            end,
+            promise,
+        })
     }
 
-    /// Whether each byte lies below the end, if there is one.
+    /// Whether each byte lies below this place.
+    fn bytes_are_below(&self, place: u32) -> bool
+        ensures { result ≡ bytes_lie_below place self.now.bytes }
+    {
+        self.bytes.lie_below(place)
+    }
+
+    /// Whether each byte and the promise lie below the end, if there is one.
     fn is_below(&self, end: Option<u32>) -> bool
         ensures { result ≡ is_below_end end self.now }
     {
         match end {
-            Some(end) => self.bytes.lie_below(end),
+            Some(end) => self.bytes_are_below(end) && is_before(self.promise, end),
             None => true,
         }
     }
@@ -143,7 +213,13 @@ impl Places {
     pub(crate) fn holds(&self, fragment: &Fragment<'_>) -> bool
         ensures { IsTrue result ↔ Holds self.now (cover_of (core_of fragment.now)) }
     {
-        has_end(self.end, end_of(fragment)) && self.holds_bytes(fragment)
+        if !has_end(self.end, end_of(fragment)) {
+            return false;
+        }
+        if !is_promised(self.promise, promise_of(fragment)) {
+            return false;
+        }
+        self.holds_bytes(fragment)
     }
 
     /// Adds what a fragment says, which doesn't contradict what is known. All memory is taken
@@ -157,6 +233,7 @@ impl Places {
         let start = u32::from(fragment.offset());
         self.bytes.put(alloc, start, fragment.bytes())?;
         self.end = self.end.or(end_of(fragment));
+        self.promise = latest(self.promise, promise_of(fragment));
         Ok(())
     }
 
@@ -196,6 +273,14 @@ impl Places {
         self.bytes.count()
     }
 
+    /// Whether the two have the same end and the same promise.
+    fn ends_like(&self, other: &Places) -> bool
+        ensures { result ≡ (option_eq ◌==◌ self.now.end other.now.end
+            && option_eq ◌==◌ self.now.promise other.now.promise) }
+    {
+        self.end == other.end && self.promise == other.promise
+    }
+
     /// Whether the end and each byte before it are known.
     pub(crate) fn is_whole(&self) -> bool
         ensures { IsTrue result ↔ IsWholeCover self.now }
@@ -216,6 +301,6 @@ impl PartialEq for Places {
     ghost laws = { cover_facts_per };
 
     fn eq(&self, other: &Self) -> bool {
-        self.bytes.are(&other.bytes) && self.end == other.end
+        self.bytes.are(&other.bytes) && self.ends_like(other)
     }
 }

@@ -147,7 +147,7 @@ impl Entry {
         Ok(datagram)
     }
 
-    /// Whether it is spoilt, or has its places below this one and ends at most there.
+    /// Whether it is spoilt, or has its places below this one and ends and promises at most there.
     pub(crate) fn is_short(&self, longest: u16) -> bool
         ensures { result ≡ is_short longest self.now }
     {

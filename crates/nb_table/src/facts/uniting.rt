@@ -2,7 +2,7 @@
 ghost use Rattle.std.specs.Prelude.{◌≡◌, ◌≤◌, ◌&&◌, cond, IfOk, MatchOption, Some, None};
 ghost use Rattle.nb_datagram.specs.Fragment.{has_more};
 ghost use Rattle.nb_table.specs.Slot.{Held};
-ghost use Rattle.nb_table.specs.Cover.{lies_below};
+ghost use Rattle.nb_table.specs.Cover.{bytes_lie_below};
 ghost use Rattle.nb_table.specs.Code.Fitting.{ends_by};
 ghost use Rattle.nb_table.specs.Code.Part.{IsPart};
 ghost use Rattle.nb_table.specs.Limits.{AreShort};
@@ -17,17 +17,32 @@ use nb_datagram::{Datagram, Fragment, Key};
 use nb_names::NoMemory;
 use std::alloc::Global;
 
-/// The flags of a fragment that reaches this far and says this of the end, if one can.
-fn flags_to(end: Option<u32>, reach: usize) -> Option<u8>
+/// The flags of a fragment that reaches this far and says just this of the end and the promise, if
+/// one can.
+fn flags_to(end: Option<u32>, promise: Option<u32>, reach: usize) -> Option<u8>
     ensures { MatchOption result (Unit {0})
-        (λ flags. (end ≡ cond (has_more flags) None (Some reach)) × (reach ≤ MAX_LENGTH)) }
+        (λ flags. (end ≡ cond (has_more flags) None (Some reach))
+        × (promise ≡ cond (has_more flags) (Some reach) None) × (reach ≤ MAX_LENGTH)) }
 {
     if reach > MAX_LENGTH {
         return None;
     }
-    match end {
-        None => Some(MORE),
-        Some(end) => { if end as usize == reach { Some(0) } else { None } }
+    match (end, promise) {
+        (None, Some(promise)) => {
+            if promise as usize == reach {
+                Some(MORE)
+            } else {
+                None
+            }
+        }
+        (Some(end), None) => {
+            if end as usize == reach {
+                Some(0)
+            } else {
+                None
+            }
+        }
+        _ => None,
     }
 }
 
@@ -74,10 +89,12 @@ impl Facts {
         self.with(places)
     }
 
-    /// Whether all places lie below this one, and the end, if it is known, is at most there.
+    /// Whether all places lie below this one, and the end and the promise, if there are any, are at
+    /// most there.
     pub(crate) fn is_short(&self, longest: u16) -> bool
         ensures { result
-            ≡ (lies_below longest self.now.cover && ends_by longest self.now.cover.end) }
+            ≡ (bytes_lie_below longest self.now.cover.bytes
+            && (ends_by longest self.now.cover.end && ends_by longest self.now.cover.promise)) }
     {
         self.places.is_short(u32::from(longest))
     }
@@ -101,7 +118,7 @@ impl Facts {
             return None;
         };
         let reach = usize::from(offset) + bytes.len();
-        let Some(flags) = flags_to(self.places.end(), reach) else {
+        let Some(flags) = flags_to(self.places.end(), self.places.promise(), reach) else {
             return None;
         };
         let source = self.parties.source().copied();

@@ -2,6 +2,7 @@
 ghost use Rattle.std.specs.Prelude.{◌≡◌, ◌↔◌, ◌≤◌, ℕ, List, Some, IsTrue};
 ghost use Rattle.nb_datagram.specs.declared.key.Key.{Key};
 ghost use Rattle.nb_datagram.specs.Fragment.{Core, Covers, EndsAt, byte_of, end_of_one};
+ghost use Rattle.nb_table.specs.Promise.{Promises, promise_of_one};
 ghost use Rattle.nb_table.specs.Cover.{CoverFacts, CoversFit, covers_agree};
 ghost use Rattle.nb_table.specs.Entry.{EntryFacts, FactsFit, facts_agree};
 ghost use Rattle.nb_table.specs.Conflict.{PastEnd, Conflict, IsSpoilt};
@@ -28,6 +29,17 @@ pub fn a_byte_at_an_end_conflicts()
     ensures { (f g : Core) (n x : ℕ) → EndsAt f n → Covers g n x → Conflict f g }
 {}
 
+/// A fragment has a promise exactly where it promises that place.
+pub fn promise_is_what_is_promised()
+    ensures { (f : Core) (r : ℕ) → (promise_of_one f ≡ Some r) ↔ Promises f r }
+{}
+
+/// A fragment that ends at the very place at which, or after which, another promises a byte
+/// contradicts it.
+pub fn an_end_at_a_promise_conflicts()
+    ensures { (f g : Core) (n : ℕ) → EndsAt f n → Promises g n → Conflict f g }
+{}
+
 /// Two fragments fail the test of agreement exactly where they contradict each other.
 pub fn conflict_test_is_the_relation()
     ensures { (f g : Core) → IsTrue (conflicts f g) ↔ Conflict f g }
@@ -39,7 +51,7 @@ pub fn spoilt_test_is_the_relation()
 {}
 
 /// Two covers pass the test of agreement exactly where they don't contradict each other at any
-/// place or end.
+/// place, end or promise.
 pub fn cover_agreement_is_the_relation()
     ensures { (a b : CoverFacts) → IsTrue (covers_agree a b) ↔ CoversFit a b }
 {}

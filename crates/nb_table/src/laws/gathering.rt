@@ -1,6 +1,6 @@
 //! The table of a list of fragments: what it has, and that order, repeats and cuts of the list make
 //! no difference.
-ghost use Rattle.std.specs.Prelude.{◌≡◌, ◌≢◌, ◌↔◌, ◌++◌, ℕ, Bool, List, reverse, Contains, Some, None};
+ghost use Rattle.std.specs.Prelude.{◌≡◌, ◌≢◌, ◌≤◌, ◌↔◌, ◌++◌, ℕ, Bool, List, reverse, Contains, Some, None};
 ghost use Rattle.std.specs.FinMap as maps;
 ghost use Rattle.nb_datagram.specs.declared.key.Key.{Key};
 ghost use Rattle.nb_datagram.specs.Fragment.{Core};
@@ -8,7 +8,7 @@ ghost use Rattle.nb_table.specs.Slot.{Spoilt, Held};
 ghost use Rattle.nb_table.specs.Entry.{EntryFacts};
 ghost use Rattle.nb_table.specs.Conflict.{IsSpoilt};
 ghost use Rattle.nb_table.specs.ConflictTests.{keyed};
-ghost use Rattle.nb_table.specs.Contents.{Contents, IsTableOf, HasByte, HasEnd, Says, table_of, entry_at};
+ghost use Rattle.nb_table.specs.Contents.{Contents, IsTableOf, HasByte, HasEnd, HasPromise, Says, table_of, entry_at};
 ghost use Rattle.nb_table.specs.Join.{join, IsTable, SameCores, without_key};
 
 /// A table has at each key the entry that its list has there.
@@ -28,8 +28,8 @@ pub fn table_is_spoilt_where_fragments_disagree()
 {}
 
 /// A table holds facts at a key exactly where the key isn't spoilt and they are what the list says
-/// of it: kind and names as its earliest fragment has them, all bytes by their places, and the end
-/// if one is known.
+/// of it: kind and names as its earliest fragment has them, all bytes by their places, the end
+/// if one is known, and the latest promise if there is one.
 pub fn table_holds_what_its_list_says()
     ensures { (L : List Core) (k : Key) (e : EntryFacts) →
         (maps.get (table_of L) k ≡ Some (Held e)) ↔ ((IsSpoilt L k → ⊥) × Says L k e) }
@@ -57,6 +57,14 @@ pub fn table_has_the_bytes_of_its_fragments()
 pub fn table_has_the_ends_of_its_fragments()
     ensures { (L : List Core) (k : Key) (e : EntryFacts) → maps.get (table_of L) k ≡ Some (Held e) →
         (n : ℕ) → (e.cover.end ≡ Some n) ↔ HasEnd L k n }
+{}
+
+/// Whatever the order of its fragments, an entry that isn't spoilt has as its promise the greatest
+/// place that some fragment of its key promises.
+pub fn table_has_the_latest_promise_of_its_fragments()
+    ensures { (L : List Core) (k : Key) (e : EntryFacts) → maps.get (table_of L) k ≡ Some (Held e) →
+        (r : ℕ) → (e.cover.promise ≡ Some r) ↔
+        (HasPromise L k r × ((s : ℕ) → HasPromise L k s → s ≤ r)) }
 {}
 
 /// The table of any list is well formed.

@@ -9,7 +9,7 @@ ghost use Rattle.nb_table.specs.Entry.{EntryValue};
 ghost use Rattle.nb_table.specs.Join.{IsTable};
 ghost use Rattle.nb_table.specs.LoadFaults.{IsReadAs};
 ghost use Rattle.nb_table.specs.Merging.{AllShort};
-ghost use Rattle.nb_table.specs.Saved.{saved};
+ghost use Rattle.nb_table.specs.Saved.{HasNoPromise, IsSaved, saved, saved_first};
 ghost use Rattle.nb_table.specs.SavedFits.{FitsSaved};
 ghost use Rattle.nb_table.specs.SavedReading.{Outcome, IsRead};
 
@@ -24,11 +24,12 @@ pub fn an_input_is_read_as_one_table()
     ensures { (input : List ℕ) (t u : Contents) → IsReadAs input t → IsReadAs input u → t ≡ u }
 {}
 
-/// An input of which a table is read is the saved bytes of that table.
+/// An input of which a table is read is the saved bytes of that table, in the second form or the
+/// first.
 pub fn what_is_read_is_saved()
     ensures bytes { (input : List ℕ) (entries : List (Key × EntryValue)) (last : ℕ) →
         IsRead input (Ok (entries, last)) →
-        input ≡ saved (maps.from_entries {R = key_cmp} entries) }
+        IsSaved input (maps.from_entries {R = key_cmp} entries) }
     ensures entries { (input : List ℕ) (entries : List (Key × EntryValue)) (last : ℕ) →
         IsRead input (Ok (entries, last)) →
         maps.entries (maps.from_entries {R = key_cmp} entries) ≡ entries }
@@ -41,4 +42,10 @@ pub fn what_is_read_is_saved()
 pub fn a_saved_table_is_read()
     ensures { (t : Contents) → FitsSaved t → IsTable t → AllShort MAX_LENGTH t →
         IsRead (saved t) (Ok (maps.entries t, length (saved t))) }
+{}
+
+/// The same holds of a table without promises that is saved in the first form.
+pub fn a_table_saved_in_the_first_form_is_read()
+    ensures { (t : Contents) → HasNoPromise t → FitsSaved t → IsTable t → AllShort MAX_LENGTH t →
+        IsRead (saved_first t) (Ok (maps.entries t, length (saved_first t))) }
 {}

@@ -5,11 +5,11 @@ ghost use Rattle.nb_datagram.specs.Key.{same_key};
 ghost use Rattle.nb_datagram.specs.Fragment.{core_of, cores_of};
 ghost use Rattle.nb_datagram.specs.Fragment.{byte_of as core_byte};
 ghost use Rattle.nb_datagram.specs.Fragment.{end_of_one as core_end};
-ghost use Rattle.nb_table.specs.Conflict.{Overlap, PastEnd, Conflict, IsSpoilt};
+ghost use Rattle.nb_table.specs.Conflict.{Overlap, PastEnd, BreaksPromise, Conflict, IsSpoilt};
 ghost use Rattle.nb_table.specs.ConflictTests.{conflicts, with_key};
 ghost use Rattle.nb_table.specs.Code.Plain.{differ, SameNames, SameHeader};
 
-use super::finding::{byte_of, end_of_one, has_key};
+use super::finding::{byte_of, end_of_one, has_key, promise_of_one};
 use nb_datagram::{Fragment, Key};
 
 /// Whether both fragments cover a place, with different bytes.
@@ -55,6 +55,17 @@ fn passes_end(one: &Fragment<'_>, other: &Fragment<'_>) -> bool
     }
 }
 
+/// Whether this fragment ends at or before the place at which, or after which, the other promises
+/// a byte.
+fn breaks_promise(one: &Fragment<'_>, other: &Fragment<'_>) -> bool
+    ensures { IsTrue result ↔ BreaksPromise (core_of one.now) (core_of other.now) }
+{
+    match (end_of_one(one), promise_of_one(other)) {
+        (Some(end), Some(promise)) => end <= promise,
+        _ => false,
+    }
+}
+
 /// Whether two fragments have the same names.
 fn same_names(one: &Fragment<'_>, other: &Fragment<'_>) -> bool
     ensures { IsTrue result ↔ SameNames (core_of one.now) (core_of other.now) }
@@ -85,7 +96,13 @@ fn conflict(one: &Fragment<'_>, other: &Fragment<'_>) -> bool
     if passes_end(one, other) {
         return true;
     }
-    passes_end(other, one)
+    if passes_end(other, one) {
+        return true;
+    }
+    if breaks_promise(one, other) {
+        return true;
+    }
+    breaks_promise(other, one)
 }
 
 /// Whether the other fragment has this key, and the two contradict each other.

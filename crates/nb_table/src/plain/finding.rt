@@ -1,11 +1,14 @@
-//! The first fragment of a key that covers a place, or that ends.
+//! The first fragment of a key that covers a place, or that ends, and what its fragments promise.
 ghost use Rattle.std.specs.Prelude.{◌≡◌, cond, None};
 ghost use Rattle.nb_datagram.specs.Key.{same_key};
 ghost use Rattle.nb_datagram.specs.Fragment.{core_of, cores_of};
 ghost use Rattle.nb_datagram.specs.Fragment.{byte_of as core_byte};
 ghost use Rattle.nb_datagram.specs.Fragment.{end_of_one as core_end};
+ghost use Rattle.nb_table.specs.Promise.{promise_of_one as core_promise};
 ghost use Rattle.nb_table.specs.Contents.{byte_at as list_byte};
 ghost use Rattle.nb_table.specs.Contents.{end_of as list_end};
+ghost use Rattle.nb_table.specs.Contents.{promise_of as list_promise};
+ghost use Rattle.nb_table.specs.Promise.{latest};
 
 use nb_datagram::{Fragment, Key};
 
@@ -35,6 +38,17 @@ pub(crate) fn end_of_one(fragment: &Fragment<'_>) -> Option<u32>
         None
     } else {
         Some(fragment.reach())
+    }
+}
+
+/// The place at which, or after which, a fragment promises a byte, if it does.
+pub(crate) fn promise_of_one(fragment: &Fragment<'_>) -> Option<u32>
+    ensures { result ≡ core_promise (core_of fragment.now) }
+{
+    if fragment.has_more() {
+        Some(fragment.reach())
+    } else {
+        None
     }
 }
 
@@ -84,4 +98,39 @@ pub fn end_of(fragments: &[Fragment<'_>], key: &Key) -> Option<u32>
         }
     }
     None
+}
+
+/// What a fragment with this key promises.
+fn promise_with(fragment: &Fragment<'_>, key: &Key) -> Option<u32>
+    ensures { result ≡ cond (same_key key.now fragment.now.key)
+        (core_promise (core_of fragment.now)) None }
+{
+    if has_key(fragment, key) {
+        promise_of_one(fragment)
+    } else {
+        None
+    }
+}
+
+/// The later of two promises, or the one that there is.
+fn later_of(promise: Option<u32>, other: Option<u32>) -> Option<u32>
+    ensures { result ≡ latest promise other }
+{
+    match (promise, other) {
+        (Some(promise), Some(other)) => Some(promise.max(other)),
+        (Some(promise), None) => Some(promise),
+        (None, other) => other,
+    }
+}
+
+/// The greatest of the places that fragments with this key promise: a byte follows there or after
+/// it.
+pub fn promise_of(fragments: &[Fragment<'_>], key: &Key) -> Option<u32>
+    ensures { result ≡ list_promise (cores_of fragments.now) key.now }
+{
+    let mut promise = None;
+    for fragment in fragments {
+        promise = later_of(promise, promise_with(fragment, key));
+    }
+    promise
 }

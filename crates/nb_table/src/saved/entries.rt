@@ -7,11 +7,13 @@ ghost use Rattle.nb_datagram.specs.Key.{key_cmp};
 ghost use Rattle.nb_table.specs.Code.Fitting.{is_short as is_short_entry};
 ghost use Rattle.nb_table.specs.Code.SavedTables.{AreJudged, AreKept, HasNames};
 ghost use Rattle.nb_table.specs.Saved.{entries_bytes};
+ghost use Rattle.nb_table.specs.declared.saved.form.SavedForm.TheVariants.{Second};
 ghost use Rattle.nb_table.specs.SavedReading.{entries_at};
 ghost use Rattle.nb_table.specs.declared.load_fault.LoadFault.TheVariants.{NoMemory as no_memory};
 
 use super::facts::{SavedEntry, read_entry};
 use super::fields::{push_key, read_key};
+use super::form::SavedForm;
 use crate::entry::Entry;
 use crate::load_fault::LoadFault;
 use nb_datagram::Key;
@@ -29,20 +31,21 @@ fn still_short(so_far: bool, entry: &SavedEntry<'_>, limit: u16) -> bool
 /// Whether no entry passes the limit, of this many with their keys from an offset on, and the
 /// offset after them.
 pub(crate) fn judge_entries(
+    form: SavedForm,
     input: &[u8],
     count: u32,
     limit: u16,
     at: usize,
 ) -> Result<(bool, usize), LoadFault>
-    ensures found { IfOk result (λ read. AreJudged input.now count limit at read.0 read.1) }
-    ensures fault { IfErr result (λ fault. entries_at input.now count None at (Err fault)) }
+    ensures found { IfOk result (λ read. AreJudged form input.now count limit at read.0 read.1) }
+    ensures fault { IfErr result (λ fault. entries_at form input.now count None at (Err fault)) }
 {
     let mut before = None;
     let mut here = at;
     let mut is_short = true;
     for _ in 0..count {
         let (key, after) = read_key(input, before, here)?;
-        let (entry, next) = read_entry(input, after)?;
+        let (entry, next) = read_entry(form, input, after)?;
         is_short = still_short(is_short, &entry, limit);
         before = Some(key);
         here = next;
@@ -62,20 +65,21 @@ fn keep(map: &mut BTreeMap<Key, Entry>, key: Key, entry: Entry) -> Result<(), No
 /// This many entries with their keys, from an offset on.
 pub(crate) fn load_entries(
     alloc: Global,
+    form: SavedForm,
     input: &[u8],
     count: u32,
     at: usize,
 ) -> Result<BTreeMap<Key, Entry>, LoadFault>
-    ensures kept { IfOk result (λ map. AreKept input.now count at map.entries) }
+    ensures kept { IfOk result (λ map. AreKept form input.now count at map.entries) }
     ensures fault { IfErr result (λ fault.
-        (fault ≡ no_memory) ⊎ entries_at input.now count None at (Err fault)) }
+        (fault ≡ no_memory) ⊎ entries_at form input.now count None at (Err fault)) }
 {
     let mut map = BTreeMap::new(alloc);
     let mut before = None;
     let mut here = at;
     for _ in 0..count {
         let (key, after) = read_key(input, before, here)?;
-        let (entry, next) = read_entry(input, after)?;
+        let (entry, next) = read_entry(form, input, after)?;
         keep(&mut map, key, entry.load(alloc)?)?;
         before = Some(key);
         here = next;
@@ -90,7 +94,7 @@ pub(crate) fn push_entries(
     entries: &BTreeMap<Key, Entry>,
 ) -> Result<(), NoMemory>
     ensures value { OnOk result
-        (saved.new.items ≡ saved.old.items ++ entries_bytes entries.now.entries) }
+        (saved.new.items ≡ saved.old.items ++ entries_bytes Second entries.now.entries) }
     ensures named { OnOk result (AllByRecursion HasNames entries.now.entries) }
     ensures ordered { IsOrdered key_cmp entries.now }
 {

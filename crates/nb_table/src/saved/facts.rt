@@ -7,8 +7,10 @@ ghost use Rattle.nb_table.specs.SavedFits.{IsNamed};
 ghost use Rattle.nb_table.specs.SavedReading.{facts_at, entry_at};
 ghost use Rattle.nb_table.specs.SavedReading.{most_of as most_reading};
 ghost use Rattle.nb_table.specs.Slot.{Held, OnHeld};
+ghost use Rattle.nb_table.specs.declared.saved.form.SavedForm.TheVariants.{Second};
 
-use super::fields::{read_byte, read_end, read_kind, read_plain_name};
+use super::fields::{read_byte, read_end, read_kind, read_plain_name, read_promise};
+use super::form::SavedForm;
 use super::runs::{SavedRuns, read_runs};
 use crate::cover::Places;
 use crate::entry::Entry;
@@ -27,6 +29,7 @@ struct SavedFacts<'a> {
     source: Name,
     destination: Name,
     end: Option<u32>,
+    promise: Option<u32>,
     runs: SavedRuns<'a>,
 }
 
@@ -44,11 +47,11 @@ impl<'a> Model for SavedFacts<'a> {
       kind = f.kind;
       source = f.source;
       destination = f.destination;
-      cover = record { bytes = map_of_runs f.runs; end = f.end };
+      cover = record { bytes = map_of_runs f.runs; end = f.end; promise = f.promise };
     } };
 
     ghost invariant = { λ f.
-        AreCoverFacts (record { bytes = map_of_runs f.runs; end = f.end }) };
+        AreCoverFacts (record { bytes = map_of_runs f.runs; end = f.end; promise = f.promise }) };
 }
 
 /// The place that no run passes: the end, where it is known.
@@ -61,7 +64,7 @@ fn most_of(end: Option<u32>) -> u32
     }
 }
 
-/// Whether the end, if it is known, is at most the limit.
+/// Whether the end or the promise, if there is one, is at most the limit.
 fn ends_by(limit: u16, end: Option<u32>) -> bool
     ensures { result ≡ ends_at_most limit end }
 {
@@ -72,37 +75,43 @@ fn ends_by(limit: u16, end: Option<u32>) -> bool
 }
 
 /// What is held by the entry at an offset.
-fn read_facts<'a>(input: &'a [u8], at: usize) -> Result<(SavedFacts<'a>, usize), LoadFault>
-    ensures { facts_at input.now at result }
+fn read_facts<'a>(
+    form: SavedForm,
+    input: &'a [u8],
+    at: usize,
+) -> Result<(SavedFacts<'a>, usize), LoadFault>
+    ensures { facts_at form input.now at result }
 {
     let (kind, after_kind) = read_kind(input, at)?;
     let (source, after_source) = read_plain_name(input, after_kind)?;
     let (destination, after_names) = read_plain_name(input, after_source)?;
     let (end, after_end) = read_end(input, after_names)?;
-    let (runs, next) = read_runs(input, most_of(end), after_end)?;
+    let (promise, after_promise) = read_promise(form, input, end, after_end)?;
+    let (runs, next) = read_runs(input, most_of(end), after_promise)?;
     let facts = SavedFacts {
         kind,
         source,
         destination,
         end,
+        promise,
         runs,
     };
     Ok((facts, next))
 }
 
 impl<'a> SavedFacts<'a> {
-    /// Whether no run and no end passes the limit.
+    /// Whether no run, no end and no promise passes the limit.
     fn is_short(&self, limit: u16) -> bool
         ensures { result ≡ is_short_entry limit (Held self.now) }
     {
-        self.runs.are_short(limit) && ends_by(limit, self.end)
+        self.runs.are_short(limit) && ends_by(limit, self.end) && ends_by(limit, self.promise)
     }
 
     /// The facts, kept.
     fn load(&self, alloc: Global) -> Result<Facts, NoMemory>
         ensures { IfOk result (λ facts. facts ≡ self.now) }
     {
-        let places = Places::load(alloc, &self.runs, self.end)?;
+        let places = Places::load(alloc, &self.runs, self.end, self.promise)?;
         Facts::new(alloc, self.kind, &self.source, &self.destination, places)
     }
 }
@@ -110,7 +119,8 @@ impl<'a> SavedFacts<'a> {
 impl Facts {
     /// Adds the kind, both names and the cover after the bytes.
     pub(crate) fn save(&self, alloc: Global, saved: &mut Vec<u8>) -> Result<(), NoMemory>
-        ensures value { OnOk result (saved.new.items ≡ saved.old.items ++ facts_bytes self.now) }
+        ensures value { OnOk result
+            (saved.new.items ≡ saved.old.items ++ facts_bytes Second self.now) }
         ensures named { IsNamed self.now }
     {
         // For the clause `named`; the calls do nothing.
@@ -142,16 +152,17 @@ impl<'a> Model for SavedEntry<'a> {
 
 /// The entry at an offset.
 pub(crate) fn read_entry<'a>(
+    form: SavedForm,
     input: &'a [u8],
     at: usize,
 ) -> Result<(SavedEntry<'a>, usize), LoadFault>
-    ensures { entry_at input.now at result }
+    ensures { entry_at form input.now at result }
 {
     let (state, next) = read_byte(input, at)?;
     match state {
         0 => Ok((SavedEntry { facts: None }, next)),
         1 => {
-            let (facts, after) = read_facts(input, next)?;
+            let (facts, after) = read_facts(form, input, next)?;
             Ok((SavedEntry { facts: Some(facts) }, after))
         }
         _ => Err(LoadFault::NotCanonical(at)),
@@ -159,7 +170,7 @@ pub(crate) fn read_entry<'a>(
 }
 
 impl<'a> SavedEntry<'a> {
-    /// Whether the entry is spoilt, or no run and no end of it passes the limit.
+    /// Whether the entry is spoilt, or no run, no end and no promise of it passes the limit.
     pub(crate) fn is_short(&self, limit: u16) -> bool
         ensures { result ≡ is_short_entry limit self.now }
     {
@@ -183,7 +194,8 @@ impl<'a> SavedEntry<'a> {
 impl Entry {
     /// Adds after the bytes whether the entry is held, and what is.
     pub(crate) fn save(&self, alloc: Global, saved: &mut Vec<u8>) -> Result<(), NoMemory>
-        ensures value { OnOk result (saved.new.items ≡ saved.old.items ++ entry_bytes self.now) }
+        ensures value { OnOk result
+            (saved.new.items ≡ saved.old.items ++ entry_bytes Second self.now) }
         ensures named { OnOk result (OnHeld IsNamed self.now) }
     {
         match &self.facts {

@@ -4,7 +4,7 @@ ghost use Rattle.std.specs.Int.{w16, w32, to_be_bytes};
 ghost use Rattle.nb_names.specs.Numbers.{NumberAt};
 ghost use Rattle.nb_datagram.specs.Header.{IsKey};
 ghost use Rattle.nb_table.specs.Saved.{end_bytes, key_bytes};
-ghost use Rattle.nb_table.specs.SavedReading.{Field, KeyAt, IsAfter, fault_of_name};
+ghost use Rattle.nb_table.specs.SavedReading.{Field, Then, Judged, KeyAt, IsAfter, IsBelowEnd, fault_of_name};
 ghost use Rattle.nb_table.specs.SavedReading.{byte_at as byte_reading};
 ghost use Rattle.nb_table.specs.SavedReading.{number_at as number_reading};
 ghost use Rattle.nb_table.specs.SavedReading.{bytes_at as bytes_reading};
@@ -12,7 +12,10 @@ ghost use Rattle.nb_table.specs.SavedReading.{key_at as key_reading};
 ghost use Rattle.nb_table.specs.SavedReading.{kind_at as kind_reading};
 ghost use Rattle.nb_table.specs.SavedReading.{name_at as name_reading};
 ghost use Rattle.nb_table.specs.SavedReading.{end_at as end_reading};
+ghost use Rattle.nb_table.specs.SavedReading.{promise_at as promise_reading};
+ghost use Rattle.nb_table.specs.declared.saved.form.SavedForm.TheVariants.{Second};
 
+use super::form::SavedForm;
 use crate::load_fault::LoadFault;
 use nb_datagram::{Key, Kind};
 use nb_names::numbers::{number_16, number_32};
@@ -180,7 +183,69 @@ pub(crate) fn read_end(input: &[u8], at: usize) -> Result<(Option<u32>, usize), 
     }
 }
 
-/// Adds an end after the bytes, or that none is known.
+/// Whether the promise lies below the end, if that is known.
+fn is_below_end(end: Option<u32>, promise: u32) -> bool
+    ensures { IsTrue result ↔ IsBelowEnd end promise }
+{
+    match end {
+        Some(end) => promise < end,
+        None => true,
+    }
+}
+
+/// The promise in the two bytes at an offset, which has to lie below the end. Its mark stands at
+/// the other offset.
+fn read_promised(
+    input: &[u8],
+    end: Option<u32>,
+    mark: usize,
+    at: usize,
+) -> Result<(u32, usize), LoadFault>
+    ensures { Then (number_reading input.now at) (Judged mark (IsBelowEnd end)) result }
+{
+    let (number, after) = read_number(input, at)?;
+    let promise = u32::from(number);
+    if !is_below_end(end, promise) {
+        return Err(LoadFault::NotCanonical(mark));
+    }
+    Ok((promise, after))
+}
+
+/// The promise at an offset, if there is one, in the form that has it.
+fn read_marked_promise(
+    input: &[u8],
+    end: Option<u32>,
+    at: usize,
+) -> Result<(Option<u32>, usize), LoadFault>
+    ensures { promise_reading Second input.now end at result }
+{
+    let (mark, next) = read_byte(input, at)?;
+    match mark {
+        0 => Ok((None, next)),
+        1 => {
+            let (promise, after) = read_promised(input, end, at, next)?;
+            Ok((Some(promise), after))
+        }
+        _ => Err(LoadFault::NotCanonical(at)),
+    }
+}
+
+/// The promise at an offset, if there is one. The first form has no such field.
+pub(crate) fn read_promise(
+    form: SavedForm,
+    input: &[u8],
+    end: Option<u32>,
+    at: usize,
+) -> Result<(Option<u32>, usize), LoadFault>
+    ensures { promise_reading form input.now end at result }
+{
+    match form {
+        SavedForm::First => Ok((None, at)),
+        SavedForm::Second => read_marked_promise(input, end, at),
+    }
+}
+
+/// Adds an end or a promise after the bytes, or that there is none.
 pub(crate) fn push_end(saved: &mut Vec<u8>, end: Option<u32>) -> Result<(), NoMemory>
     ensures { OnOk result (saved.new.items ≡ saved.old.items ++ end_bytes end) }
 {

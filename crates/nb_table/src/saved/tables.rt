@@ -1,14 +1,18 @@
-//! Whole saved tables: "NBT1", the number of keys, and the keys with their entries.
+//! Whole saved tables: what their form begins with, the number of keys, and the keys with their
+//! entries.
 ghost use Rattle.std.specs.Prelude.{◌≡◌, IfOk, IfErr, OnOk};
 ghost use Rattle.std.specs.List.{AllByRecursion};
 ghost use Rattle.std.specs.FinMap as maps;
 ghost use Rattle.nb_datagram.specs.Key.{key_cmp};
 ghost use Rattle.nb_table.specs.Code.SavedTables.{HasNames, IsJudged};
+ghost use Rattle.nb_names.specs.Labels.{StandsAt};
+ghost use Rattle.nb_table.specs.Saved.{magic};
 ghost use Rattle.nb_table.specs.Saved.{saved as saved_bytes};
 ghost use Rattle.nb_table.specs.SavedReading.{IsRead};
 
 use super::entries::{judge_entries, push_entries};
 use super::fields::read_count;
+use super::form::SavedForm;
 use crate::entry::Entry;
 use crate::load_fault::LoadFault;
 use nb_datagram::Key;
@@ -16,16 +20,29 @@ use nb_names::{Bytes, NoMemory};
 use std::alloc::Global;
 use std::collections::BTreeMap;
 
-/// How many keys a saved table has, and whether no entry passes the limit. No memory is taken.
-pub(crate) fn judge(input: &[u8], limit: u16) -> Result<(u32, bool), LoadFault>
+/// The form that a saved table begins with.
+pub(crate) fn form_of(input: &[u8]) -> Result<SavedForm, LoadFault>
+    ensures found { IfOk result (λ form. StandsAt input.now 0 (magic form)) }
+    ensures fault { IfErr result (λ fault. IsRead input.now (Err fault)) }
+{
+    if input.starts_with(b"NBT2") {
+        return Ok(SavedForm::Second);
+    }
+    if input.starts_with(b"NBT1") {
+        return Ok(SavedForm::First);
+    }
+    Err(LoadFault::BadMagic)
+}
+
+/// How many keys a saved table of this form has, and whether no entry passes the limit. No memory
+/// is taken.
+pub(crate) fn judge(form: SavedForm, input: &[u8], limit: u16) -> Result<(u32, bool), LoadFault>
+    requires { StandsAt input.now 0 (magic form) }
     ensures found { IfOk result (λ read. IsJudged input.now limit read.0 read.1) }
     ensures fault { IfErr result (λ fault. IsRead input.now (Err fault)) }
 {
-    if !input.starts_with(b"NBT1") {
-        return Err(LoadFault::BadMagic);
-    }
     let (count, first) = read_count(input, 4)?;
-    let (is_short, last) = judge_entries(input, count, limit, first)?;
+    let (is_short, last) = judge_entries(form, input, count, limit, first)?;
     if last < input.len() {
         return Err(LoadFault::NotCanonical(last));
     }
@@ -40,7 +57,7 @@ pub(crate) fn save_entries(alloc: Global, entries: &BTreeMap<Key, Entry>) -> Res
         (maps.entries (maps.from_entries {R = key_cmp} entries.now.entries))) }
 {
     let mut saved = Vec::new(alloc);
-    saved.extend_from_slice(b"NBT1")?;
+    saved.extend_from_slice(b"NBT2")?;
     let count = (entries.len() as u64).to_be_bytes();
     saved.extend_from_slice(&[count[4], count[5], count[6], count[7]])?;
     push_entries(alloc, &mut saved, entries)?;

@@ -14,7 +14,8 @@ use crate::fault::TableFault;
 use nb_datagram::Key;
 use std::collections::BTreeMap;
 
-/// Whether each entry is spoilt, or has its places below this one and ends at most there.
+/// Whether each entry is spoilt, or has its places below this one and ends and promises at most
+/// there.
 fn are_short(entries: &BTreeMap<Key, Entry>, longest: u16) -> bool
     ensures value { result ≡ list_all (λ e. is_short longest e.1) entries.now.entries }
     ensures ordered { IsOrdered key_cmp entries.now }
@@ -73,9 +74,9 @@ impl Table {
     /// # Errors
     ///
     /// `TooLong` where an entry of the other that isn't spoilt has a byte at or past this table's
-    /// limit for a datagram, or ends past it. Else `Full` with the least key that doesn't fit: the
-    /// first of the other's keys that are new here, ascending, at which as many keys are held as
-    /// may be. There is no other.
+    /// limit for a datagram, or ends or promises past it. Else `Full` with the least key that
+    /// doesn't fit: the first of the other's keys that are new here, ascending, at which as many
+    /// keys are held as may be. There is no other.
     pub fn fits(&self, other: &Table) -> Result<(), TableFault>
         ensures fits { OnOk result (Fits self.now.limits self.now.contents other.now.contents) }
         ensures fault { IfErr result (IsRefused self.now.limits self.now.contents

@@ -1,34 +1,35 @@
 //! Tables, loaded.
 ghost use Rattle.std.specs.Prelude.{◌≡◌, ℕ, Err, IfOk, IfErr};
 ghost use Rattle.nb_table.specs.LoadFaults.{IsReadAs, LoadFails};
-ghost use Rattle.nb_table.specs.Saved.{saved};
+ghost use Rattle.nb_table.specs.Saved.{IsSaved};
 ghost use Rattle.nb_table.specs.SavedReading.{IsRead};
 ghost use Rattle.nb_table.specs.declared.load_fault.LoadFault.{LoadFault};
 
 use super::Table;
 use crate::load_fault::LoadFault;
 use crate::saved::entries::load_entries;
-use crate::saved::tables::judge;
+use crate::saved::tables::{form_of, judge};
 use std::alloc::Global;
 
 /// The table whose saved bytes these are, with these limits: how many keys it may hold, and how
 /// many bytes a datagram may have.
 ///
-/// The bytes are those that [`Table::save`] gives for the table, and no others. No memory is taken
-/// before all of the input and the limits are judged.
+/// The bytes are those that [`Table::save`] gives for the table, and no others but those of the
+/// first form, for a table without promises: that form begins with "NBT1", and lacks the field for
+/// the promise. No memory is taken before all of the input and the limits are judged.
 ///
 /// # Errors
 ///
-/// `BadMagic` where the bytes don't begin with "NBT1". Then what is met first from the front to the
-/// end of the input, a field being judged before the next one is asked for: `Truncated` where
-/// a field that has to follow is missing or cut off; `NotCanonical` with the offset of what no
-/// saved table has there. Then `TooLong` where an entry that isn't spoilt has a byte or an end past
-/// the longest datagram; `Full` where there are more keys than may be held; `NoMemory` where memory
-/// ran out. The form is our choice.
+/// `BadMagic` where the bytes begin with neither "NBT2" nor "NBT1". Then what is met first from the
+/// front to the end of the input, a field being judged before the next one is asked for:
+/// `Truncated` where a field that has to follow is missing or cut off; `NotCanonical` with the
+/// offset of what no saved table has there. Then `TooLong` where an entry that isn't spoilt has
+/// a byte, an end or a promise past the longest datagram; `Full` where there are more keys than may
+/// be held; `NoMemory` where memory ran out. The form is our choice.
 pub fn load(alloc: Global, input: &[u8], keys: u32, longest: u16) -> Result<Table, LoadFault>
-    // What is loaded is the table that stands there, and these are its saved bytes.
+    // What is loaded is the table that stands there, and these are its bytes, saved.
     ensures found { IfOk result (λ table. IsReadAs input.now table.contents) }
-    ensures bytes { IfOk result (λ table. input.now ≡ saved table.contents) }
+    ensures bytes { IfOk result (λ table. IsSaved input.now table.contents) }
     ensures limits { IfOk result (λ table.
         table.limits ≡ record { keys = keys; longest = longest }) }
 
@@ -37,14 +38,15 @@ pub fn load(alloc: Global, input: &[u8], keys: u32, longest: u16) -> Result<Tabl
         (LoadFails input.now (record { keys = keys; longest = longest })) }
     ensures only { (fault : LoadFault) → IsRead input.now (Err fault) → result ≡ Err fault }
 {
-    let (count, is_short) = judge(input, longest)?;
+    let form = form_of(input)?;
+    let (count, is_short) = judge(form, input, longest)?;
     if !is_short {
         return Err(LoadFault::TooLong);
     }
     if count > keys {
         return Err(LoadFault::Full);
     }
-    let entries = load_entries(alloc, input, count, 8)?;
+    let entries = load_entries(alloc, form, input, count, 8)?;
     Ok(Table {
         entries,
         keys,

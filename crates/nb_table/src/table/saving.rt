@@ -11,12 +11,12 @@ use nb_names::{Bytes, NoMemory};
 impl Table {
     /// The bytes of the table's contents, for a file or another program. Limits aren't saved.
     ///
-    /// They begin with "NBT1" and the number of keys, in four bytes. Then stands each key,
+    /// They begin with "NBT2" and the number of keys, in four bytes. Then stands each key,
     /// ascending: the address, port and identifier; 00 where the key is spoilt, else 01, the kind,
-    /// both names as they are spelled, the end (00, or 01 and two bytes), the number of runs, in
-    /// two bytes, and each of the maximal runs of known bytes, ascending: its start and length, in
-    /// two bytes each, and its bytes. Numbers stand with their high byte first (our choice).
-    /// The fields have room for each table, and no other contents have its bytes.
+    /// both names as they are spelled, the end (00, or 01 and two bytes), the promise likewise, the
+    /// number of runs, in two bytes, and each of the maximal runs of known bytes, ascending: its
+    /// start and length, in two bytes each, and its bytes. Numbers stand with their high byte first
+    /// (our choice). The fields have room for each table, and no other contents have its bytes.
     ///
     /// # Errors
     ///

@@ -9,17 +9,24 @@ use nb_names::NoMemory;
 use std::alloc::Global;
 
 impl Places {
-    /// The bytes of saved runs, none of which lies at or past the end.
+    /// The bytes of saved runs, with an end and a promise. No byte and no promise lies at or past
+    /// the end.
     pub(crate) fn load(
         alloc: Global,
         runs: &SavedRuns<'_>,
         end: Option<u32>,
+        promise: Option<u32>,
     ) -> Result<Places, NoMemory>
-        requires { AreCoverFacts (record { bytes = map_of_runs runs.now; end = end }) }
+        requires { AreCoverFacts
+            (record { bytes = map_of_runs runs.now; end = end; promise = promise }) }
         ensures { IfOk result (λ places.
-            places ≡ record { bytes = map_of_runs runs.now; end = end }) }
+            places ≡ record { bytes = map_of_runs runs.now; end = end; promise = promise }) }
     {
         let bytes = runs.to_runs(alloc)?;
-        Ok(Places { bytes, end })
+        Ok(Places {
+            bytes,
+            end,
+            promise,
+        })
     }
 }

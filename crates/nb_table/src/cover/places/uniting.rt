@@ -1,11 +1,21 @@
 //! Two covers that don't contradict each other, united.
 ghost use Rattle.std.specs.Prelude.{◌≡◌, ◌&&◌, IfOk, MatchOption};
 ghost use Rattle.std.specs.FinMap as maps;
-ghost use Rattle.nb_table.specs.Cover.{CoversFit, bytes_agree, covers_agree, covers_together, lies_below, placed};
+ghost use Rattle.nb_table.specs.Cover.{CoversFit, bytes_agree, covers_agree, covers_together, bytes_lie_below, placed};
 ghost use Rattle.nb_table.specs.Code.Fitting.{ends_by};
 
-use super::{Places, ends_agree};
+use super::{Places, ends_agree, latest};
 use nb_names::NoMemory;
+
+/// Whether the end or the promise, if there is one, is at most the limit.
+fn is_at_most(limit: u32, place: Option<u32>) -> bool
+    ensures { result ≡ ends_by limit place }
+{
+    match place {
+        Some(place) => place <= limit,
+        None => true,
+    }
+}
 
 impl Places {
     /// Whether no place has another byte in the one than in the other.
@@ -38,20 +48,24 @@ impl Places {
     {
         let bytes = self.bytes.together(&other.bytes)?;
         let end = self.end.or(other.end);
-        Ok(Places { bytes, end })
+        let promise = latest(self.promise, other.promise);
+        Ok(Places {
+            bytes,
+            end,
+            promise,
+        })
     }
 
-    /// Whether all places lie below this one, and the end, if it is known, is at most there.
+    /// Whether all places lie below this one, and the end and the promise, if there are any, are at
+    /// most there.
     pub(crate) fn is_short(&self, longest: u32) -> bool
-        ensures { result ≡ (lies_below longest self.now && ends_by longest self.now.end) }
+        ensures { result ≡ (bytes_lie_below longest self.now.bytes
+            && (ends_by longest self.now.end && ends_by longest self.now.promise)) }
     {
-        if !self.is_below(Some(longest)) {
+        if !self.bytes_are_below(longest) {
             return false;
         }
-        match self.end {
-            Some(end) => end <= longest,
-            None => true,
-        }
+        is_at_most(longest, self.end) && is_at_most(longest, self.promise)
     }
 
     /// The place of the first byte, and the bytes, if all are in one run.
@@ -69,6 +83,13 @@ impl Places {
         self.end
     }
 
+    /// The promise, if there is one.
+    pub(crate) fn promise(&self) -> Option<u32>
+        ensures { result ≡ self.now.promise }
+    {
+        self.promise
+    }
+
     /// A copy.
     pub(crate) fn copied(&self) -> Result<Places, NoMemory>
         ensures { IfOk result (λ places. places ≡ self.now) }
@@ -76,6 +97,7 @@ impl Places {
         Ok(Places {
             bytes: self.bytes.copied()?,
             end: self.end,
+            promise: self.promise,
         })
     }
 }

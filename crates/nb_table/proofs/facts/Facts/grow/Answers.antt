@@ -4,7 +4,7 @@ use Rattle.nb_table.specs.declared.change.Change.{Change}
 use Rattle.nb_table.specs.Slot.{Held}
 use Rattle.nb_table.specs.Cover.{AreCoverFacts, covers_together}
 use Rattle.nb_table.specs.Entry.{EntryFacts, FactsFit, facts_of, facts_together}
-use Rattle.nb_table.specs.Whole.{bytes_to, datagram_with}
+use Rattle.nb_table.specs.Whole.{bytes_to, datagram_of, datagram_with, newly}
 use Rattle.nb_table.specs.Code.Change.{KeyChange, change_of, grown_to}
 use Rattle.nb_table.proofs.Changes.ChangeLemmas.{facts_held, key_grown, with_together}
 use Rattle.nb_table.proofs.Covers.PlacedLemmas.{cover_of_formed}
@@ -41,8 +41,8 @@ returns-clause-change c =
     λ i. record { kind = c.self.inside.kind; source = c.self.inside.parties.source; destination = c.self.inside.parties.destination; cover = made i } in
     let datagram =
     c.in_ok-datagram.ensures
-    ∙ ap (λ (x : EntryFacts). datagram_with k x (bytes_to (covers_together x.cover b.cover).bytes (covers_together x.cover b.cover).end)) (sym c.self.view_is)
-    ∙ with_together k old b (bytes_to (facts_together old b).cover.bytes (facts_together old b).cover.end) in
+    ∙ ap (λ (x : EntryFacts). newly (datagram_of k (Held x)) (datagram_with k x (bytes_to (covers_together x.cover b.cover).bytes (covers_together x.cover b.cover).end))) (sym c.self.view_is)
+    ∙ ap (newly (datagram_of k (Held old))) (with_together k old b (bytes_to (facts_together old b).cover.bytes (facts_together old b).cover.end)) in
     let grown = key_grown k old b fit (refutes c.holds.result c.holds.ensures c.if-holds.false) in
     let told = c.in_ok-change.ensures ∙ ap grown_to datagram in
     subst (λ (x : EntryFacts). KeyChange k (Some (Held x)) (Some (Held (record { kind = c.self.inside.kind; source = c.self.inside.parties.source; destination = c.self.inside.parties.destination; cover = c.add.new.self }))) (change_of c.in_ok-change.change)) c.self.view_is

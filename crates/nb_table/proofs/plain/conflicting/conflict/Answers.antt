@@ -1,7 +1,7 @@
 use Rattle.std.proofs.Common.{refl, sym, ◌∙◌}
 use Rattle.nb_datagram.specs.Fragment.{core_of}
 use Rattle.nb_table.specs.Lemmas.SameLemmas.{refutes}
-use Rattle.nb_table.proofs.PlainProgram.PlainLemmas.{header_conflict, overlap_conflict, ends_conflict, past_conflict, past_other_conflict, last_conflict}
+use Rattle.nb_table.proofs.PlainProgram.PlainLemmas.{header_conflict, overlap_conflict, ends_conflict, past_conflict, past_other_conflict, breaks_conflict, breaks_other_conflict, last_conflict}
 use Rattle.nb_table.proofs.plain.conflicting.conflict.Goals as goal
 
 pub returns-then-not-same_header : goal.returns-then-not-same_header
@@ -20,13 +20,23 @@ pub returns-then-passes_end : goal.returns-then-passes_end
 returns-then-passes_end c =
     (λ _. past_conflict (core_of c.args.one.now) (core_of c.args.other.now) (c.passes_end.ensures.0 c.if-passes_end.true), λ _. refl)
 
+pub returns-then-passes_end-2 : goal.returns-then-passes_end-2
+returns-then-passes_end-2 c =
+    (λ _. past_other_conflict (core_of c.args.one.now) (core_of c.args.other.now) (c.passes_end-2.ensures.0 c.if-passes_end-2.true), λ _. refl)
+
+pub returns-then-breaks_promise : goal.returns-then-breaks_promise
+returns-then-breaks_promise c =
+    (λ _. breaks_conflict (core_of c.args.one.now) (core_of c.args.other.now) (c.breaks_promise.ensures.0 c.if-breaks_promise.true), λ _. refl)
+
 pub returns : goal.returns
 returns c = (
-  λ h. past_other_conflict (core_of c.args.one.now) (core_of c.args.other.now) (c.passes_end-2.ensures.0 h),
-  λ h. c.passes_end-2.ensures.1 (last_conflict (core_of c.args.one.now) (core_of c.args.other.now)
+  λ h. breaks_other_conflict (core_of c.args.one.now) (core_of c.args.other.now) (c.breaks_promise-2.ensures.0 h),
+  λ h. c.breaks_promise-2.ensures.1 (last_conflict (core_of c.args.one.now) (core_of c.args.other.now)
       (c.same_header.ensures.0 c.if-not-same_header.false)
       (refutes c.bytes_differ.result c.bytes_differ.ensures c.if-bytes_differ.false)
       (sym c.ends_differ.ensures ∙ c.if-ends_differ.false)
       (refutes c.passes_end.result c.passes_end.ensures c.if-passes_end.false)
+      (refutes c.passes_end-2.result c.passes_end-2.ensures c.if-passes_end-2.false)
+      (refutes c.breaks_promise.result c.breaks_promise.ensures c.if-breaks_promise.false)
       h),
 )

@@ -9,6 +9,6 @@ use Rattle.nb_table.proofs.saved.entries.judge_entries.Given as goal
 abbrev pub invariant-loop : goal.invariant-loop
 invariant-loop l = record {
   done : List (Key × EntryValue);
-  so_far : EntriesSoFar l.input l.count l.at l.counter l.before l.here done;
+  so_far : EntriesSoFar l.form l.input l.count l.at l.counter l.before l.here done;
   tested : l.is_short ≡ list_all (λ e. is_short l.limit e.1) done;
 }

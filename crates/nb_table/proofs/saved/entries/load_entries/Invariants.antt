@@ -10,6 +10,6 @@ use Rattle.nb_table.proofs.saved.entries.load_entries.Given as goal
 abbrev pub invariant-loop : goal.invariant-loop
 invariant-loop l = record {
   done : List (Key × EntryValue);
-  so_far : EntriesSoFar l.input l.count l.at l.counter l.before l.here done;
+  so_far : EntriesSoFar l.form l.input l.count l.at l.counter l.before l.here done;
   kept : maps.from_entries {R = key_cmp} l.map.entries ≡ with_each maps.empty done;
 }

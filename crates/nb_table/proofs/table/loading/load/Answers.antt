@@ -4,13 +4,22 @@ use Rattle.nb_table.specs.LoadFaults.{ill_formed}
 use Rattle.nb_table.proofs.SavedReading.LoadLemmas.{judged_sound, fault_same, judged_long, judged_full, keeping_failed, kept_limits, kept_read, kept_saved}
 use Rattle.nb_table.proofs.table.loading.load.Goals as goal
 
+pub returns-in_err-form-clause-fault : goal.returns-in_err-form-clause-fault
+returns-in_err-form-clause-fault c =
+    let p = err_from_is_err_and c.from_residual.result c.from_residual.ensures.1 in rw (p.1, p.2) (ill_formed c.in_err-form.ensures.fault)
+
+pub returns-in_err-form-clause-only : goal.returns-in_err-form-clause-only
+returns-in_err-form-clause-only c fault h =
+    let p = err_from_is_err_and c.from_residual.result c.from_residual.ensures.1 in
+    rw (p.1, p.2) (ap Err (fault_same _ _ _ c.in_err-form.ensures.fault h))
+
 pub returns-in_err-count-clause-fault : goal.returns-in_err-count-clause-fault
 returns-in_err-count-clause-fault c =
-    let p = err_from_is_err_and c.from_residual.result c.from_residual.ensures.1 in rw (p.1, p.2) (ill_formed c.in_err-count.ensures.fault)
+    let p = err_from_is_err_and c.from_residual-in_err-count.result c.from_residual-in_err-count.ensures.1 in rw (p.1, p.2) (ill_formed c.in_err-count.ensures.fault)
 
 pub returns-in_err-count-clause-only : goal.returns-in_err-count-clause-only
 returns-in_err-count-clause-only c fault h =
-    let p = err_from_is_err_and c.from_residual.result c.from_residual.ensures.1 in
+    let p = err_from_is_err_and c.from_residual-in_err-count.result c.from_residual-in_err-count.ensures.1 in
     rw (p.1, p.2) (ap Err (fault_same _ _ _ c.in_err-count.ensures.fault h))
 
 pub returns-then-not-is_short-clause-fault : goal.returns-then-not-is_short-clause-fault
@@ -28,19 +37,19 @@ returns-then-count-keys-clause-only c fault h = absurd (judged_sound _ _ _ _ c.i
 pub returns-in_err-entries-clause-fault : goal.returns-in_err-entries-clause-fault
 returns-in_err-entries-clause-fault c =
     let p = err_from_is_err_and c.from_residual-in_err-entries.result c.from_residual-in_err-entries.ensures.1 in
-    rw (p.1, p.2) (keeping_failed _ _ _ _ _ c.in_ok-count.ensures.found c.if-not-is_short.false (omega arith) c.in_err-entries.ensures.fault)
+    rw (p.1, p.2) (keeping_failed c.in_ok-form.form _ _ _ _ _ c.in_ok-form.ensures.found c.in_ok-count.ensures.found c.if-not-is_short.false (omega arith) c.in_err-entries.ensures.fault)
 
 pub returns-in_err-entries-clause-only : goal.returns-in_err-entries-clause-only
 returns-in_err-entries-clause-only c fault h = absurd (judged_sound _ _ _ _ c.in_ok-count.ensures.found fault h)
 
 pub invariant_of-result : goal.invariant_of-result
-invariant_of-result c = kept_limits _ (record { keys = c.args.keys; longest = c.args.longest }) _ _ _ c.in_ok-count.ensures.found c.if-not-is_short.false (omega arith) c.in_ok-entries.ensures.kept
+invariant_of-result c = kept_limits c.in_ok-form.form _ (record { keys = c.args.keys; longest = c.args.longest }) _ _ _ c.in_ok-form.ensures.found c.in_ok-count.ensures.found c.if-not-is_short.false (omega arith) c.in_ok-entries.ensures.kept
 
 pub returns-clause-found : goal.returns-clause-found
-returns-clause-found c = kept_read _ _ _ _ _ c.in_ok-count.ensures.found c.in_ok-entries.ensures.kept
+returns-clause-found c = kept_read c.in_ok-form.form _ _ _ _ _ c.in_ok-form.ensures.found c.in_ok-count.ensures.found c.in_ok-entries.ensures.kept
 
 pub returns-clause-bytes : goal.returns-clause-bytes
-returns-clause-bytes c = kept_saved _ _ _ _ _ c.in_ok-count.ensures.found c.in_ok-entries.ensures.kept
+returns-clause-bytes c = kept_saved c.in_ok-form.form _ _ _ _ _ c.in_ok-form.ensures.found c.in_ok-count.ensures.found c.in_ok-entries.ensures.kept
 
 pub returns-clause-only : goal.returns-clause-only
 returns-clause-only c fault h = absurd (judged_sound _ _ _ _ c.in_ok-count.ensures.found fault h)

@@ -8,19 +8,19 @@ use Rattle.nb_table.proofs.cover.places.Places.together.Goals as goal
 
 pub together-requires : goal.together-requires
 together-requires c =
-    let own : CoverFacts = record { bytes = c.self.inside.bytes; end = c.self.inside.end } in
-    let others : CoverFacts = record { bytes = c.other.inside.bytes; end = c.other.inside.end } in
+    let own : CoverFacts = record { bytes = c.self.inside.bytes; end = c.self.inside.end; promise = c.self.inside.promise } in
+    let others : CoverFacts = record { bytes = c.other.inside.bytes; end = c.other.inside.end; promise = c.other.inside.promise } in
     and_left _ _ (agree_of own others (subst (λ (b : CoverFacts). CoversFit own b) (sym c.other.view_is) (subst (λ (a : CoverFacts). CoversFit a c.args.other.now) (sym c.self.view_is) c.requires)))
 
 pub invariant_of-result : goal.invariant_of-result
 invariant_of-result c =
-    let own : CoverFacts = record { bytes = c.self.inside.bytes; end = c.self.inside.end } in
-    let others : CoverFacts = record { bytes = c.other.inside.bytes; end = c.other.inside.end } in
+    let own : CoverFacts = record { bytes = c.self.inside.bytes; end = c.self.inside.end; promise = c.self.inside.promise } in
+    let others : CoverFacts = record { bytes = c.other.inside.bytes; end = c.other.inside.end; promise = c.other.inside.promise } in
     let fit = subst (λ (b : CoverFacts). CoversFit own b) (sym c.other.view_is) (subst (λ (a : CoverFacts). CoversFit a c.args.other.now) (sym c.self.view_is) c.requires) in
-    subst AreCoverFacts (sym (union_is own others _ _ c.in_ok-bytes.ensures c.or-end.ensures)) (together_formed own others fit c.self.invariant c.other.invariant)
+    subst AreCoverFacts (sym (union_is own others _ _ _ c.in_ok-bytes.ensures c.or-end.ensures c.latest-promise.ensures)) (together_formed own others fit c.self.invariant c.other.invariant)
 
 pub returns : goal.returns
 returns c =
-    let own : CoverFacts = record { bytes = c.self.inside.bytes; end = c.self.inside.end } in
-    let others : CoverFacts = record { bytes = c.other.inside.bytes; end = c.other.inside.end } in
-    union_is own others _ _ c.in_ok-bytes.ensures c.or-end.ensures ∙ ap₂ covers_together c.self.view_is c.other.view_is
+    let own : CoverFacts = record { bytes = c.self.inside.bytes; end = c.self.inside.end; promise = c.self.inside.promise } in
+    let others : CoverFacts = record { bytes = c.other.inside.bytes; end = c.other.inside.end; promise = c.other.inside.promise } in
+    union_is own others _ _ _ c.in_ok-bytes.ensures c.or-end.ensures c.latest-promise.ensures ∙ ap₂ covers_together c.self.view_is c.other.view_is

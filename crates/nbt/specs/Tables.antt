@@ -1,10 +1,10 @@
 -- The tables that `nbt merge` and `nbt agree` read: a line for each, which is the saved table in hexadecimal
 -- (our choice). Lines are numbered from 1.
-use Rattle.std.specs.Prelude.{◌≡◌, ◌≢◌, ◌⊎◌, ◌+◌, ◌<◌, ◌≤◌, ℕ, List, [], ◌∷◌, ◌++◌, length, map, take, slice_get, Option, Some, codes, Ok, IsErr}
+use Rattle.std.specs.Prelude.{◌≡◌, ◌≢◌, ◌⊎◌, ◌+◌, ◌<◌, ◌≤◌, ℕ, List, [], ◌∷◌, ◌++◌, length, map, take, slice_get, Option, Some, codes}
 use Rattle.std.specs.Io.KnownBytes.{Consumes, IsAtEnd}
 use Rattle.std.specs.List.{AllZip}
-use Rattle.hex.specs.Hex.{decode_of}
 use Rattle.nb_names.specs.declared.limits.TheConstants.{MAX_INPUT}
+use Rattle.nb_names.specs.Hexadecimal.{HexText}
 use Rattle.nb_names.specs.Lines.{HasLines}
 use Rattle.nb_table.specs.declared.fault.TableFault.{TableFault}
 use Rattle.nb_table.specs.declared.fault.TableFault.TheVariants as tables
@@ -33,7 +33,7 @@ reading keys = record { keys = keys; longest = 65535 }
 pub record IsTableLine (keys : ℕ) (line : List ℕ) (t : TableValue) : Type 0 where
   pub bytes : List ℕ
   pub not_empty : 0 < length line
-  pub digits : decode_of line ≡ Ok bytes
+  pub digits : HexText bytes line
   pub stands : IsReadAs bytes t.contents
   pub limits : t.limits ≡ reading keys
   pub keeps : KeepsLimits t
@@ -41,9 +41,9 @@ pub record IsTableLine (keys : ℕ) (line : List ℕ) (t : TableValue) : Type 0 
 -- IsTableFault keys number line fault: why line `number` is no table: it is empty or no hexadecimal, or its
 -- bytes aren't loaded, for another reason than want of memory
 abbrev pub IsTableFault : ℕ → ℕ → List ℕ → Fault → Type 0
-IsTableFault keys number line (Line n) = (n ≡ number) × ((line ≡ []) ⊎ IsErr (decode_of line))
+IsTableFault keys number line (Line n) = (n ≡ number) × ((line ≡ []) ⊎ ((bytes : List ℕ) → ¬ HexText bytes line))
 IsTableFault keys number line (Load fault) =
-    (0 < length line) × (fault ≢ loads.NoMemory) × (bytes : List ℕ) × (decode_of line ≡ Ok bytes) × LoadFails bytes (reading keys) fault
+    (0 < length line) × (fault ≢ loads.NoMemory) × (bytes : List ℕ) × HexText bytes line × LoadFails bytes (reading keys) fault
 IsTableFault keys number line Memory = Unit {0}
 IsTableFault keys number line _ = ⊥
 

@@ -7,8 +7,7 @@ ghost use Rattle.nbt.specs.Input.{WasCut};
 ghost use Rattle.nbt.specs.Tables.{AreTables, IsElsewhere, IsTableFault, IsTableLine, TablesFail};
 
 use crate::fault::Fault;
-use hex::FromHexError;
-use nb_names::Counted;
+use nb_names::{Counted, DigitsFault, bytes_of_digits};
 use nb_names::input::read_input;
 use nb_names::lines::split_line;
 use nb_table::{LoadFault, Table, load};
@@ -109,10 +108,10 @@ fn table_of(alloc: Global, number: usize, line: &[u8], keys: u32) -> Result<Tabl
     if line.is_empty() {
         return Err(Fault::Line(number));
     }
-    let bytes = match hex::decode(alloc, line) {
+    let bytes = match bytes_of_digits(alloc, line) {
         Ok(bytes) => bytes,
-        Err(FromHexError::OutOfMemory) => return Err(Fault::Memory),
-        Err(_) => return Err(Fault::Line(number)),
+        Err(DigitsFault::NoMemory) => return Err(Fault::Memory),
+        Err(DigitsFault::BadDigits) => return Err(Fault::Line(number)),
     };
     match load(alloc, bytes.as_slice(), keys, LONGEST) {
         Ok(table) => Ok(table),

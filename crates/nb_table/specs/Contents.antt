@@ -6,7 +6,7 @@ use Rattle.nb_datagram.specs.declared.key.Key.{Key}
 use Rattle.nb_datagram.specs.Key.{key_cmp}
 use Rattle.nb_datagram.specs.Fragment.{Core, Covers, EndsAt, byte_of, end_of_one}
 use Rattle.nb_table.specs.Maps.{first_of, at_keys}
-use Rattle.nb_table.specs.Promise.{Promises, latest, promise_of_one}
+use Rattle.nb_table.specs.Promise.{Promises, greater, promise_of_one}
 use Rattle.nb_table.specs.Slot.{Spoilt, Held}
 use Rattle.nb_table.specs.Cover.{CoverFacts, placed}
 use Rattle.nb_table.specs.Entry.{EntryFacts, EntryValue}
@@ -23,10 +23,10 @@ abbrev pub first_end : List Core → Option ℕ
 first_end [] = None
 first_end (f ∷ fs) = first_of (end_of_one f) (first_end fs)
 
--- the latest promise of these fragments, if there is one
-abbrev pub last_promise : List Core → Option ℕ
-last_promise [] = None
-last_promise (f ∷ fs) = latest (promise_of_one f) (last_promise fs)
+-- the greatest promise of these fragments, if there is one
+abbrev pub greatest_promise : List Core → Option ℕ
+greatest_promise [] = None
+greatest_promise (f ∷ fs) = greater (promise_of_one f) (greatest_promise fs)
 
 -- byte_at L k i: what the earliest fragment of the key k in L that covers place i has there
 abbrev pub byte_at : List Core → Key → ℕ → Option ℕ
@@ -38,7 +38,7 @@ end_of L k = first_end (with_key k L)
 
 -- promise_of L k: the greatest of all places that the fragments of the key k in L promise
 abbrev pub promise_of : List Core → Key → Option ℕ
-promise_of L k = last_promise (with_key k L)
+promise_of L k = greatest_promise (with_key k L)
 
 -- Says L k e: these facts are what L says of key k: the kind and names of its first fragment with that
 -- key, the byte at each place, the end, and the promise
@@ -95,9 +95,9 @@ abbrev pub all_placed : List Core → List (ℕ × ℕ)
 all_placed [] = []
 all_placed (f ∷ fs) = placed f.offset f.bytes ++ all_placed fs
 
--- the finite map of the first byte at each place, the first end, and the latest promise
+-- the finite map of the first byte at each place, the first end, and the greatest promise
 abbrev pub cover_in : List Core → CoverFacts
-cover_in fs = record { bytes = maps.from_entries (all_placed fs); end = first_end fs; promise = last_promise fs }
+cover_in fs = record { bytes = maps.from_entries (all_placed fs); end = first_end fs; promise = greatest_promise fs }
 
 -- facts_in f fs: the kind and names of f, and the cover of fs
 abbrev pub facts_in : Core → List Core → EntryFacts

@@ -1,4 +1,4 @@
--- Covers: the bytes that are known of a datagram's data, by place, its end, if that is known, and the latest promise,
+-- Covers: the bytes that are known of a datagram's data, by place, its end, if that is known, and the greatest promise,
 -- if there is one (our choice).
 -- Places count from the first byte of the datagram's data; the end is how many bytes it has; a promise is a place at
 -- which or after which it has a byte.
@@ -8,7 +8,7 @@ use Rattle.std.specs.List.{list_all}
 use Rattle.std.specs.FinMap as map
 use Rattle.nb_datagram.specs.Fragment.{Core, end_of_one}
 use Rattle.nb_table.specs.Maps.{first_of, union}
-use Rattle.nb_table.specs.Promise.{latest, promise_of_one}
+use Rattle.nb_table.specs.Promise.{greater, promise_of_one}
 use Rattle.nb_table.specs.Slot.{Slot, join_slot, OnHeld}
 
 -- the bytes by place, the end or none, and the promise or none
@@ -74,7 +74,7 @@ covers_agree a b =
 
 -- what two that agree say together
 abbrev pub covers_together : CoverFacts → CoverFacts → CoverFacts
-covers_together a b = record { bytes = union a.bytes b.bytes; end = first_of a.end b.end; promise = latest a.promise b.promise }
+covers_together a b = record { bytes = union a.bytes b.bytes; end = first_of a.end b.end; promise = greater a.promise b.promise }
 
 -- a cover: clashed, or bytes by place, an end or none, and a promise or none
 abbrev pub CoverValue : Type 0

@@ -1,5 +1,5 @@
--- Promises of fragments (our choice): a sender sets M only where more user data is to come, so that a fragment with
--- M set says that a byte follows, at its reach or after it.
+-- Promises of fragments (our choice): M set in a fragment says that its datagram goes on, so a byte follows at the
+-- fragment's reach or after it.
 use Rattle.std.specs.Prelude.{◌≡◌, ℕ, true, cond, max, Option, Some, None}
 use Rattle.nb_datagram.specs.Fragment.{Core, reach}
 use Rattle.nb_table.specs.Maps.{joined_at}
@@ -12,6 +12,6 @@ Promises f r = (f.more ≡ true) × (reach f ≡ r)
 abbrev pub promise_of_one : Core → Option ℕ
 promise_of_one f = cond f.more (Some (reach f)) None
 
--- the later of two promises, or the one that there is
-abbrev pub latest : Option ℕ → Option ℕ → Option ℕ
-latest = joined_at max
+-- the greater of two promises, or the one that there is
+abbrev pub greater : Option ℕ → Option ℕ → Option ℕ
+greater = joined_at max

@@ -118,15 +118,15 @@ end_at input at =
     Marked at mark (Gives None next) (Then (number_at input next) (λ end. Gives (Some end))))
 
 -- the promise lies below the end, if that is known
-abbrev pub IsBelowEnd : Option ℕ → ℕ → Type 0
-IsBelowEnd end promise = (n : ℕ) → end ≡ Some n → promise < n
+abbrev pub PromisesBelow : Option ℕ → ℕ → Type 0
+PromisesBelow end promise = (n : ℕ) → end ≡ Some n → promise < n
 
 -- a promise, which lies below this end, or that there is none; the first form has no such field
 abbrev pub promise_at : SavedForm → List ℕ → Option ℕ → ℕ → Outcome (Option ℕ) → Type 0
 promise_at First input end at = Gives None at
 promise_at Second input end at =
     Then (byte_at input at) (λ mark next.
-    Marked at mark (Gives None next) (Then (Then (number_at input next) (Judged at (IsBelowEnd end))) (λ promise. Gives (Some promise))))
+    Marked at mark (Gives None next) (Then (Then (number_at input next) (Judged at (PromisesBelow end))) (λ promise. Gives (Some promise))))
 
 -- ---- runs
 

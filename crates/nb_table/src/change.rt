@@ -13,7 +13,7 @@ pub enum Change {
     Whole(Datagram),
     /// Nothing: all that the fragment says was known, or the key was spoilt before.
     Same,
-    /// More is known.
+    /// More is known; the key may have been whole before, and a promise is new.
     Grown,
 }
 

@@ -17,7 +17,7 @@ use std::alloc::Global;
 use std::marker::Model;
 
 /// The bytes that are known of a datagram's data, by place, its end, if that is known, and the
-/// latest promise of its fragments, if there is one; or clashed, by facts that contradict each
+/// greatest promise of its fragments, if there is one; or clashed, by facts that contradict each
 /// other.
 ///
 /// A fragment with M set promises a byte at its reach or after it (our choice).

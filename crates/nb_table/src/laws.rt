@@ -32,7 +32,7 @@ pub use gathering::{
     lists_repeated_have_the_same_cores, lists_swapped_have_the_same_cores,
     lists_turned_round_have_the_same_cores, same_cores_make_the_same_table,
     table_has_the_bytes_of_its_fragments, table_has_the_ends_of_its_fragments,
-    table_has_the_entry_of_its_list, table_has_the_latest_promise_of_its_fragments,
+    table_has_the_entry_of_its_list, table_has_the_greatest_promise_of_its_fragments,
     table_holds_what_its_list_says, table_is_spoilt_where_fragments_disagree,
     table_lacks_the_keys_of_no_fragment, table_of_a_list_is_its_table,
     table_of_a_list_is_the_only_one, table_of_a_list_is_well_formed,

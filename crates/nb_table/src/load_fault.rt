@@ -12,10 +12,10 @@ pub enum LoadFault {
     /// They end before or inside a field that is due.
     Truncated,
     /// At this offset stands what no saved table has there: a key that isn't greater than the one
-    /// before; a state, a kind, or a mark of an end or a promise of no listed value; a promise
-    /// that isn't below the end; a name that isn't spelled as a
-    /// NetBIOS name without pointers; a run's start that isn't past the end of the run before; a
-    /// run's length that is 0 or passes 65,535 or the end; a byte after the last entry.
+    /// before; a state, a kind, or a mark of an end or a promise of no listed value; the mark of a
+    /// promise that isn't below the end; a name that isn't spelled as a NetBIOS name without
+    /// pointers; a run's start that isn't past the end of the run before; a run's length that is 0
+    /// or passes 65,535 or the end; a byte after the last entry.
     NotCanonical(usize),
     /// A saved run, end or promise passes the limit for one datagram.
     TooLong,

@@ -28,10 +28,10 @@ use std::marker::Model;
 /// What is known of the datagrams whose fragments came, by key, within limits.
 ///
 /// At most as many keys are held as the limit says, and no byte of a datagram lies at or past the
-/// other limit, nor is one promised past it. The order in which fragments come makes no difference
-/// as long as none is refused as `Full`: which keys find room, and so which fragments are in,
-/// depends on which came first. RFC 1002 section 5.3; the form of fragments and the limits are our
-/// choice.
+/// other limit; no end and no promise is greater than it. The order in which fragments come makes
+/// no difference as long as none is refused as `Full`: which keys find room, and so which fragments
+/// are in, depends on which came first. RFC 1002 section 5.3; the form of fragments and the limits
+/// are our choice.
 #[derive(Drop)]
 pub struct Table {
     entries: BTreeMap<Key, Entry>,
@@ -88,7 +88,7 @@ impl Table {
     /// Joins a fragment to what is known of its datagram, and says what that changed at its key.
     ///
     /// A fragment with M set promises a byte at its reach or after it: an end of the datagram at
-    /// its reach or before contradicts it, and a promise later than those that are known is new.
+    /// its reach or before contradicts it, and a promise greater than those that are known is new.
     ///
     /// No memory is needed where the key is spoilt, or the fragment contradicts what is known of
     /// its key or says nothing new. A table that refuses stays as it was.

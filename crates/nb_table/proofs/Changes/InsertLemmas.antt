@@ -23,7 +23,7 @@ use Rattle.nb_table.specs.Code.Change.{KeyChange}
 use Rattle.nb_table.specs.Insert.{NeedsNoMemory, spoilt, contradicts, held, Passes, Lacks, Refuses}
 use Rattle.nb_table.specs.Lemmas.SameLemmas.{key_cmp_total, key_cmp_exact, same_key_decides}
 use Rattle.nb_table.specs.Lemmas.CoverLemmas.{bytes_below_both, first_either}
-use Rattle.nb_table.specs.Lemmas.PromiseLemmas.{latest_either, promise_of_decides}
+use Rattle.nb_table.specs.Lemmas.PromiseLemmas.{greater_either, promise_of_decides}
 use Rattle.nb_table.specs.Lemmas.EntryLemmas.{facts_fit_of}
 use Rattle.nb_table.proofs.Covers.PlacedLemmas.{end_of_decides}
 use Rattle.nb_table.proofs.Covers.PlacesLemmas.{below_by_reach}
@@ -94,7 +94,7 @@ short_join n (Held a) (Held b) p q = at (facts_agree a b)
     at true = record {
       below = bytes_below_both n a.cover b.cover p.below q.below;
       ends = λ m e. elim (first_either a.cover.end b.cover.end m e) [ inl h ↦ p.ends m h | inr h ↦ q.ends m h ];
-      promises = λ r e. elim (latest_either a.cover.promise b.cover.promise r e) [ inl h ↦ p.promises r h | inr h ↦ q.promises r h ];
+      promises = λ r e. elim (greater_either a.cover.promise b.cover.promise r e) [ inl h ↦ p.promises r h | inr h ↦ q.promises r h ];
     }
     at false = tt
 

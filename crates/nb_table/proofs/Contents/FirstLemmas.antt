@@ -1,11 +1,11 @@
--- The first byte at a place, the first end and the latest promise of a list of fragments, and whose they are.
+-- The first byte at a place, the first end and the greatest promise of a list of fragments, and whose they are.
 use Rattle.std.proofs.Common.{◌≡◌, ◌≤◌, arith, inl, inr, ℕ, Contains, List, [], ◌∷◌, Option, Some, None, refl, ◌∙◌, ap}
 use Rattle.nb_datagram.specs.Fragment.{Core, Covers, EndsAt, byte_of, end_of_one}
 use Rattle.nb_table.specs.Maps.{first_of}
 use Rattle.nb_table.specs.Promise.{Promises, promise_of_one}
-use Rattle.nb_table.specs.Contents.{first_byte, first_end, last_promise}
+use Rattle.nb_table.specs.Contents.{first_byte, first_end, greatest_promise}
 use Rattle.nb_table.specs.Lemmas.CoverLemmas.{first_either}
-use Rattle.nb_table.specs.Lemmas.PromiseLemmas.{promise_of_decides, latest_either, latest_left, latest_right}
+use Rattle.nb_table.specs.Lemmas.PromiseLemmas.{promise_of_decides, greater_either, greater_left, greater_right}
 use Rattle.nb_table.proofs.Covers.PlacedLemmas.{byte_of_decides, end_of_decides}
 use Rattle.nb_table.proofs.Contents.OrderFreeLemmas.{in_none, in_first, in_rest, in_cons}
 
@@ -41,21 +41,21 @@ pub record PromiseFrom (fs : List Core) (r : ℕ) : Type 0 where
   pub has : Contains fs fragment
   pub promises : Promises fragment r
 
-pub last_promise_from : (fs : List Core) (r : ℕ) → last_promise fs ≡ Some r → PromiseFrom fs r
-last_promise_from [] r e = absurd (cc)
-last_promise_from (f ∷ fs) r e = elim (latest_either (promise_of_one f) (last_promise fs) r e) [
+pub greatest_promise_from : (fs : List Core) (r : ℕ) → greatest_promise fs ≡ Some r → PromiseFrom fs r
+greatest_promise_from [] r e = absurd (cc)
+greatest_promise_from (f ∷ fs) r e = elim (greater_either (promise_of_one f) (greatest_promise fs) r e) [
   | inl here ↦ record { fragment = f; has = in_first f fs; promises = (promise_of_decides f r).0 here }
-  | inr there ↦ let w = last_promise_from fs r there in record { fragment = w.fragment; has = in_rest f fs w.fragment w.has; promises = w.promises }
+  | inr there ↦ let w = greatest_promise_from fs r there in record { fragment = w.fragment; has = in_rest f fs w.fragment w.has; promises = w.promises }
 ]
 
--- no fragment promises more than the latest
-pub last_promise_there : (fs : List Core) (f : Core) (r : ℕ) → Contains fs f → Promises f r → (s : ℕ) × (last_promise fs ≡ Some s) × (r ≤ s)
-last_promise_there [] f r h p = absurd (in_none f h)
-last_promise_there (g ∷ gs) f r h p = elim (in_cons g gs f h) [
-  | inl same ↦ latest_left (promise_of_one g) (last_promise gs) r (ap promise_of_one same ∙ (promise_of_decides f r).1 p)
+-- no fragment promises more than the greater
+pub greatest_promise_there : (fs : List Core) (f : Core) (r : ℕ) → Contains fs f → Promises f r → (s : ℕ) × (greatest_promise fs ≡ Some s) × (r ≤ s)
+greatest_promise_there [] f r h p = absurd (in_none f h)
+greatest_promise_there (g ∷ gs) f r h p = elim (in_cons g gs f h) [
+  | inl same ↦ greater_left (promise_of_one g) (greatest_promise gs) r (ap promise_of_one same ∙ (promise_of_decides f r).1 p)
   | inr there ↦
-      let w = last_promise_there gs f r there p in
-      let v = latest_right (promise_of_one g) (last_promise gs) w.0 w.1 in
+      let w = greatest_promise_there gs f r there p in
+      let v = greater_right (promise_of_one g) (greatest_promise gs) w.0 w.1 in
       let less = w.2 in let more = v.2 in (v.0, v.1, omega (arith, less, more))
 ]
 

@@ -16,7 +16,7 @@ use Rattle.nb_table.proofs.Contents.ContentsLemmas.{get-cover_in}
 use Rattle.nb_table.specs.Lemmas.FragmentLemmas.{get-table_of}
 use Rattle.nb_table.proofs.Conflict.ConflictLemmas.{is_spoilt_decides, with_key_in, in_with_key}
 use Rattle.nb_table.proofs.Contents.OrderFreeLemmas.{in_first, in_none}
-use Rattle.nb_table.proofs.Contents.FirstLemmas.{first_byte_from, first_end_from, first_byte_there, first_end_there, last_promise_from, last_promise_there}
+use Rattle.nb_table.proofs.Contents.FirstLemmas.{first_byte_from, first_end_from, first_byte_there, first_end_there, greatest_promise_from, greatest_promise_there}
 
 -- ---- nothing
 
@@ -198,13 +198,13 @@ promise_exactly L k e h r = (λ g. (found r g, λ s p. most r g s p), from)
 
     found : (r : ℕ) → e.cover.promise ≡ Some r → HasPromise L k r
     found r g =
-        let w = last_promise_from (with_key k L) r (sym says.promise ∙ g) in
+        let w = greatest_promise_from (with_key k L) r (sym says.promise ∙ g) in
         let own = in_with_key k L w.fragment w.has in
         record { fragment = w.fragment; has = own.0; of_key = own.1; promises = w.promises }
 
     there : (s : ℕ) → HasPromise L k s → (t : ℕ) × (e.cover.promise ≡ Some t) × (s ≤ t)
     there s p =
-        let w = last_promise_there (with_key k L) p.fragment s (with_key_in k L p.fragment p.has p.of_key) p.promises in
+        let w = greatest_promise_there (with_key k L) p.fragment s (with_key_in k L p.fragment p.has p.of_key) p.promises in
         (w.0, says.promise ∙ w.1, w.2)
 
     most : (r : ℕ) → e.cover.promise ≡ Some r → (s : ℕ) → HasPromise L k s → s ≤ r

@@ -10,7 +10,7 @@ use Rattle.nb_datagram.specs.Fragment.{Core, Covers, reach}
 use Rattle.nb_table.specs.Maps.{first_of}
 use Rattle.nb_table.specs.Cover.{CoverFacts, CoversFit, BytesBelow, AreCoverFacts, IsCover, placed, cover_of, same_where, bytes_agree, covers_together}
 use Rattle.nb_table.specs.Code.Places.{Holds, is_there, with_bytes}
-use Rattle.nb_table.specs.Promise.{latest, promise_of_one}
+use Rattle.nb_table.specs.Promise.{greater, promise_of_one}
 use Rattle.nb_table.specs.Lemmas.PromiseLemmas.{adds_promised}
 use Rattle.nb_table.specs.Lemmas.MapsLemmas.{and_left, and_right, and_both, all_entries_found, all_entries_from}
 use Rattle.nb_table.specs.Lemmas.SameLemmas.{eq_is, is_eq}
@@ -154,7 +154,7 @@ or_is None p = refl
 or_is (Some x) p = refl
 
 pub with_is : (a : CoverFacts) (f : Core) → CoversFit a (cover_of f) →
-    ◌≡◌ {A = CoverFacts} (record { bytes = with_bytes a.bytes f.offset f.bytes; end = option_or a.end (cover_of f).end; promise = latest a.promise (promise_of_one f) }) (covers_together a (cover_of f))
+    ◌≡◌ {A = CoverFacts} (record { bytes = with_bytes a.bytes f.offset f.bytes; end = option_or a.end (cover_of f).end; promise = greater a.promise (promise_of_one f) }) (covers_together a (cover_of f))
 with_is a f fit = same_cover _ _
     (λ q. get-with_bytes a.bytes f.offset f.bytes q
     ∙ ap (λ o. first_of o (maps.get a.bytes q)) (sym (maps.get-from_entries nat_cmp_total (placed f.offset f.bytes) q))

@@ -7,7 +7,7 @@ use Rattle.std.specs.FinMap as maps
 use Rattle.nb_datagram.specs.Fragment.{Core}
 use Rattle.nb_table.specs.Maps.{first_of, union}
 use Rattle.nb_table.specs.Cover.{CoverFacts, CoversFit, placed, same_where, cover_of, covers_together}
-use Rattle.nb_table.specs.Promise.{latest, promise_of_one}
+use Rattle.nb_table.specs.Promise.{greater, promise_of_one}
 use Rattle.nb_table.specs.Code.Places.{with_bytes}
 use Rattle.nb_table.specs.Runs.{RunValue}
 use Rattle.nb_table.specs.Code.RunSteps.{run_at}
@@ -29,7 +29,7 @@ fit_agrees a f s xs fit start bytes =
     ∙ bytes_agree_is a.bytes (maps.get a.bytes) f (λ q. refl)
     ∙ and_left _ _ (agree_of a (cover_of f) fit)
 
-pub put_is : (a : CoverFacts) (f : Core) (s : ℕ) (xs : List ℕ) (m : maps.FinMap nat_cmp ℕ) (o p : Option ℕ) → CoversFit a (cover_of f) → s ≡ f.offset → xs ≡ f.bytes → m ≡ with_bytes a.bytes s xs → o ≡ option_or a.end (cover_of f).end → p ≡ latest a.promise (promise_of_one f) → ◌≡◌ {A = CoverFacts} (record { bytes = m; end = o; promise = p }) (covers_together a (cover_of f))
+pub put_is : (a : CoverFacts) (f : Core) (s : ℕ) (xs : List ℕ) (m : maps.FinMap nat_cmp ℕ) (o p : Option ℕ) → CoversFit a (cover_of f) → s ≡ f.offset → xs ≡ f.bytes → m ≡ with_bytes a.bytes s xs → o ≡ option_or a.end (cover_of f).end → p ≡ greater a.promise (promise_of_one f) → ◌≡◌ {A = CoverFacts} (record { bytes = m; end = o; promise = p }) (covers_together a (cover_of f))
 put_is a f s xs m o p fit start bytes put end promise =
     let made = put ∙ ap₂ (with_bytes a.bytes) start bytes in
     (λ i. record { bytes = made i; end = end i; promise = promise i }) ∙ with_is a f fit
@@ -37,13 +37,13 @@ put_is a f s xs m o p fit start bytes put end promise =
 pub whole_put : (a : CoverFacts) (f : Core) (s : ℕ) (xs : List ℕ) (n : ℕ) (o : Option ℕ) → CoversFit a (cover_of f) → s ≡ f.offset → xs ≡ f.bytes → o ≡ Some n → o ≡ option_or a.end (cover_of f).end → bytes_below (with_bytes a.bytes s xs) n ≡ bytes_to (covers_together a (cover_of f)).bytes (covers_together a (cover_of f)).end
 whole_put a f s xs n o fit start bytes is or =
     ap (bytes_to (with_bytes a.bytes s xs)) (sym is)
-    ∙ ap (λ (c : CoverFacts). bytes_to c.bytes c.end) (put_is a f s xs (with_bytes a.bytes s xs) o (latest a.promise (promise_of_one f)) fit start bytes refl or refl)
+    ∙ ap (λ (c : CoverFacts). bytes_to c.bytes c.end) (put_is a f s xs (with_bytes a.bytes s xs) o (greater a.promise (promise_of_one f)) fit start bytes refl or refl)
 
 or_is : (o p : Option ℕ) → option_or o p ≡ first_of o p
 or_is None p = refl
 or_is (Some x) p = refl
 
-pub union_is : (a b : CoverFacts) (m : maps.FinMap nat_cmp ℕ) (o p : Option ℕ) → m ≡ union a.bytes b.bytes → o ≡ option_or a.end b.end → p ≡ latest a.promise b.promise → ◌≡◌ {A = CoverFacts} (record { bytes = m; end = o; promise = p }) (covers_together a b)
+pub union_is : (a b : CoverFacts) (m : maps.FinMap nat_cmp ℕ) (o p : Option ℕ) → m ≡ union a.bytes b.bytes → o ≡ option_or a.end b.end → p ≡ greater a.promise b.promise → ◌≡◌ {A = CoverFacts} (record { bytes = m; end = o; promise = p }) (covers_together a b)
 union_is a b m o p made or promise = let end = or ∙ or_is a.end b.end in λ i. record { bytes = made i; end = end i; promise = promise i }
 
 -- a run is kept

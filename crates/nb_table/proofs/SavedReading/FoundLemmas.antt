@@ -18,7 +18,7 @@ use Rattle.nb_table.specs.declared.saved.form.SavedForm.TheVariants.{First, Seco
 use Rattle.nb_table.specs.Entry.{EntryFacts, EntryValue}
 use Rattle.nb_table.specs.Runs.{RunValue, run_end, StartsPast, AreApart, map_of_runs, runs_of_map}
 use Rattle.nb_table.specs.Saved.{magic, run_bytes, runs_bytes, end_bytes, promise_bytes, facts_bytes, entry_bytes, key_bytes, keyed_bytes, entries_bytes}
-use Rattle.nb_table.specs.SavedReading.{gives, goes_on, whole, good, is_0, is_1, byte_at, number_at, bytes_at, IsAfter, key_at, known, kind_at, name_at, stands, end_at, promise_at, IsBelowEnd, run_at, row_at, runs_at, most_of, facts_at, entry_at, entries_at, table_at}
+use Rattle.nb_table.specs.SavedReading.{gives, goes_on, whole, good, is_0, is_1, byte_at, number_at, bytes_at, IsAfter, key_at, known, kind_at, name_at, stands, end_at, promise_at, PromisesBelow, run_at, row_at, runs_at, most_of, facts_at, entry_at, entries_at, table_at}
 use Rattle.nb_table.proofs.Runs.RunsLemmas.{runs_back}
 
 -- ---- bytes in a row
@@ -89,7 +89,7 @@ end_found input at next end (goes_on mark n h (is_1 e (goes_on m l k gives))) =
 
 -- what a promise that was found keeps to
 pub record IsPromise (end promise : Option ℕ) : Type 0 where
-  pub below : (r : ℕ) → promise ≡ Some r → IsBelowEnd end r
+  pub below : (r : ℕ) → promise ≡ Some r → PromisesBelow end r
 
 pub promise_found : (form : SavedForm) (input : List ℕ) (end : Option ℕ) (at next : ℕ) (promise : Option ℕ) → promise_at form input end at (Ok (promise, next)) → Spells input at (promise_bytes form promise) next × IsPromise end promise
 promise_found First input end at next promise gives = (spells_none input at, record { below = λ r e. absurd (none-some r e) })
@@ -99,7 +99,7 @@ promise_found Second input end at next promise (goes_on mark n h (is_0 e gives))
 )
 promise_found Second input end at next promise (goes_on mark n h (is_1 e (goes_on m l (goes_on q p k (good g)) gives))) = (
   spells_then input at n next (1 ∷ []) (to_be_bytes w16 m) (subst (λ (t : ℕ). Spells input at (t ∷ []) n) e (byte_found input at mark n h)) (number_found input n m l k).0,
-  record { below = λ r e. subst (IsBelowEnd end) (same_Some m r e) g },
+  record { below = λ r e. subst (PromisesBelow end) (same_Some m r e) g },
 )
 
 -- ---- runs

@@ -17,7 +17,7 @@ use Rattle.nb_table.specs.declared.saved.form.SavedForm.{SavedForm}
 use Rattle.nb_table.specs.declared.saved.form.SavedForm.TheVariants.{First, Second}
 use Rattle.nb_table.specs.Saved.{magic}
 use Rattle.nb_table.specs.Slot.{Spoilt, Held}
-use Rattle.nb_table.specs.SavedReading.{Outcome, Gives, gives, Then, stops, goes_on, Field, cut, whole, Judged, good, bad, Marked, is_0, is_1, is_neither, byte_at, number_at, bytes_at, KeyAt, IsAfter, key_at, KindOf, known, unknown, kind_at, name_at, fault_of_name, stands, ill, end_at, IsBelowEnd, promise_at, start_at, size_at, run_at, row_at, runs_at, most_of, facts_at, entry_at, entries_at, table_at, IsRead, no_magic, after_magic}
+use Rattle.nb_table.specs.SavedReading.{Outcome, Gives, gives, Then, stops, goes_on, Field, cut, whole, Judged, good, bad, Marked, is_0, is_1, is_neither, byte_at, number_at, bytes_at, KeyAt, IsAfter, key_at, KindOf, known, unknown, kind_at, name_at, fault_of_name, stands, ill, end_at, PromisesBelow, promise_at, start_at, size_at, run_at, row_at, runs_at, most_of, facts_at, entry_at, entries_at, table_at, IsRead, no_magic, after_magic}
 use Rattle.nb_table.specs.Runs.{run_end}
 
 -- ---- how readings are made
@@ -136,9 +136,9 @@ one_promise : (form : SavedForm) (input : List ℕ) (end : Option ℕ) (at : ℕ
 one_promise First input end at = one_gives None at
 one_promise Second input end at =
     one_then (byte_at input at) _ (one_byte input at) (λ mark next.
-    let judged : IsOne (Then (number_at input next) (Judged at (IsBelowEnd end))) = one_then (number_at input next) (Judged at (IsBelowEnd end)) (one_number input next) (λ promise after. one_judged at (IsBelowEnd end) promise after) in
-    one_marked at mark (Gives None next) (Then (Then (number_at input next) (Judged at (IsBelowEnd end))) (λ promise. Gives (Some promise))) (one_gives None next)
-    (one_then (Then (number_at input next) (Judged at (IsBelowEnd end))) (λ promise. Gives (Some promise)) judged (λ promise. one_gives (Some promise))))
+    let judged : IsOne (Then (number_at input next) (Judged at (PromisesBelow end))) = one_then (number_at input next) (Judged at (PromisesBelow end)) (one_number input next) (λ promise after. one_judged at (PromisesBelow end) promise after) in
+    one_marked at mark (Gives None next) (Then (Then (number_at input next) (Judged at (PromisesBelow end))) (λ promise. Gives (Some promise))) (one_gives None next)
+    (one_then (Then (number_at input next) (Judged at (PromisesBelow end))) (λ promise. Gives (Some promise)) judged (λ promise. one_gives (Some promise))))
 
 -- ---- runs
 

@@ -37,7 +37,7 @@ use Rattle.nb_table.specs.Slot.{Spoilt, Held, OnHeld}
 use Rattle.nb_table.specs.Runs.{RunValue, run_end, StartsPast, AreApart, map_of_runs, runs_of_map}
 use Rattle.nb_table.specs.Saved.{magic, run_bytes, runs_bytes, end_bytes, promise_bytes, facts_bytes, entry_bytes, key_bytes, keyed_bytes, entries_bytes, saved_as, saved, saved_first, HasNoPromise}
 use Rattle.nb_table.specs.SavedFits.{FitsRun, FitsFacts, FitsKeyed, FitsSaved}
-use Rattle.nb_table.specs.SavedReading.{gives, goes_on, Field, whole, good, is_0, is_1, byte_at, number_at, bytes_at, IsAfter, key_at, known, kind_at, name_at, stands, end_at, IsBelowEnd, promise_at, run_at, row_at, runs_at, most_of, facts_at, entry_at, entries_at, IsRead, after_magic}
+use Rattle.nb_table.specs.SavedReading.{gives, goes_on, Field, whole, good, is_0, is_1, byte_at, number_at, bytes_at, IsAfter, key_at, known, kind_at, name_at, stands, end_at, PromisesBelow, promise_at, run_at, row_at, runs_at, most_of, facts_at, entry_at, entries_at, IsRead, after_magic}
 use Rattle.nb_table.specs.Lemmas.CoverLemmas.{bytes_below_decides}
 use Rattle.nb_table.specs.Lemmas.MapsLemmas.{and_left, and_right, T_left, T_right}
 use Rattle.nb_table.specs.Lemmas.SameLemmas.{key_cmp_total, key_cmp_exact, le_is}
@@ -110,7 +110,7 @@ abbrev pub InForm : SavedForm → Option ℕ → Type 0
 InForm First promise = promise ≡ None
 InForm Second promise = Unit {0}
 
-promise_back : (form : SavedForm) (input : List ℕ) (end : Option ℕ) (at next : ℕ) (promise : Option ℕ) → InForm form promise → ((r : ℕ) → promise ≡ Some r → r < 2 ^ 16) → ((r : ℕ) → promise ≡ Some r → IsBelowEnd end r) →
+promise_back : (form : SavedForm) (input : List ℕ) (end : Option ℕ) (at next : ℕ) (promise : Option ℕ) → InForm form promise → ((r : ℕ) → promise ≡ Some r → r < 2 ^ 16) → ((r : ℕ) → promise ≡ Some r → PromisesBelow end r) →
     Spells input at (promise_bytes form promise) next → promise_at form input end at (Ok (promise, next))
 promise_back First input end at next promise none few below s =
     let same : at ≡ next = omega (arith, s.behind) in

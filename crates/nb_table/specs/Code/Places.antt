@@ -14,7 +14,7 @@ abbrev pub is_there : Option ℕ → ℕ → Bool
 is_there None y = false
 is_there (Some x) y = x == y
 
--- IsPromised own other: the other promise, if there is one, isn't later than the own one
+-- IsPromised own other: the other promise, if there is one, isn't greater than the own one
 abbrev pub IsPromised : Option ℕ → Option ℕ → Type 0
 IsPromised own other = (r : ℕ) → other ≡ Some r → (s : ℕ) × (own ≡ Some s) × (r ≤ s)
 

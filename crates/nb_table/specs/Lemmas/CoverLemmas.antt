@@ -10,7 +10,7 @@ use Rattle.nb_table.specs.Cover.{CoverFacts, CoversFit, BytesBelow, LiesBelow, b
 use Rattle.nb_table.specs.Lemmas.MapsLemmas.{and_left, and_right, and_both, get-union, all_entries_found, all_entries_from}
 use Rattle.nb_table.specs.Lemmas.SameLemmas.{eq_is, is_eq, lt_is, is_lt}
 use Rattle.nb_table.specs.Code.Places.{Holds}
-use Rattle.nb_table.specs.Lemmas.PromiseLemmas.{latest-comm, latest-assoc, latest-itself, latest_either, latest_left, latest_right, promised_adds, before_is, before_from}
+use Rattle.nb_table.specs.Lemmas.PromiseLemmas.{greater-comm, greater-assoc, greater-itself, greater_either, greater_left, greater_right, promised_adds, before_is, before_from}
 use Rattle.nb_table.specs.Lemmas.SlotLemmas.{Unites}
 
 same_at : (o : Option ℕ) (x y : ℕ) → same_where o x ≡ true → o ≡ Some y → x ≡ y
@@ -89,13 +89,13 @@ in_union a b q = get-union nat_cmp_total nat_cmp-IsAntisymmetric a.bytes b.bytes
 below_left : (n : ℕ) (a b : CoverFacts) → LiesBelow n (covers_together a b) → LiesBelow n a
 below_left n a b h = record {
   bytes = λ q x g. h.bytes q x (in_union a b q ∙ first_left _ _ x g);
-  promise = λ r e. (let w = latest_left a.promise b.promise r e in let below = h.promise w.0 w.1 in let less = w.2 in omega (arith, below, less));
+  promise = λ r e. (let w = greater_left a.promise b.promise r e in let below = h.promise w.0 w.1 in let less = w.2 in omega (arith, below, less));
 }
 
 below_right : (n : ℕ) (a b : CoverFacts) → CoversFit a b → LiesBelow n (covers_together a b) → LiesBelow n b
 below_right n a b ab h = record {
   bytes = λ q x g. h.bytes q x (in_union a b q ∙ first_right _ _ (ab.bytes q) x g);
-  promise = λ r e. (let w = latest_right a.promise b.promise r e in let below = h.promise w.0 w.1 in let less = w.2 in omega (arith, below, less));
+  promise = λ r e. (let w = greater_right a.promise b.promise r e in let below = h.promise w.0 w.1 in let less = w.2 in omega (arith, below, less));
 }
 
 pub bytes_below_both : (n : ℕ) (a b : CoverFacts) → BytesBelow n a.bytes → BytesBelow n b.bytes → BytesBelow n (covers_together a b).bytes
@@ -104,7 +104,7 @@ bytes_below_both n a b h k q x g = elim (first_either _ _ x (sym (in_union a b q
 below_both : (n : ℕ) (a b : CoverFacts) → LiesBelow n a → LiesBelow n b → LiesBelow n (covers_together a b)
 below_both n a b h k = record {
   bytes = bytes_below_both n a b h.bytes k.bytes;
-  promise = λ r e. elim (latest_either a.promise b.promise r e) [ inl f ↦ h.promise r f | inr f ↦ k.promise r f ];
+  promise = λ r e. elim (greater_either a.promise b.promise r e) [ inl f ↦ h.promise r f | inr f ↦ k.promise r f ];
 }
 
 pub fit_left : (a b c : CoverFacts) → CoversFit (covers_together a b) c → CoversFit a c
@@ -161,7 +161,7 @@ first_itself None = refl
 first_itself (Some x) = refl
 
 pub together-comm : (a b : CoverFacts) → CoversFit a b → covers_together a b ≡ covers_together b a
-together-comm a b f = same_cover _ _ (λ q. in_union a b q ∙ either_first _ _ (f.bytes q) ∙ sym (in_union b a q)) (either_first _ _ f.ends) (latest-comm a.promise b.promise)
+together-comm a b f = same_cover _ _ (λ q. in_union a b q ∙ either_first _ _ (f.bytes q) ∙ sym (in_union b a q)) (either_first _ _ f.ends) (greater-comm a.promise b.promise)
 
 together-assoc : (a b c : CoverFacts) → covers_together (covers_together a b) c ≡ covers_together a (covers_together b c)
 together-assoc a b c = same_cover _ _
@@ -169,10 +169,10 @@ together-assoc a b c = same_cover _ _
     ∙ first_of_three (map.get a.bytes q) (map.get b.bytes q) (map.get c.bytes q)
     ∙ sym (in_union a (covers_together b c) q ∙ ap (first_of (map.get a.bytes q)) (in_union b c q)))
     (first_of_three a.end b.end c.end)
-    (latest-assoc a.promise b.promise c.promise)
+    (greater-assoc a.promise b.promise c.promise)
 
 together-idem : (a : CoverFacts) → covers_together a a ≡ a
-together-idem a = same_cover _ _ (λ q. in_union a a q ∙ first_itself (map.get a.bytes q)) (first_itself a.end) (latest-itself a.promise)
+together-idem a = same_cover _ _ (λ q. in_union a a q ∙ first_itself (map.get a.bytes q)) (first_itself a.end) (greater-itself a.promise)
 
 pub covers_unite : Unites covers_agree covers_together
 covers_unite = record {

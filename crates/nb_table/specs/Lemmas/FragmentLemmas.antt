@@ -17,7 +17,7 @@ use Rattle.nb_table.specs.Join.{join}
 use Rattle.nb_table.specs.Insert.{NeedsNoMemory, spoilt, contradicts, held}
 use Rattle.nb_table.specs.Lemmas.MapsLemmas.{get-at_keys, tied_self}
 use Rattle.nb_table.specs.Promise.{promise_of_one}
-use Rattle.nb_table.specs.Lemmas.PromiseLemmas.{latest-alone}
+use Rattle.nb_table.specs.Lemmas.PromiseLemmas.{greater-alone}
 use Rattle.nb_table.specs.Lemmas.SameLemmas.{key_cmp_total, key_cmp_exact, same_key_decides}
 use Rattle.nb_table.specs.Lemmas.TableLemmas.{same_table, get-join}
 
@@ -28,7 +28,7 @@ first_alone None = refl
 first_alone (Some x) = refl
 
 cover_in-one : (f : Core) → cover_in (f ∷ []) ≡ cover_of f
-cover_in-one f = λ i. record { bytes = maps.from_entries (append-nil (placed f.offset f.bytes) i); end = first_alone (end_of_one f) i; promise = latest-alone (promise_of_one f) i }
+cover_in-one f = λ i. record { bytes = maps.from_entries (append-nil (placed f.offset f.bytes) i); end = first_alone (end_of_one f) i; promise = greater-alone (promise_of_one f) i }
 
 pub facts_in-one : (f : Core) → facts_in f (f ∷ []) ≡ facts_of f
 facts_in-one f = λ i. record { kind = f.kind; source = f.source; destination = f.destination; cover = cover_in-one f i }

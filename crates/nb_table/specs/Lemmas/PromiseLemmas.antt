@@ -1,9 +1,9 @@
--- What a fragment promises, and the later of two promises.
+-- What a fragment promises, and the greater of two promises.
 use Rattle.std.proofs.Common.{◌≡◌, ◌⊎◌, inl, inr, ◌<◌, ℕ, Bool, true, false, max, cond, Option, Some, None, refl, sym, ◌∙◌, ap, arith, Decides}
 use Rattle.std.proofs.lemmas.Bool.{cases_lt}
 use Rattle.std.proofs.lemmas.Option.{none-some, same_Some}
 use Rattle.nb_datagram.specs.Fragment.{Core, reach}
-use Rattle.nb_table.specs.Promise.{Promises, promise_of_one, latest}
+use Rattle.nb_table.specs.Promise.{Promises, promise_of_one, greater}
 use Rattle.nb_table.specs.Cover.{is_before}
 use Rattle.nb_table.specs.Code.Places.{IsPromised, is_promised}
 use Rattle.nb_table.specs.Lemmas.MapsLemmas.{at-comm, at-assoc, at-idem}
@@ -38,48 +38,48 @@ max_assoc m n k = omega arith
 max_itself : (m : ℕ) → max m m ≡ m
 max_itself m = omega arith
 
--- ---- the later of two promises
+-- ---- the greater of two promises
 
-pub latest-comm : (o p : Option ℕ) → latest o p ≡ latest p o
-latest-comm = at-comm max max_comm
+pub greater-comm : (o p : Option ℕ) → greater o p ≡ greater p o
+greater-comm = at-comm max max_comm
 
-pub latest-assoc : (o p q : Option ℕ) → latest (latest o p) q ≡ latest o (latest p q)
-latest-assoc = at-assoc max max_assoc
+pub greater-assoc : (o p q : Option ℕ) → greater (greater o p) q ≡ greater o (greater p q)
+greater-assoc = at-assoc max max_assoc
 
-pub latest-itself : (o : Option ℕ) → latest o o ≡ o
-latest-itself o = at-idem max o (λ m _. max_itself m)
+pub greater-itself : (o : Option ℕ) → greater o o ≡ o
+greater-itself o = at-idem max o (λ m _. max_itself m)
 
-pub latest-alone : (o : Option ℕ) → latest o None ≡ o
-latest-alone None = refl
-latest-alone (Some m) = refl
+pub greater-alone : (o : Option ℕ) → greater o None ≡ o
+greater-alone None = refl
+greater-alone (Some m) = refl
 
 -- it is one of them
-pub latest_either : (o p : Option ℕ) (r : ℕ) → latest o p ≡ Some r → (o ≡ Some r) ⊎ (p ≡ Some r)
-latest_either None p r e = inr e
-latest_either (Some m) None r e = inl e
-latest_either (Some m) (Some n) r e = elim (max_either m n) [
+pub greater_either : (o p : Option ℕ) (r : ℕ) → greater o p ≡ Some r → (o ≡ Some r) ⊎ (p ≡ Some r)
+greater_either None p r e = inr e
+greater_either (Some m) None r e = inl e
+greater_either (Some m) (Some n) r e = elim (max_either m n) [
   | inl h ↦ inl (ap Some (sym h) ∙ e)
   | inr h ↦ inr (ap Some (sym h) ∙ e)
 ]
 
--- and each isn't later
-pub latest_left : (o p : Option ℕ) → IsPromised (latest o p) o
-latest_left None p r e = absurd (none-some r e)
-latest_left (Some m) None r e = (m, refl, (let same = same_Some m r e in omega (arith, same)))
-latest_left (Some m) (Some n) r e = (max m n, refl, (let same = same_Some m r e in omega (arith, same)))
+-- and neither is greater
+pub greater_left : (o p : Option ℕ) → IsPromised (greater o p) o
+greater_left None p r e = absurd (none-some r e)
+greater_left (Some m) None r e = (m, refl, (let same = same_Some m r e in omega (arith, same)))
+greater_left (Some m) (Some n) r e = (max m n, refl, (let same = same_Some m r e in omega (arith, same)))
 
-pub latest_right : (o p : Option ℕ) → IsPromised (latest o p) p
-latest_right o None r e = absurd (none-some r e)
-latest_right None (Some n) r e = (n, refl, (let same = same_Some n r e in omega (arith, same)))
-latest_right (Some m) (Some n) r e = (max m n, refl, (let same = same_Some n r e in omega (arith, same)))
+pub greater_right : (o p : Option ℕ) → IsPromised (greater o p) p
+greater_right o None r e = absurd (none-some r e)
+greater_right None (Some n) r e = (n, refl, (let same = same_Some n r e in omega (arith, same)))
+greater_right (Some m) (Some n) r e = (max m n, refl, (let same = same_Some n r e in omega (arith, same)))
 
--- a promise that isn't later adds nothing, and one that adds nothing isn't later
-pub promised_adds : (o p : Option ℕ) → IsPromised o p → latest o p ≡ o
-promised_adds o None h = latest-alone o
+-- a promise that isn't greater adds nothing, and one that adds nothing isn't greater
+pub promised_adds : (o p : Option ℕ) → IsPromised o p → greater o p ≡ o
+promised_adds o None h = greater-alone o
 promised_adds None (Some n) h = let w = h n refl in absurd (none-some w.0 w.1)
 promised_adds (Some m) (Some n) h = let w = h n refl in let same = same_Some m w.0 w.1 in let less = w.2 in ap Some (omega (arith, same, less))
 
-pub adds_promised : (o p : Option ℕ) → latest o p ≡ o → IsPromised o p
+pub adds_promised : (o p : Option ℕ) → greater o p ≡ o → IsPromised o p
 adds_promised o None h r e = absurd (none-some r e)
 adds_promised None (Some n) h r e = absurd (none-some n (sym h))
 adds_promised (Some m) (Some n) h r e = (m, refl, (let one = same_Some (max m n) m h in let same = same_Some n r e in omega (arith, one, same)))

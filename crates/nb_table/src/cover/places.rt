@@ -1,4 +1,4 @@
-//! The bytes that are known of a datagram's data, by place, its end, and the latest promise.
+//! The bytes that are known of a datagram's data, by place, its end, and the greatest promise.
 ghost use Rattle.std.specs.Option.{option_eq};
 ghost use Rattle.std.specs.Prelude.{◌≡◌, ◌==◌, ◌↔◌, ◌&&◌, ℕ, IfOk, IsTrue, OnOk, OnErr, Some, length};
 ghost use Rattle.std.specs.FinMap as maps;
@@ -6,7 +6,7 @@ ghost use Rattle.nb_datagram.specs.Fragment.{core_of};
 ghost use Rattle.nb_table.specs.Cover.{CoversFit, cover_of, covers_agree, covers_together, is_below_end, bytes_lie_below};
 ghost use Rattle.nb_table.specs.Cover.{is_before as promise_is_before};
 ghost use Rattle.nb_table.specs.Promise.{promise_of_one};
-ghost use Rattle.nb_table.specs.Promise.{latest as later_promise};
+ghost use Rattle.nb_table.specs.Promise.{greater as the_greater};
 ghost use Rattle.nb_table.specs.Cover.{ends_agree as same_ends};
 ghost use Rattle.nb_table.specs.Cover.{bytes_agree as same_bytes};
 ghost use Rattle.nb_table.specs.Code.Places.{Holds};
@@ -24,7 +24,7 @@ use nb_names::{Bytes, NoMemory};
 use std::alloc::Global;
 use std::marker::Model;
 
-/// The bytes by place, the end, if it is known, and the latest promise, if there is one. No byte
+/// The bytes by place, the end, if it is known, and the greatest promise, if there is one. No byte
 /// lies at or past the end, and no promise.
 ///
 /// Places count from the first byte of the datagram's data.
@@ -71,9 +71,9 @@ fn promise_of(fragment: &Fragment<'_>) -> Option<u32>
     }
 }
 
-/// The later of two promises, or the one that there is.
-fn latest(promise: Option<u32>, other: Option<u32>) -> Option<u32>
-    ensures { result ≡ later_promise promise other }
+/// The greater of two promises, or the one that there is.
+fn greater(promise: Option<u32>, other: Option<u32>) -> Option<u32>
+    ensures { result ≡ the_greater promise other }
 {
     match (promise, other) {
         (Some(promise), Some(other)) => Some(promise.max(other)),
@@ -82,7 +82,7 @@ fn latest(promise: Option<u32>, other: Option<u32>) -> Option<u32>
     }
 }
 
-/// Whether the other promise, if there is one, isn't later than this one.
+/// Whether the other promise, if there is one, isn't greater than this one.
 fn is_promised(promise: Option<u32>, other: Option<u32>) -> bool
     ensures { result ≡ promised_already promise other }
 {
@@ -233,7 +233,7 @@ impl Places {
         let start = u32::from(fragment.offset());
         self.bytes.put(alloc, start, fragment.bytes())?;
         self.end = self.end.or(end_of(fragment));
-        self.promise = latest(self.promise, promise_of(fragment));
+        self.promise = greater(self.promise, promise_of(fragment));
         Ok(())
     }
 

@@ -29,7 +29,7 @@ pub fn table_is_spoilt_where_fragments_disagree()
 
 /// A table holds facts at a key exactly where the key isn't spoilt and they are what the list says
 /// of it: kind and names as its earliest fragment has them, all bytes by their places, the end
-/// if one is known, and the latest promise if there is one.
+/// if one is known, and the greatest promise if there is one.
 pub fn table_holds_what_its_list_says()
     ensures { (L : List Core) (k : Key) (e : EntryFacts) →
         (maps.get (table_of L) k ≡ Some (Held e)) ↔ ((IsSpoilt L k → ⊥) × Says L k e) }
@@ -61,7 +61,7 @@ pub fn table_has_the_ends_of_its_fragments()
 
 /// Whatever the order of its fragments, an entry that isn't spoilt has as its promise the greatest
 /// place that some fragment of its key promises.
-pub fn table_has_the_latest_promise_of_its_fragments()
+pub fn table_has_the_greatest_promise_of_its_fragments()
     ensures { (L : List Core) (k : Key) (e : EntryFacts) → maps.get (table_of L) k ≡ Some (Held e) →
         (r : ℕ) → (e.cover.promise ≡ Some r) ↔
         (HasPromise L k r × ((s : ℕ) → HasPromise L k s → s ≤ r)) }

@@ -8,7 +8,7 @@ ghost use Rattle.nb_table.specs.Promise.{promise_of_one as core_promise};
 ghost use Rattle.nb_table.specs.Contents.{byte_at as list_byte};
 ghost use Rattle.nb_table.specs.Contents.{end_of as list_end};
 ghost use Rattle.nb_table.specs.Contents.{promise_of as list_promise};
-ghost use Rattle.nb_table.specs.Promise.{latest};
+ghost use Rattle.nb_table.specs.Promise.{greater};
 
 use nb_datagram::{Fragment, Key};
 
@@ -112,9 +112,9 @@ fn promise_with(fragment: &Fragment<'_>, key: &Key) -> Option<u32>
     }
 }
 
-/// The later of two promises, or the one that there is.
-fn later_of(promise: Option<u32>, other: Option<u32>) -> Option<u32>
-    ensures { result ≡ latest promise other }
+/// The greater of two promises, or the one that there is.
+fn greater_of(promise: Option<u32>, other: Option<u32>) -> Option<u32>
+    ensures { result ≡ greater promise other }
 {
     match (promise, other) {
         (Some(promise), Some(other)) => Some(promise.max(other)),
@@ -130,7 +130,7 @@ pub fn promise_of(fragments: &[Fragment<'_>], key: &Key) -> Option<u32>
 {
     let mut promise = None;
     for fragment in fragments {
-        promise = later_of(promise, promise_with(fragment, key));
+        promise = greater_of(promise, promise_with(fragment, key));
     }
     promise
 }

@@ -4,7 +4,7 @@ ghost use Rattle.std.specs.Int.{w16, w32, to_be_bytes};
 ghost use Rattle.nb_names.specs.Numbers.{NumberAt};
 ghost use Rattle.nb_datagram.specs.Header.{IsKey};
 ghost use Rattle.nb_table.specs.Saved.{end_bytes, key_bytes};
-ghost use Rattle.nb_table.specs.SavedReading.{Field, Then, Judged, KeyAt, IsAfter, IsBelowEnd, fault_of_name};
+ghost use Rattle.nb_table.specs.SavedReading.{Field, Then, Judged, KeyAt, IsAfter, PromisesBelow, fault_of_name};
 ghost use Rattle.nb_table.specs.SavedReading.{byte_at as byte_reading};
 ghost use Rattle.nb_table.specs.SavedReading.{number_at as number_reading};
 ghost use Rattle.nb_table.specs.SavedReading.{bytes_at as bytes_reading};
@@ -185,7 +185,7 @@ pub(crate) fn read_end(input: &[u8], at: usize) -> Result<(Option<u32>, usize), 
 
 /// Whether the promise lies below the end, if that is known.
 fn is_below_end(end: Option<u32>, promise: u32) -> bool
-    ensures { IsTrue result ↔ IsBelowEnd end promise }
+    ensures { IsTrue result ↔ PromisesBelow end promise }
 {
     match end {
         Some(end) => promise < end,
@@ -201,7 +201,7 @@ fn read_promised(
     mark: usize,
     at: usize,
 ) -> Result<(u32, usize), LoadFault>
-    ensures { Then (number_reading input.now at) (Judged mark (IsBelowEnd end)) result }
+    ensures { Then (number_reading input.now at) (Judged mark (PromisesBelow end)) result }
 {
     let (number, after) = read_number(input, at)?;
     let promise = u32::from(number);

@@ -4,7 +4,7 @@ ghost use Rattle.std.specs.FinMap as maps;
 ghost use Rattle.nb_table.specs.Cover.{CoversFit, bytes_agree, covers_agree, covers_together, bytes_lie_below, placed};
 ghost use Rattle.nb_table.specs.Code.Fitting.{ends_by};
 
-use super::{Places, ends_agree, latest};
+use super::{Places, ends_agree, greater};
 use nb_names::NoMemory;
 
 /// Whether the end or the promise, if there is one, is at most the limit.
@@ -48,7 +48,7 @@ impl Places {
     {
         let bytes = self.bytes.together(&other.bytes)?;
         let end = self.end.or(other.end);
-        let promise = latest(self.promise, other.promise);
+        let promise = greater(self.promise, other.promise);
         Ok(Places {
             bytes,
             end,

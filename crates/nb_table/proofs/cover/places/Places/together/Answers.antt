@@ -17,10 +17,10 @@ invariant_of-result c =
     let own : CoverFacts = record { bytes = c.self.inside.bytes; end = c.self.inside.end; promise = c.self.inside.promise } in
     let others : CoverFacts = record { bytes = c.other.inside.bytes; end = c.other.inside.end; promise = c.other.inside.promise } in
     let fit = subst (λ (b : CoverFacts). CoversFit own b) (sym c.other.view_is) (subst (λ (a : CoverFacts). CoversFit a c.args.other.now) (sym c.self.view_is) c.requires) in
-    subst AreCoverFacts (sym (union_is own others _ _ _ c.in_ok-bytes.ensures c.or-end.ensures c.latest-promise.ensures)) (together_formed own others fit c.self.invariant c.other.invariant)
+    subst AreCoverFacts (sym (union_is own others _ _ _ c.in_ok-bytes.ensures c.or-end.ensures c.greater-promise.ensures)) (together_formed own others fit c.self.invariant c.other.invariant)
 
 pub returns : goal.returns
 returns c =
     let own : CoverFacts = record { bytes = c.self.inside.bytes; end = c.self.inside.end; promise = c.self.inside.promise } in
     let others : CoverFacts = record { bytes = c.other.inside.bytes; end = c.other.inside.end; promise = c.other.inside.promise } in
-    union_is own others _ _ _ c.in_ok-bytes.ensures c.or-end.ensures c.latest-promise.ensures ∙ ap₂ covers_together c.self.view_is c.other.view_is
+    union_is own others _ _ _ c.in_ok-bytes.ensures c.or-end.ensures c.greater-promise.ensures ∙ ap₂ covers_together c.self.view_is c.other.view_is

@@ -9,6 +9,9 @@ examples=$here/../crates/nb_examples/examples
 "$here/join_examples.sh" --check
 count $? 'the examples are joined (tests/join_examples.sh)'
 
+"$here/rust_samples.py"
+count $? 'the Rust samples of the pages stand in the sources (tests/rust_samples.py)'
+
 # Names and texts by the thousand, whose answers a slow model finds.
 "$here/names_model.py" | "$program" >"$room/output"
 [ $? -eq 0 ] && grep -qE '^[0-9]{5,} examples, 0 wrong$' "$room/output"

@@ -79,15 +79,19 @@ for cases in "$here"/cases/*.txt; do
     sample "$command" "$told"
 done
 
-# The console samples of README.md: each command prints the lines after it. Their files go into a folder of their own.
-mkdir "$room/samples"
-samples() { awk '/^```$/ { shown = 0 } shown; /^```console$/ { shown = 1 }' "$here/../README.md"; }
-samples | sed -n 's/^\$ //p' | while read -r command; do
-    echo "\$ $command"
-    (cd "$room/samples" && PATH=$room/bin:$PATH bash -c "$command" </dev/null)
-done >"$room/output" 2>&1
-samples | cmp -s - "$room/output"
-count $? 'the console samples of README.md'
+# The console samples of the pages: each command prints the lines after it. A page's files go into a folder of its own.
+samples() { awk '/^```$/ { shown = 0 } shown; /^```console$/ { shown = 1 }' "$1"; }
+for page in README.md docs/GUIDE.md; do
+    mkdir "$room/samples"
+    samples "$here/../$page" >"$room/wanted"
+    sed -n 's/^\$ //p' "$room/wanted" | while IFS= read -r command; do
+        echo "\$ $command"
+        (cd "$room/samples" && PATH=$room/bin:$PATH bash -c "$command" </dev/null)
+    done >"$room/output" 2>&1
+    diff "$room/wanted" "$room/output"
+    count $? "the console samples of $page"
+    rm -r "$room/samples"
+done
 
 # An input that can't be read.
 "$program" show <&- >"$room/output" 2>"$room/errors"

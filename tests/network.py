@@ -78,7 +78,7 @@ def datagrams(network):
     network.frame(1400, ip(UDP, udp(138, 138, b'')))
     network.gives((138, 1400, 'empty'))
     network.frame(1450, ip(UDP, udp(138, 138, DATAGRAM)), captured=142)
-    network.gives(('# frame 9 is left out: it has 100 of the 1082 bytes that were sent',))
+    network.gives(('# frame 9 is left out: its UDP length is 1090, and the file has 100 bytes of its payload',))
 
 
 class Side:
@@ -124,7 +124,7 @@ def session(network):
 def strangers(network):
     """After a pause, streams whose start isn't captured, or that aren't NetBIOS."""
     Side(network, 1026, 139, 500).sends(9000, 0, KEEPALIVE + KEEPALIVE)
-    network.gives(('# stream 1, port 1026 to 139: frame 23 is taken for its start, which the file lacks',),
+    network.gives(('# stream 1 from 10.0.0.5 port 1026: frame 23 is taken for its start, which the file lacks',),
                   ('tick', 2000), ('tick', 3000), ('tick', 4000), ('tick', 9000), (139, 9000, KEEPALIVE), (139, 9000, KEEPALIVE))
     web = Side(network, 1027, 139, 0)
     web.sends(9100, 0, b'', SYN)
@@ -148,12 +148,24 @@ def overlaps(network):
     network.gives((139, 20_400, OTHER), (139, 20_400, KEEPALIVE))
 
 
+def rarities(network):
+    """A tunnel, a fragment alone, and UDP lengths other than IP's."""
+    query = udp(137, 137, QUERY)
+    network.frame(20_500, ip(4, ip(UDP, query)))
+    network.frame(20_600, ip(UDP, query[:32], fragment=0x2000, identifier=8))
+    network.frame(20_700, ip(UDP, query + b'surplus'))
+    network.frame(20_800, ip(UDP, struct.pack('>HHHH', 137, 137, 3, 0) + QUERY))
+    network.gives((137, 20_500, QUERY), (137, 20_700, QUERY),
+                  ('# frame 36 is left out: its UDP length is 3, and the file has 0 bytes of its payload',))
+
+
 with open(sys.argv[1], 'wb') as pcap:
     made = Network(pcap)
     datagrams(made)
     session(made)
     strangers(made)
     overlaps(made)
-    made.gives(('# stream 0, port 1025 to 139: bytes left over: 2 (0000), then missing: 3, then captured: 4',),
-               ('# stream 2, port 1027 to 139: bytes left over: 16 (%s)' % FOREIGN.hex(),),
-               ('# stream 3, port 1028 to 139: bytes left over: 4 (%s)' % KEEPALIVE.hex(),))
+    rarities(made)
+    made.gives(('# stream 0 from 10.0.0.5 port 1025: bytes left over: 2 (0000), then missing: 3, then captured: 4',),
+               ('# stream 2 from 10.0.0.5 port 1027: bytes left over: 16 (%s)' % FOREIGN.hex(),),
+               ('# stream 3 from 10.0.0.5 port 1028: bytes left over: 4 (%s)' % KEEPALIVE.hex(),))

@@ -1,7 +1,7 @@
 #!/usr/bin/env bash
-# The built program beside Wireshark: what `nbt build` makes, as tshark dissects it, and a network's packets, as `nbt show`
-# has them, by way of tools/cap2pcap and tools/pcap2cap. Usage: tests/wireshark.sh [PROGRAM]; its last line is 'N passed,
-# M failed'. Where tshark isn't installed no case is run.
+# The built program beside Wireshark: what `nbt build` makes, as tshark dissects it, and a network's packets, as `nbt
+# show` has them, by way of tools/cap2pcap and tools/pcap2cap. Usage: tests/wireshark.sh [PROGRAM]; its last line is
+# 'N passed, M failed'. Where tshark isn't installed no case is run.
 set -uo pipefail
 . "$(dirname "$0")/counting.sh"
 program=$(realpath "${1:-$here/../crates/nbt/out/nbt}")
@@ -36,6 +36,12 @@ spelled() {
     printf '%s\n' "$text"
 }
 
+# unchanged COMMAND: whether --broadcast changes nothing of packets of other ports than 137.
+unchanged() {
+    [[ $1 == *--broadcast* ]] || grep -q '^137 ' "$room/lines" ||
+        eval "${1/nbt build/nbt build --broadcast}" | cmp -s - "$room/lines"
+}
+
 # The first eight bytes of data that is longer than 32 bytes.
 shortened() { sed -E 's/\b([0-9a-f]{16})[0-9a-f]{49,}\b/\1../g'; }
 
@@ -45,9 +51,12 @@ commands=() numbers=() told=()
 while IFS= read -r line; do
     case $line in
     '$ '*)
-        eval "$(spelled "${line#'$ '}")" >"$room/lines"
+        command=$(spelled "${line#'$ '}")
+        eval "$command" >"$room/lines"
+        unchanged "$command"
+        count $? "${line:2:100}, and --broadcast"
         cat "$room/lines" >>"$room/built"
-        commands+=("${line#'$ '}") numbers+=("$(wc -l <"$room/lines")") told+=('')
+        commands+=("${line:2:100}") numbers+=("$(wc -l <"$room/lines")") told+=('')
         ;;
     '' | '#'*) ;;
     *) told[-1]+=$(spelled "$line" | shortened)$'\n' ;;
@@ -71,7 +80,7 @@ for index in "${!commands[@]}"; do
         found+=$line$'\n'
     done
     [ -n "$found" ] && [ "$found" = "${told[index]}" ]
-    count $? "tshark on ${commands[index]:0:100}: $found"
+    count $? "tshark on ${commands[index]}: $found"
 done
 [ "$(cat <&3 | wc -l)" -eq 0 ]
 count $? 'tshark finds as many packets as were built'
@@ -82,7 +91,7 @@ count $? 'pcap2cap: the packets that were built'
 # ---- A network's packets, by tests/network.py.
 
 "$here/network.py" "$room/network.pcap" >"$room/expected"
-mkdir "$room/own" && printf '%s\n' 'ip.defragment: FALSE' 'ipv6.defragment: FALSE' >"$room/own/preferences"
+mkdir "$room/own" && echo 'ip.defragment: FALSE' >"$room/own/preferences" && echo udp >"$room/own/disabled_protos"
 WIRESHARK_CONFIG_DIR=$room/own "$pcap2cap" "$room/network.pcap" >"$room/capture" 2>"$room/errors"
 [ $? -eq 0 ] && cmp -s "$room/capture" "$room/expected" && [ ! -s "$room/errors" ]
 count $? "pcap2cap: the packets of a network, whatever the user's settings of tshark"
@@ -122,8 +131,9 @@ payloads() { awk '$1 ~ /^13/ { print $1, $3 }' "$1"; }
 count $? 'cap2pcap: the packets of a network'
 [ "$(payloads "$room/capture" | wc -l)" -gt 12 ] && cmp -s <(payloads "$room/capture") <(payloads "$room/again")
 count $? 'the packets of a network, from pcap to capture to pcap to capture'
-fields "$room/network.pcap" 'udp.port in {137, 138} && !icmp && frame.cap_len == frame.len' udp.payload >"$room/before"
-fields "$room/again.pcap" udp udp.payload | cmp -s "$room/before" -
+fields "$room/network.pcap" 'udp.port in {137, 138} && !icmp && frame.cap_len == frame.len && frame.time_relative < 20' \
+    udp.payload >"$room/before"
+fields "$room/again.pcap" 'udp && frame.time_relative < 20' udp.payload | cmp -s "$room/before" -
 count $? 'payloads of UDP, as tshark has them before and after'
 fields "$room/again.pcap" tcp.payload tcp.payload | tr -d '\n' | cmp -s - <(sed -n 's/^139 [0-9]* //p' "$room/capture" | tr -d '\n')
 count $? 'payloads of TCP, as tshark has them after'
@@ -169,7 +179,18 @@ PATH=$room/bare refused cap2pcap '' 3 "cap2pcap: text2pcap isn't installed; in D
 # Lines that are no whole session packet, and empty ones.
 printf '%s\n' '139 7 8500' '139 8 85000000' '138 9 empty' '139 9 8600000101' '139 10 empty' '139 11 82000000' >"$room/lines"
 "$cap2pcap" <"$room/lines" >"$room/output" && "$pcap2cap" "$room/output" | cmp -s - <(printf '%s\n' '139 1 85000000' '138 2 empty' \
-    '139 2 8600000101' '139 4 82000000' '# stream 0, port 1024 to 139: bytes left over: 2 (8500)')
+    '139 2 8600000101' '139 4 82000000' '# stream 0 from 192.0.2.1 port 1024: bytes left over: 2 (8500)')
 count $? 'a stream ends with a line that is no session packet'
+
+# The console samples of docs/CAPTURES.md: each command prints the lines after it.
+mkdir "$room/bin" "$room/samples" && ln -s "$program" "$room/bin/nbt"
+ln -s "$(realpath "$pcap2cap")" "$room/bin/nbt-pcap2cap" && ln -s "$(realpath "$cap2pcap")" "$room/bin/nbt-cap2pcap"
+samples() { awk '/^```$/ { shown = 0 } shown; /^```console$/ { shown = 1 }' "$here/../docs/CAPTURES.md"; }
+samples | sed -n 's/^\$ //p' | while read -r command; do
+    echo "\$ $command"
+    (cd "$room/samples" && PATH=$room/bin:$PATH bash -c "$command" </dev/null)
+done >"$room/output" 2>&1
+samples | diff - "$room/output"
+count $? 'the console samples of docs/CAPTURES.md'
 
 finish

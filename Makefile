@@ -26,6 +26,9 @@ test:
 bench: build
 	tests/bench.py
 
-# Build the program, and put it below PREFIX.
+# Build the program, and put it below PREFIX, with the tools for pcap files and the manual page.
 install: build
 	install -D -m 755 crates/nbt/out/nbt '$(DESTDIR)$(PREFIX)/bin/nbt'
+	install -D -m 755 tools/pcap2cap '$(DESTDIR)$(PREFIX)/bin/nbt-pcap2cap'
+	install -D -m 755 tools/cap2pcap '$(DESTDIR)$(PREFIX)/bin/nbt-cap2pcap'
+	install -D -m 644 man/nbt.1 '$(DESTDIR)$(PREFIX)/share/man/man1/nbt.1'

@@ -25,5 +25,7 @@ step() {
 step rt ci
 step tests/program.sh
 step tests/examples.sh
+step tests/wireshark.sh
+step tests/manual.sh
 echo "$passed passed, $failed failed"
 [ "$failed" -eq 0 ]

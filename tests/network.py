@@ -149,9 +149,10 @@ def overlaps(network):
 
 
 def rarities(network):
-    """A tunnel, a fragment alone, and UDP lengths other than IP's."""
+    """A tunnel in UDP (VXLAN), a fragment alone, and UDP lengths other than IP's."""
     query = udp(137, 137, QUERY)
-    network.frame(20_500, ip(4, ip(UDP, query)))
+    tunnel = b'\x08' + bytes(7 + 12) + b'\x08\x00'
+    network.frame(20_500, ip(UDP, udp(50_000, 4789, tunnel + ip(UDP, query))))
     network.frame(20_600, ip(UDP, query[:32], fragment=0x2000, identifier=8))
     network.frame(20_700, ip(UDP, query + b'surplus'))
     network.frame(20_800, ip(UDP, struct.pack('>HHHH', 137, 137, 3, 0) + QUERY))

@@ -116,7 +116,7 @@ class Checker:
         merged = self.run(['merge', *keys], given)
         if merged.status == 0:
             self.loads(merged)
-            turned = self.run(['merge', *keys], b'\n'.join(reversed(lines)))
+            turned = self.run(['merge', *keys], b'\n'.join(reversed(given.removesuffix(b'\n').split(b'\n'))))
             expect(turned.output == merged.output, turned, 'tables merged in another order differ')
         else:
             expect(not merged.output, merged, 'an output at a refusal')

@@ -2,9 +2,10 @@
 
 NAMES = 'FRED<20>'
 CAPTURE = examples/capture.txt
+SECONDS = 60
 PREFIX ?= /usr/local
 
-.PHONY: run build check test bench install
+.PHONY: run build check test bench fuzz install
 
 # Prove and build the program, and replay a capture in a station with these names.
 run: build
@@ -25,6 +26,10 @@ test:
 # Build the program, and print what its commands cost: instructions, packets a second, memory.
 bench: build
 	tests/bench.py
+
+# Build the program, and give it random and changed inputs: make fuzz SECONDS=600.
+fuzz: build
+	tests/fuzz.py --seconds $(SECONDS)
 
 # Build the program, and put it below PREFIX, with the tools for pcap files and the manual page.
 install: build

@@ -24,6 +24,7 @@ step() {
 
 step rt ci
 step tests/program.sh
+step tests/process.py
 step tests/examples.sh
 step tests/wireshark.sh
 step tests/manual.sh

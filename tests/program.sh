@@ -194,8 +194,12 @@ remembers name --bytes "$scoped"
 remembers name FRED
 remembers name
 remembers name --help
+remembers --help
+remembers
+remembers replay
 remembers build registration 0002 'FRED<20>' 300000 0000 10.0.0.5
 remembers build message 616263
+remembers build group 10.0.0.5:138/0001 'JOE<00>' 'FRED<20>' empty 100
 remembers build query 0001 FRED
 remembers build group 10.0.0.5:138/0001 'JOE<00>' 'FRED<20>' 00010203040506070809 4
 { "$program" build query 0001 'FRED<20>.A' && printf 'tick 2\n139 0 00000003616263\nx\n'; } >"$room/input"
@@ -206,6 +210,11 @@ remembers save
 remembers save --keys 0
 remembers replay 'FRED<20>' 'JOE<00>'
 remembers replay FRED
+printf '138 0 %s\n138 1 %s\ntick 2000\n138 2001 %s\n137 2002 00\n138 2003 17\n' $empty $empty $empty >"$room/capture"
+input=$room/capture
+remembers replay 'FRED<20>'
+remembers show
+remembers save
 "$program" save <"$room/input" | sed p >"$room/tables"
 input=$room/tables
 remembers merge

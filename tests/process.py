@@ -1,0 +1,366 @@
+#!/usr/bin/env python3
+"""The built program as a process, over what a system gives it: full disks, closed pipes, terminals, little memory.
+
+Usage: tests/process.py [PROGRAM]; its last line is 'N passed, M failed'. Each run has to end, by no signal, with a
+status of 0 to 3 and that status's text, and what it wrote has to be a front of what it writes otherwise.
+"""
+import fcntl
+import os
+import resource
+import select
+import signal
+import subprocess
+import sys
+import tempfile
+import termios
+import time
+
+HERE = os.path.dirname(os.path.abspath(__file__))
+PROGRAM = os.path.join(HERE, '..', 'crates', 'nbt', 'out', 'nbt')
+SECONDS = 60
+MEGABYTE = 1 << 20
+
+JOE = '20454b45504546434143414341434143414341434143414341434143414341414100'
+FRED = '20454746434546454543414341434143414341434143414341434143414341434100'
+FOUND = b'1 delivered 10.0.0.5:138/0001 group JOE<00> FRED<20> empty\n'
+
+counts = {True: 0, False: 0}
+
+
+def check(passed, name):
+    """Counts a case, and prints the name of one that failed."""
+    counts[bool(passed)] += 1
+    if not passed:
+        print(f'failed: {name}', flush=True)
+
+
+def packet(identifier, flags=2, offset=0, data=''):
+    """A group datagram's packet from JOE<00> to FRED<20>, as digits."""
+    length = (len(JOE) + len(FRED) + len(data)) // 2
+    return f'11{flags:02x}{identifier:04x}0a000005008a{length:04x}{offset:04x}{JOE}{FRED}{data}'
+
+
+def start(words, stdin=subprocess.PIPE, stdout=subprocess.PIPE, stderr=subprocess.PIPE, before=None):
+    """The program, with these words, started."""
+    return subprocess.Popen([program, *words], stdin=stdin, stdout=stdout, stderr=stderr, preexec_fn=before, bufsize=0)
+
+
+def run(words, given=b'', before=None, **streams):
+    """The status, the output and the errors of a whole run over an input. None is the status of one that didn't end."""
+    process = start(words, before=before, **streams)
+    try:
+        output, errors = process.communicate(given if process.stdin else None, timeout=SECONDS)
+    except subprocess.TimeoutExpired:
+        process.kill()
+        process.communicate()
+        return None, b'', b''
+    return process.returncode, output or b'', errors or b''
+
+
+def closed(*descriptors):
+    """What closes descriptors in a process before the program starts."""
+    return lambda: [os.close(it) for it in descriptors]
+
+
+def wait(process):
+    """The status and the errors of a process whose output isn't looked at any more."""
+    try:
+        status = process.wait(SECONDS)
+    except subprocess.TimeoutExpired:
+        process.kill()
+        status = None
+    errors = process.stderr.read() if process.stderr else b''
+    for stream in (process.stdin, process.stdout, process.stderr):
+        if stream and not stream.closed:
+            stream.close()
+    return status, errors
+
+
+def lines_of(stream, count):
+    """The next lines of a stream, as many as are there within some seconds."""
+    taken = []
+    while taken.count(b'\n') < count and select.select([stream], [], [], SECONDS)[0]:
+        byte = os.read(stream.fileno(), 1)
+        if not byte:
+            break
+        taken.append(byte)
+    return b''.join(taken)
+
+
+# Each command: its words, an input, its status, its output and its errors.
+CAPTURE = f'138 0 {packet(1)}\n138 1 {packet(1)}\ntick 2000\n138 2001 {packet(1)}\n137 2002 00\n138 2003 17\n'.encode()
+REPORT = [FOUND, b'2 kept 10.0.0.5:138/0001\n', b'3 dropped 1\n', b'4' + FOUND[1:], b'5 passed\n',
+          b'6 refused truncated 1\n']
+TABLES = b'4e42543200000000\n4e42543200000000\n'
+COMMANDS = [
+    (['name', 'FRED<20>'], b'', 0, f'{FRED}\n'.encode(), b''),
+    (['name', '--bytes', FRED], b'', 0, b'FRED<20>\n', b''),
+    (['name', 'FRED'], b'', 1, b'', b'nbt: bad text 4\n'),
+    (['build', 'keepalive'], b'', 0, b'139 0 85000000\n', b''),
+    (['build', 'nonsense'], b'', 1, b'', b'nbt: arguments\n'),
+    (['show'], b'tick 1\n139 2 85000000\n', 0, b'1 tick 1\n2 139 keepalive used=4\n', b''),
+    (['show'], b'tick 1\nx\n', 1, b'1 tick 1\n', b'nbt: line 2\n'),
+    (['replay', 'FRED<20>'], CAPTURE, 0, b''.join(REPORT), b''),
+    (['replay', 'FRED<20>'], b'tick 1\nx\n', 1, b'1 dropped 0\n', b'nbt: line 2\n'),
+    (['save'], b'tick 1\n138 0 17\n', 0, b'4e42543200000000\n', b''),
+    (['save'], b'x\n', 1, b'', b'nbt: line 1\n'),
+    (['merge'], TABLES, 0, b'4e42543200000000\n', b''),
+    (['merge'], b'', 1, b'', b'nbt: no tables\n'),
+    (['agree'], TABLES, 0, b'equal\n', b''),
+    (['agree'], b'4e42543200000000\n4e425432000000010a000005008a000100\n', 1, b'different\n', b''),
+    (['--version'], b'', 0, b'nbt 0.1.0\n', b''),
+]
+READING = [['show'], ['save'], ['replay', 'FRED<20>'], ['merge'], ['agree']]
+
+
+def ordinary():
+    """Each command by itself; with standard error closed, or a pipe that nobody reads, it ends as ever."""
+    for words, given, status, output, errors in COMMANDS:
+        name = 'nbt ' + ' '.join(words)
+        check(run(words, given) == (status, output, errors), name)
+        check(run(words, given, before=closed(2), stderr=None) == (status, output, b''), f'{name}, standard error closed')
+        with broken_pipe() as pipe:
+            check(run(words, given, stderr=pipe) == (status, output, b''), f'{name}, standard error a broken pipe')
+    check(run([], before=closed(2), stderr=None)[:2] == (2, b''), 'nbt, standard error closed')
+    with broken_pipe() as pipe:
+        check(run([], stderr=pipe)[:2] == (2, b''), 'nbt, standard error a broken pipe')
+
+
+def broken_pipe():
+    """A pipe to write to, whose other end is closed."""
+    reading, writing = os.pipe()
+    os.close(reading)
+    return open(writing, 'wb', buffering=0)
+
+
+def failing_outputs():
+    """An output that takes nothing: a broken pipe, also where SIGPIPE is ignored, a closed one, one opened for reading,
+    and all three streams closed. Where nothing is to be written, nothing fails."""
+    ignored = lambda: signal.signal(signal.SIGPIPE, signal.SIG_IGN)
+    for words, given, status, output, errors in COMMANDS:
+        wanted = (3, b'nbt: write\n') if output else (status, errors)
+        name = 'nbt ' + ' '.join(words)
+        for how, before in [('a broken pipe', None), ('a broken pipe, SIGPIPE ignored', ignored)]:
+            with broken_pipe() as pipe:
+                status_and_errors = run(words, given, before=before, stdout=pipe)[::2]
+            check(status_and_errors == wanted, f'{name}, standard output {how}')
+        with open(os.devnull, 'rb') as reading:
+            check(run(words, given, stdout=reading)[::2] == wanted, f'{name}, standard output opened for reading')
+        ended = run(words, before=closed(0, 1, 2), stdin=None, stdout=None, stderr=None)[0]
+        check(ended in (1, 3), f'{name}, all streams closed')
+
+
+def closed_reports():
+    """A reader that goes away after each line of a report, while the input goes on."""
+    for words, report in [(['replay', 'FRED<20>'], REPORT), (['show'], shown_lines())]:
+        lines = CAPTURE.splitlines(keepends=True)
+        for taken in range(len(lines) + 1):
+            process = start(words)
+            process.stdin.write(b''.join(lines[:taken]))
+            output = lines_of(process.stdout, taken)
+            process.stdout.close()
+            try:
+                process.stdin.write(b''.join(lines[taken:]))
+            except BrokenPipeError:
+                pass
+            process.stdin.close()
+            wanted = (3, b'nbt: write\n') if taken < len(lines) else (0, b'')
+            check(output == b''.join(report[:taken]) and wait(process) == wanted,
+                  f'nbt {words[0]}, its report closed after line {taken}')
+    long = b'tick 1\n' * 100_000
+    for words in (['show'], ['replay', 'FRED<20>']):
+        for taken in (1, 100, 1_000):
+            with tempfile.TemporaryFile() as given:
+                given.write(long)
+                given.seek(0)
+                process = start(words, stdin=given)
+                output = lines_of(process.stdout, taken)
+                process.stdout.close()
+                check(output.count(b'\n') == taken and wait(process) == (3, b'nbt: write\n'),
+                      f'nbt {words[0]} of 100,000 lines, {taken} of them read')
+
+
+def shown_lines():
+    """What `nbt show` has for each line of the capture."""
+    return run(['show'], CAPTURE)[1].splitlines(keepends=True)
+
+
+def inputs():
+    """An input that is no file to be read, or that stops."""
+    for words in READING:
+        name = f'nbt {words[0]}'
+        directory = os.open('/', os.O_RDONLY)
+        check(run(words, stdin=directory) == (3, b'', b'nbt: read\n'), f'{name}, a directory as input')
+        os.close(directory)
+        with open(os.devnull, 'wb') as writing:
+            check(run(words, stdin=writing) == (3, b'', b'nbt: read\n'), f'{name}, an input opened for writing')
+        with open('/dev/zero', 'rb') as zeros:
+            wanted = b'nbt: read\n' if words[0] in ('merge', 'agree') else b'nbt: line 1\n'
+            status = 3 if words[0] in ('merge', 'agree') else 1
+            check(run(words, stdin=zeros) == (status, b'', wanted), f'{name}, an input of zero bytes without end')
+        reading, writing = os.pipe()
+        os.set_blocking(reading, False)
+        check(run(words, stdin=reading) == (3, b'', b'nbt: read\n'), f'{name}, an input that would have to be waited for')
+        os.close(reading)
+        os.close(writing)
+    for words in (['show'], ['replay', 'FRED<20>']):
+        stopping_input(words)
+
+
+def stopping_input(words):
+    """An input that stops inside a line: what was finished shows, the program waits, also over a stop of its own, and
+    takes the rest for what it is once it comes, or once the input ends."""
+    report = {'show': [b'1 tick 10\n', b'2 tick 2\n'], 'replay': [b'1 dropped 0\n', b'2 dropped 0\n']}[words[0]]
+    for rest, wanted in [(b'\n', report[1]), (b'', report[1]), (b'x', b'')]:
+        process = start(words)
+        process.stdin.write(b'tick 10\ntick 2')
+        first = lines_of(process.stdout, 1)
+        for sent in (signal.SIGSTOP, signal.SIGCONT):
+            process.send_signal(sent)
+            time.sleep(0.05)
+        waits = process.poll() is None and not select.select([process.stdout], [], [], 0.1)[0]
+        process.stdin.write(rest)
+        process.stdin.close()
+        output = first + process.stdout.read()
+        wanted_end = (0, b'') if wanted else (1, b'nbt: line 2\n')
+        check(waits and output == report[0] + wanted and wait(process) == wanted_end,
+              f'nbt {words[0]}, an input that stops inside a line and goes on with {rest}')
+
+
+def terminals():
+    """A terminal as all three streams: lines are acted on as they are typed, and ^D ends the input. Of a terminal that
+    is gone the system says either that the input has ended or that it can't be read."""
+    for words in (['show'], ['replay', 'FRED<20>']):
+        report = {'show': b'1 tick 1\n2 tick 22\n', 'replay': b'1 dropped 0\n2 dropped 0\n'}[words[0]]
+        for typed, wanted, status in [(b'tick 1\ntick 22\n\x04', report, 0), (b'tick 1\ntick 22\x04\x04', report, 0),
+                                      (b'tick 1\nx\n', report[:report.index(b'\n') + 1] + b'nbt: line 2\n', 1)]:
+            check(at_terminal(words, typed, wanted) == (status, wanted), f'nbt {words[0]} at a terminal: {typed}')
+        terminal, slave = quiet_terminal()
+        process = start(words, stdin=slave)
+        os.close(slave)
+        os.write(terminal, b'tick 1\n')
+        first = lines_of(process.stdout, 1)
+        os.close(terminal)
+        rest = process.stdout.read()
+        check(first + rest == report[:report.index(b'\n') + 1] and wait(process) in ((0, b''), (3, b'nbt: read\n')),
+              f'nbt {words[0]}, its terminal gone')
+
+
+def quiet_terminal():
+    """A terminal that neither shows what is typed nor changes what is printed."""
+    terminal, slave = os.openpty()
+    settings = termios.tcgetattr(slave)
+    settings[1] &= ~termios.OPOST
+    settings[3] &= ~termios.ECHO
+    termios.tcsetattr(slave, termios.TCSANOW, settings)
+    return terminal, slave
+
+
+def at_terminal(words, typed, wanted):
+    """The status of the program at a terminal, and what it prints there."""
+    terminal, slave = quiet_terminal()
+    process = start(words, stdin=slave, stdout=slave, stderr=slave)
+    os.write(terminal, typed)
+    status, _ = wait(process)
+    os.close(slave)
+    output = b''
+    while len(output) < len(wanted) and select.select([terminal], [], [], 1)[0]:
+        try:
+            output += os.read(terminal, 4096)
+        except OSError:
+            break
+    os.close(terminal)
+    return status, output
+
+
+def full_disks():
+    """A disk that is full after some bytes: what it has is a front of the output."""
+    with tempfile.TemporaryDirectory() as folder:
+        if subprocess.run(['mount', '-t', 'tmpfs', '-o', 'size=16k', 'nbt', folder], stderr=subprocess.DEVNULL).returncode:
+            print('left out: a tmpfs of 16 kB, which cannot be mounted here')
+        else:
+            try:
+                full_disk('a tmpfs of 16 kB', os.path.join(folder, 'output'), None)
+            finally:
+                subprocess.run(['umount', folder], check=True)
+        full_disk('files of at most 16 kB', os.path.join(folder, 'output'), small_files)
+
+
+def small_files():
+    """Before the program starts: a write past 16 kB of a file fails."""
+    signal.signal(signal.SIGXFSZ, signal.SIG_IGN)
+    resource.setrlimit(resource.RLIMIT_FSIZE, (16_384, 16_384))
+
+
+def full_disk(name, path, before):
+    given = b''.join(f'138 0 {packet(it)}\n'.encode() for it in range(1_000))
+    table = run(['save'], given)[1]
+    for words, given in [(['show'], given), (['replay', 'FRED<20>'], given), (['save'], given), (['merge'], table)]:
+        whole = run(words, given)[1]
+        with open(path, 'wb') as output:
+            status, _, errors = run(words, given, before=before, stdout=output)
+        with open(path, 'rb') as output:
+            written = output.read()
+        os.remove(path)
+        check((status, errors) == (3, b'nbt: write\n') and 0 < len(written) <= 16_384 < len(whole)
+              and whole.startswith(written), f'nbt {words[0]}, {name}')
+    with open(path, 'wb', buffering=0) as errors:
+        while before is None:
+            try:
+                errors.write(bytes(4_096))
+            except OSError:
+                break
+        check(run(['name', 'FRED'], before=before, stderr=errors)[:2] == (1, b''), f'nbt name FRED, errors to {name}')
+
+
+def short_memory():
+    """Each limit on the program's memory from 1 to 64 megabytes, and closer ones where it just starts.
+
+    Below some limit it isn't the program that fails but its start: the system's loader maps the program and the C
+    library before any of its code runs. That is told apart by the loader alone, which under the same limit is asked
+    for the libraries that it would load.
+    """
+    captures = b''.join(f'138 0 {packet(it, data="5a" * 150)}\n'.encode() for it in range(3_000))
+    table = run(['save', '--keys', '65535'], captures)[1]
+    long = b'139 0 0001ffff' + b'5a' * 131_071 + b'\n'
+    work = [(['name', 'FRED<20>'], b''), (['show'], captures), (['show'], long),
+            (['replay', '--keys', '65535', 'FRED<20>'], captures), (['save', '--keys', '65535'], captures),
+            (['merge', '--keys', '65535'], table * 2), (['agree'], table * 2),
+            (['build', 'unique', '10.0.0.5:138/0001', 'JOE<00>', 'FRED<20>', '5a' * 40_000, '2'], b'')]
+    least = next(it for it in range(64, 65_536, 64) if starts([], it << 10))
+    print(f'the program starts from {least} kB of memory on')
+    limits = [it << 20 for it in range(1, 65)] + [(least + it) << 10 for it in range(0, 2_048, 128)]
+    for words, given in work:
+        whole = run(words, given)
+        outcomes = set()
+        for limit in limits:
+            ended = run(words, given, before=limited(limit))
+            outcomes.add(ended[0])
+            check(is_told(ended, whole) if starts(words, limit) else not ended[1],
+                  f'nbt {" ".join(words)[:60]} in {limit >> 10} kB: {ended[0]} {ended[2][:60]}')
+        check(whole[0] in outcomes, f'nbt {words[0]}: 64 megabytes are enough')
+
+
+def limited(limit):
+    """What limits a process's memory before the program starts."""
+    return lambda: resource.setrlimit(resource.RLIMIT_AS, (limit, limit))
+
+
+def starts(words, limit):
+    """Whether the system's loader can load the program, with these words, within a limit."""
+    asked = dict(os.environ, LD_TRACE_LOADED_OBJECTS='1')
+    loader = subprocess.run([program, *words], env=asked, preexec_fn=limited(limit), capture_output=True)
+    return loader.returncode == 0
+
+
+def is_told(ended, whole):
+    """Whether a run ended as with ample memory, or says that memory ran out after a front of the output."""
+    status, output, errors = ended
+    return ended == whole or (status, errors) == (3, b'nbt: memory\n') and whole[1].startswith(output)
+
+
+program = os.path.realpath(sys.argv[1] if len(sys.argv) > 1 else PROGRAM)
+for group in (ordinary, failing_outputs, closed_reports, inputs, terminals, full_disks, short_memory):
+    group()
+print(f'{counts[True]} passed, {counts[False]} failed')
+sys.exit(counts[False] > 0)

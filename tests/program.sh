@@ -93,7 +93,7 @@ count $? 'the console samples of README.md'
 "$program" show <&- >"$room/output" 2>"$room/errors"
 [ $? -eq 3 ] && holds "$room/output" '' && holds "$room/errors" $'nbt: read\n'
 count $? 'nbt show, standard input closed'
-for command in show save "replay FRED<20>" merge agree; do
+for command in show save "replay FRED<20>" merge list agree; do
     "$program" $command <"$room" >"$room/output" 2>"$room/errors"
     [ $? -eq 3 ] && holds "$room/output" '' && holds "$room/errors" $'nbt: read\n'
     count $? "nbt $command, a folder as standard input"
@@ -124,8 +124,8 @@ for words in show 'replay A<20>'; do
     [ $? -eq 3 ] && holds "$room/errors" $'nbt: write\n'
     count $? "nbt $words, standard output full before the end"
 done
-for words in merge agree; do
-    printf '%s\n' 4e42543100000000 4e42543100000000 | "$program" $words >/dev/full 2>"$room/errors"
+for words in merge list agree; do
+    printf '%s\n' 4e425432000000010a000005008a000100 4e425432000000010a000005008a000100 | "$program" $words >/dev/full 2>"$room/errors"
     [ $? -eq 3 ] && holds "$room/errors" $'nbt: write\n'
     count $? "nbt $words, standard output full"
 done
@@ -205,6 +205,7 @@ remembers replay FRED
 "$program" save <"$room/input" | sed p >"$room/tables"
 input=$room/tables
 remembers merge
+remembers list
 remembers agree
 
 finish

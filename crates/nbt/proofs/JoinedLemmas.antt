@@ -31,11 +31,11 @@ join_fails first others index why fault found before reported = record {
   reported = reported;
 }
 
-pub merges_tables : (IsKeys : ℕ → Type 0) (IsPrinted : List ℕ → Type 0) (old_in new_in : Option (List ℕ)) (text read_text : List ℕ) (n : ℕ) (ts : List TableValue)
+pub merges_tables : (IsKeys : ℕ → Type 0) (old_in new_in : Option (List ℕ)) (text read_text : List ℕ) (n : ℕ) (ts : List TableValue)
     (first : TableValue) (others : List TableValue) (t : Contents) → read_text ≡ text → Consumes old_in new_in text → IsAtEnd new_in → length text ≤ MAX_INPUT → IsKeys n → AreTables n read_text ts
-    → ts ≡ first ∷ others → AreTaken join (Fits first.limits) first.contents (contents_of others) → t ≡ joined_all join first.contents (contents_of others) → IsPrinted (saved_digits t)
-    → MergesTables IsKeys IsPrinted old_in new_in
-merges_tables IsKeys IsPrinted old_in new_in text read_text n ts first others t same read ended within given tables are taken joined printed = record {
+    → ts ≡ first ∷ others → AreTaken join (Fits first.limits) first.contents (contents_of others) → t ≡ joined_all join first.contents (contents_of others)
+    → MergesTables IsKeys (λ contents. contents ≡ t) old_in new_in
+merges_tables IsKeys old_in new_in text read_text n ts first others t same read ended within given tables are taken joined = record {
   text = text;
   keys = n;
   first = first;
@@ -46,7 +46,24 @@ merges_tables IsKeys IsPrinted old_in new_in text read_text n ts first others t 
   given = given;
   tables = subst (λ (bytes : List ℕ). AreTables n bytes (first ∷ others)) same (subst (λ (us : List TableValue). AreTables n read_text us) are tables);
   taken = taken;
-  printed = subst (λ (u : Contents). IsPrinted (saved_digits u)) joined printed;
+  printed = sym joined;
+}
+
+-- the join that was made is printed
+pub join_printed : (IsKeys : ℕ → Type 0) (IsPrinted : Contents → Type 0) (old_in new_in : Option (List ℕ)) (t : Contents)
+    → MergesTables IsKeys (λ contents. contents ≡ t) old_in new_in → IsPrinted t → MergesTables IsKeys IsPrinted old_in new_in
+join_printed IsKeys IsPrinted old_in new_in t m printed = record {
+  text = m.text;
+  keys = m.keys;
+  first = m.first;
+  others = m.others;
+  read = m.read;
+  ended = m.ended;
+  within = m.within;
+  given = m.given;
+  tables = m.tables;
+  taken = m.taken;
+  printed = subst IsPrinted (sym m.printed) printed;
 }
 
 pub compares_tables : (IsPrinted : Contents → Contents → Type 0) (old_in new_in : Option (List ℕ)) (text read_text : List ℕ) (ts : List TableValue) (first second : TableValue)

@@ -1,5 +1,5 @@
 -- What `nbt merge` and `nbt agree` have done once the tables of the whole input are read.
-use Rattle.std.proofs.Common.{◌≡◌, ◌≢◌, ◌⊎◌, inl, inr, ◌≤◌, ◌<◌, [], ◌∷◌, ℕ, List, length, take, get_or, slice_get, Option, Some, refl, sym, ap, ◌∙◌, ap₂, subst, suc, arith}
+use Rattle.std.proofs.Common.{◌≡◌, ◌≢◌, ◌⊎◌, inl, inr, ◌≤◌, ◌<◌, ◌+◌, ◌++◌, [], ◌∷◌, ℕ, List, length, take, drop, get_or, slice_get, slice_index_or, Option, Some, refl, sym, ap, ◌∙◌, ap₂, subst, suc, arith}
 use Rattle.std.specs.Io.KnownBytes.{Consumes, IsAtEnd}
 use Rattle.std.specs.List.{AllZip}
 use Rattle.nb_names.specs.declared.limits.TheConstants.{MAX_INPUT}
@@ -87,6 +87,12 @@ two_items [] first second many few is_first is_second = absurd (omega (arith, ma
 two_items (t ∷ []) first second many few is_first is_second = absurd (omega (arith, many))
 two_items (t ∷ u ∷ []) first second many few is_first is_second = ap₂ (λ (x y : TableValue). x ∷ y ∷ []) (sym is_first) (sym is_second)
 two_items (t ∷ u ∷ v ∷ ts) first second many few is_first is_second = absurd (omega (arith, few))
+
+-- a list of one at least, by its first item and the others
+pub first_taken : (ts others : List TableValue) (first : TableValue) → length ts ≡ length others + 1 → first ≡ slice_index_or ts 0 first
+    → others ≡ take 0 ts ++ drop 1 ts → ts ≡ first ∷ others
+first_taken [] others first size is_first are_others = absurd (omega (arith, size))
+first_taken (t ∷ ts) others first size is_first are_others = ap₂ (λ (x : TableValue) (xs : List TableValue). x ∷ xs) (sym is_first) (sym are_others)
 
 -- where a saved table can't be written, a front of its line is printed
 pub saved_front : (t : Contents) (old new : Option (List ℕ)) (fault : Fault) → Leaves (IsSavedOf t) old new fault → fault ≡ Write

@@ -97,7 +97,7 @@ done
 "$program" show <&- >"$room/output" 2>"$room/errors"
 [ $? -eq 3 ] && holds "$room/output" '' && holds "$room/errors" $'nbt: read\n'
 count $? 'nbt show, standard input closed'
-for command in show save "replay FRED<20>" merge agree; do
+for command in show save "replay FRED<20>" merge list agree; do
     "$program" $command <"$room" >"$room/output" 2>"$room/errors"
     [ $? -eq 3 ] && holds "$room/output" '' && holds "$room/errors" $'nbt: read\n'
     count $? "nbt $command, a folder as standard input"
@@ -128,8 +128,8 @@ for words in show 'replay A<20>'; do
     [ $? -eq 3 ] && holds "$room/errors" $'nbt: write\n'
     count $? "nbt $words, standard output full before the end"
 done
-for words in merge agree; do
-    printf '%s\n' 4e42543100000000 4e42543100000000 | "$program" $words >/dev/full 2>"$room/errors"
+for words in merge list agree; do
+    printf '%s\n' 4e425432000000010a000005008a000100 4e425432000000010a000005008a000100 | "$program" $words >/dev/full 2>"$room/errors"
     [ $? -eq 3 ] && holds "$room/errors" $'nbt: write\n'
     count $? "nbt $words, standard output full"
 done
@@ -218,6 +218,7 @@ remembers save
 "$program" save <"$room/input" | sed p >"$room/tables"
 input=$room/tables
 remembers merge
+remembers list
 remembers agree
 
 finish

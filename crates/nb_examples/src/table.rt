@@ -31,6 +31,8 @@ pub fn answer(alloc: Global, call: &str, words: &mut Words<'_>) -> Result<String
         "state" => reading::state(alloc, words),
         "states" => reading::compared_states(alloc, words),
         "run_count" => reading::run_count(alloc, words),
+        "outline" => reading::outline(alloc, words),
+        "datagram" => reading::datagram(alloc, words),
         "keys" => reading::keys(alloc, words),
         "drop" => reading::dropped(alloc, words),
         "same" => reading::compared(alloc, words),

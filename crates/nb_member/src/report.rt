@@ -4,7 +4,7 @@ ghost use Rattle.std.specs.Fmt.{decimal};
 ghost use Rattle.nb_member.specs.Report.{numbered, result_text};
 
 mod digits;
-mod texts;
+pub(crate) mod texts;
 
 use crate::member_fault::MemberFault;
 use crate::outcome::{Dropped, Outcome};

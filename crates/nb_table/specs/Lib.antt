@@ -17,6 +17,7 @@ pub mod Change
 pub mod Insert
 pub mod State
 pub mod RunCount
+pub mod Outline
 pub mod Equal
 pub mod FaultTexts
 pub mod Runs

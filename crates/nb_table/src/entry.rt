@@ -10,6 +10,7 @@ ghost use Rattle.nb_table.specs.Code.State.{IsEntryState};
 ghost use Rattle.nb_table.specs.RunCount.{entry_run_count};
 
 mod joining;
+mod reading;
 mod whole;
 
 use crate::change::BoxedChange;

@@ -13,6 +13,7 @@ ghost use Rattle.nb_table.specs.Whole.{datagram_of as entry_datagram};
 ghost use Rattle.nb_table.specs.Code.Change.{KeyChange, change_of};
 ghost use Rattle.nb_table.specs.Code.Change.{grown_to as grown};
 
+mod reading;
 mod uniting;
 
 use crate::change::BoxedChange;

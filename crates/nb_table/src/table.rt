@@ -11,6 +11,7 @@ ghost use Rattle.nb_table.specs.Insert.{NeedsNoMemory, Passes, Takes, Refuses, w
 mod fitting;
 mod loading;
 mod merging;
+mod reading;
 mod saving;
 
 use crate::change::Change;

@@ -21,6 +21,10 @@ merge_is_taken : (program : Text) → takes nbt_app (program ∷ codes "merge" �
 unfolding clap_on_literals
 merge_is_taken program = refl
 
+list_is_taken : (program : Text) → takes nbt_app (program ∷ codes "list" ∷ []) ≡ true
+unfolding clap_on_literals
+list_is_taken program = refl
+
 agree_is_taken : (program : Text) → takes nbt_app (program ∷ codes "agree" ∷ []) ≡ true
 unfolding clap_on_literals
 agree_is_taken program = refl
@@ -29,7 +33,8 @@ pub alone_is_taken : (program word : Text) → IsAlone word → takes nbt_app (p
 alone_is_taken program word (inl is_show) = ap (λ w. takes nbt_app (program ∷ w ∷ [])) is_show ∙ show_is_taken program
 alone_is_taken program word (inr (inl is_save)) = ap (λ w. takes nbt_app (program ∷ w ∷ [])) is_save ∙ save_is_taken program
 alone_is_taken program word (inr (inr (inl is_merge))) = ap (λ w. takes nbt_app (program ∷ w ∷ [])) is_merge ∙ merge_is_taken program
-alone_is_taken program word (inr (inr (inr is_agree))) = ap (λ w. takes nbt_app (program ∷ w ∷ [])) is_agree ∙ agree_is_taken program
+alone_is_taken program word (inr (inr (inr (inl is_list)))) = ap (λ w. takes nbt_app (program ∷ w ∷ [])) is_list ∙ list_is_taken program
+alone_is_taken program word (inr (inr (inr (inr is_agree)))) = ap (λ w. takes nbt_app (program ∷ w ∷ [])) is_agree ∙ agree_is_taken program
 
 failed_of : (kind : ErrorKind) (status : Status) (old new : Option (List ℕ)) → kind ≡ OutOfMemory
     → Reports (answer_to kind) status old new → status ≡ Failed

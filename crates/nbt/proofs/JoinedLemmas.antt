@@ -1,5 +1,5 @@
 -- What `nbt merge` and `nbt agree` have done once the tables of the whole input are read.
-use Rattle.std.proofs.Common.{◌≡◌, ◌≢◌, ◌⊎◌, inl, inr, ◌≤◌, ◌<◌, [], ◌∷◌, ℕ, List, length, take, get_or, slice_get, Option, Some, refl, sym, ap, ◌∙◌, ap₂, subst, suc, arith}
+use Rattle.std.proofs.Common.{◌≡◌, ◌≢◌, ◌⊎◌, inl, inr, ◌≤◌, ◌<◌, ◌+◌, ◌++◌, [], ◌∷◌, ℕ, List, length, take, drop, get_or, slice_get, slice_index_or, Option, Some, refl, sym, ap, ◌∙◌, ap₂, subst, suc, arith}
 use Rattle.std.specs.Io.KnownBytes.{Consumes, IsAtEnd}
 use Rattle.std.specs.List.{AllZip}
 use Rattle.nb_names.specs.declared.limits.TheConstants.{MAX_INPUT}
@@ -31,11 +31,11 @@ join_fails first others index why fault found before reported = record {
   reported = reported;
 }
 
-pub merges_tables : (IsKeys : ℕ → Type 0) (IsPrinted : List ℕ → Type 0) (old_in new_in : Option (List ℕ)) (text read_text : List ℕ) (n : ℕ) (ts : List TableValue)
+pub merges_tables : (IsKeys : ℕ → Type 0) (old_in new_in : Option (List ℕ)) (text read_text : List ℕ) (n : ℕ) (ts : List TableValue)
     (first : TableValue) (others : List TableValue) (t : Contents) → read_text ≡ text → Consumes old_in new_in text → IsAtEnd new_in → length text ≤ MAX_INPUT → IsKeys n → AreTables n read_text ts
-    → ts ≡ first ∷ others → AreTaken join (Fits first.limits) first.contents (contents_of others) → t ≡ joined_all join first.contents (contents_of others) → IsPrinted (saved_digits t)
-    → MergesTables IsKeys IsPrinted old_in new_in
-merges_tables IsKeys IsPrinted old_in new_in text read_text n ts first others t same read ended within given tables are taken joined printed = record {
+    → ts ≡ first ∷ others → AreTaken join (Fits first.limits) first.contents (contents_of others) → t ≡ joined_all join first.contents (contents_of others)
+    → MergesTables IsKeys (λ contents. contents ≡ t) old_in new_in
+merges_tables IsKeys old_in new_in text read_text n ts first others t same read ended within given tables are taken joined = record {
   text = text;
   keys = n;
   first = first;
@@ -46,7 +46,24 @@ merges_tables IsKeys IsPrinted old_in new_in text read_text n ts first others t 
   given = given;
   tables = subst (λ (bytes : List ℕ). AreTables n bytes (first ∷ others)) same (subst (λ (us : List TableValue). AreTables n read_text us) are tables);
   taken = taken;
-  printed = subst (λ (u : Contents). IsPrinted (saved_digits u)) joined printed;
+  printed = sym joined;
+}
+
+-- the join that was made is printed
+pub join_printed : (IsKeys : ℕ → Type 0) (IsPrinted : Contents → Type 0) (old_in new_in : Option (List ℕ)) (t : Contents)
+    → MergesTables IsKeys (λ contents. contents ≡ t) old_in new_in → IsPrinted t → MergesTables IsKeys IsPrinted old_in new_in
+join_printed IsKeys IsPrinted old_in new_in t m printed = record {
+  text = m.text;
+  keys = m.keys;
+  first = m.first;
+  others = m.others;
+  read = m.read;
+  ended = m.ended;
+  within = m.within;
+  given = m.given;
+  tables = m.tables;
+  taken = m.taken;
+  printed = subst IsPrinted (sym m.printed) printed;
 }
 
 pub compares_tables : (IsPrinted : Contents → Contents → Type 0) (old_in new_in : Option (List ℕ)) (text read_text : List ℕ) (ts : List TableValue) (first second : TableValue)
@@ -70,6 +87,12 @@ two_items [] first second many few is_first is_second = absurd (omega (arith, ma
 two_items (t ∷ []) first second many few is_first is_second = absurd (omega (arith, many))
 two_items (t ∷ u ∷ []) first second many few is_first is_second = ap₂ (λ (x y : TableValue). x ∷ y ∷ []) (sym is_first) (sym is_second)
 two_items (t ∷ u ∷ v ∷ ts) first second many few is_first is_second = absurd (omega (arith, few))
+
+-- a list of one at least, by its first item and the others
+pub first_taken : (ts others : List TableValue) (first : TableValue) → length ts ≡ length others + 1 → first ≡ slice_index_or ts 0 first
+    → others ≡ take 0 ts ++ drop 1 ts → ts ≡ first ∷ others
+first_taken [] others first size is_first are_others = absurd (omega (arith, size))
+first_taken (t ∷ ts) others first size is_first are_others = ap₂ (λ (x : TableValue) (xs : List TableValue). x ∷ xs) (sym is_first) (sym are_others)
 
 -- where a saved table can't be written, a front of its line is printed
 pub saved_front : (t : Contents) (old new : Option (List ℕ)) (fault : Fault) → Leaves (IsSavedOf t) old new fault → fault ≡ Write

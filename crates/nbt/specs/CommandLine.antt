@@ -62,6 +62,10 @@ save_app = with_rule (new_app (codes "save")) keys_rule
 abbrev pub merge_app : App
 merge_app = with_rule (new_app (codes "merge")) keys_rule
 
+-- `list [--keys N]`
+abbrev pub list_app : App
+list_app = with_rule (new_app (codes "list")) keys_rule
+
 -- `agree`
 abbrev pub agree_app : App
 agree_app = new_app (codes "agree")
@@ -72,18 +76,18 @@ top_app = on_top (λ s. record s { subcommand_required = true }) (on_top (λ s. 
 
 -- the whole command line
 abbrev pub nbt_app : App
-nbt_app = with_subcommand (with_subcommand (with_subcommand (with_subcommand (with_subcommand (with_subcommand (with_subcommand top_app name_app.top) show_app.top) build_app.top) replay_app.top) save_app.top) merge_app.top) agree_app.top
+nbt_app = with_subcommand (with_subcommand (with_subcommand (with_subcommand (with_subcommand (with_subcommand (with_subcommand (with_subcommand top_app name_app.top) show_app.top) build_app.top) replay_app.top) save_app.top) merge_app.top) list_app.top) agree_app.top
 
 -- a subcommand that may stand alone
 abbrev pub IsAlone : Text → Type 0
-IsAlone word = (word ≡ codes "show") ⊎ ((word ≡ codes "save") ⊎ ((word ≡ codes "merge") ⊎ (word ≡ codes "agree")))
+IsAlone word = (word ≡ codes "show") ⊎ ((word ≡ codes "save") ⊎ ((word ≡ codes "merge") ⊎ ((word ≡ codes "list") ⊎ (word ≡ codes "agree"))))
 
 -- the matches' subcommand is one that reads the input
 abbrev pub DoesRead : Option Text → Type 0
 DoesRead name =
     (name ≡ Some (codes "show"))
     ⊎ ((name ≡ Some (codes "replay")) ⊎ ((name ≡ Some (codes "save"))
-    ⊎ ((name ≡ Some (codes "merge")) ⊎ (name ≡ Some (codes "agree")))))
+    ⊎ ((name ≡ Some (codes "merge")) ⊎ ((name ≡ Some (codes "list")) ⊎ (name ≡ Some (codes "agree"))))))
 
 -- the program's name and one word more, which is a subcommand that may stand alone
 abbrev pub AreAlone : List Text → Type 0

@@ -13,3 +13,4 @@ pub mod Saving
 pub mod SaveFaults
 pub mod Replaying
 pub mod Tables
+pub mod Listing

@@ -19,7 +19,6 @@ use Rattle.nbt.specs.declared.fault.Fault.TheVariants.{Arguments, TooLong, Line,
 use Rattle.nbt.specs.declared.status.Status.{Status}
 use Rattle.nbt.specs.declared.status.Status.TheVariants.{Done, Refused}
 use Rattle.nbt.specs.Printing.{PrintsFront, PrintsLine}
-use Rattle.nbt.specs.Saved.{saved_digits}
 use Rattle.nbt.specs.Settings.{HaveNoKeys}
 
 -- what a table may hold that is read: so many keys, and datagrams of at most 65,535 bytes
@@ -115,8 +114,8 @@ pub data MergeStops (IsKeys : ℕ → Type 0) (old_in new_in : Option (List ℕ)
   input_fails : FailsOn (MergeFails IsKeys) old_in new_in fault → MergeStops IsKeys old_in new_in fault
 
 -- MergesTables IsKeys IsPrinted old_in new_in: the whole input was read, its lines are tables, at least one, each
--- is taken into those before it, and their join was printed, as IsPrinted says of its digits
-pub record MergesTables (IsKeys : ℕ → Type 0) (IsPrinted : List ℕ → Type 0) (old_in new_in : Option (List ℕ)) : Type 0 where
+-- is taken into those before it, and their join was printed, as IsPrinted says of it
+pub record MergesTables (IsKeys : ℕ → Type 0) (IsPrinted : Contents → Type 0) (old_in new_in : Option (List ℕ)) : Type 0 where
   pub text : List ℕ
   pub keys : ℕ
   pub first : TableValue
@@ -127,7 +126,7 @@ pub record MergesTables (IsKeys : ℕ → Type 0) (IsPrinted : List ℕ → Type
   pub given : IsKeys keys
   pub tables : AreTables keys text (first ∷ others)
   pub taken : AreTaken join (Fits first.limits) first.contents (contents_of others)
-  pub printed : IsPrinted (saved_digits (joined_all join first.contents (contents_of others)))
+  pub printed : IsPrinted (joined_all join first.contents (contents_of others))
 
 -- CompareFails text fault: why the lines of the text aren't compared: they aren't two, or the first that is
 -- no table

@@ -2,10 +2,11 @@
 ghost use Rattle.std.specs.Prelude.{◌≡◌, IfOk, IsOkAnd, false};
 ghost use Rattle.clap.specs.Words.{AddsArg, AddsSubcommand, app_of, new_app, rule_of};
 ghost use Rattle.clap.specs.declared.builder.command.Command.TheViews.{out-Command as fields_of};
-ghost use Rattle.nbt.specs.CommandLine.{name_app, show_app, build_app, replay_app, save_app, merge_app, agree_app, nbt_app, flag_rule, value_rule, list_rule, keys_rule, some_rule};
+ghost use Rattle.nbt.specs.CommandLine.{name_app, show_app, build_app, replay_app, save_app, merge_app, list_app, agree_app, nbt_app, flag_rule, value_rule, list_rule, keys_rule, some_rule};
 
 use crate::help::{
-    AGREE_HELP, BUILD_HELP, MERGE_HELP, NAME_HELP, REPLAY_HELP, SAVE_HELP, SHOW_HELP, STATUSES,
+    AGREE_HELP, BUILD_HELP, LIST_HELP, MERGE_HELP, NAME_HELP, REPLAY_HELP, SAVE_HELP, SHOW_HELP,
+    STATUSES,
 };
 use clap::builder::ValueParser;
 use clap::{Arg, ArgAction, Command};
@@ -36,6 +37,7 @@ pub fn command<'a>(alloc: Global) -> Result<Command<'a>, AllocError>
     let top = added(top, replay_command(alloc));
     let top = added(top, save_command(alloc));
     let top = added(top, merge_command(alloc));
+    let top = added(top, list_command(alloc));
     added(top, Ok(agree_command(alloc)))
 }
 
@@ -152,6 +154,20 @@ fn merge_command<'a>(alloc: Global) -> Result<Command<'a>, AllocError>
         MERGE_HELP,
     );
     taking(Ok(merge), keys(alloc))
+}
+
+/// `list [--keys N]`.
+fn list_command<'a>(alloc: Global) -> Result<Command<'a>, AllocError>
+    ensures app { IfOk result (λ command. app_of command ≡ list_app) }
+    ensures local { IfOk result (λ command. (fields_of command).has_globals ≡ false) }
+{
+    let list = described(
+        alloc,
+        "list",
+        "Print what the saved tables on standard input, a line each, know together of each key",
+        LIST_HELP,
+    );
+    taking(Ok(list), keys(alloc))
 }
 
 /// `agree`.

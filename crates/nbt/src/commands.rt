@@ -2,6 +2,7 @@
 
 pub mod agree;
 pub mod build;
+pub mod list;
 pub mod merge;
 pub mod name;
 pub mod replay;

@@ -74,6 +74,19 @@ pub const MERGE_HELP: &str =
      failed or memory ran out. With 1 and 3 one line, `nbt: ` and the reason, goes \
      to{n}standard error.";
 
+/// The tables whose keys are listed, and how the program ends.
+pub const LIST_HELP: &str =
+    "Each line is a saved table in hexadecimal, as `nbt save` and `nbt merge` print it; the last \
+     line may lack its line feed.{n}The tables are joined. Each key that one of them has is a \
+     line, ascending:{n}KEY whole KIND SOURCE DESTINATION DATA, a datagram of which all is \
+     known;{n}KEY partial KIND SOURCE DESTINATION HELD/END RUNS, one of which HELD bytes of END \
+     are known (`?` where no fragment{n}said how many), in so many runs;{n}KEY spoilt, one whose \
+     fragments contradict each other.{n}All lines are judged before any table is \
+     joined.{n}{n}Example: { nbt save < one; nbt save < other; } | nbt list{n}{n}Exit status: 0 \
+     all was done, 1 a line is no table, there is none, or there are too many keys, 2 the \
+     command{n}line was bad, 3 a device failed or memory ran out. With 1 and 3 one line, `nbt: ` \
+     and the reason, goes to{n}standard error.";
+
 /// The tables that are compared, and how the program ends.
 pub const AGREE_HELP: &str =
     "Two lines, each a saved table in hexadecimal, as `nbt save` prints it; the last line \

@@ -11,6 +11,7 @@ use crate::clap_answer::ClapAnswer;
 use crate::command_line::command;
 use crate::commands::agree::run_agree;
 use crate::commands::build::run_build;
+use crate::commands::list::run_list;
 use crate::commands::merge::run_merge;
 use crate::commands::name::run_name;
 use crate::commands::replay::run_replay;
@@ -95,6 +96,7 @@ fn run_command<R: Read, W: Write>(
         Some(("replay", matches)) => done(run_replay(alloc, matches, input, output)),
         Some(("save", matches)) => done(run_save(alloc, matches, input, output)),
         Some(("merge", matches)) => done(run_merge(alloc, matches, input, output)),
+        Some(("list", matches)) => done(run_list(alloc, matches, input, output)),
         Some(("agree", _)) => run_agree(alloc, input, output),
         _ => Err(Fault::Arguments),
     }

@@ -53,7 +53,7 @@ pub fn query_of(word: &str) -> Result<QueryKind, ExampleFault> {
 }
 
 /// The sender's name and the receiver's as text.
-fn names_text(alloc: Global, source: &Name, target: &Name) -> Result<String, ExampleFault> {
+pub fn names_text(alloc: Global, source: &Name, target: &Name) -> Result<String, ExampleFault> {
     let source = name_text(alloc, source)?;
     let target = name_text(alloc, target)?;
     Ok(format!(in alloc; "{source} {target}")?)

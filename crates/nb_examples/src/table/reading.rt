@@ -1,12 +1,12 @@
 //! What tables say of their keys.
 
 use crate::datagram::comparing::comparison;
-use crate::datagram::texts::key_text;
+use crate::datagram::texts::{datagram_text, key_text, kind_word, names_text};
 use crate::fault::ExampleFault;
 use crate::table::steps::{table_of, two_tables};
 use crate::words::{Words, split};
 use nb_datagram::Key;
-use nb_table::State;
+use nb_table::{Outline, State};
 use std::alloc::Global;
 
 /// `state KEY TABLE`: what the table knows of the key.
@@ -37,6 +37,35 @@ pub fn run_count(alloc: Global, words: &mut Words<'_>) -> Result<String, Example
     let table = table_of(alloc, words.rest())?;
     let count = table.run_count(&key);
     Ok(format!(in alloc; "{count:?}")?)
+}
+
+/// `outline KEY TABLE`: what is known of the key but for its bytes, `KIND SOURCE DESTINATION HELD of
+/// END in RUNS`, or `none`.
+pub fn outline(alloc: Global, words: &mut Words<'_>) -> Result<String, ExampleFault> {
+    let key = words.key()?;
+    let table = table_of(alloc, words.rest())?;
+    match table.outline(&key) {
+        Some(outline) => outline_text(alloc, &outline),
+        None => Ok(format!(in alloc; "none")?),
+    }
+}
+
+/// An outline as text.
+fn outline_text(alloc: Global, outline: &Outline) -> Result<String, ExampleFault> {
+    let kind = kind_word(outline.kind);
+    let names = names_text(alloc, &outline.source, &outline.destination)?;
+    let (held, end, runs) = (outline.held, outline.end, outline.runs);
+    Ok(format!(in alloc; "{kind} {names} {held} of {end:?} in {runs}")?)
+}
+
+/// `datagram KEY TABLE`: the key's datagram, `KIND KEY SOURCE DESTINATION BYTES`, or `none`.
+pub fn datagram(alloc: Global, words: &mut Words<'_>) -> Result<String, ExampleFault> {
+    let key = words.key()?;
+    let table = table_of(alloc, words.rest())?;
+    match table.datagram(&key)? {
+        Some(datagram) => datagram_text(alloc, &datagram),
+        None => Ok(format!(in alloc; "none")?),
+    }
 }
 
 /// `keys TABLE`: how many keys there are, and these.

@@ -74,8 +74,13 @@ fn push_datagram(datagram: &Datagram, text: &mut String) -> Result<(), NoMemory>
     push_parts(datagram, text)
 }
 
-/// Adds a datagram's kind, names and data.
-fn push_parts(datagram: &Datagram, text: &mut String) -> Result<(), NoMemory>
+/// Adds a datagram's kind, source, destination and data, each after a space, as the report has them:
+/// `unique`, `group` or `broadcast`; names as their texts; data in hexadecimal, or `empty`.
+///
+/// # Errors
+///
+/// `NoMemory` where memory ran out.
+pub fn push_parts(datagram: &Datagram, text: &mut String) -> Result<(), NoMemory>
     ensures { OnOk result
         (string_bytes text.new ≡ string_bytes text.old ++ parts_text datagram.now) }
 {
@@ -110,8 +115,13 @@ fn push_unheard(
     push_error(alloc, error, text)
 }
 
-/// Adds a key.
-fn push_key(key: Key, text: &mut String) -> Result<(), NoMemory>
+/// Adds a key as the report has it, `ADDRESS:PORT/ID`: the address with dots and the port in decimal,
+/// the identifier as four hexadecimal digits.
+///
+/// # Errors
+///
+/// `NoMemory` where memory ran out.
+pub fn push_key(key: Key, text: &mut String) -> Result<(), NoMemory>
     ensures { OnOk result (string_bytes text.new ≡ string_bytes text.old ++ key_text key) }
 {
     push_address(key.ip, text)?;
@@ -129,8 +139,8 @@ fn push_address(ip: [u8; 4], text: &mut String) -> Result<(), NoMemory>
     Ok(())
 }
 
-/// The word for a kind.
-fn kind_name(kind: Kind) -> &'static str
+/// The report's word for a kind: `unique`, `group` or `broadcast`.
+pub fn kind_name(kind: Kind) -> &'static str
     ensures { result.now ≡ kind_text kind }
 {
     match kind {

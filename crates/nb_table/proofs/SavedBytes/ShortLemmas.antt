@@ -20,11 +20,13 @@ use Rattle.nb_table.specs.Merging.{AllShort}
 use Rattle.nb_table.specs.Runs.{RunValue, run_end, StartsPast, AreApart, in_front, runs_in, runs_of_map}
 use Rattle.nb_table.specs.Saved.{saved}
 use Rattle.nb_table.specs.SavedFits.{FitsRun, FitsCover, FitsFacts, FitsSaved, IsNamed}
+use Rattle.nb_table.specs.Code.RunSteps.{held_in}
 use Rattle.nb_table.specs.Code.SavedTables.{HasNames}
 use Rattle.nb_table.specs.Lemmas.MapsLemmas.{one_key}
 use Rattle.nb_table.specs.Lemmas.SameLemmas.{eq_is, key_cmp_total, key_cmp_exact}
 use Rattle.nb_table.proofs.Changes.InsertLemmas.{short_more}
 use Rattle.nb_table.proofs.SavedReading.ReadBackLemmas.{read_back}
+use Rattle.nb_table.proofs.Runs.HeldLemmas.{held-map}
 use Rattle.nb_table.proofs.Runs.RunsLemmas.{runs_apart}
 use Rattle.nb_table.proofs.SavedBytes.SavedLemmas.{each_found}
 
@@ -64,6 +66,22 @@ places_below c below =
 pub few_runs_of : (c : CoverFacts) → BytesBelow MAX_LENGTH c.bytes → length (runs_of_map c.bytes) < 2 ^ 32
 few_runs_of c below =
     omega (arith, few_runs MAX_LENGTH (runs_of_map c.bytes) (runs_apart c.bytes) (runs_end MAX_LENGTH (maps.entries c.bytes) (places_below c below)))
+
+-- runs that are apart have no more bytes than there are places
+held_past : (n k : ℕ) (rs : List RunValue) → AreApart rs → StartsPast k rs → EndBy n rs → k ≤ n → k + held_in rs ≤ n
+held_past n k [] apart past h least = omega (arith, least)
+held_past n k (r ∷ rs) apart past h least =
+    omega (arith, past, held_past n (run_end r) rs apart.1.1 apart.1.0 h.1 h.0)
+
+few_held : (n : ℕ) (rs : List RunValue) → AreApart rs → EndBy n rs → held_in rs ≤ n
+few_held n [] apart h = omega arith
+few_held n (r ∷ rs) apart h = omega (arith, held_past n (run_end r) rs apart.1.1 apart.1.0 h.1 h.0)
+
+-- a short entry has no more bytes than a datagram may
+pub few_bytes_of : (c : CoverFacts) → BytesBelow MAX_LENGTH c.bytes → maps.len c.bytes ≤ MAX_LENGTH
+few_bytes_of c below =
+    subst (λ (n : ℕ). n ≤ MAX_LENGTH) (sym (held-map c.bytes))
+    (few_held MAX_LENGTH (runs_of_map c.bytes) (runs_apart c.bytes) (runs_end MAX_LENGTH (maps.entries c.bytes) (places_below c below)))
 
 runs_fit : (rs : List RunValue) → EndBy MAX_LENGTH rs → AllByRecursion FitsRun rs
 runs_fit [] h = tt

@@ -1,5 +1,5 @@
 -- Both names of a datagram, as the code keeps them.
-use Rattle.std.specs.Prelude.{◌≡◌, refl}
+use Rattle.std.specs.Prelude.{refl}
 use Rattle.std.specs.Coded.{Coded, code_by, coded×}
 use Rattle.nb_names.specs.Name.{NetbiosName, name_code}
 

@@ -23,6 +23,11 @@ room_in r = vec_capacity (box_value r.stretch).bytes
 abbrev pub values_of : List Run → List RunValue
 values_of rs = map value_of rs
 
+-- how many bytes the runs have
+abbrev pub held_in : List RunValue → ℕ
+held_in [] = 0
+held_in (r ∷ rs) = length r.bytes + held_in rs
+
 -- run_at i xs: these bytes, from place i on
 abbrev pub run_at : ℕ → List ℕ → RunValue
 run_at i xs = record { start = i; bytes = xs }

@@ -15,6 +15,7 @@ ghost use Rattle.nb_table.specs.Runs.{runs_of_map};
 ghost use Rattle.nb_table.specs.Whole.{bytes_to, IsWholeCover};
 
 mod loading;
+mod reading;
 mod saving;
 mod uniting;
 

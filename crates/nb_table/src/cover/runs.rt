@@ -11,6 +11,7 @@ ghost use Rattle.nb_table.specs.Saved.{runs_bytes};
 ghost use Rattle.nb_table.specs.Whole.{bytes_below as map_below};
 ghost use Rattle.nb_table.specs.Code.RunSteps.{value_of, values_of, run_at};
 
+mod counting;
 mod growing;
 mod reading;
 mod saving;

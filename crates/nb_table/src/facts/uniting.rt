@@ -35,13 +35,7 @@ fn flags_to(end: Option<u32>, promise: Option<u32>, reach: usize) -> Option<u8>
                 None
             }
         }
-        (Some(end), None) => {
-            if end as usize == reach {
-                Some(0)
-            } else {
-                None
-            }
-        }
+        (Some(end), None) => { if end as usize == reach { Some(0) } else { None } }
         _ => None,
     }
 }

@@ -28,10 +28,12 @@ returns c =
     let replay : HasShape c.replay_command.result _ = record { app = c.replay_command.ensures.app; local = c.replay_command.ensures.local } in
     let save : HasShape c.save_command.result _ = record { app = c.save_command.ensures.app; local = c.save_command.ensures.local } in
     let merge : HasShape c.merge_command.result _ = record { app = c.merge_command.ensures.app; local = c.merge_command.ensures.local } in
+    let list : HasShape c.list_command.result _ = record { app = c.list_command.ensures.app; local = c.list_command.ensures.local } in
     let with_name = with_more c.added-top.result _ _ top name c.added-top.ensures in
     let with_show = with_more c.added-top-2.result _ _ with_name show c.added-top-2.ensures in
     let with_build = with_more c.added-top-3.result _ _ with_show build c.added-top-3.ensures in
     let with_replay = with_more c.added-top-4.result _ _ with_build replay c.added-top-4.ensures in
     let with_save = with_more c.added-top-5.result _ _ with_replay save c.added-top-5.ensures in
     let with_merge = with_more c.added-top-6.result _ _ with_save merge c.added-top-6.ensures in
-    (with_more c.added.result _ _ with_merge agree c.added.ensures).app
+    let with_list = with_more c.added-top-7.result _ _ with_merge list c.added-top-7.ensures in
+    (with_more c.added.result _ _ with_list agree c.added.ensures).app

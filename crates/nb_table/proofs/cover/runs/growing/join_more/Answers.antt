@@ -1,5 +1,4 @@
 use Rattle.std.proofs.Common.{◌≡◌, ◌≤◌, ◌-◌, max, min, length, sym, arith, ◌∙◌, ap, ap₂, subst, ◌++◌, ◌∷◌, take, drop, slice_set, slice_index_or}
-use Rattle.std.specs.Vec.{vec_capacity}
 use Rattle.nb_table.specs.Runs.{RunValue, run_end}
 use Rattle.nb_table.specs.Code.RunSteps.{room_in, value_of, values_of, run_at, grown, Meet}
 use Rattle.nb_table.proofs.KeptRuns.RunCodeLemmas.{on_err_of, set_same, read_at, set_first, values_joined, kept_run, last_run, last_value, grown_is, meet_read}

@@ -1,7 +1,7 @@
 use Rattle.std.proofs.Common.{ap, sym}
 use Rattle.nbt.specs.Tables.{fault_of_join}
 use Rattle.nbt.proofs.JoinedLemmas.{join_fails}
-use Rattle.nbt.proofs.commands.merge.join_tables.Goals as goal
+use Rattle.nbt.proofs.joining.join_tables.Goals as goal
 
 pub returns-in-Err-default-Full-clause-fault : goal.returns-in-Err-default-Full-clause-fault
 returns-in-Err-default-Full-clause-fault c =

@@ -1,0 +1,32 @@
+use Rattle.std.proofs.Common.{◌≤◌, rules, sym, ◌∙◌, ap}
+use Rattle.std.proofs.lemmas.Result.{IfOk-weaker}
+use Rattle.std.specs.Option.{option_and_then}
+use Rattle.std.specs.FinMap as maps
+use Rattle.nb_datagram.specs.Key.{key_cmp}
+use Rattle.nb_datagram.specs.declared.limits.TheConstants.{MAX_LENGTH}
+use Rattle.nb_table.specs.Limits.{TableValue}
+use Rattle.nb_table.specs.Whole.{datagram_of}
+use Rattle.nb_table.specs.Lemmas.SameLemmas.{key_cmp_total}
+use Rattle.nb_table.specs.Lemmas.TreeLemmas.{get_is}
+use Rattle.nb_table.proofs.SavedBytes.ShortLemmas.{all_short}
+use Rattle.nb_table.proofs.table.Table.datagram.Goals as goal
+
+pub datagram_of-requires : goal.datagram_of-requires
+datagram_of-requires c =
+    let m = c.self.inside.entries in
+    let most : c.self.inside.longest ≤ MAX_LENGTH = search rules in
+    let t : TableValue = record { contents = maps.from_entries {R = key_cmp} m.entries; limits = record { keys = c.self.inside.keys; longest = c.self.inside.longest } } in
+    all_short t c.self.invariant most c.args.key.now c.in-Some.entry.now (get_is key_cmp_total m c.args.key.now ∙ sym c.in-Some.ensures.value)
+
+pub returns-in-Some : goal.returns-in-Some
+returns-in-Some c =
+    let m = c.self.inside.entries in
+    let k = c.args.key.now in
+    let found = get_is key_cmp_total m k ∙ sym c.in-Some.ensures.value in
+    rw (← c.self.view_is) (IfOk-weaker c.datagram_of.result _ _ (λ datagram is. is ∙ sym (ap (option_and_then (datagram_of k)) found)) c.datagram_of.ensures)
+
+pub returns-in-None : goal.returns-in-None
+returns-in-None c =
+    let m = c.self.inside.entries in
+    let k = c.args.key.now in
+    rw (← c.self.view_is) (sym (ap (option_and_then (datagram_of k)) (get_is key_cmp_total m k ∙ sym c.in-None.ensures.value)))

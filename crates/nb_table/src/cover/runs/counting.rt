@@ -1,0 +1,29 @@
+//! How many bytes runs have.
+ghost use Rattle.std.specs.Prelude.{◌≡◌, ◌≤◌};
+ghost use Rattle.std.specs.FinMap as maps;
+ghost use Rattle.nb_datagram.specs.declared.limits.TheConstants.{MAX_LENGTH};
+ghost use Rattle.nb_table.specs.Code.RunSteps.{held_in, values_of};
+
+use super::{Run, Runs};
+
+/// How many bytes all the runs have.
+fn bytes_in(runs: &[Run]) -> usize
+    requires { held_in (values_of runs.now) ≤ MAX_LENGTH }
+    ensures { result ≡ held_in (values_of runs.now) }
+{
+    let mut held = 0;
+    for run in runs {
+        held += run.bytes().len();
+    }
+    held
+}
+
+impl Runs {
+    /// How many bytes there are.
+    pub(crate) fn held(&self) -> usize
+        requires { maps.len self.now ≤ MAX_LENGTH }
+        ensures { result ≡ maps.len self.now }
+    {
+        bytes_in(&self.runs)
+    }
+}

@@ -1,0 +1,39 @@
+//! What a table knows of a key's datagram.
+ghost use Rattle.std.specs.Prelude.{◌≡◌, IfOk};
+ghost use Rattle.nb_table.specs.Outline.{outline_at};
+ghost use Rattle.nb_table.specs.Whole.{datagram_at};
+
+use super::Table;
+use crate::outline::Outline;
+use nb_datagram::{Datagram, Key};
+use nb_names::NoMemory;
+
+impl Table {
+    /// What is known of a key's datagram but for its bytes: `None` for a key that isn't held, or is
+    /// spoilt. No memory is taken.
+    pub fn outline(&self, key: &Key) -> Option<Outline>
+        ensures { result ≡ outline_at self.now.contents key.now }
+    {
+        // The entry's bytes lie below the limit, which is a number of its type.
+        let _longest = self.longest;
+        match self.entries.get(key) {
+            Some(entry) => entry.outline(),
+            None => None,
+        }
+    }
+
+    /// A key's datagram, if the key is whole. No memory is taken where it isn't.
+    ///
+    /// # Errors
+    ///
+    /// `NoMemory` where memory ran out.
+    pub fn datagram(&self, key: &Key) -> Result<Option<Datagram>, NoMemory>
+        ensures { IfOk result (λ datagram. datagram ≡ datagram_at self.now.contents key.now) }
+    {
+        let _longest = self.longest;
+        match self.entries.get(key) {
+            Some(entry) => entry.datagram_of(self.alloc, *key),
+            None => Ok(None),
+        }
+    }
+}

@@ -1,0 +1,19 @@
+use Rattle.std.proofs.lemmas.Result.{IfErr-weaker, on_ok_weaker}
+use Rattle.nbt.specs.Settings.{AreKeys}
+use Rattle.nbt.specs.Tables.{MergeFails, input_fails}
+use Rattle.nbt.proofs.JoinedLemmas.{join_printed, printing_fails}
+use Rattle.nbt.proofs.commands.list.run_list.Goals as goal
+
+pub returns-clause-printed : goal.returns-clause-printed
+returns-clause-printed g c =
+    on_ok_weaker c.print_listing.result (λ printed. join_printed _ _ _ _ _ c.in_ok-table.ensures.joined printed) c.print_listing.ensures.printed
+
+pub returns-clause-write : goal.returns-clause-write
+returns-clause-write g c =
+    IfErr-weaker c.print_listing.result _ _
+    (λ fault front write. join_printed _ _ _ _ _ c.in_ok-table.ensures.joined (front write))
+    c.print_listing.ensures.write
+
+pub returns-clause-fault : goal.returns-clause-fault
+returns-clause-fault g c =
+    IfErr-weaker c.print_listing.result _ _ (λ fault is. input_fails (printing_fails (MergeFails (AreKeys c.args.matches.now)) _ _ fault is)) c.print_listing.ensures.fault

@@ -1,0 +1,7 @@
+use Rattle.std.proofs.Common.{◌≡◌, ◌++◌, string_bytes}
+use Rattle.nbt.specs.Listing.{key_lines, listing}
+use Rattle.nbt.proofs.listing.lines_of.Given as goal
+
+abbrev pub invariant-loop-key : goal.invariant-loop-key
+invariant-loop-key l =
+    string_bytes l.lines ++ key_lines l.table.contents l.key-iterator ≡ listing l.table.contents

@@ -1,0 +1,45 @@
+-- What `nbt list` prints of a table (our choice). Keys, kinds, names and data are as the report of a replay has them;
+-- numbers are decimal.
+use Rattle.std.specs.Prelude.{ℕ, List, [], ◌∷◌, ◌++◌, codes, Option, None, Some}
+use Rattle.std.specs.Fmt.{decimal}
+use Rattle.std.specs.FinMap as maps
+use Rattle.nb_names.specs.NameText.{written}
+use Rattle.nb_datagram.specs.declared.key.Key.{Key}
+use Rattle.nb_datagram.specs.Datagram.{DatagramParts}
+use Rattle.nb_table.specs.declared.outline.Outline.{Outline}
+use Rattle.nb_table.specs.Contents.{Contents}
+use Rattle.nb_table.specs.Outline.{outline_at}
+use Rattle.nb_table.specs.Whole.{datagram_at}
+use Rattle.nb_member.specs.Report.{key_text, kind_text, parts_text}
+use Rattle.nbt.specs.Printing.{line}
+
+-- how many bytes the data has, or `?`
+abbrev pub end_text : Option ℕ → List ℕ
+end_text None = codes "?"
+end_text (Some n) = decimal n
+
+-- kind, source and destination, how many bytes are held of how many, and in how many runs
+abbrev pub outline_text : Outline → List ℕ
+outline_text o =
+    kind_text o.kind ++ (codes " " ++ (written o.source ++ (codes " " ++ (written o.destination
+    ++ (codes " " ++ (decimal o.held ++ (codes "/" ++ (end_text o.end ++ (codes " " ++ decimal o.runs)))))))))
+
+-- what is said of a key that is held: its datagram, if it is whole, or the outline of what is known, or else that it
+-- is spoilt
+abbrev pub known_text : Option DatagramParts → Option Outline → List ℕ
+known_text (Some d) o = codes " whole" ++ parts_text d
+known_text None (Some o) = codes " partial " ++ outline_text o
+known_text None None = codes " spoilt"
+
+-- key_line t k: the line of a key k that the table t holds
+abbrev pub key_line : Contents → Key → List ℕ
+key_line t k = line (key_text k ++ known_text (datagram_at t k) (outline_at t k))
+
+-- key_lines t ks: the lines of such keys, in order
+abbrev pub key_lines : Contents → List Key → List ℕ
+key_lines t [] = []
+key_lines t (k ∷ ks) = key_line t k ++ key_lines t ks
+
+-- the lines of a table's keys, ascending
+abbrev pub listing : Contents → List ℕ
+listing t = key_lines t (maps.keys t)

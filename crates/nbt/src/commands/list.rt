@@ -1,0 +1,53 @@
+//! `nbt list`: what saved tables know together of each key.
+ghost use Rattle.std.specs.Prelude.{◌≡◌, ◌≢◌, OnOk, IfErr};
+ghost use Rattle.std.specs.Io.KnownBytes.{Appends, Keeps};
+ghost use Rattle.nbt.specs.Input.{WasCut};
+ghost use Rattle.nb_names.specs.Devices.{AppendsFront, ShowsWriteFault};
+ghost use Rattle.nbt.specs.Listing.{listing};
+ghost use Rattle.nbt.specs.Settings.{AreKeys};
+ghost use Rattle.nbt.specs.Tables.{MergeStops, MergesTables};
+
+use crate::fault::Fault;
+use crate::joining::joined_input;
+use crate::listing::print_listing;
+use crate::output::Output;
+use clap::ArgMatches;
+use nb_names::Counted;
+use std::alloc::Global;
+use std::io::{Read, Write};
+
+/// `nbt list [--keys N]`: reads saved tables in hexadecimal, a line each, and prints a line for each
+/// key of their join, ascending: `KEY whole KIND SOURCE DESTINATION DATA`, `KEY partial KIND SOURCE
+/// DESTINATION HELD/END RUNS` (END is `?` where it isn't known), or `KEY spoilt`.
+///
+/// # Errors
+///
+/// Those of [`joined_input`]; [`Fault::Memory`] where memory ran out. Nothing is printed then.
+/// [`Fault::Write`] where the output failed.
+pub fn run_list<R: Read, W: Write>(
+    alloc: Global,
+    matches: &ArgMatches<'_>,
+    input: &mut Counted<R>,
+    output: &mut Output<W>,
+) -> Result<(), Fault>
+    ensures printed { OnOk result (MergesTables (AreKeys matches.now)
+        (λ contents. Appends (W.contents output.old.inner) (W.contents output.new.inner)
+        (listing contents))
+        (R.remaining input.old.inner) (R.remaining input.new.inner)) }
+    ensures err { IfErr result (λ fault. fault ≢ Fault.Write →
+        Keeps (W.contents output.old.inner) (W.contents output.new.inner)) }
+    ensures write { IfErr result (λ fault. fault ≡ Fault.Write → MergesTables (AreKeys matches.now)
+        (λ contents. AppendsFront (W.contents output.old.inner) (W.contents output.new.inner)
+        (listing contents))
+        (R.remaining input.old.inner) (R.remaining input.new.inner)) }
+    ensures fault { IfErr result (MergeStops (AreKeys matches.now)
+        (R.remaining input.old.inner) (R.remaining input.new.inner)) }
+    ensures cut { IfErr result (λ fault. fault ≡ Fault.Read →
+        WasCut (R.remaining input.old.inner) (R.remaining input.new.inner)
+        input.old.counts input.new.counts) }
+    ensures why { IfErr result (λ fault. fault ≡ Fault.Write →
+        ShowsWriteFault output.old.counts output.new.counts) }
+{
+    let table = joined_input(alloc, matches, input)?;
+    print_listing(alloc, &table, output)
+}

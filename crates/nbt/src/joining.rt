@@ -1,0 +1,75 @@
+//! The join of the tables that an input has.
+ghost use Rattle.std.specs.Prelude.{◌≡◌, ◌≢◌, OnOk, IfOk, IfErr};
+ghost use Rattle.nb_table.specs.Join.{join, joined_all, AreTaken};
+ghost use Rattle.nb_table.specs.Merging.{Fits};
+ghost use Rattle.nbt.specs.Input.{WasCut};
+ghost use Rattle.nbt.specs.Settings.{AreKeys};
+ghost use Rattle.nbt.specs.Tables.{contents_of, JoinFails, MergeStops, MergesTables};
+
+use crate::fault::Fault;
+use crate::tables::{tables_of, whole_input};
+use clap::ArgMatches;
+use nb_names::Counted;
+use nb_table::{Table, TableFault, join_all};
+use std::alloc::Global;
+use std::io::Read;
+
+/// The join of the saved tables that an input has, in hexadecimal, a line each; each may hold as
+/// many keys as `--keys` says.
+///
+/// # Errors
+///
+/// [`Fault::Read`] where the input couldn't be read to its end; then the first malformed line, as
+/// [`tables_of`] has it; then [`Fault::NoTables`] where there is no line, and [`Fault::Full`] where
+/// the tables have more keys together than one may hold. [`Fault::Memory`] where memory ran out.
+pub fn joined_input<R: Read>(
+    alloc: Global,
+    matches: &ArgMatches<'_>,
+    input: &mut Counted<R>,
+) -> Result<Table, Fault>
+    ensures joined { IfOk result (λ table. MergesTables (AreKeys matches.now)
+        (λ contents. contents ≡ table.contents)
+        (R.remaining input.old.inner) (R.remaining input.new.inner)) }
+    ensures fault { IfErr result (MergeStops (AreKeys matches.now)
+        (R.remaining input.old.inner) (R.remaining input.new.inner)) }
+    ensures no_write { IfErr result (λ fault. fault ≢ Fault.Write) }
+    ensures cut { IfErr result (λ fault. fault ≡ Fault.Read →
+        WasCut (R.remaining input.old.inner) (R.remaining input.new.inner)
+        input.old.counts input.new.counts) }
+{
+    let Some(keys) = matches.get_one::<u32>("keys") else {
+        return Err(Fault::Arguments);
+    };
+    let text = whole_input(alloc, input)?;
+    let mut tables = tables_of(alloc, text.as_slice(), keys)?;
+    if tables.is_empty() {
+        return Err(Fault::NoTables);
+    }
+    let mut first = tables.remove(0);
+    join_tables(&mut first, tables.as_slice())?;
+    Ok(first)
+}
+
+/// Joins the other tables to the first.
+///
+/// # Errors
+///
+/// [`Fault::Full`] where they have more keys together than the first may hold, [`Fault::TooLong`]
+/// where one has a longer datagram than the first may, [`Fault::Memory`] where memory ran out.
+fn join_tables(first: &mut Table, others: &[Table]) -> Result<(), Fault>
+    ensures joined { OnOk result (first.new.contents
+        ≡ joined_all join first.old.contents (contents_of others.now)) }
+    ensures taken { OnOk result (AreTaken join (Fits first.old.limits)
+        first.old.contents (contents_of others.now)) }
+    ensures fault { IfErr result (JoinFails first.old others.now) }
+    ensures no_read { IfErr result (λ fault. fault ≢ Fault.Read) }
+    ensures no_write { IfErr result (λ fault. fault ≢ Fault.Write) }
+{
+    match join_all(first, others) {
+        Ok(()) => Ok(()),
+        Err((_, TableFault::Full(_))) => Err(Fault::Full),
+        Err((_, TableFault::NoMemory)) => Err(Fault::Memory),
+        Err((_, TableFault::TooLong)) => Err(Fault::TooLong),
+        Err((_, TableFault::MisplacedFirst)) => Err(Fault::TooLong),
+    }
+}

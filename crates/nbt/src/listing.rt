@@ -1,0 +1,116 @@
+//! What a table knows of its keys, a line for each.
+ghost use Rattle.std.specs.Prelude.{◌≡◌, ◌≢◌, ◌⊎◌, ◌++◌, IfOk, IfErr, OnOk, string_bytes};
+ghost use Rattle.std.specs.Io.KnownBytes.{Appends, Keeps};
+ghost use Rattle.nb_names.specs.Devices.{AppendsFront, ShowsWriteFault};
+ghost use Rattle.nb_table.specs.Outline.{outline_at};
+ghost use Rattle.nb_table.specs.Whole.{datagram_at};
+ghost use Rattle.nb_member.specs.Report.{key_text};
+ghost use Rattle.nbt.specs.Listing.{end_text, key_line, known_text, listing, outline_text};
+
+use crate::fault::Fault;
+use crate::output::Output;
+use nb_datagram::Key;
+use nb_member::{kind_name, push_key, push_parts};
+use nb_names::{NoMemory, push_name};
+use nb_table::{Outline, Table};
+use std::alloc::Global;
+use std::io::Write;
+
+/// Prints a line for each key of a table, ascending.
+///
+/// # Errors
+///
+/// [`Fault::Memory`] where memory ran out; nothing is printed then. [`Fault::Write`] where the
+/// output failed.
+pub fn print_listing<W: Write>(
+    alloc: Global,
+    table: &Table,
+    output: &mut Output<W>,
+) -> Result<(), Fault>
+    ensures printed { OnOk result (Appends (W.contents output.old.inner)
+        (W.contents output.new.inner) (listing table.now.contents)) }
+    ensures fault { IfErr result (λ fault. (fault ≡ Fault.Memory) ⊎ (fault ≡ Fault.Write)) }
+    ensures err { IfErr result (λ fault. fault ≢ Fault.Write →
+        Keeps (W.contents output.old.inner) (W.contents output.new.inner)) }
+    ensures write { IfErr result (λ fault. fault ≡ Fault.Write →
+        AppendsFront (W.contents output.old.inner) (W.contents output.new.inner)
+        (listing table.now.contents)) }
+    ensures why { IfErr result (λ fault. fault ≡ Fault.Write →
+        ShowsWriteFault output.old.counts output.new.counts) }
+{
+    let lines = lines_of(alloc, table)?;
+    output.print(lines.as_bytes())
+}
+
+/// The lines of a table's keys, ascending.
+fn lines_of(alloc: Global, table: &Table) -> Result<String, NoMemory>
+    ensures { IfOk result (λ lines. string_bytes lines ≡ listing table.now.contents) }
+{
+    let mut lines = String::new(alloc);
+    for key in table.keys() {
+        push_line(table, key, &mut lines)?;
+    }
+    Ok(lines)
+}
+
+/// Adds the line of a key that is held.
+fn push_line(table: &Table, key: Key, text: &mut String) -> Result<(), NoMemory>
+    ensures { OnOk result
+        (string_bytes text.new ≡ string_bytes text.old ++ key_line table.now.contents key) }
+{
+    push_key(key, text)?;
+    push_known(table, &key, text)?;
+    text.push('\n')?;
+    Ok(())
+}
+
+/// Adds what is known of a key that is held.
+fn push_known(table: &Table, key: &Key, text: &mut String) -> Result<(), NoMemory>
+    ensures { OnOk result (string_bytes text.new ≡ string_bytes text.old
+        ++ known_text (datagram_at table.now.contents key.now)
+        (outline_at table.now.contents key.now)) }
+{
+    if let Some(datagram) = table.datagram(key)? {
+        text.push_str(" whole")?;
+        return push_parts(&datagram, text);
+    }
+    match table.outline(key) {
+        Some(outline) => {
+            text.push_str(" partial ")?;
+            push_outline(&outline, text)
+        }
+        None => {
+            text.push_str(" spoilt")?;
+            Ok(())
+        }
+    }
+}
+
+/// Adds what is known of a datagram that isn't whole.
+fn push_outline(outline: &Outline, text: &mut String) -> Result<(), NoMemory>
+    ensures { OnOk result
+        (string_bytes text.new ≡ string_bytes text.old ++ outline_text outline.now) }
+{
+    text.push_str(kind_name(outline.kind))?;
+    text.push_str(" ")?;
+    push_name(text, &outline.source)?;
+    text.push_str(" ")?;
+    push_name(text, &outline.destination)?;
+    let held = outline.held;
+    write!(text, " {held}/")?;
+    push_end(outline.end, text)?;
+    let runs = outline.runs;
+    write!(text, " {runs}")?;
+    Ok(())
+}
+
+/// Adds how many bytes a datagram has, or `?`.
+fn push_end(end: Option<u32>, text: &mut String) -> Result<(), NoMemory>
+    ensures { OnOk result (string_bytes text.new ≡ string_bytes text.old ++ end_text end) }
+{
+    match end {
+        Some(end) => write!(text, "{end}")?,
+        None => text.push_str("?")?,
+    }
+    Ok(())
+}

@@ -25,5 +25,6 @@ step() {
 step rt ci
 step tests/program.sh
 step tests/examples.sh
+step tests/scale.sh
 echo "$passed passed, $failed failed"
 [ "$failed" -eq 0 ]

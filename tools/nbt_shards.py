@@ -101,7 +101,7 @@ def local_program(asked):
 # ---- where captures may be cut
 
 def ranges_of(capture, options):
-    """The ranges of an input, in order: of at most --shard-bytes each, but where it can't be cut so often."""
+    """The ranges of an input, in order: of at most --shard-bytes for each group, but where it can't be cut so often."""
     try:
         if options.tables:
             places = table_ends(capture)
@@ -109,7 +109,7 @@ def ranges_of(capture, options):
             places = tick_places(capture)
         else:
             places = line_ends(capture, options.shard_bytes)
-        ranges = list(packed(capture, places, options.shard_bytes))
+        ranges = list(packed(capture, places, options.shard_bytes * (options.by_source or 1)))
     except OSError as error:
         raise Stopped('%s: %s' % (capture, error.strerror)) from error
     for each in ranges:
@@ -285,8 +285,8 @@ def group_of(line, groups):
 def judge_size(shard, size):
     """Refuses a shard that `nbt save` wouldn't read."""
     if size > MOST_READ:
-        raise Stopped('%s: group %d has %d bytes, of which `nbt save` reads %d. More groups (--by-source) make it smaller, but '
-                      'where one address sent them' % (place_of(shard.range), shard.group, size, MOST_READ), 1)
+        raise Stopped('%s: group %d has %d bytes, of which `nbt save` reads %d. More groups (--by-source) make it smaller, or '
+                      'shorter shards (--shard-bytes) where no tick is in the way' % (place_of(shard.range), shard.group, size, MOST_READ), 1)
 
 
 # ---- what is told of a shard that was refused

@@ -28,5 +28,6 @@ step tests/process.py
 step tests/examples.sh
 step tests/wireshark.sh
 step tests/manual.sh
+step tests/scale.sh
 echo "$passed passed, $failed failed"
 [ "$failed" -eq 0 ]

@@ -1,0 +1,174 @@
+#!/usr/bin/env bash
+# tools/nbt-parallel and tools/nbt-dask over a capture of 40 MiB, on two workers: killed workers, killed clients, and
+# inputs and devices that are refused. What isn't installed is left out, with a line that says so. Usage: tests/scale.sh
+# [PROGRAM]; its last line is 'N passed, M failed'.
+set -uo pipefail
+. "$(dirname "$0")/counting.sh"
+program=$(realpath "${1:-$here/../crates/nbt/out/nbt}")
+tools=$(realpath "$here/../tools")
+cd "$room" || exit
+
+save() { "$program" save --keys 65535; }
+merge() { "$program" merge --keys 65535; }
+
+# engine NAME WORD..: $room/NAME, the tool of that name on two workers; its first word is the program.
+engine() { printf '#!/bin/sh\nexec "%s" %s --program "$@"\n' "$tools/$1" "${*:2}" >"$1" && chmod +x "$1"; }
+engine nbt-parallel --jobs 2
+engine nbt-dask --workers 2
+
+# refuses STATUS TEXT WORD..: the command ends with the status, and these words alone on standard error, TEXT being a
+# pattern, and leaves no OUT.
+refuses() {
+    local status=$1 text=$2
+    shift 2
+    "$@" out >output 2>errors </dev/null
+    [ $? -eq "$status" ] && [ "$(wc -l <errors)" -eq 1 ] && [[ $(cat errors) == $text ]] && [ ! -s output ] && [ ! -e out ]
+    count $? "$*: $(cat errors)"
+    rm -rf out out.work
+}
+
+# gives TABLE WORD..: the command ends well, and OUT is the table, byte for byte; nothing else is left beside it.
+gives() {
+    local table=$1
+    shift
+    "$@" out >output 2>errors </dev/null && cmp -s "$table" out && [ ! -e out.work ] && [ ! -s errors ]
+    count $? "$*: $(cat errors)"
+    rm -rf out out.work
+}
+
+# A program that tells when it starts, and takes its time. Its parent is the worker: a job's shell, or a process of dask.
+printf '#!/bin/sh\necho $$ $PPID >>%s/started\nsleep 0.3\nexec %s "$@"\n' "$room" "$program" >slow && chmod +x slow
+
+# Waits for the start of so many runs of the slowed program.
+await() {
+    for ((i = 0; i < 600; i++)); do
+        [ "$(wc -l <started)" -ge "$1" ] && return
+        sleep 0.1
+    done
+}
+
+# loses_worker WORD..: a worker is killed while it works.
+loses_worker() {
+    : >started
+    "$@" many --shard-bytes 4194304 out >output 2>errors </dev/null &
+    await 4
+    kill -9 "$(sed -n '4s/.* //p' started)" && wait $! && cmp -s table out && [ ! -e out.work ]
+    count $? "$*, a worker killed: $(cat errors)"
+    rm -rf out out.work
+}
+
+# loses_client WORD..: the client is killed while it works, and run again.
+loses_client() {
+    : >started
+    "$@" many --shard-bytes 4194304 out >output 2>errors </dev/null &
+    await 6
+    kill -9 $! && ! wait $! 2>/dev/null && [ ! -e out ]
+    count $? "$*, the client killed: nothing is there"
+    : >started
+    "$@" many --shard-bytes 4194304 out >output 2>errors </dev/null && cmp -s table out && [ ! -e out.work ]
+    count $? "$*, the client killed, and run again: $(cat errors)"
+    rm -rf out out.work
+}
+
+# on_cluster WORD..: the words, and behind them the address of a scheduler with two workers, which have no nanny.
+on_cluster() {
+    local each cluster=()
+    "$python" -m distributed.cli.dask_scheduler --host 127.0.0.1 --port 0 --no-dashboard --scheduler-file cluster >logs 2>&1 &
+    cluster+=($!)
+    for each in one other; do
+        (cd / && exec "$python" -m distributed.cli.dask_worker --scheduler-file "$room/cluster" --nthreads 1 --no-nanny \
+            --no-dashboard --local-directory "$room/$each" >>"$room/logs" 2>&1) &
+        cluster+=($!)
+    done
+    disown -a
+    for ((i = 0; i < 300; i++)); do
+        [ -s cluster ] && break
+        sleep 0.1
+    done
+    "$@" "$("$python" -c 'import json; print(json.load(open("cluster"))["address"])')"
+    for each in "${cluster[@]}"; do
+        kill "$each" 2>/dev/null
+        while kill -0 "$each" 2>/dev/null; do sleep 0.1; done
+    done
+}
+
+# refusals ENGINE: inputs that are refused, devices that fail, and words that make no sense.
+refusals() {
+    local name=${1#./}
+    refuses 1 "$name: bad: line 54321 is malformed (shard g0000-00000?)" "$1" "$program" bad
+    refuses 1 "$name: ever: lines 1 to * has * bytes, *: keys live across *(--by-source 3)*" "$1" "$program" ever
+    refuses 3 "$name: nowhere: no such file" "$1" "$program" many nowhere
+    refuses 3 "$name: ./nbt: no such program*" "$1" ./nbt many
+    cp bad kept && "$1" "$program" many kept >output 2>errors
+    [ $? -eq 2 ] && cmp -s bad kept && [[ $(cat errors) == "$name: kept is there, and is no saved table"* ]]
+    count $? "$1: OUT is a capture: $(cat errors)"
+}
+
+# A full disk: OUT's folder is one of 1 MiB.
+full_disk() {
+    mkdir -p disk
+    if ! unshare -rm mount -t tmpfs none disk 2>/dev/null; then
+        echo 'tests/scale.sh: no disk can be made here: full disks are left out'
+        return
+    fi
+    unshare -rm bash -c 'mount -t tmpfs -o size=1m none disk; echo 4e425432 >disk/out
+        "$1" "$2" many disk/out; echo $?; cat disk/out; ls disk' - "$1" "$program" >output 2>errors
+    printf '3\n4e425432\nout\n' | cmp -s - <(grep -v out.work output) && [[ $(cat errors) == nbt-*": No space left on device" ]]
+    count $? "$1: a full disk: $(cat errors)"
+}
+
+for kind in many keys gaps flow ever; do
+    python3 "$here/scale_capture.py" $kind "$room"
+done
+cp many bad && sed -i '54321s/.*/138 0 xyz/' bad
+
+# One table over all: a program reads 16 MiB at once, so parts are saved and merged in order.
+split -C 8m many part.
+for each in part.*; do
+    save <"$each" >table.next
+    if [ -e table ]; then cat table table.next | merge >table.both && mv table.both table; else mv table.next table; fi
+done
+cp table copy
+if "$program" list --help >/dev/null 2>&1; then
+    "$program" list --keys 65535 <table | cmp -s - many.list
+    count $? 'nbt list: the datagrams of the table'
+fi
+
+if parallel --version 2>/dev/null | grep -q '^GNU parallel'; then
+    loses_worker ./nbt-parallel "$room/slow"
+    loses_client ./nbt-parallel "$room/slow"
+    [ "$(wc -l <started)" -lt 12 ]
+    count $? "./nbt-parallel, run again: it goes on where it was, $(wc -l <started) runs of the program"
+    refusals ./nbt-parallel
+    refuses 1 "nbt-parallel: bad: line 54321 is malformed (shard g0000-00000?)" ./nbt-parallel "$program" --by-source 2 bad
+    full_disk ./nbt-parallel
+    save <gaps >gaps.table
+    gives gaps.table ./nbt-parallel "$program" --shard-bytes 262201 gaps
+    save <flow >flow.table
+    gives flow.table ./nbt-parallel "$program" --shard-bytes 262201 flow
+    ./nbt-parallel "$program" --by-source 3 --shard-bytes 262201 flow out && [ "$(wc -l <out)" -eq 3 ] && merge <out | cmp -s flow.table
+    count $? './nbt-parallel --by-source 3, with ticks'
+    for each in part.*; do save <"$each" >"$each.table"; done
+    gives table ./nbt-parallel "$program" --tables part.*.table
+    refuses 1 'nbt-parallel: 2 tables are left, of which no two can be merged:*' ./nbt-parallel "$program" --tables table copy
+    refuses 1 'nbt-parallel: *nbt: full: there are more than 65535 keys. Cut by source *' ./nbt-parallel "$program" keys
+    ./nbt-parallel "$program" --by-source 2 keys out && [ "$(wc -l <out)" -eq 2 ]
+    count $? './nbt-parallel --by-source 2, of 66,000 keys'
+else
+    echo 'tests/scale.sh: GNU parallel isn'\''t installed: nbt-parallel is left out'
+fi
+
+for python in python3 /usr/bin/python3 ''; do
+    [ -n "$python" ] && "$python" -c 'import distributed' 2>/dev/null && break
+done
+if [ -n "$python" ]; then
+    loses_worker ./nbt-dask "$room/slow"
+    loses_client ./nbt-dask "$room/slow"
+    on_cluster loses_worker "$tools/nbt-dask" --send --program "$room/slow" --scheduler
+    refusals ./nbt-dask
+    full_disk ./nbt-dask
+else
+    echo 'tests/scale.sh: no Python here has distributed: nbt-dask is left out'
+fi
+
+finish

@@ -39,8 +39,8 @@ pub fn run_count(alloc: Global, words: &mut Words<'_>) -> Result<String, Example
     Ok(format!(in alloc; "{count:?}")?)
 }
 
-/// `outline KEY TABLE`: what is known of the key but for its bytes, `KIND SOURCE DESTINATION HELD of
-/// END in RUNS`, or `none`.
+/// `outline KEY TABLE`: what is known of the key but for its bytes, `KIND SOURCE DESTINATION HELD
+/// of END in RUNS`, or `none`.
 pub fn outline(alloc: Global, words: &mut Words<'_>) -> Result<String, ExampleFault> {
     let key = words.key()?;
     let table = table_of(alloc, words.rest())?;

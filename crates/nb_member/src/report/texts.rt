@@ -74,8 +74,8 @@ fn push_datagram(datagram: &Datagram, text: &mut String) -> Result<(), NoMemory>
     push_parts(datagram, text)
 }
 
-/// Adds a datagram's kind, source, destination and data, each after a space, as the report has them:
-/// `unique`, `group` or `broadcast`; names as their texts; data in hexadecimal, or `empty`.
+/// Adds a datagram's kind, source, destination and data, each after a space, as the report has
+/// them: `unique`, `group` or `broadcast`; names as their texts; data in hexadecimal, or `empty`.
 ///
 /// # Errors
 ///
@@ -115,8 +115,8 @@ fn push_unheard(
     push_error(alloc, error, text)
 }
 
-/// Adds a key as the report has it, `ADDRESS:PORT/ID`: the address with dots and the port in decimal,
-/// the identifier as four hexadecimal digits.
+/// Adds a key as the report has it, `ADDRESS:PORT/ID`: the address with dots and the port in
+/// decimal, the identifier as four hexadecimal digits.
 ///
 /// # Errors
 ///

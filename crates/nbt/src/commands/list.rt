@@ -16,9 +16,9 @@ use nb_names::Counted;
 use std::alloc::Global;
 use std::io::{Read, Write};
 
-/// `nbt list [--keys N]`: reads saved tables in hexadecimal, a line each, and prints a line for each
-/// key of their join, ascending: `KEY whole KIND SOURCE DESTINATION DATA`, `KEY partial KIND SOURCE
-/// DESTINATION HELD/END RUNS` (END is `?` where it isn't known), or `KEY spoilt`.
+/// `nbt list [--keys N]`: reads saved tables in hexadecimal, a line each, and prints a line for
+/// each key of their join, ascending: `KEY whole KIND SOURCE DESTINATION DATA`, `KEY partial KIND
+/// SOURCE DESTINATION HELD/END RUNS` (END is `?` where it isn't known), or `KEY spoilt`.
 ///
 /// # Errors
 ///

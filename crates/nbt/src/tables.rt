@@ -7,9 +7,9 @@ ghost use Rattle.nbt.specs.Input.{WasCut};
 ghost use Rattle.nbt.specs.Tables.{AreTables, IsElsewhere, IsTableFault, IsTableLine, TablesFail};
 
 use crate::fault::Fault;
-use nb_names::{Counted, DigitsFault, bytes_of_digits};
 use nb_names::input::read_input;
 use nb_names::lines::split_line;
+use nb_names::{Counted, DigitsFault, bytes_of_digits};
 use nb_table::{LoadFault, Table, load};
 use std::alloc::Global;
 use std::io::Read;

@@ -154,7 +154,7 @@ class Maker:
             return rng.choice(('10.0.0.5:138/0001', '10.0.0.5', '0001', '0000', '82', '139', '0', '1', '65535', '65536', 'empty',
                                '00010203', '4294967295', '255.255.255.255:65535/ffff'))
         if how < 10:
-            return rng.choice(('--keys', '--bytes', '--broadcast', '--help', '--', '-', '-h', '--keys=3', '-V', 'query', 'group'))
+            return rng.choice(('--keys', '--bytes', '--broadcast', '--help', '--', '-', '-h', '--keys=3', '--per-source=2', '-V', 'query', 'group'))
         return self.text(rng.choice(('10.0.0.5:138/0001', '10.0.0.5', '0001', '300000')))
 
     def text(self, text):

@@ -1,7 +1,8 @@
 //! The calls of nb_table.
 //!
-//! A table is said as `KEYS LONGEST STEP ..`: its limits, and the fragments that are inserted into
-//! it one after the other. A step is `ID:FLAGS:OFFSET:BYTES`, a group fragment of 10.0.0.5:138/ID
+//! A table is said as `CAPACITY LONGEST STEP ..`: its limits, and the fragments that are inserted
+//! into it one after the other. A capacity is how many keys it may hold, as `8`, or also how many
+//! of one address, as `8:2`. A step is `ID:FLAGS:OFFSET:BYTES`, a group fragment of 10.0.0.5:138/ID
 //! from JOE<00> to FRED<20>, and may have after it, each after a colon, what is otherwise:
 //! `kind=unique`, `ip=10.0.0.6`, `port=139`, `from=ANN<00>` and `to=FRED<20>.A`. Steps that a table
 //! refuses change nothing. Between tables stands `|`.

@@ -60,6 +60,16 @@ impl<'a> Words<'a> {
         u32::try_from(self.number()?).map_err(|_| ExampleFault::BadWords)
     }
 
+    /// The next word, as how many keys a table may hold, and how many of one address: `8:2`, or `8`
+    /// for 4,294,967,295 of one address.
+    pub fn capacity(&mut self) -> Result<(u32, u32), ExampleFault> {
+        let word = self.word()?;
+        let (keys, per_source) = word.split_once(":").unwrap_or((word, "4294967295"));
+        let keys = Words::new(keys).number_32()?;
+        let per_source = Words::new(per_source).number_32()?;
+        Ok((keys, per_source))
+    }
+
     /// The next word, as a decimal number of at most 16 bits.
     pub fn number_16(&mut self) -> Result<u16, ExampleFault> {
         u16::try_from(self.number()?).map_err(|_| ExampleFault::BadWords)

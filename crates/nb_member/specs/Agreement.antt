@@ -1,4 +1,4 @@
--- When two members that are given two lists of events are given the same fragments, within the limit on
+-- When two members that are given two lists of events are given the same fragments, within the limits on
 -- keys, and before any timer runs out; that they then have the same table; and what they hand over: for each
 -- key that isn't spoilt the same datagram, once (our choice). The clauses of `two_members` lead from the first
 -- part of this page to the others.
@@ -13,8 +13,9 @@ use Rattle.nb_datagram.specs.declared.key.Key.{Key}
 use Rattle.nb_datagram.specs.Fragment.{Core}
 use Rattle.nb_datagram.specs.Key.{same_key}
 use Rattle.nb_datagram.specs.Datagram.{DatagramParts}
-use Rattle.nb_table.specs.Contents.{table_of}
+use Rattle.nb_table.specs.Contents.{Contents, table_of}
 use Rattle.nb_table.specs.Join.{SameCores}
+use Rattle.nb_table.specs.KeyCounts.{FewOfEach}
 use Rattle.nb_table.specs.Whole.{datagram_at}
 use Rattle.nb_table.specs.Conflict.{IsSpoilt}
 use Rattle.nb_table.specs.Sender.{HasPartsAlone, HasAll}
@@ -50,11 +51,16 @@ abbrev pub NoneDropped : Settings → List Timed → List Saying → Type 0
 NoneDropped settings L [] = Unit {0}
 NoneDropped settings L (s ∷ S) = DropsNone settings L s × NoneDropped settings (live_after settings L s) S
 
--- the valid fragments among S have at most as many keys as a table may hold
-abbrev pub IsWithinCapacity : Settings → List Saying → Type 0
-IsWithinCapacity settings S = maps.len (table_of (cores (valid S))) ≤ settings.keys
+-- the table has at most as many keys as may be held, and at most as many of each address
+pub record HasRoomFor (settings : Settings) (t : Contents) : Type 0 where
+  pub keys : maps.len t ≤ settings.keys
+  pub sources : FewOfEach settings.per_source t
 
--- the two lists have the same valid fragments, whose keys are within the limit, and no look at the clock
+-- the valid fragments among S have at most as many keys as a table may hold, in all and of each address
+abbrev pub IsWithinCapacity : Settings → List Saying → Type 0
+IsWithinCapacity settings S = HasRoomFor settings (table_of (cores (valid S)))
+
+-- the two lists have the same valid fragments, whose keys are within the limits, and no look at the clock
 -- among either drops a key
 pub record GiveTheSame (settings : Settings) (S T : List Saying) : Type 0 where
   pub same_fragments : SameCores (cores (valid S)) (cores (valid T))

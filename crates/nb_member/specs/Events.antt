@@ -33,7 +33,7 @@ pub data Saying : Type 0 where
 
 -- the limits of a member's table
 abbrev pub limits_of : Settings → Limits
-limits_of settings = record { keys = settings.keys; longest = settings.longest }
+limits_of settings = record { keys = settings.keys; per_source = settings.per_source; longest = settings.longest }
 
 -- Says settings event saying: what the event says to a member with these settings
 pub data Says (settings : Settings) : Event → Saying → Type 0 where

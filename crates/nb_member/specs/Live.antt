@@ -2,12 +2,13 @@
 --
 -- Our choice: the first fragment of a key starts the timer, at its own moment, and later ones leave it alone,
 -- whatever their moments. Only a look at the clock drops a key. Moments and times are in milliseconds.
-use Rattle.std.specs.Prelude.{ℕ, List, map, cond, [], ◌∷◌, Option, Some, None, ◌+◌, Bool, false, nat_le, not, ◌&&◌, ◌++◌, filter, fold, ◌≡◌}
+use Rattle.std.specs.Prelude.{ℕ, List, map, cond, [], ◌∷◌, Option, Some, None, ◌+◌, Bool, false, nat_le, not, ◌&&◌, ◌||◌, ◌++◌, filter, fold, ◌≡◌}
 use Rattle.std.specs.FinMap as maps
 use Rattle.nb_datagram.specs.declared.key.Key.{Key}
 use Rattle.nb_datagram.specs.Fragment.{FragmentParts, Core, core_of}
 use Rattle.nb_datagram.specs.Key.{same_key}
 use Rattle.nb_table.specs.Contents.{Contents, table_of}
+use Rattle.nb_table.specs.KeyCounts.{held_keys, of_source}
 use Rattle.nb_member.specs.declared.limits.TheConstants.{FRAGMENT_TIMEOUT}
 use Rattle.nb_member.specs.declared.settings.Settings.{Settings}
 use Rattle.nb_member.specs.Events.{Saying, came, refused, another, clock}
@@ -41,10 +42,16 @@ is_over now (Some start) = nat_le (start + FRAGMENT_TIMEOUT) now
 abbrev pub outlives : List Timed → ℕ → Key → Bool
 outlives L now k = not (is_over now (start_at L k))
 
+-- is_source_full settings L k: as many keys of the address of k are live as may be
+abbrev pub is_source_full : Settings → List Timed → Key → Bool
+is_source_full settings L k = nat_le settings.per_source (held_keys (of_source k.ip) (table_from L))
+
 -- is_full settings L k: a fragment of key k is not taken in, since the key is new and as many keys are live
--- as may be
+-- as may be, of its address or in all
 abbrev pub is_full : Settings → List Timed → Key → Bool
-is_full settings L k = not (maps.contains_key (table_from L) k) && nat_le settings.keys (maps.len (table_from L))
+is_full settings L k =
+    not (maps.contains_key (table_from L) k)
+    && (is_source_full settings L k || nat_le settings.keys (maps.len (table_from L)))
 
 -- live_after settings L s: the fragments that are live after an event that says s, where L were before
 abbrev pub live_after : Settings → List Timed → Saying → List Timed
@@ -62,16 +69,16 @@ live_from settings L S = fold (live_after settings) L S
 abbrev pub live : Settings → List Saying → List Timed
 live settings S = live_from settings [] S
 
--- ---- the limit on keys
+-- ---- the limits on keys
 
--- HasRoom settings L s: it is no fragment that meets the limit on keys, where L are live
+-- HasRoom settings L s: it is no fragment that meets a limit on keys, where L are live
 abbrev pub HasRoom : Settings → List Timed → Saying → Type 0
 HasRoom settings L (came moment f) = is_full settings L f.key ≡ false
 HasRoom settings L (refused fault) = Unit {0}
 HasRoom settings L another = Unit {0}
 HasRoom settings L (clock now) = Unit {0}
 
--- NoneFull settings L S: no fragment among S meets the limit on keys, where L are live before them
+-- NoneFull settings L S: no fragment among S meets a limit on keys, where L are live before them
 abbrev pub NoneFull : Settings → List Timed → List Saying → Type 0
 NoneFull settings L [] = Unit {0}
 NoneFull settings L (s ∷ S) = HasRoom settings L s × NoneFull settings (live_after settings L s) S

@@ -1,15 +1,15 @@
 -- What a run of events makes of a member, and what it reports (our choice).
-use Rattle.std.specs.Prelude.{ℕ, ◌+◌, List, [], ◌∷◌, ◌≡◌, true, ⊤, Option, Some, None, take, drop, ◌≤◌, ◌++◌, length}
+use Rattle.std.specs.Prelude.{ℕ, ◌+◌, List, [], ◌∷◌, ◌≡◌, true, false, ⊤, Option, Some, None, take, drop, ◌≤◌, ◌++◌, length}
 use Rattle.nb_datagram.specs.declared.key.Key.{Key}
 use Rattle.nb_datagram.specs.Fragment.{FragmentParts}
 use Rattle.nb_member.specs.declared.event.Event.{Event}
 use Rattle.nb_member.specs.declared.settings.Settings.{Settings}
 use Rattle.nb_member.specs.declared.event.Event.TheVariants.{Packet, Tick}
 use Rattle.nb_member.specs.declared.run_report.RunStop.{RunStop}
-use Rattle.nb_member.specs.declared.run_report.RunStop.TheVariants.{Full, NoMemory}
+use Rattle.nb_member.specs.declared.run_report.RunStop.TheVariants.{Full, FullSource, NoMemory}
 use Rattle.nb_member.specs.declared.run_report.RunReport.{RunReport}
 use Rattle.nb_member.specs.Events.{Saying, came, refused, another, clock, Says, Say}
-use Rattle.nb_member.specs.Live.{Timed, is_full, NoneFull, live_from, live}
+use Rattle.nb_member.specs.Live.{Timed, is_full, is_source_full, NoneFull, live_from, live}
 use Rattle.nb_member.specs.Deliveries.{deliveries, errors}
 use Rattle.nb_member.specs.Member.{MemberValue, Stands}
 
@@ -34,11 +34,13 @@ abbrev pub IsPayload : Event → Type 0
 IsPayload (Packet moment payload) = ⊤
 IsPayload (Tick now) = ⊥
 
--- StopsAt settings L event stop: a run stops before the event, where L are live: since memory ran out only
--- where the event is a payload that doesn't meet the limit
+-- StopsAt settings L event stop: a run stops before the event, where L are live: since its key's address is
+-- full, or where that isn't, since all keys are; and since memory ran out only where the event is a payload that
+-- meets no limit
 abbrev pub StopsAt : Settings → List Timed → Event → RunStop → Type 0
-StopsAt settings L event (Full k) = MeetsLimit settings L event k
+StopsAt settings L event (Full k) = MeetsLimit settings L event k × (is_source_full settings L k ≡ false)
 StopsAt settings L event NoMemory = IsPayload event × ((k : Key) → MeetsLimit settings L event k → ⊥)
+StopsAt settings L event (FullSource k) = MeetsLimit settings L event k × (is_source_full settings L k ≡ true)
 
 -- StopsBefore settings L rest stop: these events are left, where L are live: none exactly where the run
 -- didn't stop
@@ -49,7 +51,7 @@ StopsBefore settings L (event ∷ later) None = ⊥
 StopsBefore settings L (event ∷ later) (Some stop) = StopsAt settings L event stop
 
 -- Reports m L events report: what a run of these events in the member m reports, where L are live before;
--- none of those that were taken met the limit on keys
+-- none of those that were taken met a limit on keys
 pub record Reports (m : MemberValue) (L : List Timed) (events : List Event) (report : RunReport) : Type 0 where
   pub sayings : List Saying
   pub said : Say m.settings (take report.taken events) sayings

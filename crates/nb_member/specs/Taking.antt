@@ -14,7 +14,8 @@ use Rattle.nb_datagram.specs.DatagramFaults.{PacketFails}
 use Rattle.nb_datagram.specs.Packet.{IsPacket}
 use Rattle.nb_table.specs.declared.change.Change.{Change}
 use Rattle.nb_table.specs.declared.change.Change.TheVariants as change
-use Rattle.nb_table.specs.declared.fault.TableFault.TheVariants.{Full}
+use Rattle.nb_table.specs.declared.fault.TableFault.{TableFault}
+use Rattle.nb_table.specs.declared.fault.TableFault.TheVariants.{Full, FullSource}
 use Rattle.nb_table.specs.Change.{IsChange}
 use Rattle.nb_table.specs.Insert.{Takes as TableTakes, Refuses}
 use Rattle.nb_table.specs.Maps.{first_of}
@@ -30,7 +31,7 @@ use Rattle.nb_member.specs.declared.member_fault.MemberFault.TheVariants.{Packet
 use Rattle.nb_member.specs.Hearing.{hears, unheard, refusal}
 use Rattle.nb_member.specs.Member.{MemberValue, contents, with_timed, after_fragment, StandsOver, Moments, TimedValue}
 use Rattle.nb_member.specs.Events.{Saying, came, refused, another, clock}
-use Rattle.nb_member.specs.Live.{Timed, table_from, is_full, live_after}
+use Rattle.nb_member.specs.Live.{Timed, table_from, is_full, is_source_full, live_after}
 
 -- ---- a payload, by its bytes
 
@@ -80,12 +81,16 @@ pub record IsAnswered (settings : Settings) (names : List NetbiosName) (L : List
   pub changed : IsChange (table_from L) (table_from (live_after settings L s)) f.key change
   pub answered : outcome ≡ outcome_of settings names f.key change
 
+-- full_fault settings L k: why the key k is full where L are live: its address is, or else all keys are
+abbrev pub full_fault : Settings → List Timed → Key → TableFault
+full_fault settings L k = cond (is_source_full settings L k) (FullSource k) (Full k)
+
 -- AnswersFragment settings names L s f result: what is answered where the event says s, that the fragment f
 -- came: an outcome, or that its key is full
 abbrev pub AnswersFragment : Settings → List NetbiosName → List Timed → Saying → FragmentParts → Result Outcome MemberFault → Type 0
 AnswersFragment settings names L s f (Ok outcome) = IsAnswered settings names L s f outcome
 AnswersFragment settings names L s f (Err fault) =
-    (is_full settings L f.key ≡ true) × (fault ≡ Table (Full f.key))
+    (is_full settings L f.key ≡ true) × (fault ≡ Table (full_fault settings L f.key))
 
 -- Answers settings names L s result: what a station with these settings and names answers to a payload that
 -- says s, where L are live before

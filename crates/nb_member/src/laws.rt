@@ -75,7 +75,7 @@ pub fn an_event_says_one_thing()
 
 /// A payload that a member takes says something, and the member does what it says: it stands for
 /// the fragments that are live then, and answers by what it stood for before. A payload that it
-/// refuses changes nothing, and it refuses none for want of memory that meets the limit on keys.
+/// refuses changes nothing, and it refuses none for want of memory that meets a limit on keys.
 pub fn a_member_does_what_is_said()
     ensures says { (m new : MemberValue) (L : List Timed) (moment : ℕ) (payload : List ℕ)
         (result : Result Outcome MemberFault) → StandsOver m L → Takes m moment payload new result →
@@ -113,7 +113,7 @@ pub fn an_answer_shows_what_is_handed_out()
         errors_by settings names L s ≡ error_in result }
 {}
 
-/// Where no look at the clock drops a key and no fragment meets the limit on keys, the fragments
+/// Where no look at the clock drops a key and no fragment meets a limit on keys, the fragments
 /// that are live are the valid ones, each with its moment.
 pub fn live_fragments_are_the_valid_ones()
     ensures fragments { (settings : Settings) (S : List Saying) →
@@ -123,7 +123,7 @@ pub fn live_fragments_are_the_valid_ones()
         cores (live settings S) ≡ cores (valid S) }
 {}
 
-/// Where events say the same fragments, whose keys are within the limit, and no look at the clock
+/// Where events say the same fragments, whose keys are within the limits, and no look at the clock
 /// drops a key, no fragment meets the limit, and the tables of what is live are the same.
 pub fn the_same_fragments_make_the_same_table()
     ensures room { (settings : Settings) (S T : List Saying) → GiveTheSame settings S T →

@@ -137,6 +137,7 @@ fn lacked_memory(taken: &Result<Outcome, MemberFault>) -> bool
         Err(MemberFault::Table(TableFault::NoMemory)) => true,
         Err(MemberFault::Table(TableFault::MisplacedFirst)) => false,
         Err(MemberFault::Table(TableFault::TooLong)) => false,
+        Err(MemberFault::Table(TableFault::FullSource(_))) => false,
         Err(MemberFault::Table(TableFault::Full(_))) => false,
     }
 }

@@ -1,17 +1,20 @@
 //! Members.
-ghost use Rattle.std.specs.Prelude.{◌≡◌, ◌+◌, ◌↔◌, IsTrue, MatchOption};
+ghost use Rattle.std.specs.Prelude.{◌≡◌, ◌≤◌, ◌+◌, ◌↔◌, IsTrue, None, MatchOption};
 ghost use Rattle.std.specs.FinMap as maps;
 ghost use Rattle.nb_datagram.specs.declared.key.Key.{Key};
 ghost use Rattle.nb_member.specs.Events.{limits_of};
 ghost use Rattle.nb_member.specs.Member.{contents, new_member, with_timed, after_clock};
 ghost use Rattle.nb_member.specs.Taking.{Takes, TakesFragment, handed, outcome_of};
-ghost use Rattle.nb_member.specs.Code.Members.{IsFullAt, MeetsFull, BeginsFull};
+ghost use Rattle.nb_member.specs.Code.Members.{IsFullAs, MeetsFull, BeginsFull};
+ghost use Rattle.nb_member.specs.declared.run_report.RunStop.{RunStop};
+ghost use Rattle.nb_table.specs.KeyCounts.{held_keys, of_source};
 
 mod absorbing;
 
 use crate::local_names::LocalNames;
 use crate::member_fault::MemberFault;
 use crate::outcome::{Dropped, Outcome};
+use crate::run_report::RunStop;
 use crate::settings::Settings;
 use crate::timed_table::TimedTable;
 use nb_datagram::{Datagram, Fragment, Key, Packet, decode};
@@ -51,7 +54,7 @@ impl Member {
         Member {
             settings,
             names,
-            timed: TimedTable::new(alloc, settings.keys, settings.longest),
+            timed: TimedTable::new(alloc, settings.keys, settings.per_source, settings.longest),
         }
     }
 
@@ -71,9 +74,9 @@ impl Member {
     /// # Errors
     ///
     /// `Packet` where the payload begins with no packet. Else `Table` where the table refuses the
-    /// fragment, as `MisplacedFirst`, `TooLong`, `Full` or `NoMemory`, judged in this order; the
-    /// last comes too where the moment of a new key can't be kept. The member is then as it was.
-    /// Memory is taken for a fragment alone.
+    /// fragment, as `MisplacedFirst`, `TooLong`, `FullSource`, `Full` or `NoMemory`, judged in this
+    /// order; the last comes too where the moment of a new key can't be kept. The member is then
+    /// as it was. Memory is taken for a fragment alone.
     pub fn take(&mut self, moment: u64, payload: &[u8]) -> Result<Outcome, MemberFault>
         ensures { Takes self.old moment payload.now self.new result }
     {
@@ -100,24 +103,24 @@ impl Member {
         }
     }
 
-    /// The key of the fragment that a payload begins with, if the fragment is valid and the table
-    /// has no room for its key. No memory is taken.
-    pub(crate) fn full_key(&self, payload: &[u8]) -> Option<Key>
-        ensures { MatchOption result ((k : Key) → ¬ BeginsFull self.now payload.now k)
+    /// Which limit on keys the fragment that a payload begins with meets, if it is valid and meets
+    /// one. No memory is taken.
+    pub(crate) fn limit_met(&self, payload: &[u8]) -> Option<RunStop>
+        ensures { MatchOption result ((stop : RunStop) → ¬ BeginsFull self.now payload.now stop)
             (BeginsFull self.now payload.now) }
     {
         match decode(payload) {
-            Ok((Packet::Direct(fragment), _)) => self.full_key_of(&fragment),
+            Ok((Packet::Direct(fragment), _)) => self.limit_met_by(&fragment),
             Ok((Packet::Error(_), _)) => None,
             Ok((Packet::Query(_), _)) => None,
             Err(_) => None,
         }
     }
 
-    /// The key of a fragment, where it is valid and the table has no room for its key.
-    fn full_key_of(&self, fragment: &Fragment<'_>) -> Option<Key>
-        ensures { MatchOption result (¬ MeetsFull self.now fragment.now)
-            (λ k. MeetsFull self.now fragment.now × (fragment.now.key ≡ k)) }
+    /// Which limit on keys a fragment meets, if it is valid and meets one.
+    fn limit_met_by(&self, fragment: &Fragment<'_>) -> Option<RunStop>
+        ensures { MatchOption result ((stop : RunStop) → ¬ MeetsFull self.now fragment.now stop)
+            (MeetsFull self.now fragment.now) }
     {
         if fragment.is_first() != (fragment.offset() == 0) {
             return None;
@@ -125,23 +128,36 @@ impl Member {
         if fragment.reach() > u32::from(self.settings.longest) {
             return None;
         }
-        let key = fragment.key();
-        if !self.is_full(key) {
-            return None;
-        }
-        Some(key)
+        self.limit_met_at(fragment.key())
     }
 
-    /// Whether a key is new, and as many are held as may be.
-    fn is_full(&self, key: Key) -> bool
-        ensures { IsTrue result ↔ IsFullAt self.now key }
+    /// Which limit on keys a key meets, if it is new and meets one.
+    fn limit_met_at(&self, key: Key) -> Option<RunStop>
+        ensures { MatchOption result ((stop : RunStop) → ¬ IsFullAs self.now key stop)
+            (IsFullAs self.now key) }
     {
         match self.timed.table().state(&key) {
-            State::Absent => self.timed.table().len() >= self.settings.keys as usize,
-            State::Partial => false,
-            State::Whole => false,
-            State::Spoilt => false,
+            State::Absent => self.limit_met_by_new(key),
+            State::Partial => None,
+            State::Whole => None,
+            State::Spoilt => None,
         }
+    }
+
+    /// Which limit a key meets that is new.
+    fn limit_met_by_new(&self, key: Key) -> Option<RunStop>
+        requires { maps.get (contents self.now) key ≡ None }
+        ensures { MatchOption result ((stop : RunStop) → ¬ IsFullAs self.now key stop)
+            (IsFullAs self.now key) }
+    {
+        let table = self.timed.table();
+        if has_many(table, key.ip, self.settings.per_source) {
+            return Some(RunStop::FullSource(key));
+        }
+        if table.len() >= self.settings.keys as usize {
+            return Some(RunStop::Full(key));
+        }
+        None
     }
 
     /// Looks at the clock, which shows `now`: drops each key, whatever is known of it, that came at
@@ -157,6 +173,20 @@ impl Member {
             keys: (before - after) as u32,
         }
     }
+}
+
+/// Whether the table holds so many keys of this address. All of its keys are looked at, since it is
+/// asked only where memory ran out.
+fn has_many(table: &Table, ip: [u8; 4], most: u32) -> bool
+    ensures { IsTrue result ↔ (most ≤ held_keys (of_source ip) table.now.contents) }
+{
+    let mut room = most;
+    for key in table.keys() {
+        if key.ip == ip {
+            room = room.saturating_sub(1);
+        }
+    }
+    room == 0
 }
 
 /// What is answered where this changed at the key.

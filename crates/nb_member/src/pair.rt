@@ -32,13 +32,13 @@ pub struct Pair {
 /// Runs two new members with the same settings, each with its own names and its own events.
 ///
 /// The events may give both the same valid fragments, in any order and with any repeats, whose keys
-/// are at most as many as a table may hold, while no look at the clock drops a key. Then, unless
-/// memory ran out, neither run stops, and the one table holds what the other does. Each hands over
-/// the datagram of a key that isn't spoilt once, if the key is whole and it hears it, and what both
-/// hear is the same. Where all fragments of a key are parts of one datagram, cover it, and one says
-/// that no more follows, that datagram is the one that is handed over. Of other events each run may
-/// stop, at `Full` too, as [`run`] says. RFC 1002 section 5.3; the limits and the timer's start are
-/// our choice.
+/// are at most as many as a table may hold, in all and of each address, while no look at the clock
+/// drops a key. Then, unless memory ran out, neither run stops, and the one table holds what the
+/// other does. Each hands over the datagram of a key that isn't spoilt once, if the key is whole
+/// and it hears it, and what both hear is the same. Where all fragments of a key are parts of one
+/// datagram, cover it, and one says that no more follows, that datagram is the one that is handed
+/// over. Of other events each run may stop, at `Full` and `FullSource` too, as [`run`] says. RFC
+/// 1002 section 5.3; the limits and the timer's start are our choice.
 pub fn two_members(
     alloc: Global,
     settings: Settings,

@@ -5,11 +5,15 @@ use nb_datagram::{Datagrams, ErrorPackets, Key};
 /// Why a run stopped before an event. That event changed nothing. Our choice.
 #[derive(Clone, Copy, Debug, PartialEq, Eq)]
 pub enum RunStop {
-    /// The event is a fragment of this key, which is new, and as many keys are held as may be.
+    /// The event is a fragment of this key, which is new, and as many keys are held as may be, but
+    /// not of its address.
     Full(Key),
     /// Memory ran out, for the event or to note its answer, and the event isn't a fragment as at
-    /// `Full`.
+    /// `Full` or `FullSource`.
     NoMemory,
+    /// The event is a fragment of this key, which is new, and as many keys of its address are held
+    /// as may be.
+    FullSource(Key),
 }
 
 /// What came of a run of events. Our choice.

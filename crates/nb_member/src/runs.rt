@@ -18,11 +18,11 @@ use crate::member::Member;
 use crate::member_fault::MemberFault;
 use crate::outcome::Outcome;
 use crate::run_report::{RunReport, RunStop};
-use nb_datagram::{Datagram, Datagrams, ErrorPacket, ErrorPackets, Key};
+use nb_datagram::{Datagram, Datagrams, ErrorPacket, ErrorPackets};
 use nb_table::TableFault;
 use std::alloc::Global;
 
-/// Takes these events, one after another, until one meets the limit on keys or memory runs out.
+/// Takes these events, one after another, until one meets a limit on keys or memory runs out.
 ///
 /// Room to note an answer is asked for before each payload is taken, not for a look at the clock.
 /// A payload that begins with no packet, or with a fragment that has FIRST in the wrong place or
@@ -106,7 +106,7 @@ impl Log {
         a_member_does_what_is_said();
         an_answer_shows_what_is_handed_out();
         if !self.has_made_room() {
-            return Err(stop_of(member.full_key(payload)));
+            return Err(stop_of(member.limit_met(payload)));
         }
         let answer = member.take(moment, payload);
         self.note(answer)
@@ -149,6 +149,7 @@ impl Log {
                 Ok(true)
             }
             Err(MemberFault::Table(TableFault::MisplacedFirst | TableFault::TooLong)) => Ok(true),
+            Err(MemberFault::Table(TableFault::FullSource(key))) => Err(RunStop::FullSource(key)),
             Err(MemberFault::Table(TableFault::Full(key))) => Err(RunStop::Full(key)),
             Err(MemberFault::Table(TableFault::NoMemory)) => Err(RunStop::NoMemory),
         }
@@ -174,13 +175,13 @@ impl Log {
     }
 }
 
-/// Why a run stops where there is no room to note an answer: the event's key is full, if there is
-/// one, else memory ran out.
-fn stop_of(full: Option<Key>) -> RunStop
-    ensures { result ≡ stop_of full }
+/// Why a run stops where there is no room to note an answer: the event meets a limit on keys, or
+/// else memory ran out.
+fn stop_of(met: Option<RunStop>) -> RunStop
+    ensures { result ≡ stop_of met }
 {
-    match full {
-        Some(key) => RunStop::Full(key),
+    match met {
+        Some(stop) => stop,
         None => RunStop::NoMemory,
     }
 }

@@ -9,6 +9,8 @@ pub struct Settings {
     pub port: u16,
     /// How many keys its table may hold.
     pub keys: u32,
+    /// How many keys of one address its table may hold.
+    pub per_source: u32,
     /// How many bytes of data a datagram may have.
     pub longest: u16,
 }

@@ -36,17 +36,17 @@ impl Model for TimedTable {
 
 impl TimedTable {
     /// An empty table with these limits. No memory is taken.
-    pub fn new(alloc: Global, keys: u32, longest: u16) -> TimedTable
+    pub fn new(alloc: Global, keys: u32, per_source: u32, longest: u16) -> TimedTable
         ensures { result ≡ record {
           table = record {
             contents = maps.empty;
-            limits = record { keys = keys; longest = longest };
+            limits = record { keys = keys; per_source = per_source; longest = longest };
           };
           moments = maps.empty;
         } }
     {
         TimedTable {
-            table: Table::new(alloc, keys, longest),
+            table: Table::new(alloc, keys, per_source, longest),
             starts: Starts::new(alloc),
         }
     }

@@ -1,4 +1,7 @@
 -- On specs/Limits and Merging.
+pub mod GroupLemmas
+pub mod SourceLemmas
+pub mod UnfitLemmas
 pub mod LimitsLemmas
 pub mod FittingLemmas
 pub mod MergingLemmas

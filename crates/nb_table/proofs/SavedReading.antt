@@ -5,5 +5,6 @@ pub mod TurnLemmas
 pub mod StandingLemmas
 pub mod MagicLemmas
 pub mod LoadedLemmas
+pub mod SourcesLemmas
 pub mod LoadLemmas
 pub mod ReadBackLemmas

@@ -63,7 +63,7 @@ contents_code = maps.code key_code entry_code
 -- a table as the tuple of its contents and limits
 abbrev pub table_code : Coded TableValue
 table_code =
-    code_by (Contents × (ℕ × ℕ)) (coded× contents_code (coded× coded_ℕ coded_ℕ))
-    (λ t. (t.contents, (t.limits.keys, t.limits.longest)))
-    (λ p. record { contents = p.0; limits = record { keys = p.1.0; longest = p.1.1 } })
+    code_by (Contents × (ℕ × (ℕ × ℕ))) (coded× contents_code (coded× coded_ℕ (coded× coded_ℕ coded_ℕ)))
+    (λ t. (t.contents, (t.limits.keys, (t.limits.per_source, t.limits.longest))))
+    (λ p. record { contents = p.0; limits = record { keys = p.1.0; per_source = p.1.1.0; longest = p.1.1.1 } })
     (λ _. refl)

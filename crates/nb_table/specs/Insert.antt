@@ -3,12 +3,12 @@ use Rattle.std.specs.Prelude.{◌≡◌, ◌≢◌, ◌==◌, ◌<◌, ◌≤◌
 use Rattle.std.specs.FinMap as maps
 use Rattle.nb_datagram.specs.Fragment.{FragmentParts, Core, core_of, reach, is_first}
 use Rattle.nb_table.specs.declared.fault.TableFault.{TableFault}
-use Rattle.nb_table.specs.declared.fault.TableFault.TheVariants.{MisplacedFirst, TooLong, Full, NoMemory}
+use Rattle.nb_table.specs.declared.fault.TableFault.TheVariants.{MisplacedFirst, TooLong, FullSource, Full, NoMemory}
 use Rattle.nb_table.specs.Slot.{Held}
 use Rattle.nb_table.specs.Entry.{EntryFacts, FactsFit, facts_of}
 use Rattle.nb_table.specs.Contents.{Contents, table_of}
 use Rattle.nb_table.specs.Join.{join}
-use Rattle.nb_table.specs.Limits.{Limits, TableValue, IsFull}
+use Rattle.nb_table.specs.Limits.{Limits, TableValue, IsFull, IsFullSource}
 use Rattle.nb_table.specs.Change.{IsSpoiltAt}
 
 -- the flag F says otherwise than the offset whether this is the first fragment
@@ -35,17 +35,20 @@ pub data NeedsNoMemory (t : Contents) (f : Core) : Type 0 where
 abbrev pub Lacks : Limits → Contents → FragmentParts → TableFault → Type 0
 Lacks l t f MisplacedFirst = ⊥
 Lacks l t f TooLong = ⊥
-Lacks l t f (Full k) = (k ≡ f.key) × IsFull l t f.key
-Lacks l t f NoMemory = (IsFull l t f.key → ⊥) × (NeedsNoMemory t (core_of f) → ⊥)
+Lacks l t f (FullSource k) = (k ≡ f.key) × IsFullSource l t f.key
+Lacks l t f (Full k) = (k ≡ f.key) × IsFull l t f.key × (IsFullSource l t f.key → ⊥)
+Lacks l t f NoMemory = (IsFull l t f.key → ⊥) × (NeedsNoMemory t (core_of f) → ⊥) × (IsFullSource l t f.key → ⊥)
 
 -- Refuses t f x: the table t refuses the fragment f with the fault x, each where none before it applies
 abbrev pub Refuses : TableValue → FragmentParts → TableFault → Type 0
 Refuses t f MisplacedFirst = IsMisplaced f
 Refuses t f TooLong = (is_first f.flags ≡ (f.offset == 0)) × (t.limits.longest < reach (core_of f))
+Refuses t f (FullSource k) = Passes t.limits f × Lacks t.limits t.contents f (FullSource k)
 Refuses t f (Full k) = Passes t.limits f × Lacks t.limits t.contents f (Full k)
 Refuses t f NoMemory = Passes t.limits f × Lacks t.limits t.contents f NoMemory
 
--- the table takes the fragment: it passes, and there is room for its key
+-- the table takes the fragment: it passes, and there is room for its key, among those of its address too
 pub record Takes (t : TableValue) (f : FragmentParts) : Type 0 where
   pub passes : Passes t.limits f
+  pub source_room : IsFullSource t.limits t.contents f.key → ⊥
   pub room : IsFull t.limits t.contents f.key → ⊥

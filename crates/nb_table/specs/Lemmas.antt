@@ -10,3 +10,4 @@ pub mod TableLemmas
 pub mod EqualLemmas
 pub mod TreeLemmas
 pub mod FragmentLemmas
+pub mod KeyCountLemmas

@@ -7,6 +7,7 @@ pub mod Conflict
 pub mod ConflictTests
 pub mod Contents
 pub mod Join
+pub mod KeyCounts
 pub mod Limits
 pub mod Merging
 pub mod Codes

@@ -14,6 +14,8 @@ pub enum TableFault {
     /// The fragment reaches past the table's limit for one datagram, or an entry of the other table
     /// that isn't spoilt has a byte, an end or a promise past it.
     TooLong,
+    /// The key is new, and as many keys of its address are held as the table may hold of one.
+    FullSource(Key),
     /// The key is new, and as many keys are held as the table may hold.
     Full(Key),
     /// Memory ran out.
@@ -30,6 +32,7 @@ impl fmt::Display for TableFault {
         match self {
             TableFault::MisplacedFirst => f.write_str("misplaced first"),
             TableFault::TooLong => f.write_str("too long"),
+            TableFault::FullSource(_) => f.write_str("full source"),
             TableFault::Full(_) => f.write_str("full"),
             TableFault::NoMemory => f.write_str("memory"),
         }

@@ -7,7 +7,7 @@ ghost use Rattle.nb_datagram.specs.declared.limits.TheConstants.{MAX_LENGTH};
 ghost use Rattle.nb_table.specs.Maps.{joined_onto};
 ghost use Rattle.nb_table.specs.Slot.{Held};
 ghost use Rattle.nb_table.specs.Entry.{EntryValue, facts_of, join_entry};
-ghost use Rattle.nb_table.specs.Limits.{Limits, IsShort, IsFull};
+ghost use Rattle.nb_table.specs.Limits.{Limits, IsShort, IsFull, IsFullSource};
 ghost use Rattle.nb_table.specs.Change.{IsChange};
 ghost use Rattle.nb_table.specs.Code.Change.{KeyChange, change_of};
 ghost use Rattle.nb_table.specs.Insert.{Lacks, Refuses, Takes, with_fragment};
@@ -15,6 +15,7 @@ ghost use Rattle.nb_table.specs.Insert.{Lacks, Refuses, Takes, with_fragment};
 use crate::change::BoxedChange;
 use crate::entry::Entry;
 use crate::fault::TableFault;
+use crate::sources::is_full_of;
 use crate::table::Table;
 use nb_datagram::{Fragment, Key};
 use std::alloc::Global;
@@ -25,12 +26,15 @@ pub(crate) fn join_fragment(
     entries: &mut BTreeMap<Key, Entry>,
     alloc: Global,
     keys: u32,
+    per_source: u32,
     fragment: &Fragment<'_>,
 ) -> Result<BoxedChange, TableFault>
     requires fragment { reach (core_of fragment.now) ≤ MAX_LENGTH }
     requires entry { (e : EntryValue)
         → maps.get (maps.from_entries {R = key_cmp} entries.old.entries) fragment.now.key ≡ Some e
         → IsShort MAX_LENGTH e }
+    ensures source_room { (l : Limits) → l.per_source ≡ per_source → OnOk result (IsFullSource l
+        (maps.from_entries {R = key_cmp} entries.old.entries) fragment.now.key → ⊥) }
     ensures room { (l : Limits) → l.keys ≡ keys → OnOk result
         (IsFull l (maps.from_entries {R = key_cmp} entries.old.entries) fragment.now.key → ⊥) }
     ensures joined { OnOk result (maps.from_entries {R = key_cmp} entries.new.entries
@@ -43,7 +47,7 @@ pub(crate) fn join_fragment(
         (Some (joined_onto join_entry
         (maps.get (maps.from_entries {R = key_cmp} entries.old.entries) fragment.now.key)
         (Held (facts_of (core_of fragment.now))))) (change_of change)) }
-    ensures refused { (l : Limits) → l.keys ≡ keys → IfErr result
+    ensures refused { (l : Limits) → l.keys ≡ keys → l.per_source ≡ per_source → IfErr result
         (Lacks l (maps.from_entries {R = key_cmp} entries.old.entries) fragment.now) }
     ensures kept { OnErr result (maps.from_entries {R = key_cmp} entries.new.entries
         ≡ maps.from_entries {R = key_cmp} entries.old.entries) }
@@ -52,6 +56,9 @@ pub(crate) fn join_fragment(
     match entries.get_mut(&key) {
         Some(entry) => Ok(entry.add(alloc, fragment)?),
         None => {
+            if is_full_of(entries, key.ip, per_source) {
+                return Err(TableFault::FullSource(key));
+            }
             if entries.len() >= keys as usize {
                 return Err(TableFault::Full(key));
             }

@@ -15,6 +15,7 @@ mod outline;
 mod parties;
 pub mod plain;
 mod saved;
+mod sources;
 mod state;
 mod table;
 

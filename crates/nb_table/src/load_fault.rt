@@ -19,6 +19,8 @@ pub enum LoadFault {
     NotCanonical(usize),
     /// A saved run, end or promise passes the limit for one datagram.
     TooLong,
+    /// More keys of one address are saved than the table may hold.
+    FullSource,
     /// More keys are saved than the table may hold.
     Full,
     /// Memory ran out.
@@ -37,6 +39,7 @@ impl fmt::Display for LoadFault {
             LoadFault::Truncated => f.write_str("truncated"),
             LoadFault::NotCanonical(at) => write!(f, "not canonical {at}"),
             LoadFault::TooLong => f.write_str("too long"),
+            LoadFault::FullSource => f.write_str("full source"),
             LoadFault::Full => f.write_str("full"),
             LoadFault::NoMemory => f.write_str("memory"),
         }

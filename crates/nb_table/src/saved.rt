@@ -7,4 +7,5 @@ mod facts;
 pub(crate) mod fields;
 pub(crate) mod form;
 pub(crate) mod runs;
+mod sources;
 pub(crate) mod tables;

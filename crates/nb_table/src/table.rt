@@ -28,15 +28,17 @@ use std::marker::Model;
 
 /// What is known of the datagrams whose fragments came, by key, within limits.
 ///
-/// At most as many keys are held as the limit says, and no byte of a datagram lies at or past the
-/// other limit; no end and no promise is greater than it. The order in which fragments come makes
-/// no difference as long as none is refused as `Full`: which keys find room, and so which fragments
-/// are in, depends on which came first. RFC 1002 section 5.3; the form of fragments and the limits
-/// are our choice.
+/// At most `keys` keys are held, and at most `per_source` of one address, whatever the ports. No
+/// byte of a datagram lies at or past `longest`; no end and no promise is greater than it. The
+/// order in which fragments come makes no difference as long as none is refused as `Full` or
+/// `FullSource`: which keys find room, and so which fragments are in, depends on which came first.
+/// Keys count until they are dropped, spoilt and whole ones too. RFC 1002 section 5.3; the form of
+/// fragments and the limits are our choice.
 #[derive(Drop)]
 pub struct Table {
     entries: BTreeMap<Key, Entry>,
     keys: u32,
+    per_source: u32,
     longest: u16,
     alloc: Global,
 }
@@ -52,27 +54,31 @@ impl Model for Table {
 
     ghost view = { λ t. record {
       contents = maps.from_entries t.entries.entries;
-      limits = record { keys = t.keys; longest = t.longest };
+      limits = record { keys = t.keys; per_source = t.per_source; longest = t.longest };
     } };
 
     ghost invariant = { λ t. KeepsLimits (record {
       contents = maps.from_entries t.entries.entries;
-      limits = record { keys = t.keys; longest = t.longest };
+      limits = record { keys = t.keys; per_source = t.per_source; longest = t.longest };
     }) };
 }
 
 impl Table {
-    /// An empty table that may hold this many keys, and datagrams of at most this many bytes. No
-    /// memory is taken.
-    pub fn new(alloc: Global, keys: u32, longest: u16) -> Table
+    /// An empty table that may hold this many keys, this many of one address, and datagrams of at
+    /// most this many bytes. No memory is taken.
+    ///
+    /// A limit for one address keeps the rest of the table for others, since nothing shows that an
+    /// address sends ever new keys in good faith. 4,294,967,295 is none.
+    pub fn new(alloc: Global, keys: u32, per_source: u32, longest: u16) -> Table
         ensures { result ≡ record {
           contents = maps.empty;
-          limits = record { keys = keys; longest = longest };
+          limits = record { keys = keys; per_source = per_source; longest = longest };
         } }
     {
         Table {
             entries: BTreeMap::new(alloc),
             keys,
+            per_source,
             longest,
             alloc,
         }
@@ -98,9 +104,10 @@ impl Table {
     ///
     /// In this order: `MisplacedFirst` where the fragment says that it is the first one (F) at an
     /// offset other than 0, or doesn't say so at offset 0; `TooLong` where the fragment reaches
-    /// past the longest datagram, whatever is known of its key; `Full` with the fragment's key
-    /// where that is new and as many keys are held as may be; `NoMemory` where memory ran out. RFC
-    /// 1002 section 5.3; the rules on fragments are our choice.
+    /// past the longest datagram, whatever is known of its key; `FullSource` with the fragment's
+    /// key where that is new and as many keys of its address are held as may be; `Full` with it
+    /// where it is new and as many keys are held as may be in all; `NoMemory` where memory ran
+    /// out. RFC 1002 section 5.3; the rules on fragments are our choice.
     pub fn insert(&mut self, fragment: &Fragment<'_>) -> Result<Change, TableFault>
         ensures taken { OnOk result (Takes self.old fragment.now) }
         ensures joined { OnOk result (self.new ≡ with_fragment self.old fragment.now) }
@@ -117,7 +124,13 @@ impl Table {
         if fragment.reach() > u32::from(self.longest) {
             return Err(TableFault::TooLong);
         }
-        let change = join_fragment(&mut self.entries, self.alloc, self.keys, fragment)?;
+        let change = join_fragment(
+            &mut self.entries,
+            self.alloc,
+            self.keys,
+            self.per_source,
+            fragment,
+        )?;
         Ok(change.into_change())
     }
 

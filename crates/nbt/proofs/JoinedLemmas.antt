@@ -9,10 +9,12 @@ use Rattle.nb_table.specs.Join.{join, joined_all, AreTaken}
 use Rattle.nb_table.specs.Limits.{TableValue}
 use Rattle.nb_table.specs.Merging.{Fits, IsRefused}
 use Rattle.nb_table.specs.declared.fault.TableFault.{TableFault}
+use Rattle.nbt.specs.declared.settings.Capacity.{Capacity}
 use Rattle.nbt.specs.declared.fault.Fault.{Fault}
 use Rattle.nbt.specs.declared.fault.Fault.TheVariants.{Memory, NoTables, TwoTablesWanted, Write}
 use Rattle.nbt.specs.Printing.{Leaves, PrintsFront}
 use Rattle.nbt.specs.Saved.{IsSavedOf, saved_digits}
+use Rattle.nbt.specs.Settings.{most_keys}
 use Rattle.nbt.specs.Tables.{AreTables, contents_of, fault_of_join, FailsOn, IsElsewhere, IsTableLine, JoinFails, MergeFails, MergesTables, CompareFails, ComparesTables}
 use Rattle.nbt.specs.Tables.{TablesFail, line_fails, no_line, not_joined, not_two, one_fails}
 
@@ -31,30 +33,30 @@ join_fails first others index why fault found before reported = record {
   reported = reported;
 }
 
-pub merges_tables : (IsKeys : ℕ → Type 0) (old_in new_in : Option (List ℕ)) (text read_text : List ℕ) (n : ℕ) (ts : List TableValue)
-    (first : TableValue) (others : List TableValue) (t : Contents) → read_text ≡ text → Consumes old_in new_in text → IsAtEnd new_in → length text ≤ MAX_INPUT → IsKeys n → AreTables n read_text ts
+pub merges_tables : (IsGiven : Capacity → Type 0) (old_in new_in : Option (List ℕ)) (text read_text : List ℕ) (c : Capacity) (ts : List TableValue)
+    (first : TableValue) (others : List TableValue) (t : Contents) → read_text ≡ text → Consumes old_in new_in text → IsAtEnd new_in → length text ≤ MAX_INPUT → IsGiven c → AreTables c read_text ts
     → ts ≡ first ∷ others → AreTaken join (Fits first.limits) first.contents (contents_of others) → t ≡ joined_all join first.contents (contents_of others)
-    → MergesTables IsKeys (λ contents. contents ≡ t) old_in new_in
-merges_tables IsKeys old_in new_in text read_text n ts first others t same read ended within given tables are taken joined = record {
+    → MergesTables IsGiven (λ contents. contents ≡ t) old_in new_in
+merges_tables IsGiven old_in new_in text read_text c ts first others t same read ended within given tables are taken joined = record {
   text = text;
-  keys = n;
+  capacity = c;
   first = first;
   others = others;
   read = read;
   ended = ended;
   within = within;
   given = given;
-  tables = subst (λ (bytes : List ℕ). AreTables n bytes (first ∷ others)) same (subst (λ (us : List TableValue). AreTables n read_text us) are tables);
+  tables = subst (λ (bytes : List ℕ). AreTables c bytes (first ∷ others)) same (subst (λ (us : List TableValue). AreTables c read_text us) are tables);
   taken = taken;
   printed = sym joined;
 }
 
 -- the join that was made is printed
-pub join_printed : (IsKeys : ℕ → Type 0) (IsPrinted : Contents → Type 0) (old_in new_in : Option (List ℕ)) (t : Contents)
-    → MergesTables IsKeys (λ contents. contents ≡ t) old_in new_in → IsPrinted t → MergesTables IsKeys IsPrinted old_in new_in
-join_printed IsKeys IsPrinted old_in new_in t m printed = record {
+pub join_printed : (IsGiven : Capacity → Type 0) (IsPrinted : Contents → Type 0) (old_in new_in : Option (List ℕ)) (t : Contents)
+    → MergesTables IsGiven (λ contents. contents ≡ t) old_in new_in → IsPrinted t → MergesTables IsGiven IsPrinted old_in new_in
+join_printed IsGiven IsPrinted old_in new_in t m printed = record {
   text = m.text;
-  keys = m.keys;
+  capacity = m.capacity;
   first = m.first;
   others = m.others;
   read = m.read;
@@ -67,7 +69,7 @@ join_printed IsKeys IsPrinted old_in new_in t m printed = record {
 }
 
 pub compares_tables : (IsPrinted : Contents → Contents → Type 0) (old_in new_in : Option (List ℕ)) (text read_text : List ℕ) (ts : List TableValue) (first second : TableValue)
-    → read_text ≡ text → Consumes old_in new_in text → IsAtEnd new_in → length text ≤ MAX_INPUT → AreTables 4294967295 read_text ts → ts ≡ first ∷ second ∷ []
+    → read_text ≡ text → Consumes old_in new_in text → IsAtEnd new_in → length text ≤ MAX_INPUT → AreTables most_keys read_text ts → ts ≡ first ∷ second ∷ []
     → IsPrinted first.contents second.contents → ComparesTables IsPrinted old_in new_in
 compares_tables IsPrinted old_in new_in text read_text ts first second same read ended within tables are printed = record {
   text = text;
@@ -76,7 +78,7 @@ compares_tables IsPrinted old_in new_in text read_text ts first second same read
   read = read;
   ended = ended;
   within = within;
-  tables = subst (λ (bytes : List ℕ). AreTables 4294967295 bytes (first ∷ second ∷ [])) same (subst (λ (us : List TableValue). AreTables 4294967295 read_text us) are tables);
+  tables = subst (λ (bytes : List ℕ). AreTables most_keys bytes (first ∷ second ∷ [])) same (subst (λ (us : List TableValue). AreTables most_keys read_text us) are tables);
   printed = printed;
 }
 
@@ -116,43 +118,43 @@ printing_fails Fails old_in new_in fault (inl is) here = absurd (here (subst (λ
 printing_fails Fails old_in new_in fault (inr is) here = absurd (here (subst (λ (f : Fault). IsElsewhere f) (sym is) tt))
 
 -- there are as many lines as tables
-as_long : (keys : ℕ) (lines : List (List ℕ)) (ts : List TableValue) → AllZip (IsTableLine keys) lines ts → length lines ≡ length ts
-as_long keys [] [] are = refl
-as_long keys [] (t ∷ ts) are = absurd are
-as_long keys (line ∷ lines) [] are = absurd are
-as_long keys (line ∷ lines) (t ∷ ts) are = ap suc (as_long keys lines ts are.1)
+as_long : (c : Capacity) (lines : List (List ℕ)) (ts : List TableValue) → AllZip (IsTableLine c) lines ts → length lines ≡ length ts
+as_long c [] [] are = refl
+as_long c [] (t ∷ ts) are = absurd are
+as_long c (line ∷ lines) [] are = absurd are
+as_long c (line ∷ lines) (t ∷ ts) are = ap suc (as_long c lines ts are.1)
 
-pub as_many : (keys : ℕ) (text : List ℕ) (ts : List TableValue) → AreTables keys text ts
+pub as_many : (c : Capacity) (text : List ℕ) (ts : List TableValue) → AreTables c text ts
     → (lines : List (List ℕ)) × HasLines text lines × (length lines ≡ length ts)
-as_many keys text ts tables = (tables.lines, tables.has, as_long keys tables.lines ts tables.are)
+as_many c text ts tables = (tables.lines, tables.has, as_long c tables.lines ts tables.are)
 
 no_items : (lines : List (List ℕ)) → length lines ≡ 0 → lines ≡ []
 no_items [] empty = refl
 no_items (line ∷ lines) empty = absurd (omega (arith, empty))
 
 -- no tables stand in no line
-pub none_of_none : (keys : ℕ) (text : List ℕ) (ts : List TableValue) → AreTables keys text ts → length ts ≡ 0 → HasLines text []
-none_of_none keys text ts tables empty =
-    subst (λ (lines : List (List ℕ)). HasLines text lines) (no_items tables.lines (as_long keys tables.lines ts tables.are ∙ empty)) tables.has
+pub none_of_none : (c : Capacity) (text : List ℕ) (ts : List TableValue) → AreTables c text ts → length ts ≡ 0 → HasLines text []
+none_of_none c text ts tables empty =
+    subst (λ (lines : List (List ℕ)). HasLines text lines) (no_items tables.lines (as_long c tables.lines ts tables.are ∙ empty)) tables.has
 
-pub merge_of_line : (IsKeys : ℕ → Type 0) (old_in new_in : Option (List ℕ)) (text read_text : List ℕ) (keys : ℕ) (fault : Fault) → read_text ≡ text
-    → Consumes old_in new_in text → IsAtEnd new_in → length text ≤ MAX_INPUT → IsKeys keys → (fault ≢ Memory → TablesFail keys read_text fault)
-    → FailsOn (MergeFails IsKeys) old_in new_in fault
-merge_of_line IsKeys old_in new_in text read_text keys fault same read ended within given fails here =
-    (text, read, ended, within, line_fails keys given (subst (λ (bytes : List ℕ). TablesFail keys bytes fault) same (fails (not_memory fault here))))
+pub merge_of_line : (IsGiven : Capacity → Type 0) (old_in new_in : Option (List ℕ)) (text read_text : List ℕ) (c : Capacity) (fault : Fault) → read_text ≡ text
+    → Consumes old_in new_in text → IsAtEnd new_in → length text ≤ MAX_INPUT → IsGiven c → (fault ≢ Memory → TablesFail c read_text fault)
+    → FailsOn (MergeFails IsGiven) old_in new_in fault
+merge_of_line IsGiven old_in new_in text read_text c fault same read ended within given fails here =
+    (text, read, ended, within, line_fails c given (subst (λ (bytes : List ℕ). TablesFail c bytes fault) same (fails (not_memory fault here))))
 
-pub merge_of_none : (IsKeys : ℕ → Type 0) (old_in new_in : Option (List ℕ)) (text read_text : List ℕ) (keys : ℕ) (ts : List TableValue) → read_text ≡ text
-    → Consumes old_in new_in text → IsAtEnd new_in → length text ≤ MAX_INPUT → AreTables keys read_text ts → length ts ≡ 0
-    → FailsOn (MergeFails IsKeys) old_in new_in NoTables
-merge_of_none IsKeys old_in new_in text read_text keys ts same read ended within tables empty here =
-    (text, read, ended, within, no_line (subst (λ (bytes : List ℕ). HasLines bytes []) same (none_of_none keys read_text ts tables empty)) refl)
+pub merge_of_none : (IsGiven : Capacity → Type 0) (old_in new_in : Option (List ℕ)) (text read_text : List ℕ) (c : Capacity) (ts : List TableValue) → read_text ≡ text
+    → Consumes old_in new_in text → IsAtEnd new_in → length text ≤ MAX_INPUT → AreTables c read_text ts → length ts ≡ 0
+    → FailsOn (MergeFails IsGiven) old_in new_in NoTables
+merge_of_none IsGiven old_in new_in text read_text c ts same read ended within tables empty here =
+    (text, read, ended, within, no_line (subst (λ (bytes : List ℕ). HasLines bytes []) same (none_of_none c read_text ts tables empty)) refl)
 
-pub merge_of_join : (IsKeys : ℕ → Type 0) (old_in new_in : Option (List ℕ)) (text read_text : List ℕ) (keys : ℕ) (ts : List TableValue)
-    (first : TableValue) (others : List TableValue) (fault : Fault) → read_text ≡ text → Consumes old_in new_in text → IsAtEnd new_in → length text ≤ MAX_INPUT → IsKeys keys
-    → AreTables keys read_text ts → ts ≡ first ∷ others → JoinFails first others fault → FailsOn (MergeFails IsKeys) old_in new_in fault
-merge_of_join IsKeys old_in new_in text read_text keys ts first others fault same read ended within given tables are fails here =
-    let split = subst (λ (us : List TableValue). AreTables keys read_text us) are tables in
-    (text, read, ended, within, not_joined keys first others given (subst (λ (bytes : List ℕ). AreTables keys bytes (first ∷ others)) same split) fails)
+pub merge_of_join : (IsGiven : Capacity → Type 0) (old_in new_in : Option (List ℕ)) (text read_text : List ℕ) (c : Capacity) (ts : List TableValue)
+    (first : TableValue) (others : List TableValue) (fault : Fault) → read_text ≡ text → Consumes old_in new_in text → IsAtEnd new_in → length text ≤ MAX_INPUT → IsGiven c
+    → AreTables c read_text ts → ts ≡ first ∷ others → JoinFails first others fault → FailsOn (MergeFails IsGiven) old_in new_in fault
+merge_of_join IsGiven old_in new_in text read_text c ts first others fault same read ended within given tables are fails here =
+    let split = subst (λ (us : List TableValue). AreTables c read_text us) are tables in
+    (text, read, ended, within, not_joined c first others given (subst (λ (bytes : List ℕ). AreTables c bytes (first ∷ others)) same split) fails)
 
 pub compare_of_count : (old_in new_in : Option (List ℕ)) (text read_text : List ℕ) (lines : List (List ℕ)) → read_text ≡ text
     → Consumes old_in new_in text → IsAtEnd new_in → length text ≤ MAX_INPUT → HasLines read_text lines → length lines ≢ 2
@@ -163,7 +165,7 @@ compare_of_count old_in new_in text read_text lines same read ended within has o
 pub compare_of_line : (old_in new_in : Option (List ℕ)) (text count_text read_text : List ℕ) (n : ℕ) (fault : Fault) → count_text ≡ text → read_text ≡ text
     → Consumes old_in new_in text → IsAtEnd new_in → length text ≤ MAX_INPUT
     → (lines : List (List ℕ)) × HasLines count_text lines × (n ≡ length lines) → n ≡ 2
-    → (fault ≢ Memory → TablesFail 4294967295 read_text fault) → FailsOn CompareFails old_in new_in fault
+    → (fault ≢ Memory → TablesFail most_keys read_text fault) → FailsOn CompareFails old_in new_in fault
 compare_of_line old_in new_in text count_text read_text n fault counted same read ended within lines two fails here =
     let has = subst (λ (bytes : List ℕ). HasLines bytes lines.0) counted lines.1 in
-    (text, read, ended, within, one_fails lines.0 has (sym lines.2 ∙ two) (subst (λ (bytes : List ℕ). TablesFail 4294967295 bytes fault) same (fails (not_memory fault here))))
+    (text, read, ended, within, one_fails lines.0 has (sym lines.2 ∙ two) (subst (λ (bytes : List ℕ). TablesFail most_keys bytes fault) same (fails (not_memory fault here))))

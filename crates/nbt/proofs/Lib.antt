@@ -5,4 +5,4 @@ pub mod SavingTurns
 pub mod ReplayingTurns
 pub mod TableTurns
 pub mod JoinedLemmas
-pub mod KeysGiven
+pub mod CapacityGiven

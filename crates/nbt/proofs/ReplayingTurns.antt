@@ -12,6 +12,7 @@ use Rattle.nb_member.specs.Replaying.{Replays}
 use Rattle.nb_member.specs.Member.{Stands}
 use Rattle.nb_member.specs.Events.{none as none_said}
 use Rattle.nb_datagram.specs.Key.{key_cmp}
+use Rattle.nbt.specs.declared.settings.Capacity.{Capacity}
 use Rattle.nbt.specs.declared.fault.Fault.{Fault}
 use Rattle.nbt.specs.declared.fault.Fault.TheVariants.{Text, Arguments, TooManyNames, Line, Read, Write, Memory}
 use Rattle.nbt.specs.Replaying.{AddsEach, AddsName, EndsWith, IsNamesFault, IsRefusedName, IsReplay, ReplaysCapture, ReplaysIn, none, more}
@@ -83,21 +84,21 @@ ends_weaker P Q (Err Memory) step p = step _ p
 ends_weaker P Q (Err _) step p = absurd p
 
 -- a replay that was begun answers as it ends
-is_replay : (P : Result ℕ ReplayFault → Type 0) (IsKeys : ℕ → Type 0) (AreWords : List (List ℕ) → Type 0) (old_in new_in old_out new_out : Option (List ℕ)) (result : Result Unit Fault)
-    → EndsWith P result → IsReplay P IsKeys AreWords old_in new_in old_out new_out result
-is_replay P IsKeys AreWords old_in new_in old_out new_out (Err (Text fault)) ends = absurd ends
-is_replay P IsKeys AreWords old_in new_in old_out new_out (Err TooManyNames) ends = absurd ends
-is_replay P IsKeys AreWords old_in new_in old_out new_out (Err Arguments) ends = absurd ends
-is_replay P IsKeys AreWords old_in new_in old_out new_out (Err Memory) ends = inl ends
-is_replay P IsKeys AreWords old_in new_in old_out new_out result ends = ends
+is_replay : (P : Result ℕ ReplayFault → Type 0) (IsGiven : Capacity → Type 0) (AreWords : List (List ℕ) → Type 0) (old_in new_in old_out new_out : Option (List ℕ)) (result : Result Unit Fault)
+    → EndsWith P result → IsReplay P IsGiven AreWords old_in new_in old_out new_out result
+is_replay P IsGiven AreWords old_in new_in old_out new_out (Err (Text fault)) ends = absurd ends
+is_replay P IsGiven AreWords old_in new_in old_out new_out (Err TooManyNames) ends = absurd ends
+is_replay P IsGiven AreWords old_in new_in old_out new_out (Err Arguments) ends = absurd ends
+is_replay P IsGiven AreWords old_in new_in old_out new_out (Err Memory) ends = inl ends
+is_replay P IsGiven AreWords old_in new_in old_out new_out result ends = ends
 
 -- what a new member replayed
-of_new : (IsKeys : ℕ → Type 0) (AreWords : List (List ℕ) → Type 0) (old_in new_in old_out new_out : Option (List ℕ)) (n : ℕ)
-    (words : List (List ℕ)) (names : List NetbiosName) → IsKeys n → AreWords words → AddsEach words names → (answer : Result ℕ ReplayFault)
-    → ReplaysIn (new_member (program_settings n) names) old_in new_in old_out new_out answer
-    → ReplaysCapture IsKeys AreWords old_in new_in old_out new_out answer
-of_new IsKeys AreWords old_in new_in old_out new_out n words names given said named answer r = record {
-  keys = n;
+of_new : (IsGiven : Capacity → Type 0) (AreWords : List (List ℕ) → Type 0) (old_in new_in old_out new_out : Option (List ℕ)) (most : Capacity)
+    (words : List (List ℕ)) (names : List NetbiosName) → IsGiven most → AreWords words → AddsEach words names → (answer : Result ℕ ReplayFault)
+    → ReplaysIn (new_member (program_settings most) names) old_in new_in old_out new_out answer
+    → ReplaysCapture IsGiven AreWords old_in new_in old_out new_out answer
+of_new IsGiven AreWords old_in new_in old_out new_out most words names given said named answer r = record {
+  capacity = most;
   given = given;
   words = words;
   said = said;
@@ -113,12 +114,12 @@ of_new IsKeys AreWords old_in new_in old_out new_out n words names given said na
   });
 }
 
-pub replays_capture : (IsKeys : ℕ → Type 0) (AreWords : List (List ℕ) → Type 0) (old_in new_in old_out new_out : Option (List ℕ)) (n : ℕ)
-    (words : List (List ℕ)) (names : List NetbiosName) (m : MemberValue) (result : Result Unit Fault) → IsKeys n → AreWords words
-    → AddsEach words names → m ≡ new_member (program_settings n) names → EndsWith (ReplaysIn m old_in new_in old_out new_out) result
-    → IsReplay (ReplaysCapture IsKeys AreWords old_in new_in old_out new_out) IsKeys AreWords old_in new_in old_out new_out result
-replays_capture IsKeys AreWords old_in new_in old_out new_out n words names m result given said named is ends =
-    is_replay (ReplaysCapture IsKeys AreWords old_in new_in old_out new_out) IsKeys AreWords old_in new_in old_out new_out result
-    (ends_weaker (ReplaysIn m old_in new_in old_out new_out) (ReplaysCapture IsKeys AreWords old_in new_in old_out new_out) result (λ answer r.
-    of_new IsKeys AreWords old_in new_in old_out new_out n words names given said named answer
+pub replays_capture : (IsGiven : Capacity → Type 0) (AreWords : List (List ℕ) → Type 0) (old_in new_in old_out new_out : Option (List ℕ)) (most : Capacity)
+    (words : List (List ℕ)) (names : List NetbiosName) (m : MemberValue) (result : Result Unit Fault) → IsGiven most → AreWords words
+    → AddsEach words names → m ≡ new_member (program_settings most) names → EndsWith (ReplaysIn m old_in new_in old_out new_out) result
+    → IsReplay (ReplaysCapture IsGiven AreWords old_in new_in old_out new_out) IsGiven AreWords old_in new_in old_out new_out result
+replays_capture IsGiven AreWords old_in new_in old_out new_out most words names m result given said named is ends =
+    is_replay (ReplaysCapture IsGiven AreWords old_in new_in old_out new_out) IsGiven AreWords old_in new_in old_out new_out result
+    (ends_weaker (ReplaysIn m old_in new_in old_out new_out) (ReplaysCapture IsGiven AreWords old_in new_in old_out new_out) result (λ answer r.
+    of_new IsGiven AreWords old_in new_in old_out new_out most words names given said named answer
     (subst (λ (first : MemberValue). ReplaysIn first old_in new_in old_out new_out answer) is r)) ends)

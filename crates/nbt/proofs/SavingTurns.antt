@@ -22,8 +22,9 @@ use Rattle.nb_member.specs.LineRoom.{RoomValue, nothing_held}
 use Rattle.nb_member.specs.LinesSoFar.{HandedOut, nothing_handed, Came, came, kept_are, none_over, was_reading, handed_more, handed_all, bytes_less, shows_unread, LongFirst, open_end, with_feed, long_first, long_line}
 use Rattle.nb_member.specs.Member.{MemberValue, contents}
 use Rattle.nb_member.specs.Taking.{Takes}
+use Rattle.nbt.specs.declared.settings.Capacity.{Capacity}
 use Rattle.nbt.specs.declared.fault.Fault.{Fault}
-use Rattle.nbt.specs.declared.fault.Fault.TheVariants.{Full, Memory, Read, Line as LineFault}
+use Rattle.nbt.specs.declared.fault.Fault.TheVariants.{FullSource, Full, Memory, Read, Line as LineFault}
 use Rattle.nbt.specs.Lines.{unread_fault}
 use Rattle.nbt.specs.SaveFaults.{LineStops, PayloadStops, SaidStops, StopsTaking, StopsSaving, here, later, at_end}
 use Rattle.nbt.specs.Saved.{saved_digits}
@@ -39,6 +40,11 @@ took_line m new l said reads takes = record { said = said; reads = reads; takes 
 pub payload_full : (m new : MemberValue) (moment : ℕ) (payload : List ℕ) (taken : Result Outcome MemberFault) (key : Key)
     → Takes m moment payload new taken → taken ≡ Err (Table (tables.Full key)) → PayloadStops m moment payload Full
 payload_full m new moment payload taken key takes is =
+    (key, new, subst (λ (r : Result Outcome MemberFault). Takes m moment payload new r) is takes)
+
+pub payload_full_source : (m new : MemberValue) (moment : ℕ) (payload : List ℕ) (taken : Result Outcome MemberFault) (key : Key)
+    → Takes m moment payload new taken → taken ≡ Err (Table (tables.FullSource key)) → PayloadStops m moment payload FullSource
+payload_full_source m new moment payload taken key takes is =
     (key, new, subst (λ (r : Result Outcome MemberFault). Takes m moment payload new r) is takes)
 
 pub payload_memory : (m new : MemberValue) (moment : ℕ) (payload : List ℕ) (taken : Result Outcome MemberFault)
@@ -115,20 +121,20 @@ stops_after is_whole number first m _ tail _ _ fault empty (line l bytes left li
     (stops_after is_whole (number + 1) _ m bytes tail left lines fault empty c others
     (subst (λ (n : ℕ). StopsTaking is_whole n m tail fault) same stops)))
 
--- StopsHere n old_in new_in counts after fault: a member that holds so many keys doesn't take the lines that were read
-abbrev pub StopsHere : ℕ → Option (List ℕ) → Option (List ℕ) → Counts → Counts → Fault → Type 0
-StopsHere n old_in new_in counts after fault = StopsSaving (λ given. given ≡ n) old_in new_in counts after fault
+-- StopsHere most old_in new_in counts after fault: a member that may hold so much doesn't take the lines that were read
+abbrev pub StopsHere : Capacity → Option (List ℕ) → Option (List ℕ) → Counts → Counts → Fault → Type 0
+StopsHere most old_in new_in counts after fault = StopsSaving (λ given. given ≡ most) old_in new_in counts after fault
 
 -- the line that isn't taken is among the bytes that were held
-stops_held : (n : ℕ) (m : MemberValue) (old_in now_in new_in : Option (List ℕ)) (counts mid after : Counts) (room left : RoomValue) (number : ℕ)
+stops_held : (most : Capacity) (m : MemberValue) (old_in now_in new_in : Option (List ℕ)) (counts mid after : Counts) (room left : RoomValue) (number : ℕ)
     (result : Result (Option (List ℕ)) LineReadFault) (fault : Fault) (is_whole : Bool)
-    → (t : IsTaking (new_saver n) old_in now_in counts mid room number m) → t.last ≡ []
+    → (t : IsTaking (new_saver most) old_in now_in counts mid room number m) → t.last ≡ []
     → (r : ReadsLine room now_in new_in mid after result left)
     → (c : Came old_in new_in counts after t.lines (room.rest ++ r.got) r.over left.taken)
     → (is_whole ≡ true → IsAtEnd new_in × (r.over ≡ []))
     → (fault ≡ Read → ShowsUnread ((c.passed ++ (room.rest ++ r.got)) ++ r.over) counts after)
-    → StopsTaking is_whole number m (room.rest ++ r.got) fault → StopsHere n old_in new_in counts after fault
-stops_held n m old_in now_in new_in counts mid after room left number result fault is_whole t empty r c whole cut stops =
+    → StopsTaking is_whole number m (room.rest ++ r.got) fault → StopsHere most old_in new_in counts after fault
+stops_held most m old_in now_in new_in counts mid after room left number result fault is_whole t empty r c whole cut stops =
     let held = room.rest ++ r.got in
     let acted : with_rest t.lines t.last ≡ t.lines = ap (with_rest t.lines) empty in
     let over : (r.over ≡ []) ⊎ (left.taken ≡ MAX_INPUT) = elim (r.kept) [
@@ -138,7 +144,7 @@ stops_held n m old_in now_in new_in counts mid after room left number result fau
     let at : number ≡ 1 + length t.lines = t.counted ∙ ap (λ (ls : List (List ℕ)). 1 + length ls) acted in record {
       bytes = (c.passed ++ held) ++ r.over;
       is_whole = is_whole;
-      keys = n;
+      capacity = most;
       read = c.consumes;
       whole = λ w. (
         (whole w).0,
@@ -148,28 +154,28 @@ stops_held n m old_in now_in new_in counts mid after room left number result fau
       );
       cut = cut;
       given = refl;
-      stops = subst (λ (bs : List ℕ). StopsTaking is_whole 1 (new_saver n) bs fault)
+      stops = subst (λ (bs : List ℕ). StopsTaking is_whole 1 (new_saver most) bs fault)
           (sym (kept_are old_in new_in counts after t.lines held r.over left.taken c over))
-          (stops_after is_whole 1 (new_saver n) m c.passed held [] t.lines fault refl c.cut
-          (subst (λ (ls : List (List ℕ)). TakesEach (new_saver n) ls m) acted t.took)
+          (stops_after is_whole 1 (new_saver most) m c.passed held [] t.lines fault refl c.cut
+          (subst (λ (ls : List (List ℕ)). TakesEach (new_saver most) ls m) acted t.took)
           (subst (λ (k : ℕ). StopsTaking is_whole k m held fault) at stops));
     }
 
 -- the next line isn't taken
-pub stops_at_line : (n : ℕ) (m : MemberValue) (old_in now_in new_in : Option (List ℕ)) (counts mid after : Counts) (room left : RoomValue)
-    (l : List ℕ) (number : ℕ) (fault : Fault) → IsTaking (new_saver n) old_in now_in counts mid room number m
+pub stops_at_line : (most : Capacity) (m : MemberValue) (old_in now_in new_in : Option (List ℕ)) (counts mid after : Counts) (room left : RoomValue)
+    (l : List ℕ) (number : ℕ) (fault : Fault) → IsTaking (new_saver most) old_in now_in counts mid room number m
     → ReadsLine room now_in new_in mid after (Ok (Some l)) left → LineStops number m l fault → fault ≢ Read
-    → StopsHere n old_in new_in counts after fault
-stops_at_line n m old_in now_in new_in counts mid after room left l number fault t r stops differs =
+    → StopsHere most old_in new_in counts after fault
+stops_at_line most m old_in now_in new_in counts mid after room left l number fault t r stops differs =
     let result : Result (Option (List ℕ)) LineReadFault = Ok (Some l) in
     let was = was_reading old_in now_in counts mid room t.lines t.last result t.handed r.again (λ e. absurd (cc e)) in
     let c = came old_in now_in new_in counts mid after room left t.lines t.last result t.handed was.1 r in
     let no_more = none_over room now_in new_in mid after result left r (λ e. absurd (cc e)) in
     elim (r.answers.2) [
-      | inl a ↦ stops_held n m old_in now_in new_in counts mid after room left number result fault false t was.1 r c
+      | inl a ↦ stops_held most m old_in now_in new_in counts mid after room left number result fault false t was.1 r c
           (λ e. absurd (cc e)) (λ e. absurd (differs e))
           (subst (λ (bs : List ℕ). StopsTaking false number m bs fault) (sym a.1) (here number m l left.rest fault r.answers.1 stops))
-      | inr a ↦ stops_held n m old_in now_in new_in counts mid after room left number result fault true t was.1 r c
+      | inr a ↦ stops_held most m old_in now_in new_in counts mid after room left number result fault true t was.1 r c
           (λ e. (
             elim (r.at_end a.4) [
               | inl ended ↦ absurd (cc (was.0, ended.0))
@@ -186,50 +192,50 @@ stops_long : (number : ℕ) (m : MemberValue) (held : List ℕ) → LongFirst he
 stops_long number m _ (open_end held clear long) = at_end number m held (LineFault number) clear (inl (refl, long))
 stops_long number m _ (with_feed l after clear long) = here number m l after (LineFault number) clear (inl (refl, long_line l long))
 
-stops_too_long : (n : ℕ) (m : MemberValue) (old_in now_in new_in : Option (List ℕ)) (counts mid after : Counts) (room left : RoomValue)
-    (number : ℕ) → IsTaking (new_saver n) old_in now_in counts mid room number m
-    → ReadsLine room now_in new_in mid after (Err unread.TooLong) left → StopsHere n old_in new_in counts after (LineFault number)
-stops_too_long n m old_in now_in new_in counts mid after room left number t r =
+stops_too_long : (most : Capacity) (m : MemberValue) (old_in now_in new_in : Option (List ℕ)) (counts mid after : Counts) (room left : RoomValue)
+    (number : ℕ) → IsTaking (new_saver most) old_in now_in counts mid room number m
+    → ReadsLine room now_in new_in mid after (Err unread.TooLong) left → StopsHere most old_in new_in counts after (LineFault number)
+stops_too_long most m old_in now_in new_in counts mid after room left number t r =
     let result : Result (Option (List ℕ)) LineReadFault = Err unread.TooLong in
     let was = was_reading old_in now_in counts mid room t.lines t.last result t.handed r.again (λ e. absurd (cc e)) in
     let c = came old_in now_in new_in counts mid after room left t.lines t.last result t.handed was.1 r in
-    stops_held n m old_in now_in new_in counts mid after room left number result (LineFault number) false t was.1 r c
+    stops_held most m old_in now_in new_in counts mid after room left number result (LineFault number) false t was.1 r c
     (λ e. absurd (cc e)) (λ e. absurd (cc e)) (stops_long number m (room.rest ++ r.got) (long_first (room.rest ++ r.got) r.answers.0))
 
 -- the input can't be read further
-stops_unread : (n : ℕ) (m : MemberValue) (old_in now_in new_in : Option (List ℕ)) (counts mid after : Counts) (room left : RoomValue)
-    (number : ℕ) → IsTaking (new_saver n) old_in now_in counts mid room number m
-    → ReadsLine room now_in new_in mid after (Err unread.Read) left → StopsHere n old_in new_in counts after Read
-stops_unread n m old_in now_in new_in counts mid after room left number t r =
+stops_unread : (most : Capacity) (m : MemberValue) (old_in now_in new_in : Option (List ℕ)) (counts mid after : Counts) (room left : RoomValue)
+    (number : ℕ) → IsTaking (new_saver most) old_in now_in counts mid room number m
+    → ReadsLine room now_in new_in mid after (Err unread.Read) left → StopsHere most old_in new_in counts after Read
+stops_unread most m old_in now_in new_in counts mid after room left number t r =
     let result : Result (Option (List ℕ)) LineReadFault = Err unread.Read in
     let was = was_reading old_in now_in counts mid room t.lines t.last result t.handed r.again (λ e. absurd (cc e)) in
     let c = came old_in now_in new_in counts mid after room left t.lines t.last result t.handed was.1 r in
-    stops_held n m old_in now_in new_in counts mid after room left number result Read false t was.1 r c
+    stops_held most m old_in now_in new_in counts mid after room left number result Read false t was.1 r c
     (λ e. absurd (cc e)) (λ e. shows_unread old_in now_in new_in counts mid after room left t.lines t.last t.handed r c was.0)
     (at_end number m (room.rest ++ r.got) Read r.answers.0.1 (inl (refl, r.answers.0.0)))
 
 -- the next line can't be read
-pub stops_fault : (n : ℕ) (m : MemberValue) (old_in now_in new_in : Option (List ℕ)) (counts mid after : Counts) (room left : RoomValue)
-    (number : ℕ) (fault : LineReadFault) (answer : Fault) → IsTaking (new_saver n) old_in now_in counts mid room number m
+pub stops_fault : (most : Capacity) (m : MemberValue) (old_in now_in new_in : Option (List ℕ)) (counts mid after : Counts) (room left : RoomValue)
+    (number : ℕ) (fault : LineReadFault) (answer : Fault) → IsTaking (new_saver most) old_in now_in counts mid room number m
     → ReadsLine room now_in new_in mid after (Err fault) left → answer ≡ unread_fault number fault
-    → (answer ≡ Memory) ⊎ StopsHere n old_in new_in counts after answer
-stops_fault n m old_in now_in new_in counts mid after room left number unread.TooLong answer t r is =
-    inr (subst (λ (f : Fault). StopsHere n old_in new_in counts after f) (sym is)
-    (stops_too_long n m old_in now_in new_in counts mid after room left number t r))
-stops_fault n m old_in now_in new_in counts mid after room left number unread.Read answer t r is =
-    inr (subst (λ (f : Fault). StopsHere n old_in new_in counts after f) (sym is)
-    (stops_unread n m old_in now_in new_in counts mid after room left number t r))
-stops_fault n m old_in now_in new_in counts mid after room left number unread.NoMemory answer t r is = inl is
+    → (answer ≡ Memory) ⊎ StopsHere most old_in new_in counts after answer
+stops_fault most m old_in now_in new_in counts mid after room left number unread.TooLong answer t r is =
+    inr (subst (λ (f : Fault). StopsHere most old_in new_in counts after f) (sym is)
+    (stops_too_long most m old_in now_in new_in counts mid after room left number t r))
+stops_fault most m old_in now_in new_in counts mid after room left number unread.Read answer t r is =
+    inr (subst (λ (f : Fault). StopsHere most old_in new_in counts after f) (sym is)
+    (stops_unread most m old_in now_in new_in counts mid after room left number t r))
+stops_fault most m old_in now_in new_in counts mid after room left number unread.NoMemory answer t r is = inl is
 
 -- the whole input was taken
-pub takes_all : (n : ℕ) (m : MemberValue) (old_in now_in new_in : Option (List ℕ)) (counts mid after : Counts) (room left : RoomValue)
-    (number : ℕ) → IsTaking (new_saver n) old_in now_in counts mid room number m
+pub takes_all : (most : Capacity) (m : MemberValue) (old_in now_in new_in : Option (List ℕ)) (counts mid after : Counts) (room left : RoomValue)
+    (number : ℕ) → IsTaking (new_saver most) old_in now_in counts mid room number m
     → ReadsLine room now_in new_in mid after (Ok None) left
-    → SavesCapture (λ given. given ≡ n) (λ digits. digits ≡ saved_digits (contents m)) old_in new_in
-takes_all n m old_in now_in new_in counts mid after room left number t r =
+    → SavesCapture (λ given. given ≡ most) (λ digits. digits ≡ saved_digits (contents m)) old_in new_in
+takes_all most m old_in now_in new_in counts mid after room left number t r =
     let a = handed_all old_in now_in new_in counts mid after room left t.lines t.last t.handed r in record {
       capture = a.bytes;
-      keys = n;
+      capacity = most;
       new = m;
       read = a.consumes;
       ended = a.at_end;
@@ -243,33 +249,33 @@ takes_all n m old_in now_in new_in counts mid after room left number t r =
       printed = refl;
     }
 
--- ---- the number of keys that was given, and what was printed
+-- ---- the capacity that was given, and what was printed
 
-pub stops_given : (IsKeys : ℕ → Type 0) (n : ℕ) (old_in new_in : Option (List ℕ)) (counts after : Counts) (fault : Fault) → IsKeys n
-    → StopsHere n old_in new_in counts after fault → StopsSaving IsKeys old_in new_in counts after fault
-stops_given IsKeys n old_in new_in counts after fault given s = record {
+pub stops_given : (IsGiven : Capacity → Type 0) (most : Capacity) (old_in new_in : Option (List ℕ)) (counts after : Counts) (fault : Fault) → IsGiven most
+    → StopsHere most old_in new_in counts after fault → StopsSaving IsGiven old_in new_in counts after fault
+stops_given IsGiven most old_in new_in counts after fault given s = record {
   bytes = s.bytes;
   is_whole = s.is_whole;
-  keys = s.keys;
+  capacity = s.capacity;
   read = s.read;
   whole = s.whole;
   cut = s.cut;
-  given = subst IsKeys (sym s.given) given;
+  given = subst IsGiven (sym s.given) given;
   stops = s.stops;
 }
 
 -- the table of a member that took the whole input is printed
-pub saves_capture : (IsKeys : ℕ → Type 0) (IsPrinted : List ℕ → Type 0) (old_in new_in : Option (List ℕ)) (n : ℕ) (m : MemberValue) (t : TableValue)
-    → SavesCapture (λ given. given ≡ n) (λ digits. digits ≡ saved_digits (contents m)) old_in new_in → IsKeys n → t ≡ m.timed.table
-    → IsPrinted (saved_digits t.contents) → SavesCapture IsKeys IsPrinted old_in new_in
-saves_capture IsKeys IsPrinted old_in new_in n m t s given is printed = record {
+pub saves_capture : (IsGiven : Capacity → Type 0) (IsPrinted : List ℕ → Type 0) (old_in new_in : Option (List ℕ)) (most : Capacity) (m : MemberValue) (t : TableValue)
+    → SavesCapture (λ given. given ≡ most) (λ digits. digits ≡ saved_digits (contents m)) old_in new_in → IsGiven most → t ≡ m.timed.table
+    → IsPrinted (saved_digits t.contents) → SavesCapture IsGiven IsPrinted old_in new_in
+saves_capture IsGiven IsPrinted old_in new_in most m t s given is printed = record {
   capture = s.capture;
-  keys = s.keys;
+  capacity = s.capacity;
   new = s.new;
   read = s.read;
   ended = s.ended;
   within = s.within;
-  given = subst IsKeys (sym s.given) given;
+  given = subst IsGiven (sym s.given) given;
   took = s.took;
   printed = subst IsPrinted (ap (λ (u : TableValue). saved_digits u.contents) is ∙ sym s.printed) printed;
 }

@@ -5,6 +5,7 @@ use Rattle.std.proofs.lemmas.List.{append-nil, length-append}
 use Rattle.nb_names.specs.Lines.{IsLine, HasLines}
 use Rattle.nb_names.specs.LineFacts.{any_lines, first_line, no_lines, one_line, same_lines}
 use Rattle.nb_table.specs.Limits.{TableValue}
+use Rattle.nbt.specs.declared.settings.Capacity.{Capacity}
 use Rattle.nbt.specs.declared.fault.Fault.{Fault}
 use Rattle.nbt.specs.Tables.{IsTableLine, IsTableFault, AreTables, TablesFail}
 
@@ -43,50 +44,50 @@ pub counted_all : (text rest : List ℕ) (count : ℕ) → rest ≡ [] → IsCou
 counted_all text rest count none before = (before.done, all_lines text rest count none before, before.counted)
 
 -- so many lines stand before the rest, and are these tables
-pub record IsReadingTables (keys : ℕ) (text rest : List ℕ) (number : ℕ) (ts : List TableValue) : Type 0 where
+pub record IsReadingTables (c : Capacity) (text rest : List ℕ) (number : ℕ) (ts : List TableValue) : Type 0 where
   pub within : number + length rest ≤ length text
   pub counting : IsCounting text rest number
-  pub are : AllZip (IsTableLine keys) counting.done ts
+  pub are : AllZip (IsTableLine c) counting.done ts
 
-pub reading_none : (keys : ℕ) (text : List ℕ) (ts : List TableValue) → ts ≡ [] → IsReadingTables keys text text 0 ts
+pub reading_none : (c : Capacity) (text : List ℕ) (ts : List TableValue) → ts ≡ [] → IsReadingTables c text text 0 ts
 unfolding counting_none
-reading_none keys text ts empty = record {
+reading_none c text ts empty = record {
   within = omega arith;
   counting = counting_none text;
-  are = subst (λ (us : List TableValue). AllZip (IsTableLine keys) [] us) (sym empty) tt;
+  are = subst (λ (us : List TableValue). AllZip (IsTableLine c) [] us) (sym empty) tt;
 }
 
-are_more : (keys : ℕ) (lines : List (List ℕ)) (ts : List TableValue) (line : List ℕ) (t : TableValue)
-    → AllZip (IsTableLine keys) lines ts → IsTableLine keys line t → AllZip (IsTableLine keys) (lines ++ line ∷ []) (ts ++ t ∷ [])
-are_more keys [] [] line t are is = (is, tt)
-are_more keys [] (u ∷ ts) line t are is = absurd are
-are_more keys (l ∷ lines) [] line t are is = absurd are
-are_more keys (l ∷ lines) (u ∷ ts) line t are is = (are.0, are_more keys lines ts line t are.1 is)
+are_more : (c : Capacity) (lines : List (List ℕ)) (ts : List TableValue) (line : List ℕ) (t : TableValue)
+    → AllZip (IsTableLine c) lines ts → IsTableLine c line t → AllZip (IsTableLine c) (lines ++ line ∷ []) (ts ++ t ∷ [])
+are_more c [] [] line t are is = (is, tt)
+are_more c [] (u ∷ ts) line t are is = absurd are
+are_more c (l ∷ lines) [] line t are is = absurd are
+are_more c (l ∷ lines) (u ∷ ts) line t are is = (are.0, are_more c lines ts line t are.1 is)
 
-pub read_more : (keys number : ℕ) (text rest line after : List ℕ) (ts new : List TableValue) (t : TableValue)
+pub read_more : (c : Capacity) (number : ℕ) (text rest line after : List ℕ) (ts new : List TableValue) (t : TableValue)
     → ((lines : List (List ℕ)) → HasLines after lines → HasLines rest (line ∷ lines)) → length after < length rest
-    → IsTableLine keys line t → new ≡ ts ++ t ∷ []
-    → IsReadingTables keys text rest number ts → IsReadingTables keys text after (number + 1) new
+    → IsTableLine c line t → new ≡ ts ++ t ∷ []
+    → IsReadingTables c text rest number ts → IsReadingTables c text after (number + 1) new
 unfolding counted_more
-read_more keys number text rest line after ts new t first size is_table pushed so_far = record {
+read_more c number text rest line after ts new t first size is_table pushed so_far = record {
   within = omega (arith, size, so_far.within);
   counting = counted_more text rest line after number first size so_far.counting;
   are =
-      subst (λ (us : List TableValue). AllZip (IsTableLine keys) (so_far.counting.done ++ line ∷ []) us) (sym pushed)
-      (are_more keys so_far.counting.done ts line t so_far.are is_table);
+      subst (λ (us : List TableValue). AllZip (IsTableLine c) (so_far.counting.done ++ line ∷ []) us) (sym pushed)
+      (are_more c so_far.counting.done ts line t so_far.are is_table);
 }
 
-pub read_all : (keys number : ℕ) (text rest : List ℕ) (ts : List TableValue) → rest ≡ [] → IsReadingTables keys text rest number ts → AreTables keys text ts
-read_all keys number text rest ts none so_far = record {
+pub read_all : (c : Capacity) (number : ℕ) (text rest : List ℕ) (ts : List TableValue) → rest ≡ [] → IsReadingTables c text rest number ts → AreTables c text ts
+read_all c number text rest ts none so_far = record {
   lines = so_far.counting.done;
   has = all_lines text rest number none so_far.counting;
   are = so_far.are;
 }
 
-pub fails_here : (keys number : ℕ) (text rest line after : List ℕ) (ts : List TableValue) (fault : Fault)
+pub fails_here : (c : Capacity) (number : ℕ) (text rest line after : List ℕ) (ts : List TableValue) (fault : Fault)
     → ((lines : List (List ℕ)) → HasLines after lines → HasLines rest (line ∷ lines))
-    → IsTableFault keys (number + 1) line fault → IsReadingTables keys text rest number ts → TablesFail keys text fault
-fails_here keys number text rest line after ts fault first is_fault so_far =
+    → IsTableFault c (number + 1) line fault → IsReadingTables c text rest number ts → TablesFail c text fault
+fails_here c number text rest line after ts fault first is_fault so_far =
     let later = any_lines after in record {
       before = so_far.counting.done;
       line = line;
@@ -94,7 +95,7 @@ fails_here keys number text rest line after ts fault first is_fault so_far =
       tables = ts;
       has = so_far.counting.has (line ∷ later.0) (first later.0 later.1);
       are = so_far.are;
-      fails = subst (λ (n : ℕ). IsTableFault keys (n + 1) line fault) so_far.counting.counted is_fault;
+      fails = subst (λ (n : ℕ). IsTableFault c (n + 1) line fault) so_far.counting.counted is_fault;
     }
 
 -- ---- the first line of a text

@@ -38,6 +38,19 @@ keys_rule = record (new_rule (codes "keys")) {
   parser = Some (Unsigned 1 65535);
 }
 
+-- `--per-source N`, a decimal number from 1 to 65,535; none where it isn't given
+abbrev pub per_source_rule : Rule
+per_source_rule = record (new_rule (codes "per-source")) {
+  long = Some (codes "per-source");
+  action = Some Set;
+  value_names = 1;
+  parser = Some (Unsigned 1 65535);
+}
+
+-- a command that makes a table, with the options for its limits
+abbrev pub limited_app : Text → App
+limited_app name = with_rule (with_rule (new_app name) keys_rule) per_source_rule
+
 -- `name [--bytes] VALUE`
 abbrev pub name_app : App
 name_app = with_rule (with_rule (new_app (codes "name")) (flag_rule (codes "bytes"))) (value_rule (codes "VALUE"))
@@ -50,21 +63,21 @@ show_app = new_app (codes "show")
 abbrev pub build_app : App
 build_app = with_rule (with_rule (with_rule (new_app (codes "build")) (flag_rule (codes "broadcast"))) (value_rule (codes "WHAT"))) (list_rule (codes "ARG"))
 
--- `replay [--keys N] NAME..`
+-- `replay [--keys N] [--per-source N] NAME..`
 abbrev pub replay_app : App
-replay_app = with_rule (with_rule (new_app (codes "replay")) keys_rule) (some_rule (codes "NAME"))
+replay_app = with_rule (limited_app (codes "replay")) (some_rule (codes "NAME"))
 
--- `save [--keys N]`
+-- `save [--keys N] [--per-source N]`
 abbrev pub save_app : App
-save_app = with_rule (new_app (codes "save")) keys_rule
+save_app = limited_app (codes "save")
 
--- `merge [--keys N]`
+-- `merge [--keys N] [--per-source N]`
 abbrev pub merge_app : App
-merge_app = with_rule (new_app (codes "merge")) keys_rule
+merge_app = limited_app (codes "merge")
 
--- `list [--keys N]`
+-- `list [--keys N] [--per-source N]`
 abbrev pub list_app : App
-list_app = with_rule (new_app (codes "list")) keys_rule
+list_app = limited_app (codes "list")
 
 -- `agree`
 abbrev pub agree_app : App

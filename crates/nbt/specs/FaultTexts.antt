@@ -6,7 +6,7 @@ use Rattle.nb_names.specs.TextFaults.{text_fault_text}
 use Rattle.nb_table.specs.FaultTexts.{load_fault_text}
 use Rattle.nb_table.specs.declared.load_fault.LoadFault.TheVariants as loads
 use Rattle.nbt.specs.declared.fault.Fault.{Fault}
-use Rattle.nbt.specs.declared.fault.Fault.TheVariants.{Text, Name, BadHex, TrailingBytes, Arguments, TooLong, ZeroPiece, Line, Full, TooManyNames, Load, NoTables, TwoTablesWanted, Read, Write, Memory}
+use Rattle.nbt.specs.declared.fault.Fault.TheVariants.{Text, Name, BadHex, TrailingBytes, Arguments, TooLong, ZeroPiece, Line, FullSource, Full, TooManyNames, Load, NoTables, TwoTablesWanted, Read, Write, Memory}
 use Rattle.nbt.specs.declared.status.Status.{Status}
 use Rattle.nbt.specs.declared.status.Status.TheVariants.{Refused, Failed}
 
@@ -20,6 +20,7 @@ fault_text Arguments = codes "arguments"
 fault_text TooLong = codes "too long"
 fault_text ZeroPiece = codes "zero piece"
 fault_text (Line number) = codes "line " ++ decimal number
+fault_text FullSource = codes "full source"
 fault_text Full = codes "full"
 fault_text TooManyNames = codes "too many names"
 fault_text (Load fault) = load_fault_text fault
@@ -39,6 +40,7 @@ status_of Arguments = Refused
 status_of TooLong = Refused
 status_of ZeroPiece = Refused
 status_of (Line number) = Refused
+status_of FullSource = Refused
 status_of Full = Refused
 status_of TooManyNames = Refused
 status_of (Load loads.NoMemory) = Failed

@@ -10,7 +10,7 @@ use Rattle.nb_names.specs.NameText.{IsText, IsFaultOf, written}
 use Rattle.nb_names.specs.Labels.{NameAt}
 use Rattle.nb_names.specs.NameFaults.{NetbiosFaultAt}
 use Rattle.nbt.specs.declared.fault.Fault.{Fault}
-use Rattle.nbt.specs.declared.fault.Fault.TheVariants.{Text, Name, BadHex, TrailingBytes, Arguments, TooLong, ZeroPiece, Line, Full, TooManyNames, Load, NoTables, TwoTablesWanted, Read, Write, Memory}
+use Rattle.nbt.specs.declared.fault.Fault.TheVariants.{Text, Name, BadHex, TrailingBytes, Arguments, TooLong, ZeroPiece, Line, FullSource, Full, TooManyNames, Load, NoTables, TwoTablesWanted, Read, Write, Memory}
 
 -- the text as a line
 abbrev pub line : List ℕ → List ℕ
@@ -41,6 +41,7 @@ IsSpellingFault text Arguments = ⊥
 IsSpellingFault text TooLong = ⊥
 IsSpellingFault text ZeroPiece = ⊥
 IsSpellingFault text (Line number) = ⊥
+IsSpellingFault text FullSource = ⊥
 IsSpellingFault text Full = ⊥
 IsSpellingFault text TooManyNames = ⊥
 IsSpellingFault text (Load fault) = ⊥
@@ -74,6 +75,7 @@ IsNameFault digits Arguments = ⊥
 IsNameFault digits TooLong = ⊥
 IsNameFault digits ZeroPiece = ⊥
 IsNameFault digits (Line number) = ⊥
+IsNameFault digits FullSource = ⊥
 IsNameFault digits Full = ⊥
 IsNameFault digits TooManyNames = ⊥
 IsNameFault digits (Load fault) = ⊥

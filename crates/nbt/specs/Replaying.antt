@@ -14,9 +14,10 @@ use Rattle.nb_member.specs.Live.{live}
 use Rattle.nb_member.specs.Member.{MemberValue, new_member}
 use Rattle.nb_member.specs.Replaying.{Replays}
 use Rattle.nb_member.specs.Member.{Stands}
+use Rattle.nbt.specs.declared.settings.Capacity.{Capacity}
 use Rattle.nbt.specs.declared.fault.Fault.{Fault}
 use Rattle.nbt.specs.declared.fault.Fault.TheVariants.{Text, Arguments, Line, TooManyNames, Read, Write, Memory}
-use Rattle.nbt.specs.Settings.{HaveNoKeys, program_settings}
+use Rattle.nbt.specs.Settings.{HasNoCapacity, program_settings}
 
 -- ---- the names
 
@@ -80,13 +81,13 @@ EndsWith IsAnswer (Err Write) = IsAnswer (Err replay.Write)
 EndsWith IsAnswer (Err Memory) = IsAnswer (Err replay.NoMemory)
 EndsWith IsAnswer (Err _) = ⊥
 
--- ReplaysCapture AreKeys AreWords old_in new_in old_out new_out answer: a new member that holds as many keys
--- as are given, with the names of the words, replayed what was read, with this answer, and what it wrote was
+-- ReplaysCapture IsGiven AreWords old_in new_in old_out new_out answer: a new member that may hold as much as is
+-- given, with the names of the words, replayed what was read, with this answer, and what it wrote was
 -- printed
-pub record ReplaysCapture (AreKeys : ℕ → Type 0) (AreWords : List (List ℕ) → Type 0)
+pub record ReplaysCapture (IsGiven : Capacity → Type 0) (AreWords : List (List ℕ) → Type 0)
     (old_in new_in old_out new_out : Option (List ℕ)) (answer : Result ℕ ReplayFault) : Type 0 where
-  pub keys : ℕ
-  pub given : AreKeys keys
+  pub capacity : Capacity
+  pub given : IsGiven capacity
   pub words : List (List ℕ)
   pub said : AreWords words
   pub names : List NetbiosName
@@ -94,19 +95,19 @@ pub record ReplaysCapture (AreKeys : ℕ → Type 0) (AreWords : List (List ℕ)
   pub bytes : List ℕ
   pub new : MemberValue
   pub read : Consumes old_in new_in bytes
-  pub replays : Replays (new_member (program_settings keys) names) [] [] bytes new_in new old_out new_out answer
+  pub replays : Replays (new_member (program_settings capacity) names) [] [] bytes new_in new old_out new_out answer
 
--- IsReplay IsAnswer IsKeys AreWords old_in new_in old_out new_out result: what the program answers: as a replay
--- with such an answer ends, or a word was refused, no number of keys or no words are given, or memory ran out
+-- IsReplay IsAnswer IsGiven AreWords old_in new_in old_out new_out result: what the program answers: as a replay
+-- with such an answer ends, or a word was refused, no capacity or no words are given, or memory ran out
 -- before it, and nothing is read or printed
-abbrev pub IsReplay : (Result ℕ ReplayFault → Type 0) → (ℕ → Type 0) → (List (List ℕ) → Type 0)
+abbrev pub IsReplay : (Result ℕ ReplayFault → Type 0) → (Capacity → Type 0) → (List (List ℕ) → Type 0)
     → Option (List ℕ) → Option (List ℕ) → Option (List ℕ) → Option (List ℕ) → Result Unit Fault → Type 0
-IsReplay IsAnswer IsKeys AreWords old_in new_in old_out new_out (Err (Text fault)) =
+IsReplay IsAnswer IsGiven AreWords old_in new_in old_out new_out (Err (Text fault)) =
     (words : List (List ℕ)) × AreWords words × IsNamesFault words (Text fault) × Keeps old_in new_in × Keeps old_out new_out
-IsReplay IsAnswer IsKeys AreWords old_in new_in old_out new_out (Err TooManyNames) =
+IsReplay IsAnswer IsGiven AreWords old_in new_in old_out new_out (Err TooManyNames) =
     (words : List (List ℕ)) × AreWords words × IsNamesFault words TooManyNames × Keeps old_in new_in × Keeps old_out new_out
-IsReplay IsAnswer IsKeys AreWords old_in new_in old_out new_out (Err Arguments) =
-    (HaveNoKeys IsKeys ⊎ ((words : List (List ℕ)) → ¬ AreWords words)) × Keeps old_in new_in × Keeps old_out new_out
-IsReplay IsAnswer IsKeys AreWords old_in new_in old_out new_out (Err Memory) =
+IsReplay IsAnswer IsGiven AreWords old_in new_in old_out new_out (Err Arguments) =
+    (HasNoCapacity IsGiven ⊎ ((words : List (List ℕ)) → ¬ AreWords words)) × Keeps old_in new_in × Keeps old_out new_out
+IsReplay IsAnswer IsGiven AreWords old_in new_in old_out new_out (Err Memory) =
     IsAnswer (Err replay.NoMemory) ⊎ (Keeps old_in new_in × Keeps old_out new_out)
-IsReplay IsAnswer IsKeys AreWords old_in new_in old_out new_out result = EndsWith IsAnswer result
+IsReplay IsAnswer IsGiven AreWords old_in new_in old_out new_out result = EndsWith IsAnswer result

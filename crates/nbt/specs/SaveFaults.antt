@@ -12,17 +12,19 @@ use Rattle.nb_member.specs.declared.member_fault.MemberFault.TheVariants.{Table}
 use Rattle.nb_member.specs.Capture.{Reads}
 use Rattle.nb_member.specs.Member.{MemberValue}
 use Rattle.nb_member.specs.Taking.{Takes}
+use Rattle.nbt.specs.declared.settings.Capacity.{Capacity}
 use Rattle.nbt.specs.declared.fault.Fault.{Fault}
-use Rattle.nbt.specs.declared.fault.Fault.TheVariants.{Arguments, Full, Read, Write, Memory}
+use Rattle.nbt.specs.declared.fault.Fault.TheVariants.{Arguments, FullSource, Full, Read, Write, Memory}
 use Rattle.nb_names.specs.Devices.{ShowsUnread}
 use Rattle.nbt.specs.Lines.{IsEndFault, IsLineFault}
 use Rattle.nbt.specs.Saving.{TakesLine, new_saver}
-use Rattle.nbt.specs.Settings.{HaveNoKeys}
+use Rattle.nbt.specs.Settings.{HasNoCapacity}
 
 -- PayloadStops m moment payload fault: why the member m doesn't take the payload: its table has no room for a key
--- more, or memory ran out
+-- more, of its address or at all, or memory ran out
 abbrev pub PayloadStops : MemberValue → ℕ → List ℕ → Fault → Type 0
 PayloadStops m moment payload Full = (key : Key) × (new : MemberValue) × Takes m moment payload new (Err (Table (tables.Full key)))
+PayloadStops m moment payload FullSource = (key : Key) × (new : MemberValue) × Takes m moment payload new (Err (Table (tables.FullSource key)))
 PayloadStops m moment payload Memory = (new : MemberValue) × Takes m moment payload new (Err (Table tables.NoMemory))
 PayloadStops m moment payload _ = ⊥
 
@@ -53,22 +55,22 @@ pub data StopsTaking (is_whole : Bool) : ℕ → MemberValue → List ℕ → Fa
   at_end : (number : ℕ) (m : MemberValue) (rest : List ℕ) (fault : Fault) → IsLine rest → RestStops is_whole number m rest fault
       → StopsTaking is_whole number m rest fault
 
--- StopsSaving IsKeys old_in new_in old new fault: these bytes were read, all of the input, or what came before it was
--- cut or a line wasn't taken, and a member that holds as many keys as are given doesn't take the lines among them,
+-- StopsSaving IsGiven old_in new_in old new fault: these bytes were read, all of the input, or what came before it was
+-- cut or a line wasn't taken, and a member that may hold as much as is given doesn't take the lines among them,
 -- for this reason
-pub record StopsSaving (IsKeys : ℕ → Type 0) (old_in new_in : Option (List ℕ)) (old new : Counts) (fault : Fault) : Type 0 where
+pub record StopsSaving (IsGiven : Capacity → Type 0) (old_in new_in : Option (List ℕ)) (old new : Counts) (fault : Fault) : Type 0 where
   pub bytes : List ℕ
   pub is_whole : Bool
-  pub keys : ℕ
+  pub capacity : Capacity
   pub read : Consumes old_in new_in bytes
   pub whole : is_whole ≡ true → IsAtEnd new_in × (length bytes ≤ MAX_INPUT)
   pub cut : fault ≡ Read → ShowsUnread bytes old new
-  pub given : IsKeys keys
-  pub stops : StopsTaking is_whole 1 (new_saver keys) (take MAX_INPUT bytes) fault
+  pub given : IsGiven capacity
+  pub stops : StopsTaking is_whole 1 (new_saver capacity) (take MAX_INPUT bytes) fault
 
--- SaveFails IsKeys old_in new_in old new fault: why nothing is saved: no number of keys is given, or for a line;
+-- SaveFails IsGiven old_in new_in old new fault: why nothing is saved: no capacity is given, or for a line;
 -- nothing is said where memory ran out or the output failed
-pub data SaveFails (IsKeys : ℕ → Type 0) (old_in new_in : Option (List ℕ)) (old new : Counts) (fault : Fault) : Type 0 where
-  no_keys : HaveNoKeys IsKeys → fault ≡ Arguments → SaveFails IsKeys old_in new_in old new fault
-  elsewhere : (fault ≡ Memory) ⊎ (fault ≡ Write) → SaveFails IsKeys old_in new_in old new fault
-  line_fails : StopsSaving IsKeys old_in new_in old new fault → SaveFails IsKeys old_in new_in old new fault
+pub data SaveFails (IsGiven : Capacity → Type 0) (old_in new_in : Option (List ℕ)) (old new : Counts) (fault : Fault) : Type 0 where
+  no_capacity : HasNoCapacity IsGiven → fault ≡ Arguments → SaveFails IsGiven old_in new_in old new fault
+  elsewhere : (fault ≡ Memory) ⊎ (fault ≡ Write) → SaveFails IsGiven old_in new_in old new fault
+  line_fails : StopsSaving IsGiven old_in new_in old new fault → SaveFails IsGiven old_in new_in old new fault

@@ -5,7 +5,7 @@ use Rattle.std.specs.FinMap as maps
 use Rattle.std.specs.Io.KnownBytes.{Consumes, IsAtEnd}
 use Rattle.nb_names.specs.declared.limits.TheConstants.{MAX_INPUT}
 use Rattle.nb_names.specs.Lines.{HasLines}
-use Rattle.nb_table.specs.declared.fault.TableFault.TheVariants.{MisplacedFirst, TooLong, Full, NoMemory}
+use Rattle.nb_table.specs.declared.fault.TableFault.TheVariants.{MisplacedFirst, TooLong, FullSource, Full, NoMemory}
 use Rattle.nb_member.specs.declared.line.Line.{Line}
 use Rattle.nb_member.specs.declared.line.Line.TheVariants.{Packet as PacketLine, Tick}
 use Rattle.nb_member.specs.declared.member_fault.MemberFault.{MemberFault}
@@ -16,27 +16,29 @@ use Rattle.nb_member.specs.Events.{limits_of}
 use Rattle.nb_member.specs.Member.{MemberValue, contents, with_timed}
 use Rattle.nb_member.specs.Taking.{Takes}
 use Rattle.nb_member.specs.Member.{after_clock}
+use Rattle.nbt.specs.declared.settings.Capacity.{Capacity}
 use Rattle.nbt.specs.Saved.{saved_digits}
 use Rattle.nbt.specs.Settings.{program_settings}
 
--- new_saver keys: the member before the first line
-abbrev pub new_saver : ℕ → MemberValue
-new_saver n = record {
-  settings = program_settings n;
+-- new_saver c: the member before the first line
+abbrev pub new_saver : Capacity → MemberValue
+new_saver c = record {
+  settings = program_settings c;
   names = [];
   timed = record {
-    table = record { contents = maps.empty; limits = limits_of (program_settings n) };
+    table = record { contents = maps.empty; limits = limits_of (program_settings c) };
     moments = maps.empty;
   };
 }
 
 -- the member's answer to a payload ends nothing: a packet that is refused is passed over, unless the
--- table is full or memory ran out
+-- table is full, for its address or at all, or memory ran out
 abbrev pub GoesOn : Result Outcome MemberFault → Type 0
 GoesOn (Ok outcome) = Unit {0}
 GoesOn (Err (Packet fault error)) = Unit {0}
 GoesOn (Err (Table MisplacedFirst)) = Unit {0}
 GoesOn (Err (Table TooLong)) = Unit {0}
+GoesOn (Err (Table (FullSource key))) = ⊥
 GoesOn (Err (Table (Full key))) = ⊥
 GoesOn (Err (Table NoMemory)) = ⊥
 
@@ -71,15 +73,15 @@ pub record TakesLines (m : MemberValue) (capture : List ℕ) (new : MemberValue)
   pub has : HasLines capture lines
   pub takes : TakesEach m lines new
 
--- SavesCapture IsKeys IsPrinted old_in new_in: the whole input was read, a member that holds as many keys as are
+-- SavesCapture IsGiven IsPrinted old_in new_in: the whole input was read, a member that may hold as much as is
 -- given took its lines, and the table that it then has was printed, as IsPrinted says of its digits
-pub record SavesCapture (IsKeys : ℕ → Type 0) (IsPrinted : List ℕ → Type 0) (old_in new_in : Option (List ℕ)) : Type 0 where
+pub record SavesCapture (IsGiven : Capacity → Type 0) (IsPrinted : List ℕ → Type 0) (old_in new_in : Option (List ℕ)) : Type 0 where
   pub capture : List ℕ
-  pub keys : ℕ
+  pub capacity : Capacity
   pub new : MemberValue
   pub read : Consumes old_in new_in capture
   pub ended : IsAtEnd new_in
   pub within : length capture ≤ MAX_INPUT
-  pub given : IsKeys keys
-  pub took : TakesLines (new_saver keys) capture new
+  pub given : IsGiven capacity
+  pub took : TakesLines (new_saver capacity) capture new
   pub printed : IsPrinted (saved_digits (contents new))

@@ -1,22 +1,42 @@
--- What the program's members are set up with (our choice).
-use Rattle.std.specs.Prelude.{◌≡◌, ◌<◌, ◌^◌, ℕ, List, [], ◌∷◌, Some, codes}
+-- What the program's members and tables are set up with (our choice).
+use Rattle.std.specs.Prelude.{◌≡◌, ◌⊎◌, ◌<◌, ◌^◌, ℕ, List, [], ◌∷◌, Some, codes}
 use Rattle.std.specs.Str.Parse.{IsNumeral, digits_value, without_leading_plus}
 use Rattle.clap.specs.Words.{found_of, one_text}
 use Rattle.clap.specs.declared.parser.matches.ArgMatches.{ArgMatches}
 use Rattle.nb_member.specs.declared.settings.Settings.{Settings}
+use Rattle.nbt.specs.declared.settings.Capacity.{Capacity}
 
--- program_settings keys: the settings of a member that holds so many keys
-abbrev pub program_settings : ℕ → Settings
-program_settings n = record { ip = 0 ∷ 0 ∷ 0 ∷ 0 ∷ []; port = 138; keys = n; longest = 65535 }
+-- program_settings c: the settings of a member that may hold so much
+abbrev pub program_settings : Capacity → Settings
+program_settings c = record { ip = 0 ∷ 0 ∷ 0 ∷ 0 ∷ []; port = 138; keys = c.keys; per_source = c.per_source; longest = 65535 }
 
--- AreKeys matches n: the number is the one that the matches hold for `--keys`: a decimal one of 32 bits
-pub record AreKeys (matches : ArgMatches) (n : ℕ) : Type 0 where
+-- as many keys as a table can hold, whatever their addresses
+abbrev pub most_keys : Capacity
+most_keys = record { keys = 4294967295; per_source = 4294967295 }
+
+-- IsNumberOf matches option n: the number is the one that the matches hold for the option: a decimal one of 32
+-- bits
+pub record IsNumberOf (matches : ArgMatches) (option : List ℕ) (n : ℕ) : Type 0 where
   pub text : List ℕ
-  pub held : one_text (found_of matches) (codes "keys") ≡ Some text
+  pub held : one_text (found_of matches) option ≡ Some text
   pub digits : IsNumeral 10 (without_leading_plus text)
   pub is : n ≡ digits_value 10 (without_leading_plus text)
   pub fits : n < 2 ^ 32
 
--- no number of keys is given
-abbrev pub HaveNoKeys : (ℕ → Type 0) → Type 0
-HaveNoKeys IsKeys = (n : ℕ) → ¬ IsKeys n
+-- the matches hold no number for the option
+abbrev pub HasNoNumber : ArgMatches → List ℕ → Type 0
+HasNoNumber matches option = (n : ℕ) → ¬ IsNumberOf matches option n
+
+-- the number of `--per-source`, or 4,294,967,295 where none is held
+abbrev pub IsSourceLimit : ArgMatches → ℕ → Type 0
+IsSourceLimit matches n =
+    IsNumberOf matches (codes "per-source") n ⊎ (HasNoNumber matches (codes "per-source") × (n ≡ 4294967295))
+
+-- IsCapacity matches c: as many keys as `--keys` says, and of each address as many as `--per-source` says
+pub record IsCapacity (matches : ArgMatches) (c : Capacity) : Type 0 where
+  pub keys : IsNumberOf matches (codes "keys") c.keys
+  pub per_source : IsSourceLimit matches c.per_source
+
+-- no capacity is given
+abbrev pub HasNoCapacity : (Capacity → Type 0) → Type 0
+HasNoCapacity IsGiven = (c : Capacity) → ¬ IsGiven c

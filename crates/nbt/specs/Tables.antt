@@ -14,53 +14,54 @@ use Rattle.nb_table.specs.Join.{join, joined_all, AreTaken}
 use Rattle.nb_table.specs.Limits.{KeepsLimits, Limits, TableValue}
 use Rattle.nb_table.specs.LoadFaults.{IsReadAs, LoadFails}
 use Rattle.nb_table.specs.Merging.{Fits, IsRefused}
+use Rattle.nbt.specs.declared.settings.Capacity.{Capacity}
 use Rattle.nbt.specs.declared.fault.Fault.{Fault}
-use Rattle.nbt.specs.declared.fault.Fault.TheVariants.{Arguments, TooLong, Line, Full, Load, NoTables, TwoTablesWanted, Read, Write, Memory}
+use Rattle.nbt.specs.declared.fault.Fault.TheVariants.{Arguments, TooLong, Line, FullSource, Full, Load, NoTables, TwoTablesWanted, Read, Write, Memory}
 use Rattle.nbt.specs.declared.status.Status.{Status}
 use Rattle.nbt.specs.declared.status.Status.TheVariants.{Done, Refused}
 use Rattle.nbt.specs.Printing.{PrintsFront, PrintsLine}
-use Rattle.nbt.specs.Settings.{HaveNoKeys}
+use Rattle.nbt.specs.Settings.{HasNoCapacity, most_keys}
 
--- what a table may hold that is read: so many keys, and datagrams of at most 65,535 bytes
-abbrev pub reading : ℕ → Limits
-reading keys = record { keys = keys; longest = 65535 }
+-- what a table may hold that is read: so many keys, so many of each address, and datagrams of at most 65,535 bytes
+abbrev pub reading : Capacity → Limits
+reading c = record { keys = c.keys; per_source = c.per_source; longest = 65535 }
 
 -- ---- lines
 
--- IsTableLine keys line t: the line isn't empty, and is bytes in hexadecimal of either case, in which the
--- table t stands; t may hold so many keys, and keeps to that
-pub record IsTableLine (keys : ℕ) (line : List ℕ) (t : TableValue) : Type 0 where
+-- IsTableLine c line t: the line isn't empty, and is bytes in hexadecimal of either case, in which the
+-- table t stands; t may hold so much, and keeps to that
+pub record IsTableLine (c : Capacity) (line : List ℕ) (t : TableValue) : Type 0 where
   pub bytes : List ℕ
   pub not_empty : 0 < length line
   pub digits : HexText bytes line
   pub stands : IsReadAs bytes t.contents
-  pub limits : t.limits ≡ reading keys
+  pub limits : t.limits ≡ reading c
   pub keeps : KeepsLimits t
 
--- IsTableFault keys number line fault: why line `number` is no table: it is empty or no hexadecimal, or its
+-- IsTableFault c number line fault: why line `number` is no table: it is empty or no hexadecimal, or its
 -- bytes aren't loaded, for another reason than want of memory
-abbrev pub IsTableFault : ℕ → ℕ → List ℕ → Fault → Type 0
-IsTableFault keys number line (Line n) = (n ≡ number) × ((line ≡ []) ⊎ ((bytes : List ℕ) → ¬ HexText bytes line))
-IsTableFault keys number line (Load fault) =
-    (0 < length line) × (fault ≢ loads.NoMemory) × (bytes : List ℕ) × HexText bytes line × LoadFails bytes (reading keys) fault
-IsTableFault keys number line Memory = Unit {0}
-IsTableFault keys number line _ = ⊥
+abbrev pub IsTableFault : Capacity → ℕ → List ℕ → Fault → Type 0
+IsTableFault c number line (Line n) = (n ≡ number) × ((line ≡ []) ⊎ ((bytes : List ℕ) → ¬ HexText bytes line))
+IsTableFault c number line (Load fault) =
+    (0 < length line) × (fault ≢ loads.NoMemory) × (bytes : List ℕ) × HexText bytes line × LoadFails bytes (reading c) fault
+IsTableFault c number line Memory = Unit {0}
+IsTableFault c number line _ = ⊥
 
--- AreTables keys text ts: the lines of the text are the tables, in order
-pub record AreTables (keys : ℕ) (text : List ℕ) (ts : List TableValue) : Type 0 where
+-- AreTables c text ts: the lines of the text are the tables, in order
+pub record AreTables (c : Capacity) (text : List ℕ) (ts : List TableValue) : Type 0 where
   pub lines : List (List ℕ)
   pub has : HasLines text lines
-  pub are : AllZip (IsTableLine keys) lines ts
+  pub are : AllZip (IsTableLine c) lines ts
 
--- TablesFail keys text fault: why the first of the text's lines that is no table isn't; those before it are
-pub record TablesFail (keys : ℕ) (text : List ℕ) (fault : Fault) : Type 0 where
+-- TablesFail c text fault: why the first of the text's lines that is no table isn't; those before it are
+pub record TablesFail (c : Capacity) (text : List ℕ) (fault : Fault) : Type 0 where
   pub before : List (List ℕ)
   pub line : List ℕ
   pub after : List (List ℕ)
   pub tables : List TableValue
   pub has : HasLines text (before ++ line ∷ after)
-  pub are : AllZip (IsTableLine keys) before tables
-  pub fails : IsTableFault keys (length before + 1) line fault
+  pub are : AllZip (IsTableLine c) before tables
+  pub fails : IsTableFault c (length before + 1) line fault
 
 -- ---- what is made of the tables
 
@@ -72,6 +73,7 @@ contents_of ts = map (λ t. t.contents) ts
 abbrev pub fault_of_join : TableFault → Fault
 fault_of_join tables.MisplacedFirst = TooLong
 fault_of_join tables.TooLong = TooLong
+fault_of_join (tables.FullSource key) = FullSource
 fault_of_join (tables.Full key) = Full
 fault_of_join tables.NoMemory = Memory
 
@@ -99,32 +101,32 @@ abbrev pub FailsOn : (List ℕ → Fault → Type 0) → Option (List ℕ) → O
 FailsOn Fails old_in new_in fault =
     ¬ IsElsewhere fault → (text : List ℕ) × Consumes old_in new_in text × IsAtEnd new_in × (length text ≤ MAX_INPUT) × Fails text fault
 
--- MergeFails IsKeys text fault: why the lines of the text aren't merged: the first that is no table, there is
+-- MergeFails IsGiven text fault: why the lines of the text aren't merged: the first that is no table, there is
 -- none, or their tables can't be joined
-pub data MergeFails (IsKeys : ℕ → Type 0) (text : List ℕ) (fault : Fault) : Type 0 where
-  line_fails : (keys : ℕ) → IsKeys keys → TablesFail keys text fault → MergeFails IsKeys text fault
-  no_line : HasLines text [] → fault ≡ NoTables → MergeFails IsKeys text fault
-  not_joined : (keys : ℕ) (first : TableValue) (others : List TableValue) → IsKeys keys
-      → AreTables keys text (first ∷ others) → JoinFails first others fault → MergeFails IsKeys text fault
+pub data MergeFails (IsGiven : Capacity → Type 0) (text : List ℕ) (fault : Fault) : Type 0 where
+  line_fails : (c : Capacity) → IsGiven c → TablesFail c text fault → MergeFails IsGiven text fault
+  no_line : HasLines text [] → fault ≡ NoTables → MergeFails IsGiven text fault
+  not_joined : (c : Capacity) (first : TableValue) (others : List TableValue) → IsGiven c
+      → AreTables c text (first ∷ others) → JoinFails first others fault → MergeFails IsGiven text fault
 
--- MergeStops IsKeys old_in new_in fault: why the tables of the input aren't merged: no number of keys is given,
+-- MergeStops IsGiven old_in new_in fault: why the tables of the input aren't merged: no capacity is given,
 -- or it is a fault of the input
-pub data MergeStops (IsKeys : ℕ → Type 0) (old_in new_in : Option (List ℕ)) (fault : Fault) : Type 0 where
-  no_keys : HaveNoKeys IsKeys → fault ≡ Arguments → MergeStops IsKeys old_in new_in fault
-  input_fails : FailsOn (MergeFails IsKeys) old_in new_in fault → MergeStops IsKeys old_in new_in fault
+pub data MergeStops (IsGiven : Capacity → Type 0) (old_in new_in : Option (List ℕ)) (fault : Fault) : Type 0 where
+  no_capacity : HasNoCapacity IsGiven → fault ≡ Arguments → MergeStops IsGiven old_in new_in fault
+  input_fails : FailsOn (MergeFails IsGiven) old_in new_in fault → MergeStops IsGiven old_in new_in fault
 
--- MergesTables IsKeys IsPrinted old_in new_in: the whole input was read, its lines are tables, at least one, each
+-- MergesTables IsGiven IsPrinted old_in new_in: the whole input was read, its lines are tables, at least one, each
 -- is taken into those before it, and their join was printed, as IsPrinted says of it
-pub record MergesTables (IsKeys : ℕ → Type 0) (IsPrinted : Contents → Type 0) (old_in new_in : Option (List ℕ)) : Type 0 where
+pub record MergesTables (IsGiven : Capacity → Type 0) (IsPrinted : Contents → Type 0) (old_in new_in : Option (List ℕ)) : Type 0 where
   pub text : List ℕ
-  pub keys : ℕ
+  pub capacity : Capacity
   pub first : TableValue
   pub others : List TableValue
   pub read : Consumes old_in new_in text
   pub ended : IsAtEnd new_in
   pub within : length text ≤ MAX_INPUT
-  pub given : IsKeys keys
-  pub tables : AreTables keys text (first ∷ others)
+  pub given : IsGiven capacity
+  pub tables : AreTables capacity text (first ∷ others)
   pub taken : AreTaken join (Fits first.limits) first.contents (contents_of others)
   pub printed : IsPrinted (joined_all join first.contents (contents_of others))
 
@@ -132,7 +134,7 @@ pub record MergesTables (IsKeys : ℕ → Type 0) (IsPrinted : Contents → Type
 -- no table
 pub data CompareFails (text : List ℕ) (fault : Fault) : Type 0 where
   not_two : (lines : List (List ℕ)) → HasLines text lines → length lines ≢ 2 → fault ≡ TwoTablesWanted → CompareFails text fault
-  one_fails : (lines : List (List ℕ)) → HasLines text lines → length lines ≡ 2 → TablesFail 4294967295 text fault → CompareFails text fault
+  one_fails : (lines : List (List ℕ)) → HasLines text lines → length lines ≡ 2 → TablesFail most_keys text fault → CompareFails text fault
 
 -- Tells t u status old new: whether the tables are equal is printed, and the status is that of refused input
 -- where they aren't
@@ -154,5 +156,5 @@ pub record ComparesTables (IsPrinted : Contents → Contents → Type 0) (old_in
   pub read : Consumes old_in new_in text
   pub ended : IsAtEnd new_in
   pub within : length text ≤ MAX_INPUT
-  pub tables : AreTables 4294967295 text (first ∷ second ∷ [])
+  pub tables : AreTables most_keys text (first ∷ second ∷ [])
   pub printed : IsPrinted first.contents second.contents

@@ -2,7 +2,7 @@
 ghost use Rattle.std.specs.Prelude.{◌≡◌, IfOk, IsOkAnd, false};
 ghost use Rattle.clap.specs.Words.{AddsArg, AddsSubcommand, app_of, new_app, rule_of};
 ghost use Rattle.clap.specs.declared.builder.command.Command.TheViews.{out-Command as fields_of};
-ghost use Rattle.nbt.specs.CommandLine.{name_app, show_app, build_app, replay_app, save_app, merge_app, list_app, agree_app, nbt_app, flag_rule, value_rule, list_rule, keys_rule, some_rule};
+ghost use Rattle.nbt.specs.CommandLine.{name_app, show_app, build_app, replay_app, save_app, merge_app, list_app, agree_app, nbt_app, flag_rule, value_rule, list_rule, keys_rule, limited_app, per_source_rule, some_rule};
 
 use crate::help::{
     AGREE_HELP, BUILD_HELP, LIST_HELP, MERGE_HELP, NAME_HELP, REPLAY_HELP, SAVE_HELP, SHOW_HELP,
@@ -109,12 +109,12 @@ fn build_command<'a>(alloc: Global) -> Result<Command<'a>, AllocError>
     taking(taking(taking(Ok(build), broadcast), what), words)
 }
 
-/// `replay [--keys N] NAME..`.
+/// `replay [--keys N] [--per-source N] NAME..`.
 fn replay_command<'a>(alloc: Global) -> Result<Command<'a>, AllocError>
     ensures app { IfOk result (λ command. app_of command ≡ replay_app) }
     ensures local { IfOk result (λ command. (fields_of command).has_globals ≡ false) }
 {
-    let replay = described(
+    let replay = limited(
         alloc,
         "replay",
         "Replay the capture on standard input in a station with these names, and print the report",
@@ -125,49 +125,46 @@ fn replay_command<'a>(alloc: Global) -> Result<Command<'a>, AllocError>
         "NAME",
         "A name of the station, such as 'FRED<20>.NETBIOS.COM'",
     );
-    taking(taking(Ok(replay), keys(alloc)), names)
+    taking(replay, names)
 }
 
-/// `save [--keys N]`.
+/// `save [--keys N] [--per-source N]`.
 fn save_command<'a>(alloc: Global) -> Result<Command<'a>, AllocError>
     ensures app { IfOk result (λ command. app_of command ≡ save_app) }
     ensures local { IfOk result (λ command. (fields_of command).has_globals ≡ false) }
 {
-    let save = described(
+    limited(
         alloc,
         "save",
         "Print the reassembly table of the capture on standard input, in hexadecimal",
         SAVE_HELP,
-    );
-    taking(Ok(save), keys(alloc))
+    )
 }
 
-/// `merge [--keys N]`.
+/// `merge [--keys N] [--per-source N]`.
 fn merge_command<'a>(alloc: Global) -> Result<Command<'a>, AllocError>
     ensures app { IfOk result (λ command. app_of command ≡ merge_app) }
     ensures local { IfOk result (λ command. (fields_of command).has_globals ≡ false) }
 {
-    let merge = described(
+    limited(
         alloc,
         "merge",
         "Print the join of the saved tables on standard input, a line each",
         MERGE_HELP,
-    );
-    taking(Ok(merge), keys(alloc))
+    )
 }
 
-/// `list [--keys N]`.
+/// `list [--keys N] [--per-source N]`.
 fn list_command<'a>(alloc: Global) -> Result<Command<'a>, AllocError>
     ensures app { IfOk result (λ command. app_of command ≡ list_app) }
     ensures local { IfOk result (λ command. (fields_of command).has_globals ≡ false) }
 {
-    let list = described(
+    limited(
         alloc,
         "list",
         "Print what the saved tables on standard input, a line each, know together of each key",
         LIST_HELP,
-    );
-    taking(Ok(list), keys(alloc))
+    )
 }
 
 /// `agree`.
@@ -189,6 +186,20 @@ fn described<'a>(alloc: Global, name: &'a str, about: &'a str, after: &'a str) -
     ensures local { (fields_of result).has_globals ≡ false }
 {
     Command::new(alloc, name).about(about).after_help(after)
+}
+
+/// A command of this name that makes a table, with the options for its limits.
+fn limited<'a>(
+    alloc: Global,
+    name: &'a str,
+    about: &'a str,
+    after: &'a str,
+) -> Result<Command<'a>, AllocError>
+    ensures app { IfOk result (λ command. app_of command ≡ limited_app name.entry.now) }
+    ensures local { IfOk result (λ command. (fields_of command).has_globals ≡ false) }
+{
+    let command = described(alloc, name, about, after);
+    taking(taking(Ok(command), keys(alloc)), per_source(alloc))
 }
 
 /// A command with an argument more, where it could be made.
@@ -260,5 +271,18 @@ fn keys<'a>(alloc: Global) -> Arg<'a>
         .help("How many keys a table may hold, 1 to 65535")
         .value_parser(ValueParser::unsigned(1, 65_535))
         .default_value("1024")
+        .action(ArgAction::Set)
+}
+
+/// `--per-source N`.
+fn per_source<'a>(alloc: Global) -> Arg<'a>
+    ensures rule { rule_of result ≡ per_source_rule }
+    ensures local { result.global ≡ false }
+{
+    Arg::new(alloc, "per-source")
+        .long("per-source")
+        .value_name("N")
+        .help("How many keys of one address a table may hold, 1 to 65535; no limit if not given")
+        .value_parser(ValueParser::unsigned(1, 65_535))
         .action(ArgAction::Set)
 }

@@ -27,6 +27,9 @@ pub enum Fault {
     ZeroPiece,
     /// A line of a capture is malformed. The number is the line's, the first being 1.
     Line(usize),
+    /// A capture has fragments of more keys of one address at a time than are held, or tables have
+    /// together.
+    FullSource,
     /// A capture has fragments of more keys at a time than are held, or tables have together.
     Full,
     /// More different names are given than a station holds.
@@ -62,6 +65,7 @@ impl Fault {
             | Fault::TooLong
             | Fault::ZeroPiece
             | Fault::Line(_)
+            | Fault::FullSource
             | Fault::Full
             | Fault::TooManyNames
             | Fault::Load(_)
@@ -87,6 +91,7 @@ impl fmt::Display for Fault {
             Fault::TooLong => f.write_str("too long"),
             Fault::ZeroPiece => f.write_str("zero piece"),
             Fault::Line(number) => write!(f, "line {number}"),
+            Fault::FullSource => f.write_str("full source"),
             Fault::Full => f.write_str("full"),
             Fault::TooManyNames => f.write_str("too many names"),
             Fault::Load(fault) => write!(f, "{fault}"),

@@ -42,50 +42,53 @@ pub const BUILD_HELP: &str =
 
 /// How a capture is replayed, and how the program ends.
 pub const REPLAY_HELP: &str =
-    "The capture is as `nbt show` takes it. A station at 0.0.0.0:138 takes its payloads of \
-     port 138. Each line but empty{n}ones and comments has a line in the report: its number, \
-     and `passed`, `dropped COUNT`, `kept KEY`, `spoilt KEY`,{n}`delivered KEY KIND SOURCE \
+    "The capture is as `nbt show` takes it. A station at 0.0.0.0:138 takes its payloads of port \
+     138. Each line but empty{n}ones and comments has a line in the report: its number, and \
+     `passed`, `dropped COUNT`, `kept KEY`, `spoilt KEY`,{n}`delivered KEY KIND SOURCE \
      DESTINATION DATA`, `unheard KEY`, `other` or `refused REASON`; ` error HEX` is the \
-     error{n}packet to answer. A key is held, delivered or not, until a tick 2000 \
-     milliseconds or more after it came drops it:{n}a capture of many keys needs ticks. A \
-     name that is repeated is passed over.{n}{n}Example: nbt build group 10.0.0.5:138/0001 \
-     'JOE<00>' 'FRED<20>' 616263 2 | nbt replay 'FRED<20>'{n}{n}Exit status: 0 all was done, \
-     1 a name was refused or a line is malformed, 2 the command line was bad, 3 a{n}device \
-     failed or memory ran out. With 1 and 3 one line, `nbt: ` and the reason, goes to \
-     standard error.";
+     error{n}packet to answer. A key is held, delivered or not, until a tick 2000 milliseconds \
+     or more after it came drops it: a{n}capture of many keys needs ticks. A name that is \
+     repeated is passed over. One address can fill the table, and then{n}all others are refused: \
+     with `--per-source N` it is refused itself after N keys. Choose N above what one sender \
+     sends{n}while a key is held. There is no such limit by default: with one, it matters which \
+     packets of a sender come first.{n}{n}Example: nbt build group 10.0.0.5:138/0001 'JOE<00>' \
+     'FRED<20>' 616263 2 | nbt replay 'FRED<20>'{n}{n}Exit status: 0 all was done, 1 a name was \
+     refused or a line is malformed, 2 the command line was bad, 3 a device{n}failed or memory \
+     ran out. With 1 and 3 one line, `nbt: ` and the reason, goes to standard error.";
 
 /// What is saved of a capture, and how the program ends.
 pub const SAVE_HELP: &str =
-    "The capture is as `nbt show` takes it. Fragments of datagrams on port 138 are put \
-     together; packets that are refused{n}are passed over. A tick drops each key that came \
-     2000 milliseconds or more before it. The table that is left is{n}printed in \
-     hexadecimal, as one line.{n}{n}Example: nbt build group 10.0.0.5:138/0001 'JOE<00>' \
-     'FRED<20>' 616263 2 | nbt save{n}{n}Exit status: 0 all was done, 1 a line is malformed \
-     or there are too many keys, 2 the command line was bad, 3 a device{n}failed or memory \
-     ran out. With 1 and 3 one line, `nbt: ` and the reason, goes to standard error.";
+    "The capture is as `nbt show` takes it. Fragments of datagrams on port 138 are put together; \
+     packets that are refused{n}are passed over. A tick drops each key that came 2000 \
+     milliseconds or more before it. The table that is left is{n}printed in hexadecimal, as one \
+     line. With `--per-source N` one key more than N of one address is too many.{n}{n}Example: \
+     nbt build group 10.0.0.5:138/0001 'JOE<00>' 'FRED<20>' 616263 2 | nbt save{n}{n}Exit \
+     status: 0 all was done, 1 a line is malformed or there are too many keys, 2 the command \
+     line was bad, 3 a device{n}failed or memory ran out. With 1 and 3 one line, `nbt: ` and the \
+     reason, goes to standard error.";
 
 /// The tables that are joined, and how the program ends.
 pub const MERGE_HELP: &str =
-    "Each line is a saved table in hexadecimal, as `nbt save` prints it; the last line may \
-     lack its line feed. The join of{n}all tables is printed in hexadecimal, as one line. \
-     All lines are judged before any table is joined.{n}{n}Example: { nbt save < one; nbt \
-     save < other; } | nbt merge{n}{n}Exit status: 0 all was done, 1 a line is no table, \
-     there is none, or there are too many keys, 2 the command{n}line was bad, 3 a device \
-     failed or memory ran out. With 1 and 3 one line, `nbt: ` and the reason, goes \
-     to{n}standard error.";
+    "Each line is a saved table in hexadecimal, as `nbt save` prints it; the last line may lack \
+     its line feed. The join of{n}all tables is printed in hexadecimal, as one line. All lines \
+     are judged before any table is joined. `--keys` and{n}`--per-source` hold for each table \
+     and for their join.{n}{n}Example: { nbt save < one; nbt save < other; } | nbt \
+     merge{n}{n}Exit status: 0 all was done, 1 a line is no table, there is none, or there are \
+     too many keys, 2 the command line was{n}bad, 3 a device failed or memory ran out. With 1 \
+     and 3 one line, `nbt: ` and the reason, goes to standard error.";
 
 /// The tables whose keys are listed, and how the program ends.
 pub const LIST_HELP: &str =
     "Each line is a saved table in hexadecimal, as `nbt save` and `nbt merge` print it; the last \
-     line may lack its line feed.{n}The tables are joined. Each key that one of them has is a \
-     line, ascending:{n}KEY whole KIND SOURCE DESTINATION DATA, a datagram of which all is \
-     known;{n}KEY partial KIND SOURCE DESTINATION HELD/END RUNS, one of which HELD bytes of END \
-     are known (`?` where no fragment{n}said how many), in so many runs;{n}KEY spoilt, one whose \
-     fragments contradict each other.{n}All lines are judged before any table is \
-     joined.{n}{n}Example: { nbt save < one; nbt save < other; } | nbt list{n}{n}Exit status: 0 \
-     all was done, 1 a line is no table, there is none, or there are too many keys, 2 the \
-     command{n}line was bad, 3 a device failed or memory ran out. With 1 and 3 one line, `nbt: ` \
-     and the reason, goes to{n}standard error.";
+     line may lack its line feed.{n}The tables are joined; `--keys` and `--per-source` hold for \
+     each and for their join.{n}Each key that one of them has is a line, ascending:{n}KEY whole \
+     KIND SOURCE DESTINATION DATA, a datagram of which all is known;{n}KEY partial KIND SOURCE \
+     DESTINATION HELD/END RUNS, one of which HELD bytes of END are known (`?` where no \
+     fragment{n}said how many), in so many runs;{n}KEY spoilt, one whose fragments contradict \
+     each other.{n}All lines are judged before any table is joined.{n}{n}Example: { nbt save < \
+     one; nbt save < other; } | nbt list{n}{n}Exit status: 0 all was done, 1 a line is no table, \
+     there is none, or there are too many keys, 2 the command{n}line was bad, 3 a device failed \
+     or memory ran out. With 1 and 3 one line, `nbt: ` and the reason, goes to{n}standard error.";
 
 /// The tables that are compared, and how the program ends.
 pub const AGREE_HELP: &str =

@@ -1,23 +1,53 @@
-//! What the program's members are set up with.
-ghost use Rattle.std.specs.Prelude.{◌≡◌};
-ghost use Rattle.nbt.specs.Settings.{program_settings};
+//! What the program's members and tables are set up with.
+ghost use Rattle.std.specs.Prelude.{◌≡◌, IfOk, IfErr};
+ghost use Rattle.nbt.specs.Settings.{HasNoCapacity, IsCapacity, program_settings};
 
+use crate::fault::Fault;
+use clap::ArgMatches;
 use nb_member::Settings;
 
 /// The port of the datagram service (RFC 1002 section 4.4).
 pub const PORT: u16 = 138;
 
 /// The most bytes of a datagram.
-const LONGEST: u16 = 65_535;
+pub const LONGEST: u16 = 65_535;
 
-/// The settings of a member that holds this many keys, at 0.0.0.0 and the datagram service's port.
-pub fn settings_with(keys: u32) -> Settings
-    ensures { result ≡ program_settings keys }
+/// How much a table may hold.
+#[derive(Clone, Copy, Debug)]
+pub struct Capacity {
+    /// How many keys.
+    pub keys: u32,
+    /// How many keys of one address.
+    pub per_source: u32,
+}
+
+/// The capacity that the options say: as many keys as `--keys`, and of one address as many as
+/// `--per-source`, or 4,294,967,295 where that isn't given.
+///
+/// # Errors
+///
+/// [`Fault::Arguments`] where the words hold no number of keys.
+pub fn capacity_of(matches: &ArgMatches<'_>) -> Result<Capacity, Fault>
+    ensures given { IfOk result (IsCapacity matches.now) }
+    ensures fault { IfErr result (λ fault. fault ≡ Fault.Arguments) }
+    ensures none { IfErr result (λ _. HasNoCapacity (IsCapacity matches.now)) }
+{
+    let Some(keys) = matches.get_one::<u32>("keys") else {
+        return Err(Fault::Arguments);
+    };
+    let per_source = matches.get_one::<u32>("per-source").unwrap_or(u32::MAX);
+    Ok(Capacity { keys, per_source })
+}
+
+/// The settings of a member that may hold so much, at 0.0.0.0 and the datagram service's port.
+pub fn settings_with(capacity: Capacity) -> Settings
+    ensures { result ≡ program_settings capacity }
 {
     Settings {
         ip: [0, 0, 0, 0],
         port: PORT,
-        keys,
+        keys: capacity.keys,
+        per_source: capacity.per_source,
         longest: LONGEST,
     }
 }

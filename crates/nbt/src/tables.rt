@@ -7,15 +7,13 @@ ghost use Rattle.nbt.specs.Input.{WasCut};
 ghost use Rattle.nbt.specs.Tables.{AreTables, IsElsewhere, IsTableFault, IsTableLine, TablesFail};
 
 use crate::fault::Fault;
+use crate::settings::{Capacity, LONGEST};
 use nb_names::input::read_input;
 use nb_names::lines::split_line;
 use nb_names::{Counted, DigitsFault, bytes_of_digits};
 use nb_table::{LoadFault, Table, load};
 use std::alloc::Global;
 use std::io::Read;
-
-/// The most bytes of a datagram.
-const LONGEST: u16 = 65_535;
 
 /// The whole input.
 ///
@@ -55,17 +53,17 @@ pub fn count_lines(text: &[u8]) -> usize
     count
 }
 
-/// The tables that the lines of a text are, in order; each may hold so many keys.
+/// The tables that the lines of a text are, in order; each may hold so much.
 ///
 /// # Errors
 ///
 /// The first that is met, line by line: [`Fault::Line`] for a line that is empty or no hexadecimal,
 /// [`Fault::Load`] for one that is no saved table, or one over the limits; [`Fault::Memory`] where
 /// memory ran out.
-pub fn tables_of(alloc: Global, text: &[u8], keys: u32) -> Result<Vec<Table>, Fault>
-    ensures found { IfOk result (λ tables. AreTables keys text.now tables.items) }
+pub fn tables_of(alloc: Global, text: &[u8], capacity: Capacity) -> Result<Vec<Table>, Fault>
+    ensures found { IfOk result (λ tables. AreTables capacity text.now tables.items) }
     ensures fault { IfErr result (λ fault. fault ≢ Fault.Memory →
-        TablesFail keys text.now fault) }
+        TablesFail capacity text.now fault) }
     ensures no_read { IfErr result (λ fault. fault ≢ Fault.Read) }
     ensures no_write { IfErr result (λ fault. fault ≢ Fault.Write) }
 {
@@ -74,7 +72,7 @@ pub fn tables_of(alloc: Global, text: &[u8], keys: u32) -> Result<Vec<Table>, Fa
     let mut number = 0;
     while let Some((line, after)) = first_line(rest) {
         number += 1;
-        let table = table_of(alloc, number, line, keys)?;
+        let table = table_of(alloc, number, line, capacity)?;
         tables.push(table)?;
         rest = after;
     }
@@ -99,9 +97,9 @@ fn first_line(text: &[u8]) -> Option<(&[u8], &[u8])>
 }
 
 /// The table that line `number` is.
-fn table_of(alloc: Global, number: usize, line: &[u8], keys: u32) -> Result<Table, Fault>
-    ensures found { IfOk result (λ table. IsTableLine keys line.now table) }
-    ensures fault { IfErr result (IsTableFault keys number line.now) }
+fn table_of(alloc: Global, number: usize, line: &[u8], capacity: Capacity) -> Result<Table, Fault>
+    ensures found { IfOk result (λ table. IsTableLine capacity line.now table) }
+    ensures fault { IfErr result (IsTableFault capacity number line.now) }
     ensures no_read { IfErr result (λ fault. fault ≢ Fault.Read) }
     ensures no_write { IfErr result (λ fault. fault ≢ Fault.Write) }
 {
@@ -113,7 +111,13 @@ fn table_of(alloc: Global, number: usize, line: &[u8], keys: u32) -> Result<Tabl
         Err(DigitsFault::NoMemory) => return Err(Fault::Memory),
         Err(DigitsFault::BadDigits) => return Err(Fault::Line(number)),
     };
-    match load(alloc, bytes.as_slice(), keys, LONGEST) {
+    match load(
+        alloc,
+        bytes.as_slice(),
+        capacity.keys,
+        capacity.per_source,
+        LONGEST,
+    ) {
         Ok(table) => Ok(table),
         Err(LoadFault::NoMemory) => Err(Fault::Memory),
         Err(fault) => Err(Fault::Load(fault)),

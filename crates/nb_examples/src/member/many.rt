@@ -27,7 +27,7 @@ fn run_text(alloc: Global, member: &mut Member, events: &[Event]) -> Result<Stri
     match report.stop {
         None => handed_text(alloc, &report.deliveries),
         Some(RunStop::NoMemory) => Err(ExampleFault::NoMemory),
-        Some(RunStop::Full(_)) => Err(ExampleFault::BadWords),
+        Some(RunStop::FullSource(_) | RunStop::Full(_)) => Err(ExampleFault::BadWords),
     }
 }
 

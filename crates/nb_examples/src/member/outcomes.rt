@@ -56,7 +56,9 @@ fn with_key(
 pub fn refused_text(alloc: Global, fault: MemberFault) -> Result<String, ExampleFault> {
     let after = match fault {
         MemberFault::Packet(_, error) => answered_text(alloc, error)?,
-        MemberFault::Table(TableFault::Full(key)) => with_key(alloc, "", key, None)?,
+        MemberFault::Table(TableFault::FullSource(key) | TableFault::Full(key)) => {
+            with_key(alloc, "", key, None)?
+        }
         MemberFault::Table(_) => String::new(alloc),
     };
     Ok(format!(in alloc; "refused {fault}{after}")?)

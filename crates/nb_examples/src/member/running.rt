@@ -6,7 +6,7 @@ use crate::member::outcomes::{error_text, key_text};
 use crate::member::stations::{member_of, names_of, settings_of};
 use crate::member::steps::push_delivered;
 use crate::words::{Words, split};
-use nb_datagram::ErrorPackets;
+use nb_datagram::{ErrorPackets, Key};
 use nb_member::{Event, Pair, RunReport, RunStop, run, two_members};
 use nb_names::Bytes;
 use nb_table::Table;
@@ -103,13 +103,17 @@ fn report_text(alloc: Global, report: &RunReport, table: &Table) -> Result<Strin
 /// Why a run stopped, if it did.
 fn stop_text(alloc: Global, stop: Option<RunStop>) -> Result<String, ExampleFault> {
     match stop {
-        Some(RunStop::Full(key)) => {
-            let key = key_text(alloc, key)?;
-            Ok(format!(in alloc; ", stopped full {key}")?)
-        }
+        Some(RunStop::Full(key)) => stopped_at(alloc, "full", key),
+        Some(RunStop::FullSource(key)) => stopped_at(alloc, "full source", key),
         Some(RunStop::NoMemory) => Ok(String::from_str(alloc, ", stopped memory")?),
         None => Ok(String::new(alloc)),
     }
+}
+
+/// That a run stopped at a key for which there was no room.
+fn stopped_at(alloc: Global, why: &str, key: Key) -> Result<String, ExampleFault> {
+    let key = key_text(alloc, key)?;
+    Ok(format!(in alloc; ", stopped {why} {key}")?)
 }
 
 /// Adds error packets.

@@ -1,8 +1,9 @@
 //! Stations as words, and the names that they hold.
 //!
-//! A station is `NAMES/KEYS/LONGEST/ADDRESS`: its names, joined by `,`, or `none`, how many keys it
-//! may hold, how many bytes a datagram may have, and its address and port, as `10.0.0.9:138`. What
-//! is left out from the right on is 16 keys, 65,535 bytes, and 10.0.0.9:138.
+//! A station is `NAMES/CAPACITY/LONGEST/ADDRESS`: its names, joined by `,`, or `none`, how many
+//! keys it may hold, as `8`, or also how many of one address, as `8:2`, how many bytes a datagram
+//! may have, and its address and port, as `10.0.0.9:138`. What is left out from the right on is 16
+//! keys, 65,535 bytes, and 10.0.0.9:138.
 
 use crate::datagram::texts::kind_of;
 use crate::fault::ExampleFault;
@@ -23,7 +24,7 @@ pub fn member_of(alloc: Global, station: &str) -> Result<Member, ExampleFault> {
 /// The settings of a station.
 pub fn settings_of(station: &str) -> Result<Settings, ExampleFault> {
     let mut parts = station.split("/").skip(1);
-    let keys = Words::new(parts.next().unwrap_or("16")).number_32()?;
+    let (keys, per_source) = Words::new(parts.next().unwrap_or("16")).capacity()?;
     let longest = Words::new(parts.next().unwrap_or("65535")).number_16()?;
     let (ip, port) = split(parts.next().unwrap_or("10.0.0.9:138"), ":")?;
     let ip = Words::new(ip).address()?;
@@ -35,6 +36,7 @@ pub fn settings_of(station: &str) -> Result<Settings, ExampleFault> {
         ip,
         port,
         keys,
+        per_source,
         longest,
     })
 }

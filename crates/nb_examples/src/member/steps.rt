@@ -16,7 +16,7 @@ use std::alloc::Global;
 /// many keys it dropped, and `keys` asks how many keys are held.
 pub fn taken(alloc: Global, words: &mut Words<'_>) -> Result<String, ExampleFault> {
     let mut member = member_of(alloc, words.word()?)?;
-    let none = Table::new(alloc, 0, 0);
+    let none = Table::new(alloc, 0, 0, 0);
     let mut said = String::new(alloc);
     for step in words.rest().split(", ") {
         say_step(alloc, step, &mut member, &none, &mut said)?;

@@ -77,10 +77,11 @@ fn dropped(text: &str) -> Result<Dropped, ExampleFault> {
     }
 }
 
-/// Why a run stopped: `full KEY` or `memory`.
+/// Why a run stopped: `source KEY`, `full KEY` or `memory`.
 fn stop(text: &str) -> Result<RunStop, ExampleFault> {
     let mut words = Words::new(text);
     let stop = match words.word()? {
+        "source" => RunStop::FullSource(words.key()?),
         "full" => RunStop::Full(words.key()?),
         "memory" => RunStop::NoMemory,
         _ => return Err(ExampleFault::BadWords),

@@ -12,7 +12,7 @@ use std::alloc::Global;
 
 /// The first datagram that these payloads of port 138 come to, in whatever order they came.
 fn reassembled(alloc: Global, payloads: &[Bytes]) -> Option<Datagram> {
-    let mut table = Table::new(alloc, 1_024, 65_535);
+    let mut table = Table::new(alloc, 1_024, u32::MAX, 65_535);
     for payload in payloads {
         let Ok((packet, _used)) = decode(payload.as_slice()) else {
             continue;

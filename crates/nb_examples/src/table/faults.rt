@@ -7,7 +7,8 @@ use nb_table::{LoadFault, TableFault};
 use std::alloc::Global;
 
 /// `faults FAULT FAULT`: two faults of tables, as text, as `Debug` prints them, and whether they
-/// are equal. A fault is `misplaced`, `long`, `full KEY` or `memory`.
+/// are equal. A fault is `misplaced`, `long`, `source KEY`, `full KEY` or
+/// `memory`.
 pub fn table_faults(alloc: Global, words: &mut Words<'_>) -> Result<String, ExampleFault> {
     let one = table_fault_of(words)?;
     let other = table_fault_of(words)?;
@@ -19,6 +20,7 @@ fn table_fault_of(words: &mut Words<'_>) -> Result<TableFault, ExampleFault> {
     match words.word()? {
         "misplaced" => Ok(TableFault::MisplacedFirst),
         "long" => Ok(TableFault::TooLong),
+        "source" => Ok(TableFault::FullSource(words.key()?)),
         "full" => Ok(TableFault::Full(words.key()?)),
         "memory" => Ok(TableFault::NoMemory),
         _ => Err(ExampleFault::BadWords),
@@ -26,7 +28,8 @@ fn table_fault_of(words: &mut Words<'_>) -> Result<TableFault, ExampleFault> {
 }
 
 /// `load_faults FAULT FAULT`: two faults of `load`, as text, as `Debug` prints them, and whether
-/// they are equal. A fault is `magic`, `truncated`, `canonical AT`, `long`, `full` or `memory`.
+/// they are equal. A fault is `magic`, `truncated`, `canonical AT`, `long`, `source`, `full` or
+/// `memory`.
 pub fn load_faults(alloc: Global, words: &mut Words<'_>) -> Result<String, ExampleFault> {
     let one = load_fault_of(words)?;
     let other = load_fault_of(words)?;
@@ -40,6 +43,7 @@ fn load_fault_of(words: &mut Words<'_>) -> Result<LoadFault, ExampleFault> {
         "truncated" => Ok(LoadFault::Truncated),
         "canonical" => Ok(LoadFault::NotCanonical(words.size()?)),
         "long" => Ok(LoadFault::TooLong),
+        "source" => Ok(LoadFault::FullSource),
         "full" => Ok(LoadFault::Full),
         "memory" => Ok(LoadFault::NoMemory),
         _ => Err(ExampleFault::BadWords),

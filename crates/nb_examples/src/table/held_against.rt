@@ -77,7 +77,7 @@ fn difference(
 
 /// An empty table with room for the keys and the datagrams that are drawn.
 fn empty_table(alloc: Global) -> Table {
-    Table::new(alloc, 2, LONGEST)
+    Table::new(alloc, 2, u32::MAX, LONGEST)
 }
 
 /// The other key that is drawn.

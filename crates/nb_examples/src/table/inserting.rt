@@ -2,7 +2,9 @@
 
 use crate::datagram::texts::datagram_text;
 use crate::fault::ExampleFault;
-use crate::table::steps::{change_text, fault_text, insert_into, lent, push_part, step_of};
+use crate::table::steps::{
+    change_text, fault_text, insert_into, lent, new_table, push_part, step_of,
+};
 use crate::words::Words;
 use nb_datagram::Datagram;
 use nb_table::{Change, Table};
@@ -10,9 +12,7 @@ use std::alloc::Global;
 
 /// `insert TABLE`: what each insert answers.
 pub fn inserts(alloc: Global, words: &mut Words<'_>) -> Result<String, ExampleFault> {
-    let keys = words.number_32()?;
-    let longest = words.number_16()?;
-    let mut table = Table::new(alloc, keys, longest);
+    let mut table = new_table(alloc, words)?;
     insert_texts(alloc, &mut table, words.rest())
 }
 
@@ -37,9 +37,7 @@ fn insert_text(alloc: Global, table: &mut Table, step: &str) -> Result<String, E
 
 /// `handed TABLE`: the datagrams that the inserts hand over, `KIND KEY SOURCE DESTINATION BYTES`.
 pub fn handed(alloc: Global, words: &mut Words<'_>) -> Result<String, ExampleFault> {
-    let keys = words.number_32()?;
-    let longest = words.number_16()?;
-    let mut table = Table::new(alloc, keys, longest);
+    let mut table = new_table(alloc, words)?;
     let mut said = String::new(alloc);
     for step in words.rest().split_whitespace() {
         say_handed(alloc, &mut table, step, &mut said)?;

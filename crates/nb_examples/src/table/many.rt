@@ -106,7 +106,7 @@ fn half_piece<'a>(
 /// its own, the last one first, and then all of them once more.
 pub fn one_by_one(alloc: Global, words: &mut Words<'_>) -> Result<String, ExampleFault> {
     let bytes = words.bytes(alloc)?;
-    let mut table = Table::new(alloc, 1, u16::MAX);
+    let mut table = Table::new(alloc, 1, u32::MAX, u16::MAX);
     let mut answers = Answers::new(alloc);
     insert_backwards(alloc, &mut table, bytes.as_slice(), &mut answers)?;
     insert_backwards(alloc, &mut table, bytes.as_slice(), &mut answers)?;
@@ -136,10 +136,12 @@ fn insert_backwards(
     Ok(())
 }
 
-/// `flood KEYS COUNT`: what a table with so many keys answers to the first fragments of datagrams
-/// with the identifiers 1 to COUNT, and then to their last fragments; and how many keys it holds.
+/// `flood CAPACITY COUNT`: what a table that may hold so much answers to the first fragments of
+/// datagrams with the identifiers 1 to COUNT, and then to their last fragments; and how many keys
+/// it holds.
 pub fn flood(alloc: Global, words: &mut Words<'_>) -> Result<String, ExampleFault> {
-    let mut table = Table::new(alloc, words.number_32()?, u16::MAX);
+    let (keys, per_source) = words.capacity()?;
+    let mut table = Table::new(alloc, keys, per_source, u16::MAX);
     let count = words.number_16()?;
     let mut answers = Answers::new(alloc);
     for id in 1..=count {
@@ -184,7 +186,7 @@ fn merge_lasts(
 
 /// The table of the first or of the last pieces of so many datagrams of these bytes.
 fn half(alloc: Global, count: u16, bytes: &[u8], is_last: bool) -> Result<Table, ExampleFault> {
-    let mut table = Table::new(alloc, u32::from(count), u16::MAX);
+    let mut table = Table::new(alloc, u32::from(count), u32::MAX, u16::MAX);
     for id in 1..=count {
         put_half(alloc, &mut table, id, bytes, is_last)?;
     }
@@ -224,7 +226,7 @@ fn saved_text(alloc: Global, table: &Table) -> Result<String, ExampleFault> {
     let bytes = table.save()?;
     let size = bytes.as_slice().len();
     let front = text_of_bytes(alloc, bytes.as_slice().get(..8).unwrap_or(&[]))?;
-    let Ok(loaded) = load(alloc, bytes.as_slice(), u32::MAX, u16::MAX) else {
+    let Ok(loaded) = load(alloc, bytes.as_slice(), u32::MAX, u32::MAX, u16::MAX) else {
         return Err(ExampleFault::NoMemory);
     };
     let is_same = loaded.same(table);

@@ -111,12 +111,17 @@ pub fn all_lent<'a>(
     Ok(fragments)
 }
 
-/// The table of `KEYS LONGEST STEP ..`.
+/// The empty table of `CAPACITY LONGEST`.
+pub fn new_table(alloc: Global, words: &mut Words<'_>) -> Result<Table, ExampleFault> {
+    let (keys, per_source) = words.capacity()?;
+    let longest = words.number_16()?;
+    Ok(Table::new(alloc, keys, per_source, longest))
+}
+
+/// The table of `CAPACITY LONGEST STEP ..`.
 pub fn table_of(alloc: Global, text: &str) -> Result<Table, ExampleFault> {
     let mut words = Words::new(text);
-    let keys = words.number_32()?;
-    let longest = words.number_16()?;
-    let mut table = Table::new(alloc, keys, longest);
+    let mut table = new_table(alloc, &mut words)?;
     for step in words.rest().split_whitespace() {
         put_step(alloc, &mut table, step)?;
     }
@@ -186,7 +191,7 @@ pub fn change_text(alloc: Global, change: &Change) -> Result<String, ExampleFaul
 /// A fault as text, with the key where there is one.
 pub fn fault_text(alloc: Global, fault: TableFault) -> Result<String, ExampleFault> {
     match fault {
-        TableFault::Full(key) => {
+        TableFault::FullSource(key) | TableFault::Full(key) => {
             let key = key_text(alloc, key)?;
             Ok(format!(in alloc; "{fault} {key}")?)
         }

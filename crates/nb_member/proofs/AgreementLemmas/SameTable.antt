@@ -13,7 +13,7 @@ use Rattle.nb_member.specs.declared.event.Event.{Event}
 use Rattle.nb_member.specs.declared.pair.Pair.{Pair}
 use Rattle.nb_member.specs.declared.run_report.RunReport.{RunReport}
 use Rattle.nb_member.specs.declared.run_report.RunStop.{RunStop}
-use Rattle.nb_member.specs.declared.run_report.RunStop.TheVariants.{Full, NoMemory}
+use Rattle.nb_member.specs.declared.run_report.RunStop.TheVariants.{Full, FullSource, NoMemory}
 use Rattle.nb_member.specs.declared.settings.Settings.{Settings}
 use Rattle.nb_member.proofs.LiveLemmas.LiveTables.{cores-append}
 use Rattle.nb_member.specs.Agreement.{GiveTheSame, AreGivenTheSame, StoppedForMemory, TookAll, Agree}
@@ -98,7 +98,8 @@ ended : (settings : Settings) (L : List Timed) (rest : List Event) (stop : Optio
 ended settings L [] None stops memory limit = (refl, refl)
 ended settings L [] (Some stop) stops memory limit = absurd stops
 ended settings L (event ∷ later) None stops memory limit = absurd stops
-ended settings L (event ∷ later) (Some (Full k)) stops memory limit = absurd (limit event later k refl stops)
+ended settings L (event ∷ later) (Some (FullSource k)) stops memory limit = absurd (limit event later k refl stops.0)
+ended settings L (event ∷ later) (Some (Full k)) stops memory limit = absurd (limit event later k refl stops.0)
 ended settings L (event ∷ later) (Some NoMemory) stops memory limit = absurd (memory refl)
 
 -- ---- new members

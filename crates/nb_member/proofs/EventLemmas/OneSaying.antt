@@ -9,7 +9,7 @@ use Rattle.nb_datagram.specs.Fragment.{FragmentParts, core_of, reach, is_first}
 use Rattle.nb_datagram.specs.Packet.{IsPacket}
 use Rattle.nb_datagram.specs.DatagramFaults.{PacketFails}
 use Rattle.nb_table.specs.declared.fault.TableFault.{TableFault}
-use Rattle.nb_table.specs.declared.fault.TableFault.TheVariants.{MisplacedFirst, TooLong, Full, NoMemory}
+use Rattle.nb_table.specs.declared.fault.TableFault.TheVariants.{MisplacedFirst, TooLong, FullSource, Full, NoMemory}
 use Rattle.nb_table.specs.Insert.{IsMisplaced, Passes}
 use Rattle.nb_table.specs.Limits.{Limits}
 use Rattle.nb_member.specs.declared.event.Event.{Event}
@@ -32,6 +32,7 @@ pub record PacketsKnown : Type 0 where
 abbrev pub IsInvalid : ℕ → FragmentParts → TableFault → Type 0
 IsInvalid longest f MisplacedFirst = IsMisplaced f
 IsInvalid longest f TooLong = (is_first f.flags ≡ (f.offset == 0)) × (longest < reach (core_of f))
+IsInvalid longest f (FullSource k) = ⊥
 IsInvalid longest f (Full k) = ⊥
 IsInvalid longest f NoMemory = ⊥
 
@@ -39,6 +40,7 @@ IsInvalid longest f NoMemory = ⊥
 pub invalid_not : (l : Limits) (f : FragmentParts) (x : TableFault) → IsInvalid l.longest f x → Passes l f → ⊥
 invalid_not l f MisplacedFirst i v = i v.placed
 invalid_not l f TooLong i v = let past = i.1 in let within = v.short in omega (arith, past, within)
+invalid_not l f (FullSource k) i v = i
 invalid_not l f (Full k) i v = i
 invalid_not l f NoMemory i v = i
 
@@ -48,8 +50,10 @@ one_invalid longest f MisplacedFirst MisplacedFirst i j = refl
 one_invalid longest f MisplacedFirst TooLong i j = absurd (i j.0)
 one_invalid longest f TooLong MisplacedFirst i j = absurd (j i.0)
 one_invalid longest f TooLong TooLong i j = refl
+one_invalid longest f (FullSource k) y i j = absurd i
 one_invalid longest f (Full k) y i j = absurd i
 one_invalid longest f NoMemory y i j = absurd i
+one_invalid longest f x (FullSource k) i j = absurd j
 one_invalid longest f x (Full k) i j = absurd j
 one_invalid longest f x NoMemory i j = absurd j
 

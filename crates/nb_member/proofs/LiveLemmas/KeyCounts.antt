@@ -8,7 +8,11 @@ use Rattle.nb_datagram.specs.declared.key.Key.{Key}
 use Rattle.nb_datagram.specs.Key.{key_cmp, same_key}
 use Rattle.nb_datagram.specs.KeyOrder.{key_cmp_total, same_key_decides}
 use Rattle.nb_table.specs.Entry.{EntryValue}
+use Rattle.std.specs.Cmp.{unsigned_Decides}
+use Rattle.std.specs.Cmp.Lexicographic.{pointwise_decides}
 use Rattle.nb_table.specs.Contents.{Contents}
+use Rattle.nb_table.specs.KeyCounts.{held_keys, of_source}
+use Rattle.nb_table.specs.Lemmas.KeyCountLemmas.{held_is, get_kept}
 use Rattle.std.proofs.lemmas.Bool.{false≢true, cases_lt}
 
 pub cases_bool : (b : Bool) → (b ≡ true) ⊎ (b ≡ false)
@@ -95,3 +99,23 @@ fewer_keys_without a b k has lacks there =
     let some = positive b k there in
     let rest = fewer_keys a (maps.remove b k) (λ q h. key_stays b k q (has q h) (not_that a k q lacks h)) in
     omega (arith, one, some, rest)
+
+-- ---- keys of a group
+
+kept_too : (b : Bool) (x y : Option EntryValue) → (is_some x ≡ true → is_some y ≡ true) → is_some (cond b x None) ≡ true → is_some (cond b y None) ≡ true
+kept_too true x y f h = f h
+kept_too false x y f h = h
+
+-- the same of the keys of a group
+pub fewer_of_group : (p : Key → Bool) (a b : Contents) (k : Key) → HasKeysOf b a → maps.contains_key a k ≡ false
+    → maps.contains_key b k ≡ true → p k ≡ true → held_keys p a < held_keys p b
+fewer_of_group p a b k has lacks there of_p =
+    let fewer = fewer_keys_without (maps.retain_keys a p) (maps.retain_keys b p) k
+    (λ q h. ap is_some (get_kept b p q) ∙ kept_too (p q) (maps.get a q) (maps.get b q) (has q) (ap is_some (sym (get_kept a p q)) ∙ h))
+    (ap is_some (get_kept a p k) ∙ (ap (λ (c : Bool). is_some (cond c (maps.get a k) None)) of_p ∙ lacks))
+    (ap is_some (get_kept b p k) ∙ (ap (λ (c : Bool). is_some (cond c (maps.get b k) None)) of_p ∙ there)) in
+    omega (arith, held_is p a, held_is p b, fewer)
+
+-- a key is of its own address
+pub own_source : (k : Key) → of_source k.ip k ≡ true
+own_source k = (pointwise_decides unsigned_Decides k.ip k.ip).1 refl

@@ -1,5 +1,5 @@
 -- The fragments that are live, and the table that stands for them.
-use Rattle.std.proofs.Common.{◌≡◌, ℕ, ◌≤◌, Bool, true, false, not, ◌&&◌, cond, List, [], ◌∷◌, ◌++◌, refl, sym, ap, ◌∙◌, arith, Option, Some, None, inl, inr}
+use Rattle.std.proofs.Common.{◌≡◌, ℕ, Bool, true, false, not, ◌&&◌, ◌||◌, ◌⊎◌, subst, cond, List, [], ◌∷◌, ◌++◌, refl, sym, ap, ◌∙◌, arith, Option, Some, None, inl, inr}
 use Rattle.std.specs.Prelude.{filter, nat_le, is_some}
 use Rattle.std.specs.FinMap as maps
 use Rattle.std.proofs.lemmas.Bool.{false≢true}
@@ -16,10 +16,12 @@ use Rattle.nb_table.specs.Lemmas.SameLemmas.{le_is}
 use Rattle.nb_table.specs.Lemmas.TableLemmas.{get-join}
 use Rattle.nb_table.specs.Join.{join, SameCores}
 use Rattle.nb_member.specs.declared.settings.Settings.{Settings}
-use Rattle.nb_member.proofs.LiveLemmas.KeyCounts.{cases_bool, HasKeysOf, fewer_keys_without}
+use Rattle.nb_member.proofs.LiveLemmas.KeyCounts.{cases_bool, HasKeysOf, fewer_keys_without, fewer_of_group, own_source}
+use Rattle.std.specs.Prelude.{nat_le}
+use Rattle.nb_table.specs.KeyCounts.{held_keys, of_source}
 use Rattle.nb_member.specs.Events.{Saying, came, refused, another, clock}
-use Rattle.nb_member.specs.Live.{Timed, cores, table_from, is_full, NoneFull, live_after, live_from, live}
-use Rattle.nb_member.specs.Agreement.{valid, NoneDropped, GiveTheSame}
+use Rattle.nb_member.specs.Live.{Timed, cores, table_from, is_full, is_source_full, NoneFull, live_after, live_from, live}
+use Rattle.nb_member.specs.Agreement.{valid, NoneDropped, HasRoomFor, GiveTheSame}
 
 -- ---- lists of fragments
 
@@ -110,29 +112,39 @@ key_of_first known f V =
     ap is_some (known.entries (f ∷ V) f.key)
     ∙ first_is_known (same_key f.key f.key) f (with_key f.key V) ((same_key_decides f.key f.key).1 refl)
 
--- a fragment that meets the limit is of a new key, and as many are held
-full_parts : (has : Bool) (keys held : ℕ) → (not has && nat_le keys held) ≡ true → (has ≡ false) × (keys ≤ held)
-full_parts true keys held h = absurd (false≢true h)
-full_parts false keys held h = (refl, le_is keys held h)
+-- a fragment that meets a limit is of a new key, and as many are held
+full_parts : (has a b : Bool) → (not has && (a || b)) ≡ true → (has ≡ false) × ((a ≡ true) ⊎ (b ≡ true))
+full_parts true a b h = absurd (false≢true h)
+full_parts false true b h = (refl, inl refl)
+full_parts false false b h = (refl, inr h)
 
 -- a fragment has room where all keys together have
 room_for : TablesKnown → (settings : Settings) (L : List Timed) (f : FragmentParts) (V : List Core)
-    → maps.len (table_of (cores L ++ core_of f ∷ V)) ≤ settings.keys → is_full settings L f.key ≡ false
+    → HasRoomFor settings (table_of (cores L ++ core_of f ∷ V)) → is_full settings L f.key ≡ false
 room_for known settings L f V within =
     elim (cases_bool (is_full settings L f.key)) [
       | inr room ↦ room
       | inl full ↦
-          let parts = full_parts (maps.contains_key (table_from L) f.key) settings.keys (maps.len (table_from L)) full in
-          let more = fewer_keys_without (table_from L) (table_of (cores L ++ core_of f ∷ V)) f.key
-          (keys_of_first known (cores L) (core_of f ∷ V)) parts.0
-          (keys_of_second known (cores L) (core_of f ∷ V) f.key (key_of_first known (core_of f) V)) in
-          let held = parts.1 in
-          absurd (omega (arith, within, held, more))
+          let has = keys_of_first known (cores L) (core_of f ∷ V) in
+          let there = keys_of_second known (cores L) (core_of f ∷ V) f.key (key_of_first known (core_of f) V) in
+          let parts = full_parts (maps.contains_key (table_from L) f.key) (is_source_full settings L f.key) (nat_le settings.keys (maps.len (table_from L))) full in
+          elim parts.1 [
+            | inl source ↦
+                let more = fewer_of_group (of_source f.key.ip) (table_from L) (table_of (cores L ++ core_of f ∷ V)) f.key has parts.0 there (own_source f.key) in
+                let held = le_is settings.per_source (held_keys (of_source f.key.ip) (table_from L)) source in
+                let most = within.sources f.key.ip in
+                absurd (omega (arith, most, held, more))
+            | inr keys ↦
+                let more = fewer_keys_without (table_from L) (table_of (cores L ++ core_of f ∷ V)) f.key has parts.0 there in
+                let held = le_is settings.keys (maps.len (table_from L)) keys in
+                let most = within.keys in
+                absurd (omega (arith, most, held, more))
+          ]
     ]
 
 -- where all keys have room, no fragment meets the limit
 pub capacity_gives_room : TablesKnown → (settings : Settings) (L : List Timed) (S : List Saying)
-    → NoneDropped settings L S → maps.len (table_of (cores L ++ cores (valid S))) ≤ settings.keys
+    → NoneDropped settings L S → HasRoomFor settings (table_of (cores L ++ cores (valid S)))
     → NoneFull settings L S
 capacity_gives_room known settings L [] kept within = tt
 capacity_gives_room known settings L (came moment f ∷ S) kept within =
@@ -156,8 +168,8 @@ capacity_gives_room known settings L (clock now ∷ S) kept within =
 pub rooms : TablesKnown → (settings : Settings) (S T : List Saying) → GiveTheSame settings S T
     → NoneFull settings [] S × NoneFull settings [] T
 rooms known settings S T h =
-    let there : maps.len (table_of (cores (valid T))) ≤ settings.keys =
-    rw (sym (known.of_same (cores (valid S)) (cores (valid T)) h.same_fragments)) h.within_capacity in (
+    let there : HasRoomFor settings (table_of (cores (valid T))) =
+    subst (HasRoomFor settings) (known.of_same (cores (valid S)) (cores (valid T)) h.same_fragments) h.within_capacity in (
       capacity_gives_room known settings [] S h.none_dropped h.within_capacity,
       capacity_gives_room known settings [] T h.none_dropped_there there,
     )

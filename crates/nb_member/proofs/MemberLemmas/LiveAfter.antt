@@ -1,5 +1,5 @@
 -- Members stand for the fragments that are live: after a fragment, and after a look at the clock.
-use Rattle.std.proofs.Common.{◌≡◌, ℕ, ◌≤◌, Bool, true, false, not, ◌&&◌, cond, List, [], ◌∷◌, ◌++◌, refl, sym, ap, ◌∙◌, arith, Option, Some, None}
+use Rattle.std.proofs.Common.{◌≡◌, ℕ, ◌≤◌, Bool, true, false, not, ◌&&◌, ◌||◌, inl, inr, cond, List, [], ◌∷◌, ◌++◌, refl, sym, ap, ◌∙◌, arith, Option, Some, None}
 use Rattle.std.specs.Prelude.{filter, nat_le, is_some}
 use Rattle.std.specs.FinMap as maps
 use Rattle.std.proofs.lemmas.Bool.{false≢true}
@@ -11,24 +11,54 @@ use Rattle.nb_table.specs.ConflictTests.{keyed}
 use Rattle.nb_table.specs.Entry.{EntryValue}
 use Rattle.nb_table.specs.Contents.{Contents, table_of}
 use Rattle.nb_table.specs.Join.{join}
-use Rattle.nb_table.specs.Limits.{Limits, IsFull}
+use Rattle.nb_table.specs.KeyCounts.{held_keys, of_source}
+use Rattle.nb_table.specs.Limits.{Limits, IsFull, IsFullSource}
 use Rattle.nb_table.specs.Lemmas.SameLemmas.{le_is, is_le}
 use Rattle.nb_member.specs.declared.settings.Settings.{Settings}
 use Rattle.nb_member.proofs.MemberLemmas.DroppedKeys.{get-lasting}
+use Rattle.nb_member.proofs.LiveLemmas.KeyCounts.{cases_bool}
 use Rattle.nb_member.proofs.LiveLemmas.LiveTables.{cores-append, cores-filter}
 use Rattle.nb_member.specs.Events.{clock, limits_of}
-use Rattle.nb_member.specs.Live.{Timed, cores, table_from, start_at, is_over, outlives, is_full, live_after}
+use Rattle.nb_member.specs.Live.{Timed, cores, table_from, start_at, is_over, outlives, is_full, is_source_full, live_after}
 use Rattle.nb_member.specs.Member.{MemberValue, with_timed, StandsOver, Moments, begun, lasts, after_fragment, after_clock}
 
 -- ---- full keys
 
-full_from : (o : Option EntryValue) (keys held : ℕ) → o ≡ None → keys ≤ held → (not (is_some o) && nat_le keys held) ≡ true
-full_from None keys held h le = is_le keys held le
-full_from (Some x) keys held h le = absurd (cc)
+full_from : (o : Option EntryValue) (b : Bool) → o ≡ None → b ≡ true → (not (is_some o) && b) ≡ true
+full_from None b h full = full
+full_from (Some x) b h full = absurd (cc h)
 
-full_to : (o : Option EntryValue) (keys held : ℕ) → (not (is_some o) && nat_le keys held) ≡ true → (o ≡ None) × (keys ≤ held)
-full_to None keys held h = (refl, le_is keys held h)
-full_to (Some x) keys held h = absurd (false≢true h)
+full_to : (o : Option EntryValue) (b : Bool) → (not (is_some o) && b) ≡ true → (o ≡ None) × (b ≡ true)
+full_to None b h = (refl, h)
+full_to (Some x) b h = absurd (false≢true h)
+
+or_left : (a b : Bool) → a ≡ true → (a || b) ≡ true
+or_left true b h = refl
+or_left false b h = absurd (false≢true h)
+
+or_right : (a b : Bool) → b ≡ true → (a || b) ≡ true
+or_right true b h = refl
+or_right false b h = h
+
+or_second : (a b : Bool) → (a || b) ≡ true → a ≡ false → b ≡ true
+or_second true b h none = absurd (false≢true (sym none))
+or_second false b h none = h
+
+-- as many keys of an address as may be are held where as many are live
+source_is : (t : Contents) (l : Limits) (settings : Settings) (L : List Timed) (k : Key) → t ≡ table_from L
+    → l ≡ limits_of settings → l.per_source ≤ held_keys (of_source k.ip) t → is_source_full settings L k ≡ true
+source_is t l settings L k table limits most =
+    let per_source : l.per_source ≡ settings.per_source = ap (λ (x : Limits). x.per_source) limits in
+    let held : held_keys (of_source k.ip) t ≡ held_keys (of_source k.ip) (table_from L) = ap (held_keys (of_source k.ip)) table in
+    is_le settings.per_source (held_keys (of_source k.ip) (table_from L)) (omega (arith, per_source, held, most))
+
+is_source_is : (t : Contents) (l : Limits) (settings : Settings) (L : List Timed) (k : Key) → t ≡ table_from L
+    → l ≡ limits_of settings → is_source_full settings L k ≡ true → l.per_source ≤ held_keys (of_source k.ip) t
+is_source_is t l settings L k table limits full =
+    let per_source : l.per_source ≡ settings.per_source = ap (λ (x : Limits). x.per_source) limits in
+    let held : held_keys (of_source k.ip) t ≡ held_keys (of_source k.ip) (table_from L) = ap (held_keys (of_source k.ip)) table in
+    let most = le_is settings.per_source (held_keys (of_source k.ip) (table_from L)) full in
+    omega (arith, per_source, held, most)
 
 -- a key for which the table of what is live has no room is full
 pub full_is : (t : Contents) (l : Limits) (settings : Settings) (L : List Timed) (k : Key) → t ≡ table_from L
@@ -37,21 +67,53 @@ full_is t l settings L k table limits full =
     let keys : l.keys ≡ settings.keys = ap (λ (x : Limits). x.keys) limits in
     let held : maps.len t ≡ maps.len (table_from L) = ap (λ (u : Contents). maps.len u) table in
     let most = full.no_room in
-    full_from (maps.get (table_from L) k) settings.keys (maps.len (table_from L))
-    (ap (λ (u : Contents). maps.get u k) (sym table) ∙ full.is_new) (omega (arith, keys, held, most))
+    full_from (maps.get (table_from L) k) _
+    (ap (λ (u : Contents). maps.get u k) (sym table) ∙ full.is_new)
+    (or_right (is_source_full settings L k) _ (is_le settings.keys (maps.len (table_from L)) (omega (arith, keys, held, most))))
+
+-- and so is one whose address has no room
+pub source_full_is : (t : Contents) (l : Limits) (settings : Settings) (L : List Timed) (k : Key) → t ≡ table_from L
+    → l ≡ limits_of settings → IsFullSource l t k → (is_full settings L k ≡ true) × (is_source_full settings L k ≡ true)
+source_full_is t l settings L k table limits full =
+    let source = source_is t l settings L k table limits full.no_room in (
+      full_from (maps.get (table_from L) k) _ (ap (λ (u : Contents). maps.get u k) (sym table) ∙ full.is_new) (or_left _ (nat_le settings.keys (maps.len (table_from L))) source),
+      source,
+    )
 
 -- and the other way round
 pub is_full_is : (t : Contents) (l : Limits) (settings : Settings) (L : List Timed) (k : Key) → t ≡ table_from L
-    → l ≡ limits_of settings → is_full settings L k ≡ true → IsFull l t k
-is_full_is t l settings L k table limits full =
+    → l ≡ limits_of settings → is_full settings L k ≡ true → is_source_full settings L k ≡ false → IsFull l t k
+is_full_is t l settings L k table limits full none =
     let keys : l.keys ≡ settings.keys = ap (λ (x : Limits). x.keys) limits in
     let held : maps.len t ≡ maps.len (table_from L) = ap (λ (u : Contents). maps.len u) table in
-    let parts = full_to (maps.get (table_from L) k) settings.keys (maps.len (table_from L)) full in
-    let most = parts.1 in
+    let parts = full_to (maps.get (table_from L) k) _ full in
+    let most = le_is settings.keys (maps.len (table_from L)) (or_second (is_source_full settings L k) _ parts.1 none) in
     record {
       is_new = ap (λ (u : Contents). maps.get u k) table ∙ parts.0;
       no_room = omega (arith, keys, held, most);
     }
+
+pub is_source_full_is : (t : Contents) (l : Limits) (settings : Settings) (L : List Timed) (k : Key) → t ≡ table_from L
+    → l ≡ limits_of settings → is_full settings L k ≡ true → is_source_full settings L k ≡ true → IsFullSource l t k
+is_source_full_is t l settings L k table limits full source =
+    let parts = full_to (maps.get (table_from L) k) _ full in
+    record {
+      is_new = ap (λ (u : Contents). maps.get u k) table ∙ parts.0;
+      no_room = is_source_is t l settings L k table limits source;
+    }
+
+-- an address with room isn't full, and one that isn't full has room
+pub source_room_is : (t : Contents) (l : Limits) (settings : Settings) (L : List Timed) (k : Key) → t ≡ table_from L
+    → l ≡ limits_of settings → is_source_full settings L k ≡ false → IsFullSource l t k → ⊥
+source_room_is t l settings L k table limits none full =
+    false≢true (sym none ∙ source_is t l settings L k table limits full.no_room)
+
+pub is_source_room : (t : Contents) (l : Limits) (settings : Settings) (L : List Timed) (k : Key) → t ≡ table_from L
+    → l ≡ limits_of settings → maps.get t k ≡ None → (IsFullSource l t k → ⊥) → is_source_full settings L k ≡ false
+is_source_room t l settings L k table limits new room = elim (cases_bool (is_source_full settings L k)) [
+  | inr none ↦ none
+  | inl full ↦ absurd (room (record { is_new = new; no_room = is_source_is t l settings L k table limits full }))
+]
 
 -- ---- one fragment more
 

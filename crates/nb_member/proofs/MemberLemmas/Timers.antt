@@ -11,7 +11,7 @@ use Rattle.nb_table.specs.Maps.{joined_onto}
 use Rattle.nb_table.specs.Entry.{EntryValue, join_entry, facts_of}
 use Rattle.nb_table.specs.Contents.{Contents, table_of}
 use Rattle.nb_table.specs.Join.{join}
-use Rattle.nb_table.specs.Limits.{TableValue, IsFull}
+use Rattle.nb_table.specs.Limits.{TableValue, IsFull, IsFullSource}
 use Rattle.nb_table.specs.Insert.{Takes as TableTakes, NeedsNoMemory, Passes, with_fragment}
 use Rattle.nb_table.specs.Lemmas.TableLemmas.{same_table}
 use Rattle.nb_table.specs.Lemmas.FragmentLemmas.{join_one, needs_new}
@@ -80,9 +80,9 @@ undone t f new =
 
 -- a new key needs memory
 pub new_needs_memory : (t : TableValue) (f : FragmentParts) → TableTakes t f → maps.contains_key t.contents f.key ≡ false
-    → Passes t.limits f × (IsFull t.limits t.contents f.key → ⊥) × (NeedsNoMemory t.contents (core_of f) → ⊥)
+    → Passes t.limits f × (IsFull t.limits t.contents f.key → ⊥) × (NeedsNoMemory t.contents (core_of f) → ⊥) × (IsFullSource t.limits t.contents f.key → ⊥)
 new_needs_memory t f takes new =
-    (takes.passes, takes.room, needs_new t.contents (core_of f) (none_is (maps.get t.contents f.key) new))
+    (takes.passes, takes.room, needs_new t.contents (core_of f) (none_is (maps.get t.contents f.key) new), takes.source_room)
 
 -- the table that a fragment was joined to, once the new key is dropped again
 pub table_restored : (t u v : TableValue) (f : FragmentParts) (k : Key) → k ≡ f.key → u ≡ with_fragment t f

@@ -6,6 +6,8 @@ use Rattle.std.proofs.Math.Seq.{take-suc}
 use Rattle.nb_names.specs.Name.{NetbiosName}
 use Rattle.nb_datagram.specs.declared.key.Key.{Key}
 use Rattle.nb_datagram.specs.declared.packet.ErrorPacket.{ErrorPacket}
+use Rattle.nb_datagram.specs.declared.fault.DatagramFault.{DatagramFault}
+use Rattle.nb_datagram.specs.Fragment.{FragmentParts}
 use Rattle.nb_datagram.specs.Datagram.{DatagramParts}
 use Rattle.nb_table.specs.declared.fault.TableFault.{TableFault}
 use Rattle.nb_table.specs.declared.fault.TableFault.TheVariants as table_fault
@@ -16,7 +18,7 @@ use Rattle.nb_member.specs.declared.member_fault.MemberFault.TheVariants as faul
 use Rattle.nb_member.specs.declared.outcome.Outcome.{Outcome}
 use Rattle.nb_member.specs.declared.run_report.RunReport.{RunReport}
 use Rattle.nb_member.specs.declared.run_report.RunStop.{RunStop}
-use Rattle.nb_member.specs.declared.run_report.RunStop.TheVariants.{Full}
+use Rattle.nb_member.specs.declared.run_report.RunStop.TheVariants.{Full, FullSource}
 use Rattle.nb_member.specs.declared.settings.Settings.{Settings}
 use Rattle.nb_member.proofs.TakingLemmas.FullKeys.{stops_at, meets_none}
 use Rattle.nb_member.proofs.RunLemmas.RunSoFar.{RanOver, ran_none, ran_more, runs_from}
@@ -26,7 +28,7 @@ use Rattle.nb_member.specs.Taking.{Answers, Does, Takes}
 use Rattle.nb_member.specs.Deliveries.{delivery_in, error_in, made_by, errors_by}
 use Rattle.nb_member.specs.Hearing.{hears}
 use Rattle.nb_member.specs.Events.{Saying, came, refused, another, clock, Says, tick}
-use Rattle.nb_member.specs.Live.{Timed, is_full, HasRoom, live_after, live_from}
+use Rattle.nb_member.specs.Live.{Timed, is_full, is_source_full, HasRoom, live_after, live_from}
 use Rattle.nb_member.specs.Member.{MemberValue, StandsOver, with_timed, after_clock}
 use Rattle.nb_member.specs.Running.{refused_count, StopsAt, StopsBefore, Runs}
 use Rattle.nb_member.specs.Code.RunEvents.{noted, stop_of, HandedOut, HasTaken, RunsEvent}
@@ -61,13 +63,24 @@ not_counted settings names L (refused x) outcome a = absurd (cc)
 not_counted settings names L another outcome a = refl
 not_counted settings names L (clock now) outcome a = absurd a
 
--- a fault of the table that isn't Full
+-- a fault of the table that isn't Full or FullSource
 abbrev IsNotFull : MemberFault → Type 0
-IsNotFull x = (k : Key) → x ≡ fault.Table (table_fault.Full k) → ⊥
+IsNotFull x = (b : Bool) (k : Key) → x ≡ fault.Table (cond b (table_fault.FullSource k) (table_fault.Full k)) → ⊥
+
+packet_other : (x : DatagramFault) (error : Option ErrorPacket) → IsNotFull (fault.Packet x error)
+packet_other x error b k h = absurd (cc)
+
+misplaced_other : IsNotFull (fault.Table table_fault.MisplacedFirst)
+misplaced_other true k h = absurd (cc)
+misplaced_other false k h = absurd (cc)
+
+long_other : IsNotFull (fault.Table table_fault.TooLong)
+long_other true k h = absurd (cc)
+long_other false k h = absurd (cc)
 
 counted : (settings : Settings) (names : List NetbiosName) (L : List Timed) (s : Saying) (x : MemberFault) → IsNotFull x
     → Answers settings names L s (Err x) → 1 ≡ refused_count (s ∷ [])
-counted settings names L (came moment f) x other a = absurd (other f.key a.1)
+counted settings names L (came moment f) x other a = absurd (other (is_source_full settings L f.key) f.key a.1)
 counted settings names L (refused y) x other a = refl
 counted settings names L another x other a = absurd (cc)
 counted settings names L (clock now) x other a = absurd a
@@ -85,36 +98,62 @@ room_where_ok settings names L (clock now) outcome a = tt
 -- and so had what is refused otherwise than as full
 room_where_refused : (settings : Settings) (names : List NetbiosName) (L : List Timed) (s : Saying) (x : MemberFault) → IsNotFull x
     → Answers settings names L s (Err x) → HasRoom settings L s
-room_where_refused settings names L (came moment f) x other a = absurd (other f.key a.1)
+room_where_refused settings names L (came moment f) x other a = absurd (other (is_source_full settings L f.key) f.key a.1)
 room_where_refused settings names L (refused y) x other a = tt
 room_where_refused settings names L another x other a = tt
 room_where_refused settings names L (clock now) x other a = tt
 
 -- no payload is refused as full: it says a fragment
-never_full_of : (settings : Settings) (moment : ℕ) (payload : List ℕ) (k : Key)
-    → SaysOf settings moment payload (refused (fault.Table (table_fault.Full k))) → ⊥
-never_full_of settings moment payload k (of_fragment used f p v e) = absurd (cc)
-never_full_of settings moment payload k (of_invalid used f x p i e) =
-    let same : x ≡ table_fault.Full k = cc in
-    subst (λ (y : TableFault). IsInvalid settings.longest f y) same i
-never_full_of settings moment payload k (of_fault x p e) = absurd (cc)
-never_full_of settings moment payload k (of_error used q p e) = absurd (cc)
-never_full_of settings moment payload k (of_query used q p e) = absurd (cc)
+never_full_of : (settings : Settings) (moment : ℕ) (payload : List ℕ) (x : TableFault) → ((f : FragmentParts) → IsInvalid settings.longest f x → ⊥)
+    → SaysOf settings moment payload (refused (fault.Table x)) → ⊥
+never_full_of settings moment payload x valid (of_fragment used f p v e) = absurd (cc)
+never_full_of settings moment payload x valid (of_invalid used f y p i e) =
+    let same : y ≡ x = cc in
+    valid f (subst (λ (z : TableFault). IsInvalid settings.longest f z) same i)
+never_full_of settings moment payload x valid (of_fault y p e) = absurd (cc)
+never_full_of settings moment payload x valid (of_error used q p e) = absurd (cc)
+never_full_of settings moment payload x valid (of_query used q p e) = absurd (cc)
+
+-- which of the limits is met
+full_by : (b : Bool) (q k : Key) → ◌≡◌ {A = MemberFault} (fault.Table (table_fault.Full k)) (fault.Table (cond b (table_fault.FullSource q) (table_fault.Full q))) → (q ≡ k) × (b ≡ false)
+full_by true q k h = absurd (cc h)
+full_by false q k h = (cc, refl)
+
+source_by : (b : Bool) (q k : Key) → ◌≡◌ {A = MemberFault} (fault.Table (table_fault.FullSource k)) (fault.Table (cond b (table_fault.FullSource q) (table_fault.Full q))) → (q ≡ k) × (b ≡ true)
+source_by true q k h = (cc, refl)
+source_by false q k h = absurd (cc h)
 
 full_key : (settings : Settings) (names : List NetbiosName) (L : List Timed) (moment : ℕ) (payload : List ℕ) (s : Saying)
     (k : Key) → Says settings (Packet moment payload) s
     → Answers settings names L s (Err (fault.Table (table_fault.Full k)))
     → StopsAt settings L (Packet moment payload) (Full k)
 full_key settings names L moment payload (came at f) k says a =
-    let e = a.1 in
-    let same : f.key ≡ k = cc in
-    record { moment = at; f = f; says = says; key = same; full = subst (λ (j : Key). is_full settings L j ≡ true) same a.0 }
+    let by = full_by (is_source_full settings L f.key) f.key k a.1 in (
+      record { moment = at; f = f; says = says; key = by.0; full = subst (λ (j : Key). is_full settings L j ≡ true) by.0 a.0 },
+      subst (λ (j : Key). is_source_full settings L j ≡ false) by.0 by.1,
+    )
 full_key settings names L moment payload (refused x) k says a =
     let same : x ≡ fault.Table (table_fault.Full k) = cc in
-    absurd (never_full_of settings moment payload k (says_by settings (Packet moment payload) (refused (fault.Table (table_fault.Full k)))
+    absurd (never_full_of settings moment payload (table_fault.Full k) (λ f i. i) (says_by settings (Packet moment payload) (refused (fault.Table (table_fault.Full k)))
     (subst (λ (y : MemberFault). Says settings (Packet moment payload) (refused y)) same says)))
 full_key settings names L moment payload another k says a = absurd (cc)
 full_key settings names L moment payload (clock now) k says a = absurd a
+
+source_key : (settings : Settings) (names : List NetbiosName) (L : List Timed) (moment : ℕ) (payload : List ℕ) (s : Saying)
+    (k : Key) → Says settings (Packet moment payload) s
+    → Answers settings names L s (Err (fault.Table (table_fault.FullSource k)))
+    → StopsAt settings L (Packet moment payload) (FullSource k)
+source_key settings names L moment payload (came at f) k says a =
+    let by = source_by (is_source_full settings L f.key) f.key k a.1 in (
+      record { moment = at; f = f; says = says; key = by.0; full = subst (λ (j : Key). is_full settings L j ≡ true) by.0 a.0 },
+      subst (λ (j : Key). is_source_full settings L j ≡ true) by.0 by.1,
+    )
+source_key settings names L moment payload (refused x) k says a =
+    let same : x ≡ fault.Table (table_fault.FullSource k) = cc in
+    absurd (never_full_of settings moment payload (table_fault.FullSource k) (λ f i. i) (says_by settings (Packet moment payload) (refused (fault.Table (table_fault.FullSource k)))
+    (subst (λ (y : MemberFault). Says settings (Packet moment payload) (refused y)) same says)))
+source_key settings names L moment payload another k says a = absurd (cc)
+source_key settings names L moment payload (clock now) k says a = absurd a
 
 -- ---- one event
 
@@ -156,22 +195,30 @@ packet_step known m new L moment payload (Ok outcome) before after stands takes 
     (λ s a. room_where_ok m.settings m.names L s outcome a) d e
 packet_step known m new L moment payload (Err (fault.Packet x error)) before after stands takes d e =
     step_taken known m new L moment payload (Err (fault.Packet x error)) before after true stands takes (λ h. absurd (cc))
-    (λ s a. counted m.settings m.names L s (fault.Packet x error) (λ k h. absurd (cc)) a)
-    (λ s a. room_where_refused m.settings m.names L s (fault.Packet x error) (λ k h. absurd (cc)) a) d e
+    (λ s a. counted m.settings m.names L s (fault.Packet x error) (packet_other x error) a)
+    (λ s a. room_where_refused m.settings m.names L s (fault.Packet x error) (packet_other x error) a) d e
 packet_step known m new L moment payload (Err (fault.Table table_fault.MisplacedFirst)) before after stands takes d e =
     step_taken known m new L moment payload (Err (fault.Table table_fault.MisplacedFirst)) before after true stands takes (λ h. absurd (cc))
-    (λ s a. counted m.settings m.names L s (fault.Table table_fault.MisplacedFirst) (λ k h. absurd (cc)) a)
-    (λ s a. room_where_refused m.settings m.names L s (fault.Table table_fault.MisplacedFirst) (λ k h. absurd (cc)) a) d e
+    (λ s a. counted m.settings m.names L s (fault.Table table_fault.MisplacedFirst) misplaced_other a)
+    (λ s a. room_where_refused m.settings m.names L s (fault.Table table_fault.MisplacedFirst) misplaced_other a) d e
 packet_step known m new L moment payload (Err (fault.Table table_fault.TooLong)) before after stands takes d e =
     step_taken known m new L moment payload (Err (fault.Table table_fault.TooLong)) before after true stands takes (λ h. absurd (cc))
-    (λ s a. counted m.settings m.names L s (fault.Table table_fault.TooLong) (λ k h. absurd (cc)) a)
-    (λ s a. room_where_refused m.settings m.names L s (fault.Table table_fault.TooLong) (λ k h. absurd (cc)) a) d e
+    (λ s a. counted m.settings m.names L s (fault.Table table_fault.TooLong) long_other a)
+    (λ s a. room_where_refused m.settings m.names L s (fault.Table table_fault.TooLong) long_other a) d e
 packet_step known m new L moment payload (Err (fault.Table (table_fault.Full k))) before after stands takes d e =
     let answer : Result Outcome MemberFault = Err (fault.Table (table_fault.Full k)) in
     let s = known.says m new L moment payload answer stands takes in
     let does = known.does m new L moment payload answer s.0 stands s.1 takes (λ h. absurd (cc)) in (
       full_key m.settings m.names L moment payload s.0 k s.1 does.answers,
       known.keeps m new moment payload (fault.Table (table_fault.Full k)) takes,
+      unchanged before after d e,
+    )
+packet_step known m new L moment payload (Err (fault.Table (table_fault.FullSource k))) before after stands takes d e =
+    let answer : Result Outcome MemberFault = Err (fault.Table (table_fault.FullSource k)) in
+    let s = known.says m new L moment payload answer stands takes in
+    let does = known.does m new L moment payload answer s.0 stands s.1 takes (λ h. absurd (cc)) in (
+      source_key m.settings m.names L moment payload s.0 k s.1 does.answers,
+      known.keeps m new moment payload (fault.Table (table_fault.FullSource k)) takes,
       unchanged before after d e,
     )
 packet_step known m new L moment payload (Err (fault.Table table_fault.NoMemory)) before after stands takes d e = (
@@ -191,8 +238,8 @@ payload_step known m new L moment payload answer before after result stands take
     (packet_step known m new L moment payload answer before after stands takes d e)
 
 -- a payload for which there is no room to note an answer
-pub no_room_step : (m : MemberValue) (L : List Timed) (moment : ℕ) (payload : List ℕ) (full : Option Key) (before after : HandedOut)
-    → StandsOver m L → MatchOption full ((k : Key) → ¬ BeginsFull m payload k) (BeginsFull m payload)
+pub no_room_step : (m : MemberValue) (L : List Timed) (moment : ℕ) (payload : List ℕ) (full : Option RunStop) (before after : HandedOut)
+    → StandsOver m L → MatchOption full ((stop : RunStop) → ¬ BeginsFull m payload stop) (BeginsFull m payload)
     → after.deliveries ≡ before.deliveries → after.errors ≡ before.errors
     → RunsEvent m L (Packet moment payload) m before after (Err (stop_of full))
 no_room_step m L moment payload full before after stands h d e =

@@ -1,5 +1,5 @@
 -- Payloads for which a member's table has no room.
-use Rattle.std.proofs.Common.{◌≡◌, ℕ, true, List, sym, ap, subst, ◌∙◌, Option, Some, None}
+use Rattle.std.proofs.Common.{◌≡◌, ℕ, inl, inr, true, List, refl, sym, ap, subst, ◌∙◌, Option, Some, None}
 use Rattle.std.specs.Prelude.{MatchOption}
 use Rattle.std.proofs.lemmas.Bool.{false≢true}
 use Rattle.nb_datagram.specs.declared.key.Key.{Key}
@@ -12,75 +12,96 @@ use Rattle.nb_member.specs.declared.event.Event.TheVariants.{Packet}
 use Rattle.nb_member.specs.declared.settings.Settings.{Settings}
 use Rattle.nb_member.specs.Events as saying
 use Rattle.nb_member.proofs.EventLemmas.OneSaying.{SaysOf, of_fragment, of_invalid, of_fault, of_error, of_query, says_by}
-use Rattle.nb_member.proofs.MemberLemmas.LiveAfter.{full_is, is_full_is}
+use Rattle.nb_member.proofs.MemberLemmas.LiveAfter.{full_is, source_full_is, is_full_is, is_source_full_is, source_room_is, is_source_room}
+use Rattle.nb_member.proofs.LiveLemmas.KeyCounts.{cases_bool}
 use Rattle.nb_member.proofs.TakingLemmas.Payloads.{valid_is}
 use Rattle.nb_member.specs.Events.{Saying, came, limits_of, Says}
-use Rattle.nb_member.specs.Live.{Timed, HasRoom, is_full}
+use Rattle.nb_member.specs.Live.{Timed, HasRoom, is_full, is_source_full}
 use Rattle.nb_member.specs.Member.{MemberValue, contents, StandsOver}
 use Rattle.nb_member.specs.Code.RunEvents.{stop_of}
 use Rattle.nb_member.specs.Running.{MeetsLimit, StopsAt}
-use Rattle.nb_member.specs.Code.Members.{MeetsFull, BeginsFull}
+use Rattle.nb_member.specs.Code.Members.{IsFullAs, MeetsFull, BeginsFull}
+use Rattle.nb_member.specs.declared.run_report.RunStop.{RunStop}
+use Rattle.nb_member.specs.declared.run_report.RunStop.TheVariants.{Full, FullSource, NoMemory}
 
 passes_is : (l : Limits) (settings : Settings) (f : FragmentParts) → l ≡ limits_of settings → Passes (limits_of settings) f → Passes l f
 passes_is l settings f limits v = subst (λ (x : Limits). Passes x f) (sym limits) v
 
+-- a key that is full by one of the limits
+full_as : (m : MemberValue) (L : List Timed) (moment : ℕ) (payload : List ℕ) (f : FragmentParts) (stop : RunStop) → StandsOver m L
+    → Says m.settings (Packet moment payload) (came moment f) → IsFullAs m f.key stop → StopsAt m.settings L (Packet moment payload) stop
+full_as m L moment payload f (Full q) s says full =
+    let there = full_is (contents m) m.timed.table.limits m.settings L f.key s.table_is s.limits_are full.1 in
+    let room = is_source_room (contents m) m.timed.table.limits m.settings L f.key s.table_is s.limits_are full.1.is_new full.2 in (
+      record { moment = moment; f = f; says = says; key = sym full.0; full = ap (λ (j : Key). is_full m.settings L j) full.0 ∙ there },
+      ap (λ (j : Key). is_source_full m.settings L j) full.0 ∙ room,
+    )
+full_as m L moment payload f NoMemory s says full = absurd full
+full_as m L moment payload f (FullSource q) s says full =
+    let there = source_full_is (contents m) m.timed.table.limits m.settings L f.key s.table_is s.limits_are full.1 in (
+      record { moment = moment; f = f; says = says; key = sym full.0; full = ap (λ (j : Key). is_full m.settings L j) full.0 ∙ there.0 },
+      ap (λ (j : Key). is_source_full m.settings L j) full.0 ∙ there.1,
+    )
+
 -- a payload that begins with a fragment of a full key says a fragment that meets the limit
-meets_limit : (m : MemberValue) (L : List Timed) (moment : ℕ) (payload : List ℕ) (k : Key) → StandsOver m L
-    → BeginsFull m payload k → MeetsLimit m.settings L (Packet moment payload) k
-meets_limit m L moment payload k s b = record {
-  moment = moment;
-  f = b.f;
-  says = saying.fragment moment b.used payload b.f b.found (valid_is m.timed.table.limits m.settings b.f s.limits_are b.meets.passes);
-  key = b.key;
-  full = ap (λ (j : Key). is_full m.settings L j) (sym b.key)
-      ∙ full_is (contents m) m.timed.table.limits m.settings L b.f.key s.table_is s.limits_are b.meets.full;
-}
+meets_limit : (m : MemberValue) (L : List Timed) (moment : ℕ) (payload : List ℕ) (stop : RunStop) → StandsOver m L
+    → BeginsFull m payload stop → StopsAt m.settings L (Packet moment payload) stop
+meets_limit m L moment payload stop s b =
+    full_as m L moment payload b.f stop s
+    (saying.fragment moment b.used payload b.f b.found (valid_is m.timed.table.limits m.settings b.f s.limits_are b.meets.passes)) b.meets.full
 
 -- and the other way round
+as_full : (m : MemberValue) (L : List Timed) (k : Key) → StandsOver m L → is_full m.settings L k ≡ true → (stop : RunStop) × IsFullAs m k stop
+as_full m L k s full = elim (cases_bool (is_source_full m.settings L k)) [
+  | inl source ↦ (FullSource k, (refl, is_source_full_is (contents m) m.timed.table.limits m.settings L k s.table_is s.limits_are full source))
+  | inr none ↦ (
+    Full k,
+    (refl, is_full_is (contents m) m.timed.table.limits m.settings L k s.table_is s.limits_are full none, source_room_is (contents m) m.timed.table.limits m.settings L k s.table_is s.limits_are none),
+  )
+]
+
 begins_of : (m : MemberValue) (L : List Timed) (moment at : ℕ) (payload : List ℕ) (f : FragmentParts) (k : Key) → StandsOver m L
-    → SaysOf m.settings moment payload (came at f) → f.key ≡ k → is_full m.settings L k ≡ true → BeginsFull m payload k
+    → SaysOf m.settings moment payload (came at f) → f.key ≡ k → is_full m.settings L k ≡ true → (stop : RunStop) × BeginsFull m payload stop
 begins_of m L moment at payload f k s (of_fragment used g p v e) key full =
     let same : g ≡ f = cc in
     let key_is : g.key ≡ k = ap (λ (x : FragmentParts). x.key) same ∙ key in
-    record {
-      f = g;
-      used = used;
-      found = p;
-      meets = record {
-        passes = passes_is m.timed.table.limits m.settings g s.limits_are v;
-        full = is_full_is (contents m) m.timed.table.limits m.settings L g.key s.table_is s.limits_are
-            (ap (λ (j : Key). is_full m.settings L j) key_is ∙ full);
-      };
-      key = key_is;
-    }
+    let met = as_full m L g.key s (ap (λ (j : Key). is_full m.settings L j) key_is ∙ full) in (
+      met.0,
+      record {
+        f = g;
+        used = used;
+        found = p;
+        meets = record { passes = passes_is m.timed.table.limits m.settings g s.limits_are v; full = met.1 };
+      },
+    )
 begins_of m L moment at payload f k s (of_invalid used g x p i e) key full = absurd (cc)
 begins_of m L moment at payload f k s (of_fault x p e) key full = absurd (cc)
 begins_of m L moment at payload f k s (of_error used q p e) key full = absurd (cc)
 begins_of m L moment at payload f k s (of_query used q p e) key full = absurd (cc)
 
 begins_full : (m : MemberValue) (L : List Timed) (moment : ℕ) (payload : List ℕ) (k : Key) → StandsOver m L
-    → MeetsLimit m.settings L (Packet moment payload) k → BeginsFull m payload k
+    → MeetsLimit m.settings L (Packet moment payload) k → (stop : RunStop) × BeginsFull m payload stop
 begins_full m L moment payload k s h =
     begins_of m L moment h.moment payload h.f k s (says_by m.settings (Packet moment payload) (came h.moment h.f) h.says) h.key h.full
 
 -- a payload begins with one fragment
-pub begins_by : (m : MemberValue) (payload : List ℕ) (f : FragmentParts) (used : ℕ) (full : Option Key)
+pub begins_by : (m : MemberValue) (payload : List ℕ) (f : FragmentParts) (used : ℕ) (met : Option RunStop)
     → IsPacket payload (Direct f) used
     → ((g : FragmentParts) (behind : ℕ) → IsPacket payload (Direct g) behind → Direct f ≡ Direct g)
-    → MatchOption full (¬ MeetsFull m f) (λ k. MeetsFull m f × (f.key ≡ k))
-    → MatchOption full ((k : Key) → ¬ BeginsFull m payload k) (BeginsFull m payload)
-begins_by m payload f used None found only h = λ k b.
+    → MatchOption met ((stop : RunStop) → ¬ MeetsFull m f stop) (MeetsFull m f)
+    → MatchOption met ((stop : RunStop) → ¬ BeginsFull m payload stop) (BeginsFull m payload)
+begins_by m payload f used None found only h = λ stop b.
     let one = only b.f b.used b.found in
     let same : b.f ≡ f = cc in
-    h (subst (λ (g : FragmentParts). MeetsFull m g) same b.meets)
-begins_by m payload f used (Some k) found only h = record { f = f; used = used; found = found; meets = h.0; key = h.1 }
+    h stop (subst (λ (g : FragmentParts). MeetsFull m g stop) same b.meets)
+begins_by m payload f used (Some stop) found only h = record { f = f; used = used; found = found; meets = h }
 
 -- so a run stops before a payload where there is no room to note an answer
-pub stops_at : (m : MemberValue) (L : List Timed) (moment : ℕ) (payload : List ℕ) (full : Option Key) → StandsOver m L
-    → MatchOption full ((k : Key) → ¬ BeginsFull m payload k) (BeginsFull m payload)
-    → StopsAt m.settings L (Packet moment payload) (stop_of full)
-stops_at m L moment payload None s h = (tt, λ k meets. h k (begins_full m L moment payload k s meets))
-stops_at m L moment payload (Some k) s h = meets_limit m L moment payload k s h
+pub stops_at : (m : MemberValue) (L : List Timed) (moment : ℕ) (payload : List ℕ) (met : Option RunStop) → StandsOver m L
+    → MatchOption met ((stop : RunStop) → ¬ BeginsFull m payload stop) (BeginsFull m payload)
+    → StopsAt m.settings L (Packet moment payload) (stop_of met)
+stops_at m L moment payload None s h = (tt, λ k meets. (let b = begins_full m L moment payload k s meets in h b.0 b.1))
+stops_at m L moment payload (Some stop) s h = meets_limit m L moment payload stop s h
 
 -- where what an event says has room, it meets no limit
 pub meets_none : (settings : Settings) (L : List Timed) (moment : ℕ) (payload : List ℕ)

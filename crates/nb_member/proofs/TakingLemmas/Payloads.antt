@@ -1,15 +1,15 @@
 -- A member that stands for fragments does what its events say.
-use Rattle.std.proofs.Common.{◌≡◌, ℕ, Bool, true, false, cond, List, [], ◌∷◌, ◌++◌, refl, sym, ap, arith, subst, inl, inr, Result, Ok, Err}
+use Rattle.std.proofs.Common.{◌≡◌, ◌∙◌, ℕ, Bool, true, false, cond, List, [], ◌∷◌, ◌++◌, refl, sym, ap, arith, subst, inl, inr, Result, Ok, Err}
 use Rattle.nb_datagram.specs.declared.key.Key.{Key}
 use Rattle.nb_datagram.specs.declared.packet.Packet.TheVariants.{Direct}
 use Rattle.nb_datagram.specs.Fragment.{FragmentParts, Core}
 use Rattle.nb_datagram.specs.Packet.{IsPacket}
-use Rattle.nb_table.specs.declared.fault.TableFault.TheVariants.{MisplacedFirst, TooLong, Full, NoMemory}
+use Rattle.nb_table.specs.declared.fault.TableFault.TheVariants.{MisplacedFirst, TooLong, FullSource, Full, NoMemory}
 use Rattle.nb_table.specs.Change.{IsChange}
 use Rattle.nb_table.specs.Contents.{Contents, table_of}
 use Rattle.nb_table.specs.Insert.{Passes}
 use Rattle.nb_table.specs.Join.{join}
-use Rattle.nb_table.specs.Limits.{Limits}
+use Rattle.nb_table.specs.Limits.{Limits, IsFull, IsFullSource}
 use Rattle.nb_member.specs.declared.event.Event.TheVariants.{Packet}
 use Rattle.nb_member.specs.declared.member_fault.MemberFault.{MemberFault}
 use Rattle.nb_member.specs.declared.member_fault.MemberFault.TheVariants as fault
@@ -19,13 +19,12 @@ use Rattle.nb_member.specs.Events as saying
 use Rattle.nb_member.specs.Taking as taking
 use Rattle.nb_member.proofs.LiveLemmas.KeyCounts.{cases_bool}
 use Rattle.nb_member.proofs.EventLemmas.OneSaying.{PacketsKnown, one_saying}
-use Rattle.nb_member.proofs.MemberLemmas.LiveAfter.{full_is, is_full_is, stands_more}
+use Rattle.nb_member.proofs.MemberLemmas.LiveAfter.{full_is, source_full_is, is_full_is, is_source_full_is, is_source_room, stands_more}
 use Rattle.nb_member.specs.Taking.{Answers, Does, IsTaken, TakesFragment, Takes}
 use Rattle.nb_member.specs.Events.{Saying, came, refused, another, limits_of, Says}
-use Rattle.nb_member.specs.Live.{Timed, HasRoom, table_from, is_full, live_after}
+use Rattle.nb_member.specs.Live.{Timed, HasRoom, table_from, is_full, is_source_full, live_after}
 use Rattle.nb_member.specs.Member.{MemberValue, contents, StandsOver}
 use Rattle.nb_member.specs.Hearing.{refusal}
-use Rattle.nb_member.specs.Code.Members.{IsFullAt}
 
 -- tables of two lists, one after the other
 abbrev pub TablesJoin : Type 0
@@ -56,19 +55,21 @@ pub live_same : (settings : Settings) (L : List Timed) (moment : ℕ) (f : Fragm
 live_same settings L moment f full =
     ap (λ (b : Bool). cond b L (L ++ record { moment = moment; fragment = f } ∷ [])) full
 
-has_room : (m : MemberValue) (L : List Timed) (f : FragmentParts) → StandsOver m L → (IsFullAt m f.key → ⊥)
-    → is_full m.settings L f.key ≡ false
-has_room m L f s not_full =
+has_room : (m : MemberValue) (L : List Timed) (f : FragmentParts) → StandsOver m L → (IsFullSource m.timed.table.limits (contents m) f.key → ⊥)
+    → (IsFull m.timed.table.limits (contents m) f.key → ⊥) → is_full m.settings L f.key ≡ false
+has_room m L f s not_source not_full =
     elim (cases_bool (is_full m.settings L f.key)) [
       | inr room ↦ room
-      | inl full ↦
-          absurd (not_full (is_full_is (contents m) m.timed.table.limits m.settings L f.key s.table_is s.limits_are full))
+      | inl full ↦ elim (cases_bool (is_source_full m.settings L f.key)) [
+        | inl source ↦ absurd (not_source (is_source_full_is (contents m) m.timed.table.limits m.settings L f.key s.table_is s.limits_are full source))
+        | inr none ↦ absurd (not_full (is_full_is (contents m) m.timed.table.limits m.settings L f.key s.table_is s.limits_are full none))
+      ]
     ]
 
 does_taken : TablesJoin → (m : MemberValue) (L : List Timed) (moment : ℕ) (f : FragmentParts) (new : MemberValue)
     (outcome : Outcome) → StandsOver m L → IsTaken m moment f new outcome → Does m L (came moment f) new (Ok outcome)
 does_taken of_two m L moment f new outcome s t =
-    let room = has_room m L f s t.takes.room in
+    let room = has_room m L f s t.takes.source_room t.takes.room in
     let more = L ++ record { moment = moment; fragment = f } ∷ [] in
     let next = live_more m.settings L moment f room in
     let over : StandsOver new more =
@@ -107,7 +108,7 @@ fragment_says_and_does of_two m L moment used payload f new (Ok outcome) p s t =
   said = came moment f;
   says = saying.fragment moment used payload f p (valid_is m.timed.table.limits m.settings f s.limits_are t.takes.passes);
   does = λ memory. does_taken of_two m L moment f new outcome s t;
-  room = λ h. has_room m L f s t.takes.room;
+  room = λ h. has_room m L f s t.takes.source_room t.takes.room;
 }
 fragment_says_and_does of_two m L moment used payload f new (Err (fault.Packet x error)) p s t = absurd t
 fragment_says_and_does of_two m L moment used payload f new (Err (fault.Table MisplacedFirst)) p s t = record {
@@ -127,20 +128,32 @@ fragment_says_and_does of_two m L moment used payload f new (Err (fault.Table To
     }
 fragment_says_and_does of_two m L moment used payload f new (Err (fault.Table (Full k))) p s t =
     let full = full_is (contents m) m.timed.table.limits m.settings L f.key s.table_is s.limits_are t.0.1.1 in
+    let none = is_source_room (contents m) m.timed.table.limits m.settings L f.key s.table_is s.limits_are t.0.1.1.is_new t.0.1.2 in
     record {
       said = came moment f;
       says = saying.fragment moment used payload f p (valid_is m.timed.table.limits m.settings f s.limits_are t.0.0);
       does = λ memory.
           same_member m new L (came moment f) (Err (fault.Table (Full k))) t.1
           (subst (λ (M : List Timed). StandsOver m M) (sym (live_same m.settings L moment f full)) s)
-          (full, ap (λ (j : Key). fault.Table (Full j)) t.0.1.0);
+          (full, ap (λ (j : Key). fault.Table (Full j)) t.0.1.0 ∙ sym (ap (λ (b : Bool). fault.Table (cond b (FullSource f.key) (Full f.key))) none));
+      room = λ h. absurd (cc);
+    }
+fragment_says_and_does of_two m L moment used payload f new (Err (fault.Table (FullSource k))) p s t =
+    let full = source_full_is (contents m) m.timed.table.limits m.settings L f.key s.table_is s.limits_are t.0.1.1 in
+    record {
+      said = came moment f;
+      says = saying.fragment moment used payload f p (valid_is m.timed.table.limits m.settings f s.limits_are t.0.0);
+      does = λ memory.
+          same_member m new L (came moment f) (Err (fault.Table (FullSource k))) t.1
+          (subst (λ (M : List Timed). StandsOver m M) (sym (live_same m.settings L moment f full.0)) s)
+          (full.0, ap (λ (j : Key). fault.Table (FullSource j)) t.0.1.0 ∙ sym (ap (λ (b : Bool). fault.Table (cond b (FullSource f.key) (Full f.key))) full.1));
       room = λ h. absurd (cc);
     }
 fragment_says_and_does of_two m L moment used payload f new (Err (fault.Table NoMemory)) p s t = record {
   said = came moment f;
   says = saying.fragment moment used payload f p (valid_is m.timed.table.limits m.settings f s.limits_are t.0.0);
   does = λ memory. absurd (memory refl);
-  room = λ h. has_room m L f s t.0.1.0;
+  room = λ h. has_room m L f s t.0.1.2 t.0.1.0;
 }
 
 -- ---- payloads

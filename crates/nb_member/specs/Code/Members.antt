@@ -7,8 +7,10 @@ use Rattle.nb_datagram.specs.declared.key.Key.{Key}
 use Rattle.nb_datagram.specs.declared.packet.Packet.TheVariants.{Direct}
 use Rattle.nb_datagram.specs.Fragment.{FragmentParts}
 use Rattle.nb_datagram.specs.Packet.{IsPacket}
-use Rattle.nb_table.specs.Limits.{IsFull}
+use Rattle.nb_table.specs.Limits.{IsFull, IsFullSource}
 use Rattle.nb_table.specs.Insert.{Passes}
+use Rattle.nb_member.specs.declared.run_report.RunStop.{RunStop}
+use Rattle.nb_member.specs.declared.run_report.RunStop.TheVariants.{Full, FullSource, NoMemory}
 use Rattle.nb_member.specs.declared.settings.Settings.{Settings}
 use Rattle.nb_member.specs.Member.{TimedValue, MemberValue, contents}
 use Rattle.nb_member.specs.Code.Timers.{timed_code}
@@ -16,9 +18,10 @@ use Rattle.nb_member.specs.Code.Timers.{timed_code}
 -- settings as the tuple of their fields
 abbrev pub settings_code : Coded Settings
 settings_code =
-    code_by (List ℕ × (ℕ × (ℕ × ℕ))) (coded× (coded_list coded_ℕ) (coded× coded_ℕ (coded× coded_ℕ coded_ℕ)))
-    (λ s. (s.ip, (s.port, (s.keys, s.longest))))
-    (λ p. record { ip = p.0; port = p.1.0; keys = p.1.1.0; longest = p.1.1.1 }) (λ _. refl)
+    code_by (List ℕ × (ℕ × (ℕ × (ℕ × ℕ))))
+    (coded× (coded_list coded_ℕ) (coded× coded_ℕ (coded× coded_ℕ (coded× coded_ℕ coded_ℕ))))
+    (λ s. (s.ip, (s.port, (s.keys, (s.per_source, s.longest)))))
+    (λ p. record { ip = p.0; port = p.1.0; keys = p.1.1.0; per_source = p.1.1.1.0; longest = p.1.1.1.1 }) (λ _. refl)
 
 -- a member as the tuple of its parts
 abbrev pub member_code : Coded MemberValue
@@ -34,19 +37,21 @@ KeepsStation m new = (new.settings ≡ m.settings) × (new.names ≡ m.names)
 
 -- ---- payloads for which there is no room
 
--- IsFullAt m k: the member's table has no room for the key k
-abbrev pub IsFullAt : MemberValue → Key → Type 0
-IsFullAt m k = IsFull m.timed.table.limits (contents m) k
+-- IsFullAs m k stop: the member's table has no room for the key k, by this of its limits
+abbrev pub IsFullAs : MemberValue → Key → RunStop → Type 0
+IsFullAs m k (Full q) =
+    (q ≡ k) × IsFull m.timed.table.limits (contents m) k × (IsFullSource m.timed.table.limits (contents m) k → ⊥)
+IsFullAs m k NoMemory = ⊥
+IsFullAs m k (FullSource q) = (q ≡ k) × IsFullSource m.timed.table.limits (contents m) k
 
--- MeetsFull m f: the fragment f passes, and the member m has no room for its key
-pub record MeetsFull (m : MemberValue) (f : FragmentParts) : Type 0 where
+-- MeetsFull m f stop: the fragment f passes, and the member m has no room for its key, by this of its limits
+pub record MeetsFull (m : MemberValue) (f : FragmentParts) (stop : RunStop) : Type 0 where
   pub passes : Passes m.timed.table.limits f
-  pub full : IsFullAt m f.key
+  pub full : IsFullAs m f.key stop
 
--- BeginsFull m payload k: the payload begins with such a fragment, which has the key k
-pub record BeginsFull (m : MemberValue) (payload : List ℕ) (k : Key) : Type 0 where
+-- BeginsFull m payload stop: the payload begins with such a fragment
+pub record BeginsFull (m : MemberValue) (payload : List ℕ) (stop : RunStop) : Type 0 where
   pub f : FragmentParts
   pub used : ℕ
   pub found : IsPacket payload (Direct f) used
-  pub meets : MeetsFull m f
-  pub key : f.key ≡ k
+  pub meets : MeetsFull m f stop

@@ -2,14 +2,13 @@
 use Rattle.std.specs.Prelude.{Bool, true, false, Result, Ok, Err, List, ◌≡◌, ◌++◌, cond, [], ◌∷◌, filter, Option, Some, None}
 use Rattle.nb_names.specs.Name.{NetbiosName}
 use Rattle.nb_datagram.specs.declared.packet.ErrorPacket.{ErrorPacket}
-use Rattle.nb_datagram.specs.declared.key.Key.{Key}
 use Rattle.nb_datagram.specs.Datagram.{DatagramParts}
 use Rattle.nb_table.specs.declared.fault.TableFault.TheVariants as table_fault
 use Rattle.nb_member.specs.declared.member_fault.MemberFault.{MemberFault}
 use Rattle.nb_member.specs.declared.member_fault.MemberFault.TheVariants.{Packet, Table}
 use Rattle.nb_member.specs.declared.outcome.Outcome.{Outcome}
 use Rattle.nb_member.specs.declared.run_report.RunStop.{RunStop}
-use Rattle.nb_member.specs.declared.run_report.RunStop.TheVariants.{Full, NoMemory}
+use Rattle.nb_member.specs.declared.run_report.RunStop.TheVariants.{Full, FullSource, NoMemory}
 use Rattle.nb_member.specs.declared.event.Event.{Event}
 use Rattle.nb_member.specs.declared.settings.Settings.{Settings}
 use Rattle.nb_member.specs.Deliveries.{made_by, errors_by}
@@ -25,6 +24,7 @@ noted (Ok outcome) = Ok false
 noted (Err (Packet fault error)) = Ok true
 noted (Err (Table table_fault.MisplacedFirst)) = Ok true
 noted (Err (Table table_fault.TooLong)) = Ok true
+noted (Err (Table (table_fault.FullSource k))) = Err (FullSource k)
 noted (Err (Table (table_fault.Full k))) = Err (Full k)
 noted (Err (Table table_fault.NoMemory)) = Err NoMemory
 
@@ -46,10 +46,10 @@ pub record HasTaken (settings : Settings) (names : List NetbiosName) (L : List T
   pub errors : after.errors ≡ before.errors ++ errors_by settings names L said
   pub count : cond refused 1 0 ≡ refused_count (said ∷ [])
 
--- why a run stops before an event for which there is no room to note an answer, by the key that is full, if
--- there is one
-abbrev pub stop_of : Option Key → RunStop
-stop_of (Some k) = Full k
+-- why a run stops before an event for which there is no room to note an answer: it meets a limit on keys, or
+-- else memory ran out
+abbrev pub stop_of : Option RunStop → RunStop
+stop_of (Some stop) = stop
 stop_of None = NoMemory
 
 -- RunsEvent m L event new before after result: what a run makes of one event in the member m, which stands for L:

@@ -18,8 +18,8 @@ impl Member {
     ///
     /// # Errors
     ///
-    /// `TooLong` and `Full` as [`Table::fits`] of the member's table answers, then `NoMemory` where
-    /// memory ran out. The member is then as it was.
+    /// `TooLong`, `FullSource` and `Full` as [`Table::fits`] of the member's table answers, then
+    /// `NoMemory` where memory ran out. The member is then as it was.
     pub fn absorb(&mut self, other: &Table, moment: u64) -> Result<Datagrams, TableFault>
         ensures absorbed { IfOk result (λ datagrams.
             Absorbs self.old other.now.contents moment self.new datagrams) }

@@ -4,7 +4,7 @@ use Rattle.std.specs.Bool.{beq}
 use Rattle.std.specs.Cmp.{booleans_Decides}
 use Rattle.std.specs.Result.{IsErrAnd}
 use Rattle.nb_table.specs.declared.fault.TableFault.{TableFault}
-use Rattle.nb_table.specs.declared.fault.TableFault.TheVariants.{MisplacedFirst, TooLong, Full, NoMemory}
+use Rattle.nb_table.specs.declared.fault.TableFault.TheVariants.{MisplacedFirst, TooLong, FullSource, Full, NoMemory}
 use Rattle.std.specs.FinMap as maps
 use Rattle.nb_datagram.specs.declared.key.Key.{Key}
 use Rattle.nb_datagram.specs.Key.{same_key}
@@ -17,7 +17,9 @@ use Rattle.nb_table.specs.Slot.{Spoilt, Held}
 use Rattle.nb_table.specs.Entry.{EntryFacts, EntryValue, FactsFit, facts_agree, facts_of, facts_together, join_entry}
 use Rattle.nb_table.specs.Contents.{Contents, table_of}
 use Rattle.nb_table.specs.Join.{IsTable}
-use Rattle.nb_table.specs.Limits.{TableValue, AreShort, IsShort, IsFull, KeepsLimits}
+use Rattle.nb_table.specs.Limits.{TableValue, AreShort, IsShort, IsFull, IsFullSource, KeepsLimits}
+use Rattle.nb_table.specs.KeyCounts.{held_keys, of_source}
+use Rattle.nb_table.proofs.Limits.GroupLemmas.{few_insert}
 use Rattle.nb_table.specs.Change.{IsChange}
 use Rattle.nb_table.specs.Code.Change.{KeyChange}
 use Rattle.nb_table.specs.Insert.{NeedsNoMemory, spoilt, contradicts, held, Passes, Lacks, Refuses}
@@ -115,17 +117,21 @@ on_any_err (Err e) P p = p
 -- ---- the table that takes a fragment
 
 -- with one more entry, for which there is room, the table keeps to its limits
-pub insert_keeps : (t : TableValue) (f : Core) → KeepsLimits t → reach f ≤ t.limits.longest → (IsFull t.limits t.contents f.key → ⊥) →
+pub insert_keeps : (t : TableValue) (f : Core) → KeepsLimits t → reach f ≤ t.limits.longest → (IsFullSource t.limits t.contents f.key → ⊥) → (IsFull t.limits t.contents f.key → ⊥) →
     KeepsLimits (record { contents = maps.insert t.contents f.key (joined_onto join_entry (maps.get t.contents f.key) (Held (facts_of f))); limits = t.limits })
-insert_keeps t f keeps short room =
+insert_keeps t f keeps short source_room room =
     let k = f.key in
     let e = joined_onto join_entry (maps.get t.contents f.key) (Held (facts_of f)) in
     record {
       count = counted (maps.get t.contents k) refl (maps.len-insert key_cmp_total t.contents k e);
+      sources = few_insert t.limits.per_source t.contents k e keeps.sources below;
       short = λ q d h. shorts q d (same_key q k) refl (sym (maps.get-insert key_cmp_total t.contents k e q) ∙ h);
       formed = subst IsTable (join_one t.contents f) (join_formed t.contents (table_of (f ∷ [])) keeps.formed (table_of_formed (f ∷ [])));
     }
   where
+    below : maps.get t.contents f.key ≡ None → held_keys (of_source f.key.ip) t.contents < t.limits.per_source
+    below at = elim (cases_lt (held_keys (of_source f.key.ip) t.contents) t.limits.per_source) [ inl h ↦ h | inr h ↦ absurd (source_room (record { is_new = at; no_room = omega (arith, h) })) ]
+
     counted : (o : Option EntryValue) → maps.get t.contents f.key ≡ o →
         maps.len (maps.insert t.contents f.key (joined_onto join_entry (maps.get t.contents f.key) (Held (facts_of f)))) ≡ cond (is_some (maps.get t.contents f.key)) (maps.len t.contents) (maps.len t.contents + 1) →
         maps.len (maps.insert t.contents f.key (joined_onto join_entry (maps.get t.contents f.key) (Held (facts_of f)))) ≤ t.limits.keys
@@ -172,6 +178,7 @@ pub refused_from : {X : Type 0} (r : Result X TableFault) (t : TableValue) (f : 
 refused_from (Ok x) t f p h = tt
 refused_from (Err MisplacedFirst) t f p h = absurd h
 refused_from (Err TooLong) t f p h = absurd h
+refused_from (Err (FullSource k)) t f p h = (p, h)
 refused_from (Err (Full k)) t f p h = (p, h)
 refused_from (Err NoMemory) t f p h = (p, h)
 
@@ -189,5 +196,6 @@ pub spared : {X : Type 0} (r : Result X TableFault) (t : TableValue) (f : Fragme
 spared (Ok x) t f h p n = refl
 spared (Err MisplacedFirst) t f h p n = absurd (h p.placed)
 spared (Err TooLong) t f h p n = let past = h.1 in let short = p.short in absurd (omega (arith, past, short))
+spared (Err (FullSource k)) t f h p n = let lacks = h.1 in absurd (needs_new t.contents (core_of f) lacks.1.is_new n)
 spared (Err (Full k)) t f h p n = let lacks = h.1 in absurd (needs_new t.contents (core_of f) lacks.1.is_new n)
 spared (Err NoMemory) t f h p n = let lacks = h.1 in absurd (lacks.1 n)

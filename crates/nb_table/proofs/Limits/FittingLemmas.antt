@@ -1,15 +1,13 @@
--- When one table takes in another, as tests of entries and counts of keys.
-use Rattle.std.proofs.Common.{◌≡◌, ◌≤◌, ℕ, true, Decides, List, [], ◌∷◌, filter, length, nat_le, Option, Some, None, refl, sym, ◌∙◌, ap}
+-- When one table takes in another, as tests of entries.
+use Rattle.std.proofs.Common.{◌≡◌, ◌≤◌, ℕ, true, Decides, nat_le, Option, Some, None, refl, sym, ◌∙◌, ap}
 use Rattle.std.proofs.lemmas.Option.{none-some, same_Some}
-use Rattle.std.proofs.lemmas.List.{length-map}
 use Rattle.std.specs.List.{list_all}
 use Rattle.std.specs.FinMap as maps
-use Rattle.nb_datagram.specs.declared.key.Key.{Key}
 use Rattle.nb_table.specs.Slot.{Spoilt, Held}
 use Rattle.nb_table.specs.Entry.{EntryValue}
 use Rattle.nb_table.specs.Contents.{Contents}
 use Rattle.nb_table.specs.Limits.{IsShort}
-use Rattle.nb_table.specs.Merging.{AllShort, every_key, held_keys}
+use Rattle.nb_table.specs.Merging.{AllShort}
 use Rattle.nb_table.specs.Code.Fitting.{ends_by, is_short}
 use Rattle.nb_table.specs.Lemmas.MapsLemmas.{and_left, and_right, and_both, all_entries_found, all_entries_from}
 use Rattle.nb_table.specs.Lemmas.SameLemmas.{key_cmp_total, key_cmp_exact, le_is, is_le}
@@ -41,13 +39,3 @@ all_short_decides n t = (
   λ h k e f. (short_decides n e).0 (all_entries_found key_cmp_exact (λ k e. is_short n e) t h k e f),
   λ h. all_entries_from key_cmp_total key_cmp_exact (λ k e. is_short n e) t (λ k e f. (short_decides n e).1 (h k e f)),
 )
-
--- ---- counts
-
-every_kept : (ks : List Key) → filter every_key ks ≡ ks
-every_kept [] = refl
-every_kept (k ∷ ks) = ap (λ (r : List Key). k ∷ r) (every_kept ks)
-
--- in the group of all keys a table holds as many as it has
-pub held_every : (s : Contents) → held_keys every_key s ≡ maps.len s
-held_every s = ap length (every_kept (maps.keys s)) ∙ length-map (maps.entries s) (λ (e : Key × EntryValue). e.0) ∙ sym (maps.len-entries s)

@@ -1,7 +1,6 @@
 -- Tables merged: the limits are kept.
-use Rattle.std.proofs.Common.{◌≡◌, ◌<◌, ◌≤◌, ◌++◌, inl, inr, ℕ, cond, Bool, true, false, List, [], ◌∷◌, length, slice_get, Option, Some, None, refl, sym, ◌∙◌, ap, subst, arith}
-use Rattle.std.proofs.lemmas.Bool.{cases_lt}
-use Rattle.std.proofs.lemmas.Option.{none-some, same_Some, slice_get-get_or}
+use Rattle.std.proofs.Common.{◌≡◌, ◌++◌, ℕ, cond, Bool, true, false, List, [], ◌∷◌, Option, Some, None, refl, sym, ◌∙◌, ap, subst, arith}
+use Rattle.std.proofs.lemmas.Option.{none-some, same_Some}
 use Rattle.std.specs.Prelude.{T}
 use Rattle.std.specs.Ordering.{eq_by_cmp}
 use Rattle.std.specs.List.{AllByRecursion}
@@ -13,26 +12,16 @@ use Rattle.nb_table.specs.Maps.{joined_at, joined_onto}
 use Rattle.nb_table.specs.Entry.{EntryValue, join_entry}
 use Rattle.nb_table.specs.Contents.{Contents}
 use Rattle.nb_table.specs.Join.{join, IsTable}
+use Rattle.nb_table.specs.KeyCounts.{every_key}
 use Rattle.nb_table.specs.Limits.{TableValue, KeepsLimits, IsShort, with_contents}
-use Rattle.nb_table.specs.Merging.{AllShort, Fits, every_key, new_keys}
+use Rattle.nb_table.specs.Merging.{AllShort, Fits}
 use Rattle.nb_table.specs.Lemmas.SameLemmas.{key_cmp_total, key_cmp_exact}
 use Rattle.nb_table.specs.Lemmas.MapsLemmas.{one_key, tied_self, below_none, T_left, T_right}
 use Rattle.nb_table.specs.Lemmas.TableLemmas.{get-join, join_formed}
 use Rattle.nb_table.proofs.Changes.InsertLemmas.{short_join, short_onto}
-use Rattle.nb_table.proofs.Joins.EachLemmas.{len-joined}
-use Rattle.nb_table.proofs.Limits.FittingLemmas.{held_every}
+use Rattle.nb_table.proofs.Limits.GroupLemmas.{held_every, fit_held, few_join}
 
 -- ---- the limits
-
-none_past : (ks : List Key) (n : ℕ) → slice_get ks n ≡ None → length ks ≤ n
-none_past ks n h = elim (cases_lt n (length ks)) [
-  | inl below ↦ inside ks below h
-  | inr past ↦ past
-]
-  where
-    inside : (qs : List Key) → n < length qs → slice_get qs n ≡ None → length qs ≤ n
-    inside [] f e = omega arith
-    inside (q ∷ qs) f e = absurd (none-some _ (sym e ∙ slice_get-get_or (q ∷ qs) n q f))
 
 at_short : (n : ℕ) (a b : Option EntryValue) → ((e : EntryValue) → a ≡ Some e → IsShort n e) → ((e : EntryValue) → b ≡ Some e → IsShort n e) → (e : EntryValue) → joined_at join_entry a b ≡ Some e → IsShort n e
 at_short n None b f g e h = g e h
@@ -42,11 +31,11 @@ at_short n (Some x) (Some y) f g e h = subst (IsShort n) (same_Some (join_entry 
 -- what fits keeps the limits
 pub merge_keeps : (t : TableValue) (o : Contents) → KeepsLimits t → IsTable o → Fits t.limits t.contents o → KeepsLimits (with_contents t (join t.contents o))
 merge_keeps t o keeps formed fits = record {
-  count = (let size = len-joined key_cmp_total key_cmp_exact join_entry t.contents o in
+  count = (let size = held_every (join t.contents o) in
       let held = held_every t.contents in
-      let few = none_past (new_keys every_key t.contents o) _ fits.room in
       let most = keeps.count in
-      omega (arith, size, held, few, most));
+      omega (arith, size, fit_held t.limits.keys every_key t.contents o (omega (arith, held, most)) fits.room));
+  sources = few_join t.limits.per_source t.contents o keeps.sources fits.sources;
   short = λ k e h. at_short t.limits.longest (maps.get t.contents k) (maps.get o k) (keeps.short k) (fits.short k) e (sym (get-join t.contents o k) ∙ h);
   formed = join_formed t.contents o keeps.formed formed;
 }

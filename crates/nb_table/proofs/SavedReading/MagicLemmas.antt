@@ -38,16 +38,17 @@ pub entries_failed : (form : SavedForm) (input : List ℕ) (count first : ℕ) (
 entries_failed form input count first f m c h = after_magic form m (goes_on count first c (stops f h))
 
 -- there are bytes after the last entry
-pub bytes_after : (form : SavedForm) (input : List ℕ) (count first limit last : ℕ) (short : Bool) → StandsAt input 0 (magic form) → Field input 4 4 (NumberAt input 4 w32) (Ok (count, first)) → AreJudged form input count limit first short last → last < length input → IsRead input (Err (NotCanonical last))
-bytes_after form input count first limit last short m c j more =
+pub bytes_after : (form : SavedForm) (input : List ℕ) (count first limit most last : ℕ) (short few : Bool) → StandsAt input 0 (magic form) → Field input 4 4 (NumberAt input 4 w32) (Ok (count, first)) → AreJudged form input count limit most first short few last → last < length input → IsRead input (Err (NotCanonical last))
+bytes_after form input count first limit most last short few m c j more =
     after_magic form m (goes_on count first c (goes_on j.entries last j.read (bad (λ h. omega (arith, more, h)))))
 
 -- all is judged
-pub all_judged : (form : SavedForm) (input : List ℕ) (count first limit last : ℕ) (short : Bool) → StandsAt input 0 (magic form) → Field input 4 4 (NumberAt input 4 w32) (Ok (count, first)) → AreJudged form input count limit first short last → length input ≤ last → IsJudged input limit count short
-all_judged form input count first limit last short m c j none = record {
+pub all_judged : (form : SavedForm) (input : List ℕ) (count first limit most last : ℕ) (short few : Bool) → StandsAt input 0 (magic form) → Field input 4 4 (NumberAt input 4 w32) (Ok (count, first)) → AreJudged form input count limit most first short few last → length input ≤ last → IsJudged input limit most count short few
+all_judged form input count first limit most last short few m c j none = record {
   entries = j.entries;
   last = last;
   read = after_magic form m (goes_on count first c (goes_on j.entries last j.read (good none)));
   counted = sym (entries_found form input count None first last j.entries j.read).1;
   tested = j.tested;
+  few_counted = j.counted;
 }

@@ -1,5 +1,5 @@
 -- Rows of runs and of entries, read one after the other.
-use Rattle.std.proofs.Common.{◌≡◌, ◌+◌, ◌-◌, ◌<◌, ℕ, suc, List, [], ◌∷◌, ◌++◌, Bool, true, false, ◌&&◌, None, Some, Option, Ok, Err, refl, sym, ap, subst, ◌∙◌, arith}
+use Rattle.std.proofs.Common.{◌≡◌, ◌+◌, ◌-◌, ◌<◌, ℕ, suc, List, map, [], ◌∷◌, ◌++◌, Bool, true, false, ◌&&◌, None, Some, Option, Ok, Err, refl, sym, ap, subst, ◌∙◌, arith}
 use Rattle.std.proofs.Common.{append_assoc}
 use Rattle.std.proofs.lemmas.List.Folds.{list_all-append}
 use Rattle.std.specs.List.{list_all}
@@ -90,3 +90,7 @@ tested_more n done k v = list_all-append (λ (e : Key × EntryValue). is_short n
   where
     and_true : (b : Bool) → (b && true) ≡ b
     and_true b = elim b as (λ v. (v && true) ≡ v) [ true ↦ refl | false ↦ refl ]
+
+pub keys_more : (done : List (Key × EntryValue)) (k : Key) (v : EntryValue) → map (λ e. e.0) (done ++ (k, v) ∷ []) ≡ map (λ e. e.0) done ++ k ∷ []
+keys_more [] k v = refl
+keys_more (e ∷ done) k v = ap (λ (ks : List Key). e.0 ∷ ks) (keys_more done k v)

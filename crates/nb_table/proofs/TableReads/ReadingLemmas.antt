@@ -13,6 +13,7 @@ use Rattle.nb_table.specs.Limits.{TableValue, KeepsLimits}
 use Rattle.nb_table.specs.State.{IsState}
 use Rattle.nb_table.specs.Code.State.{IsEntryState}
 use Rattle.nb_table.specs.Lemmas.SameLemmas.{key_cmp_total}
+use Rattle.nb_table.proofs.Limits.GroupLemmas.{few_remove}
 
 -- the state of an entry is that of its key
 pub state_at : (t : Contents) (k : Key) (e : EntryValue) (s : State) → maps.get t k ≡ Some e → IsEntryState e s → IsState t k s
@@ -34,6 +35,7 @@ fewer false m n e = omega (arith, e)
 pub remove_keeps : (t : TableValue) (k : Key) → KeepsLimits t → KeepsLimits (record { contents = maps.remove t.contents k; limits = t.limits })
 remove_keeps t k keeps = record {
   count = (let most = keeps.count in let less = fewer (maps.contains_key t.contents k) (maps.len (maps.remove t.contents k)) (maps.len t.contents) (maps.len-remove key_cmp_total t.contents k) in omega (arith, most, less));
+  sources = few_remove t.limits.per_source t.contents k keeps.sources;
   short = λ q e h. keeps.short q e (cut (same_key q k) (maps.get t.contents q) e (sym (maps.get-remove key_cmp_total t.contents k q) ∙ h));
   formed = λ q e h. keeps.formed q e (cut (same_key q k) (maps.get t.contents q) e (sym (maps.get-remove key_cmp_total t.contents k q) ∙ h));
 }

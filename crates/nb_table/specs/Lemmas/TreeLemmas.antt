@@ -62,7 +62,7 @@ below_is : {K X : Type 0} (R : K → K → Ordering) (k : K) (es : List (K × X)
 below_is R k [] h = tt
 below_is R k (e ∷ es) h = T_both _ _ (less_is _ h.0) (below_is R k es h.1)
 
-sorted_is : {K X : Type 0} (R : K → K → Ordering) (es : List (K × X)) → IsStrictlySortedBy R (keys_of es) → T (is_sorted R es)
+pub sorted_is : {K X : Type 0} (R : K → K → Ordering) (es : List (K × X)) → IsStrictlySortedBy R (keys_of es) → T (is_sorted R es)
 sorted_is R [] h = tt
 sorted_is R (e ∷ es) h = T_both _ _ (below_is R e.0 es (sorted_head R e.0 (keys_of es) h)) (sorted_is R es (sorted_tail R e.0 (keys_of es) h))
 

@@ -14,6 +14,7 @@ ghost use Rattle.nb_table.specs.declared.load_fault.LoadFault.TheVariants.{NoMem
 use super::facts::{SavedEntry, read_entry};
 use super::fields::{push_key, read_key};
 use super::form::SavedForm;
+use super::sources::Sources;
 use crate::entry::Entry;
 use crate::load_fault::LoadFault;
 use nb_datagram::Key;
@@ -28,29 +29,43 @@ fn still_short(so_far: bool, entry: &SavedEntry<'_>, limit: u16) -> bool
     so_far && entry.is_short(limit)
 }
 
-/// Whether no entry passes the limit, of this many with their keys from an offset on, and the
-/// offset after them.
+/// What the limits say of entries and their keys.
+#[derive(Clone, Copy)]
+pub(crate) struct Within {
+    /// Whether no entry passes the limit.
+    pub(crate) is_short: bool,
+    /// Whether no more keys of one address are there than may be.
+    pub(crate) are_few: bool,
+}
+
+/// What the limits say of this many entries with their keys, from an offset on, and the offset
+/// after them.
 pub(crate) fn judge_entries(
     form: SavedForm,
     input: &[u8],
     count: u32,
     limit: u16,
+    most: u32,
     at: usize,
-) -> Result<(bool, usize), LoadFault>
-    ensures found { IfOk result (λ read. AreJudged form input.now count limit at read.0 read.1) }
+) -> Result<(Within, usize), LoadFault>
+    ensures found { IfOk result (λ read. AreJudged form input.now count limit most at
+        read.0.is_short read.0.are_few read.1) }
     ensures fault { IfErr result (λ fault. entries_at form input.now count None at (Err fault)) }
 {
     let mut before = None;
     let mut here = at;
     let mut is_short = true;
+    let mut sources = Sources::none();
     for _ in 0..count {
         let (key, after) = read_key(input, before, here)?;
         let (entry, next) = read_entry(form, input, after)?;
         is_short = still_short(is_short, &entry, limit);
+        sources = sources.with(before, key, most);
         before = Some(key);
         here = next;
     }
-    Ok((is_short, here))
+    let are_few = sources.are_few;
+    Ok((Within { is_short, are_few }, here))
 }
 
 /// Puts an entry into the map.

@@ -10,7 +10,7 @@ ghost use Rattle.nb_table.specs.Saved.{magic};
 ghost use Rattle.nb_table.specs.Saved.{saved as saved_bytes};
 ghost use Rattle.nb_table.specs.SavedReading.{IsRead};
 
-use super::entries::{judge_entries, push_entries};
+use super::entries::{Within, judge_entries, push_entries};
 use super::fields::read_count;
 use super::form::SavedForm;
 use crate::entry::Entry;
@@ -34,19 +34,25 @@ pub(crate) fn form_of(input: &[u8]) -> Result<SavedForm, LoadFault>
     Err(LoadFault::BadMagic)
 }
 
-/// How many keys a saved table of this form has, and whether no entry passes the limit. No memory
-/// is taken.
-pub(crate) fn judge(form: SavedForm, input: &[u8], limit: u16) -> Result<(u32, bool), LoadFault>
+/// How many keys a saved table of this form has, and what the limits say of its entries and of the
+/// keys of each address. No memory is taken.
+pub(crate) fn judge(
+    form: SavedForm,
+    input: &[u8],
+    limit: u16,
+    most: u32,
+) -> Result<(u32, Within), LoadFault>
     requires { StandsAt input.now 0 (magic form) }
-    ensures found { IfOk result (λ read. IsJudged input.now limit read.0 read.1) }
+    ensures found { IfOk result (λ read. IsJudged input.now limit most read.0
+        read.1.is_short read.1.are_few) }
     ensures fault { IfErr result (λ fault. IsRead input.now (Err fault)) }
 {
     let (count, first) = read_count(input, 4)?;
-    let (is_short, last) = judge_entries(form, input, count, limit, first)?;
+    let (within, last) = judge_entries(form, input, count, limit, most, first)?;
     if last < input.len() {
         return Err(LoadFault::NotCanonical(last));
     }
-    Ok((count, is_short))
+    Ok((count, within))
 }
 
 /// The saved bytes of entries with their keys.

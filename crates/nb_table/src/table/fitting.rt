@@ -4,13 +4,15 @@ ghost use Rattle.std.specs.List.{list_all};
 ghost use Rattle.std.specs.BTreeMap.{get, IsOrdered};
 ghost use Rattle.std.specs.FinMap as maps;
 ghost use Rattle.nb_datagram.specs.Key.{key_cmp};
-ghost use Rattle.nb_table.specs.Merging.{AllShort, Fits, IsRefused, every_key};
+ghost use Rattle.nb_table.specs.KeyCounts.{every_key};
+ghost use Rattle.nb_table.specs.Merging.{AllShort, Fits, IsRefused};
 ghost use Rattle.nb_table.specs.Code.Fitting.{is_short};
 ghost use Rattle.nb_table.specs.Merging.{first_unfit as least_unfit};
 
 use super::Table;
 use crate::entry::Entry;
 use crate::fault::TableFault;
+use crate::sources::unfit_source;
 use nb_datagram::Key;
 use std::collections::BTreeMap;
 
@@ -74,9 +76,11 @@ impl Table {
     /// # Errors
     ///
     /// `TooLong` where an entry of the other that isn't spoilt has a byte at or past this table's
-    /// limit for a datagram, or ends or promises past it. Else `Full` with the least key that
-    /// doesn't fit: the first of the other's keys that are new here, ascending, at which as many
-    /// keys are held as may be. There is no other.
+    /// limit for a datagram, or ends or promises past it. Else `FullSource` with the least key
+    /// that doesn't fit among those of its address: the first of the other's keys that are new
+    /// here, ascending, at which as many keys of its address are held as may be. Else `Full` with
+    /// the least key that doesn't fit: the first at which as many keys are held as may be in all.
+    /// There is no other.
     pub fn fits(&self, other: &Table) -> Result<(), TableFault>
         ensures fits { OnOk result (Fits self.now.limits self.now.contents other.now.contents) }
         ensures fault { IfErr result (IsRefused self.now.limits self.now.contents
@@ -85,6 +89,9 @@ impl Table {
     {
         if !other.is_short(self.longest) {
             return Err(TableFault::TooLong);
+        }
+        if let Some(key) = unfit_source(&self.entries, &other.entries, self.per_source) {
+            return Err(TableFault::FullSource(key));
         }
         match self.first_unfit(other) {
             Some(key) => Err(TableFault::Full(key)),

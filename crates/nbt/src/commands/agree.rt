@@ -7,6 +7,7 @@ ghost use Rattle.nbt.specs.Tables.{CompareFails, ComparesTables, FailsOn, Tells,
 
 use crate::fault::Fault;
 use crate::output::Output;
+use crate::settings::Capacity;
 use crate::status::Status;
 use crate::tables::{count_lines, tables_of, whole_input};
 use nb_names::Counted;
@@ -50,7 +51,11 @@ pub fn run_agree<R: Read, W: Write>(
     if count_lines(text.as_slice()) != 2 {
         return Err(Fault::TwoTablesWanted);
     }
-    let tables = tables_of(alloc, text.as_slice(), u32::MAX)?;
+    let most_keys = Capacity {
+        keys: u32::MAX,
+        per_source: u32::MAX,
+    };
+    let tables = tables_of(alloc, text.as_slice(), most_keys)?;
     match tables.as_slice() {
         [first, second] => tell_same(first, second, output),
         _ => Err(Fault::TwoTablesWanted),

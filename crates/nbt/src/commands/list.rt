@@ -4,7 +4,7 @@ ghost use Rattle.std.specs.Io.KnownBytes.{Appends, Keeps};
 ghost use Rattle.nbt.specs.Input.{WasCut};
 ghost use Rattle.nb_names.specs.Devices.{AppendsFront, ShowsWriteFault};
 ghost use Rattle.nbt.specs.Listing.{listing};
-ghost use Rattle.nbt.specs.Settings.{AreKeys};
+ghost use Rattle.nbt.specs.Settings.{IsCapacity};
 ghost use Rattle.nbt.specs.Tables.{MergeStops, MergesTables};
 
 use crate::fault::Fault;
@@ -16,9 +16,10 @@ use nb_names::Counted;
 use std::alloc::Global;
 use std::io::{Read, Write};
 
-/// `nbt list [--keys N]`: reads saved tables in hexadecimal, a line each, and prints a line for
-/// each key of their join, ascending: `KEY whole KIND SOURCE DESTINATION DATA`, `KEY partial KIND
-/// SOURCE DESTINATION HELD/END RUNS` (END is `?` where it isn't known), or `KEY spoilt`.
+/// `nbt list [--keys N] [--per-source N]`: reads saved tables in hexadecimal, a line each, and
+/// prints a line for each key of their join, ascending: `KEY whole KIND SOURCE DESTINATION DATA`,
+/// `KEY partial KIND SOURCE DESTINATION HELD/END RUNS` (END is `?` where it isn't known), or
+/// `KEY spoilt`.
 ///
 /// # Errors
 ///
@@ -30,17 +31,18 @@ pub fn run_list<R: Read, W: Write>(
     input: &mut Counted<R>,
     output: &mut Output<W>,
 ) -> Result<(), Fault>
-    ensures printed { OnOk result (MergesTables (AreKeys matches.now)
+    ensures printed { OnOk result (MergesTables (IsCapacity matches.now)
         (λ contents. Appends (W.contents output.old.inner) (W.contents output.new.inner)
         (listing contents))
         (R.remaining input.old.inner) (R.remaining input.new.inner)) }
     ensures err { IfErr result (λ fault. fault ≢ Fault.Write →
         Keeps (W.contents output.old.inner) (W.contents output.new.inner)) }
-    ensures write { IfErr result (λ fault. fault ≡ Fault.Write → MergesTables (AreKeys matches.now)
+    ensures write { IfErr result (λ fault. fault ≡ Fault.Write →
+        MergesTables (IsCapacity matches.now)
         (λ contents. AppendsFront (W.contents output.old.inner) (W.contents output.new.inner)
         (listing contents))
         (R.remaining input.old.inner) (R.remaining input.new.inner)) }
-    ensures fault { IfErr result (MergeStops (AreKeys matches.now)
+    ensures fault { IfErr result (MergeStops (IsCapacity matches.now)
         (R.remaining input.old.inner) (R.remaining input.new.inner)) }
     ensures cut { IfErr result (λ fault. fault ≡ Fault.Read →
         WasCut (R.remaining input.old.inner) (R.remaining input.new.inner)

@@ -5,7 +5,7 @@ ghost use Rattle.nbt.specs.Input.{WasCut};
 ghost use Rattle.nb_names.specs.Devices.{ShowsWriteFault};
 ghost use Rattle.nbt.specs.Printing.{PrintsFront, PrintsLine};
 ghost use Rattle.nbt.specs.Saved.{saved_digits};
-ghost use Rattle.nbt.specs.Settings.{AreKeys};
+ghost use Rattle.nbt.specs.Settings.{IsCapacity};
 ghost use Rattle.nbt.specs.Tables.{MergeStops, MergesTables};
 
 use crate::fault::Fault;
@@ -17,7 +17,8 @@ use nb_names::Counted;
 use std::alloc::Global;
 use std::io::{Read, Write};
 
-/// `nbt merge [--keys N]`: reads saved tables in hexadecimal, a line each, and prints their join.
+/// `nbt merge [--keys N] [--per-source N]`: reads saved tables in hexadecimal, a line each, and
+/// prints their join.
 ///
 /// # Errors
 ///
@@ -29,17 +30,18 @@ pub fn run_merge<R: Read, W: Write>(
     input: &mut Counted<R>,
     output: &mut Output<W>,
 ) -> Result<(), Fault>
-    ensures printed { OnOk result (MergesTables (AreKeys matches.now)
+    ensures printed { OnOk result (MergesTables (IsCapacity matches.now)
         (λ contents. PrintsLine (W.contents output.old.inner) (W.contents output.new.inner)
         (saved_digits contents))
         (R.remaining input.old.inner) (R.remaining input.new.inner)) }
     ensures err { IfErr result (λ fault. fault ≢ Fault.Write →
         Keeps (W.contents output.old.inner) (W.contents output.new.inner)) }
-    ensures write { IfErr result (λ fault. fault ≡ Fault.Write → MergesTables (AreKeys matches.now)
+    ensures write { IfErr result (λ fault. fault ≡ Fault.Write →
+        MergesTables (IsCapacity matches.now)
         (λ contents. PrintsFront (W.contents output.old.inner) (W.contents output.new.inner)
         (saved_digits contents))
         (R.remaining input.old.inner) (R.remaining input.new.inner)) }
-    ensures fault { IfErr result (MergeStops (AreKeys matches.now)
+    ensures fault { IfErr result (MergeStops (IsCapacity matches.now)
         (R.remaining input.old.inner) (R.remaining input.new.inner)) }
     ensures cut { IfErr result (λ fault. fault ≡ Fault.Read →
         WasCut (R.remaining input.old.inner) (R.remaining input.new.inner)

@@ -3,19 +3,19 @@ ghost use Rattle.std.specs.Prelude.{◌≡◌, map, Err, OnOk, IfOk, IfErr};
 ghost use Rattle.nb_names.specs.NameText.{IsFaultOf};
 ghost use Rattle.nb_names.specs.Devices.{ShowsWriteFault};
 ghost use Rattle.nbt.specs.Replaying.{AddsEach, AddsName, AreTexts, EndsWith, IsNamesFault, IsRefusedName, IsReplay, IsUnread, ReplaysCapture};
-ghost use Rattle.nbt.specs.Settings.{AreKeys};
+ghost use Rattle.nbt.specs.Settings.{IsCapacity};
 
 use crate::fault::Fault;
 use crate::output::Output;
-use crate::settings::settings_with;
+use crate::settings::{capacity_of, settings_with};
 use clap::ArgMatches;
 use nb_member::{AddFault, LocalNames, Member, ReplayFault};
 use nb_names::{Counted, name_from_text};
 use std::alloc::Global;
 use std::io::{Read, Write};
 
-/// `nbt replay [--keys N] NAME..`: replays the input in a member with these names, and prints the
-/// report. A name that is repeated is passed over.
+/// `nbt replay [--keys N] [--per-source N] NAME..`: replays the input in a member with these names,
+/// and prints the report. A name that is repeated is passed over.
 ///
 /// # Errors
 ///
@@ -30,10 +30,10 @@ pub fn run_replay<R: Read, W: Write>(
     input: &mut Counted<R>,
     output: &mut Output<W>,
 ) -> Result<(), Fault>
-    ensures printed { IsReplay (ReplaysCapture (AreKeys matches.now) (AreTexts matches.now)
+    ensures printed { IsReplay (ReplaysCapture (IsCapacity matches.now) (AreTexts matches.now)
         (R.remaining input.old.inner) (R.remaining input.new.inner)
         (W.contents output.old.inner) (W.contents output.new.inner))
-        (AreKeys matches.now) (AreTexts matches.now)
+        (IsCapacity matches.now) (AreTexts matches.now)
         (R.remaining input.old.inner) (R.remaining input.new.inner)
         (W.contents output.old.inner) (W.contents output.new.inner) result }
     ensures cut { IfErr result (λ fault. fault ≡ Fault.Read →
@@ -42,14 +42,12 @@ pub fn run_replay<R: Read, W: Write>(
     ensures why { IfErr result (λ fault. fault ≡ Fault.Write →
         ShowsWriteFault output.old.counts output.new.counts) }
 {
-    let Some(keys) = matches.get_one::<u32>("keys") else {
-        return Err(Fault::Arguments);
-    };
+    let capacity = capacity_of(matches)?;
     let Some(words) = matches.get_strs("NAME") else {
         return Err(Fault::Arguments);
     };
     let names = names_of(alloc, words)?;
-    let member = Member::new(alloc, settings_with(keys), names);
+    let member = Member::new(alloc, settings_with(capacity), names);
     output.replay(alloc, member, input)
 }
 

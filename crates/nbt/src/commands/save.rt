@@ -8,13 +8,13 @@ ghost use Rattle.nbt.specs.Printing.{PrintsFront, PrintsLine};
 ghost use Rattle.nbt.specs.SaveFaults.{LineStops, PayloadStops, SaidStops, SaveFails, StopsSaving};
 ghost use Rattle.nbt.specs.Saved.{saved_digits};
 ghost use Rattle.nbt.specs.Saving.{SavesCapture, TakesLine, TakesPayload, TakesSaid};
-ghost use Rattle.nbt.specs.Settings.{AreKeys};
+ghost use Rattle.nbt.specs.Settings.{IsCapacity};
 
 use crate::fault::Fault;
 use crate::lines::{said_by, unread_line};
 use crate::output::Output;
 use crate::saved::print_saved;
-use crate::settings::{PORT, settings_with};
+use crate::settings::{Capacity, PORT, capacity_of, settings_with};
 use clap::ArgMatches;
 use nb_member::{Line, LineRoom, LocalNames, Member, MemberFault, next_from};
 use nb_names::Counted;
@@ -22,31 +22,33 @@ use nb_table::TableFault;
 use std::alloc::Global;
 use std::io::{Read, Write};
 
-/// `nbt save [--keys N]`: takes the payloads of port 138 and sets the clock at the ticks, each line
-/// of the input as it comes, in a member without names, and prints the member's table in
-/// hexadecimal.
+/// `nbt save [--keys N] [--per-source N]`: takes the payloads of port 138 and sets the clock at the
+/// ticks, each line of the input as it comes, in a member without names, and prints the member's
+/// table in hexadecimal.
 ///
 /// # Errors
 ///
-/// The first that is met: [`Fault::Line`] for a malformed line, [`Fault::Full`] for a fragment of
-/// one key too many, [`Fault::Read`] where the input couldn't be read to its end,
-/// [`Fault::Memory`] where memory ran out. Nothing is printed then. [`Fault::Write`] where the
-/// output failed. Other packets that are refused are passed over.
+/// The first that is met: [`Fault::Line`] for a malformed line, [`Fault::FullSource`] for a
+/// fragment of one key too many of its address, [`Fault::Full`] for one of one key too many at all,
+/// [`Fault::Read`] where the input couldn't be read to its end, [`Fault::Memory`] where memory ran
+/// out. Nothing is printed then. [`Fault::Write`] where the output failed. Other packets that are
+/// refused are passed over.
 pub fn run_save<R: Read, W: Write>(
     alloc: Global,
     matches: &ArgMatches<'_>,
     input: &mut Counted<R>,
     output: &mut Output<W>,
 ) -> Result<(), Fault>
-    ensures printed { OnOk result (SavesCapture (AreKeys matches.now)
+    ensures printed { OnOk result (SavesCapture (IsCapacity matches.now)
         (PrintsLine (W.contents output.old.inner) (W.contents output.new.inner))
         (R.remaining input.old.inner) (R.remaining input.new.inner)) }
     ensures err { IfErr result (λ fault. fault ≢ Fault.Write →
         Keeps (W.contents output.old.inner) (W.contents output.new.inner)) }
-    ensures write { IfErr result (λ fault. fault ≡ Fault.Write → SavesCapture (AreKeys matches.now)
+    ensures write { IfErr result (λ fault. fault ≡ Fault.Write →
+        SavesCapture (IsCapacity matches.now)
         (PrintsFront (W.contents output.old.inner) (W.contents output.new.inner))
         (R.remaining input.old.inner) (R.remaining input.new.inner)) }
-    ensures fault { IfErr result (SaveFails (AreKeys matches.now)
+    ensures fault { IfErr result (SaveFails (IsCapacity matches.now)
         (R.remaining input.old.inner) (R.remaining input.new.inner)
         input.old.counts input.new.counts) }
     ensures cut { IfErr result (λ fault. fault ≡ Fault.Read →
@@ -55,24 +57,26 @@ pub fn run_save<R: Read, W: Write>(
     ensures why { IfErr result (λ fault. fault ≡ Fault.Write →
         ShowsWriteFault output.old.counts output.new.counts) }
 {
-    let Some(keys) = matches.get_one::<u32>("keys") else {
-        return Err(Fault::Arguments);
-    };
-    let member = member_after(alloc, keys, input)?;
+    let capacity = capacity_of(matches)?;
+    let member = member_after(alloc, capacity, input)?;
     print_saved(alloc, member.table(), output)
 }
 
-/// A member without names that holds this many keys, after the lines of an input.
-fn member_after<R: Read>(alloc: Global, keys: u32, input: &mut Counted<R>) -> Result<Member, Fault>
-    ensures took { IfOk result (λ new. SavesCapture (λ given. given ≡ keys)
+/// A member without names that may hold so much, after the lines of an input.
+fn member_after<R: Read>(
+    alloc: Global,
+    capacity: Capacity,
+    input: &mut Counted<R>,
+) -> Result<Member, Fault>
+    ensures took { IfOk result (λ new. SavesCapture (λ given. given ≡ capacity)
         (λ digits. digits ≡ saved_digits (contents new))
         (R.remaining input.old.inner) (R.remaining input.new.inner)) }
     ensures fault { IfErr result (λ fault. fault ≢ Fault.Write) }
     ensures stops { IfErr result (λ fault. (fault ≡ Fault.Memory) ⊎
-        StopsSaving (λ given. given ≡ keys) (R.remaining input.old.inner)
+        StopsSaving (λ given. given ≡ capacity) (R.remaining input.old.inner)
         (R.remaining input.new.inner) input.old.counts input.new.counts fault) }
 {
-    let mut member = Member::new(alloc, settings_with(keys), LocalNames::new(alloc));
+    let mut member = Member::new(alloc, settings_with(capacity), LocalNames::new(alloc));
     let mut room = LineRoom::new(alloc);
     let mut number = 1;
     'lines: loop {
@@ -132,6 +136,7 @@ fn take_payload(moment: u64, payload: &[u8], member: &mut Member) -> Result<(), 
     ensures stops { IfErr result (PayloadStops member.old moment payload.now) }
 {
     match member.take(moment, payload) {
+        Err(MemberFault::Table(TableFault::FullSource(_))) => Err(Fault::FullSource),
         Err(MemberFault::Table(TableFault::Full(_))) => Err(Fault::Full),
         Err(MemberFault::Table(TableFault::NoMemory)) => Err(Fault::Memory),
         _ => Ok(()),

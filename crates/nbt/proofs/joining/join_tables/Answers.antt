@@ -14,3 +14,7 @@ returns-in-Err-default-NoMemory-clause-fault c =
 pub returns-in-Err-default-TooLong-clause-fault : goal.returns-in-Err-default-TooLong-clause-fault
 returns-in-Err-default-TooLong-clause-fault c =
     join_fails _ _ _ c.in-Err-default-TooLong.field-0-1 _ c.in-Err-default-TooLong.ensures.fault c.in-Err-default-TooLong.ensures.before (sym (ap fault_of_join c.in-Err-default-TooLong.field-0-1-is))
+
+pub returns-in-Err-default-FullSource-clause-fault : goal.returns-in-Err-default-FullSource-clause-fault
+returns-in-Err-default-FullSource-clause-fault c =
+    join_fails _ _ _ c.in-Err-default-FullSource.field-0-1 _ c.in-Err-default-FullSource.ensures.fault c.in-Err-default-FullSource.ensures.before (sym (ap fault_of_join c.in-Err-default-FullSource.field-0-1-is))

@@ -31,7 +31,7 @@ returns-in_err-begin_or_drop-clause-refused c =
     let unmet = ap (λ (j : Key). maps.contains_key c.self.inside.starts j) (sym c.key.ensures) ∙ known.unmet in
     let new = sym (c.self.invariant f.key) ∙ unmet in
     let p = err_from_is_err_and c.from_residual-in_err-begin_or_drop.result c.from_residual-in_err-begin_or_drop.ensures.1 in
-    rw (p.1, p.2) (rw (← c.self.view_is) (let needs = new_needs_memory c.self.inside.table f c.in_ok-change.ensures.taken new in (needs.0, (needs.1, needs.2))))
+    rw (p.1, p.2) (rw (← c.self.view_is) (let needs = new_needs_memory c.self.inside.table f c.in_ok-change.ensures.taken new in (needs.0, (needs.1, needs.2, needs.3))))
 
 pub returns-in_err-begin_or_drop-clause-kept : goal.returns-in_err-begin_or_drop-clause-kept
 returns-in_err-begin_or_drop-clause-kept c =

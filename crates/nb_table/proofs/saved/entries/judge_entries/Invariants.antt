@@ -1,8 +1,9 @@
-use Rattle.std.proofs.Common.{◌≡◌, List}
+use Rattle.std.proofs.Common.{◌≡◌, List, map}
 use Rattle.std.specs.List.{list_all}
 use Rattle.nb_datagram.specs.declared.key.Key.{Key}
 use Rattle.nb_table.specs.Entry.{EntryValue}
 use Rattle.nb_table.specs.Code.Fitting.{is_short}
+use Rattle.nb_table.specs.Code.SavedTables.{SourcesSoFar}
 use Rattle.nb_table.proofs.SavedReading.TurnLemmas.{EntriesSoFar}
 use Rattle.nb_table.proofs.saved.entries.judge_entries.Given as goal
 
@@ -11,4 +12,5 @@ invariant-loop l = record {
   done : List (Key × EntryValue);
   so_far : EntriesSoFar l.form l.input l.count l.at l.counter l.before l.here done;
   tested : l.is_short ≡ list_all (λ e. is_short l.limit e.1) done;
+  counted : SourcesSoFar l.most (map (λ e. e.0) done) l.before l.sources;
 }

@@ -8,15 +8,15 @@ returns-in_err-count-clause-fault c =
     let p = err_from_is_err_and c.from_residual.result c.from_residual.ensures.1 in
     rw (p.1, p.2) (count_cut c.args.form _ _ c.requires c.in_err-count.ensures)
 
-pub returns-in_err-is_short-clause-fault : goal.returns-in_err-is_short-clause-fault
-returns-in_err-is_short-clause-fault c =
-    let p = err_from_is_err_and c.from_residual-in_err-is_short.result c.from_residual-in_err-is_short.ensures.1 in
-    rw (p.1, p.2) (entries_failed c.args.form _ _ _ _ c.requires c.in_ok-count.ensures c.in_err-is_short.ensures.fault)
+pub returns-in_err-within-clause-fault : goal.returns-in_err-within-clause-fault
+returns-in_err-within-clause-fault c =
+    let p = err_from_is_err_and c.from_residual-in_err-within.result c.from_residual-in_err-within.ensures.1 in
+    rw (p.1, p.2) (entries_failed c.args.form _ _ _ _ c.requires c.in_ok-count.ensures c.in_err-within.ensures.fault)
 
 pub returns-then-last-input-clause-fault : goal.returns-then-last-input-clause-fault
 returns-then-last-input-clause-fault c =
-    bytes_after c.args.form _ _ _ _ _ _ c.requires c.in_ok-count.ensures c.in_ok-is_short.ensures.found c.if-last-input.true
+    bytes_after c.args.form _ _ _ _ _ _ _ _ c.requires c.in_ok-count.ensures c.in_ok-within.ensures.found c.if-last-input.true
 
 pub returns-clause-found : goal.returns-clause-found
 returns-clause-found c =
-    all_judged c.args.form _ _ _ _ _ _ c.requires c.in_ok-count.ensures c.in_ok-is_short.ensures.found (omega arith)
+    all_judged c.args.form _ _ _ _ _ _ _ _ c.requires c.in_ok-count.ensures c.in_ok-within.ensures.found (omega arith)

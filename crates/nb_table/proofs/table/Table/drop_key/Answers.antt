@@ -9,7 +9,7 @@ use Rattle.nb_table.proofs.table.Table.drop_key.Goals as goal
 
 pub invariant_of-self : goal.invariant_of-self
 invariant_of-self c =
-    let old : TableValue = record { contents = maps.from_entries {R = key_cmp} c.self.inside.entries.entries; limits = record { keys = c.self.inside.keys; longest = c.self.inside.longest } } in
+    let old : TableValue = record { contents = maps.from_entries {R = key_cmp} c.self.inside.entries.entries; limits = record { keys = c.self.inside.keys; per_source = c.self.inside.per_source; longest = c.self.inside.longest } } in
     subst (λ t. KeepsLimits (record { contents = t; limits = old.limits })) (sym (remove_is key_cmp_total key_cmp_exact c.self.inside.entries c.remove.new.self c.args.key.now c.remove.ensures.updates)) (remove_keeps old c.args.key.now c.self.invariant)
 
 pub returns-clause-held : goal.returns-clause-held
@@ -19,4 +19,4 @@ returns-clause-held c =
 pub returns-clause-dropped : goal.returns-clause-dropped
 returns-clause-dropped c =
     let contents = remove_is key_cmp_total key_cmp_exact c.self.inside.entries c.remove.new.self c.args.key.now c.remove.ensures.updates in
-    rw (← c.self.view_is) (λ i. record { contents = contents i; limits = record { keys = c.self.inside.keys; longest = c.self.inside.longest } })
+    rw (← c.self.view_is) (λ i. record { contents = contents i; limits = record { keys = c.self.inside.keys; per_source = c.self.inside.per_source; longest = c.self.inside.longest } })

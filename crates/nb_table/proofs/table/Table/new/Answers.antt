@@ -7,5 +7,5 @@ use Rattle.nb_table.proofs.table.Table.new.Goals as goal
 
 pub invariant_of-result : goal.invariant_of-result
 invariant_of-result c =
-    let limits : Limits = record { keys = c.args.keys; longest = c.args.longest } in
+    let limits : Limits = record { keys = c.args.keys; per_source = c.args.per_source; longest = c.args.longest } in
     subst (λ es. KeepsLimits (record { contents = maps.from_entries {R = key_cmp} es; limits = limits })) (sym c.new.ensures.empty) (empty_keeps limits)

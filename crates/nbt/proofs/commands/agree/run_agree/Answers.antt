@@ -1,5 +1,6 @@
 use Rattle.std.proofs.Common.{sym, ap, ◌∙◌, length, arith}
 use Rattle.std.proofs.lemmas.Result.{IfErr-weaker, IfOk-weaker, err_from_is_err_and}
+use Rattle.nbt.specs.Settings.{most_keys}
 use Rattle.nbt.proofs.JoinedLemmas.{as_many, compare_of_count, compare_of_line, compares_tables, two_items}
 use Rattle.nbt.proofs.commands.agree.run_agree.Goals as goal
 use Rattle.nbt.proofs.commands.agree.run_agree.Goals.{in_default, in_default-2}
@@ -39,7 +40,7 @@ pub returns-clause-fault : goal.returns-clause-fault
 returns-clause-fault g c =
     let text = c.in_ok-text.ensures in
     let size = ap length c.as_slice-3.ensures.value in
-    let lines = as_many 4294967295 _ _ c.in_ok-tables.ensures.found in
+    let lines = as_many most_keys _ _ c.in_ok-tables.ensures.found in
     elim c.if-as_slice-lt2.branch [
       | in_default w ↦ rw w.result-is (compare_of_count _ _ _ _ lines.0 c.as_slice-2.ensures.value text.read text.ended text.within lines.1 (λ two. omega (arith, two, lines.2, size, w.in_default.len_below)))
       | in_default-2 w ↦ rw w.result-is (compare_of_count _ _ _ _ lines.0 c.as_slice-2.ensures.value text.read text.ended text.within lines.1 (λ two. omega (arith, two, lines.2, size, w.in_default.len_at_least)))

@@ -1,5 +1,5 @@
 use Rattle.std.proofs.lemmas.Result.{IfErr-weaker, on_ok_weaker}
-use Rattle.nbt.specs.Settings.{AreKeys}
+use Rattle.nbt.specs.Settings.{IsCapacity}
 use Rattle.nbt.specs.Tables.{MergeFails, input_fails}
 use Rattle.nbt.proofs.JoinedLemmas.{join_printed, printing_fails, saved_front}
 use Rattle.nbt.proofs.commands.merge.run_merge.Goals as goal
@@ -16,4 +16,4 @@ returns-clause-write g c =
 
 pub returns-clause-fault : goal.returns-clause-fault
 returns-clause-fault g c =
-    IfErr-weaker c.print_saved.result _ _ (λ fault is. input_fails (printing_fails (MergeFails (AreKeys c.args.matches.now)) _ _ fault is)) c.print_saved.ensures.fault
+    IfErr-weaker c.print_saved.result _ _ (λ fault is. input_fails (printing_fails (MergeFails (IsCapacity c.args.matches.now)) _ _ fault is)) c.print_saved.ensures.fault

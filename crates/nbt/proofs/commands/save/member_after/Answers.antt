@@ -23,14 +23,14 @@ returns-in_err-take_line-in-Ok-Some-clause-stops g c =
     let p = err_from_is_err_and c.from_residual.result c.from_residual.ensures.1 in
     let e = c.in_err-take_line-in-Ok-Some in
     let r = of_line _ _ _ _ _ _ c.next_from.result _ c.in-Ok-Some.line c.in-Ok-Some.is c.in-Ok-Some.field-0-is c.next_from.follows.holds-at-none in
-    rw (p.1, p.2) (inr (stops_at_line c.args.keys c.lines.member _ _ _ _ _ _ _ _ c.in-Ok-Some.line.now c.lines.number e.field-0.0 c.lines.invariant r e.ensures.stops e.ensures.no_read))
+    rw (p.1, p.2) (inr (stops_at_line c.args.capacity c.lines.member _ _ _ _ _ _ _ _ c.in-Ok-Some.line.now c.lines.number e.field-0.0 c.lines.invariant r e.ensures.stops e.ensures.no_read))
 
 pub returns-in-Ok-None-clause-took : goal.returns-in-Ok-None-clause-took
 returns-in-Ok-None-clause-took g c =
-    takes_all c.args.keys c.lines.member _ _ _ _ _ _ _ _ c.lines.number c.lines.invariant
+    takes_all c.args.capacity c.lines.member _ _ _ _ _ _ _ _ c.lines.number c.lines.invariant
     (of_end _ _ _ _ _ _ c.next_from.result _ c.in-Ok-None.is c.in-Ok-None.field-0-is c.next_from.follows.holds-at-none)
 
 pub returns-in-Err-clause-stops : goal.returns-in-Err-clause-stops
 returns-in-Err-clause-stops g c =
-    stops_fault c.args.keys c.lines.member _ _ _ _ _ _ _ _ c.lines.number c.in-Err.fault _ c.lines.invariant
+    stops_fault c.args.capacity c.lines.member _ _ _ _ _ _ _ _ c.lines.number c.in-Err.fault _ c.lines.invariant
     (of_fault _ _ _ _ _ _ c.next_from.result _ c.in-Err.fault c.in-Err.is refl c.next_from.follows.holds-at-none) c.unread_line.ensures

@@ -6,7 +6,7 @@ use Rattle.nbt.proofs.commands.save.member_after.Given as goal
 
 abbrev pub invariant-lines : goal.invariant-lines
 invariant-lines g l =
-    IsTaking (new_saver l.fn.keys) (g.R.Read.remaining l.fn.input.inner) (g.R.Read.remaining l.input.inner) l.fn.input.counts l.input.counts l.room l.number l.member
+    IsTaking (new_saver l.fn.capacity) (g.R.Read.remaining l.fn.input.inner) (g.R.Read.remaining l.input.inner) l.fn.input.counts l.input.counts l.room l.number l.member
 
 abbrev pub decreases-lines : goal.decreases-lines
 decreases-lines g l = (MAX_INPUT - l.room.taken) + length l.room.rest

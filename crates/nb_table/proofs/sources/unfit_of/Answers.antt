@@ -1,0 +1,89 @@
+use Rattle.std.proofs.Common.{◌≡◌, ◌∙◌, ◌&&◌, Bool, true, false, not, Option, Some, None, refl, sym, ap, ap₂, subst, filter, map, slice_get, is_none, is_some}
+use Rattle.std.specs.BTreeMap.Range.{entries_between}
+use Rattle.std.specs.declared.ops.Bound.TheVariants.{Included, Unbounded}
+use Rattle.std.specs.FinMap as maps
+use Rattle.nb_datagram.specs.declared.key.Key.{Key}
+use Rattle.nb_datagram.specs.Key.{key_cmp}
+use Rattle.nb_table.specs.declared.entry.Entry.{Entry}
+use Rattle.nb_table.specs.Entry.{EntryValue}
+use Rattle.nb_table.specs.KeyCounts.{of_source}
+use Rattle.nb_table.specs.Lemmas.SameLemmas.{key_cmp_total, key_cmp_exact}
+use Rattle.nb_table.specs.Lemmas.TreeLemmas.{entries_are, get_is, sorted_is}
+use Rattle.nb_table.proofs.Limits.SourceLemmas.{Left, onward, onward_new, left_begun, left_next, none_unfit, one_out, one_in, first_in, not_true, not_false}
+use Rattle.nb_table.proofs.sources.unfit_of.Goals as goal
+
+pub loop-key-init : goal.loop-key-init
+loop-key-init c =
+    let ip = c.args.ip in
+    let es = c.args.others.now.entries in
+    let s = maps.from_entries {R = key_cmp} c.args.entries.now.entries in
+    let p = λ (k : Key). of_source ip k && is_none (maps.get s k) in
+    let is : c.into_iter-key-iterator.result ≡ onward ip es = c.into_iter-key-iterator.ensures.into_iter_gives ∙ c.range-key-items.ensures.between tt ∙ ap (λ k. entries_between key_cmp (Included k) Unbounded es) c.first_of.ensures in
+    let held = entries_are key_cmp_total key_cmp_exact c.args.others.now c.range-key-items.ensures.ordered in (
+      ap₂ (slice_get {X = Key}) (ap (λ fs. filter p (map (λ e. e.0) fs)) is ∙ onward_new ip (λ k. is_none (maps.get s k)) es ∙ ap (λ fs. filter p (map (λ e. e.0) fs)) (sym held)) c.room_of-room.ensures,
+      subst (Left ip) (sym is) (left_begun ip es (sorted_is key_cmp es c.range-key-items.ensures.ordered)),
+    )
+
+pub returns-then-ne : goal.returns-then-ne
+returns-then-ne c =
+    let ip = c.args.ip in
+    let s = maps.from_entries {R = key_cmp} c.args.entries.now.entries in
+    let p = λ (k : Key). of_source ip k && is_none (maps.get s k) in
+    let is = c.in-Some.ensures.steps in
+    let e : Key × Entry = (c.in-Some.key.now, c.in-Some._entry.now) in
+    let left = subst (Left ip) is c.loop-key.invariant.1 in
+    sym (none_unfit ip (λ k. is_none (maps.get s k)) e c.next.new.self c.loop-key.room left (not_true _ (sym c.ne.ensures ∙ c.if-ne.true)))
+    ∙ sym (ap (λ fs. slice_get (filter p (map (λ f. f.0) fs)) c.loop-key.room) is)
+    ∙ c.loop-key.invariant.0
+
+-- whether the tree has a key is whether the table lacks it
+lacked : (o : Option EntryValue) (b : Bool) → is_some o ≡ b → is_none o ≡ not b
+lacked None false h = refl
+lacked None true h = absurd (cc h)
+lacked (Some x) false h = absurd (cc h)
+lacked (Some x) true h = refl
+
+pub loop-key-preserved-then-contains_key : goal.loop-key-preserved-then-contains_key
+loop-key-preserved-then-contains_key c =
+    let ip = c.args.ip in
+    let s = maps.from_entries {R = key_cmp} c.args.entries.now.entries in
+    let p = λ (k : Key). of_source ip k && is_none (maps.get s k) in
+    let k = c.in-Some.key.now in
+    let is = c.in-Some.ensures.steps in
+    let e : Key × Entry = (k, c.in-Some._entry.now) in
+    let left = subst (Left ip) is c.loop-key.invariant.1 in
+    let held : is_none (maps.get s k) ≡ false = lacked (maps.get s k) true (ap is_some (get_is key_cmp_total c.args.entries.now k) ∙ sym c.contains_key.ensures ∙ c.if-contains_key.true) in
+    let out : p k ≡ false = ap (λ b. of_source ip k && b) held ∙ ap (λ b. b && false) (not_false _ (sym c.ne.ensures ∙ c.if-ne.false)) in (
+      sym (ap (λ fs. slice_get (filter p (map (λ f. f.0) fs)) c.loop-key.room) is ∙ one_out p e c.next.new.self c.loop-key.room out) ∙ c.loop-key.invariant.0,
+      left_next ip e c.next.new.self left,
+    )
+
+pub returns-then-room-eq0 : goal.returns-then-room-eq0
+returns-then-room-eq0 c =
+    let ip = c.args.ip in
+    let s = maps.from_entries {R = key_cmp} c.args.entries.now.entries in
+    let p = λ (k : Key). of_source ip k && is_none (maps.get s k) in
+    let k = c.in-Some.key.now in
+    let is = c.in-Some.ensures.steps in
+    let e : Key × Entry = (k, c.in-Some._entry.now) in
+    let new : is_none (maps.get s k) ≡ true = lacked (maps.get s k) false (ap is_some (get_is key_cmp_total c.args.entries.now k) ∙ sym c.contains_key.ensures ∙ c.if-contains_key.false) in
+    let passes : p k ≡ true = ap₂ ◌&&◌ (not_false _ (sym c.ne.ensures ∙ c.if-ne.false)) new in
+    sym (first_in p e c.next.new.self passes)
+    ∙ sym (ap (λ fs. slice_get (filter p (map (λ f. f.0) fs)) 0) is)
+    ∙ ap (slice_get (filter p (map (λ f. f.0) c.loop-key.key-iterator))) (sym c.if-room-eq0.true)
+    ∙ c.loop-key.invariant.0
+
+pub loop-key-preserved : goal.loop-key-preserved
+loop-key-preserved c =
+    let ip = c.args.ip in
+    let s = maps.from_entries {R = key_cmp} c.args.entries.now.entries in
+    let p = λ (k : Key). of_source ip k && is_none (maps.get s k) in
+    let k = c.in-Some.key.now in
+    let is = c.in-Some.ensures.steps in
+    let e : Key × Entry = (k, c.in-Some._entry.now) in
+    let left = subst (Left ip) is c.loop-key.invariant.1 in
+    let new : is_none (maps.get s k) ≡ true = lacked (maps.get s k) false (ap is_some (get_is key_cmp_total c.args.entries.now k) ∙ sym c.contains_key.ensures ∙ c.if-contains_key.false) in
+    let passes : p k ≡ true = ap₂ ◌&&◌ (not_false _ (sym c.ne.ensures ∙ c.if-ne.false)) new in (
+      sym (ap (λ fs. slice_get (filter p (map (λ f. f.0) fs)) c.loop-key.room) is ∙ one_in p e c.next.new.self c.loop-key.room passes c.if-room-eq0.false) ∙ c.loop-key.invariant.0,
+      left_next ip e c.next.new.self left,
+    )

@@ -6,6 +6,7 @@
 mod completing;
 mod conflicting;
 mod equality;
+mod fitting;
 mod gathering;
 mod joining;
 mod loading;
@@ -26,6 +27,9 @@ pub use conflicting::{
 pub use equality::{
     a_change_is_one, a_state_is_one, covers_are_equal_where_contents_are,
     entries_are_equal_where_contents_are,
+};
+pub use fitting::{
+    keys_fit_where_the_join_has_no_more, sources_fit_where_the_join_has_few_of_each,
 };
 pub use gathering::{
     dropping_a_key_drops_its_fragments, keeping_keys_keeps_their_fragments,

@@ -1,13 +1,11 @@
 -- How many keys of a group a table has: after an insert, without a key, and joined to another.
-use Rattle.std.proofs.Common.{◌≡◌, ◌<◌, ◌≤◌, ◌+◌, ◌-◌, ◌&&◌, inl, inr, ℕ, cond, Bool, true, false, List, [], ◌∷◌, filter, map, length, slice_get, Option, Some, None, is_some, is_none, refl, sym, ◌∙◌, ap, ap₂, subst, arith}
+use Rattle.std.proofs.Common.{◌≡◌, ◌↔◌, ◌<◌, ◌≤◌, ◌+◌, ◌-◌, ◌&&◌, inl, inr, ℕ, cond, Bool, true, false, List, [], ◌∷◌, filter, map, length, slice_get, Option, Some, None, is_some, is_none, refl, sym, ◌∙◌, ap, ap₂, subst, arith}
 use Rattle.std.proofs.lemmas.Bool.{cases_lt}
 use Rattle.std.proofs.lemmas.List.{length-map}
-use Rattle.std.proofs.lemmas.Option.{none-some, slice_get-get_or}
+use Rattle.std.proofs.lemmas.Option.{none-some, slice_get-get_or, slice_get_past}
 use Rattle.std.specs.Cmp.{unsigned_Decides}
 use Rattle.std.specs.Cmp.Lexicographic.{pointwise_decides}
 use Rattle.std.specs.Bool.{Decides}
-use Rattle.std.specs.declared.cmp.Ordering.TheVariants.{Equal}
-use Rattle.std.specs.FinMap.Entries.{find-where_key, is_sorted-where_key}
 use Rattle.std.specs.FinMap as maps
 use Rattle.nb_datagram.specs.declared.key.Key.{Key}
 use Rattle.nb_datagram.specs.Key.{key_cmp, same_key}
@@ -173,6 +171,18 @@ fit_held n p s t held none =
     let few = none_past (new_keys p s t) (n - held_keys p s) none in
     omega (arith, size, held, few)
 
+-- of a group of which the join has no more than may be held, the keys fit
+held_fit : (n : ℕ) (p : Key → Bool) (s t : Contents) → held_keys p (join s t) ≤ n → first_unfit n p s t ≡ None
+held_fit n p s t few = let size = held_join p s t in slice_get_past (new_keys p s t) (n - held_keys p s) (omega (arith, size, few))
+
+pub keys_fit_exactly : (n : ℕ) (s t : Contents) → maps.len s ≤ n → (first_unfit n every_key s t ≡ None) ↔ (maps.len (join s t) ≤ n)
+keys_fit_exactly n s t held = (
+  (λ none. let size = held_every (join s t) in
+      let here = held_every s in
+      omega (arith, size, fit_held n every_key s t (omega (arith, here, held)) none)),
+  (λ few. let size = held_every (join s t) in held_fit n every_key s t (omega (arith, size, few))),
+)
+
 -- ---- the keys of one address
 
 pub source_decides : (ip : List ℕ) (k : Key) → Decides (of_source ip k) (k.ip ≡ ip)
@@ -198,3 +208,6 @@ few_remove n s k few ip = let less = held_remove (of_source ip) s k in omega (ar
 
 pub few_join : (n : ℕ) (s t : Contents) → FewOfEach n s → SourcesFit n s t → FewOfEach n (join s t)
 few_join n s t few fit ip = fit_held n (of_source ip) s t (few ip) (fit ip)
+
+pub sources_fit_exactly : (n : ℕ) (s t : Contents) → FewOfEach n s → SourcesFit n s t ↔ FewOfEach n (join s t)
+sources_fit_exactly n s t held = (few_join n s t held, λ few ip. held_fit n (of_source ip) s t (few ip))

@@ -1,5 +1,6 @@
 # The commands of the README and of CONTRIBUTING.md.
 
+PROGRAM = crates/nbt/out/nbt
 NAMES = 'FRED<20>'
 CAPTURE = examples/capture.txt
 SECONDS = 60
@@ -9,9 +10,9 @@ PREFIX ?= /usr/local
 
 # Prove and build the program, and replay a capture in a station with these names.
 run: build
-	crates/nbt/out/nbt replay $(NAMES) <$(CAPTURE)
+	$(PROGRAM) replay $(NAMES) <$(CAPTURE)
 
-# Prove and build the program, crates/nbt/out/nbt, and print its version.
+# Prove and build the program, and print its version.
 build:
 	cd crates/nbt && rt run -- --version
 
@@ -31,9 +32,13 @@ bench: build
 fuzz: build
 	tests/fuzz.py --seconds $(SECONDS)
 
-# Build the program, and put it below PREFIX, with the tools for pcap files and the manual page.
+# Build the program, and put it below PREFIX, with the tools and the manual page. Those that share a module lie beside it.
 install: build
-	install -D -m 755 crates/nbt/out/nbt '$(DESTDIR)$(PREFIX)/bin/nbt'
+	install -D -m 755 $(PROGRAM) '$(DESTDIR)$(PREFIX)/bin/nbt'
 	install -D -m 755 tools/pcap2cap '$(DESTDIR)$(PREFIX)/bin/nbt-pcap2cap'
 	install -D -m 755 tools/cap2pcap '$(DESTDIR)$(PREFIX)/bin/nbt-cap2pcap'
+	install -d '$(DESTDIR)$(PREFIX)/share/nbt'
+	install -m 755 tools/nbt-parallel tools/nbt-dask '$(DESTDIR)$(PREFIX)/share/nbt'
+	install -m 644 tools/nbt_shards.py '$(DESTDIR)$(PREFIX)/share/nbt'
+	ln -sf ../share/nbt/nbt-parallel ../share/nbt/nbt-dask '$(DESTDIR)$(PREFIX)/bin'
 	install -D -m 644 man/nbt.1 '$(DESTDIR)$(PREFIX)/share/man/man1/nbt.1'

@@ -39,6 +39,10 @@ gives() {
 # A program that tells when it starts, and takes its time. Its parent is the worker: a job's shell, or a process of dask.
 printf '#!/bin/sh\necho $$ $PPID >>%s/started\nsleep 0.3\nexec %s "$@"\n' "$room" "$program" >slow && chmod +x slow
 
+# Programs that give no table: their memory runs out, or they are killed, at each try.
+printf '#!/bin/sh\necho nbt: memory >&2\nexit 3\n' >starving && chmod +x starving
+printf '#!/bin/sh\nkill -9 $$\n' >killed && chmod +x killed
+
 # Waits for the start of so many runs of the slowed program.
 await() {
     for ((i = 0; i < 600; i++)); do
@@ -96,7 +100,10 @@ on_cluster() {
 refusals() {
     local name=${1#./}
     refuses 1 "$name: bad: line 54321 is malformed (shard g0000-00000?)" "$1" "$program" bad
+    refuses 1 "$name: bad: line 54321 is malformed (shard g0000-00000?)" "$1" "$program" --by-source 2 bad
     refuses 1 "$name: ever: lines 1 to * has * bytes, *: keys live across *(--by-source 3)*" "$1" "$program" ever
+    refuses 3 "$name: many: lines * (shard g0000-00000?): *nbt: memory*" "$1" "$room/starving" many
+    refuses 3 "$name: many: lines * (shard g0000-00000?): *ended*" "$1" "$room/killed" many
     refuses 3 "$name: nowhere: no such file" "$1" "$program" many nowhere
     refuses 3 "$name: ./nbt: no such program*" "$1" ./nbt many
     cp bad kept && "$1" "$program" many kept >output 2>errors
@@ -134,16 +141,20 @@ if "$program" list --help >/dev/null 2>&1; then
     count $? 'nbt list: the datagrams of the table'
 fi
 
+# What `make install` puts there, found by its name.
+make -s -C "$here/.." -o build install PROGRAM="$program" DESTDIR="$room" PREFIX=/installed
+count $? 'make install'
+save <gaps >gaps.table
+
 if parallel --version 2>/dev/null | grep -q '^GNU parallel'; then
     loses_worker ./nbt-parallel "$room/slow"
     loses_client ./nbt-parallel "$room/slow"
     [ "$(wc -l <started)" -lt 12 ]
     count $? "./nbt-parallel, run again: it goes on where it was, $(wc -l <started) runs of the program"
     refusals ./nbt-parallel
-    refuses 1 "nbt-parallel: bad: line 54321 is malformed (shard g0000-00000?)" ./nbt-parallel "$program" --by-source 2 bad
     full_disk ./nbt-parallel
-    save <gaps >gaps.table
     gives gaps.table ./nbt-parallel "$program" --shard-bytes 262201 gaps
+    PATH=$room/installed/bin:$PATH gives gaps.table nbt-parallel gaps
     save <flow >flow.table
     gives flow.table ./nbt-parallel "$program" --shard-bytes 262201 flow
     ./nbt-parallel "$program" --by-source 3 --shard-bytes 262201 flow out && [ "$(wc -l <out)" -eq 3 ] && merge <out | cmp -s flow.table
@@ -167,6 +178,7 @@ if [ -n "$python" ]; then
     on_cluster loses_worker "$tools/nbt-dask" --send --program "$room/slow" --scheduler
     refusals ./nbt-dask
     full_disk ./nbt-dask
+    PATH=$room/installed/bin:$PATH gives gaps.table nbt-dask --workers 2 gaps
 else
     echo 'tests/scale.sh: no Python here has distributed: nbt-dask is left out'
 fi

@@ -9,6 +9,7 @@ memory, and is held against the rules of the program:
 - `show` and `replay` answer each line of a capture up to the first malformed one, whose number is the fault's;
 - what `save` prints is loaded again: `merge` of it prints it, and `agree` of it twice says `equal`; so is what `merge`
   prints;
+- `list` ends as `merge` does, and has a line for each key of what it joins, ascending;
 - what `build` prints is shown, and where a shown packet is one that `build` makes, `build` gives its bytes again;
 - what `name` spells is read as the same name.
 
@@ -34,11 +35,13 @@ MEMORY = 512 << 20
 
 AT = r'\d+'
 NAME_FAULT = rf'(?:truncated|reserved label|pointer not allowed|bad pointer|too long|not netbios) {AT}'
-TEXTS = re.compile(rf'nbt: (?:{NAME_FAULT}|bad text {AT}|too long|full|bad magic|truncated|not canonical {AT}|zero piece'
-                   rf'|line {AT}|bad hex|trailing bytes {AT}|arguments|no tables|two tables wanted|too many names'
-                   rf'|read|write|memory)\n')
+TEXTS = re.compile(rf'nbt: (?:{NAME_FAULT}|bad text {AT}|too long|full(?: source)?|bad magic|truncated|not canonical {AT}'
+                   rf'|zero piece|line {AT}|bad hex|trailing bytes {AT}|arguments|no tables|two tables wanted'
+                   rf'|too many names|read|write|memory)\n')
 MEMORY_OR_DEVICE = re.compile(r'nbt: (?:read|write|memory)\n')
 LINE = re.compile(rb'(?:#.*|13[789] (\d{1,20}) (?:empty|(?:[0-9A-Fa-f]{2})+)|tick (\d{1,20})|)', re.DOTALL)
+KEY = re.compile(rb'(\d+)\.(\d+)\.(\d+)\.(\d+):(\d+)/([0-9a-f]{4}) '
+                 rb'(?:spoilt|(?:whole|partial) (?:unique|group|broadcast) \S+ \S+ (?:empty|(?:[0-9a-f]{2})+|\d+/[\d?]+ \d+))')
 Run = collections.namedtuple('Run', 'words given status output errors')
 
 
@@ -82,19 +85,25 @@ class Checker:
         shown = self.run(['show'], given)
         expect(numbers_of(shown.output) == numbers, shown, f'the lines shown are not {numbers}')
         self.ends(shown, malformed)
-        keys = self.rng.choice((1, 2, 1_024))
-        replayed = self.run(['replay', '--keys', str(keys), *self.rng.sample(NAMES, 2)], given)
+        limits = self.limits()
+        replayed = self.run(['replay', *limits, *self.rng.sample(NAMES, 2)], given)
         expect(numbers_of(replayed.output) == numbers, replayed, f'the lines reported are not {numbers}')
         self.ends(replayed, malformed)
-        saved = self.run(['save', '--keys', str(keys)], given)
+        saved = self.run(['save', *limits], given)
         if saved.status == 0:
             expect(malformed is None, saved, f'line {malformed} is malformed')
             self.loads(saved)
         else:
             expect(not saved.output, saved, 'an output at a refusal')
-            if saved.errors != 'nbt: full\n':
+            if saved.errors not in ('nbt: full\n', 'nbt: full source\n'):
                 self.ends(saved, malformed)
         self.builds_again(given, shown)
+
+    def limits(self):
+        """The words for a table's limits, or none."""
+        keys = ['--keys', self.rng.choice(('1', '2', '65535'))]
+        per_source = ['--per-source', self.rng.choice(('1', '2', '65535'))]
+        return self.rng.choice(([], keys, per_source, keys + per_source))
 
     def ends(self, made, malformed):
         """It ends at the first malformed line."""
@@ -111,23 +120,37 @@ class Checker:
 
     def tables(self, lines):
         """Lines that may be saved tables are merged and compared; a join isn't changed by another turn."""
-        keys = ['--keys', self.rng.choice(('1', '2', '65535'))]
+        limits = self.limits()
         given = b'\n'.join(lines) + (b'\n' if self.rng.random() < 0.8 else b'')
-        merged = self.run(['merge', *keys], given)
+        merged = self.run(['merge', *limits], given)
+        listed = self.run(['list', *limits], given)
+        expect((listed.status, listed.errors) == (merged.status, merged.errors), listed, 'it does not end as merge does')
         if merged.status == 0:
             self.loads(merged)
-            turned = self.run(['merge', *keys], b'\n'.join(reversed(given.removesuffix(b'\n').split(b'\n'))))
+            turned = self.run(['merge', *limits], b'\n'.join(reversed(given.removesuffix(b'\n').split(b'\n'))))
             expect(turned.output == merged.output, turned, 'tables merged in another order differ')
+            self.lists(listed, merged)
         else:
+            expect(not listed.output, listed, 'an output at a refusal')
             expect(not merged.output, merged, 'an output at a refusal')
         agreed = self.run(['agree'], given)
         expect(agreed.output in (b'', b'equal\n', b'different\n'), agreed, 'an output that is no answer')
         expect((agreed.output == b'equal\n') == (agreed.status == 0), agreed, 'a status that is not the answer')
 
+    def lists(self, listed, merged):
+        """Each key of the joined table has a line, and they ascend."""
+        found = [KEY.fullmatch(it) for it in listed.output.splitlines()]
+        expect(all(found), listed, 'a line of another form')
+        keys = [(*map(int, it.groups()[:5]), it[6]) for it in found]
+        expect(keys == sorted(set(keys)), listed, 'keys that do not ascend')
+        expect(len(keys) == int(merged.output[8:16], 16), listed, 'not a line for each key')
+        again = self.run(['list', '--keys', '65535'], merged.output)
+        expect(again.output == listed.output, again, 'a joined table that lists otherwise')
+
     def words(self, words, given):
         """Any words."""
         made = self.run(words, given)
-        refused = made.status in (1, 3) and words[0] in ('name', 'build', 'save', 'merge')
+        refused = made.status in (1, 3) and words[0] in ('name', 'build', 'save', 'merge', 'list')
         expect(not refused or not made.output, made, 'an output at a refusal')
         if made.status == 0 and words[0] == 'build' and made.output[:3].isdigit():
             shown = self.run(['show'], made.output)
@@ -265,7 +288,7 @@ def one_input(maker, checker):
         value = maker.rng.choice((maker.text(maker.rng.choice(NAMES)), maker.saved().decode('latin-1')))
         checker.words(maker.rng.choice((['name', value], ['name', '--bytes', spelled('FRED').hex()], ['name', '--bytes', value])), b'')
     else:
-        first = maker.rng.choice(('name', 'show', 'build', 'replay', 'save', 'merge', 'agree', maker.word()))
+        first = maker.rng.choice(('name', 'show', 'build', 'replay', 'save', 'merge', 'list', 'agree', maker.word()))
         words = [first] + [maker.word() for _ in range(maker.rng.randrange(5))]
         checker.words(words, maker.rng.choice((maker.capture(), maker.saved(), b'')))
 

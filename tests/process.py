@@ -4,7 +4,7 @@
 Usage: tests/process.py [PROGRAM]; its last line is 'N passed, M failed'. Each run has to end, by no signal, with a
 status of 0 to 3 and that status's text, and what it wrote has to be a front of what it writes otherwise.
 """
-import fcntl
+import contextlib
 import os
 import resource
 import select
@@ -12,13 +12,10 @@ import signal
 import subprocess
 import sys
 import tempfile
-import termios
 import time
 
-HERE = os.path.dirname(os.path.abspath(__file__))
-PROGRAM = os.path.join(HERE, '..', 'crates', 'nbt', 'out', 'nbt')
-SECONDS = 60
-MEGABYTE = 1 << 20
+from process_runs import (at_terminal, broken_pipe, bytes_of, closed, limited, lines_of, quiet_terminal, run, small_pipe,
+                          start, starts, wait)
 
 JOE = '20454b45504546434143414341434143414341434143414341434143414341414100'
 FRED = '20454746434546454543414341434143414341434143414341434143414341434100'
@@ -40,58 +37,12 @@ def packet(identifier, flags=2, offset=0, data=''):
     return f'11{flags:02x}{identifier:04x}0a000005008a{length:04x}{offset:04x}{JOE}{FRED}{data}'
 
 
-def start(words, stdin=subprocess.PIPE, stdout=subprocess.PIPE, stderr=subprocess.PIPE, before=None):
-    """The program, with these words, started."""
-    return subprocess.Popen([program, *words], stdin=stdin, stdout=stdout, stderr=stderr, preexec_fn=before, bufsize=0)
-
-
-def run(words, given=b'', before=None, **streams):
-    """The status, the output and the errors of a whole run over an input. None is the status of one that didn't end."""
-    process = start(words, before=before, **streams)
-    try:
-        output, errors = process.communicate(given if process.stdin else None, timeout=SECONDS)
-    except subprocess.TimeoutExpired:
-        process.kill()
-        process.communicate()
-        return None, b'', b''
-    return process.returncode, output or b'', errors or b''
-
-
-def closed(*descriptors):
-    """What closes descriptors in a process before the program starts."""
-    return lambda: [os.close(it) for it in descriptors]
-
-
-def wait(process):
-    """The status and the errors of a process whose output isn't looked at any more."""
-    try:
-        status = process.wait(SECONDS)
-    except subprocess.TimeoutExpired:
-        process.kill()
-        status = None
-    errors = process.stderr.read() if process.stderr else b''
-    for stream in (process.stdin, process.stdout, process.stderr):
-        if stream and not stream.closed:
-            stream.close()
-    return status, errors
-
-
-def lines_of(stream, count):
-    """The next lines of a stream, as many as are there within some seconds."""
-    taken = []
-    while taken.count(b'\n') < count and select.select([stream], [], [], SECONDS)[0]:
-        byte = os.read(stream.fileno(), 1)
-        if not byte:
-            break
-        taken.append(byte)
-    return b''.join(taken)
-
-
 # Each command: its words, an input, its status, its output and its errors.
 CAPTURE = f'138 0 {packet(1)}\n138 1 {packet(1)}\ntick 2000\n138 2001 {packet(1)}\n137 2002 00\n138 2003 17\n'.encode()
 REPORT = [FOUND, b'2 kept 10.0.0.5:138/0001\n', b'3 dropped 1\n', b'4' + FOUND[1:], b'5 passed\n',
           b'6 refused truncated 1\n']
 TABLES = b'4e42543200000000\n4e42543200000000\n'
+SPOILT = b'4e425432000000010a000005008a000100\n'
 COMMANDS = [
     (['name', 'FRED<20>'], b'', 0, f'{FRED}\n'.encode(), b''),
     (['name', '--bytes', FRED], b'', 0, b'FRED<20>\n', b''),
@@ -107,35 +58,34 @@ COMMANDS = [
     (['merge'], TABLES, 0, b'4e42543200000000\n', b''),
     (['merge'], b'', 1, b'', b'nbt: no tables\n'),
     (['agree'], TABLES, 0, b'equal\n', b''),
-    (['agree'], b'4e42543200000000\n4e425432000000010a000005008a000100\n', 1, b'different\n', b''),
+    (['list'], SPOILT, 0, b'10.0.0.5:138/0001 spoilt\n', b''),
+    (['list'], TABLES + b'\n', 1, b'', b'nbt: line 3\n'),
+    (['agree'], TABLES[:17] + SPOILT, 1, b'different\n', b''),
+    (['agree'], b'x\n', 1, b'', b'nbt: two tables wanted\n'),
+    (['save', '--per-source', '1'], f'138 0 {packet(1)}\n138 0 {packet(2)}\n'.encode(), 1, b'', b'nbt: full source\n'),
     (['--version'], b'', 0, b'nbt 0.1.0\n', b''),
 ]
-READING = [['show'], ['save'], ['replay', 'FRED<20>'], ['merge'], ['agree']]
+READING = [['show'], ['save'], ['replay', 'FRED<20>'], ['merge'], ['list'], ['agree']]
 
 
 def ordinary():
-    """Each command by itself; with standard error closed, or a pipe that nobody reads, it ends as ever."""
+    """Each command by itself; with standard error closed, full, or a pipe that nobody reads, it ends as ever."""
     for words, given, status, output, errors in COMMANDS:
         name = 'nbt ' + ' '.join(words)
         check(run(words, given) == (status, output, errors), name)
         check(run(words, given, before=closed(2), stderr=None) == (status, output, b''), f'{name}, standard error closed')
         with broken_pipe() as pipe:
             check(run(words, given, stderr=pipe) == (status, output, b''), f'{name}, standard error a broken pipe')
+        with open('/dev/full', 'wb') as full:
+            check(run(words, given, stderr=full) == (status, output, b''), f'{name}, standard error full')
     check(run([], before=closed(2), stderr=None)[:2] == (2, b''), 'nbt, standard error closed')
     with broken_pipe() as pipe:
         check(run([], stderr=pipe)[:2] == (2, b''), 'nbt, standard error a broken pipe')
 
 
-def broken_pipe():
-    """A pipe to write to, whose other end is closed."""
-    reading, writing = os.pipe()
-    os.close(reading)
-    return open(writing, 'wb', buffering=0)
-
-
 def failing_outputs():
-    """An output that takes nothing: a broken pipe, also where SIGPIPE is ignored, a closed one, one opened for reading,
-    and all three streams closed. Where nothing is to be written, nothing fails."""
+    """An output that takes nothing: a broken pipe, also where SIGPIPE is ignored or nobody reads errors, a full disk, a
+    closed one, one opened for reading, and all three streams closed. Where nothing is to be written, nothing fails."""
     ignored = lambda: signal.signal(signal.SIGPIPE, signal.SIG_IGN)
     for words, given, status, output, errors in COMMANDS:
         wanted = (3, b'nbt: write\n') if output else (status, errors)
@@ -144,8 +94,12 @@ def failing_outputs():
             with broken_pipe() as pipe:
                 status_and_errors = run(words, given, before=before, stdout=pipe)[::2]
             check(status_and_errors == wanted, f'{name}, standard output {how}')
-        with open(os.devnull, 'rb') as reading:
-            check(run(words, given, stdout=reading)[::2] == wanted, f'{name}, standard output opened for reading')
+        with broken_pipe() as pipe:
+            ended = run(words, given, before=closed(2), stdout=pipe, stderr=None)[0]
+        check(ended == wanted[0], f'{name}, standard output a broken pipe, standard error closed')
+        for how, path, mode in [('full', '/dev/full', 'wb'), ('opened for reading', os.devnull, 'rb')]:
+            with open(path, mode) as stream:
+                check(run(words, given, stdout=stream)[::2] == wanted, f'{name}, standard output {how}')
         ended = run(words, before=closed(0, 1, 2), stdin=None, stdout=None, stderr=None)[0]
         check(ended in (1, 3), f'{name}, all streams closed')
 
@@ -167,17 +121,44 @@ def closed_reports():
             wanted = (3, b'nbt: write\n') if taken < len(lines) else (0, b'')
             check(output == b''.join(report[:taken]) and wait(process) == wanted,
                   f'nbt {words[0]}, its report closed after line {taken}')
-    long = b'tick 1\n' * 100_000
-    for words in (['show'], ['replay', 'FRED<20>']):
+    for words, given in [(['show'], b'tick 1\n' * 100_000), (['replay', 'FRED<20>'], b'tick 1\n' * 100_000)]:
         for taken in (1, 100, 1_000):
-            with tempfile.TemporaryFile() as given:
-                given.write(long)
-                given.seek(0)
-                process = start(words, stdin=given)
-                output = lines_of(process.stdout, taken)
-                process.stdout.close()
-                check(output.count(b'\n') == taken and wait(process) == (3, b'nbt: write\n'),
-                      f'nbt {words[0]} of 100,000 lines, {taken} of them read')
+            check(is_cut(words, given, os.pipe(), taken), f'nbt {words[0]} of 100,000 lines, {taken} of them read')
+
+
+def cut_reports():
+    """A reader that goes away after each line of a report that is there already, and inside a line."""
+    ticks = b'tick 1\n' * 1_500
+    table = run(['save'], captures(500))[1]
+    data = '5a' * 200
+    for words, given in [(['show'], ticks), (['replay', 'FRED<20>'], ticks), (['list'], table),
+                         (['build', 'group', '10.0.0.5:138/0001', 'JOE<00>', 'FRED<20>', data, '1'], b'')]:
+        for taken in range(100):
+            check(is_cut(words, given, small_pipe(), taken), f'nbt {words[0]}, {taken} lines of a report read')
+    for words, given in [(['save'], captures(500)), (['merge'], table)]:
+        for count in (1, 1_000, 10_000):
+            check(is_cut(words, given, small_pipe(), 0, count), f'nbt {words[0]}, {count} bytes of its line read')
+
+
+def is_cut(words, given, pipe, lines, count=0):
+    """Whether the output is right as far as it is read, some lines and some bytes, and then can't be written."""
+    whole = run(words, given)[1]
+    wanted = b''.join(whole.splitlines(keepends=True)[:lines])
+    wanted = whole[:len(wanted) + count]
+    reading, writing = pipe
+    with tempfile.TemporaryFile() as source:
+        source.write(given)
+        source.seek(0)
+        process = start(words, stdin=source, stdout=writing)
+    os.close(writing)
+    output = bytes_of(reading, len(wanted))
+    os.close(reading)
+    return output == wanted and wait(process) == (3, b'nbt: write\n')
+
+
+def captures(count, data=''):
+    """A capture of first fragments, each of another key."""
+    return b''.join(f'138 0 {packet(it, data=data)}\n'.encode() for it in range(count))
 
 
 def shown_lines():
@@ -191,13 +172,14 @@ def inputs():
         name = f'nbt {words[0]}'
         directory = os.open('/', os.O_RDONLY)
         check(run(words, stdin=directory) == (3, b'', b'nbt: read\n'), f'{name}, a directory as input')
+        ended = run(words, before=closed(2), stdin=directory, stderr=None)
+        check(ended == (3, b'', b''), f'{name}, a directory as input, standard error closed')
         os.close(directory)
         with open(os.devnull, 'wb') as writing:
             check(run(words, stdin=writing) == (3, b'', b'nbt: read\n'), f'{name}, an input opened for writing')
         with open('/dev/zero', 'rb') as zeros:
-            wanted = b'nbt: read\n' if words[0] in ('merge', 'agree') else b'nbt: line 1\n'
-            status = 3 if words[0] in ('merge', 'agree') else 1
-            check(run(words, stdin=zeros) == (status, b'', wanted), f'{name}, an input of zero bytes without end')
+            wanted = (3, b'', b'nbt: read\n') if words[0] in ('merge', 'list', 'agree') else (1, b'', b'nbt: line 1\n')
+            check(run(words, stdin=zeros) == wanted, f'{name}, an input of zero bytes without end')
         reading, writing = os.pipe()
         os.set_blocking(reading, False)
         check(run(words, stdin=reading) == (3, b'', b'nbt: read\n'), f'{name}, an input that would have to be waited for')
@@ -227,9 +209,28 @@ def stopping_input(words):
               f'nbt {words[0]}, an input that stops inside a line and goes on with {rest}')
 
 
+def halting_inputs():
+    """Each command's input, which stops after some bytes and then goes on: the program waits, and does as ever."""
+    for words, given, *wanted in COMMANDS:
+        for place in (1, len(given) // 2, len(given) - 1) if given else ():
+            process = start(words)
+            process.stdin.write(given[:place])
+            time.sleep(0.02)
+            waits = process.poll() is None
+            process.stdin.write(given[place:])
+            process.stdin.close()
+            output = process.stdout.read()
+            status, errors = wait(process)
+            check(waits and [status, output, errors] == wanted,
+                  f'nbt {" ".join(words)}, an input that stops after {place} bytes')
+
+
 def terminals():
     """A terminal as all three streams: lines are acted on as they are typed, and ^D ends the input. Of a terminal that
     is gone the system says either that the input has ended or that it can't be read."""
+    for words, given, status, output, errors in COMMANDS:
+        ended = at_terminal(words, given + b'\x04', output + errors)
+        check(ended == (status, output + errors), f'nbt {" ".join(words)} at a terminal')
     for words in (['show'], ['replay', 'FRED<20>']):
         report = {'show': b'1 tick 1\n2 tick 22\n', 'replay': b'1 dropped 0\n2 dropped 0\n'}[words[0]]
         for typed, wanted, status in [(b'tick 1\ntick 22\n\x04', report, 0), (b'tick 1\ntick 22\x04\x04', report, 0),
@@ -246,33 +247,6 @@ def terminals():
               f'nbt {words[0]}, its terminal gone')
 
 
-def quiet_terminal():
-    """A terminal that neither shows what is typed nor changes what is printed."""
-    terminal, slave = os.openpty()
-    settings = termios.tcgetattr(slave)
-    settings[1] &= ~termios.OPOST
-    settings[3] &= ~termios.ECHO
-    termios.tcsetattr(slave, termios.TCSANOW, settings)
-    return terminal, slave
-
-
-def at_terminal(words, typed, wanted):
-    """The status of the program at a terminal, and what it prints there."""
-    terminal, slave = quiet_terminal()
-    process = start(words, stdin=slave, stdout=slave, stderr=slave)
-    os.write(terminal, typed)
-    status, _ = wait(process)
-    os.close(slave)
-    output = b''
-    while len(output) < len(wanted) and select.select([terminal], [], [], 1)[0]:
-        try:
-            output += os.read(terminal, 4096)
-        except OSError:
-            break
-    os.close(terminal)
-    return status, output
-
-
 def full_disks():
     """A disk that is full after some bytes: what it has is a front of the output."""
     with tempfile.TemporaryDirectory() as folder:
@@ -281,6 +255,7 @@ def full_disks():
         else:
             try:
                 full_disk('a tmpfs of 16 kB', os.path.join(folder, 'output'), None)
+                filled_disk(folder)
             finally:
                 subprocess.run(['umount', folder], check=True)
         full_disk('files of at most 16 kB', os.path.join(folder, 'output'), small_files)
@@ -293,9 +268,12 @@ def small_files():
 
 
 def full_disk(name, path, before):
-    given = b''.join(f'138 0 {packet(it)}\n'.encode() for it in range(1_000))
+    """A file that takes 16 kB, as the output of each command whose output may be longer."""
+    given = captures(1_000)
     table = run(['save'], given)[1]
-    for words, given in [(['show'], given), (['replay', 'FRED<20>'], given), (['save'], given), (['merge'], table)]:
+    building = ['build', 'group', '10.0.0.5:138/0001', 'JOE<00>', 'FRED<20>', '5a' * 200, '1']
+    for words, given in [(['show'], given), (['replay', 'FRED<20>'], given), (['save'], given), (['merge'], table),
+                         (['list'], table), (building, b'')]:
         whole = run(words, given)[1]
         with open(path, 'wb') as output:
             status, _, errors = run(words, given, before=before, stdout=output)
@@ -304,13 +282,22 @@ def full_disk(name, path, before):
         os.remove(path)
         check((status, errors) == (3, b'nbt: write\n') and 0 < len(written) <= 16_384 < len(whole)
               and whole.startswith(written), f'nbt {words[0]}, {name}')
-    with open(path, 'wb', buffering=0) as errors:
-        while before is None:
-            try:
-                errors.write(bytes(4_096))
-            except OSError:
-                break
-        check(run(['name', 'FRED'], before=before, stderr=errors)[:2] == (1, b''), f'nbt name FRED, errors to {name}')
+
+
+def filled_disk(folder):
+    """A disk that is full already, as the output and as standard error of each command."""
+    with open(os.path.join(folder, 'filling'), 'wb', buffering=0) as filling, contextlib.suppress(OSError):
+        while True:
+            filling.write(bytes(4_096))
+    path = os.path.join(folder, 'output')
+    for words, given, status, output, errors in COMMANDS:
+        wanted = (3, b'nbt: write\n') if output else (status, errors)
+        with open(path, 'wb') as stream:
+            ended = run(words, given, stdout=stream)[::2]
+        check(ended == wanted and os.path.getsize(path) == 0, f'nbt {" ".join(words)}, output to a full disk')
+        with open(path, 'wb') as stream:
+            ended = run(words, given, stderr=stream)[:2]
+        check(ended == (status, output), f'nbt {" ".join(words)}, errors to a full disk')
 
 
 def short_memory():
@@ -320,12 +307,12 @@ def short_memory():
     library before any of its code runs. That is told apart by the loader alone, which under the same limit is asked
     for the libraries that it would load.
     """
-    captures = b''.join(f'138 0 {packet(it, data="5a" * 150)}\n'.encode() for it in range(3_000))
-    table = run(['save', '--keys', '65535'], captures)[1]
+    many = captures(3_000, '5a' * 150)
+    table = run(['save', '--keys', '65535'], many)[1]
     long = b'139 0 0001ffff' + b'5a' * 131_071 + b'\n'
-    work = [(['name', 'FRED<20>'], b''), (['show'], captures), (['show'], long),
-            (['replay', '--keys', '65535', 'FRED<20>'], captures), (['save', '--keys', '65535'], captures),
-            (['merge', '--keys', '65535'], table * 2), (['agree'], table * 2),
+    work = [(['name', 'FRED<20>'], b''), (['show'], many), (['show'], long),
+            (['replay', '--keys', '65535', 'FRED<20>'], many), (['save', '--keys', '65535'], many),
+            (['merge', '--keys', '65535'], table * 2), (['list', '--keys', '65535'], table * 2), (['agree'], table * 2),
             (['build', 'unique', '10.0.0.5:138/0001', 'JOE<00>', 'FRED<20>', '5a' * 40_000, '2'], b'')]
     least = next(it for it in range(64, 65_536, 64) if starts([], it << 10))
     print(f'the program starts from {least} kB of memory on')
@@ -341,26 +328,14 @@ def short_memory():
         check(whole[0] in outcomes, f'nbt {words[0]}: 64 megabytes are enough')
 
 
-def limited(limit):
-    """What limits a process's memory before the program starts."""
-    return lambda: resource.setrlimit(resource.RLIMIT_AS, (limit, limit))
-
-
-def starts(words, limit):
-    """Whether the system's loader can load the program, with these words, within a limit."""
-    asked = dict(os.environ, LD_TRACE_LOADED_OBJECTS='1')
-    loader = subprocess.run([program, *words], env=asked, preexec_fn=limited(limit), capture_output=True)
-    return loader.returncode == 0
-
-
 def is_told(ended, whole):
     """Whether a run ended as with ample memory, or says that memory ran out after a front of the output."""
     status, output, errors = ended
     return ended == whole or (status, errors) == (3, b'nbt: memory\n') and whole[1].startswith(output)
 
 
-program = os.path.realpath(sys.argv[1] if len(sys.argv) > 1 else PROGRAM)
-for group in (ordinary, failing_outputs, closed_reports, inputs, terminals, full_disks, short_memory):
+for group in (ordinary, failing_outputs, closed_reports, cut_reports, inputs, halting_inputs, terminals, full_disks,
+              short_memory):
     group()
 print(f'{counts[True]} passed, {counts[False]} failed')
 sys.exit(counts[False] > 0)

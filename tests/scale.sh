@@ -103,7 +103,7 @@ refusals() {
     refuses 1 "$name: bad: line 54321 is malformed (shard g0000-00000?)" "$1" "$program" --by-source 2 bad
     refuses 1 "$name: ever: lines 1 to * has * bytes, *: keys live across *(--by-source 3)*" "$1" "$program" ever
     refuses 3 "$name: many: lines * (shard g0000-00000?): *nbt: memory*" "$1" "$room/starving" many
-    refuses 3 "$name: many: lines * (shard g0000-00000?): *ended*" "$1" "$room/killed" many
+    refuses 3 "$name: many: lines * (shard g0000-00000?): *signal 9 ended the program*" "$1" "$room/killed" many
     refuses 3 "$name: nowhere: no such file" "$1" "$program" many nowhere
     refuses 3 "$name: ./nbt: no such program*" "$1" ./nbt many
     cp bad kept && "$1" "$program" many kept >output 2>errors

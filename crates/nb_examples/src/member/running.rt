@@ -58,7 +58,7 @@ fn pair_text(alloc: Global, pair: &Pair) -> Result<String, ExampleFault> {
 }
 
 /// The events of a text.
-fn events_of(alloc: Global, text: &str) -> Result<Vec<Event>, ExampleFault> {
+pub fn events_of(alloc: Global, text: &str) -> Result<Vec<Event>, ExampleFault> {
     let mut events = Vec::new(alloc);
     for step in text.split(", ") {
         events.push(event_of(alloc, step)?)?;

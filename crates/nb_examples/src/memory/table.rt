@@ -1,0 +1,168 @@
+//! The calls of nb_table that want memory.
+
+use crate::byte_text::text_of_bytes;
+use crate::datagram::texts::key_text;
+use crate::fault::ExampleFault;
+use crate::memory::{alone, asked, begin, end, told};
+use crate::table::joining::{cover_of, entry_of, joined_cover, joined_entry};
+use crate::table::merging::{merge_text, tables_of};
+use crate::table::steps::{
+    change_text, fault_text, lent, saved_text, step_of, table_of, two_tables,
+};
+use crate::words::{Words, split};
+use nb_table::{Cover, Entry, Join, LoadFault, Table, TableFault, join_all, load};
+use std::alloc::Global;
+
+/// All that a table answers: the bytes that it is saved as, how many keys it has, and of each what
+/// is known.
+pub fn reads(alloc: Global, table: &Table) -> Result<String, ExampleFault> {
+    let mut said = saved_text(alloc, table)?;
+    write!(said, " {}", table.len())?;
+    for key in table.keys() {
+        let text = key_text(alloc, key)?;
+        let state = table.state(&key);
+        let runs = table.run_count(&key);
+        write!(said, " {text} {state:?} {runs:?}")?;
+    }
+    Ok(said)
+}
+
+/// What a call on tables answers, unless memory ran out.
+pub fn not_memory<T: Drop>(answer: Result<T, TableFault>) -> Option<Result<T, TableFault>> {
+    match answer {
+        Err(TableFault::NoMemory) => None,
+        answer => Some(answer),
+    }
+}
+
+/// `insert TABLE | STEP`: what the insert answers.
+pub fn insert(alloc: Global, words: &mut Words<'_>) -> Result<String, ExampleFault> {
+    let (table, step) = split(words.rest(), " | ")?;
+    let mut table = table_of(alloc, table)?;
+    let parts = step_of(alloc, step)?;
+    let fragment = lent(&parts)?;
+    let (said, answer) = asked(
+        alloc,
+        &mut table,
+        |table| not_memory(table.insert(&fragment)),
+        |table| reads(alloc, table),
+    )?;
+    match answer {
+        Ok(change) => told(said, change_text(alloc, &change)?),
+        Err(fault) => told(said, fault_text(alloc, fault)?),
+    }
+}
+
+/// `merge TABLE | TABLE`: the datagrams that the first hands over as it merges the second.
+pub fn merge(alloc: Global, words: &mut Words<'_>) -> Result<String, ExampleFault> {
+    let (mut table, other) = two_tables(alloc, words.rest())?;
+    let (said, answer) = asked(
+        alloc,
+        &mut table,
+        |table| not_memory(table.merge(&other)),
+        |table| reads(alloc, table),
+    )?;
+    told(said, merge_text(alloc, answer)?)
+}
+
+/// `join TABLE | TABLE`: what the first is saved as once it joined the second.
+pub fn join(alloc: Global, words: &mut Words<'_>) -> Result<String, ExampleFault> {
+    let (mut table, other) = two_tables(alloc, words.rest())?;
+    let (said, _joined) = asked(
+        alloc,
+        &mut table,
+        |table| not_memory(table.join(&other)),
+        |table| reads(alloc, table),
+    )?;
+    told(said, saved_text(alloc, &table)?)
+}
+
+/// `cover STEP | STEP`: whether the cover of the first step, joined with that of the second, is
+/// that of both.
+pub fn cover(alloc: Global, words: &mut Words<'_>) -> Result<String, ExampleFault> {
+    let (one, other) = split(words.rest(), " | ")?;
+    let parts = step_of(alloc, one)?;
+    let fragment = lent(&parts)?;
+    let (mut said, mut cover) = alone(alloc, || Cover::of(alloc, &fragment).ok())?;
+    let before = cover_of(alloc, one)?;
+    let other_cover = cover_of(alloc, other)?;
+    let (joined, _joined) = asked(
+        alloc,
+        &mut cover,
+        |cover| not_memory(cover.join(&other_cover)),
+        |cover| Ok(format!(in alloc; "{}", *cover == before)?),
+    )?;
+    said.push_str(joined.as_str())?;
+    let both = format!(in alloc; "{one} {other}")?;
+    let is_both = cover == joined_cover(alloc, both.as_str())?;
+    told(said, format!(in alloc; "{is_both}")?)
+}
+
+/// `entry STEP | STEP`: the same of entries.
+pub fn entry(alloc: Global, words: &mut Words<'_>) -> Result<String, ExampleFault> {
+    let (one, other) = split(words.rest(), " | ")?;
+    let parts = step_of(alloc, one)?;
+    let fragment = lent(&parts)?;
+    let (mut said, mut entry) = alone(alloc, || Entry::of(alloc, &fragment).ok())?;
+    let before = entry_of(alloc, one)?;
+    let other_entry = entry_of(alloc, other)?;
+    let (joined, _joined) = asked(
+        alloc,
+        &mut entry,
+        |entry| not_memory(entry.join(&other_entry)),
+        |entry| Ok(format!(in alloc; "{}", *entry == before)?),
+    )?;
+    said.push_str(joined.as_str())?;
+    let both = format!(in alloc; "{one} {other}")?;
+    let is_both = entry == joined_entry(alloc, both.as_str())?;
+    told(said, format!(in alloc; "{is_both}")?)
+}
+
+/// `join_all TABLE | TABLE ..`: what the first table is saved as once all others are joined to it.
+/// Where memory runs out it has to hold those in front of the place that was answered.
+pub fn joins(alloc: Global, words: &mut Words<'_>) -> Result<String, ExampleFault> {
+    let text = words.rest();
+    let (mut first, others) = tables_of(alloc, text)?;
+    let (mut expected, _) = tables_of(alloc, text)?;
+    let mut said = begin(alloc)?;
+    let answer = join_all(&mut first, others.as_slice());
+    end(&mut said)?;
+    if let Err((place, TableFault::NoMemory)) = answer {
+        let (front, rest) = others.as_slice().split_at(place.min(others.len()));
+        join_all(&mut expected, front).map_err(|_| ExampleFault::NoMemory)?;
+        said.push_str(
+            match reads(alloc, &first)?.as_str() == reads(alloc, &expected)?.as_str() {
+                true => "memory, as before, ",
+                false => "memory, changed, ",
+            },
+        )?;
+        join_all(&mut first, rest).map_err(|_| ExampleFault::NoMemory)?;
+    }
+    told(said, saved_text(alloc, &first)?)
+}
+
+/// `save TABLE`: the bytes that the table is saved as.
+pub fn save(alloc: Global, words: &mut Words<'_>) -> Result<String, ExampleFault> {
+    let table = table_of(alloc, words.rest())?;
+    let (said, saved) = alone(alloc, || table.save().ok())?;
+    told(said, text_of_bytes(alloc, saved.as_slice())?)
+}
+
+/// `load KEYS[:PER_SOURCE] LONGEST BYTES`: what the table that is loaded is saved as again, or why there is
+/// none.
+pub fn loads(alloc: Global, words: &mut Words<'_>) -> Result<String, ExampleFault> {
+    let (keys, per_source) = words.capacity()?;
+    let longest = words.number_16()?;
+    let bytes = words.bytes(alloc)?;
+    let (said, answer) = alone(
+        alloc,
+        || match load(alloc, bytes.as_slice(), keys, per_source, longest) {
+            Err(LoadFault::NoMemory) => None,
+            answer => Some(answer),
+        },
+    )?;
+    match answer {
+        Ok(table) => told(said, saved_text(alloc, &table)?),
+        Err(fault) => told(said, format!(in alloc; "{fault}")?),
+    }
+}

@@ -65,7 +65,8 @@ alone() { sed -n '/^let /p' "$examples/memory.txt" >"$room/input" && printf '%s\
 # has. `N bytes taken` is what a device has given by then: a header.
 told() {
     local wanted answered
-    wanted=$(sed -n '1s/^[^=]* = //p' "$room/output")
+    wanted=$(head -n 1 "$room/output")
+    wanted=${wanted#* = }
     answered=$(sed -n '2s/^    answered: //p' "$room/output")
     [[ $answered == *memory,* ]] &&
         [ "$(sed -E 's/memory, (as before, |4 bytes taken, )?//g' <<<"$answered")" = "$wanted" ] &&
@@ -78,7 +79,8 @@ refuses() {
     local line=$1 name=${1:0:70} most total n
     alone "$line"
     NBT_CALLS=$room/calls LD_PRELOAD=$room/refuse_memory.so "$program" <"$room/input" >"$room/output"
-    count $? "$name"
+    [ $? -eq 0 ] && grep -qvx 0 "$room/calls"
+    count $? "$name: it asks for memory"
     most=$(sort -n "$room/calls" | tail -n 1)
     total=$(awk '{ total += $1 } END { print total + 0 }' "$room/calls")
     echo "$total requests in $(wc -l <"$room/calls") calls, $most the most: $name"

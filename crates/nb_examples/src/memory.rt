@@ -65,26 +65,7 @@ fn answer_of_tables(
         "run" => member::runs(alloc, words),
         "two" => member::two(alloc, words),
         "replay" => member::replays(alloc, words),
-        _ => answer_of_many(alloc, call, words),
-    }
-}
-
-/// What many calls answer that want no memory.
-fn answer_of_many(
-    alloc: Global,
-    call: &str,
-    words: &mut Words<'_>,
-) -> Result<String, ExampleFault> {
-    match call {
-        "lists" => quiet::lists(alloc, words),
-        "names" => quiet::names(alloc, words),
-        "devices" => quiet::devices(alloc, words),
-        "service" => quiet::service(alloc, words),
-        "session" => quiet::session(alloc, words),
-        "datagram" => quiet::datagram(alloc, words),
-        "table" => quiet::table(alloc, words),
-        "member" => quiet::member(alloc, words),
-        _ => Err(ExampleFault::NoSuchCall),
+        _ => quiet::answer(alloc, call, words),
     }
 }
 
@@ -123,13 +104,18 @@ where
         return Ok((said, answer));
     }
     let after = reads(object)?;
-    said.push_str(match before.as_str() == after.as_str() {
-        true => "memory, as before, ",
-        false => "memory, changed, ",
-    })?;
+    said.push_str(as_before(before.as_str() == after.as_str()))?;
     match call(object) {
         Some(answer) => Ok((said, answer)),
         None => Err(ExampleFault::NoMemory),
+    }
+}
+
+/// That memory ran out, and whether what has to be the same then is the same.
+fn as_before(is_same: bool) -> &'static str {
+    match is_same {
+        true => "memory, as before, ",
+        false => "memory, changed, ",
     }
 }
 

@@ -34,7 +34,7 @@ pub fn run_by_two(alloc: Global, words: &mut Words<'_>) -> Result<String, Exampl
 }
 
 /// Two new members, and their runs.
-fn pair_of(
+pub fn pair_of(
     alloc: Global,
     station: &str,
     other: &str,

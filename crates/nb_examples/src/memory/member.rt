@@ -6,14 +6,14 @@ use crate::fault::ExampleFault;
 use crate::member::lines::line_text;
 use crate::member::outcomes::taken_text;
 use crate::member::replays::{capture_of, report_text};
-use crate::member::running::events_of;
+use crate::member::running::{events_of, pair_of};
 use crate::member::stations::{member_of, names_of, settings_of};
 use crate::member::steps::absorbed_text;
 use crate::memory::table::{not_memory, reads};
-use crate::memory::{alone, asked, begin, end, told};
+use crate::memory::{alone, as_before, asked, begin, end, told};
 use crate::words::{Words, split};
 use nb_member::{
-    AddFault, LineFault, LineReadFault, LineRoom, LocalNames, Member, MemberFault, Pair,
+    AddFault, Event, LineFault, LineReadFault, LineRoom, LocalNames, Member, MemberFault, Pair,
     ReplayFault, RunReport, RunStop, capture_line, next_line, replay, run, two_members,
 };
 use nb_names::{Counted, Name};
@@ -47,7 +47,7 @@ fn held_text(alloc: Global, names: &LocalNames, name: &Name) -> Result<String, E
 }
 
 /// The member of a station that took payloads at the moment 0.
-fn member_after(alloc: Global, station: &str, payloads: &str) -> Result<Member, ExampleFault> {
+pub fn member_after(alloc: Global, station: &str, payloads: &str) -> Result<Member, ExampleFault> {
     let mut member = member_of(alloc, station)?;
     for payload in payloads.split_whitespace() {
         let bytes = bytes_of(alloc, payload)?;
@@ -113,34 +113,119 @@ pub fn line(alloc: Global, words: &mut Words<'_>) -> Result<String, ExampleFault
 }
 
 /// `next MOST CAPTURE`: the lines of a capture, over a reader that gives at most so many bytes a
-/// call. After a call for which memory ran out the next, which isn't marked, goes on.
+/// call. Where memory runs out, the room has to hold the bytes that were read and aren't in a line
+/// handed out, and the next call, which isn't marked, goes on.
 pub fn lines(alloc: Global, words: &mut Words<'_>) -> Result<String, ExampleFault> {
     let mut conduct = WILLING;
     conduct.most = words.size()?;
     let capture = capture_of(alloc, words.rest())?;
-    let mut source = Source::new(capture.as_slice(), conduct);
-    let mut reader = Counted::new(&mut source);
-    let mut room = LineRoom::new(alloc);
+    let mut reading = Reading {
+        source: Source::new(capture.as_slice(), conduct),
+        room: LineRoom::new(alloc),
+        unhanded: capture.len(),
+        lacks_memory: false,
+    };
     let mut said = String::new(alloc);
-    let mut is_marked = true;
     for _ in 0..=capture.len().saturating_mul(2) {
-        let mut mark = if is_marked {
-            begin(alloc)?
-        } else {
-            String::new(alloc)
-        };
-        let answer = next_line(&mut reader, &mut room);
-        end(&mut mark)?;
-        said.push_str(mark.as_str())?;
-        is_marked = !matches!(answer, Err(LineReadFault::NoMemory));
-        match answer {
-            Ok(Some(line)) => write!(said, "{}, ", text_of_bytes(alloc, line)?)?,
-            Ok(None) => return told(said, String::from_str(alloc, "end")?),
-            Err(LineReadFault::NoMemory) => said.push_str("memory, ")?,
-            Err(_) => return Err(ExampleFault::BadWords),
+        if reading.is_over(alloc, &mut said)? {
+            said.push_str("end")?;
+            return Ok(said);
         }
     }
     Err(ExampleFault::NoMemory)
+}
+
+/// A capture that is read line by line.
+#[derive(Drop)]
+struct Reading<'a> {
+    source: Source<'a>,
+    room: LineRoom,
+    /// How many bytes of the capture are in no line handed out.
+    unhanded: usize,
+    /// Whether memory ran out in the call before.
+    lacks_memory: bool,
+}
+
+impl Reading<'_> {
+    /// Makes a call, and says what it answers: whether the capture is over.
+    fn is_over(&mut self, alloc: Global, said: &mut String) -> Result<bool, ExampleFault> {
+        let mut mark = self.mark(alloc)?;
+        let answer = next_line(&mut Counted::new(&mut self.source), &mut self.room);
+        end(&mut mark)?;
+        self.lacks_memory = matches!(answer, Err(LineReadFault::NoMemory));
+        match answer {
+            Ok(Some(line)) => {
+                self.unhanded = self.unhanded.saturating_sub(line.len().saturating_add(1));
+                said.push_str(text_of_bytes(alloc, line)?.as_str())?;
+                said.push_str(", ")?;
+                Ok(false)
+            }
+            Ok(None) => Ok(true),
+            Err(LineReadFault::NoMemory) => self.say_held(said),
+            Err(_) => Err(ExampleFault::BadWords),
+        }
+    }
+
+    /// The mark before a call, if it has one.
+    fn mark(&self, alloc: Global) -> Result<String, ExampleFault> {
+        match self.lacks_memory {
+            true => Ok(String::new(alloc)),
+            false => begin(alloc),
+        }
+    }
+
+    /// Says that memory ran out, and whether the room holds what it has to.
+    fn say_held(&self, said: &mut String) -> Result<bool, ExampleFault> {
+        let held = self.unhanded.saturating_sub(self.source.left().len());
+        said.push_str(as_before(self.room.held() == held))?;
+        Ok(false)
+    }
+}
+
+/// What came of a run, but for the datagrams and the error packets.
+#[derive(Clone, Copy)]
+struct Tally {
+    taken: usize,
+    refused: usize,
+    handed: usize,
+    stop: Option<RunStop>,
+}
+
+impl Tally {
+    /// What came of a run.
+    fn of(report: &RunReport) -> Tally {
+        Tally {
+            taken: report.taken,
+            refused: report.refused,
+            handed: report.deliveries.as_slice().len(),
+            stop: report.stop,
+        }
+    }
+
+    /// Whether the run stopped because memory ran out.
+    fn lacks_memory(&self) -> bool {
+        matches!(self.stop, Some(RunStop::NoMemory))
+    }
+
+    /// What came of this run and of one after it.
+    fn then(&self, after: Tally) -> Tally {
+        Tally {
+            taken: self.taken.saturating_add(after.taken),
+            refused: self.refused.saturating_add(after.refused),
+            handed: self.handed.saturating_add(after.handed),
+            stop: after.stop,
+        }
+    }
+
+    /// Says what came of it.
+    fn say(&self, said: &mut String) -> Result<(), ExampleFault> {
+        let (taken, refused) = (self.taken, self.refused);
+        let (handed, stop) = (self.handed, self.stop);
+        Ok(write!(
+            said,
+            "taken {taken}, refused {refused}, handed over {handed}, stop {stop:?}"
+        )?)
+    }
 }
 
 /// `run STATION EVENTS`: how many events a run takes and refuses, and how many datagrams it hands
@@ -149,31 +234,22 @@ pub fn runs(alloc: Global, words: &mut Words<'_>) -> Result<String, ExampleFault
     let mut member = member_of(alloc, words.word()?)?;
     let events = events_of(alloc, words.rest())?;
     let mut said = begin(alloc)?;
-    let report = run(alloc, &mut member, events.as_slice());
+    let tally = run_tally(alloc, &mut member, events.as_slice());
     end(&mut said)?;
-    let (mut taken, mut refused, mut handed) = counts(&report);
-    let mut stop = report.stop;
-    if let Some(RunStop::NoMemory) = stop {
+    if tally.lacks_memory() {
         said.push_str("memory, ")?;
-        let rest = events.as_slice().get(taken..).unwrap_or(&[]);
-        let after = run(alloc, &mut member, rest);
-        let more = counts(&after);
-        taken = taken.saturating_add(more.0);
-        refused = refused.saturating_add(more.1);
-        handed = handed.saturating_add(more.2);
-        stop = after.stop;
+        let rest = events.as_slice().get(tally.taken..).unwrap_or(&[]);
+        let after = run_tally(alloc, &mut member, rest);
+        tally.then(after).say(&mut said)?;
+    } else {
+        tally.say(&mut said)?;
     }
-    write!(
-        said,
-        "taken {taken}, refused {refused}, handed over {handed}, stop {stop:?}"
-    )?;
     Ok(said)
 }
 
-/// How many events a run took and refused, and how many datagrams it handed over.
-fn counts(report: &RunReport) -> (usize, usize, usize) {
-    let handed = report.deliveries.as_slice().len();
-    (report.taken, report.refused, handed)
+/// What comes of a run.
+fn run_tally(alloc: Global, member: &mut Member, events: &[Event]) -> Tally {
+    Tally::of(&run(alloc, member, events))
 }
 
 /// `two STATION NAMES EVENTS | EVENTS`: what the runs of two members take, refuse and hand over,
@@ -184,27 +260,51 @@ pub fn two(alloc: Global, words: &mut Words<'_>) -> Result<String, ExampleFault>
     let (a, b) = split(words.rest(), " | ")?;
     let a = events_of(alloc, a)?;
     let b = events_of(alloc, b)?;
-    let settings = settings_of(station)?;
-    let names = (names_of(alloc, station)?, names_of(alloc, other)?);
-    let again = (names_of(alloc, station)?, names_of(alloc, other)?);
-    let mut said = begin(alloc)?;
-    let mut pair = two_members(alloc, settings, names.0, names.1, &a, &b);
-    end(&mut said)?;
-    if lacks_memory(&pair) {
+    let (mut said, pair) = marked_pair(alloc, station, other, &a, &b)?;
+    if pair.0.lacks_memory() || pair.1.lacks_memory() {
         said.push_str("memory, ")?;
-        pair = two_members(alloc, settings, again.0, again.1, &a, &b);
+        let again = pair_of(alloc, station, other, &a, &b)?;
+        say_pair(&mut said, pair_tally(&again))?;
+    } else {
+        say_pair(&mut said, pair)?;
     }
-    let is_same = pair.a.table().same(pair.b.table());
-    let a = counts(&pair.report_a);
-    let b = counts(&pair.report_b);
-    write!(said, "{a:?} {b:?} {is_same}")?;
     Ok(said)
 }
 
-/// Whether one of two runs stopped because memory ran out.
-fn lacks_memory(pair: &Pair) -> bool {
-    matches!(pair.report_a.stop, Some(RunStop::NoMemory))
-        || matches!(pair.report_b.stop, Some(RunStop::NoMemory))
+/// What comes of the runs of two members, between marks.
+fn marked_pair(
+    alloc: Global,
+    station: &str,
+    other: &str,
+    a: &[Event],
+    b: &[Event],
+) -> Result<(String, (Tally, Tally, bool)), ExampleFault> {
+    let settings = settings_of(station)?;
+    let names_a = names_of(alloc, station)?;
+    let names_b = names_of(alloc, other)?;
+    let mut said = begin(alloc)?;
+    let pair = pair_tally(&two_members(alloc, settings, names_a, names_b, a, b));
+    end(&mut said)?;
+    Ok((said, pair))
+}
+
+/// What came of two runs, and whether the tables are equal.
+fn pair_tally(pair: &Pair) -> (Tally, Tally, bool) {
+    let is_same = pair.a.table().same(pair.b.table());
+    (
+        Tally::of(&pair.report_a),
+        Tally::of(&pair.report_b),
+        is_same,
+    )
+}
+
+/// Says what came of two runs.
+fn say_pair(said: &mut String, pair: (Tally, Tally, bool)) -> Result<(), ExampleFault> {
+    pair.0.say(said)?;
+    said.push_str("; ")?;
+    pair.1.say(said)?;
+    let is_same = pair.2;
+    Ok(write!(said, "; {is_same}")?)
 }
 
 /// `replay STATION CAPTURE`: the report of a capture. Where memory ran out, what was written has to
@@ -215,29 +315,39 @@ pub fn replays(alloc: Global, words: &mut Words<'_>) -> Result<String, ExampleFa
     let mut sink = Sink::new(alloc, WILLING);
     sink.make_room(4_096)?;
     let mut member = member_of(alloc, station)?;
-    let mut source = Source::new(capture.as_slice(), WILLING);
     let mut said = begin(alloc)?;
-    let answer = replay(
-        alloc,
-        &mut Counted::new(&mut source),
-        &mut Counted::new(&mut sink),
-        &mut member,
-    );
+    let lacks_memory = lacks_memory(alloc, capture.as_slice(), &mut sink, &mut member);
     end(&mut said)?;
-    if !matches!(answer, Err(ReplayFault::NoMemory)) {
-        return told(said, report_text(alloc, sink.taken())?);
+    if lacks_memory {
+        say_replayed(alloc, station, capture.as_slice(), sink.taken(), &mut said)?;
+    } else {
+        said.push_str(report_text(alloc, sink.taken())?.as_str())?;
     }
-    let mut whole = Sink::new(alloc, WILLING);
-    let mut another = member_of(alloc, station)?;
-    let _ = replay(
-        alloc,
-        &mut Counted::new(&mut Source::new(capture.as_slice(), WILLING)),
-        &mut Counted::new(&mut whole),
-        &mut another,
-    );
-    said.push_str(match whole.taken().starts_with(sink.taken()) {
-        true => "memory, as before, ",
-        false => "memory, changed, ",
-    })?;
-    told(said, report_text(alloc, whole.taken())?)
+    Ok(said)
+}
+
+/// Replays a capture: whether memory ran out.
+fn lacks_memory(alloc: Global, capture: &[u8], sink: &mut Sink, member: &mut Member) -> bool {
+    let mut source = Source::new(capture, WILLING);
+    let reader = &mut Counted::new(&mut source);
+    let answer = replay(alloc, reader, &mut Counted::new(sink), member);
+    matches!(answer, Err(ReplayFault::NoMemory))
+}
+
+/// Replays a capture once more in a new member: whether what was written is a front of the report,
+/// and the report.
+fn say_replayed(
+    alloc: Global,
+    station: &str,
+    capture: &[u8],
+    written: &[u8],
+    said: &mut String,
+) -> Result<(), ExampleFault> {
+    let mut sink = Sink::new(alloc, WILLING);
+    let mut member = member_of(alloc, station)?;
+    if lacks_memory(alloc, capture, &mut sink, &mut member) {
+        return Err(ExampleFault::NoMemory);
+    }
+    said.push_str(as_before(sink.taken().starts_with(written)))?;
+    Ok(said.push_str(report_text(alloc, sink.taken())?.as_str())?)
 }

@@ -3,7 +3,7 @@
 use crate::byte_text::text_of_bytes;
 use crate::datagram::texts::key_text;
 use crate::fault::ExampleFault;
-use crate::memory::{alone, asked, begin, end, told};
+use crate::memory::{alone, as_before, asked, begin, end, told};
 use crate::table::joining::{cover_of, entry_of, joined_cover, joined_entry};
 use crate::table::merging::{merge_text, tables_of};
 use crate::table::steps::{
@@ -65,16 +65,19 @@ pub fn merge(alloc: Global, words: &mut Words<'_>) -> Result<String, ExampleFaul
     told(said, merge_text(alloc, answer)?)
 }
 
-/// `join TABLE | TABLE`: what the first is saved as once it joined the second.
+/// `join TABLE | TABLE`: what the first is saved as once it joined the second, or why it can't.
 pub fn join(alloc: Global, words: &mut Words<'_>) -> Result<String, ExampleFault> {
     let (mut table, other) = two_tables(alloc, words.rest())?;
-    let (said, _joined) = asked(
+    let (said, answer) = asked(
         alloc,
         &mut table,
         |table| not_memory(table.join(&other)),
         |table| reads(alloc, table),
     )?;
-    told(said, saved_text(alloc, &table)?)
+    match answer {
+        Ok(()) => told(said, saved_text(alloc, &table)?),
+        Err(fault) => told(said, fault_text(alloc, fault)?),
+    }
 }
 
 /// `cover STEP | STEP`: whether the cover of the first step, joined with that of the second, is
@@ -118,27 +121,33 @@ pub fn entry(alloc: Global, words: &mut Words<'_>) -> Result<String, ExampleFaul
     told(said, format!(in alloc; "{is_both}")?)
 }
 
-/// `join_all TABLE | TABLE ..`: what the first table is saved as once all others are joined to it.
-/// Where memory runs out it has to hold those in front of the place that was answered.
+/// `join_all TABLE | TABLE ..`: what the first table is saved as once all others are joined to it,
+/// after the fault where one is refused. Where memory runs out it has to hold those in front of the
+/// place that was answered.
 pub fn joins(alloc: Global, words: &mut Words<'_>) -> Result<String, ExampleFault> {
     let text = words.rest();
     let (mut first, others) = tables_of(alloc, text)?;
-    let (mut expected, _) = tables_of(alloc, text)?;
     let mut said = begin(alloc)?;
     let answer = join_all(&mut first, others.as_slice());
     end(&mut said)?;
-    if let Err((place, TableFault::NoMemory)) = answer {
-        let (front, rest) = others.as_slice().split_at(place.min(others.len()));
-        join_all(&mut expected, front).map_err(|_| ExampleFault::NoMemory)?;
-        said.push_str(
-            match reads(alloc, &first)?.as_str() == reads(alloc, &expected)?.as_str() {
-                true => "memory, as before, ",
-                false => "memory, changed, ",
-            },
-        )?;
-        join_all(&mut first, rest).map_err(|_| ExampleFault::NoMemory)?;
+    match answer {
+        Ok(()) => {}
+        Err((place, TableFault::NoMemory)) => {
+            said.push_str(as_before(has_front(alloc, text, place, &first)?))?;
+            let rest = others.as_slice().get(place..).unwrap_or(&[]);
+            join_all(&mut first, rest).map_err(|_| ExampleFault::NoMemory)?;
+        }
+        Err((place, fault)) => write!(said, "{place} {fault}; ")?,
     }
     told(said, saved_text(alloc, &first)?)
+}
+
+/// Whether a table is the first one of the text, joined with those in front of the place.
+fn has_front(alloc: Global, text: &str, place: usize, table: &Table) -> Result<bool, ExampleFault> {
+    let (mut expected, others) = tables_of(alloc, text)?;
+    let front = others.as_slice().get(..place).unwrap_or(&[]);
+    join_all(&mut expected, front).map_err(|_| ExampleFault::NoMemory)?;
+    Ok(reads(alloc, table)?.as_str() == reads(alloc, &expected)?.as_str())
 }
 
 /// `save TABLE`: the bytes that the table is saved as.

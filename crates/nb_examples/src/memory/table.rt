@@ -157,7 +157,7 @@ pub fn save(alloc: Global, words: &mut Words<'_>) -> Result<String, ExampleFault
     told(said, text_of_bytes(alloc, saved.as_slice())?)
 }
 
-/// `load KEYS[:PER_SOURCE] LONGEST BYTES`: what the table that is loaded is saved as again, or why there is
+/// `load CAPACITY LONGEST BYTES`: what the table that is loaded is saved as again, or why there is
 /// none.
 pub fn loads(alloc: Global, words: &mut Words<'_>) -> Result<String, ExampleFault> {
     let (keys, per_source) = words.capacity()?;

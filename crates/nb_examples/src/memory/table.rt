@@ -80,45 +80,65 @@ pub fn join(alloc: Global, words: &mut Words<'_>) -> Result<String, ExampleFault
     }
 }
 
-/// `cover STEP | STEP`: whether the cover of the first step, joined with that of the second, is
-/// that of both.
+/// `cover STEP STEP`: whether the cover of the first step, joined with that of the second, is that
+/// of both.
 pub fn cover(alloc: Global, words: &mut Words<'_>) -> Result<String, ExampleFault> {
-    let (one, other) = split(words.rest(), " | ")?;
+    let both = words.rest();
+    let (one, other) = split(both, " ")?;
     let parts = step_of(alloc, one)?;
     let fragment = lent(&parts)?;
-    let (mut said, mut cover) = alone(alloc, || Cover::of(alloc, &fragment).ok())?;
+    let (mut said, cover) = alone(alloc, || Cover::of(alloc, &fragment).ok())?;
     let before = cover_of(alloc, one)?;
-    let other_cover = cover_of(alloc, other)?;
-    let (joined, _joined) = asked(
+    let other = cover_of(alloc, other)?;
+    say_joined(
         alloc,
-        &mut cover,
-        |cover| not_memory(cover.join(&other_cover)),
-        |cover| Ok(format!(in alloc; "{}", *cover == before)?),
+        cover,
+        &before,
+        &other,
+        &joined_cover(alloc, both)?,
+        &mut said,
     )?;
-    said.push_str(joined.as_str())?;
-    let both = format!(in alloc; "{one} {other}")?;
-    let is_both = cover == joined_cover(alloc, both.as_str())?;
-    told(said, format!(in alloc; "{is_both}")?)
+    Ok(said)
 }
 
-/// `entry STEP | STEP`: the same of entries.
+/// `entry STEP STEP`: the same of entries.
 pub fn entry(alloc: Global, words: &mut Words<'_>) -> Result<String, ExampleFault> {
-    let (one, other) = split(words.rest(), " | ")?;
+    let both = words.rest();
+    let (one, other) = split(both, " ")?;
     let parts = step_of(alloc, one)?;
     let fragment = lent(&parts)?;
-    let (mut said, mut entry) = alone(alloc, || Entry::of(alloc, &fragment).ok())?;
+    let (mut said, entry) = alone(alloc, || Entry::of(alloc, &fragment).ok())?;
     let before = entry_of(alloc, one)?;
-    let other_entry = entry_of(alloc, other)?;
+    let other = entry_of(alloc, other)?;
+    say_joined(
+        alloc,
+        entry,
+        &before,
+        &other,
+        &joined_entry(alloc, both)?,
+        &mut said,
+    )?;
+    Ok(said)
+}
+
+/// Joins a value that is equal to `before` with another: whether it is then equal to that of both.
+fn say_joined<J: Join + PartialEq + Drop>(
+    alloc: Global,
+    mut value: J,
+    before: &J,
+    other: &J,
+    both: &J,
+    said: &mut String,
+) -> Result<(), ExampleFault> {
     let (joined, _joined) = asked(
         alloc,
-        &mut entry,
-        |entry| not_memory(entry.join(&other_entry)),
-        |entry| Ok(format!(in alloc; "{}", *entry == before)?),
+        &mut value,
+        |value| not_memory(value.join(other)),
+        |value| Ok(format!(in alloc; "{}", *value == *before)?),
     )?;
     said.push_str(joined.as_str())?;
-    let both = format!(in alloc; "{one} {other}")?;
-    let is_both = entry == joined_entry(alloc, both.as_str())?;
-    told(said, format!(in alloc; "{is_both}")?)
+    let is_both = value == *both;
+    Ok(write!(said, "{is_both}")?)
 }
 
 /// `join_all TABLE | TABLE ..`: what the first table is saved as once all others are joined to it,

@@ -12,8 +12,9 @@ use nb_member::{LineRoom, LocalNames, Member};
 use nb_table::{State, Table};
 use std::alloc::Global;
 
-/// `table KEY TABLE`: how many keys the table has, what it knows of the key and in how many runs,
-/// whether dropping the key drops one, and a second time, and how many keys a new table has.
+/// `table KEY TABLE`: how many keys the table has, what it knows of the key, in how many runs, and
+/// whether there is an outline, whether dropping the key drops one, and a second time, and how many
+/// keys a new table has.
 pub fn table(alloc: Global, words: &mut Words<'_>) -> Result<String, ExampleFault> {
     let key = words.key()?;
     let mut table = table_of(alloc, words.rest())?;
@@ -25,9 +26,16 @@ pub fn table(alloc: Global, words: &mut Words<'_>) -> Result<String, ExampleFaul
 }
 
 /// How many keys a table has, by both of its counts, and what it knows of a key.
-fn known(table: &Table, key: &Key) -> (usize, usize, State, Option<u32>) {
+fn known(table: &Table, key: &Key) -> (usize, usize, State, Option<u32>, bool) {
     let keys = table.keys().count();
-    (table.len(), keys, table.state(key), table.run_count(key))
+    let has_outline = table.outline(key).is_some();
+    (
+        table.len(),
+        keys,
+        table.state(key),
+        table.run_count(key),
+        has_outline,
+    )
 }
 
 /// `fits TABLE | TABLE`: whether the tables are the same, and whether the first has room for the

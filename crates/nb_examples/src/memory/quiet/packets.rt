@@ -119,7 +119,8 @@ pub fn port_138(alloc: Global, words: &mut Words<'_>) -> Result<String, ExampleF
 
 /// How many bytes the packet at the front has.
 fn length(bytes: &[u8]) -> Result<usize, DatagramFault> {
-    decode(bytes).map(|(_, used)| used)
+    let (_, used) = decode(bytes)?;
+    Ok(used)
 }
 
 /// `fragment STEP`: the parts of a fragment, or why there is none.

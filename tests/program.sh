@@ -22,8 +22,8 @@ sample() {
     count $? "$command"
 }
 
-# remembers WORD..: with each request for memory refused, the process ends as it does with ample memory, or with
-# status 3, `nbt: memory`, and whole lines of its output or none.
+# remembers WORD..: with each request for memory refused, the process ends with status 3, `nbt: memory`, and what its
+# command leaves on its output then. Of words that aren't a command line it may also end as with ample memory.
 remembers() {
     local status number n
     NBT_REQUESTS=$room/requests LD_PRELOAD=$room/refuse_memory.so "$program" "$@" <"$input" >"$room/ample" 2>"$room/ample_errors"
@@ -34,19 +34,22 @@ remembers() {
     for ((n = 1; n <= number; n++)); do
         NBT_REFUSED=$n LD_PRELOAD=$room/refuse_memory.so "$program" "$@" <"$input" >"$room/output" 2>"$room/errors"
         case $? in
-        "$status") cmp -s "$room/ample" "$room/output" && cmp -s "$room/ample_errors" "$room/errors" ;;
-        3) holds "$room/errors" $'nbt: memory\n' && is_front ;;
+        2) [ "$status" -eq 2 ] && cmp -s "$room/ample" "$room/output" && cmp -s "$room/ample_errors" "$room/errors" ;;
+        3) holds "$room/errors" $'nbt: memory\n' && is_left_by "${1:-}" ;;
         *) false ;;
         esac
         count $? "nbt $*: request $n of $number refused"
     done
 }
 
-# Whether the output is a front of the output with ample memory, and ends where a line does.
-is_front() {
+# is_left_by COMMAND: whether the output is what a command leaves that ran out of memory: show and replay a front of the
+# output with ample memory that ends where a line does, the others nothing.
+is_left_by() {
     local size
     size=$(stat -c %s "$room/output")
-    [ "$size" -eq 0 ] || { head -c "$size" "$room/ample" | cmp -s - "$room/output" && [ -z "$(tail -c 1 "$room/output")" ]; }
+    [ "$size" -eq 0 ] || {
+        [[ $1 == show || $1 == replay ]] && head -c "$size" "$room/ample" | cmp -s - "$room/output" && [ -z "$(tail -c 1 "$room/output")" ]
+    }
 }
 
 fred=20454746434546454543414341434143414341434143414341434143414341434100
@@ -192,6 +195,8 @@ input=/dev/null
 remembers name 'FRED<20>.NETBIOS.COM'
 remembers name --bytes "$scoped"
 remembers name FRED
+remembers name --bytes 0g
+remembers name --bytes "${fred}00"
 remembers name
 remembers name --help
 remembers --help
@@ -210,15 +215,35 @@ remembers save
 remembers save --keys 0
 remembers replay 'FRED<20>' 'JOE<00>'
 remembers replay FRED
+printf '138 0 %s\n' $empty >"$room/input"
+remembers show
+remembers save
 printf '138 0 %s\n138 1 %s\ntick 2000\n138 2001 %s\n137 2002 00\n138 2003 17\n' $empty $empty $empty >"$room/capture"
 input=$room/capture
 remembers replay 'FRED<20>'
 remembers show
 remembers save
-"$program" save <"$room/input" | sed p >"$room/tables"
+printf '138 0 %s\n' $empty "${empty/0001/0002}" "${empty/0001/0003}" >"$room/several"
+input=$room/several
+remembers replay --per-source 2 'FRED<20>'
+remembers save --per-source 2
+remembers save --keys 2
+remembers save
+"$program" save <"$room/capture" | sed p >"$room/tables"
 input=$room/tables
 remembers merge
 remembers list
+remembers agree
+{ head -n 1 "$room/tables" && "$program" save <"$room/several"; } >"$room/unequal"
+input=$room/unequal
+remembers merge
+remembers list
+remembers agree
+remembers merge --keys 2
+remembers merge --per-source 2
+printf '4e425433\n' >"$room/input"
+input=$room/input
+remembers merge
 remembers agree
 
 finish

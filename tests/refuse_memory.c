@@ -1,14 +1,21 @@
-/* Put before the C library with LD_PRELOAD: refuses one request for memory of the program that it is loaded into.
+/* Put before the C library with LD_PRELOAD: refuses requests for memory of the program that it is loaded into.
  *
- * NBT_REFUSED  the number of the request to refuse, the first being 1; none is refused without it
- * NBT_REQUESTS a file that gets the number of requests, in decimal, when the program ends
+ * NBT_REFUSED       the number of the request to refuse, the first being 1; none is refused without it
+ * NBT_REQUESTS      a file that gets the number of requests, in decimal, when the program ends
+ * NBT_CALL_REFUSED  the number of the request to refuse in each call between marks, the first of each being 1
+ * NBT_CALLS         a file that gets how many requests each call between marks made, a line each, when the program ends
  *
- * A request is a call of malloc or realloc, which are all that the program's allocator calls. */
+ * A request is a call of malloc or realloc, which are all that the program's allocator calls. A program marks a call of
+ * its own by two requests of an odd size, which no other request has: one of MARK bytes right before the call, and right
+ * after it a larger one for the same block. Neither is a request of the call, and neither is refused as one. */
 #define _GNU_SOURCE
 #include <dlfcn.h>
 #include <errno.h>
 #include <stdio.h>
 #include <stdlib.h>
+
+#define MARK 50021
+#define MOST_CALLS 1000000
 
 typedef void *(*allocate)(size_t);
 typedef void *(*reallocate)(void *, size_t);
@@ -16,10 +23,21 @@ typedef void *(*reallocate)(void *, size_t);
 static unsigned long requests;
 static unsigned long refused;
 
+/* The block of the mark before the call that is being made, and the requests of each call. */
+static void *mark;
+static unsigned long call_refused;
+static unsigned long calls;
+static unsigned long call_requests[MOST_CALLS + 1];
+
 static int is_refused(void)
 {
+    int is_of_call = 0;
     requests += 1;
-    if (requests != refused)
+    if (mark != NULL && calls < MOST_CALLS) {
+        call_requests[calls] += 1;
+        is_of_call = call_requests[calls] == call_refused;
+    }
+    if (requests != refused && !is_of_call)
         return 0;
     errno = ENOMEM;
     return 1;
@@ -28,9 +46,15 @@ static int is_refused(void)
 void *malloc(size_t size)
 {
     static allocate next;
+    void *block;
     if (next == NULL)
         next = (allocate)dlsym(RTLD_NEXT, "malloc");
-    return is_refused() ? NULL : next(size);
+    if (size == MARK)
+        mark = NULL;
+    block = is_refused() ? NULL : next(size);
+    if (size == MARK)
+        mark = block;
+    return block;
 }
 
 void *realloc(void *block, size_t size)
@@ -38,24 +62,45 @@ void *realloc(void *block, size_t size)
     static reallocate next;
     if (next == NULL)
         next = (reallocate)dlsym(RTLD_NEXT, "realloc");
+    if (mark != NULL && block == mark) {
+        mark = NULL;
+        if (calls < MOST_CALLS)
+            calls += 1;
+    }
     return is_refused() ? NULL : next(block, size);
+}
+
+static unsigned long asked(const char *name)
+{
+    const char *number = getenv(name);
+    return number == NULL ? 0 : strtoul(number, NULL, 10);
 }
 
 __attribute__((constructor)) static void begin(void)
 {
-    const char *number = getenv("NBT_REFUSED");
     requests = 0;
-    refused = number == NULL ? 0 : strtoul(number, NULL, 10);
+    refused = asked("NBT_REFUSED");
+    call_refused = asked("NBT_CALL_REFUSED");
+}
+
+/* Writes numbers into the file that a variable names, if it names one. */
+static void write_numbers(const char *name, const unsigned long *numbers, unsigned long count)
+{
+    const char *path = getenv(name);
+    unsigned long i;
+    FILE *file;
+    if (path == NULL || (file = fopen(path, "w")) == NULL)
+        return;
+    for (i = 0; i < count; i++)
+        fprintf(file, "%lu\n", numbers[i]);
+    fclose(file);
 }
 
 __attribute__((destructor)) static void report(void)
 {
-    const char *path = getenv("NBT_REQUESTS");
     unsigned long count = requests;
-    FILE *file;
     refused = 0;
-    if (path == NULL || (file = fopen(path, "w")) == NULL)
-        return;
-    fprintf(file, "%lu\n", count);
-    fclose(file);
+    mark = NULL;
+    write_numbers("NBT_REQUESTS", &count, 1);
+    write_numbers("NBT_CALLS", call_requests, calls);
 }

@@ -2,7 +2,7 @@
 
 use crate::fault::ExampleFault;
 use crate::words::Words;
-use crate::{datagram, member, names, service, session, table};
+use crate::{datagram, member, memory, names, service, session, table};
 use std::alloc::Global;
 
 /// What a call answers, as text.
@@ -19,6 +19,7 @@ pub fn answer(alloc: Global, call: &str, words: &mut Words<'_>) -> Result<String
         "datagram" => datagram::answer(alloc, call, words),
         "table" => table::answer(alloc, call, words),
         "member" => member::answer(alloc, call, words),
+        "memory" | "quiet" => memory::answer(alloc, call, words),
         _ => Err(ExampleFault::NoSuchCall),
     }
 }

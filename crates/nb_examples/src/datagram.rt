@@ -1,11 +1,11 @@
 //! The calls of nb_datagram.
 
 pub mod comparing;
-mod cutting;
+pub mod cutting;
 pub mod owned;
 mod packets;
 pub mod texts;
-mod values;
+pub mod values;
 
 use crate::fault::ExampleFault;
 use crate::words::Words;

@@ -1,6 +1,6 @@
 //! Devices that do as an example says: slow, short, interrupted, failing.
 
-use std::alloc::Global;
+use std::alloc::{AllocError, Global};
 use std::io;
 use std::io::{ErrorKind, Read, Write};
 
@@ -16,6 +16,14 @@ pub struct Conduct {
     /// Which call fails, the first being 1; none where this is 0.
     pub failing: u64,
 }
+
+/// A device that does all that it is asked for.
+pub const WILLING: Conduct = Conduct {
+    most: usize::MAX,
+    interrupts: 0,
+    every: 1,
+    failing: 0,
+};
 
 /// A device's own count of calls.
 #[derive(Drop)]
@@ -99,6 +107,11 @@ impl Sink {
             turns: Turns::new(conduct),
             lacks_memory: false,
         }
+    }
+
+    /// Makes room for so many bytes more, so that taking them wants no memory.
+    pub fn make_room(&mut self, count: usize) -> Result<(), AllocError> {
+        self.taken.reserve(count)
     }
 
     /// What it took.

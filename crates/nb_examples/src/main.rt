@@ -9,6 +9,7 @@ mod devices;
 mod examples;
 mod fault;
 mod member;
+mod memory;
 mod names;
 mod service;
 mod session;

@@ -1,13 +1,13 @@
 //! The calls of nb_member.
 
-mod lines;
+pub mod lines;
 mod many;
-mod outcomes;
+pub mod outcomes;
 mod reading;
-mod replays;
-mod running;
-mod stations;
-mod steps;
+pub mod replays;
+pub mod running;
+pub mod stations;
+pub mod steps;
 mod values;
 
 use crate::fault::ExampleFault;

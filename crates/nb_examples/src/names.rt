@@ -195,7 +195,7 @@ fn from_domain(alloc: Global, words: &mut Words<'_>) -> Result<String, ExampleFa
 }
 
 /// The domain name of all labels that are left.
-fn domain_of(alloc: Global, words: &mut Words<'_>) -> Result<DomainName, ExampleFault> {
+pub fn domain_of(alloc: Global, words: &mut Words<'_>) -> Result<DomainName, ExampleFault> {
     let mut domain = DomainName::root();
     for word in words.rest().split_whitespace() {
         let label = bytes_of(alloc, word)?;

@@ -1,7 +1,7 @@
 //! The calls of nb_service.
 
-mod parts;
-mod texts;
+pub mod parts;
+pub mod texts;
 mod views;
 
 use crate::byte_text::text_of_bytes;
@@ -59,7 +59,7 @@ fn encoded_again(alloc: Global, words: &mut Words<'_>) -> Result<String, Example
 }
 
 /// A packet's bytes.
-fn packet_bytes(alloc: Global, packet: &Packet<'_>) -> Result<String, ExampleFault> {
+pub fn packet_bytes(alloc: Global, packet: &Packet<'_>) -> Result<String, ExampleFault> {
     let bytes = encode(alloc, packet)?;
     Ok(text_of_bytes(alloc, bytes.as_slice())?)
 }
@@ -80,7 +80,7 @@ fn built(alloc: Global, words: &mut Words<'_>) -> Result<String, ExampleFault> {
 }
 
 /// The next word, as whether a request is broadcast: `broadcast` or `alone`.
-fn is_broadcast(words: &mut Words<'_>) -> Result<bool, ExampleFault> {
+pub fn is_broadcast(words: &mut Words<'_>) -> Result<bool, ExampleFault> {
     match words.word()? {
         "broadcast" => Ok(true),
         "alone" => Ok(false),
@@ -108,7 +108,7 @@ fn inquiry(alloc: Global, words: &mut Words<'_>, is_status: bool) -> Result<Stri
 }
 
 /// The next two words, as the six bytes of an entry of flags and an address.
-fn entry(words: &mut Words<'_>) -> Result<[u8; 6], ExampleFault> {
+pub fn entry(words: &mut Words<'_>) -> Result<[u8; 6], ExampleFault> {
     let flags = words.hex_16()?;
     let address = words.address()?;
     Ok(AddressEntry { flags, address }.to_bytes())

@@ -28,7 +28,7 @@ pub fn answer(alloc: Global, call: &str, words: &mut Words<'_>) -> Result<String
 }
 
 /// A packet as text.
-fn packet_text(alloc: Global, packet: &Packet<'_>) -> Result<String, NoMemory> {
+pub fn packet_text(alloc: Global, packet: &Packet<'_>) -> Result<String, NoMemory> {
     match packet {
         Packet::Message(data) => {
             let bytes = text_of_bytes(alloc, data.bytes())?;
@@ -124,7 +124,7 @@ fn streamed(alloc: Global, words: &mut Words<'_>) -> Result<String, ExampleFault
 }
 
 /// Says what comes next in a stream, up to the first answer that isn't a packet.
-fn say_next(
+pub fn say_next(
     alloc: Global,
     stream: &mut Stream,
     most: usize,
@@ -187,7 +187,7 @@ fn feed(
 }
 
 /// Says the bytes of the packets that come next in a stream.
-fn say_packets(
+pub fn say_packets(
     alloc: Global,
     stream: &mut Stream,
     most: usize,

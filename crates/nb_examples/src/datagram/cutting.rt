@@ -20,7 +20,7 @@ pub fn cut_up(alloc: Global, words: &mut Words<'_>) -> Result<String, ExampleFau
 }
 
 /// Pieces as text.
-fn pieces_text(alloc: Global, pieces: &Pieces<'_>) -> Result<String, ExampleFault> {
+pub fn pieces_text(alloc: Global, pieces: &Pieces<'_>) -> Result<String, ExampleFault> {
     let mut text = String::new(alloc);
     for piece in pieces.as_slice() {
         push_piece(alloc, &mut text, piece)?;

@@ -15,7 +15,7 @@ use std::alloc::Global;
 
 /// The parts of a datagram.
 #[derive(Drop)]
-struct Parts {
+pub struct Parts {
     key: Key,
     kind: Kind,
     source: Name,
@@ -24,7 +24,7 @@ struct Parts {
 
 impl Parts {
     /// The parts that the words before the data say.
-    fn of(words: &mut Words<'_>) -> Result<Parts, ExampleFault> {
+    pub fn of(words: &mut Words<'_>) -> Result<Parts, ExampleFault> {
         let kind = kind_of(words.word()?)?;
         let key = words.key()?;
         let source = words.name()?;
@@ -38,7 +38,7 @@ impl Parts {
     }
 
     /// The datagram of these parts and some data.
-    fn with(&self, data: Bytes) -> Result<Datagram, TooLong> {
+    pub fn with(&self, data: Bytes) -> Result<Datagram, TooLong> {
         let source = self.source.copied();
         let destination = self.destination.copied();
         Datagram::new(self.key, self.kind, source, destination, data)
@@ -112,7 +112,7 @@ pub fn listed_errors(alloc: Global, words: &mut Words<'_>) -> Result<String, Exa
 }
 
 /// The error packet of a code.
-fn error_with(code: u8) -> ErrorPacket {
+pub fn error_with(code: u8) -> ErrorPacket {
     let key = Key {
         ip: [10, 0, 0, 5],
         port: 138,

@@ -18,7 +18,7 @@ pub fn read(alloc: Global, words: &mut Words<'_>) -> Result<String, ExampleFault
 }
 
 /// What a line says.
-fn line_text(alloc: Global, line: &Line) -> Result<String, ExampleFault> {
+pub fn line_text(alloc: Global, line: &Line) -> Result<String, ExampleFault> {
     match line {
         Line::Packet {
             port,

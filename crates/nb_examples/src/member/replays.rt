@@ -4,21 +4,13 @@
 //! stands for a line feed: a line without it is the unfinished last one.
 
 use crate::byte_text::{bytes_of, text_of_bytes};
-use crate::devices::{Conduct, Sink, Source};
+use crate::devices::{Conduct, Sink, Source, WILLING};
 use crate::fault::ExampleFault;
 use crate::member::stations::member_of;
 use crate::words::Words;
 use nb_member::{ReplayFault, replay};
 use nb_names::Counted;
 use std::alloc::Global;
-
-/// A device that does all that it is asked for.
-const WILLING: Conduct = Conduct {
-    most: usize::MAX,
-    interrupts: 0,
-    every: 1,
-    failing: 0,
-};
 
 /// `report STATION CAPTURE`: how many lines a new member replays, or the fault, and the report.
 pub fn reported(alloc: Global, words: &mut Words<'_>) -> Result<String, ExampleFault> {
@@ -101,7 +93,7 @@ fn answer_text(alloc: Global, answer: Result<u64, ReplayFault>) -> Result<String
 }
 
 /// A report on one line.
-fn report_text(alloc: Global, report: &[u8]) -> Result<String, ExampleFault> {
+pub fn report_text(alloc: Global, report: &[u8]) -> Result<String, ExampleFault> {
     if report.is_empty() {
         return Ok(String::from_str(alloc, "nothing")?);
     }

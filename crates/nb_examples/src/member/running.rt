@@ -34,7 +34,7 @@ pub fn run_by_two(alloc: Global, words: &mut Words<'_>) -> Result<String, Exampl
 }
 
 /// Two new members, and their runs.
-fn pair_of(
+pub fn pair_of(
     alloc: Global,
     station: &str,
     other: &str,
@@ -58,7 +58,7 @@ fn pair_text(alloc: Global, pair: &Pair) -> Result<String, ExampleFault> {
 }
 
 /// The events of a text.
-fn events_of(alloc: Global, text: &str) -> Result<Vec<Event>, ExampleFault> {
+pub fn events_of(alloc: Global, text: &str) -> Result<Vec<Event>, ExampleFault> {
     let mut events = Vec::new(alloc);
     for step in text.split(", ") {
         events.push(event_of(alloc, step)?)?;

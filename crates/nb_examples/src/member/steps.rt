@@ -123,7 +123,7 @@ fn step_absorb(
 }
 
 /// What came of taking in a table.
-fn absorbed_text(
+pub fn absorbed_text(
     alloc: Global,
     absorbed: Result<Datagrams, TableFault>,
 ) -> Result<String, ExampleFault> {

@@ -104,7 +104,7 @@ pub fn section(words: &mut Words<'_>) -> Result<Option<Section>, ExampleFault> {
 }
 
 /// The next three words, as a question.
-fn question_row(alloc: Global, words: &mut Words<'_>) -> Result<Row, ExampleFault> {
+pub fn question_row(alloc: Global, words: &mut Words<'_>) -> Result<Row, ExampleFault> {
     let name = domain(alloc, words)?;
     let kind = words.hex_16()?;
     let class = words.hex_16()?;

@@ -15,13 +15,13 @@ fn join_one<J: Join>(first: &mut J, other: &J) -> Result<(), ExampleFault> {
 }
 
 /// The cover of a step.
-fn cover_of(alloc: Global, step: &str) -> Result<Cover, ExampleFault> {
+pub fn cover_of(alloc: Global, step: &str) -> Result<Cover, ExampleFault> {
     let parts = step_of(alloc, step)?;
     Ok(Cover::of(alloc, &lent(&parts)?)?)
 }
 
 /// The join of the covers of steps.
-fn joined_cover(alloc: Global, steps: &str) -> Result<Cover, ExampleFault> {
+pub fn joined_cover(alloc: Global, steps: &str) -> Result<Cover, ExampleFault> {
     let (first, others) = steps.split_once(" ").unwrap_or((steps, ""));
     let mut cover = cover_of(alloc, first)?;
     for step in others.split_whitespace() {
@@ -38,13 +38,13 @@ pub fn covers(alloc: Global, words: &mut Words<'_>) -> Result<String, ExampleFau
 }
 
 /// The entry of a step.
-fn entry_of(alloc: Global, step: &str) -> Result<Entry, ExampleFault> {
+pub fn entry_of(alloc: Global, step: &str) -> Result<Entry, ExampleFault> {
     let parts = step_of(alloc, step)?;
     Ok(Entry::of(alloc, &lent(&parts)?)?)
 }
 
 /// The join of the entries of steps.
-fn joined_entry(alloc: Global, steps: &str) -> Result<Entry, ExampleFault> {
+pub fn joined_entry(alloc: Global, steps: &str) -> Result<Entry, ExampleFault> {
     let (first, others) = steps.split_once(" ").unwrap_or((steps, ""));
     let mut entry = entry_of(alloc, first)?;
     for step in others.split_whitespace() {

@@ -27,7 +27,7 @@ fn others_of(alloc: Global, text: &str) -> Result<Vec<Table>, ExampleFault> {
 }
 
 /// The first table of `TABLE | TABLE ..`, and the others.
-fn tables_of(alloc: Global, text: &str) -> Result<(Table, Vec<Table>), ExampleFault> {
+pub fn tables_of(alloc: Global, text: &str) -> Result<(Table, Vec<Table>), ExampleFault> {
     let (first, others) = split(text, " | ")?;
     Ok((table_of(alloc, first)?, others_of(alloc, others)?))
 }

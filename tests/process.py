@@ -258,13 +258,27 @@ def full_disks():
                 filled_disk(folder)
             finally:
                 subprocess.run(['umount', folder], check=True)
-        full_disk('files of at most 16 kB', os.path.join(folder, 'output'), small_files)
+        full_disk('files of at most 16 kB', os.path.join(folder, 'output'), small_files(16_384))
+        cut_files(os.path.join(folder, 'output'))
 
 
-def small_files():
-    """Before the program starts: a write past 16 kB of a file fails."""
-    signal.signal(signal.SIGXFSZ, signal.SIG_IGN)
-    resource.setrlimit(resource.RLIMIT_FSIZE, (16_384, 16_384))
+def small_files(limit):
+    """What has a write past so many bytes of a file fail, before the program starts."""
+    def begin():
+        signal.signal(signal.SIGXFSZ, signal.SIG_IGN)
+        resource.setrlimit(resource.RLIMIT_FSIZE, (limit, limit))
+    return begin
+
+
+def cut_files(path):
+    """A file that takes fewer bytes than the output has, for each such number: it gets exactly those."""
+    for words, given, _, output, _ in COMMANDS:
+        for room in range(len(output)):
+            with open(path, 'wb') as stream:
+                ended = run(words, given, before=small_files(room), stdout=stream)[::2]
+            with open(path, 'rb') as stream:
+                written = stream.read()
+            check(ended == (3, b'nbt: write\n') and written == output[:room], f'nbt {" ".join(words)}, {room} bytes of room')
 
 
 def full_disk(name, path, before):

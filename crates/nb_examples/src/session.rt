@@ -14,6 +14,7 @@ use std::alloc::Global;
 pub fn answer(alloc: Global, call: &str, words: &mut Words<'_>) -> Result<String, ExampleFault> {
     match call {
         "parse" => parsed(alloc, words),
+        "fronts" => fronts(alloc, words),
         "again" => encoded_again(alloc, words),
         "encode" => encoded(alloc, words),
         "stream" => streamed(alloc, words),
@@ -59,6 +60,36 @@ fn parsed(alloc: Global, words: &mut Words<'_>) -> Result<String, ExampleFault> 
         }
         Parsed::More(needed) => Ok(format!(in alloc; "more {needed}")?),
         Parsed::Refused(fault) => Ok(format!(in alloc; "{fault}")?),
+    }
+}
+
+/// `fronts BYTES`: how many bytes each front lacks that is shorter than the packet: `K at N` says
+/// that N bytes lack K, and those after them one less with each byte.
+fn fronts(alloc: Global, words: &mut Words<'_>) -> Result<String, ExampleFault> {
+    let bytes = words.bytes(alloc)?;
+    let mut said = String::new(alloc);
+    say_lacks(&mut said, bytes.as_slice())?;
+    Ok(said)
+}
+
+/// Adds how many bytes the fronts lack.
+fn say_lacks(said: &mut String, bytes: &[u8]) -> Result<(), ExampleFault> {
+    let mut one_less = None;
+    for n in 0..bytes.len() {
+        let needed = lacks(bytes.get(..n).unwrap_or(bytes))?;
+        if one_less != Some(needed) {
+            write!(said, "{needed} at {n}; ")?;
+        }
+        one_less = needed.checked_sub(1);
+    }
+    Ok(())
+}
+
+/// How many bytes a front lacks.
+fn lacks(front: &[u8]) -> Result<usize, ExampleFault> {
+    match parse(front) {
+        Parsed::More(needed) => Ok(needed),
+        _ => Err(ExampleFault::BadWords),
     }
 }
 

@@ -6,7 +6,7 @@ CAPTURE = examples/capture.txt
 SECONDS = 60
 PREFIX ?= /usr/local
 
-.PHONY: run build check test bench fuzz install
+.PHONY: run build try check test bench fuzz install
 
 # Prove and build the program, and replay a capture in a station with these names.
 run: build
@@ -15,6 +15,11 @@ run: build
 # Prove and build the program, and print its version.
 build:
 	cd crates/nbt && rt run -- --version
+
+# Build the program without proofs, and replay the same capture: a first look. A built program needs the proofs.
+try:
+	cd crates/nbt && rt try -- replay $(NAMES) <../../$(CAPTURE)
+	@echo 'Nothing was proved: make proves the program, and builds it.'
 
 # Prove every crate, over what earlier runs kept.
 check:

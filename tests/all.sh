@@ -1,33 +1,83 @@
 #!/usr/bin/env bash
-# The merge gate: rt ci, and then the scripts over the programs that it built. Its last line counts all of them: 'N
-# passed, M failed'.
+# The merge gate: rt ci, and then the scripts over the programs that it built. Its last lines say what was left out and what
+# failed, and the last one counts all cases: 'N passed, M failed, K skipped'.
 set -uo pipefail
 cd "$(dirname "$0")/.." || exit
-passed=0
-failed=0
+. tests/counting.sh
+log=$room/log
+running=
+trap '[ -z "$running" ] || kill "$running"; exit 130' INT TERM
 
-log=$(mktemp)
-trap 'rm -f "$log"' EXIT
+digits='(0|[1-9][0-9]{0,8})'
+last_line="^$digits passed, $digits failed(, $digits skipped)?\$"
 
-# Runs a step, and adds the counts of its last line. A step without such a line has failed.
+# watched MINUTES COMMAND..: runs a command, shows what it prints as it comes, and keeps that in $log. Its status is 124
+# where it doesn't end in time.
+watched() {
+    local status
+    : >"$log"
+    timeout -k 30 "$1m" "${@:2}" </dev/null >"$log" 2>&1 &
+    running=$!
+    tail -n +1 -f -s 0.1 --pid=$running "$log" &
+    { wait $running; } 2>/dev/null
+    status=$?
+    running=
+    wait
+    return $status
+}
+
+# noted KIND NAME: what a step printed as skipped, or as failed: the first twenty lines, each with the step's name.
+noted() {
+    sed -nE "s/^(rt: )?($1|${1^^}): (.{1,200}).*/$1: $2: \3/p" "$log" | awk -v head="$1: $2" '
+        NR <= 20
+        END { if (NR > 20) print head ": and " NR - 20 " more" }'
+}
+
+# step NAME MINUTES LEAST COMMAND..: runs a step, and adds the counts of its last line. It fails by itself where it doesn't end,
+# ends otherwise than its counts say, or has fewer cases than LEAST.
 step() {
-    local counts
-    "$@" 2>&1 | tee "$log"
-    if counts=$(tail -n 1 "$log" | grep -E '^[0-9]+ passed, [0-9]+ failed$'); then
-        passed=$((passed + ${counts%% *}))
-        counts=${counts#*, }
-        failed=$((failed + ${counts%% *}))
+    local name=$1 status counts=(0 0 0) why=''
+    watched "$2" "${@:4}"
+    status=$?
+    if [ $status -eq 124 ]; then
+        why="it didn't end within $2 minutes"
+    elif [[ $(tail -n 1 "$log") =~ $last_line ]]; then
+        counts=("${BASH_REMATCH[1]}" "${BASH_REMATCH[2]}" "${BASH_REMATCH[4]:-0}")
+        [ "${counts[1]}" -gt 0 ] || why=$(missing "$3" $((counts[0] + counts[2])) $status)
     else
-        failed=$((failed + 1))
+        why="its last line has no counts, status $status"
+    fi
+    passed=$((passed + counts[0]))
+    failed=$((failed + counts[1]))
+    skipped=$((skipped + counts[2]))
+    [ -z "$why" ] || failed=$((failed + 1))
+    noted skipped "$name" >>"$room/skips"
+    noted failed "$name" >"$room/failure"
+    if [ "${counts[1]}" -gt 0 ] && [ ! -s "$room/failure" ]; then why='what its last lines say'; fi
+    if [ -n "$why" ]; then
+        tail -n 5 "$log" | cut -c 1-200 | sed 's/^/    /'
+        echo "failed: $name: $why"
+    fi >>"$room/failures"
+    cat "$room/failure" >>"$room/failures"
+}
+
+# missing LEAST CASES STATUS: why a step without failed cases went wrong nevertheless, if it did.
+missing() {
+    if [ "$3" -ne 0 ]; then
+        echo "no case failed, and its status is $3"
+    elif [ "$1" -eq 0 ] || [ "$2" -lt "$1" ]; then
+        echo "$2 cases, of $1 at least (tests/counts.txt)"
     fi
 }
 
-step rt ci
-step tests/program.sh
-step tests/process.py
-step tests/examples.sh
-step tests/wireshark.sh
-step tests/manual.sh
-step tests/scale.sh
-echo "$passed passed, $failed failed"
+# How many crates there are to prove, and edits to refuse: those that lie here, or as many as are stated.
+proofs=$(($(grep -c '^[a-z]' crates.txt) + $(find crates -path '*/must-fail/*.edit' | wc -l)))
+stated=$(least rt all)
+
+step rt 170 $((proofs > stated && stated > 0 ? proofs : stated)) tests/costs.py rt ci
+for each in program.sh process.py examples.sh wireshark.sh manual.sh scale.sh; do
+    step $each 20 "$(least $each all)" "tests/$each"
+done
+cat "$room/skips" "$room/failures"
+echo "$passed passed, $failed failed, $skipped skipped"
 [ "$failed" -eq 0 ]

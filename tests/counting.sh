@@ -1,12 +1,14 @@
-# Read by the scripts of this folder: a room for their files, the count of their cases, and the last line, 'N passed, M
-# failed'.
+# Read by the scripts of this folder: a room for their files, a limit on the time of what they start, the count of their
+# cases, which tests/counts.txt has the least of, and the last line, 'N passed, M failed, K skipped'.
 here=$(cd "$(dirname "${BASH_SOURCE[0]}")" && pwd)
+script=$(basename "$0")
 room=$(mktemp -d)
 trap 'rm -rf "$room"' EXIT
 passed=0
 failed=0
+skipped=0
 
-# One case more: whether it went well, and its name.
+# count STATUS NAME: one case more, which went well if the status is 0.
 count() {
     if [ "$1" -eq 0 ]; then
         passed=$((passed + 1))
@@ -16,14 +18,97 @@ count() {
     fi
 }
 
-# compile SHIM: what stands before the C library in some cases, $room/SHIM.so.
+# ended COMMAND..: runs a command, whose status is 124 or 137 where it doesn't end within two minutes.
+timeout=$(command -v timeout)
+ended() { "$timeout" -k 5 120 "$@"; }
+
+# least SCRIPT PART: how many cases a part of a script has at least, or `all` of it; 0 where tests/counts.txt doesn't say it.
+least() {
+    awk -v script="$1" -v part="$2" '
+        $1 == script && (part == "all" || $2 == part) { sum += $3 }
+        END { print sum + 0 }' "$here/counts.txt"
+}
+
+# enough NUMBER LEAST NAME: fails where there are fewer cases than stated, or nothing is stated.
+enough() {
+    [ "$2" -gt 0 ] && [ "$1" -ge "$2" ] || count 1 "$3: $1 cases, of $2 at least (tests/counts.txt)"
+}
+
+# part NAME COMMAND..: runs the cases of a part, and prints how many there are.
+part() {
+    local before=$((passed + failed + skipped)) number
+    "${@:2}"
+    number=$((passed + failed + skipped - before))
+    echo "$number cases: $1"
+    enough $number "$(least "$script" "$1")" "$1"
+}
+
+# skip PART WHY: leaves out the cases of a part.
+skip() {
+    local number
+    number=$(least "$script" "$1")
+    skipped=$((skipped + number))
+    echo "skipped: $1, $number cases ($2)"
+}
+
+# lacks PART TOOL: leaves out a part for want of a tool. In CI, which installs it, that is a failure too.
+lacks() {
+    skip "$1" "$2 isn't installed"
+    [ "${CI:-}" != true ] || count 1 "$1: CI has to install $2"
+}
+
+# compile SHIM..: what stands before the C library in some cases, $room/SHIM.so.
 compile() {
-    ${CC:-cc} -shared -fPIC -O1 -o "$room/$1.so" "$here/$1.c" -ldl
-    count $? "tests/$1.c is compiled"
+    local shim
+    for shim; do
+        ${CC:-cc} -shared -fPIC -O1 -o "$room/$shim.so" "$here/$shim.c" -ldl
+        count $? "tests/$shim.c is compiled"
+    done
+}
+
+# refusing NAME=VALUE.. COMMAND: runs a command over tests/refuse_memory.c.
+refusing() { ended env LD_PRELOAD="$room/refuse_memory.so" "$@"; }
+
+# requests COMMAND..: runs a command with ample memory; $number is how many requests for it were counted.
+requests() {
+    local status
+    : >"$room/requests"
+    refusing NBT_REQUESTS="$room/requests" "$@"
+    status=$?
+    number=$(cat "$room/requests")
+    [[ $number =~ ^[0-9]{1,9}$ ]] || number=0
+    return $status
+}
+
+# page FILE: the console samples of a page, where each command prints the lines after it. They run in a folder of their
+# own, with the commands of $room/bin.
+page() {
+    local line command='' wanted=''
+    mkdir "$room/page"
+    while IFS= read -r line; do
+        case $line in
+        '$ '*)
+            page_sample "$1" "$command" "$wanted"
+            command=${line#'$ '} wanted=''
+            ;;
+        *) wanted+=$line$'\n' ;;
+        esac
+    done < <(awk '/^```$/ { shown = 0 } shown; /^```console$/ { shown = 1 }' "$here/../$1")
+    page_sample "$1" "$command" "$wanted"
+    rm -r "$room/page"
+}
+
+# page_sample FILE COMMAND WANTED: one of them; none, where there is no command.
+page_sample() {
+    [ -n "$2" ] || return
+    (cd "$room/page" && PATH=$room/bin:$PATH ended bash -c "$2" </dev/null) >"$room/output" 2>&1
+    printf '%s' "$3" | diff - "$room/output"
+    count $? "$1: $2"
 }
 
 # Ends the script with its last line.
 finish() {
-    echo "$passed passed, $failed failed"
+    enough $((passed + failed + skipped)) "$(least "$script" all)" all
+    echo "$passed passed, $failed failed, $skipped skipped"
     [ "$failed" -eq 0 ]
 }

@@ -1,8 +1,8 @@
 #!/usr/bin/env python3
 """The built program as a process, over what a system gives it: full disks, closed pipes, terminals, little memory.
 
-Usage: tests/process.py [PROGRAM]; its last line is 'N passed, M failed'. Each run has to end, by no signal, with a
-status of 0 to 3 and that status's text, and what it wrote has to be a front of what it writes otherwise.
+Usage: tests/process.py [PROGRAM]; its last line is 'N passed, M failed, K skipped'. Each run has to end, by no signal,
+with a status of 0 to 3 and that status's text, and what it wrote has to be a front of what it writes otherwise.
 """
 import contextlib
 import os
@@ -14,21 +14,40 @@ import sys
 import tempfile
 import time
 
-from process_runs import (at_terminal, broken_pipe, bytes_of, closed, limited, lines_of, quiet_terminal, run, small_pipe,
-                          start, starts, wait)
+from process_runs import (HERE, at_terminal, broken_pipe, bytes_of, closed, limited, lines_of, quiet_terminal, rest_of, run,
+                          small_pipe, start, starts, wait)
 
 JOE = '20454b45504546434143414341434143414341434143414341434143414341414100'
 FRED = '20454746434546454543414341434143414341434143414341434143414341434100'
 FOUND = b'1 delivered 10.0.0.5:138/0001 group JOE<00> FRED<20> empty\n'
 
-counts = {True: 0, False: 0}
+counts = {'passed': 0, 'failed': 0, 'skipped': 0}
 
 
 def check(passed, name):
     """Counts a case, and prints the name of one that failed."""
-    counts[bool(passed)] += 1
+    counts['passed' if passed else 'failed'] += 1
     if not passed:
         print(f'failed: {name}', flush=True)
+
+
+def least():
+    """How many cases each part has at least, by tests/counts.txt."""
+    with open(os.path.join(HERE, 'counts.txt')) as lines:
+        rows = [line.split() for line in lines if line.startswith('process.py ')]
+    return {part: int(count) for _, part, count in rows}
+
+
+def skip(part, why):
+    """Leaves out the cases of a part."""
+    counts['skipped'] += least()[part]
+    print(f'skipped: {part}, {least()[part]} cases ({why})', flush=True)
+
+
+def enough(count, wanted, name):
+    """Fails where there are fewer cases than stated, or nothing is stated."""
+    if not 0 < wanted <= count:
+        check(False, f'{name}: {count} cases, of {wanted} at least (tests/counts.txt)')
 
 
 def packet(identifier, flags=2, offset=0, data=''):
@@ -203,7 +222,7 @@ def stopping_input(words):
         waits = process.poll() is None and not select.select([process.stdout], [], [], 0.1)[0]
         process.stdin.write(rest)
         process.stdin.close()
-        output = first + process.stdout.read()
+        output = first + rest_of(process.stdout)
         wanted_end = (0, b'') if wanted else (1, b'nbt: line 2\n')
         check(waits and output == report[0] + wanted and wait(process) == wanted_end,
               f'nbt {words[0]}, an input that stops inside a line and goes on with {rest}')
@@ -219,7 +238,7 @@ def halting_inputs():
             waits = process.poll() is None
             process.stdin.write(given[place:])
             process.stdin.close()
-            output = process.stdout.read()
+            output = rest_of(process.stdout)
             status, errors = wait(process)
             check(waits and [status, output, errors] == wanted,
                   f'nbt {" ".join(words)}, an input that stops after {place} bytes')
@@ -242,7 +261,7 @@ def terminals():
         os.write(terminal, b'tick 1\n')
         first = lines_of(process.stdout, 1)
         os.close(terminal)
-        rest = process.stdout.read()
+        rest = rest_of(process.stdout)
         check(first + rest == report[:report.index(b'\n') + 1] and wait(process) in ((0, b''), (3, b'nbt: read\n')),
               f'nbt {words[0]}, its terminal gone')
 
@@ -250,14 +269,20 @@ def terminals():
 def full_disks():
     """A disk that is full after some bytes: what it has is a front of the output."""
     with tempfile.TemporaryDirectory() as folder:
-        if subprocess.run(['mount', '-t', 'tmpfs', '-o', 'size=16k', 'nbt', folder], stderr=subprocess.DEVNULL).returncode:
-            print('left out: a tmpfs of 16 kB, which cannot be mounted here')
-        else:
-            try:
-                full_disk('a tmpfs of 16 kB', os.path.join(folder, 'output'), None)
-                filled_disk(folder)
-            finally:
-                subprocess.run(['umount', folder], check=True)
+        mounting = ['mount', '-t', 'tmpfs', '-o', 'size=16k', 'nbt', folder]
+        if subprocess.run(mounting, stderr=subprocess.DEVNULL, timeout=60).returncode:
+            skip('full_disks', 'no tmpfs can be mounted here')
+            return
+        try:
+            full_disk('a tmpfs of 16 kB', os.path.join(folder, 'output'), None)
+            filled_disk(folder)
+        finally:
+            subprocess.run(['umount', folder], check=True, timeout=60)
+
+
+def short_files():
+    """A file that takes fewer bytes than there are: 16 kB, and each number below what the output has."""
+    with tempfile.TemporaryDirectory() as folder:
         full_disk('files of at most 16 kB', os.path.join(folder, 'output'), small_files(16_384))
         cut_files(os.path.join(folder, 'output'))
 
@@ -342,14 +367,40 @@ def short_memory():
         check(whole[0] in outcomes, f'nbt {words[0]}: 64 megabytes are enough')
 
 
+# The stack that is enough beside a run's words and environment (docs/ATTACKS.md).
+STACK = 96 << 10
+
+
+def short_stack():
+    """The least stack that docs/ATTACKS.md has, with each command and with long inputs. The system begins the stack
+    elsewhere in each run, so each has several."""
+    records = f'137 0 000185000000{150:04x}00000000' + f'{FRED}00200001000493e0000600000a000005' * 150 + '\n'
+    many = captures(2_000)
+    status, table, _ = run(['save', '--keys', '65535'], many)
+    check(status == 0, 'nbt save --keys 65535: a table of 2,000 keys')
+    deep = [(['show'], records.encode()), (['show'], many), (['save', '--keys', '65535'], many),
+            (['replay', '--keys', '65535', 'FRED<20>'], many), (['merge', '--keys', '65535'], table * 2),
+            (['list', '--keys', '65535'], table * 2), (['agree'], table * 2), ([], b''), (['--help'], b''),
+            (['replay', '--help'], b'')]
+    work = [(words, given, tuple(wanted)) for words, given, *wanted in COMMANDS]
+    for words, given, wanted in work + [(words, given, run(words, given)) for words, given in deep]:
+        endings = {run(words, given, before=limited(STACK, resource.RLIMIT_STACK), env={}) for _ in range(10)}
+        check(endings == {wanted}, f'nbt {" ".join(words)[:60]} with {STACK >> 10} kB of stack: {[it[0] for it in endings]}')
+
+
 def is_told(ended, whole):
     """Whether a run ended as with ample memory, or says that memory ran out after a front of the output."""
     status, output, errors = ended
     return ended == whole or (status, errors) == (3, b'nbt: memory\n') and whole[1].startswith(output)
 
 
-for group in (ordinary, failing_outputs, closed_reports, cut_reports, inputs, halting_inputs, terminals, full_disks,
-              short_memory):
-    group()
-print(f'{counts[True]} passed, {counts[False]} failed')
-sys.exit(counts[False] > 0)
+for part in (ordinary, failing_outputs, closed_reports, cut_reports, inputs, halting_inputs, terminals, full_disks,
+             short_files, short_memory, short_stack):
+    before = sum(counts.values())
+    part()
+    count = sum(counts.values()) - before
+    print(f'{count} cases: {part.__name__}', flush=True)
+    enough(count, least().get(part.__name__, 0), part.__name__)
+enough(sum(counts.values()), sum(least().values()), 'all')
+print(', '.join(f'{count} {what}' for what, count in counts.items()))
+sys.exit(counts['failed'] > 0)

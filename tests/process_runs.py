@@ -14,9 +14,10 @@ SECONDS = 60
 program = os.path.realpath(sys.argv[1] if len(sys.argv) > 1 else PROGRAM)
 
 
-def start(words, stdin=subprocess.PIPE, stdout=subprocess.PIPE, stderr=subprocess.PIPE, before=None):
+def start(words, stdin=subprocess.PIPE, stdout=subprocess.PIPE, stderr=subprocess.PIPE, before=None, env=None):
     """The program, with these words, started."""
-    return subprocess.Popen([program, *words], stdin=stdin, stdout=stdout, stderr=stderr, preexec_fn=before, bufsize=0)
+    return subprocess.Popen([program, *words], stdin=stdin, stdout=stdout, stderr=stderr, preexec_fn=before, env=env,
+                            bufsize=0)
 
 
 def run(words, given=b'', before=None, **streams):
@@ -50,15 +51,15 @@ def closed(*descriptors):
     return lambda: [os.close(it) for it in descriptors]
 
 
-def limited(limit):
-    """What limits a process's memory before the program starts."""
-    return lambda: resource.setrlimit(resource.RLIMIT_AS, (limit, limit))
+def limited(limit, what=resource.RLIMIT_AS):
+    """What limits a process's memory, or its stack, before the program starts."""
+    return lambda: resource.setrlimit(what, (limit, limit))
 
 
 def starts(words, limit):
     """Whether the system's loader can load the program, with these words, within a limit."""
     asked = dict(os.environ, LD_TRACE_LOADED_OBJECTS='1')
-    loader = subprocess.run([program, *words], env=asked, preexec_fn=limited(limit), capture_output=True)
+    loader = subprocess.run([program, *words], env=asked, preexec_fn=limited(limit), capture_output=True, timeout=SECONDS)
     return loader.returncode == 0
 
 
@@ -80,7 +81,7 @@ def bytes_of(descriptor, count):
     """The next bytes of a stream, as many as are there within some seconds."""
     taken = b''
     while len(taken) < count and select.select([descriptor], [], [], SECONDS)[0]:
-        some = os.read(descriptor, count - len(taken))
+        some = os.read(descriptor, min(count - len(taken), 1 << 16))
         if not some:
             break
         taken += some
@@ -96,6 +97,11 @@ def lines_of(stream, count):
             break
         taken += byte
     return taken
+
+
+def rest_of(stream):
+    """What a stream still gives up to its end, or within some seconds."""
+    return bytes_of(stream.fileno(), 1 << 30)
 
 
 def quiet_terminal():

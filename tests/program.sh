@@ -1,17 +1,33 @@
 #!/usr/bin/env bash
 # The built program as a process of its own: exit statuses, words, streams that are closed or full, how often it writes,
-# and each request for memory refused in turn. Usage: tests/program.sh [PROGRAM]; its last line is 'N passed, M failed'.
+# and each request for memory refused in turn. Usage: tests/program.sh [PROGRAM]; its last line is 'N passed, M failed, K
+# skipped'.
 set -uo pipefail
 . "$(dirname "$0")/counting.sh"
 program=${1:-$here/../crates/nbt/out/nbt}
 
+fred=20454746434546454543414341434143414341434143414341434143414341434100
+joe=20454b45504546434143414341434143414341434143414341434143414341414100
+scoped=204547464345464545434143414341434143414341434143414341434143414341074e455442494f5303434f4d00
+empty=110200010a000005008a00440000$joe$fred
+wildcard=20434b41414141414141414141414141414141414141414141414141414141414100
+
+nbt() { ended "$program" "$@"; }
+
 # Whether the file holds exactly the text.
 holds() { printf '%s' "$2" | cmp -s - "$1"; }
 
-# sample COMMAND TOLD: what a command writes and ends with, told as in tests/cases.
+# ---- The cases of tests/cases: after `$ COMMAND` stand the lines of its standard output, those of its standard error
+# behind `! `, and `? STATUS` where that isn't 0. `...` stands for text that isn't empty, {FRED} and the like for spellings.
+# `hostile NAME=VALUE .. COMMAND` runs a command over the devices of tests/devices.c.
+
+spelled() { sed "s/{FRED}/$fred/g; s/{JOE}/$joe/g; s/{SCOPED}/$scoped/g; s/{WILDCARD}/$wildcard/g; s/{EMPTY}/$empty/g" "$1"; }
+
+# sample COMMAND TOLD: what a command writes and ends with, told as in tests/cases; none, where there is no command.
 sample() {
     local command=$1 told=$2 status
-    (cd "$room/files" && PATH=$room/bin:$PATH bash -c "$command" </dev/null) >"$room/output" 2>"$room/errors"
+    [ -n "$command" ] || return
+    (cd "$room/files" && PATH=$room/bin:$PATH ended bash -c "$command" </dev/null) >"$room/output" 2>"$room/errors"
     status=$?
     {
         if [[ $told == ...* ]] && [ -s "$room/output" ]; then echo ...; else cat "$room/output"; fi
@@ -22,25 +38,183 @@ sample() {
     count $? "$command"
 }
 
-# remembers WORD..: with each request for memory refused, the process ends with status 3, `nbt: memory`, and what its
-# command leaves on its output then. Of words that aren't a command line it may also end as with ample memory.
-remembers() {
-    local status number n
-    NBT_REQUESTS=$room/requests LD_PRELOAD=$room/refuse_memory.so "$program" "$@" <"$input" >"$room/ample" 2>"$room/ample_errors"
+cases() {
+    local file line command told
+    mkdir "$room/files"
+    for file in "$here"/cases/*.txt; do
+        command='' told=''
+        while IFS= read -r line; do
+            case $line in
+            '$ '*)
+                sample "$command" "$told"
+                command=${line#'$ '} told=''
+                ;;
+            '' | '#'*) ;;
+            *) told+=$line$'\n' ;;
+            esac
+        done < <(spelled "$file")
+        sample "$command" "$told"
+    done
+}
+
+pages() {
+    page README.md
+    page docs/GUIDE.md
+}
+
+# ---- Streams that can't be read or written; a closed standard error changes nothing.
+
+# fails_to WHAT WORDS: the last command ended with status 3 and `nbt: WHAT`.
+fails_to() {
+    [ $? -eq 3 ] && holds "$room/errors" "nbt: $1"$'\n'
+    count $? "$2"
+}
+
+failing_inputs() {
+    local words
+    nbt show <&- >"$room/output" 2>"$room/errors"
+    [ $? -eq 3 ] && holds "$room/output" '' && holds "$room/errors" $'nbt: read\n'
+    count $? 'nbt show, standard input closed'
+    for words in show save "replay FRED<20>" merge list agree; do
+        nbt $words <"$room" >"$room/output" 2>"$room/errors"
+        [ $? -eq 3 ] && holds "$room/output" '' && holds "$room/errors" $'nbt: read\n'
+        count $? "nbt $words, a folder as standard input"
+    done
+}
+
+failing_outputs() {
+    local words
+    for words in 'name FRED<20>' "name --bytes $fred" 'build keepalive' --help --version; do
+        nbt $words >/dev/full 2>"$room/errors"
+        fails_to write "nbt $words, standard output full"
+        nbt $words >&- 2>"$room/errors"
+        fails_to write "nbt $words, standard output closed"
+    done
+    printf 'tick 1\nx\n' >"$room/input"
+    for words in show 'replay FRED<20>'; do
+        nbt $words <"$room/input" >/dev/full 2>"$room/errors"
+        fails_to write "nbt $words, standard output full, a malformed line behind it"
+    done
+    nbt save </dev/null >/dev/full 2>"$room/errors"
+    fails_to write 'nbt save, standard output full'
+    seq 5000 | sed 's/.*/tick 1/' >"$room/input"
+    for words in show 'replay A<20>'; do
+        nbt $words <"$room/input" >/dev/full 2>"$room/errors"
+        fails_to write "nbt $words, standard output full before the end"
+    done
+    printf '%s\n' 4e425432000000010a000005008a000100 4e425432000000010a000005008a000100 >"$room/input"
+    for words in merge list agree; do
+        nbt $words <"$room/input" >/dev/full 2>"$room/errors"
+        fails_to write "nbt $words, standard output full"
+    done
+    nbt name FRED >"$room/output" 2>/dev/full
+    [ $? -eq 1 ] && holds "$room/output" ''
+    count $? 'nbt name FRED, standard error full'
+    nbt nonsense >"$room/output" 2>&-
+    [ $? -eq 2 ] && holds "$room/output" ''
+    count $? 'nbt nonsense, standard error closed'
+}
+
+# `name` and `build` read nothing.
+unread_inputs() {
+    local words
+    printf 'left' >"$room/input"
+    for words in 'name FRED<20>' 'build keepalive'; do
+        { nbt $words >/dev/null && head -c 4 >"$room/left"; } <"$room/input"
+        holds "$room/left" left
+        count $? "nbt $words leaves its input unread"
+    done
+}
+
+# writing WORD..: the status of nbt, and $writes, how often it wrote.
+writing() {
+    local status
+    rm -f "$room/writes"
+    ended "$room/bin/hostile" NBT_WRITES="$room/writes" "$program" "$@" <"$room/input" >"$room/output"
     status=$?
-    number=$(cat "$room/requests")
+    writes=$(cat "$room/writes" 2>/dev/null)
+    return $status
+}
+
+# A long report is written in large pieces.
+long_reports() {
+    local words
+    seq 100000 | sed 's/.*/tick 1/' >"$room/input"
+    for words in show 'replay A<20>'; do
+        writing $words && [ "$(wc -l <"$room/output")" -eq 100000 ]
+        count $? "nbt $words, 100,000 lines"
+        [ "$writes" -ge 10 ] && [ "$writes" -lt 1000 ]
+        count $? "nbt $words, 100,000 lines in $writes writes"
+    done
+    seq 100000 | sed 's/.*/138 0 1702000100000000008a1702000100000000008a/' >"$room/input"
+    for words in show 'replay A<20>'; do
+        writing $words && [ "$(wc -l <"$room/output")" -eq 100000 ] && [ "$writes" -ge 10 ] && [ "$writes" -le 2000 ]
+        count $? "nbt $words, 100,000 longer lines in $writes writes"
+    done
+}
+
+# What a line gives is there before the next line is sent; where it can't be written the program ends without one.
+waiting_inputs() {
+    local words line n
+    mkfifo "$room/sent" "$room/shown"
+    for words in show 'replay A<20>'; do
+        nbt $words <"$room/sent" >"$room/shown" &
+        exec 3<>"$room/sent" 4<"$room/shown"
+        for n in 1 2 3; do
+            echo "tick $n" >&3
+            line=''
+            IFS= read -r -t 30 line <&4
+            [[ $line == "$n tick $n" || $line == "$n dropped 0" ]]
+            count $? "nbt $words, line $n of an input that waits"
+        done
+        exec 3>&- 4<&-
+        wait $!
+        nbt $words <"$room/sent" >/dev/full 2>"$room/errors" &
+        exec 3<>"$room/sent"
+        echo tick 1 >&3
+        wait $!
+        fails_to write "nbt $words, standard output full, an input that waits"
+        exec 3>&-
+    done
+}
+
+streams() {
+    failing_inputs
+    failing_outputs
+    unread_inputs
+    long_reports
+    waiting_inputs
+}
+
+# ---- Each request for memory refused.
+
+# remembers WORD..: with each request refused, the process ends with status 3, `nbt: memory`, and what its command leaves
+# on its output then. Of words that aren't a command line it may also end as with ample memory, but not at each request;
+# with none refused it does.
+remembers() {
+    local status n told=0
+    requests "$program" "$@" <"$input" >"$room/ample" 2>"$room/ample_errors"
+    status=$?
     [ "$number" -gt 0 ]
     count $? "nbt $*: it asks for memory"
     for ((n = 1; n <= number; n++)); do
-        NBT_REFUSED=$n LD_PRELOAD=$room/refuse_memory.so "$program" "$@" <"$input" >"$room/output" 2>"$room/errors"
+        refusing NBT_REFUSED=$n "$program" "$@" <"$input" >"$room/output" 2>"$room/errors"
         case $? in
-        2) [ "$status" -eq 2 ] && cmp -s "$room/ample" "$room/output" && cmp -s "$room/ample_errors" "$room/errors" ;;
-        3) holds "$room/errors" $'nbt: memory\n' && is_left_by "${1:-}" ;;
+        2) [ "$status" -eq 2 ] && is_ample ;;
+        3) holds "$room/errors" $'nbt: memory\n' && is_left_by "${1:-}" && told=$((told + 1)) ;;
         *) false ;;
         esac
         count $? "nbt $*: request $n of $number refused"
     done
+    [ "$told" -gt 0 ]
+    count $? "nbt $*: some request that is refused is told"
+    refusing NBT_REFUSED=$n "$program" "$@" <"$input" >"$room/output" 2>"$room/errors"
+    [ $? -eq "$status" ] && is_ample
+    count $? "nbt $*: no request refused"
 }
+
+# Whether what the process wrote is what it writes with ample memory.
+is_ample() { cmp -s "$room/ample" "$room/output" && cmp -s "$room/ample_errors" "$room/errors"; }
 
 # is_left_by COMMAND: whether the output is what a command leaves that ran out of memory: show and replay a front of the
 # output with ample memory that ends where a line does, the others nothing.
@@ -52,198 +226,68 @@ is_left_by() {
     }
 }
 
-fred=20454746434546454543414341434143414341434143414341434143414341434100
-joe=20454b45504546434143414341434143414341434143414341434143414341414100
-scoped=204547464345464545434143414341434143414341434143414341434143414341074e455442494f5303434f4d00
-empty=110200010a000005008a00440000$joe$fred
-wildcard=20434b41414141414141414141414141414141414141414141414141414141414100
+memory() {
+    input=/dev/null
+    remembers name 'FRED<20>.NETBIOS.COM'
+    remembers name --bytes "$scoped"
+    remembers name FRED
+    remembers name --bytes 0g
+    remembers name --bytes "${fred}00"
+    remembers name
+    remembers name --help
+    remembers --help
+    remembers
+    remembers replay
+    remembers build registration 0002 'FRED<20>' 300000 0000 10.0.0.5
+    remembers build message 616263
+    remembers build group 10.0.0.5:138/0001 'JOE<00>' 'FRED<20>' empty 100
+    remembers build query 0001 FRED
+    remembers build group 10.0.0.5:138/0001 'JOE<00>' 'FRED<20>' 00010203040506070809 4
+    { nbt build query 0001 'FRED<20>.A' && printf 'tick 2\n139 0 00000003616263\nx\n'; } >"$room/input"
+    input=$room/input
+    remembers show
+    { nbt build group 10.0.0.5:138/0001 'JOE<00>' 'FRED<20>' 000102030405 2 && echo tick 1; } >"$room/input"
+    remembers save
+    remembers save --keys 0
+    remembers replay 'FRED<20>' 'JOE<00>'
+    remembers replay FRED
+    printf '138 0 %s\n' $empty >"$room/input"
+    remembers show
+    remembers save
+    printf '138 0 %s\n138 1 %s\ntick 2000\n138 2001 %s\n137 2002 00\n138 2003 17\n' $empty $empty $empty >"$room/capture"
+    input=$room/capture
+    remembers replay 'FRED<20>'
+    remembers show
+    remembers save
+    printf '138 0 %s\n' $empty "${empty/0001/0002}" "${empty/0001/0003}" >"$room/several"
+    input=$room/several
+    remembers replay --per-source 2 'FRED<20>'
+    remembers save --per-source 2
+    remembers save --keys 2
+    remembers save
+    nbt save <"$room/capture" | sed p >"$room/tables"
+    input=$room/tables
+    remembers merge
+    remembers list
+    remembers agree
+    { head -n 1 "$room/tables" && nbt save <"$room/several"; } >"$room/unequal"
+    input=$room/unequal
+    remembers merge
+    remembers list
+    remembers agree
+    remembers merge --keys 2
+    remembers merge --per-source 2
+    printf '4e425433\n' >"$room/input"
+    input=$room/input
+    remembers merge
+    remembers agree
+}
 
-compile devices
-compile refuse_memory
-
-# The cases of tests/cases: after `$ COMMAND` stand the lines of its standard output, those of its standard error behind
-# `! `, and `? STATUS` where that isn't 0. `...` stands for text that isn't empty, {FRED} and the like for spellings.
-# `hostile NAME=VALUE .. COMMAND` runs a command over the devices of tests/devices.c.
-mkdir "$room/bin" "$room/files" && ln -s "$(realpath "$program")" "$room/bin/nbt"
+mkdir "$room/bin" && ln -s "$(realpath "$program")" "$room/bin/nbt"
 printf '#!/bin/sh\nexec env LD_PRELOAD=%s/devices.so "$@"\n' "$room" >"$room/bin/hostile" && chmod +x "$room/bin/hostile"
-spelled() { sed "s/{FRED}/$fred/g; s/{JOE}/$joe/g; s/{SCOPED}/$scoped/g; s/{WILDCARD}/$wildcard/g; s/{EMPTY}/$empty/g" "$1"; }
-for cases in "$here"/cases/*.txt; do
-    command='' told=''
-    while IFS= read -r line; do
-        case $line in
-        '$ '*)
-            [ -z "$command" ] || sample "$command" "$told"
-            command=${line#'$ '} told=''
-            ;;
-        '' | '#'*) ;;
-        *) told+=$line$'\n' ;;
-        esac
-    done < <(spelled "$cases")
-    sample "$command" "$told"
-done
-
-# The console samples of the pages: each command prints the lines after it. A page's files go into a folder of its own.
-samples() { awk '/^```$/ { shown = 0 } shown; /^```console$/ { shown = 1 }' "$1"; }
-for page in README.md docs/GUIDE.md; do
-    mkdir "$room/samples"
-    samples "$here/../$page" >"$room/wanted"
-    sed -n 's/^\$ //p' "$room/wanted" | while IFS= read -r command; do
-        echo "\$ $command"
-        (cd "$room/samples" && PATH=$room/bin:$PATH bash -c "$command" </dev/null)
-    done >"$room/output" 2>&1
-    diff "$room/wanted" "$room/output"
-    count $? "the console samples of $page"
-    rm -r "$room/samples"
-done
-
-# An input that can't be read.
-"$program" show <&- >"$room/output" 2>"$room/errors"
-[ $? -eq 3 ] && holds "$room/output" '' && holds "$room/errors" $'nbt: read\n'
-count $? 'nbt show, standard input closed'
-for command in show save "replay FRED<20>" merge list agree; do
-    "$program" $command <"$room" >"$room/output" 2>"$room/errors"
-    [ $? -eq 3 ] && holds "$room/output" '' && holds "$room/errors" $'nbt: read\n'
-    count $? "nbt $command, a folder as standard input"
-done
-
-# Outputs that are full or closed; a closed standard error changes nothing.
-for words in 'name FRED<20>' "name --bytes $fred" 'build keepalive' --help --version; do
-    "$program" $words >/dev/full 2>"$room/errors"
-    [ $? -eq 3 ] && holds "$room/errors" $'nbt: write\n'
-    count $? "nbt $words, standard output full"
-    "$program" $words >&- 2>"$room/errors"
-    [ $? -eq 3 ] && holds "$room/errors" $'nbt: write\n'
-    count $? "nbt $words, standard output closed"
-done
-printf 'tick 1\nx\n' >"$room/input"
-"$program" show <"$room/input" >/dev/full 2>"$room/errors"
-[ $? -eq 3 ] && holds "$room/errors" $'nbt: write\n'
-count $? 'nbt show, standard output full, a malformed line behind it'
-"$program" save </dev/null >/dev/full 2>"$room/errors"
-[ $? -eq 3 ] && holds "$room/errors" $'nbt: write\n'
-count $? 'nbt save, standard output full'
-"$program" replay 'FRED<20>' <"$room/input" >/dev/full 2>"$room/errors"
-[ $? -eq 3 ] && holds "$room/errors" $'nbt: write\n'
-count $? 'nbt replay, standard output full, a malformed line behind it'
-seq 5000 | sed 's/.*/tick 1/' >"$room/input"
-for words in show 'replay A<20>'; do
-    "$program" $words <"$room/input" >/dev/full 2>"$room/errors"
-    [ $? -eq 3 ] && holds "$room/errors" $'nbt: write\n'
-    count $? "nbt $words, standard output full before the end"
-done
-for words in merge list agree; do
-    printf '%s\n' 4e425432000000010a000005008a000100 4e425432000000010a000005008a000100 | "$program" $words >/dev/full 2>"$room/errors"
-    [ $? -eq 3 ] && holds "$room/errors" $'nbt: write\n'
-    count $? "nbt $words, standard output full"
-done
-"$program" name FRED >"$room/output" 2>/dev/full
-[ $? -eq 1 ] && holds "$room/output" ''
-count $? 'nbt name FRED, standard error full'
-"$program" nonsense >"$room/output" 2>&-
-[ $? -eq 2 ] && holds "$room/output" ''
-count $? 'nbt nonsense, standard error closed'
-
-# `name` and `build` read nothing.
-printf 'left' >"$room/input"
-for words in 'name FRED<20>' 'build keepalive'; do
-    { "$program" $words >/dev/null && head -c 4 >"$room/left"; } <"$room/input"
-    holds "$room/left" left
-    count $? "nbt $words leaves its input unread"
-done
-
-# A long report is written in large pieces.
-seq 100000 | sed 's/.*/tick 1/' >"$room/input"
-for words in show 'replay A<20>'; do
-    "$room/bin/hostile" NBT_WRITES="$room/writes" "$program" $words <"$room/input" >"$room/output"
-    [ $? -eq 0 ] && [ "$(wc -l <"$room/output")" -eq 100000 ]
-    count $? "nbt $words, 100,000 lines"
-    writes=$(cat "$room/writes")
-    [ "$writes" -ge 10 ] && [ "$writes" -lt 1000 ]
-    count $? "nbt $words, 100,000 lines in $writes writes"
-done
-seq 100000 | sed 's/.*/138 0 1702000100000000008a1702000100000000008a/' >"$room/input"
-for words in show 'replay A<20>'; do
-    "$room/bin/hostile" NBT_WRITES="$room/writes" "$program" $words <"$room/input" >"$room/output"
-    [ $? -eq 0 ] && [ "$(wc -l <"$room/output")" -eq 100000 ] && [ "$(cat "$room/writes")" -le 2000 ]
-    count $? "nbt $words, 100,000 longer lines in $(cat "$room/writes") writes"
-done
-
-# What a line gives is there before the next line is sent; where it can't be written the program ends without one.
-mkfifo "$room/sent" "$room/shown"
-for words in show 'replay A<20>'; do
-    "$program" $words <"$room/sent" >"$room/shown" &
-    exec 3>"$room/sent" 4<"$room/shown"
-    for n in 1 2 3; do
-        echo "tick $n" >&3
-        IFS= read -r -t 30 line <&4
-        [[ $line == "$n tick $n" || $line == "$n dropped 0" ]]
-        count $? "nbt $words, line $n of an input that waits"
-    done
-    exec 3>&- 4<&-
-    wait $!
-    timeout 30 "$program" $words <"$room/sent" >/dev/full 2>"$room/errors" &
-    exec 3>"$room/sent"
-    echo tick 1 >&3
-    wait $!
-    [ $? -eq 3 ] && holds "$room/errors" $'nbt: write\n'
-    count $? "nbt $words, standard output full, an input that waits"
-    exec 3>&-
-done
-
-# Each request for memory refused.
-input=/dev/null
-remembers name 'FRED<20>.NETBIOS.COM'
-remembers name --bytes "$scoped"
-remembers name FRED
-remembers name --bytes 0g
-remembers name --bytes "${fred}00"
-remembers name
-remembers name --help
-remembers --help
-remembers
-remembers replay
-remembers build registration 0002 'FRED<20>' 300000 0000 10.0.0.5
-remembers build message 616263
-remembers build group 10.0.0.5:138/0001 'JOE<00>' 'FRED<20>' empty 100
-remembers build query 0001 FRED
-remembers build group 10.0.0.5:138/0001 'JOE<00>' 'FRED<20>' 00010203040506070809 4
-{ "$program" build query 0001 'FRED<20>.A' && printf 'tick 2\n139 0 00000003616263\nx\n'; } >"$room/input"
-input=$room/input
-remembers show
-{ "$program" build group 10.0.0.5:138/0001 'JOE<00>' 'FRED<20>' 000102030405 2 && echo tick 1; } >"$room/input"
-remembers save
-remembers save --keys 0
-remembers replay 'FRED<20>' 'JOE<00>'
-remembers replay FRED
-printf '138 0 %s\n' $empty >"$room/input"
-remembers show
-remembers save
-printf '138 0 %s\n138 1 %s\ntick 2000\n138 2001 %s\n137 2002 00\n138 2003 17\n' $empty $empty $empty >"$room/capture"
-input=$room/capture
-remembers replay 'FRED<20>'
-remembers show
-remembers save
-printf '138 0 %s\n' $empty "${empty/0001/0002}" "${empty/0001/0003}" >"$room/several"
-input=$room/several
-remembers replay --per-source 2 'FRED<20>'
-remembers save --per-source 2
-remembers save --keys 2
-remembers save
-"$program" save <"$room/capture" | sed p >"$room/tables"
-input=$room/tables
-remembers merge
-remembers list
-remembers agree
-{ head -n 1 "$room/tables" && "$program" save <"$room/several"; } >"$room/unequal"
-input=$room/unequal
-remembers merge
-remembers list
-remembers agree
-remembers merge --keys 2
-remembers merge --per-source 2
-printf '4e425433\n' >"$room/input"
-input=$room/input
-remembers merge
-remembers agree
-
+part shims compile devices refuse_memory
+part cases cases
+part pages pages
+part streams streams
+part memory memory
 finish

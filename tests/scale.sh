@@ -1,15 +1,15 @@
 #!/usr/bin/env bash
 # tools/nbt-parallel and tools/nbt-dask over a capture of 40 MiB, on two workers: killed workers, killed clients, and
-# inputs and devices that are refused. What isn't installed is left out, with a line that says so. Usage: tests/scale.sh
-# [PROGRAM]; its last line is 'N passed, M failed'.
+# inputs and devices that are refused. What isn't installed is left out. Usage: tests/scale.sh [PROGRAM]; its last line is
+# 'N passed, M failed, K skipped'.
 set -uo pipefail
 . "$(dirname "$0")/counting.sh"
 program=$(realpath "${1:-$here/../crates/nbt/out/nbt}")
 tools=$(realpath "$here/../tools")
 cd "$room" || exit
 
-save() { "$program" save --keys 65535; }
-merge() { "$program" merge --keys 65535; }
+save() { ended "$program" save --keys 65535; }
+merge() { ended "$program" merge --keys 65535; }
 
 # engine NAME WORD..: $room/NAME, the tool of that name on two workers; its first word is the program.
 engine() { printf '#!/bin/sh\nexec "%s" %s --program "$@"\n' "$tools/$1" "${*:2}" >"$1" && chmod +x "$1"; }
@@ -21,7 +21,7 @@ engine nbt-dask --workers 2
 refuses() {
     local status=$1 text=$2
     shift 2
-    "$@" out >output 2>errors </dev/null
+    ended "$@" out >output 2>errors </dev/null
     [ $? -eq "$status" ] && [ "$(wc -l <errors)" -eq 1 ] && [[ $(cat errors) == $text ]] && [ ! -s output ] && [ ! -e out ]
     count $? "$*: $(cat errors)"
     rm -rf out out.work
@@ -31,7 +31,7 @@ refuses() {
 gives() {
     local table=$1
     shift
-    "$@" out >output 2>errors </dev/null && cmp -s "$table" out && [ ! -e out.work ] && [ ! -s errors ]
+    ended "$@" out >output 2>errors </dev/null && cmp -s "$table" out && [ ! -e out.work ] && [ ! -s errors ]
     count $? "$*: $(cat errors)"
     rm -rf out out.work
 }
@@ -54,7 +54,7 @@ await() {
 # loses_worker WORD..: a worker is killed while it works.
 loses_worker() {
     : >started
-    "$@" many --shard-bytes 4194304 out >output 2>errors </dev/null &
+    ended "$@" many --shard-bytes 4194304 out >output 2>errors </dev/null &
     await 4
     kill -9 "$(sed -n '4s/.* //p' started)" && wait $! && cmp -s table out && [ ! -e out.work ]
     count $? "$*, a worker killed: $(cat errors)"
@@ -69,7 +69,7 @@ loses_client() {
     kill -9 $! && ! wait $! 2>/dev/null && [ ! -e out ]
     count $? "$*, the client killed: nothing is there"
     : >started
-    "$@" many --shard-bytes 4194304 out >output 2>errors </dev/null && cmp -s table out && [ ! -e out.work ]
+    ended "$@" many --shard-bytes 4194304 out >output 2>errors </dev/null && cmp -s table out && [ ! -e out.work ]
     count $? "$*, the client killed, and run again: $(cat errors)"
     rm -rf out out.work
 }
@@ -92,7 +92,11 @@ on_cluster() {
     "$@" "$("$python" -c 'import json; print(json.load(open("cluster"))["address"])')"
     for each in "${cluster[@]}"; do
         kill "$each" 2>/dev/null
-        while kill -0 "$each" 2>/dev/null; do sleep 0.1; done
+        for ((i = 0; i < 300; i++)); do
+            kill -0 "$each" 2>/dev/null || break
+            sleep 0.1
+        done
+        kill -9 "$each" 2>/dev/null
     done
 }
 
@@ -106,81 +110,97 @@ refusals() {
     refuses 3 "$name: many: lines * (shard g0000-00000?): *signal 9 ended the program*" "$1" "$room/killed" many
     refuses 3 "$name: nowhere: no such file" "$1" "$program" many nowhere
     refuses 3 "$name: ./nbt: no such program*" "$1" ./nbt many
-    cp bad kept && "$1" "$program" many kept >output 2>errors
+    cp bad kept && ended "$1" "$program" many kept >output 2>errors
     [ $? -eq 2 ] && cmp -s bad kept && [[ $(cat errors) == "$name: kept is there, and is no saved table"* ]]
     count $? "$1: OUT is a capture: $(cat errors)"
 }
 
-# A full disk: OUT's folder is one of 1 MiB.
+# full_disk PART ENGINE: a full disk: OUT's folder is one of 1 MiB.
 full_disk() {
     mkdir -p disk
-    if ! unshare -rm mount -t tmpfs none disk 2>/dev/null; then
-        echo 'tests/scale.sh: no disk can be made here: full disks are left out'
-        return
+    if unshare -rm mount -t tmpfs none disk 2>/dev/null; then
+        part "$1" fills_disk "$2"
+    else
+        skip "$1" 'no tmpfs can be mounted here'
     fi
-    unshare -rm bash -c 'mount -t tmpfs -o size=1m none disk; echo 4e425432 >disk/out
+}
+
+fills_disk() {
+    ended unshare -rm bash -c 'mount -t tmpfs -o size=1m none disk; echo 4e425432 >disk/out
         "$1" "$2" many disk/out; echo $?; cat disk/out; ls disk' - "$1" "$program" >output 2>errors
     printf '3\n4e425432\nout\n' | cmp -s - <(grep -v out.work output) && [[ $(cat errors) == nbt-*": No space left on device" ]]
     count $? "$1: a full disk: $(cat errors)"
 }
 
-for kind in many keys gaps flow ever; do
-    python3 "$here/scale_capture.py" $kind "$room"
-done
-cp many bad && sed -i '54321s/.*/138 0 xyz/' bad
+inputs() {
+    local each
+    for each in many keys gaps flow ever; do
+        python3 "$here/scale_capture.py" $each "$room"
+    done
+    cp many bad && sed -i '54321s/.*/138 0 xyz/' bad
 
-# One table over all: a program reads 16 MiB at once, so parts are saved and merged in order.
-split -C 8m many part.
-for each in part.*; do
-    save <"$each" >table.next
-    if [ -e table ]; then cat table table.next | merge >table.both && mv table.both table; else mv table.next table; fi
-done
-cp table copy
-if "$program" list --help >/dev/null 2>&1; then
-    "$program" list --keys 65535 <table | cmp -s - many.list
+    # One table over all: a program reads 16 MiB at once, so parts are saved and merged in order.
+    split -C 8m many part.
+    for each in part.*; do
+        save <"$each" >table.next
+        if [ -e table ]; then cat table table.next | merge >table.both && mv table.both table; else mv table.next table; fi
+    done
+    cp table copy
+    ended "$program" list --keys 65535 <table | cmp -s - many.list
     count $? 'nbt list: the datagrams of the table'
-fi
 
-# What `make install` puts there, found by its name.
-make -s -C "$here/.." -o build install PROGRAM="$program" DESTDIR="$room" PREFIX=/installed
-count $? 'make install'
-save <gaps >gaps.table
+    # What `make install` puts there, found by its name.
+    make -s -C "$here/.." -o build install PROGRAM="$program" DESTDIR="$room" PREFIX=/installed
+    count $? 'make install'
+    save <gaps >gaps.table
+}
 
-if parallel --version 2>/dev/null | grep -q '^GNU parallel'; then
+with_parallel() {
+    local each
     loses_worker ./nbt-parallel "$room/slow"
     loses_client ./nbt-parallel "$room/slow"
     [ "$(wc -l <started)" -lt 12 ]
     count $? "./nbt-parallel, run again: it goes on where it was, $(wc -l <started) runs of the program"
     refusals ./nbt-parallel
-    full_disk ./nbt-parallel
     gives gaps.table ./nbt-parallel "$program" --shard-bytes 262201 gaps
     PATH=$room/installed/bin:$PATH gives gaps.table nbt-parallel gaps
     save <flow >flow.table
     gives flow.table ./nbt-parallel "$program" --shard-bytes 262201 flow
-    ./nbt-parallel "$program" --by-source 3 --shard-bytes 262201 flow out && [ "$(wc -l <out)" -eq 3 ] && merge <out | cmp -s flow.table
+    ended ./nbt-parallel "$program" --by-source 3 --shard-bytes 262201 flow out && [ "$(wc -l <out)" -eq 3 ] &&
+        merge <out | cmp -s flow.table
     count $? './nbt-parallel --by-source 3, with ticks'
     for each in part.*; do save <"$each" >"$each.table"; done
     gives table ./nbt-parallel "$program" --tables part.*.table
     refuses 1 'nbt-parallel: 2 tables are left, of which no two can be merged:*' ./nbt-parallel "$program" --tables table copy
     refuses 1 'nbt-parallel: *nbt: full: there are more than 65535 keys. Cut by source *' ./nbt-parallel "$program" keys
-    ./nbt-parallel "$program" --by-source 2 keys out && [ "$(wc -l <out)" -eq 2 ]
+    ended ./nbt-parallel "$program" --by-source 2 keys out && [ "$(wc -l <out)" -eq 2 ]
     count $? './nbt-parallel --by-source 2, of 66,000 keys'
-else
-    echo 'tests/scale.sh: GNU parallel isn'\''t installed: nbt-parallel is left out'
-fi
+}
 
-for python in python3 /usr/bin/python3 ''; do
-    [ -n "$python" ] && "$python" -c 'import distributed' 2>/dev/null && break
-done
-if [ -n "$python" ]; then
+with_dask() {
     loses_worker ./nbt-dask "$room/slow"
     loses_client ./nbt-dask "$room/slow"
     on_cluster loses_worker "$tools/nbt-dask" --send --program "$room/slow" --scheduler
     refusals ./nbt-dask
-    full_disk ./nbt-dask
     PATH=$room/installed/bin:$PATH gives gaps.table nbt-dask --workers 2 gaps
-else
-    echo 'tests/scale.sh: no Python here has distributed: nbt-dask is left out'
-fi
+}
 
+part inputs inputs
+if [[ $(parallel --version 2>/dev/null) == 'GNU parallel'* ]]; then
+    part nbt-parallel with_parallel
+    full_disk nbt-parallel-disk ./nbt-parallel
+else
+    lacks nbt-parallel 'GNU parallel'
+    lacks nbt-parallel-disk 'GNU parallel'
+fi
+for python in python3 /usr/bin/python3 ''; do
+    [ -n "$python" ] && "$python" -c 'import distributed' 2>/dev/null && break
+done
+if [ -n "$python" ]; then
+    part nbt-dask with_dask
+    full_disk nbt-dask-disk ./nbt-dask
+else
+    lacks nbt-dask python3-distributed
+    lacks nbt-dask-disk python3-distributed
+fi
 finish

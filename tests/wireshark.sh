@@ -1,25 +1,27 @@
 #!/usr/bin/env bash
 # The built program beside Wireshark: what `nbt build` makes, as tshark dissects it, and a network's packets, as `nbt
 # show` has them, by way of tools/cap2pcap and tools/pcap2cap. Usage: tests/wireshark.sh [PROGRAM]; its last line is
-# 'N passed, M failed'. Where tshark isn't installed no case is run.
+# 'N passed, M failed, K skipped'. Where tshark isn't installed all of it is left out.
 set -uo pipefail
 . "$(dirname "$0")/counting.sh"
 program=$(realpath "${1:-$here/../crates/nbt/out/nbt}")
-pcap2cap=$here/../tools/pcap2cap
-cap2pcap=$here/../tools/cap2pcap
 
 if ! command -v tshark >/dev/null; then
-    echo "tests/wireshark.sh: tshark isn't installed, its tests are left out"
+    lacks all tshark
     finish
     exit
 fi
 export WIRESHARK_CONFIG_DIR=$room/settings
 
+nbt() { ended "$program" "$@"; }
+pcap2cap() { ended "$here/../tools/pcap2cap" "$@"; }
+cap2pcap() { ended "$here/../tools/cap2pcap" "$@"; }
+
 # fields FILE FILTER FIELD..: these fields of the packets, with tabs between them.
 fields() {
     local file=$1 filter=$2
     shift 2
-    tshark -n -r "$file" -o tcp.reassemble_out_of_order:TRUE -Y "$filter" -T fields "${@/#/-e}" 2>"$room/errors"
+    ended tshark -n -r "$file" -o tcp.reassemble_out_of_order:TRUE -Y "$filter" -T fields "${@/#/-e}" 2>"$room/errors"
 }
 
 # ---- The packets of `nbt build`, by the cases of tests/dissected.txt.
@@ -45,152 +47,155 @@ unchanged() {
 # The first eight bytes of data that is longer than 32 bytes.
 shortened() { sed -E 's/\b([0-9a-f]{16})[0-9a-f]{49,}\b/\1../g'; }
 
-nbt() { "$program" "$@"; }
-commands=() numbers=() told=()
-: >"$room/built"
-while IFS= read -r line; do
-    case $line in
-    '$ '*)
-        command=$(spelled "${line#'$ '}")
-        eval "$command" >"$room/lines"
-        unchanged "$command"
-        count $? "${line:2:100}, and --broadcast"
-        cat "$room/lines" >>"$room/built"
-        commands+=("${line:2:100}") numbers+=("$(wc -l <"$room/lines")") told+=('')
-        ;;
-    '' | '#'*) ;;
-    *) told[-1]+=$(spelled "$line" | shortened)$'\n' ;;
-    esac
-done <"$here/dissected.txt"
+built() {
+    local line command index found n commands numbers told
+    commands=() numbers=() told=()
+    : >"$room/built"
+    while IFS= read -r line; do
+        case $line in
+        '$ '*)
+            command=$(spelled "${line#'$ '}")
+            eval "$command" >"$room/lines"
+            unchanged "$command"
+            count $? "${line:2:100}, and --broadcast"
+            cat "$room/lines" >>"$room/built"
+            commands+=("${line:2:100}") numbers+=("$(wc -l <"$room/lines")") told+=('')
+            ;;
+        '' | '#'*) ;;
+        *) told[-1]+=$(spelled "$line" | shortened)$'\n' ;;
+        esac
+    done <"$here/dissected.txt"
 
-# Empty fields are left out, and so are the words that tshark adds to a name's text.
-"$cap2pcap" <"$room/built" >"$room/built.pcap"
-count $? 'cap2pcap: the packets that were built'
-fields "$room/built.pcap" 'nbns || nbdgm || nbss' _ws.malformed _ws.col.Protocol nbss.continuation_data nbns.id nbns.flags \
-    nbns.name nbns.type nbns.class nbns.ttl nbns.nb_flags nbns.addr nbdgm.type nbdgm.flags nbdgm.dgram_id nbdgm.src.ip \
-    nbdgm.src.port nbdgm.dgram_len nbdgm.pkt_offset nbdgm.source_name nbdgm.destination_name nbdgm.error_code nbss.type \
-    nbss.flags nbss.length nbss.called_name nbss.calling_name nbss.error_code nbss.retarget_ip_address nbss.retarget_port \
-    data.data | sed -E 's/^(\t[^\t]*\t)([^\t])/\1continued\t\2/; s/ \([A-Z][^)]*\)//g; s/\t+/ /g; s/^ //; s/ $//' |
-    shortened >"$room/dissected"
-exec 3<"$room/dissected"
-for index in "${!commands[@]}"; do
-    found=''
-    for ((n = 0; n < numbers[index]; n++)); do
-        IFS= read -r line <&3
-        found+=$line$'\n'
+    # Empty fields are left out, and so are the words that tshark adds to a name's text.
+    cap2pcap <"$room/built" >"$room/built.pcap"
+    count $? 'cap2pcap: the packets that were built'
+    fields "$room/built.pcap" 'nbns || nbdgm || nbss' _ws.malformed _ws.col.Protocol nbss.continuation_data nbns.id nbns.flags \
+        nbns.name nbns.type nbns.class nbns.ttl nbns.nb_flags nbns.addr nbdgm.type nbdgm.flags nbdgm.dgram_id nbdgm.src.ip \
+        nbdgm.src.port nbdgm.dgram_len nbdgm.pkt_offset nbdgm.source_name nbdgm.destination_name nbdgm.error_code nbss.type \
+        nbss.flags nbss.length nbss.called_name nbss.calling_name nbss.error_code nbss.retarget_ip_address nbss.retarget_port \
+        data.data | sed -E 's/^(\t[^\t]*\t)([^\t])/\1continued\t\2/; s/ \([A-Z][^)]*\)//g; s/\t+/ /g; s/^ //; s/ $//' |
+        shortened >"$room/dissected"
+    exec 3<"$room/dissected"
+    for index in "${!commands[@]}"; do
+        found=''
+        for ((n = 0; n < numbers[index]; n++)); do
+            IFS= read -r line <&3
+            found+=$line$'\n'
+        done
+        [ -n "$found" ] && [ "$found" = "${told[index]}" ]
+        count $? "tshark on ${commands[index]}: $found"
     done
-    [ -n "$found" ] && [ "$found" = "${told[index]}" ]
-    count $? "tshark on ${commands[index]}: $found"
-done
-[ "$(cat <&3 | wc -l)" -eq 0 ]
-count $? 'tshark finds as many packets as were built'
-exec 3<&-
-"$pcap2cap" "$room/built.pcap" | cmp -s - "$room/built"
-count $? 'pcap2cap: the packets that were built'
+    [ "$(cat <&3 | wc -l)" -eq 0 ]
+    count $? 'tshark finds as many packets as were built'
+    exec 3<&-
+    pcap2cap "$room/built.pcap" | cmp -s - "$room/built"
+    count $? 'pcap2cap: the packets that were built'
+}
 
 # ---- A network's packets, by tests/network.py.
 
-"$here/network.py" "$room/network.pcap" >"$room/expected"
-mkdir "$room/own" && echo 'ip.defragment: FALSE' >"$room/own/preferences" && echo udp >"$room/own/disabled_protos"
-WIRESHARK_CONFIG_DIR=$room/own "$pcap2cap" "$room/network.pcap" >"$room/capture" 2>"$room/errors"
-[ $? -eq 0 ] && cmp -s "$room/capture" "$room/expected" && [ ! -s "$room/errors" ]
-count $? "pcap2cap: the packets of a network, whatever the user's settings of tshark"
-
-# What `nbt show` and tshark say of the same packets, in the words of `nbt show`. Empty payloads, those of which a part was
-# captured, those that are no session packets, and segments that overlap are left to the cases above.
-awk '$2 < 20000' "$room/capture" | nbt show | sed -E ':all;N;$!ball;s/\n  +/ /g' | grep -v -e ' tick ' -e ' refused ' | sed -E '
-    s/^[0-9]+ //; s/ used=[0-9]+//; s/ op=.* ar=[0-9]+ (question|answer)//; s/ class=[0-9a-f]+//
-    s/ data=[0-9a-f]+ entry flags=[0-9a-f]+ ont=[0-3]//; s/^(139 .*) data=.*/\1/' >"$room/shown"
-fields "$room/network.pcap" '(nbns || nbdgm || nbss.type) && !icmp && frame.cap_len == frame.len && frame.time_relative < 20' \
-    nbns.id nbns.flags nbns.name nbns.type nbns.ttl nbns.addr nbdgm.type nbdgm.flags nbdgm.src.ip nbdgm.src.port \
-    nbdgm.dgram_id nbdgm.pkt_offset nbdgm.source_name nbdgm.destination_name data.data nbss.type nbss.length \
-    nbss.called_name nbss.calling_name | awk -F'\t' '
-    { gsub(/ \([A-Z][^)]*\)|0x/, "") }
-    $1 != "" { printf "137 id=%s word=%s %s type=%04x", $1, $2, $3, $4; print $5 != "" ? " ttl=" $5 " address=" $6 : "" }
-    $7 != "" {
-        split("unique group broadcast", kinds, " ")
-        printf "138 %s flags=%s key=%s:%s/%s offset=%s", kinds[$7 - 15], $8, $9, $10, $11, $12
-        printf " source=%s destination=%s data=%s\n", $13, $14, $15
-    }
-    $16 != "" {
-        count = split($16, types, ",")
-        split($17, lengths, ",")
-        for (i = 1; i <= count; i++) {
-            if (types[i] == "00") print "139 message length=" lengths[i]
-            if (types[i] == "81") print "139 request called=" $18 " calling=" $19
-            if (types[i] == "82") print "139 positive"
-            if (types[i] == "85") print "139 keepalive"
-        }
-    }' >"$room/dissected"
-[ "$(wc -l <"$room/shown")" -eq 11 ] && diff "$room/shown" "$room/dissected"
-count $? 'nbt show and tshark on the packets of a network'
-
-# From the capture to a pcap, and back: every payload is the same, and so is every byte of TCP.
 payloads() { awk '$1 ~ /^13/ { print $1, $3 }' "$1"; }
-"$cap2pcap" <"$room/capture" >"$room/again.pcap" && "$pcap2cap" "$room/again.pcap" >"$room/again"
-count $? 'cap2pcap: the packets of a network'
-[ "$(payloads "$room/capture" | wc -l)" -gt 12 ] && cmp -s <(payloads "$room/capture") <(payloads "$room/again")
-count $? 'the packets of a network, from pcap to capture to pcap to capture'
-fields "$room/network.pcap" 'udp.port in {137, 138} && !icmp && frame.cap_len == frame.len && frame.time_relative < 20' \
-    udp.payload >"$room/before"
-fields "$room/again.pcap" 'udp && frame.time_relative < 20' udp.payload | cmp -s "$room/before" -
-count $? 'payloads of UDP, as tshark has them before and after'
-fields "$room/again.pcap" tcp.payload tcp.payload | tr -d '\n' | cmp -s - <(sed -n 's/^139 [0-9]* //p' "$room/capture" | tr -d '\n')
-count $? 'payloads of TCP, as tshark has them after'
 
-# Other forms of the file, and what can't be read.
-tshark -r "$room/network.pcap" -w "$room/network.pcapng" 2>"$room/errors"
-"$pcap2cap" "$room/network.pcapng" | cmp -s - "$room/expected"
-count $? 'pcap2cap: a pcapng file'
-head -c 400 "$room/network.pcap" >"$room/cut.pcap"
-"$pcap2cap" "$room/cut.pcap" >"$room/output" 2>"$room/errors"
-[ $? -eq 3 ] && cmp -s "$room/output" <(head -n 1 "$room/expected") && grep -q '^pcap2cap: tshark: .* cut short' "$room/errors"
-count $? 'pcap2cap: a file that is cut off'
-"$pcap2cap" "$room/capture" >"$room/output" 2>"$room/errors"
-[ $? -eq 3 ] && [ ! -s "$room/output" ] && grep -q '^pcap2cap: tshark: ' "$room/errors"
-count $? 'pcap2cap: a file that is no pcap'
-"$pcap2cap" "$room/network.pcap" >/dev/full 2>"$room/errors"
-[ $? -eq 3 ] && [ "$(cat "$room/errors")" = 'pcap2cap: write' ]
-count $? 'pcap2cap, standard output full'
-"$cap2pcap" <"$room/capture" >/dev/full 2>"$room/errors"
-[ $? -eq 3 ] && grep -q '^cap2pcap: text2pcap: ' "$room/errors"
-count $? 'cap2pcap, standard output full'
+network() {
+    "$here/network.py" "$room/network.pcap" >"$room/expected"
+    mkdir "$room/own" && echo 'ip.defragment: FALSE' >"$room/own/preferences" && echo udp >"$room/own/disabled_protos"
+    WIRESHARK_CONFIG_DIR=$room/own pcap2cap "$room/network.pcap" >"$room/capture" 2>"$room/errors"
+    [ $? -eq 0 ] && cmp -s "$room/capture" "$room/expected" && [ ! -s "$room/errors" ]
+    count $? "pcap2cap: the packets of a network, whatever the user's settings of tshark"
+
+    # What `nbt show` and tshark say of the same packets, in the words of `nbt show`. Empty payloads, those of which a part
+    # was captured, those that are no session packets, and segments that overlap are left to the cases above.
+    awk '$2 < 20000' "$room/capture" | nbt show | sed -E ':all;N;$!ball;s/\n  +/ /g' | grep -v -e ' tick ' -e ' refused ' | sed -E '
+        s/^[0-9]+ //; s/ used=[0-9]+//; s/ op=.* ar=[0-9]+ (question|answer)//; s/ class=[0-9a-f]+//
+        s/ data=[0-9a-f]+ entry flags=[0-9a-f]+ ont=[0-3]//; s/^(139 .*) data=.*/\1/' >"$room/shown"
+    fields "$room/network.pcap" '(nbns || nbdgm || nbss.type) && !icmp && frame.cap_len == frame.len && frame.time_relative < 20' \
+        nbns.id nbns.flags nbns.name nbns.type nbns.ttl nbns.addr nbdgm.type nbdgm.flags nbdgm.src.ip nbdgm.src.port \
+        nbdgm.dgram_id nbdgm.pkt_offset nbdgm.source_name nbdgm.destination_name data.data nbss.type nbss.length \
+        nbss.called_name nbss.calling_name | awk -F'\t' '
+        { gsub(/ \([A-Z][^)]*\)|0x/, "") }
+        $1 != "" { printf "137 id=%s word=%s %s type=%04x", $1, $2, $3, $4; print $5 != "" ? " ttl=" $5 " address=" $6 : "" }
+        $7 != "" {
+            split("unique group broadcast", kinds, " ")
+            printf "138 %s flags=%s key=%s:%s/%s offset=%s", kinds[$7 - 15], $8, $9, $10, $11, $12
+            printf " source=%s destination=%s data=%s\n", $13, $14, $15
+        }
+        $16 != "" {
+            count = split($16, types, ",")
+            split($17, lengths, ",")
+            for (i = 1; i <= count; i++) {
+                if (types[i] == "00") print "139 message length=" lengths[i]
+                if (types[i] == "81") print "139 request called=" $18 " calling=" $19
+                if (types[i] == "82") print "139 positive"
+                if (types[i] == "85") print "139 keepalive"
+            }
+        }' >"$room/dissected"
+    [ "$(wc -l <"$room/shown")" -eq 11 ] && diff "$room/shown" "$room/dissected"
+    count $? 'nbt show and tshark on the packets of a network'
+
+    # From the capture to a pcap, and back: every payload is the same, and so is every byte of TCP.
+    cap2pcap <"$room/capture" >"$room/again.pcap" && pcap2cap "$room/again.pcap" >"$room/again"
+    count $? 'cap2pcap: the packets of a network'
+    [ "$(payloads "$room/capture" | wc -l)" -gt 12 ] && cmp -s <(payloads "$room/capture") <(payloads "$room/again")
+    count $? 'the packets of a network, from pcap to capture to pcap to capture'
+    fields "$room/network.pcap" 'udp.port in {137, 138} && !icmp && frame.cap_len == frame.len && frame.time_relative < 20' \
+        udp.payload >"$room/before"
+    [ -s "$room/before" ] && fields "$room/again.pcap" 'udp && frame.time_relative < 20' udp.payload | cmp -s "$room/before" -
+    count $? 'payloads of UDP, as tshark has them before and after'
+    fields "$room/again.pcap" tcp.payload tcp.payload | tr -d '\n' | cmp -s - <(sed -n 's/^139 [0-9]* //p' "$room/capture" | tr -d '\n')
+    count $? 'payloads of TCP, as tshark has them after'
+}
+
+# ---- Other forms of the file, and what can't be read or written.
 
 # refused TOOL TEXT STATUS MESSAGE [WORD..]: what a tool says of its input, or of its words, without any output.
 refused() {
     local tool=$1 text=$2 status=$3 message=$4
     shift 4
-    printf '%s\n' "$text" | "$here/../tools/$tool" "$@" >"$room/output" 2>"$room/errors"
+    printf '%s\n' "$text" | ended "$here/../tools/$tool" "$@" >"$room/output" 2>"$room/errors"
     [ "${PIPESTATUS[1]}" -eq "$status" ] && [ ! -s "$room/output" ] && [ "$(cat "$room/errors")" = "$message" ]
     count $? "$tool $*: $message"
 }
 
-refused pcap2cap '' 2 'pcap2cap: usage: pcap2cap FILE >CAPTURE'
-refused cap2pcap '' 2 'cap2pcap: usage: cap2pcap <CAPTURE >PCAP' capture
-refused cap2pcap $'# A capture\n137 0 0' 1 'cap2pcap: line 2'
-refused cap2pcap '138 18446744073709551616 00' 1 'cap2pcap: line 1'
-refused cap2pcap '138 4294967296000 00' 1 'cap2pcap: line 1: a pcap file holds no moment after 4294967295999'
-refused cap2pcap "138 0 $(spelled '{HEX:65508}')" 1 'cap2pcap: line 1: a UDP packet holds at most 65507 bytes, not 65508'
-mkdir "$room/bare" && ln -s "$(command -v cat)" "$room/bare"
-ln -s "$(python3 -c 'import sys; print(sys.executable)')" "$room/bare/python3"
-PATH=$room/bare refused pcap2cap '' 3 "pcap2cap: tshark isn't installed; in Debian it is the package tshark" "$room/network.pcap"
-PATH=$room/bare refused cap2pcap '' 3 "cap2pcap: text2pcap isn't installed; in Debian it comes with the package tshark"
+others() {
+    ended tshark -r "$room/network.pcap" -w "$room/network.pcapng" 2>"$room/errors"
+    pcap2cap "$room/network.pcapng" | cmp -s - "$room/expected"
+    count $? 'pcap2cap: a pcapng file'
+    head -c 400 "$room/network.pcap" >"$room/cut.pcap"
+    pcap2cap "$room/cut.pcap" >"$room/output" 2>"$room/errors"
+    [ $? -eq 3 ] && cmp -s "$room/output" <(head -n 1 "$room/expected") && grep -q '^pcap2cap: tshark: .* cut short' "$room/errors"
+    count $? 'pcap2cap: a file that is cut off'
+    pcap2cap "$room/capture" >"$room/output" 2>"$room/errors"
+    [ $? -eq 3 ] && [ ! -s "$room/output" ] && grep -q '^pcap2cap: tshark: ' "$room/errors"
+    count $? 'pcap2cap: a file that is no pcap'
+    pcap2cap "$room/network.pcap" >/dev/full 2>"$room/errors"
+    [ $? -eq 3 ] && [ "$(cat "$room/errors")" = 'pcap2cap: write' ]
+    count $? 'pcap2cap, standard output full'
+    cap2pcap <"$room/capture" >/dev/full 2>"$room/errors"
+    [ $? -eq 3 ] && grep -q '^cap2pcap: text2pcap: ' "$room/errors"
+    count $? 'cap2pcap, standard output full'
 
-# Lines that are no whole session packet, and empty ones.
-printf '%s\n' '139 7 8500' '139 8 85000000' '138 9 empty' '139 9 8600000101' '139 10 empty' '139 11 82000000' >"$room/lines"
-"$cap2pcap" <"$room/lines" >"$room/output" && "$pcap2cap" "$room/output" | cmp -s - <(printf '%s\n' '139 1 85000000' '138 2 empty' \
-    '139 2 8600000101' '139 4 82000000' '# stream 0 from 192.0.2.1 port 1024: bytes left over: 2 (8500)')
-count $? 'a stream ends with a line that is no session packet'
+    refused pcap2cap '' 2 'pcap2cap: usage: pcap2cap FILE >CAPTURE'
+    refused cap2pcap '' 2 'cap2pcap: usage: cap2pcap <CAPTURE >PCAP' capture
+    refused cap2pcap $'# A capture\n137 0 0' 1 'cap2pcap: line 2'
+    refused cap2pcap '138 18446744073709551616 00' 1 'cap2pcap: line 1'
+    refused cap2pcap '138 4294967296000 00' 1 'cap2pcap: line 1: a pcap file holds no moment after 4294967295999'
+    refused cap2pcap "138 0 $(spelled '{HEX:65508}')" 1 'cap2pcap: line 1: a UDP packet holds at most 65507 bytes, not 65508'
+    mkdir "$room/bare" && ln -s "$(command -v cat)" "$room/bare"
+    ln -s "$(python3 -c 'import sys; print(sys.executable)')" "$room/bare/python3"
+    PATH=$room/bare refused pcap2cap '' 3 "pcap2cap: tshark isn't installed; in Debian it is the package tshark" "$room/network.pcap"
+    PATH=$room/bare refused cap2pcap '' 3 "cap2pcap: text2pcap isn't installed; in Debian it comes with the package tshark"
 
-# The console samples of docs/CAPTURES.md: each command prints the lines after it.
-mkdir "$room/bin" "$room/samples" && ln -s "$program" "$room/bin/nbt"
-ln -s "$(realpath "$pcap2cap")" "$room/bin/nbt-pcap2cap" && ln -s "$(realpath "$cap2pcap")" "$room/bin/nbt-cap2pcap"
-samples() { awk '/^```$/ { shown = 0 } shown; /^```console$/ { shown = 1 }' "$here/../docs/CAPTURES.md"; }
-samples | sed -n 's/^\$ //p' | while read -r command; do
-    echo "\$ $command"
-    (cd "$room/samples" && PATH=$room/bin:$PATH bash -c "$command" </dev/null)
-done >"$room/output" 2>&1
-samples | diff - "$room/output"
-count $? 'the console samples of docs/CAPTURES.md'
+    # Lines that are no whole session packet, and empty ones.
+    printf '%s\n' '139 7 8500' '139 8 85000000' '138 9 empty' '139 9 8600000101' '139 10 empty' '139 11 82000000' >"$room/lines"
+    cap2pcap <"$room/lines" >"$room/output" && pcap2cap "$room/output" | cmp -s - <(printf '%s\n' '139 1 85000000' '138 2 empty' \
+        '139 2 8600000101' '139 4 82000000' '# stream 0 from 192.0.2.1 port 1024: bytes left over: 2 (8500)')
+    count $? 'a stream ends with a line that is no session packet'
+}
 
+mkdir "$room/bin" && ln -s "$program" "$room/bin/nbt"
+for tool in pcap2cap cap2pcap; do ln -s "$(realpath "$here/../tools/$tool")" "$room/bin/nbt-$tool"; done
+part built built
+part network network
+part others others
+part page page docs/CAPTURES.md
 finish

@@ -4,9 +4,9 @@
 //! 82, and `let NAME = BYTES` defines a word. An empty line and a comment, `#`, say nothing.
 
 use crate::answers::answer;
-use crate::fault::ExampleFault;
-use crate::vocabulary::Vocabulary;
-use crate::words::{Words, split};
+use nb_examples_words::fault::ExampleFault;
+use nb_examples_words::vocabulary::Vocabulary;
+use nb_examples_words::words::{Words, split};
 use std::alloc::Global;
 use std::io::Write;
 
@@ -87,9 +87,9 @@ impl Examples {
         self.count = self.count.saturating_add(1);
         match self.difference(alloc, line, n) {
             Ok(None) => Ok(()),
-            Ok(Some((example, said))) => {
+            Ok(Some(difference)) => {
                 self.wrong = self.wrong.saturating_add(1);
-                Ok(writeln!(output, "{example}\n    answered: {said}")?)
+                Ok(writeln!(output, "{difference}")?)
             }
             Err(fault) => self.note(line, fault, output),
         }
@@ -101,22 +101,9 @@ impl Examples {
         alloc: Global,
         line: &str,
         n: Option<u64>,
-    ) -> Result<Option<(String, String)>, ExampleFault> {
+    ) -> Result<Option<String>, ExampleFault> {
         let example = self.vocabulary.expanded(alloc, line, n)?;
-        let (asked, wanted) = example
-            .as_str()
-            .split_once(" = ")
-            .ok_or(ExampleFault::NoExample)?;
-        let (call, words) = asked.split_once(" ").unwrap_or((asked, ""));
-        let mut words = Words::new(words);
-        let said = answer(alloc, call, &mut words)?;
-        if !words.is_empty() {
-            return Err(ExampleFault::BadWords);
-        }
-        if said.as_str() == wanted {
-            return Ok(None);
-        }
-        Ok(Some((example, said)))
+        difference_text(alloc, example.as_str())
     }
 
     /// Prints a line that has no answer.
@@ -131,11 +118,32 @@ impl Examples {
     }
 }
 
+/// An example and what its call answers, where that isn't what the example says.
+fn difference_text(alloc: Global, example: &str) -> Result<Option<String>, ExampleFault> {
+    let (asked, wanted) = example.split_once(" = ").ok_or(ExampleFault::NoExample)?;
+    let said = answer_of(alloc, asked)?;
+    if said.as_str() == wanted {
+        return Ok(None);
+    }
+    Ok(Some(format!(in alloc; "{example}\n    answered: {said}")?))
+}
+
+/// What a call with its words answers.
+fn answer_of(alloc: Global, asked: &str) -> Result<String, ExampleFault> {
+    let (call, words) = asked.split_once(" ").unwrap_or((asked, ""));
+    let mut words = Words::new(words);
+    let said = answer(alloc, call, &mut words)?;
+    match words.is_empty() {
+        true => Ok(said),
+        false => Err(ExampleFault::BadWords),
+    }
+}
+
 /// The range and the line of `0..82 LINE`.
 fn range_and_line(repeated: &str) -> Result<(u64, u64, &str), ExampleFault> {
     let (range, line) = split(repeated, " ")?;
     let (first, end) = split(range, "..")?;
-    let first = first.parse().map_err(|_| ExampleFault::BadWords)?;
-    let end = end.parse().map_err(|_| ExampleFault::BadWords)?;
+    let first = Words::new(first).number()?;
+    let end = Words::new(end).number()?;
     Ok((first, end, line))
 }

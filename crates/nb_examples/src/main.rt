@@ -3,22 +3,12 @@
 #![tactic(auto)]
 
 mod answers;
-mod byte_text;
-mod datagram;
-mod devices;
 mod examples;
-mod fault;
-mod member;
-mod memory;
-mod names;
-mod service;
-mod session;
-mod table;
-mod vocabulary;
-mod words;
 
 use crate::examples::Examples;
-use crate::fault::ExampleFault;
+use nb_examples_words::fault::ExampleFault;
+use std::alloc::Global;
+use std::io;
 use std::io::{ErrorKind, Write};
 use std::process::ExitCode;
 
@@ -40,11 +30,7 @@ fn run(rt: &HostRuntime) -> Result<u64, ExampleFault> {
     let mut output = rt.stdout();
     let mut examples = Examples::new(rt.alloc());
     for line in rt.lines(rt.alloc()) {
-        let line = line.map_err(|error| match error.kind() {
-            ErrorKind::OutOfMemory => ExampleFault::NoMemory,
-            _ => ExampleFault::Read,
-        })?;
-        examples.take(rt.alloc(), line.as_str(), &mut output)?;
+        take(rt.alloc(), line, &mut examples, &mut output)?;
     }
     writeln!(
         output,
@@ -52,4 +38,20 @@ fn run(rt: &HostRuntime) -> Result<u64, ExampleFault> {
         examples.count, examples.wrong
     )?;
     Ok(examples.wrong)
+}
+
+/// Takes in a line of standard input, if it could be read.
+fn take<W: Write>(
+    alloc: Global,
+    line: io::Result<String>,
+    examples: &mut Examples,
+    output: &mut W,
+) -> Result<(), ExampleFault> {
+    match line {
+        Ok(line) => examples.take(alloc, line.as_str(), output),
+        Err(error) => Err(match error.kind() {
+            ErrorKind::OutOfMemory => ExampleFault::NoMemory,
+            _ => ExampleFault::Read,
+        }),
+    }
 }

@@ -1,0 +1,11 @@
+//! What the examples of every crate share: words, bytes as text, devices, faults, and the marks that
+//! stand round a call whose requests for memory are counted.
+#![tactic(auto)]
+
+pub mod byte_text;
+pub mod comparing;
+pub mod devices;
+pub mod fault;
+pub mod marks;
+pub mod vocabulary;
+pub mod words;

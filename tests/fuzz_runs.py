@@ -1,0 +1,125 @@
+"""Runs of the program, each under limits of time and memory, and rules that they are held against, for tests/fuzz.py."""
+import collections
+import contextlib
+import os
+import re
+import resource
+import shlex
+import subprocess
+
+from fuzz_inputs import HERE
+
+SECONDS = 30
+MEMORY = 512 << 20
+
+AT = r'\d+'
+NAME_FAULT = rf'(?:truncated|reserved label|pointer not allowed|bad pointer|too long|not netbios) {AT}'
+TEXTS = re.compile(rf'nbt: (?:{NAME_FAULT}|bad text {AT}|too long|full(?: source)?|bad magic|truncated|not canonical {AT}'
+                   rf'|zero piece|line {AT}|bad hex|trailing bytes {AT}|arguments|no tables|two tables wanted'
+                   rf'|too many names|read|write|memory)\n')
+MEMORY_OR_DEVICE = re.compile(r'nbt: (?:read|write|memory)\n')
+SILENT = ('name', 'build', 'save', 'merge', 'list')
+Run = collections.namedtuple('Run', 'words given environment status output errors')
+
+
+class Wrong(Exception):
+    """What the last run did against a rule, and the output that it should have had, if that is known."""
+
+    def __init__(self, what, wanted=None):
+        super().__init__(what)
+        self.wanted = wanted
+        self.rule = None
+        self.runs = []
+
+
+def expect(holds, what):
+    """Raises what is wrong of the last run."""
+    if not holds:
+        raise Wrong(what)
+
+
+def answers(made, output=b'', status=0, errors=''):
+    """Holds a run against its one right answer."""
+    if (made.status, made.errors) != (status, errors):
+        raise Wrong(f'it ends with {made.status} and {made.errors!r}, not with {status} and {errors!r}', output)
+    if made.output != output:
+        raise Wrong('its output is another', output)
+
+
+def ends_as(made, other):
+    """Holds a run against another one that has to answer the same."""
+    answers(made, other.output, other.status, other.errors)
+
+
+class Runner:
+    """Runs the program, keeps the runs of an input, and counts the rules that were applied."""
+
+    def __init__(self, program, folder):
+        self.program = program
+        self.folder = folder
+        self.runs = 0
+        self.history = []
+        self.statuses = collections.Counter()
+        self.applied = collections.Counter()
+        self.shims = {it: self.compiled(it) for it in ('devices', 'refuse_memory')}
+
+    def compiled(self, shim):
+        """What stands before the C library in some runs."""
+        path = os.path.join(self.folder, f'{shim}.so')
+        compiler = shlex.split(os.environ.get('CC', 'cc'))
+        subprocess.run([*compiler, '-shared', '-fPIC', '-O1', '-o', path, os.path.join(HERE, f'{shim}.c'), '-ldl'], check=True)
+        return path
+
+    @contextlib.contextmanager
+    def rule(self, name):
+        """What is done in it applies this rule. A fault is that of the innermost rule, with the runs since it began."""
+        self.applied[name] += 1
+        begin = len(self.history)
+        try:
+            yield
+        except Wrong as wrong:
+            if wrong.rule is None:
+                wrong.rule, wrong.runs = name, self.history[begin:]
+            raise
+
+    def run(self, words, given=b'', shim=None, **asked):
+        """A run, which has ended as every run has to; a shim is asked by variables."""
+        with self.rule('ends'):
+            environment = {name: str(value) for name, value in asked.items()}
+            if shim:
+                environment['LD_PRELOAD'] = self.shims[shim]
+            made = self.ended([it.replace('\0', '') for it in words], given, environment)
+            check_ending(made)
+            return made
+
+    def ended(self, words, given, environment):
+        """A run, after it has ended."""
+        self.runs += 1
+        path = os.path.join(self.folder, 'given')
+        with open(path, 'wb') as kept:
+            kept.write(given)
+        limit = lambda: resource.setrlimit(resource.RLIMIT_AS, (MEMORY, MEMORY))
+        with open(path, 'rb') as stream:
+            try:
+                ended = subprocess.run([self.program, *words], stdin=stream, capture_output=True, timeout=SECONDS,
+                                       preexec_fn=limit, env=os.environ | environment)
+            except subprocess.TimeoutExpired:
+                self.history.append(Run(words, given, environment, None, b'', ''))
+                raise Wrong(f'it ran for more than {SECONDS} seconds') from None
+        made = Run(words, given, environment, ended.returncode, ended.stdout, ended.stderr.decode('utf-8', 'replace'))
+        self.history.append(made)
+        self.statuses[made.status] += 1
+        return made
+
+
+def check_ending(made):
+    """A status of 0 to 3, what stands on standard error then, and no output where there may be none."""
+    expect(made.status in (0, 1, 2, 3), f'the status {made.status}')
+    if made.status == 0:
+        expect(not made.errors, 'standard error at status 0')
+    elif made.status == 2:
+        expect(made.errors and not made.output, 'no text on standard error at status 2, or an output')
+    elif made.output != b'different\n' or made.errors:
+        texts = TEXTS if made.status == 1 else MEMORY_OR_DEVICE
+        expect(texts.fullmatch(made.errors), f'the text {made.errors!r}')
+        expect(not made.output or made.words[0] not in SILENT, 'an output at a refusal')

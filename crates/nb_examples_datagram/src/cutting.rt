@@ -57,8 +57,8 @@ fn push_piece(alloc: Global, text: &mut String, piece: &Fragment<'_>) -> Result<
     Ok(write!(text, "{between}{flags:02x} {offset} {bytes}")?)
 }
 
-/// `packets MOST DATAGRAM`: how many pieces a list has that is made of the pieces, and the packets of
-/// those that it gives back, encoded.
+/// `packets MOST DATAGRAM`: how many pieces a list has that is made of the pieces, and the packets
+/// of those that it gives back, encoded.
 pub fn packets(alloc: Global, words: &mut Words<'_>) -> Result<String, ExampleFault> {
     let most = words.number_16()?;
     let datagram = datagram_of(alloc, words)?;

@@ -137,8 +137,8 @@ fn say_packets(
     Ok(())
 }
 
-/// Feeds a piece to a stream that has no whole packet, between marks, and once more where memory ran
-/// out: what comes next in the stream has to be the same then.
+/// Feeds a piece to a stream that has no whole packet, between marks, and once more where memory
+/// ran out: what comes next in the stream has to be the same then.
 fn feed(
     alloc: Global,
     stream: &mut Stream,

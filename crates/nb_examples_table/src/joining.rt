@@ -70,8 +70,8 @@ fn joined<J: Said>(alloc: Global, steps: &str, said: &mut String) -> Result<J, E
     Ok(value)
 }
 
-/// `cover STEP .. | STEP ..`, `entry ..`: whether the joins of the covers, or of the entries, of both
-/// lists are equal.
+/// `cover STEP .. | STEP ..`, `entry ..`: whether the joins of the covers, or of the entries, of
+/// both lists are equal.
 pub fn compared<J: Said>(alloc: Global, words: &mut Words<'_>) -> Result<String, ExampleFault> {
     let (one, other) = split(words.rest(), " | ")?;
     let mut said = String::new(alloc);

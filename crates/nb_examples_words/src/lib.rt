@@ -1,5 +1,5 @@
-//! What the examples of every crate share: words, bytes as text, devices, faults, and the marks that
-//! stand round a call whose requests for memory are counted.
+//! What the examples of every crate share: words, bytes as text, devices, faults, and the marks
+//! that stand round a call whose requests for memory are counted.
 #![tactic(auto)]
 
 pub mod byte_text;

@@ -12,6 +12,7 @@ mod replays;
 mod running;
 mod stations;
 mod steps;
+mod texts;
 mod values;
 
 use nb_examples_words::fault::ExampleFault;
@@ -30,6 +31,8 @@ pub fn answer(alloc: Global, call: &str, words: &mut Words<'_>) -> Result<String
         "two" => running::run_by_two(alloc, words),
         "many" => many::taken(alloc, words),
         "next" => reading::each_line(alloc, words),
+        "next_within" => reading::each_line_within(alloc, words),
+        "key" | "datagram" => texts::answer(alloc, call, words),
         "report" | "replay" | "written" => replays::replayed(alloc, call, words),
         "compare" => values::compared(alloc, words),
         "memory" => values::memory(alloc),

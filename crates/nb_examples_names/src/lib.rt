@@ -15,6 +15,7 @@ pub fn answer(alloc: Global, call: &str, words: &mut Words<'_>) -> Result<String
     match call {
         "read_domain" => reading::domain_read(alloc, words),
         "read_name" => reading::name_read(alloc, words),
+        "reader" => reading::read_by_reader(alloc, words),
         "labels" => reading::labels(alloc, words),
         "push" => reading::pushed(alloc, words, false),
         "push_scope" => reading::pushed(alloc, words, true),

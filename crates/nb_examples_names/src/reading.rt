@@ -2,9 +2,11 @@
 
 use nb_examples_words::byte_text::{bytes_of, text_of_bytes};
 use nb_examples_words::fault::ExampleFault;
-use nb_examples_words::marks::{begin, end};
+use nb_examples_words::marks::{begin, end, told};
 use nb_examples_words::words::Words;
-use nb_names::{DomainName, Name, Pointers, Scope, name_text, read_domain, read_name};
+use nb_names::{
+    DomainName, Name, NameFault, NameReader, Pointers, Scope, name_text, read_domain, read_name,
+};
 use std::alloc::Global;
 
 /// The next word, as what is done at pointers: `followed` or `refused`.
@@ -25,6 +27,33 @@ pub fn domain_read(alloc: Global, words: &mut Words<'_>) -> Result<String, Examp
     let mut mark = begin(alloc)?;
     let read = read_domain(packet.as_slice(), at, pointers);
     end(&mut mark)?;
+    domain_answer(alloc, read)
+}
+
+/// `reader POINTERS AT PLACES FILL BYTES`: how many bytes the packet of a reader of names has, and
+/// the same as of `read_domain`. The reader has room of so many places, each of which held FILL.
+pub fn read_by_reader(alloc: Global, words: &mut Words<'_>) -> Result<String, ExampleFault> {
+    let pointers = pointers(words)?;
+    let at = words.size()?;
+    let places = words.size()?;
+    let fill = words.number_16()?;
+    let packet = words.bytes(alloc)?;
+    let mut room = Vec::new(alloc);
+    room.resize(places, fill)?;
+    let mut said = begin(alloc)?;
+    let names = NameReader::of(packet.as_slice(), room.as_mut_slice());
+    let length = names.packet().len();
+    let read = names.read_domain(at, pointers);
+    end(&mut said)?;
+    write!(said, "of {length}: ")?;
+    told(said, domain_answer(alloc, read)?)
+}
+
+/// The spelling of a name that was read and the offset after it, or why none was.
+fn domain_answer(
+    alloc: Global,
+    read: Result<(DomainName, usize), NameFault>,
+) -> Result<String, ExampleFault> {
     match read {
         Ok((name, next)) => {
             let spelling = text_of_bytes(alloc, name.spelling())?;

@@ -96,18 +96,34 @@ fn spelled(alloc: Global, words: &mut Words<'_>) -> Result<String, ExampleFault>
 fn name_added(alloc: Global, words: &mut Words<'_>) -> Result<String, ExampleFault> {
     let front = words.word()?;
     let name = words.name()?;
-    let mut text = String::from_str(alloc, front)?;
-    push_name(&mut text, &name)?;
-    Ok(text)
+    let (said, text) = alone(alloc, || with_name(alloc, front, &name))?;
+    told(said, text)
+}
+
+/// The text with a name's after it, or nothing where memory ran out.
+fn with_name(alloc: Global, front: &str, name: &Name) -> Option<String> {
+    let Ok(mut text) = String::from_str(alloc, front) else {
+        return None;
+    };
+    match push_name(&mut text, name) {
+        Ok(()) => Some(text),
+        Err(_) => None,
+    }
 }
 
 /// `digits BYTES`: the bytes whose hexadecimal digits are the text of these bytes.
 fn digits(alloc: Global, words: &mut Words<'_>) -> Result<String, ExampleFault> {
     let text = words.bytes(alloc)?;
-    match bytes_of_digits(alloc, text.as_slice()) {
-        Ok(bytes) => Ok(text_of_bytes(alloc, bytes.as_slice())?),
-        Err(DigitsFault::NoMemory) => Err(ExampleFault::NoMemory),
-        Err(fault) => Ok(format!(in alloc; "{fault}")?),
+    let (mut said, answer) = alone(alloc, || match bytes_of_digits(alloc, text.as_slice()) {
+        Err(DigitsFault::NoMemory) => None,
+        answer => Some(answer),
+    })?;
+    match answer {
+        Ok(bytes) => told(said, text_of_bytes(alloc, bytes.as_slice())?),
+        Err(fault) => {
+            write!(said, "{fault}")?;
+            Ok(said)
+        }
     }
 }
 

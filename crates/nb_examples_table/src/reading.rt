@@ -5,7 +5,7 @@ use crate::steps::{table_of, two_tables};
 use nb_examples_datagram::texts::{datagram_text, kind_word, names_text, next_key};
 use nb_examples_words::comparing::comparison;
 use nb_examples_words::fault::ExampleFault;
-use nb_examples_words::marks::{begin, end, told};
+use nb_examples_words::marks::{alone, begin, end, told};
 use nb_examples_words::words::Words;
 use nb_table::{Outline, Table};
 use std::alloc::Global;
@@ -46,9 +46,10 @@ pub fn compared_states(alloc: Global, words: &mut Words<'_>) -> Result<String, E
 pub fn datagram(alloc: Global, words: &mut Words<'_>) -> Result<String, ExampleFault> {
     let key = next_key(words)?;
     let table = table_of(alloc, words.rest())?;
-    match table.datagram(&key)? {
-        Some(datagram) => datagram_text(alloc, &datagram),
-        None => Ok(String::from_str(alloc, "none")?),
+    let (said, datagram) = alone(alloc, || table.datagram(&key).ok())?;
+    match datagram {
+        Some(datagram) => told(said, datagram_text(alloc, &datagram)?),
+        None => told(said, String::from_str(alloc, "none")?),
     }
 }
 

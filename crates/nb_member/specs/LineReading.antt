@@ -4,7 +4,6 @@ use Rattle.std.specs.Io.KnownBytes.{Consumes, IsAtEnd}
 use Rattle.nb_names.specs.Counted.{Counts}
 use Rattle.nb_names.specs.Devices.{GrowTo, ShowsReadFault}
 use Rattle.nb_names.specs.Lines.{IsLine}
-use Rattle.nb_names.specs.declared.limits.TheConstants.{MAX_INPUT}
 use Rattle.nb_member.specs.declared.limits.TheConstants.{MAX_LINE}
 use Rattle.nb_member.specs.declared.line_read_fault.LineReadFault.{LineReadFault}
 use Rattle.nb_member.specs.declared.line_read_fault.LineReadFault.TheVariants.{TooLong, Read, NoMemory}
@@ -27,7 +26,7 @@ Answers held new (Ok (Some line)) = HandsOut held line new
 Answers held new (Ok None) = (held ≡ []) × (new.rest ≡ []) × (new.lent ≡ []) × (new.standing ≡ standing.Ended)
 Answers held new (Err TooLong) = IsTooLong held × (new.lent ≡ []) × (new.standing ≡ standing.TooLong)
 Answers held new (Err Read) = IsOpen held × (new.lent ≡ []) × (new.standing ≡ standing.Unread)
-Answers held new (Err NoMemory) = (new.rest ≡ held) × (new.lent ≡ []) × (new.standing ≡ standing.Reading)
+Answers held new (Err NoMemory) = (new.rest ≡ held) × (new.lent ≡ []) × (new.standing ≡ standing.Reading) × IsOpen held
 
 -- Repeats standing result: a room that stands so answers this again
 abbrev pub Repeats : Standing → Result (Option (List ℕ)) LineReadFault → Type 0
@@ -37,15 +36,17 @@ Repeats standing.Unread result = result ≡ Err Read
 Repeats standing.TooLong result = result ≡ Err TooLong
 
 -- ReadsLine old before left counts later result new: a call for the next line got these bytes from the reader,
--- which are kept, and those over the limit, which aren't, and answered so; the old room is now the new one
+-- which are kept, and one over the limit at most, which isn't, and answered so; the old room is now the new one
 pub record ReadsLine (old : RoomValue) (before left : Option (List ℕ)) (counts later : Counts)
     (result : Result (Option (List ℕ)) LineReadFault) (new : RoomValue) : Type 0 where
   pub got : List ℕ
   pub over : List ℕ
   pub consumes : Consumes before left (got ++ over)
   pub taken : new.taken ≡ old.taken + length got
-  pub within : new.taken ≤ MAX_INPUT
-  pub kept : (over ≡ []) ⊎ ((result ≡ Err Read) × (new.taken ≡ MAX_INPUT))
+  pub limit : new.most ≡ old.most
+  pub within : new.taken ≤ old.most
+  pub few : length over ≤ 1
+  pub kept : (over ≡ []) ⊎ ((result ≡ Err Read) × (new.taken ≡ old.most))
   pub answers : Answers (old.rest ++ got) new result
   pub again : Repeats old.standing result
   pub unread : result ≡ Err Read → (old.standing ≡ standing.Unread) ⊎ ((0 < length over) ⊎ ShowsReadFault counts later)

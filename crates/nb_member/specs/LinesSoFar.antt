@@ -10,26 +10,27 @@ use Rattle.nb_names.specs.Devices.{GrowTo, ShowsUnread}
 use Rattle.nb_names.specs.DeviceFacts.{Consumes-more, Consumes-nil, grows_on, cut_from}
 use Rattle.nb_names.specs.LineFacts.{any_cut}
 use Rattle.nb_names.specs.Lines.{IsLine, CutInto, rest, line, with_rest}
-use Rattle.nb_names.specs.declared.limits.TheConstants.{MAX_INPUT}
 use Rattle.nb_member.specs.declared.limits.TheConstants.{MAX_LINE}
 use Rattle.nb_member.specs.declared.line_read_fault.LineReadFault.{LineReadFault}
 use Rattle.nb_member.specs.declared.line_read_fault.LineReadFault.TheVariants.{Read}
 use Rattle.nb_member.specs.declared.line_room.standing.Standing.{Standing}
 use Rattle.nb_member.specs.declared.line_room.standing.Standing.TheVariants as standing
 use Rattle.nb_member.specs.Capture.{IsMalformed}
-use Rattle.nb_member.specs.LineRoom.{RoomValue, IsTooLong, nothing_held}
+use Rattle.nb_member.specs.LineRoom.{RoomValue, IsTooLong, nothing_within}
 use Rattle.nb_member.specs.LineReading.{ReadsLine, Repeats, lent_line}
 
 -- ---- what is handed out
 
--- HandedOut first now counts later room lines last: these lines came, each with its line feed, and after them the
--- last line of the input, where that lacks one; all of them were handed out, and the room holds what else came
-pub record HandedOut (first now : Option (List ℕ)) (counts later : Counts) (room : RoomValue) (lines : List (List ℕ)) (last : List ℕ) : Type 0 where
+-- HandedOut most first now counts later room lines last: these lines came, each with its line feed, and after them
+-- the last line of the input, where that lacks one; all of them were handed out, and the room, of an input of so many
+-- bytes at most, holds what else came
+pub record HandedOut (most : ℕ) (first now : Option (List ℕ)) (counts later : Counts) (room : RoomValue) (lines : List (List ℕ)) (last : List ℕ) : Type 0 where
   pub passed : List ℕ
   pub cut : CutInto passed lines last
   pub consumes : Consumes first now (passed ++ room.rest)
   pub taken : room.taken ≡ length (passed ++ room.rest)
-  pub within : room.taken ≤ MAX_INPUT
+  pub limit : room.most ≡ most
+  pub within : room.taken ≤ most
   pub grow : GrowTo counts later
   pub stands : ((room.standing ≡ standing.Reading) × (last ≡ [])) ⊎ ((room.standing ≡ standing.Ended) × (room.rest ≡ []) × IsAtEnd now)
 
@@ -37,13 +38,14 @@ no_bytes_clear : IsLine []
 no_bytes_clear h = omega (arith, h.1)
 
 -- before the first line
-pub nothing_handed : (known : Option (List ℕ)) (counts : Counts) (room : RoomValue) → room ≡ nothing_held
-    → HandedOut known known counts counts room [] []
-nothing_handed known counts room is = rw is (record {
+pub nothing_handed : (most : ℕ) (known : Option (List ℕ)) (counts : Counts) (room : RoomValue) → room ≡ nothing_within most
+    → HandedOut most known known counts counts room [] []
+nothing_handed most known counts room is = rw is (record {
   passed = [];
   cut = rest [] no_bytes_clear;
   consumes = Consumes-nil known;
   taken = refl;
+  limit = refl;
   within = omega arith;
   grow = record { empty = omega arith; interrupted = omega arith; failed = omega arith };
   stands = inl (refl, refl);
@@ -63,14 +65,14 @@ with_rest_some lines (b ∷ last) some = refl
 
 -- ---- one call more
 
--- Came first next counts after lines held over taken: after the bytes of these lines came those that a call
+-- Came most first next counts after lines held over taken: after the bytes of these lines came those that a call
 -- held, and those over the limit
-pub record Came (first next : Option (List ℕ)) (counts after : Counts) (lines : List (List ℕ)) (held over : List ℕ) (taken : ℕ) : Type 0 where
+pub record Came (most : ℕ) (first next : Option (List ℕ)) (counts after : Counts) (lines : List (List ℕ)) (held over : List ℕ) (taken : ℕ) : Type 0 where
   pub passed : List ℕ
   pub cut : CutInto passed lines []
   pub consumes : Consumes first next ((passed ++ held) ++ over)
   pub taken_is : taken ≡ length (passed ++ held)
-  pub within : taken ≤ MAX_INPUT
+  pub within : taken ≤ most
   pub grow : GrowTo counts after
 
 -- the answer by the line's bytes
@@ -99,20 +101,20 @@ of_fault old new before left counts later result found fault is found_is r =
     (is ∙ ap (λ (x : LineReadFault). Err x) found_is) r
 
 -- a room that answers no end can read on
-pub was_reading : (first now : Option (List ℕ)) (counts later : Counts) (room : RoomValue) (lines : List (List ℕ)) (last : List ℕ)
-    (result : Result (Option (List ℕ)) LineReadFault) → HandedOut first now counts later room lines last
+pub was_reading : (most : ℕ) (first now : Option (List ℕ)) (counts later : Counts) (room : RoomValue) (lines : List (List ℕ)) (last : List ℕ)
+    (result : Result (Option (List ℕ)) LineReadFault) → HandedOut most first now counts later room lines last
     → Repeats room.standing result → result ≢ Ok None → (room.standing ≡ standing.Reading) × (last ≡ [])
-was_reading first now counts later room lines last result h again differs =
+was_reading most first now counts later room lines last result h again differs =
     elim (h.stands) [
       | inl reading ↦ reading
       | inr ended ↦ absurd (differs (subst (λ (s : Standing). Repeats s result) ended.0 again))
     ]
 
-pub came : (first now next : Option (List ℕ)) (counts later after : Counts) (room new : RoomValue) (lines : List (List ℕ)) (last : List ℕ)
-    (result : Result (Option (List ℕ)) LineReadFault) → HandedOut first now counts later room lines last → last ≡ []
+pub came : (most : ℕ) (first now next : Option (List ℕ)) (counts later after : Counts) (room new : RoomValue) (lines : List (List ℕ)) (last : List ℕ)
+    (result : Result (Option (List ℕ)) LineReadFault) → HandedOut most first now counts later room lines last → last ≡ []
     → (r : ReadsLine room now next later after result new)
-    → Came first next counts after lines (room.rest ++ r.got) r.over new.taken
-came first now next counts later after room new lines last result h empty r =
+    → Came most first next counts after lines (room.rest ++ r.got) r.over new.taken
+came most first now next counts later after room new lines last result h empty r =
     let all = Consumes-more first now next (h.passed ++ room.rest) (r.got ++ r.over) h.consumes r.consumes in
     let parts : (h.passed ++ room.rest) ++ r.got ≡ h.passed ++ (room.rest ++ r.got) = append_assoc h.passed room.rest r.got in
     let size : length ((h.passed ++ room.rest) ++ r.got) ≡ length (h.passed ++ room.rest) + length r.got =
@@ -123,20 +125,20 @@ came first now next counts later after room new lines last result h empty r =
       consumes = subst (λ (bs : List ℕ). Consumes first next bs)
           (sym (append_assoc (h.passed ++ room.rest) r.got r.over) ∙ ap (λ (bs : List ℕ). bs ++ r.over) parts) all;
       taken_is = sum ∙ ap length parts;
-      within = r.within;
+      within = omega (arith, r.within, h.limit);
       grow = grows_on counts later after h.grow r.grow;
     }
 
 -- the bytes kept are those that are looked at
-pub kept_are : (first next : Option (List ℕ)) (counts after : Counts) (lines : List (List ℕ)) (held over : List ℕ) (taken : ℕ)
-    (c : Came first next counts after lines held over taken) → (over ≡ []) ⊎ (taken ≡ MAX_INPUT)
-    → take MAX_INPUT ((c.passed ++ held) ++ over) ≡ c.passed ++ held
-kept_are first next counts after lines held over taken c (inl none) =
-    let within : length (c.passed ++ held) ≤ MAX_INPUT = omega (arith, c.within, c.taken_is) in
-    ap (λ (bs : List ℕ). take MAX_INPUT ((c.passed ++ held) ++ bs)) none
-    ∙ ap (take MAX_INPUT) (append-nil (c.passed ++ held)) ∙ take_all MAX_INPUT (c.passed ++ held) within
-kept_are first next counts after lines held over taken c (inr full) =
-    take_at (c.passed ++ held) over MAX_INPUT (sym c.taken_is ∙ full)
+pub kept_are : (most : ℕ) (first next : Option (List ℕ)) (counts after : Counts) (lines : List (List ℕ)) (held over : List ℕ) (taken : ℕ)
+    (c : Came most first next counts after lines held over taken) → (over ≡ []) ⊎ (taken ≡ most)
+    → take most ((c.passed ++ held) ++ over) ≡ c.passed ++ held
+kept_are most first next counts after lines held over taken c (inl none) =
+    let within : length (c.passed ++ held) ≤ most = omega (arith, c.within, c.taken_is) in
+    ap (λ (bs : List ℕ). take most ((c.passed ++ held) ++ bs)) none
+    ∙ ap (take most) (append-nil (c.passed ++ held)) ∙ take_all most (c.passed ++ held) within
+kept_are most first next counts after lines held over taken c (inr full) =
+    take_at (c.passed ++ held) over most (sym c.taken_is ∙ full)
 
 -- no byte is over the limit but where the input can't be read
 pub none_over : (old : RoomValue) (before left : Option (List ℕ)) (counts later : Counts)
@@ -150,18 +152,18 @@ none_over old before left counts later result new r differs =
 
 -- ---- a line
 
--- OneMore first next counts after room acted l: this line was handed out too, after those
-pub record OneMore (first next : Option (List ℕ)) (counts after : Counts) (room : RoomValue) (acted : List (List ℕ)) (l : List ℕ) : Type 0 where
+-- OneMore most first next counts after room acted l: this line was handed out too, after those
+pub record OneMore (most : ℕ) (first next : Option (List ℕ)) (counts after : Counts) (room : RoomValue) (acted : List (List ℕ)) (l : List ℕ) : Type 0 where
   pub lines : List (List ℕ)
   pub last : List ℕ
-  pub handed : HandedOut first next counts after room lines last
+  pub handed : HandedOut most first next counts after room lines last
   pub are : with_rest lines last ≡ acted ++ l ∷ []
 
 -- ends with a line feed
-more_finished : (first next : Option (List ℕ)) (counts after : Counts) (new : RoomValue) (lines : List (List ℕ)) (held over l : List ℕ)
-    → Came first next counts after lines held over new.taken → over ≡ [] → IsLine l → held ≡ l ++ 10 ∷ new.rest
-    → new.standing ≡ standing.Reading → OneMore first next counts after new lines l
-more_finished first next counts after new lines held over l c none clear parts reading =
+more_finished : (most : ℕ) (first next : Option (List ℕ)) (counts after : Counts) (new : RoomValue) (lines : List (List ℕ)) (held over l : List ℕ)
+    → new.most ≡ most → Came most first next counts after lines held over new.taken → over ≡ [] → IsLine l → held ≡ l ++ 10 ∷ new.rest
+    → new.standing ≡ standing.Reading → OneMore most first next counts after new lines l
+more_finished most first next counts after new lines held over l limit c none clear parts reading =
     let same : (c.passed ++ held) ≡ (c.passed ++ (l ++ 10 ∷ [])) ++ new.rest =
     ap (λ (bs : List ℕ). c.passed ++ bs) (parts ∙ sym (append_assoc l (10 ∷ []) new.rest)) ∙ sym (append_assoc c.passed (l ++ 10 ∷ []) new.rest) in record {
       lines = lines ++ l ∷ [];
@@ -172,6 +174,7 @@ more_finished first next counts after new lines held over l c none clear parts r
         consumes = subst (λ (bs : List ℕ). Consumes first next bs)
             (ap (λ (bs : List ℕ). (c.passed ++ held) ++ bs) none ∙ append-nil (c.passed ++ held) ∙ same) c.consumes;
         taken = c.taken_is ∙ ap length same;
+        limit = limit;
         within = c.within;
         grow = c.grow;
         stands = inl (reading, refl);
@@ -180,10 +183,10 @@ more_finished first next counts after new lines held over l c none clear parts r
     }
 
 -- ends with the input
-more_last : (first next : Option (List ℕ)) (counts after : Counts) (new : RoomValue) (lines : List (List ℕ)) (held over l : List ℕ)
-    → Came first next counts after lines held over new.taken → over ≡ [] → IsLine l → held ≡ l → 0 < length l → new.rest ≡ []
-    → new.standing ≡ standing.Ended → IsAtEnd next → OneMore first next counts after new lines l
-more_last first next counts after new lines held over l c none clear is some empty ended at_end =
+more_last : (most : ℕ) (first next : Option (List ℕ)) (counts after : Counts) (new : RoomValue) (lines : List (List ℕ)) (held over l : List ℕ)
+    → new.most ≡ most → Came most first next counts after lines held over new.taken → over ≡ [] → IsLine l → held ≡ l → 0 < length l → new.rest ≡ []
+    → new.standing ≡ standing.Ended → IsAtEnd next → OneMore most first next counts after new lines l
+more_last most first next counts after new lines held over l limit c none clear is some empty ended at_end =
     let same : (c.passed ++ held) ≡ (c.passed ++ l) ++ new.rest =
     ap (λ (bs : List ℕ). c.passed ++ bs) is ∙ sym (append-nil (c.passed ++ l)) ∙ ap (λ (bs : List ℕ). (c.passed ++ l) ++ bs) (sym empty) in record {
       lines = lines;
@@ -195,6 +198,7 @@ more_last first next counts after new lines held over l c none clear is some emp
         consumes = subst (λ (bs : List ℕ). Consumes first next bs)
             (ap (λ (bs : List ℕ). (c.passed ++ held) ++ bs) none ∙ append-nil (c.passed ++ held) ∙ same) c.consumes;
         taken = c.taken_is ∙ ap length same;
+        limit = limit;
         within = c.within;
         grow = c.grow;
         stands = inr (ended, empty, at_end);
@@ -202,18 +206,18 @@ more_last first next counts after new lines held over l c none clear is some emp
       are = with_rest_some lines l some;
     }
 
-pub handed_more : (first now next : Option (List ℕ)) (counts later after : Counts) (room new : RoomValue) (lines : List (List ℕ)) (last l : List ℕ)
-    → HandedOut first now counts later room lines last → ReadsLine room now next later after (Ok (Some l)) new
-    → OneMore first next counts after new (with_rest lines last) l
-handed_more first now next counts later after room new lines last l h r =
-    let was = was_reading first now counts later room lines last (Ok (Some l)) h r.again (λ e. absurd (cc e)) in
-    let c = came first now next counts later after room new lines last (Ok (Some l)) h was.1 r in
+pub handed_more : (most : ℕ) (first now next : Option (List ℕ)) (counts later after : Counts) (room new : RoomValue) (lines : List (List ℕ)) (last l : List ℕ)
+    → HandedOut most first now counts later room lines last → ReadsLine room now next later after (Ok (Some l)) new
+    → OneMore most first next counts after new (with_rest lines last) l
+handed_more most first now next counts later after room new lines last l h r =
+    let was = was_reading most first now counts later room lines last (Ok (Some l)) h r.again (λ e. absurd (cc e)) in
+    let c = came most first now next counts later after room new lines last (Ok (Some l)) h was.1 r in
     let none = none_over room now next later after (Ok (Some l)) new r (λ e. absurd (cc e)) in
     let all : lines ≡ with_rest lines last = ap (with_rest lines) (sym was.1) in
-    subst (λ (ls : List (List ℕ)). OneMore first next counts after new ls l) all
+    subst (λ (ls : List (List ℕ)). OneMore most first next counts after new ls l) all
     (elim (r.answers.2) [
-      | inl a ↦ more_finished first next counts after new lines (room.rest ++ r.got) r.over l c none r.answers.1 a.1 a.2
-      | inr a ↦ more_last first next counts after new lines (room.rest ++ r.got) r.over l c none r.answers.1 a.1 a.2 a.3 a.4
+      | inl a ↦ more_finished most first next counts after new lines (room.rest ++ r.got) r.over l (r.limit ∙ h.limit) c none r.answers.1 a.1 a.2
+      | inr a ↦ more_last most first next counts after new lines (room.rest ++ r.got) r.over l (r.limit ∙ h.limit) c none r.answers.1 a.1 a.2 a.3 a.4
           (elim (r.at_end a.4) [
             | inl e ↦ absurd (cc (was.0, e.0))
             | inr e ↦ e
@@ -237,18 +241,18 @@ both_empty : (xs ys : List ℕ) → xs ++ ys ≡ [] → (xs ≡ []) × (ys ≡ [
 both_empty [] ys h = (refl, h)
 both_empty (x ∷ xs) ys h = absurd (cc h)
 
--- AllHandedOut first left lines last: the whole input came, and these are its lines
-pub record AllHandedOut (first left : Option (List ℕ)) (lines : List (List ℕ)) (last : List ℕ) : Type 0 where
+-- AllHandedOut most first left lines last: the whole input came, and these are its lines
+pub record AllHandedOut (most : ℕ) (first left : Option (List ℕ)) (lines : List (List ℕ)) (last : List ℕ) : Type 0 where
   pub bytes : List ℕ
   pub cut : CutInto bytes lines last
   pub consumes : Consumes first left bytes
   pub at_end : IsAtEnd left
-  pub within : length bytes ≤ MAX_INPUT
+  pub within : length bytes ≤ most
 
-pub handed_all : (first now left : Option (List ℕ)) (counts later after : Counts) (room new : RoomValue) (lines : List (List ℕ)) (last : List ℕ)
-    → HandedOut first now counts later room lines last → ReadsLine room now left later after (Ok None) new
-    → AllHandedOut first left lines last
-handed_all first now left counts later after room new lines last h r =
+pub handed_all : (most : ℕ) (first now left : Option (List ℕ)) (counts later after : Counts) (room new : RoomValue) (lines : List (List ℕ)) (last : List ℕ)
+    → HandedOut most first now counts later room lines last → ReadsLine room now left later after (Ok None) new
+    → AllHandedOut most first left lines last
+handed_all most first now left counts later after room new lines last h r =
     let empty = both_empty room.rest r.got r.answers.0 in
     let none = none_over room now left later after (Ok None) new r (λ e. absurd (cc e)) in
     let all = Consumes-more first now left (h.passed ++ room.rest) (r.got ++ r.over) h.consumes r.consumes in
@@ -271,11 +275,11 @@ handed_all first now left counts later after room new lines last h r =
 -- ---- an input that can't be read
 
 -- bytes over the limit came, or a read failed
-pub shows_unread : (first now left : Option (List ℕ)) (counts later after : Counts) (room new : RoomValue) (lines : List (List ℕ)) (last : List ℕ)
-    (h : HandedOut first now counts later room lines last) → (r : ReadsLine room now left later after (Err Read) new)
-    → (c : Came first left counts after lines (room.rest ++ r.got) r.over new.taken) → room.standing ≡ standing.Reading
-    → ShowsUnread ((c.passed ++ (room.rest ++ r.got)) ++ r.over) counts after
-shows_unread first now left counts later after room new lines last h r c reading =
+pub shows_unread : (most : ℕ) (first now left : Option (List ℕ)) (counts later after : Counts) (room new : RoomValue) (lines : List (List ℕ)) (last : List ℕ)
+    (h : HandedOut most first now counts later room lines last) → (r : ReadsLine room now left later after (Err Read) new)
+    → (c : Came most first left counts after lines (room.rest ++ r.got) r.over new.taken) → room.standing ≡ standing.Reading
+    → ShowsUnread most ((c.passed ++ (room.rest ++ r.got)) ++ r.over) counts after
+shows_unread most first now left counts later after room new lines last h r c reading =
     let size : length ((c.passed ++ (room.rest ++ r.got)) ++ r.over) ≡ length (c.passed ++ (room.rest ++ r.got)) + length r.over =
     length-append (c.passed ++ (room.rest ++ r.got)) r.over in
     elim (r.unread refl) [
@@ -283,7 +287,7 @@ shows_unread first now left counts later after room new lines last h r c reading
       | inr why ↦ elim (why) [
         | inl some ↦ elim (r.kept) [
           | inl none ↦ absurd (omega (arith, some, ap length none))
-          | inr full ↦ inl (omega (arith, size, some, full.1, c.taken_is))
+          | inr full ↦ inl (omega (arith, size, some, full.1, h.limit, c.taken_is))
         ]
         | inr failed ↦ inr (cut_from counts later after h.grow failed)
       ]

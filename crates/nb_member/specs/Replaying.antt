@@ -2,7 +2,6 @@
 use Rattle.std.specs.Prelude.{ℕ, List, take, ◌≤◌, length, Option, ◌+◌, ◌<◌, ◌++◌, ◌∷◌, ◌≡◌, Result, Ok, Err}
 use Rattle.std.specs.Io.KnownBytes.{IsAtEnd, Appends}
 use Rattle.nb_member.specs.declared.limits.TheConstants.{MAX_LINE}
-use Rattle.nb_names.specs.declared.limits.TheConstants.{MAX_INPUT}
 use Rattle.nb_member.specs.declared.event.Event.{Event}
 use Rattle.nb_member.specs.declared.replay_fault.ReplayFault.{ReplayFault}
 use Rattle.nb_member.specs.declared.replay_fault.ReplayFault.TheVariants.{Line, Read, Write, NoMemory}
@@ -14,30 +13,30 @@ use Rattle.nb_member.specs.Report.{ReportOf}
 
 -- ---- the lines among the bytes that came
 
--- the bytes that are looked at
-abbrev pub looked_at : List ℕ → List ℕ
-looked_at bytes = take MAX_INPUT bytes
+-- the bytes that are looked at, where an input may have so many
+abbrev pub looked_at : ℕ → List ℕ → List ℕ
+looked_at most bytes = take most bytes
 
 -- the bytes are the whole input: no byte is left, and they are within the limit
-pub record IsWhole (bytes : List ℕ) (left : Option (List ℕ)) : Type 0 where
+pub record IsWhole (most : ℕ) (bytes : List ℕ) (left : Option (List ℕ)) : Type 0 where
   pub at_end : IsAtEnd left
-  pub within : length bytes ≤ MAX_INPUT
+  pub within : length bytes ≤ most
 
--- AreLines bytes left lines: these are the lines to act on: the finished ones, and the rest where the input
+-- AreLines most bytes left lines: these are the lines to act on: the finished ones, and the rest where the input
 -- ends with it
-pub data AreLines (bytes : List ℕ) (left : Option (List ℕ)) : List (List ℕ) → Type 0 where
-  finished : (lines : List (List ℕ)) (rest : List ℕ) → CutInto (looked_at bytes) lines rest
-      → AreLines bytes left lines
-  whole : (lines : List (List ℕ)) (rest : List ℕ) → CutInto (looked_at bytes) lines rest → IsWhole bytes left
-      → AreLines bytes left (with_rest lines rest)
+pub data AreLines (most : ℕ) (bytes : List ℕ) (left : Option (List ℕ)) : List (List ℕ) → Type 0 where
+  finished : (lines : List (List ℕ)) (rest : List ℕ) → CutInto (looked_at most bytes) lines rest
+      → AreLines most bytes left lines
+  whole : (lines : List (List ℕ)) (rest : List ℕ) → CutInto (looked_at most bytes) lines rest → IsWhole most bytes left
+      → AreLines most bytes left (with_rest lines rest)
 
--- ComesMalformed bytes left lines: after these lines comes a malformed one. Of one that neither a line
+-- ComesMalformed most bytes left lines: after these lines comes a malformed one. Of one that neither a line
 -- feed nor the input's end has ended, the length alone is judged
-pub data ComesMalformed (bytes : List ℕ) (left : Option (List ℕ)) : List (List ℕ) → Type 0 where
-  ended : (lines more : List (List ℕ)) (line : List ℕ) → AreLines bytes left (lines ++ line ∷ more)
-      → IsMalformed line → ComesMalformed bytes left lines
-  too_long : (lines : List (List ℕ)) (rest : List ℕ) → CutInto (looked_at bytes) lines rest → MAX_LINE < length rest
-      → ComesMalformed bytes left lines
+pub data ComesMalformed (most : ℕ) (bytes : List ℕ) (left : Option (List ℕ)) : List (List ℕ) → Type 0 where
+  ended : (lines more : List (List ℕ)) (line : List ℕ) → AreLines most bytes left (lines ++ line ∷ more)
+      → IsMalformed line → ComesMalformed most bytes left lines
+  too_long : (lines : List (List ℕ)) (rest : List ℕ) → CutInto (looked_at most bytes) lines rest → MAX_LINE < length rest
+      → ComesMalformed most bytes left lines
 
 -- ---- what was acted on
 
@@ -54,14 +53,14 @@ pub record Writes (m : MemberValue) (H : List Event) (L : List Timed) (lines : L
   pub replayed : Replayed m H L lines new text
   pub written : Appends before after text
 
--- Stops m H L bytes left new before after: the first lines were acted on, `ready` and then `last`, which is
+-- Stops most m H L bytes left new before after: the first lines were acted on, `ready` and then `last`, which is
 -- one line at most. The report of `ready` is written, and then a front of what `last` adds to it
-pub record Stops (m : MemberValue) (H : List Event) (L : List Timed) (bytes : List ℕ) (left : Option (List ℕ)) (new : MemberValue) (before after : Option (List ℕ)) : Type 0 where
+pub record Stops (most : ℕ) (m : MemberValue) (H : List Event) (L : List Timed) (bytes : List ℕ) (left : Option (List ℕ)) (new : MemberValue) (before after : Option (List ℕ)) : Type 0 where
   pub ready : List (List ℕ)
   pub last : List (List ℕ)
   pub more : List (List ℕ)
   pub at_most_one : length last ≤ 1
-  pub are_lines : AreLines bytes left (ready ++ last ++ more)
+  pub are_lines : AreLines most bytes left (ready ++ last ++ more)
   pub others : List Event
   pub report : List ℕ
   pub reported : ReportOf m.settings m.names 1 L ready others report
@@ -70,18 +69,18 @@ pub record Stops (m : MemberValue) (H : List Event) (L : List Timed) (bytes : Li
   pub replayed : Replayed m H L (ready ++ last) new (report ++ front ++ later)
   pub written : Appends before after (report ++ front)
 
--- Replays m H L bytes left new before after result: what is answered where these bytes came from the
--- reader, with those left
-abbrev pub Replays : MemberValue → List Event → List Timed → List ℕ → Option (List ℕ) → MemberValue → Option (List ℕ) → Option (List ℕ)
+-- Replays most m H L bytes left new before after result: what is answered where these bytes came from the
+-- reader, with those left, and an input may have so many
+abbrev pub Replays : ℕ → MemberValue → List Event → List Timed → List ℕ → Option (List ℕ) → MemberValue → Option (List ℕ) → Option (List ℕ)
     → Result ℕ ReplayFault → Type 0
-Replays m H L bytes left new before after (Ok n) =
-    (lines : List (List ℕ)) × (rest : List ℕ) × CutInto bytes lines rest × IsWhole bytes left
+Replays most m H L bytes left new before after (Ok n) =
+    (lines : List (List ℕ)) × (rest : List ℕ) × CutInto bytes lines rest × IsWhole most bytes left
     × (n ≡ length (with_rest lines rest)) × Writes m H L (with_rest lines rest) new before after
-Replays m H L bytes left new before after (Err (Line n)) =
-    (lines : List (List ℕ)) × ComesMalformed bytes left lines × (n ≡ length lines + 1)
+Replays most m H L bytes left new before after (Err (Line n)) =
+    (lines : List (List ℕ)) × ComesMalformed most bytes left lines × (n ≡ length lines + 1)
     × Writes m H L lines new before after
-Replays m H L bytes left new before after (Err Read) =
-    (lines : List (List ℕ)) × (rest : List ℕ) × CutInto (looked_at bytes) lines rest
+Replays most m H L bytes left new before after (Err Read) =
+    (lines : List (List ℕ)) × (rest : List ℕ) × CutInto (looked_at most bytes) lines rest
     × (length rest ≤ MAX_LINE) × Writes m H L lines new before after
-Replays m H L bytes left new before after (Err Write) = Stops m H L bytes left new before after
-Replays m H L bytes left new before after (Err NoMemory) = Stops m H L bytes left new before after
+Replays most m H L bytes left new before after (Err Write) = Stops most m H L bytes left new before after
+Replays most m H L bytes left new before after (Err NoMemory) = Stops most m H L bytes left new before after

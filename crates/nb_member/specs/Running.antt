@@ -50,6 +50,14 @@ StopsBefore settings L [] (Some stop) = ⊥
 StopsBefore settings L (event ∷ later) None = ⊥
 StopsBefore settings L (event ∷ later) (Some stop) = StopsAt settings L event stop
 
+-- IsLeft rest stop: these events are left, whatever the member: none exactly where the run didn't stop, and a
+-- payload first where it stopped
+abbrev pub IsLeft : List Event → Option RunStop → Type 0
+IsLeft [] None = ⊤
+IsLeft [] (Some stop) = ⊥
+IsLeft (event ∷ later) None = ⊥
+IsLeft (event ∷ later) (Some stop) = IsPayload event
+
 -- Reports m L events report: what a run of these events in the member m reports, where L are live before;
 -- none of those that were taken met a limit on keys
 pub record Reports (m : MemberValue) (L : List Timed) (events : List Event) (report : RunReport) : Type 0 where
@@ -67,5 +75,6 @@ pub record Runs (m : MemberValue) (events : List Event) (new : MemberValue) (rep
   pub settings_stay : new.settings ≡ m.settings
   pub names_stay : new.names ≡ m.names
   pub within : report.taken ≤ length events
+  pub left : IsLeft (drop report.taken events) report.stop
   pub stands : (H : List Event) → Stands m H → Stands new (H ++ take report.taken events)
   pub reports : (H : List Event) (s : Stands m H) → Reports m (live m.settings s.sayings) events report

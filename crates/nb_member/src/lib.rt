@@ -39,7 +39,7 @@ pub use member_fault::MemberFault;
 pub use outcome::{Dropped, Outcome};
 pub use pair::{Pair, two_members};
 pub use replay_fault::ReplayFault;
-pub use replaying::replay;
+pub use replaying::{replay, replay_within};
 pub use report::texts::{kind_name, push_key, push_parts};
 pub use run_report::{RunReport, RunStop};
 pub use runs::run;

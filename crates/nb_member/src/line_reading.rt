@@ -1,10 +1,11 @@
 //! Reading the lines of an input as they come.
-ghost use Rattle.std.specs.Prelude.{◌≡◌, ◌≢◌, ◌≤◌, [], IfOk, IfSome, length, take, Contains};
+ghost use Rattle.std.specs.Prelude.{◌≡◌, ◌≢◌, ◌⊎◌, ◌≤◌, [], IfOk, IfSome, length, take, Contains};
 ghost use Rattle.std.specs.Borrow.{sem};
 ghost use Rattle.std.specs.Io.BufRead.{Rests};
 ghost use Rattle.nb_member.specs.contracts.line_room.LineRoom.{the_row};
 ghost use Rattle.nb_member.specs.declared.line_room.standing.Standing.TheVariants as standing;
 ghost use Rattle.nb_member.specs.LineReading.{ReadsLine, lent_line};
+ghost use Rattle.nb_member.specs.LineRoom.{IsOpen};
 ghost use Rattle.nb_member.specs.Code.LineSteps.{HandsFirst, line_of_size};
 
 mod searching;
@@ -21,7 +22,8 @@ use std::io::Read;
 ///
 /// The line feed that ends a line may be missing after the last one, where that has bytes. A line
 /// has at most [`MAX_LINE`] bytes, its line feed not counted. A read asks for at most
-/// [`MAX_READ`](crate::limits::MAX_READ) bytes, and is made only where the room has no whole line.
+/// [`MAX_READ`](crate::limits::MAX_READ) bytes, and is made only where the room has no whole line,
+/// nor more bytes than one may have.
 /// The line handed out before is let go, whatever the answer. Once the end was answered, no
 /// further read is made, and it is answered again.
 ///
@@ -32,7 +34,7 @@ use std::io::Read;
 /// - [`LineReadFault::TooLong`] where the room has more bytes of the line than [`MAX_LINE`], and no
 ///   line feed among that many and one.
 /// - [`LineReadFault::Read`] where a read failed, reads were interrupted 1,024 times in a row, or
-///   the reader gave a byte more than [`MAX_INPUT`](nb_names::limits::MAX_INPUT), which isn't kept.
+///   the reader gave a byte more than the input may have, which isn't kept.
 /// - [`LineReadFault::NoMemory`] where memory ran out. What the room had after the last line, and
 ///   what was read since, stays in it, so that the next call loses nothing.
 ///
@@ -47,6 +49,7 @@ pub fn next_line<'a, R: Read>(
         (R.remaining reader.old.inner) (R.remaining reader.new.inner)
         reader.old.counts reader.new.counts (lent_line result) left)) }
     ensures stuck { room.old.standing ≢ standing.Reading → reader.new ≡ reader.old }
+    ensures waits { IsOpen room.old.rest ⊎ (reader.new ≡ reader.old) }
 {
     next_from(room, reader)
 }
@@ -65,6 +68,7 @@ pub fn next_from<'a, R: Read>(
         (R.remaining reader.old.inner) (R.remaining reader.new.inner)
         reader.old.counts reader.new.counts (lent_line result) left)) }
     ensures stuck { room.old.standing ≢ standing.Reading → reader.new ≡ reader.old }
+    ensures waits { IsOpen room.old.rest ⊎ (reader.new ≡ reader.old) }
 {
     match advance(room, reader) {
         Ok(None) => Ok(None),
@@ -88,6 +92,7 @@ fn advance<R: Read>(
         (line_of_size room.new result) room.new }
     ensures within { IfOk result (λ found. IfSome found (λ size. size ≤ length room.new.lent)) }
     ensures stuck { room.old.standing ≢ standing.Reading → reader.new ≡ reader.old }
+    ensures waits { IsOpen room.old.rest ⊎ (reader.new ≡ reader.old) }
 {
     room.let_go();
     match room.standing() {

@@ -1,9 +1,8 @@
 //! Room for the lines of an input.
 ghost use Rattle.std.specs.Prelude.{◌≡◌, ◌<◌, ◌≤◌, ◌+◌, [], length, take};
-ghost use Rattle.nb_names.specs.declared.limits.TheConstants.{MAX_INPUT};
-ghost use Rattle.nb_member.specs.declared.limits.TheConstants.{MAX_HELD};
+ghost use Rattle.nb_member.specs.declared.limits.TheConstants.{MAX_HELD, MAX_READ};
 ghost use Rattle.nb_member.specs.declared.line_room.standing.Standing.TheVariants as standing;
-ghost use Rattle.nb_member.specs.LineRoom.{nothing_held, IsOpen};
+ghost use Rattle.nb_member.specs.LineRoom.{nothing_held, nothing_within, IsOpen};
 ghost use Rattle.nb_member.specs.Code.LineSteps.{Suits, let_go_of, with_standing, handed_out, ReadsMore};
 
 mod moving;
@@ -34,7 +33,9 @@ pub struct LineRoom {
     /// The place after these.
     end: usize,
     /// How many bytes of the input were kept.
-    taken: usize,
+    taken: u64,
+    /// How many bytes the input may have.
+    most: u64,
     standing: Standing,
 }
 
@@ -49,16 +50,26 @@ impl Model for LineRoom {
       lent = drop r.from (take r.start r.bytes.items);
       rest = drop r.start (take r.end r.bytes.items);
       taken = r.taken;
+      most = r.most;
       standing = r.standing;
     } };
 
-    ghost invariant = { λ r. IsRoom r.bytes.items r.from r.start r.end r.taken r.standing };
+    ghost invariant = { λ r. IsRoom r.bytes.items r.from r.start r.end r.taken r.most r.standing };
 }
 
 impl LineRoom {
-    /// Room for an input of which nothing was read. No memory is taken.
+    /// Room for an input of at most [`MAX_INPUT`] bytes, of which nothing was read. No memory is
+    /// taken.
     pub fn new(alloc: Global) -> Self
         ensures { result ≡ nothing_held }
+    {
+        LineRoom::within(alloc, MAX_INPUT as u64)
+    }
+
+    /// Room for an input of at most so many bytes, of which nothing was read. No memory is taken,
+    /// and what the room takes later doesn't depend on that number.
+    pub fn within(alloc: Global, most: u64) -> Self
+        ensures { result ≡ nothing_within most }
     {
         LineRoom {
             bytes: Vec::new(alloc),
@@ -66,6 +77,7 @@ impl LineRoom {
             start: 0,
             end: 0,
             taken: 0,
+            most,
             standing: Standing::Reading,
         }
     }
@@ -83,7 +95,7 @@ impl LineRoom {
     pub(crate) fn standing(&self) -> Standing
         ensures value { result ≡ self.now.standing }
         ensures suits { Suits result self.now.rest }
-        ensures within { self.now.taken ≤ MAX_INPUT }
+        ensures within { self.now.taken ≤ self.now.most }
     {
         self.standing
     }
@@ -142,15 +154,14 @@ impl LineRoom {
         if make_room(&mut self.bytes, self.end).is_err() {
             return Err(LineReadFault::NoMemory);
         }
-        let left = MAX_INPUT - self.taken;
-        let most = if left == 0 { 1 } else { left.min(MAX_READ) };
-        match read_after(reader, &mut self.bytes, self.end, most) {
+        let left = self.most - self.taken;
+        match read_after(reader, &mut self.bytes, self.end, wanted_of(left)) {
             Ok(count) => {
                 if count != 0 && left == 0 {
                     return Err(LineReadFault::Read);
                 }
                 self.end += count;
-                self.taken += count;
+                self.taken += count as u64;
                 Ok(count)
             }
             Err(_) => Err(LineReadFault::Read),
@@ -163,5 +174,22 @@ impl LineRoom {
         ensures { result.now ≡ take size self.now.lent }
     {
         &self.bytes[self.from..self.from + size]
+    }
+}
+
+/// How many bytes a read asks for where the input may have so many more: one, which shows that it
+/// is too long, where it may have none.
+fn wanted_of(left: u64) -> usize
+    ensures some { 0 < result }
+    ensures few { result ≤ MAX_READ }
+    ensures none { left ≡ 0 → result ≡ 1 }
+    ensures within { 0 < left → result ≤ left }
+{
+    if left == 0 {
+        1
+    } else if left < MAX_READ as u64 {
+        left as usize
+    } else {
+        MAX_READ
     }
 }

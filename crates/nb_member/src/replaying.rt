@@ -1,6 +1,7 @@
 //! Replaying a capture in a member.
 ghost use Rattle.std.specs.Prelude.{◌≡◌, ◌≢◌, ◌≤◌, ℕ, List, length, IfErr, OnOk, Err};
 ghost use Rattle.std.specs.Io.KnownBytes.{Consumes};
+ghost use Rattle.nb_names.specs.declared.limits.TheConstants.{MAX_INPUT};
 ghost use Rattle.nb_names.specs.Devices.{GrowTo, ShowsUnread, ShowsWriteFault};
 ghost use Rattle.nb_member.specs.declared.event.Event.{Event};
 ghost use Rattle.nb_member.specs.Code.ReplayLines.{HasNoWholeReport, WritesLine};
@@ -16,6 +17,7 @@ use crate::line_room::LineRoom;
 use crate::member::Member;
 use crate::replay_fault::ReplayFault;
 use nb_names::Counted;
+use nb_names::limits::MAX_INPUT;
 use nb_names::output::write_whole;
 use std::alloc::Global;
 use std::io::{Read, Write};
@@ -46,8 +48,8 @@ use std::io::{Read, Write};
 ///   ended is judged by its length alone. The report of the lines before it is written, and the
 ///   member acted on them.
 /// - [`ReplayFault::Read`] where the reader failed, was interrupted 1,024 times in a row, or gave
-///   more than [`MAX_INPUT`](nb_names::limits::MAX_INPUT) bytes, and no line among the bytes that
-///   came is malformed. The report of the finished lines is written, and the member acted on them.
+///   more than [`MAX_INPUT`] bytes, and no line among the bytes that came is malformed. The report
+///   of the finished lines is written, and the member acted on them.
 /// - [`ReplayFault::Write`] where the writer failed, took nothing, or was interrupted 1,024 times
 ///   in a row.
 /// - [`ReplayFault::NoMemory`] where memory ran out.
@@ -65,9 +67,9 @@ pub fn replay<R: Read, W: Write>(
     // The bytes that this call took from the reader, and what was made of them.
     ensures replays { (bytes : List ℕ) ×
         Consumes (R.remaining reader.old.inner) (R.remaining reader.new.inner) bytes ×
-        ((result ≡ Err ReplayFault.Read → ShowsUnread bytes reader.old.counts reader.new.counts) ×
+        ((result ≡ Err ReplayFault.Read → ShowsUnread MAX_INPUT bytes reader.old.counts reader.new.counts) ×
         ((H : List Event) (s : Stands member.old H) →
-        Replays member.old H (live member.old.settings s.sayings) bytes
+        Replays MAX_INPUT member.old H (live member.old.settings s.sayings) bytes
         (R.remaining reader.new.inner) member.new
         (W.contents writer.old.inner) (W.contents writer.new.inner) result)) }
     ensures write { result ≡ Err ReplayFault.Write →
@@ -75,7 +77,36 @@ pub fn replay<R: Read, W: Write>(
     ensures settings { member.new.settings ≡ member.old.settings }
     ensures names { member.new.names ≡ member.old.names }
 {
-    let mut room = LineRoom::new(alloc);
+    replay_within(alloc, reader, writer, member, MAX_INPUT as u64)
+}
+
+/// Replays a capture in a member as [`replay`] does, where the input may have so many bytes. What
+/// is held at once doesn't depend on that number.
+///
+/// # Errors
+///
+/// Those of [`replay`], with that number in the place of [`MAX_INPUT`].
+pub fn replay_within<R: Read, W: Write>(
+    alloc: Global,
+    reader: &mut Counted<R>,
+    writer: &mut Counted<W>,
+    member: &mut Member,
+    most: u64,
+) -> Result<u64, ReplayFault>
+    // The bytes that this call took from the reader, and what was made of them.
+    ensures replays { (bytes : List ℕ) ×
+        Consumes (R.remaining reader.old.inner) (R.remaining reader.new.inner) bytes ×
+        ((result ≡ Err ReplayFault.Read → ShowsUnread most bytes reader.old.counts reader.new.counts) ×
+        ((H : List Event) (s : Stands member.old H) →
+        Replays most member.old H (live member.old.settings s.sayings) bytes
+        (R.remaining reader.new.inner) member.new
+        (W.contents writer.old.inner) (W.contents writer.new.inner) result)) }
+    ensures write { result ≡ Err ReplayFault.Write →
+        ShowsWriteFault writer.old.counts writer.new.counts }
+    ensures settings { member.new.settings ≡ member.old.settings }
+    ensures names { member.new.names ≡ member.old.names }
+{
+    let mut room = LineRoom::within(alloc, most);
     let mut number = 0;
     'lines: loop {
         match next_from(&mut room, reader) {

@@ -1,12 +1,12 @@
 //! Runs of events.
-ghost use Rattle.std.specs.Prelude.{◌≡◌, ◌<◌, ◌++◌, List, [], IsTrue, vec_len, vec_capacity};
+ghost use Rattle.std.specs.Prelude.{◌≡◌, ◌<◌, ◌++◌, List, [], IsTrue, OnErr, vec_len, vec_capacity};
 ghost use Rattle.std.specs.Option.{option_to_list};
 ghost use Rattle.nb_member.specs.declared.event.Event.TheVariants as event;
 ghost use Rattle.nb_member.specs.Deliveries.{delivery_in, error_in};
 ghost use Rattle.nb_member.specs.Code.Members.{KeepsStation};
 ghost use Rattle.nb_member.specs.Live.{Timed};
 ghost use Rattle.nb_member.specs.Member.{StandsOver};
-ghost use Rattle.nb_member.specs.Running.{Runs};
+ghost use Rattle.nb_member.specs.Running.{IsPayload, Runs};
 ghost use Rattle.nb_member.specs.Code.RunEvents.{noted, stop_of, RunsEvent};
 
 use crate::event::Event;
@@ -75,6 +75,7 @@ impl Log {
             (record { deliveries = self.old.deliveries.items; errors = self.old.errors.items })
             (record { deliveries = self.new.deliveries.items; errors = self.new.errors.items })
             result }
+        ensures payload { OnErr result (IsPayload event.now) }
         ensures kept { KeepsStation member.old member.new }
     {
         a_member_drops_what_the_clock_ends();

@@ -2,7 +2,7 @@
 use Rattle.std.specs.Prelude.{◌⊎◌, ◌<◌, ◌≤◌, ◌+◌, ℕ, List, take, length, Option}
 use Rattle.std.specs.Io.KnownBytes.{Appends}
 use Rattle.nb_names.specs.Counted.{Counts}
-use Rattle.nb_names.specs.declared.limits.TheConstants.{MAX_INPUT, MAX_INTERRUPTS}
+use Rattle.nb_names.specs.declared.limits.TheConstants.{MAX_INTERRUPTS}
 
 -- GrowTo old new: the counts after some calls more
 pub record GrowTo (old new : Counts) : Type 0 where
@@ -15,9 +15,9 @@ pub record GrowTo (old new : Counts) : Type 0 where
 abbrev pub ShowsReadFault : Counts → Counts → Type 0
 ShowsReadFault old new = (old.failed < new.failed) ⊎ (old.interrupted + MAX_INTERRUPTS ≤ new.interrupted)
 
--- ShowsUnread bytes old new: these bytes are more than are looked at, or a read failed
-abbrev pub ShowsUnread : List ℕ → Counts → Counts → Type 0
-ShowsUnread bytes old new = (MAX_INPUT < length bytes) ⊎ ShowsReadFault old new
+-- ShowsUnread most bytes old new: these bytes are more than so many, or a read failed
+abbrev pub ShowsUnread : ℕ → List ℕ → Counts → Counts → Type 0
+ShowsUnread most bytes old new = (most < length bytes) ⊎ ShowsReadFault old new
 
 -- ShowsWriteFault old new: of the writes between these counts one failed or took no byte, or as many were
 -- interrupted as are too many in a row

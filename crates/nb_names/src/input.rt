@@ -51,7 +51,7 @@ pub fn read_input<R: Read>(alloc: Global, reader: &mut Counted<R>) -> Result<Inp
     ensures whole { IfOk result (λ input. input.is_whole ≡ true →
         IsAtEnd (R.remaining reader.new.inner) × (length input.bytes.items ≤ MAX_INPUT)) }
     ensures cut { IfOk result (λ input. input.is_whole ≡ false →
-        ShowsUnread input.bytes.items reader.old.counts reader.new.counts) }
+        ShowsUnread MAX_INPUT input.bytes.items reader.old.counts reader.new.counts) }
     ensures lost { OnErr result ((bytes : List ℕ) × Consumes (R.remaining reader.old.inner)
         (R.remaining reader.new.inner) bytes) }
 {

@@ -1,5 +1,5 @@
 //! What an entry holds that isn't spoilt.
-ghost use Rattle.std.specs.Prelude.{◌≡◌, ◌↔◌, ◌≤◌, ℕ, IfOk, OnOk, OnErr, IsTrue, Some, None, length};
+ghost use Rattle.std.specs.Prelude.{◌≡◌, ◌↔◌, ◌≤◌, ℕ, IfOk, OnOk, OnErr, IsTrue, Some, None, length, Ok};
 ghost use Rattle.nb_datagram.specs.Fragment.{core_of};
 ghost use Rattle.nb_datagram.specs.declared.limits.TheConstants.{MAX_LENGTH};
 ghost use Rattle.nb_table.specs.Slot.{Held};
@@ -135,8 +135,10 @@ impl Facts {
         places: &Places,
     ) -> Result<Option<Datagram>, NoMemory>
         requires { (n : ℕ) → places.now.end ≡ Some n → n ≤ MAX_LENGTH }
-        ensures { IfOk result (λ datagram.
+        ensures value { IfOk result (λ datagram.
             datagram ≡ datagram_with key self.now (bytes_to places.now.bytes places.now.end)) }
+        ensures no_memory_needed { bytes_to places.now.bytes places.now.end ≡ None
+            → result ≡ Ok None }
     {
         match places.whole(alloc)? {
             Some(bytes) => Ok(Some(self.datagram_from(key, bytes))),

@@ -3,7 +3,6 @@ use Rattle.std.proofs.Common.{◌≡◌, ◌≢◌, ◌⊎◌, ◌≤◌, ◌+�
 use Rattle.std.specs.Io.KnownBytes.{IsAtEnd}
 use Rattle.std.proofs.lemmas.List.{append-nil, length-append}
 use Rattle.nb_names.specs.Counted.{Counts}
-use Rattle.nb_names.specs.declared.limits.TheConstants.{MAX_INPUT}
 use Rattle.nb_names.specs.Devices.{ShowsUnread}
 use Rattle.nb_names.specs.Lines.{CutInto, rest, line, with_rest}
 use Rattle.nb_table.specs.Limits.{TableValue}
@@ -18,14 +17,13 @@ use Rattle.nb_member.specs.declared.member_fault.MemberFault.TheVariants.{Table}
 use Rattle.nb_member.specs.declared.outcome.Outcome.{Outcome}
 use Rattle.nb_member.specs.Capture.{Reads}
 use Rattle.nb_member.specs.LineReading.{ReadsLine}
-use Rattle.nb_member.specs.LineRoom.{RoomValue, nothing_held}
+use Rattle.nb_member.specs.LineRoom.{RoomValue, nothing_within}
 use Rattle.nb_member.specs.LinesSoFar.{HandedOut, nothing_handed, Came, came, kept_are, none_over, was_reading, handed_more, handed_all, bytes_less, shows_unread, LongFirst, open_end, with_feed, long_first, long_line}
 use Rattle.nb_member.specs.Member.{MemberValue, contents}
 use Rattle.nb_member.specs.Taking.{Takes}
 use Rattle.nbt.specs.declared.settings.Capacity.{Capacity}
 use Rattle.nbt.specs.declared.fault.Fault.{Fault}
 use Rattle.nbt.specs.declared.fault.Fault.TheVariants.{FullSource, Full, Memory, Read, Line as LineFault}
-use Rattle.nbt.specs.Lines.{unread_fault}
 use Rattle.nbt.specs.SaveFaults.{LineStops, PayloadStops, SaidStops, StopsTaking, StopsSaving, here, later, at_end}
 use Rattle.nbt.specs.Saved.{saved_digits}
 use Rattle.nbt.specs.Saving.{TakesEach, TakesLine, TakesSaid, SavesCapture, new_saver, more, none}
@@ -60,22 +58,22 @@ said_stops m said port moment payload seen fault is at same stops =
 
 -- ---- turns of the loop
 
--- IsTaking first old_in now_in counts mid room number now: the lines handed out so far, the next of which is line
--- `number`, made the first member this one
-pub record IsTaking (first : MemberValue) (old_in now_in : Option (List ℕ)) (counts mid : Counts) (room : RoomValue) (number : ℕ) (now : MemberValue) : Type 0 where
+-- IsTaking limit first old_in now_in counts mid room number now: so many lines handed out so far, of an input of so many
+-- bytes at most, made the first member this one
+pub record IsTaking (limit : ℕ) (first : MemberValue) (old_in now_in : Option (List ℕ)) (counts mid : Counts) (room : RoomValue) (number : ℕ) (now : MemberValue) : Type 0 where
   pub lines : List (List ℕ)
   pub last : List ℕ
-  pub handed : HandedOut old_in now_in counts mid room lines last
-  pub counted : number ≡ 1 + length (with_rest lines last)
-  pub within : number + length room.rest ≤ room.taken + 1
+  pub handed : HandedOut limit old_in now_in counts mid room lines last
+  pub counted : number ≡ length (with_rest lines last)
+  pub within : number + length room.rest ≤ room.taken
   pub took : TakesEach first (with_rest lines last) now
 
-pub first_taking : (first m : MemberValue) (known : Option (List ℕ)) (counts : Counts) (room : RoomValue) → room ≡ nothing_held → m ≡ first
-    → IsTaking first known known counts counts room 1 m
-first_taking first m known counts room is same = record {
+pub first_taking : (limit : ℕ) (first m : MemberValue) (known : Option (List ℕ)) (counts : Counts) (room : RoomValue) → room ≡ nothing_within limit → m ≡ first
+    → IsTaking limit first known known counts counts room 0 m
+first_taking limit first m known counts room is same = record {
   lines = [];
   last = [];
-  handed = nothing_handed known counts room is;
+  handed = nothing_handed limit known counts room is;
   counted = refl;
   within = rw is (omega arith);
   took = subst (λ (x : MemberValue). TakesEach first [] x) (sym same) none;
@@ -88,12 +86,12 @@ takes_more first now next _ l (more k lines before others) takes =
     more k (lines ++ l ∷ []) before (takes_more _ now next lines l others takes)
 
 -- a turn that took a line
-pub taking_more : (first m next : MemberValue) (old_in now_in new_in : Option (List ℕ)) (counts mid after : Counts) (room left : RoomValue)
-    (l : List ℕ) (number : ℕ) → IsTaking first old_in now_in counts mid room number m
+pub taking_more : (limit : ℕ) (first m next : MemberValue) (old_in now_in new_in : Option (List ℕ)) (counts mid after : Counts) (room left : RoomValue)
+    (l : List ℕ) (number : ℕ) → IsTaking limit first old_in now_in counts mid room number m
     → ReadsLine room now_in new_in mid after (Ok (Some l)) left → TakesLine m l next
-    → IsTaking first old_in new_in counts after left (number + 1) next
-taking_more first m next old_in now_in new_in counts mid after room left l number t r takes =
-    let o = handed_more old_in now_in new_in counts mid after room left t.lines t.last l t.handed r in
+    → IsTaking limit first old_in new_in counts after left (number + 1) next
+taking_more limit first m next old_in now_in new_in counts mid after room left l number t r takes =
+    let o = handed_more limit old_in now_in new_in counts mid after room left t.lines t.last l t.handed r in
     let size : length (with_rest t.lines t.last ++ l ∷ []) ≡ length (with_rest t.lines t.last) + 1 =
     length-append (with_rest t.lines t.last) (l ∷ []) in record {
       lines = o.lines;
@@ -121,61 +119,64 @@ stops_after is_whole number first m _ tail _ _ fault empty (line l bytes left li
     (stops_after is_whole (number + 1) _ m bytes tail left lines fault empty c others
     (subst (λ (n : ℕ). StopsTaking is_whole n m tail fault) same stops)))
 
--- StopsHere most old_in new_in counts after fault: a member that may hold so much doesn't take the lines that were read
-abbrev pub StopsHere : Capacity → Option (List ℕ) → Option (List ℕ) → Counts → Counts → Fault → Type 0
-StopsHere most old_in new_in counts after fault = StopsSaving (λ given. given ≡ most) old_in new_in counts after fault
+-- StopsHere limit most old_in new_in counts after fault: a member that may hold so much doesn't take the lines that were
+-- read of an input of so many bytes at most
+abbrev pub StopsHere : ℕ → Capacity → Option (List ℕ) → Option (List ℕ) → Counts → Counts → Fault → Type 0
+StopsHere limit most old_in new_in counts after fault = StopsSaving (λ given. given ≡ most) (λ number. number ≡ limit) old_in new_in counts after fault
 
 -- the line that isn't taken is among the bytes that were held
-stops_held : (most : Capacity) (m : MemberValue) (old_in now_in new_in : Option (List ℕ)) (counts mid after : Counts) (room left : RoomValue) (number : ℕ)
+stops_held : (limit : ℕ) (most : Capacity) (m : MemberValue) (old_in now_in new_in : Option (List ℕ)) (counts mid after : Counts) (room left : RoomValue) (number : ℕ)
     (result : Result (Option (List ℕ)) LineReadFault) (fault : Fault) (is_whole : Bool)
-    → (t : IsTaking (new_saver most) old_in now_in counts mid room number m) → t.last ≡ []
+    → (t : IsTaking limit (new_saver most) old_in now_in counts mid room number m) → t.last ≡ []
     → (r : ReadsLine room now_in new_in mid after result left)
-    → (c : Came old_in new_in counts after t.lines (room.rest ++ r.got) r.over left.taken)
+    → (c : Came limit old_in new_in counts after t.lines (room.rest ++ r.got) r.over left.taken)
     → (is_whole ≡ true → IsAtEnd new_in × (r.over ≡ []))
-    → (fault ≡ Read → ShowsUnread ((c.passed ++ (room.rest ++ r.got)) ++ r.over) counts after)
-    → StopsTaking is_whole number m (room.rest ++ r.got) fault → StopsHere most old_in new_in counts after fault
-stops_held most m old_in now_in new_in counts mid after room left number result fault is_whole t empty r c whole cut stops =
+    → (fault ≡ Read → ShowsUnread limit ((c.passed ++ (room.rest ++ r.got)) ++ r.over) counts after)
+    → StopsTaking is_whole (number + 1) m (room.rest ++ r.got) fault → StopsHere limit most old_in new_in counts after fault
+stops_held limit most m old_in now_in new_in counts mid after room left number result fault is_whole t empty r c whole cut stops =
     let held = room.rest ++ r.got in
     let acted : with_rest t.lines t.last ≡ t.lines = ap (with_rest t.lines) empty in
-    let over : (r.over ≡ []) ⊎ (left.taken ≡ MAX_INPUT) = elim (r.kept) [
+    let over : (r.over ≡ []) ⊎ (left.taken ≡ limit) = elim (r.kept) [
       | inl none_more ↦ inl none_more
-      | inr full ↦ inr full.1
+      | inr full ↦ inr (full.1 ∙ t.handed.limit)
     ] in
-    let at : number ≡ 1 + length t.lines = t.counted ∙ ap (λ (ls : List (List ℕ)). 1 + length ls) acted in record {
+    let at : number + 1 ≡ 1 + length t.lines = omega (arith, t.counted, ap length acted) in record {
       bytes = (c.passed ++ held) ++ r.over;
       is_whole = is_whole;
       capacity = most;
+      most = limit;
+      limited = refl;
       read = c.consumes;
       whole = λ w. (
         (whole w).0,
-        subst (λ (bs : List ℕ). length bs ≤ MAX_INPUT)
+        subst (λ (bs : List ℕ). length bs ≤ limit)
             (sym (ap (λ (bs : List ℕ). (c.passed ++ held) ++ bs) (whole w).1 ∙ append-nil (c.passed ++ held)))
-            (subst (λ (k : ℕ). k ≤ MAX_INPUT) c.taken_is c.within),
+            (subst (λ (k : ℕ). k ≤ limit) c.taken_is c.within),
       );
       cut = cut;
       given = refl;
       stops = subst (λ (bs : List ℕ). StopsTaking is_whole 1 (new_saver most) bs fault)
-          (sym (kept_are old_in new_in counts after t.lines held r.over left.taken c over))
+          (sym (kept_are limit old_in new_in counts after t.lines held r.over left.taken c over))
           (stops_after is_whole 1 (new_saver most) m c.passed held [] t.lines fault refl c.cut
           (subst (λ (ls : List (List ℕ)). TakesEach (new_saver most) ls m) acted t.took)
           (subst (λ (k : ℕ). StopsTaking is_whole k m held fault) at stops));
     }
 
 -- the next line isn't taken
-pub stops_at_line : (most : Capacity) (m : MemberValue) (old_in now_in new_in : Option (List ℕ)) (counts mid after : Counts) (room left : RoomValue)
-    (l : List ℕ) (number : ℕ) (fault : Fault) → IsTaking (new_saver most) old_in now_in counts mid room number m
-    → ReadsLine room now_in new_in mid after (Ok (Some l)) left → LineStops number m l fault → fault ≢ Read
-    → StopsHere most old_in new_in counts after fault
-stops_at_line most m old_in now_in new_in counts mid after room left l number fault t r stops differs =
+pub stops_at_line : (limit : ℕ) (most : Capacity) (m : MemberValue) (old_in now_in new_in : Option (List ℕ)) (counts mid after : Counts) (room left : RoomValue)
+    (l : List ℕ) (number : ℕ) (fault : Fault) → IsTaking limit (new_saver most) old_in now_in counts mid room number m
+    → ReadsLine room now_in new_in mid after (Ok (Some l)) left → LineStops (number + 1) m l fault → fault ≢ Read
+    → StopsHere limit most old_in new_in counts after fault
+stops_at_line limit most m old_in now_in new_in counts mid after room left l number fault t r stops differs =
     let result : Result (Option (List ℕ)) LineReadFault = Ok (Some l) in
-    let was = was_reading old_in now_in counts mid room t.lines t.last result t.handed r.again (λ e. absurd (cc e)) in
-    let c = came old_in now_in new_in counts mid after room left t.lines t.last result t.handed was.1 r in
+    let was = was_reading limit old_in now_in counts mid room t.lines t.last result t.handed r.again (λ e. absurd (cc e)) in
+    let c = came limit old_in now_in new_in counts mid after room left t.lines t.last result t.handed was.1 r in
     let no_more = none_over room now_in new_in mid after result left r (λ e. absurd (cc e)) in
     elim (r.answers.2) [
-      | inl a ↦ stops_held most m old_in now_in new_in counts mid after room left number result fault false t was.1 r c
+      | inl a ↦ stops_held limit most m old_in now_in new_in counts mid after room left number result fault false t was.1 r c
           (λ e. absurd (cc e)) (λ e. absurd (differs e))
-          (subst (λ (bs : List ℕ). StopsTaking false number m bs fault) (sym a.1) (here number m l left.rest fault r.answers.1 stops))
-      | inr a ↦ stops_held most m old_in now_in new_in counts mid after room left number result fault true t was.1 r c
+          (subst (λ (bs : List ℕ). StopsTaking false (number + 1) m bs fault) (sym a.1) (here (number + 1) m l left.rest fault r.answers.1 stops))
+      | inr a ↦ stops_held limit most m old_in now_in new_in counts mid after room left number result fault true t was.1 r c
           (λ e. (
             elim (r.at_end a.4) [
               | inl ended ↦ absurd (cc (was.0, ended.0))
@@ -183,8 +184,8 @@ stops_at_line most m old_in now_in new_in counts mid after room left l number fa
             ],
             no_more,
           )) (λ e. absurd (differs e))
-          (subst (λ (bs : List ℕ). StopsTaking true number m bs fault) (sym a.1)
-          (at_end number m l fault r.answers.1 (inr (refl, a.2, stops))))
+          (subst (λ (bs : List ℕ). StopsTaking true (number + 1) m bs fault) (sym a.1)
+          (at_end (number + 1) m l fault r.answers.1 (inr (refl, a.2, stops))))
     ]
 
 -- the next line is too long
@@ -192,50 +193,39 @@ stops_long : (number : ℕ) (m : MemberValue) (held : List ℕ) → LongFirst he
 stops_long number m _ (open_end held clear long) = at_end number m held (LineFault number) clear (inl (refl, long))
 stops_long number m _ (with_feed l after clear long) = here number m l after (LineFault number) clear (inl (refl, long_line l long))
 
-stops_too_long : (most : Capacity) (m : MemberValue) (old_in now_in new_in : Option (List ℕ)) (counts mid after : Counts) (room left : RoomValue)
-    (number : ℕ) → IsTaking (new_saver most) old_in now_in counts mid room number m
-    → ReadsLine room now_in new_in mid after (Err unread.TooLong) left → StopsHere most old_in new_in counts after (LineFault number)
-stops_too_long most m old_in now_in new_in counts mid after room left number t r =
+pub stops_too_long : (limit : ℕ) (most : Capacity) (m : MemberValue) (old_in now_in new_in : Option (List ℕ)) (counts mid after : Counts) (room left : RoomValue)
+    (number : ℕ) → IsTaking limit (new_saver most) old_in now_in counts mid room number m
+    → ReadsLine room now_in new_in mid after (Err unread.TooLong) left → StopsHere limit most old_in new_in counts after (LineFault (number + 1))
+stops_too_long limit most m old_in now_in new_in counts mid after room left number t r =
     let result : Result (Option (List ℕ)) LineReadFault = Err unread.TooLong in
-    let was = was_reading old_in now_in counts mid room t.lines t.last result t.handed r.again (λ e. absurd (cc e)) in
-    let c = came old_in now_in new_in counts mid after room left t.lines t.last result t.handed was.1 r in
-    stops_held most m old_in now_in new_in counts mid after room left number result (LineFault number) false t was.1 r c
-    (λ e. absurd (cc e)) (λ e. absurd (cc e)) (stops_long number m (room.rest ++ r.got) (long_first (room.rest ++ r.got) r.answers.0))
+    let was = was_reading limit old_in now_in counts mid room t.lines t.last result t.handed r.again (λ e. absurd (cc e)) in
+    let c = came limit old_in now_in new_in counts mid after room left t.lines t.last result t.handed was.1 r in
+    stops_held limit most m old_in now_in new_in counts mid after room left number result (LineFault (number + 1)) false t was.1 r c
+    (λ e. absurd (cc e)) (λ e. absurd (cc e)) (stops_long (number + 1) m (room.rest ++ r.got) (long_first (room.rest ++ r.got) r.answers.0))
 
 -- the input can't be read further
-stops_unread : (most : Capacity) (m : MemberValue) (old_in now_in new_in : Option (List ℕ)) (counts mid after : Counts) (room left : RoomValue)
-    (number : ℕ) → IsTaking (new_saver most) old_in now_in counts mid room number m
-    → ReadsLine room now_in new_in mid after (Err unread.Read) left → StopsHere most old_in new_in counts after Read
-stops_unread most m old_in now_in new_in counts mid after room left number t r =
+pub stops_unread : (limit : ℕ) (most : Capacity) (m : MemberValue) (old_in now_in new_in : Option (List ℕ)) (counts mid after : Counts) (room left : RoomValue)
+    (number : ℕ) → IsTaking limit (new_saver most) old_in now_in counts mid room number m
+    → ReadsLine room now_in new_in mid after (Err unread.Read) left → StopsHere limit most old_in new_in counts after Read
+stops_unread limit most m old_in now_in new_in counts mid after room left number t r =
     let result : Result (Option (List ℕ)) LineReadFault = Err unread.Read in
-    let was = was_reading old_in now_in counts mid room t.lines t.last result t.handed r.again (λ e. absurd (cc e)) in
-    let c = came old_in now_in new_in counts mid after room left t.lines t.last result t.handed was.1 r in
-    stops_held most m old_in now_in new_in counts mid after room left number result Read false t was.1 r c
-    (λ e. absurd (cc e)) (λ e. shows_unread old_in now_in new_in counts mid after room left t.lines t.last t.handed r c was.0)
-    (at_end number m (room.rest ++ r.got) Read r.answers.0.1 (inl (refl, r.answers.0.0)))
-
--- the next line can't be read
-pub stops_fault : (most : Capacity) (m : MemberValue) (old_in now_in new_in : Option (List ℕ)) (counts mid after : Counts) (room left : RoomValue)
-    (number : ℕ) (fault : LineReadFault) (answer : Fault) → IsTaking (new_saver most) old_in now_in counts mid room number m
-    → ReadsLine room now_in new_in mid after (Err fault) left → answer ≡ unread_fault number fault
-    → (answer ≡ Memory) ⊎ StopsHere most old_in new_in counts after answer
-stops_fault most m old_in now_in new_in counts mid after room left number unread.TooLong answer t r is =
-    inr (subst (λ (f : Fault). StopsHere most old_in new_in counts after f) (sym is)
-    (stops_too_long most m old_in now_in new_in counts mid after room left number t r))
-stops_fault most m old_in now_in new_in counts mid after room left number unread.Read answer t r is =
-    inr (subst (λ (f : Fault). StopsHere most old_in new_in counts after f) (sym is)
-    (stops_unread most m old_in now_in new_in counts mid after room left number t r))
-stops_fault most m old_in now_in new_in counts mid after room left number unread.NoMemory answer t r is = inl is
+    let was = was_reading limit old_in now_in counts mid room t.lines t.last result t.handed r.again (λ e. absurd (cc e)) in
+    let c = came limit old_in now_in new_in counts mid after room left t.lines t.last result t.handed was.1 r in
+    stops_held limit most m old_in now_in new_in counts mid after room left number result Read false t was.1 r c
+    (λ e. absurd (cc e)) (λ e. shows_unread limit old_in now_in new_in counts mid after room left t.lines t.last t.handed r c was.0)
+    (at_end (number + 1) m (room.rest ++ r.got) Read r.answers.0.1 (inl (refl, r.answers.0.0)))
 
 -- the whole input was taken
-pub takes_all : (most : Capacity) (m : MemberValue) (old_in now_in new_in : Option (List ℕ)) (counts mid after : Counts) (room left : RoomValue)
-    (number : ℕ) → IsTaking (new_saver most) old_in now_in counts mid room number m
+pub takes_all : (limit : ℕ) (most : Capacity) (m : MemberValue) (old_in now_in new_in : Option (List ℕ)) (counts mid after : Counts) (room left : RoomValue)
+    (number : ℕ) → IsTaking limit (new_saver most) old_in now_in counts mid room number m
     → ReadsLine room now_in new_in mid after (Ok None) left
-    → SavesCapture (λ given. given ≡ most) (λ digits. digits ≡ saved_digits (contents m)) old_in new_in
-takes_all most m old_in now_in new_in counts mid after room left number t r =
-    let a = handed_all old_in now_in new_in counts mid after room left t.lines t.last t.handed r in record {
+    → SavesCapture (λ given. given ≡ most) (λ number. number ≡ limit) (λ digits. digits ≡ saved_digits (contents m)) old_in new_in
+takes_all limit most m old_in now_in new_in counts mid after room left number t r =
+    let a = handed_all limit old_in now_in new_in counts mid after room left t.lines t.last t.handed r in record {
       capture = a.bytes;
       capacity = most;
+      most = limit;
+      limited = refl;
       new = m;
       read = a.consumes;
       ended = a.at_end;
@@ -251,12 +241,14 @@ takes_all most m old_in now_in new_in counts mid after room left number t r =
 
 -- ---- the capacity that was given, and what was printed
 
-pub stops_given : (IsGiven : Capacity → Type 0) (most : Capacity) (old_in new_in : Option (List ℕ)) (counts after : Counts) (fault : Fault) → IsGiven most
-    → StopsHere most old_in new_in counts after fault → StopsSaving IsGiven old_in new_in counts after fault
-stops_given IsGiven most old_in new_in counts after fault given s = record {
+pub stops_given : (IsGiven : Capacity → Type 0) (IsMost : ℕ → Type 0) (limit : ℕ) (most : Capacity) (old_in new_in : Option (List ℕ)) (counts after : Counts) (fault : Fault) → IsGiven most
+    → IsMost limit → StopsHere limit most old_in new_in counts after fault → StopsSaving IsGiven IsMost old_in new_in counts after fault
+stops_given IsGiven IsMost limit most old_in new_in counts after fault given limited s = record {
   bytes = s.bytes;
   is_whole = s.is_whole;
   capacity = s.capacity;
+  most = s.most;
+  limited = subst IsMost (sym s.limited) limited;
   read = s.read;
   whole = s.whole;
   cut = s.cut;
@@ -265,12 +257,14 @@ stops_given IsGiven most old_in new_in counts after fault given s = record {
 }
 
 -- the table of a member that took the whole input is printed
-pub saves_capture : (IsGiven : Capacity → Type 0) (IsPrinted : List ℕ → Type 0) (old_in new_in : Option (List ℕ)) (most : Capacity) (m : MemberValue) (t : TableValue)
-    → SavesCapture (λ given. given ≡ most) (λ digits. digits ≡ saved_digits (contents m)) old_in new_in → IsGiven most → t ≡ m.timed.table
-    → IsPrinted (saved_digits t.contents) → SavesCapture IsGiven IsPrinted old_in new_in
-saves_capture IsGiven IsPrinted old_in new_in most m t s given is printed = record {
+pub saves_capture : (IsGiven : Capacity → Type 0) (IsMost : ℕ → Type 0) (IsPrinted : List ℕ → Type 0) (old_in new_in : Option (List ℕ)) (limit : ℕ) (most : Capacity) (m : MemberValue) (t : TableValue)
+    → SavesCapture (λ given. given ≡ most) (λ number. number ≡ limit) (λ digits. digits ≡ saved_digits (contents m)) old_in new_in → IsGiven most → IsMost limit → t ≡ m.timed.table
+    → IsPrinted (saved_digits t.contents) → SavesCapture IsGiven IsMost IsPrinted old_in new_in
+saves_capture IsGiven IsMost IsPrinted old_in new_in limit most m t s given limited is printed = record {
   capture = s.capture;
   capacity = s.capacity;
+  most = s.most;
+  limited = subst IsMost (sym s.limited) limited;
   new = s.new;
   read = s.read;
   ended = s.ended;

@@ -47,6 +47,15 @@ per_source_rule = record (new_rule (codes "per-source")) {
   parser = Some (Unsigned 1 65535);
 }
 
+-- `--input-limit BYTES`, a decimal number from 1 to 18,446,744,073,709,551,615; none where it isn't given
+abbrev pub input_limit_rule : Rule
+input_limit_rule = record (new_rule (codes "input-limit")) {
+  long = Some (codes "input-limit");
+  action = Some Set;
+  value_names = 1;
+  parser = Some (Unsigned 1 18446744073709551615);
+}
+
 -- a command that makes a table, with the options for its limits
 abbrev pub limited_app : Text → App
 limited_app name = with_rule (with_rule (new_app name) keys_rule) per_source_rule
@@ -55,21 +64,21 @@ limited_app name = with_rule (with_rule (new_app name) keys_rule) per_source_rul
 abbrev pub name_app : App
 name_app = with_rule (with_rule (new_app (codes "name")) (flag_rule (codes "bytes"))) (value_rule (codes "VALUE"))
 
--- `show`
+-- `show [--input-limit BYTES]`
 abbrev pub show_app : App
-show_app = new_app (codes "show")
+show_app = with_rule (new_app (codes "show")) input_limit_rule
 
 -- `build [--broadcast] WHAT ARG..`
 abbrev pub build_app : App
 build_app = with_rule (with_rule (with_rule (new_app (codes "build")) (flag_rule (codes "broadcast"))) (value_rule (codes "WHAT"))) (list_rule (codes "ARG"))
 
--- `replay [--keys N] [--per-source N] NAME..`
+-- `replay [--keys N] [--per-source N] [--input-limit BYTES] NAME..`
 abbrev pub replay_app : App
-replay_app = with_rule (limited_app (codes "replay")) (some_rule (codes "NAME"))
+replay_app = with_rule (with_rule (limited_app (codes "replay")) input_limit_rule) (some_rule (codes "NAME"))
 
--- `save [--keys N] [--per-source N]`
+-- `save [--keys N] [--per-source N] [--input-limit BYTES]`
 abbrev pub save_app : App
-save_app = limited_app (codes "save")
+save_app = with_rule (limited_app (codes "save")) input_limit_rule
 
 -- `merge [--keys N] [--per-source N]`
 abbrev pub merge_app : App

@@ -2,8 +2,6 @@
 use Rattle.std.specs.Prelude.{◌≡◌, ◌<◌, ◌≤◌, ℕ, Bool, false, List, length, Err}
 use Rattle.nb_member.specs.declared.limits.TheConstants.{MAX_LINE}
 use Rattle.nb_member.specs.declared.line_fault.LineFault.TheVariants.{BadLine, NoMemory}
-use Rattle.nb_member.specs.declared.line_read_fault.LineReadFault.{LineReadFault}
-use Rattle.nb_member.specs.declared.line_read_fault.LineReadFault.TheVariants as unread
 use Rattle.nb_member.specs.Capture.{Reads}
 use Rattle.nbt.specs.declared.fault.Fault.{Fault}
 use Rattle.nbt.specs.declared.fault.Fault.TheVariants.{Line, Read, Memory}
@@ -19,9 +17,3 @@ abbrev pub IsLineFault : ℕ → List ℕ → Fault → Type 0
 IsLineFault number line (Line n) = (n ≡ number) × Reads line (Err BadLine)
 IsLineFault number line Memory = Reads line (Err NoMemory)
 IsLineFault number line _ = ⊥
-
--- unread_fault number fault: why the program ends where line `number` can't be read
-abbrev pub unread_fault : ℕ → LineReadFault → Fault
-unread_fault number unread.TooLong = Line number
-unread_fault number unread.Read = Read
-unread_fault number unread.NoMemory = Memory

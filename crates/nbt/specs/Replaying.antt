@@ -3,8 +3,6 @@ use Rattle.std.specs.Prelude.{◌≡◌, ◌≤◌, ◌<◌, ◌⊎◌, ◌++◌
 use Rattle.std.specs.Io.KnownBytes.{Consumes, Keeps}
 use Rattle.clap.specs.Words.{found_of, matched_of, raw_values}
 use Rattle.clap.specs.declared.parser.matches.ArgMatches.{ArgMatches}
-use Rattle.nb_names.specs.Counted.{Counts}
-use Rattle.nb_names.specs.Devices.{ShowsUnread}
 use Rattle.nb_names.specs.Name.{NetbiosName}
 use Rattle.nb_names.specs.NameText.{IsText, IsFaultOf}
 use Rattle.nb_member.specs.declared.event.Event.{Event}
@@ -58,19 +56,14 @@ pub record IsNamesFault (texts : List (List ℕ)) (fault : Fault) : Type 0 where
 
 -- ---- the replay
 
--- ReplaysIn m old_in new_in old_out new_out answer: the member m replayed what was read, with this answer,
--- and what it wrote was printed
-pub record ReplaysIn (m : MemberValue) (old_in new_in old_out new_out : Option (List ℕ)) (answer : Result ℕ ReplayFault) : Type 0 where
+-- ReplaysIn most m old_in new_in old_out new_out answer: the member m replayed what was read of an input of so many
+-- bytes at most, with this answer, and what it wrote was printed
+pub record ReplaysIn (most : ℕ) (m : MemberValue) (old_in new_in old_out new_out : Option (List ℕ)) (answer : Result ℕ ReplayFault) : Type 0 where
   pub bytes : List ℕ
   pub new : MemberValue
   pub read : Consumes old_in new_in bytes
   pub replays : (H : List Event) (s : Stands m H)
-      → Replays m H (live m.settings s.sayings) bytes new_in new old_out new_out answer
-
--- IsUnread old_in new_in old new: between these counts a read failed, or 1,024 were interrupted, or more bytes
--- came than an input may have
-abbrev pub IsUnread : Option (List ℕ) → Option (List ℕ) → Counts → Counts → Type 0
-IsUnread old_in new_in old new = (bytes : List ℕ) × Consumes old_in new_in bytes × ShowsUnread bytes old new
+      → Replays most m H (live m.settings s.sayings) bytes new_in new old_out new_out answer
 
 -- EndsWith IsAnswer result: a replay with such an answer ends the program's replay so
 abbrev pub EndsWith : (Result ℕ ReplayFault → Type 0) → Result Unit Fault → Type 0
@@ -81,13 +74,15 @@ EndsWith IsAnswer (Err Write) = IsAnswer (Err replay.Write)
 EndsWith IsAnswer (Err Memory) = IsAnswer (Err replay.NoMemory)
 EndsWith IsAnswer (Err _) = ⊥
 
--- ReplaysCapture IsGiven AreWords old_in new_in old_out new_out answer: a new member that may hold as much as is
--- given, with the names of the words, replayed what was read, with this answer, and what it wrote was
--- printed
-pub record ReplaysCapture (IsGiven : Capacity → Type 0) (AreWords : List (List ℕ) → Type 0)
+-- ReplaysCapture IsGiven IsMost AreWords old_in new_in old_out new_out answer: a new member that may hold as much as is
+-- given, with the names of the words, replayed what was read of an input of at most as many bytes as is said, with
+-- this answer, and what it wrote was printed
+pub record ReplaysCapture (IsGiven : Capacity → Type 0) (IsMost : ℕ → Type 0) (AreWords : List (List ℕ) → Type 0)
     (old_in new_in old_out new_out : Option (List ℕ)) (answer : Result ℕ ReplayFault) : Type 0 where
   pub capacity : Capacity
   pub given : IsGiven capacity
+  pub most : ℕ
+  pub limited : IsMost most
   pub words : List (List ℕ)
   pub said : AreWords words
   pub names : List NetbiosName
@@ -95,7 +90,7 @@ pub record ReplaysCapture (IsGiven : Capacity → Type 0) (AreWords : List (List
   pub bytes : List ℕ
   pub new : MemberValue
   pub read : Consumes old_in new_in bytes
-  pub replays : Replays (new_member (program_settings capacity) names) [] [] bytes new_in new old_out new_out answer
+  pub replays : Replays most (new_member (program_settings capacity) names) [] [] bytes new_in new old_out new_out answer
 
 -- IsReplay IsAnswer IsGiven AreWords old_in new_in old_out new_out result: what the program answers: as a replay
 -- with such an answer ends, or a word was refused, no capacity or no words are given, or memory ran out

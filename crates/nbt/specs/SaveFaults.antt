@@ -1,7 +1,6 @@
 -- Why `nbt save` doesn't save a capture, and at which line (our choice). Lines are numbered from 1.
 use Rattle.std.specs.Prelude.{◌≡◌, ◌⊎◌, ◌<◌, ◌≤◌, ◌+◌, ◌++◌, ◌∷◌, ℕ, Bool, true, List, length, take, Option, Some, Ok, Err}
 use Rattle.std.specs.Io.KnownBytes.{Consumes, IsAtEnd}
-use Rattle.nb_names.specs.declared.limits.TheConstants.{MAX_INPUT}
 use Rattle.nb_names.specs.Counted.{Counts}
 use Rattle.nb_names.specs.Lines.{IsLine}
 use Rattle.nb_datagram.specs.declared.key.Key.{Key}
@@ -55,22 +54,24 @@ pub data StopsTaking (is_whole : Bool) : ℕ → MemberValue → List ℕ → Fa
   at_end : (number : ℕ) (m : MemberValue) (rest : List ℕ) (fault : Fault) → IsLine rest → RestStops is_whole number m rest fault
       → StopsTaking is_whole number m rest fault
 
--- StopsSaving IsGiven old_in new_in old new fault: these bytes were read, all of the input, or what came before it was
--- cut or a line wasn't taken, and a member that may hold as much as is given doesn't take the lines among them,
--- for this reason
-pub record StopsSaving (IsGiven : Capacity → Type 0) (old_in new_in : Option (List ℕ)) (old new : Counts) (fault : Fault) : Type 0 where
+-- StopsSaving IsGiven IsMost old_in new_in old new fault: these bytes were read, all of the input, or what came before
+-- it was cut or a line wasn't taken, and a member that may hold as much as is given doesn't take the lines among
+-- them, for this reason; an input may have as many bytes as is said
+pub record StopsSaving (IsGiven : Capacity → Type 0) (IsMost : ℕ → Type 0) (old_in new_in : Option (List ℕ)) (old new : Counts) (fault : Fault) : Type 0 where
   pub bytes : List ℕ
   pub is_whole : Bool
   pub capacity : Capacity
+  pub most : ℕ
   pub read : Consumes old_in new_in bytes
-  pub whole : is_whole ≡ true → IsAtEnd new_in × (length bytes ≤ MAX_INPUT)
-  pub cut : fault ≡ Read → ShowsUnread bytes old new
+  pub whole : is_whole ≡ true → IsAtEnd new_in × (length bytes ≤ most)
+  pub cut : fault ≡ Read → ShowsUnread most bytes old new
   pub given : IsGiven capacity
-  pub stops : StopsTaking is_whole 1 (new_saver capacity) (take MAX_INPUT bytes) fault
+  pub limited : IsMost most
+  pub stops : StopsTaking is_whole 1 (new_saver capacity) (take most bytes) fault
 
--- SaveFails IsGiven old_in new_in old new fault: why nothing is saved: no capacity is given, or for a line;
+-- SaveFails IsGiven IsMost old_in new_in old new fault: why nothing is saved: no capacity is given, or for a line;
 -- nothing is said where memory ran out or the output failed
-pub data SaveFails (IsGiven : Capacity → Type 0) (old_in new_in : Option (List ℕ)) (old new : Counts) (fault : Fault) : Type 0 where
-  no_capacity : HasNoCapacity IsGiven → fault ≡ Arguments → SaveFails IsGiven old_in new_in old new fault
-  elsewhere : (fault ≡ Memory) ⊎ (fault ≡ Write) → SaveFails IsGiven old_in new_in old new fault
-  line_fails : StopsSaving IsGiven old_in new_in old new fault → SaveFails IsGiven old_in new_in old new fault
+pub data SaveFails (IsGiven : Capacity → Type 0) (IsMost : ℕ → Type 0) (old_in new_in : Option (List ℕ)) (old new : Counts) (fault : Fault) : Type 0 where
+  no_capacity : HasNoCapacity IsGiven → fault ≡ Arguments → SaveFails IsGiven IsMost old_in new_in old new fault
+  elsewhere : (fault ≡ Memory) ⊎ (fault ≡ Write) → SaveFails IsGiven IsMost old_in new_in old new fault
+  line_fails : StopsSaving IsGiven IsMost old_in new_in old new fault → SaveFails IsGiven IsMost old_in new_in old new fault

@@ -3,7 +3,6 @@
 use Rattle.std.specs.Prelude.{◌≡◌, ◌≢◌, ◌⊎◌, ◌≤◌, ℕ, List, [], ◌∷◌, length, Option, None, Some, Result, Ok, Err}
 use Rattle.std.specs.FinMap as maps
 use Rattle.std.specs.Io.KnownBytes.{Consumes, IsAtEnd}
-use Rattle.nb_names.specs.declared.limits.TheConstants.{MAX_INPUT}
 use Rattle.nb_names.specs.Lines.{HasLines}
 use Rattle.nb_table.specs.declared.fault.TableFault.TheVariants.{MisplacedFirst, TooLong, FullSource, Full, NoMemory}
 use Rattle.nb_member.specs.declared.line.Line.{Line}
@@ -73,15 +72,18 @@ pub record TakesLines (m : MemberValue) (capture : List ℕ) (new : MemberValue)
   pub has : HasLines capture lines
   pub takes : TakesEach m lines new
 
--- SavesCapture IsGiven IsPrinted old_in new_in: the whole input was read, a member that may hold as much as is
--- given took its lines, and the table that it then has was printed, as IsPrinted says of its digits
-pub record SavesCapture (IsGiven : Capacity → Type 0) (IsPrinted : List ℕ → Type 0) (old_in new_in : Option (List ℕ)) : Type 0 where
+-- SavesCapture IsGiven IsMost IsPrinted old_in new_in: the whole input was read, which has at most as many bytes as is
+-- said, a member that may hold as much as is given took its lines, and the table that it then has was printed, as
+-- IsPrinted says of its digits
+pub record SavesCapture (IsGiven : Capacity → Type 0) (IsMost : ℕ → Type 0) (IsPrinted : List ℕ → Type 0) (old_in new_in : Option (List ℕ)) : Type 0 where
   pub capture : List ℕ
   pub capacity : Capacity
+  pub most : ℕ
   pub new : MemberValue
   pub read : Consumes old_in new_in capture
   pub ended : IsAtEnd new_in
-  pub within : length capture ≤ MAX_INPUT
+  pub limited : IsMost most
+  pub within : length capture ≤ most
   pub given : IsGiven capacity
   pub took : TakesLines (new_saver capacity) capture new
   pub printed : IsPrinted (saved_digits (contents new))

@@ -3,6 +3,7 @@ use Rattle.std.specs.Prelude.{◌≡◌, ◌⊎◌, ◌<◌, ◌^◌, ℕ, List,
 use Rattle.std.specs.Str.Parse.{IsNumeral, digits_value, without_leading_plus}
 use Rattle.clap.specs.Words.{found_of, one_text}
 use Rattle.clap.specs.declared.parser.matches.ArgMatches.{ArgMatches}
+use Rattle.nb_names.specs.declared.limits.TheConstants.{MAX_INPUT}
 use Rattle.nb_member.specs.declared.settings.Settings.{Settings}
 use Rattle.nbt.specs.declared.settings.Capacity.{Capacity}
 
@@ -14,27 +15,33 @@ program_settings c = record { ip = 0 ∷ 0 ∷ 0 ∷ 0 ∷ []; port = 138; keys 
 abbrev pub most_keys : Capacity
 most_keys = record { keys = 4294967295; per_source = 4294967295 }
 
--- IsNumberOf matches option n: the number is the one that the matches hold for the option: a decimal one of 32
--- bits
-pub record IsNumberOf (matches : ArgMatches) (option : List ℕ) (n : ℕ) : Type 0 where
+-- IsNumberOf width matches option n: the number is the one that the matches hold for the option: a decimal one of
+-- so many bits
+pub record IsNumberOf (width : ℕ) (matches : ArgMatches) (option : List ℕ) (n : ℕ) : Type 0 where
   pub text : List ℕ
   pub held : one_text (found_of matches) option ≡ Some text
   pub digits : IsNumeral 10 (without_leading_plus text)
   pub is : n ≡ digits_value 10 (without_leading_plus text)
-  pub fits : n < 2 ^ 32
+  pub fits : n < 2 ^ width
 
--- the matches hold no number for the option
-abbrev pub HasNoNumber : ArgMatches → List ℕ → Type 0
-HasNoNumber matches option = (n : ℕ) → ¬ IsNumberOf matches option n
+-- the matches hold no number of so many bits for the option
+abbrev pub HasNoNumber : ℕ → ArgMatches → List ℕ → Type 0
+HasNoNumber width matches option = (n : ℕ) → ¬ IsNumberOf width matches option n
 
 -- the number of `--per-source`, or 4,294,967,295 where none is held
 abbrev pub IsSourceLimit : ArgMatches → ℕ → Type 0
 IsSourceLimit matches n =
-    IsNumberOf matches (codes "per-source") n ⊎ (HasNoNumber matches (codes "per-source") × (n ≡ 4294967295))
+    IsNumberOf 32 matches (codes "per-source") n ⊎ (HasNoNumber 32 matches (codes "per-source") × (n ≡ 4294967295))
+
+-- IsInputLimit matches n: how many bytes the input may have: the number of `--input-limit`, or the usual limit where
+-- none is held
+abbrev pub IsInputLimit : ArgMatches → ℕ → Type 0
+IsInputLimit matches n =
+    IsNumberOf 64 matches (codes "input-limit") n ⊎ (HasNoNumber 64 matches (codes "input-limit") × (n ≡ MAX_INPUT))
 
 -- IsCapacity matches c: as many keys as `--keys` says, and of each address as many as `--per-source` says
 pub record IsCapacity (matches : ArgMatches) (c : Capacity) : Type 0 where
-  pub keys : IsNumberOf matches (codes "keys") c.keys
+  pub keys : IsNumberOf 32 matches (codes "keys") c.keys
   pub per_source : IsSourceLimit matches c.per_source
 
 -- no capacity is given

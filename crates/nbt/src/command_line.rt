@@ -2,7 +2,7 @@
 ghost use Rattle.std.specs.Prelude.{◌≡◌, IfOk, IsOkAnd, false};
 ghost use Rattle.clap.specs.Words.{AddsArg, AddsSubcommand, app_of, new_app, rule_of};
 ghost use Rattle.clap.specs.declared.builder.command.Command.TheViews.{out-Command as fields_of};
-ghost use Rattle.nbt.specs.CommandLine.{name_app, show_app, build_app, replay_app, save_app, merge_app, list_app, agree_app, nbt_app, flag_rule, value_rule, list_rule, keys_rule, limited_app, per_source_rule, some_rule};
+ghost use Rattle.nbt.specs.CommandLine.{name_app, show_app, build_app, replay_app, save_app, merge_app, list_app, agree_app, nbt_app, flag_rule, value_rule, list_rule, input_limit_rule, keys_rule, limited_app, per_source_rule, some_rule};
 
 use crate::help::{
     AGREE_HELP, BUILD_HELP, LIST_HELP, MERGE_HELP, NAME_HELP, REPLAY_HELP, SAVE_HELP, SHOW_HELP,
@@ -32,7 +32,7 @@ pub fn command<'a>(alloc: Global) -> Result<Command<'a>, AllocError>
     .version(VERSION)
     .subcommand_required(true);
     let top = added(Ok(top), name_command(alloc));
-    let top = added(top, Ok(show_command(alloc)));
+    let top = added(top, show_command(alloc));
     let top = added(top, build_command(alloc));
     let top = added(top, replay_command(alloc));
     let top = added(top, save_command(alloc));
@@ -79,17 +79,18 @@ fn name_command<'a>(alloc: Global) -> Result<Command<'a>, AllocError>
     taking(taking(Ok(name), bytes), value)
 }
 
-/// `show`.
-fn show_command<'a>(alloc: Global) -> Command<'a>
-    ensures app { app_of result ≡ show_app }
-    ensures local { (fields_of result).has_globals ≡ false }
+/// `show [--input-limit BYTES]`.
+fn show_command<'a>(alloc: Global) -> Result<Command<'a>, AllocError>
+    ensures app { IfOk result (λ command. app_of command ≡ show_app) }
+    ensures local { IfOk result (λ command. (fields_of command).has_globals ≡ false) }
 {
-    described(
+    let show = described(
         alloc,
         "show",
         "Show the packets of the capture on standard input",
         SHOW_HELP,
-    )
+    );
+    taking(Ok(show), input_limit(alloc))
 }
 
 /// `build [--broadcast] WHAT ARG..`.
@@ -109,7 +110,7 @@ fn build_command<'a>(alloc: Global) -> Result<Command<'a>, AllocError>
     taking(taking(taking(Ok(build), broadcast), what), words)
 }
 
-/// `replay [--keys N] [--per-source N] NAME..`.
+/// `replay [--keys N] [--per-source N] [--input-limit BYTES] NAME..`.
 fn replay_command<'a>(alloc: Global) -> Result<Command<'a>, AllocError>
     ensures app { IfOk result (λ command. app_of command ≡ replay_app) }
     ensures local { IfOk result (λ command. (fields_of command).has_globals ≡ false) }
@@ -125,20 +126,21 @@ fn replay_command<'a>(alloc: Global) -> Result<Command<'a>, AllocError>
         "NAME",
         "A name of the station, such as 'FRED<20>.NETBIOS.COM'",
     );
-    taking(replay, names)
+    taking(taking(replay, input_limit(alloc)), names)
 }
 
-/// `save [--keys N] [--per-source N]`.
+/// `save [--keys N] [--per-source N] [--input-limit BYTES]`.
 fn save_command<'a>(alloc: Global) -> Result<Command<'a>, AllocError>
     ensures app { IfOk result (λ command. app_of command ≡ save_app) }
     ensures local { IfOk result (λ command. (fields_of command).has_globals ≡ false) }
 {
-    limited(
+    let save = limited(
         alloc,
         "save",
         "Print the reassembly table of the capture on standard input, in hexadecimal",
         SAVE_HELP,
-    )
+    );
+    taking(save, input_limit(alloc))
 }
 
 /// `merge [--keys N] [--per-source N]`.
@@ -284,5 +286,18 @@ fn per_source<'a>(alloc: Global) -> Arg<'a>
         .value_name("N")
         .help("How many keys of one address a table may hold, 1 to 65535; no limit if not given")
         .value_parser(ValueParser::unsigned(1, 65_535))
+        .action(ArgAction::Set)
+}
+
+/// `--input-limit BYTES`.
+fn input_limit<'a>(alloc: Global) -> Arg<'a>
+    ensures rule { rule_of result ≡ input_limit_rule }
+    ensures local { result.global ≡ false }
+{
+    Arg::new(alloc, "input-limit")
+        .long("input-limit")
+        .value_name("BYTES")
+        .help("How many bytes the input may have, 1 to 18446744073709551615; 16777216 if not given")
+        .value_parser(ValueParser::unsigned(1, 18_446_744_073_709_551_615))
         .action(ArgAction::Set)
 }

@@ -2,6 +2,7 @@
 ghost use Rattle.std.specs.Prelude.{◌≡◌, ◌≢◌, OnOk, IfOk, IfErr};
 ghost use Rattle.nb_table.specs.Join.{join, joined_all, AreTaken};
 ghost use Rattle.nb_table.specs.Merging.{Fits};
+ghost use Rattle.nb_names.specs.declared.limits.TheConstants.{MAX_INPUT};
 ghost use Rattle.nbt.specs.Input.{WasCut};
 ghost use Rattle.nbt.specs.Settings.{IsCapacity};
 ghost use Rattle.nbt.specs.Tables.{contents_of, JoinFails, MergeStops, MergesTables};
@@ -36,7 +37,7 @@ pub fn joined_input<R: Read>(
         (R.remaining input.old.inner) (R.remaining input.new.inner)) }
     ensures no_write { IfErr result (λ fault. fault ≢ Fault.Write) }
     ensures cut { IfErr result (λ fault. fault ≡ Fault.Read →
-        WasCut (R.remaining input.old.inner) (R.remaining input.new.inner)
+        WasCut MAX_INPUT (R.remaining input.old.inner) (R.remaining input.new.inner)
         input.old.counts input.new.counts) }
 {
     let capacity = capacity_of(matches)?;

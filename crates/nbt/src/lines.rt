@@ -1,10 +1,10 @@
-//! The lines of an input.
+//! What the lines of a capture say.
 ghost use Rattle.std.specs.Prelude.{◌≡◌, Ok, IfOk, IfErr};
 ghost use Rattle.nb_member.specs.Capture.{Reads};
-ghost use Rattle.nbt.specs.Lines.{IsLineFault, unread_fault};
+ghost use Rattle.nbt.specs.Lines.{IsLineFault};
 
 use crate::fault::Fault;
-use nb_member::{Line, LineFault, LineReadFault, capture_line};
+use nb_member::{Line, LineFault, capture_line};
 use std::alloc::Global;
 
 /// What line `number` of a capture says, or nothing where it is empty or a comment.
@@ -20,16 +20,5 @@ pub fn said_by(alloc: Global, number: usize, line: &[u8]) -> Result<Option<Line>
         Ok(said) => Ok(said),
         Err(LineFault::BadLine) => Err(Fault::Line(number)),
         Err(LineFault::NoMemory) => Err(Fault::Memory),
-    }
-}
-
-/// Why the program ends where line `number` can't be read.
-pub fn unread_line(number: usize, fault: LineReadFault) -> Fault
-    ensures { result ≡ unread_fault number fault }
-{
-    match fault {
-        LineReadFault::TooLong => Fault::Line(number),
-        LineReadFault::Read => Fault::Read,
-        LineReadFault::NoMemory => Fault::Memory,
     }
 }

@@ -4,11 +4,12 @@ ghost use Rattle.std.specs.Io.KnownBytes.{Appends};
 ghost use Rattle.nb_names.specs.Counted.{no_calls};
 ghost use Rattle.nb_names.specs.Devices.{AppendsFront, GrowTo, ShowsWriteFault};
 ghost use Rattle.nbt.specs.Printing.{line};
-ghost use Rattle.nbt.specs.Replaying.{EndsWith, IsUnread, ReplaysIn};
+ghost use Rattle.nbt.specs.Replaying.{EndsWith, ReplaysIn};
+ghost use Rattle.nbt.specs.Input.{WasCut};
 
 use crate::commands::replay::outcome_of;
 use crate::fault::Fault;
-use nb_member::{Member, replay};
+use nb_member::{Member, replay_within};
 use nb_names::Counted;
 use nb_names::output::{write_some, write_whole};
 use std::alloc::Global;
@@ -74,29 +75,36 @@ impl<W> Output<W> {
         }
     }
 
-    /// Replays an input in a member, and writes the report.
+    /// Replays an input of so many bytes at most in a member, and writes the report.
     ///
     /// # Errors
     ///
-    /// Those of [`nb_member::replay`].
+    /// Those of [`nb_member::replay_within`].
     pub fn replay<R: Read>(
         &mut self,
         alloc: Global,
         mut member: Member,
         input: &mut Counted<R>,
+        most: u64,
     ) -> Result<(), Fault>
     where
         W: Write,
-        ensures replayed { EndsWith (ReplaysIn member
+        ensures replayed { EndsWith (ReplaysIn most member
             (R.remaining input.old.inner) (R.remaining input.new.inner)
             (W.contents self.old.inner) (W.contents self.new.inner)) result }
         ensures cut { IfErr result (λ fault. fault ≡ Fault.Read →
-            IsUnread (R.remaining input.old.inner) (R.remaining input.new.inner)
+            WasCut most (R.remaining input.old.inner) (R.remaining input.new.inner)
             input.old.counts input.new.counts) }
         ensures why { IfErr result (λ fault. fault ≡ Fault.Write →
             ShowsWriteFault self.old.counts self.new.counts) }
     {
-        outcome_of(replay(alloc, input, &mut self.device, &mut member))
+        outcome_of(replay_within(
+            alloc,
+            input,
+            &mut self.device,
+            &mut member,
+            most,
+        ))
     }
 }
 

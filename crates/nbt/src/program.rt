@@ -91,7 +91,7 @@ fn run_command<R: Read, W: Write>(
 {
     match matches.subcommand() {
         Some(("name", matches)) => done(run_name(alloc, matches, output)),
-        Some(("show", _)) => done(run_show(alloc, input, output)),
+        Some(("show", matches)) => done(run_show(alloc, matches, input, output)),
         Some(("build", matches)) => done(run_build(alloc, matches, output)),
         Some(("replay", matches)) => done(run_replay(alloc, matches, input, output)),
         Some(("save", matches)) => done(run_save(alloc, matches, input, output)),

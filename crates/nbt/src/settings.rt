@@ -1,10 +1,11 @@
 //! What the program's members and tables are set up with.
 ghost use Rattle.std.specs.Prelude.{◌≡◌, IfOk, IfErr};
-ghost use Rattle.nbt.specs.Settings.{HasNoCapacity, IsCapacity, program_settings};
+ghost use Rattle.nbt.specs.Settings.{HasNoCapacity, IsCapacity, IsInputLimit, program_settings};
 
 use crate::fault::Fault;
 use clap::ArgMatches;
 use nb_member::Settings;
+use nb_names::limits::MAX_INPUT;
 
 /// The port of the datagram service (RFC 1002 section 4.4).
 pub const PORT: u16 = 138;
@@ -37,6 +38,16 @@ pub fn capacity_of(matches: &ArgMatches<'_>) -> Result<Capacity, Fault>
     };
     let per_source = matches.get_one::<u32>("per-source").unwrap_or(u32::MAX);
     Ok(Capacity { keys, per_source })
+}
+
+/// How many bytes the input may have: as many as `--input-limit` says, or [`MAX_INPUT`] where that
+/// isn't given.
+pub fn input_limit_of(matches: &ArgMatches<'_>) -> u64
+    ensures { IsInputLimit matches.now result }
+{
+    matches
+        .get_one::<u64>("input-limit")
+        .unwrap_or(MAX_INPUT as u64)
 }
 
 /// The settings of a member that may hold so much, at 0.0.0.0 and the datagram service's port.

@@ -29,7 +29,7 @@ pub fn whole_input<R: Read>(alloc: Global, input: &mut Counted<R>) -> Result<Vec
     ensures elsewhere { IfErr result IsElsewhere }
     ensures fault { IfErr result (λ fault. fault ≢ Fault.Write) }
     ensures cut { IfErr result (λ fault. fault ≡ Fault.Read →
-        WasCut (R.remaining input.old.inner) (R.remaining input.new.inner)
+        WasCut MAX_INPUT (R.remaining input.old.inner) (R.remaining input.new.inner)
         input.old.counts input.new.counts) }
 {
     let input = read_input(alloc, input)?;

@@ -2,9 +2,9 @@
 use Rattle.std.proofs.Common.{◌≡◌, ◌<◌, ◌≤◌, ◌+◌, ◌++◌, ◌∷◌, ℕ, List, [], take, drop, length, Option, Some, None, Ok, Err, refl, sym, ◌∙◌, ap, subst, inl, inr, append_assoc, arith}
 use Rattle.std.specs.Prelude.{Contains}
 use Rattle.std.specs.Io.KnownBytes.{Consumes, IsAtEnd}
+use Rattle.std.proofs.lemmas.List.Elements.{Contains-append_left}
 use Rattle.std.proofs.lemmas.List.{append-nil, length-append, length-take-le, take_at, take_all, drop_all}
 use Rattle.nb_names.specs.Counted.{Counts}
-use Rattle.nb_names.specs.declared.limits.TheConstants.{MAX_INPUT}
 use Rattle.nb_member.specs.declared.line_reading.First.TheVariants as first
 use Rattle.nb_member.specs.declared.line_read_fault.LineReadFault.{LineReadFault}
 use Rattle.nb_member.specs.declared.line_read_fault.LineReadFault.TheVariants.{Read, TooLong, NoMemory}
@@ -28,14 +28,22 @@ pub record IsSeeking (old : RoomValue) (before now : Option (List ℕ)) (counts 
   pub within : seen ≤ length room.rest
   pub clear : ¬ Contains (take seen room.rest) 10
   pub grow : GrowTo counts later
-  pub most : room.taken ≤ MAX_INPUT
+  pub limit : room.most ≡ old.most
+  pub most : room.taken ≤ old.most
 
 pub no_growth : (counts : Counts) → GrowTo counts counts
 no_growth counts = record { empty = omega arith; interrupted = omega arith; failed = omega arith }
 
+-- the front of bytes that begin no whole line
+pub front_open : (front rest bytes : List ℕ) → bytes ≡ front ++ rest → IsOpen bytes → IsOpen front
+front_open front rest bytes is o = (
+  omega (arith, o.0, ap length is, length-append front rest),
+  λ h. o.1 (subst (λ (bs : List ℕ). Contains bs 10) (sym is) (Contains-append_left front rest 10 h)),
+)
+
 -- before the first search
 pub seeking_first : (old new : RoomValue) (known : Option (List ℕ)) (counts : Counts) → new ≡ let_go_of old → standing.Reading ≡ new.standing
-    → new.taken ≤ MAX_INPUT → IsSeeking old known known counts counts new 0
+    → new.taken ≤ new.most → IsSeeking old known known counts counts new 0
 seeking_first old new known counts is reads most = record {
   got = [];
   consumes = Consumes-nil known;
@@ -46,7 +54,8 @@ seeking_first old new known counts is reads most = record {
   within = omega arith;
   clear = λ h. omega (arith, h.1, length-take-le 0 new.rest (omega arith));
   grow = no_growth counts;
-  most = most;
+  limit = ap (λ (r : RoomValue). r.most) is;
+  most = omega (arith, most, ap (λ (r : RoomValue). r.most) is);
   began = sym (ap (λ (r : RoomValue). r.standing) is) ∙ sym reads;
 }
 
@@ -65,61 +74,67 @@ hands_line bytes old new at same f short is =
       short,
       f.1,
       sym same ∙ f.2 ∙ ap (λ (r : List ℕ). line ++ 10 ∷ r) (sym rest),
-      is ∙ (λ i. record { lent = lent i; rest = sym (ap (λ (r : RoomValue). r.rest) is) i; taken = old.taken; standing = old.standing }),
+      is ∙ (λ i. record { lent = lent i; rest = sym (ap (λ (r : RoomValue). r.rest) is) i; taken = old.taken; most = old.most; standing = old.standing }),
     )
 
 -- ---- how a call ends
 
 pub turn_ended : (old new : RoomValue) (known : Option (List ℕ)) (counts : Counts) → new ≡ let_go_of old → standing.Ended ≡ new.standing
-    → new.rest ≡ [] → new.taken ≤ MAX_INPUT → ReadsLine old known known counts counts (Ok None) new
+    → new.rest ≡ [] → new.taken ≤ new.most → ReadsLine old known known counts counts (Ok None) new
 turn_ended old new known counts is ended none most =
     let rest : new.rest ≡ old.rest = ap (λ (r : RoomValue). r.rest) is in
     let was : old.standing ≡ standing.Ended = sym (ap (λ (r : RoomValue). r.standing) is) ∙ sym ended in record {
       got = [];
       over = [];
+      few = omega arith;
       consumes = Consumes-nil known;
       taken = ap (λ (r : RoomValue). r.taken) is ∙ omega arith;
       kept = inl refl;
       answers = (append-nil old.rest ∙ sym rest ∙ none, none, ap (λ (r : RoomValue). r.lent) is, sym ended);
       unread = λ e. absurd (cc);
       at_end = λ e. inl (was, refl);
-      within = most;
+      limit = ap (λ (r : RoomValue). r.most) is;
+      within = omega (arith, most, ap (λ (r : RoomValue). r.most) is);
       again = rw was refl;
       grow = no_growth counts;
     }
 
 pub turn_unread : (old new : RoomValue) (known : Option (List ℕ)) (counts : Counts) → new ≡ let_go_of old → standing.Unread ≡ new.standing
-    → IsOpen new.rest → new.taken ≤ MAX_INPUT → ReadsLine old known known counts counts (Err Read) new
+    → IsOpen new.rest → new.taken ≤ new.most → ReadsLine old known known counts counts (Err Read) new
 turn_unread old new known counts is unread opened most =
     let rest : new.rest ≡ old.rest ++ [] = ap (λ (r : RoomValue). r.rest) is ∙ sym (append-nil old.rest) in
     let was : old.standing ≡ standing.Unread = sym (ap (λ (r : RoomValue). r.standing) is) ∙ sym unread in record {
       got = [];
       over = [];
+      few = omega arith;
       consumes = Consumes-nil known;
       taken = ap (λ (r : RoomValue). r.taken) is ∙ omega arith;
       kept = inl refl;
       answers = (subst IsOpen rest opened, ap (λ (r : RoomValue). r.lent) is, sym unread);
       unread = λ e. inl was;
       at_end = λ e. absurd (cc);
-      within = most;
+      limit = ap (λ (r : RoomValue). r.most) is;
+      within = omega (arith, most, ap (λ (r : RoomValue). r.most) is);
       again = rw was refl;
       grow = no_growth counts;
     }
 
 pub turn_long : (old new : RoomValue) (known : Option (List ℕ)) (counts : Counts) → new ≡ let_go_of old → standing.TooLong ≡ new.standing
-    → IsTooLong new.rest → new.taken ≤ MAX_INPUT → ReadsLine old known known counts counts (Err TooLong) new
+    → IsTooLong new.rest → new.taken ≤ new.most → ReadsLine old known known counts counts (Err TooLong) new
 turn_long old new known counts is long far most =
     let rest : new.rest ≡ old.rest ++ [] = ap (λ (r : RoomValue). r.rest) is ∙ sym (append-nil old.rest) in
     let was : old.standing ≡ standing.TooLong = sym (ap (λ (r : RoomValue). r.standing) is) ∙ sym long in record {
       got = [];
       over = [];
+      few = omega arith;
       consumes = Consumes-nil known;
       taken = ap (λ (r : RoomValue). r.taken) is ∙ omega arith;
       kept = inl refl;
       answers = (subst IsTooLong rest far, ap (λ (r : RoomValue). r.lent) is, sym long);
       unread = λ e. absurd (cc);
       at_end = λ e. absurd (cc);
-      within = most;
+      limit = ap (λ (r : RoomValue). r.most) is;
+      within = omega (arith, most, ap (λ (r : RoomValue). r.most) is);
       again = rw was refl;
       grow = no_growth counts;
     }
@@ -136,13 +151,15 @@ turn_line old room new before now counts later seen n s p =
     rw line (record {
       got = s.got;
       over = [];
+      few = omega arith;
       consumes = subst (λ (bs : List ℕ). Consumes before now bs) (sym (append-nil s.got)) s.consumes;
       taken = ap (λ (r : RoomValue). r.taken) p.5 ∙ s.taken;
       kept = inl refl;
       answers = (short, p.3, inl (lent, sym s.rest ∙ p.4, reads));
       unread = λ e. absurd (cc);
       at_end = λ e. absurd (cc (reads, e));
-      within = subst (λ (k : ℕ). k ≤ MAX_INPUT) (sym (ap (λ (r : RoomValue). r.taken) p.5)) s.most;
+      limit = ap (λ (r : RoomValue). r.most) p.5 ∙ s.limit;
+      within = subst (λ (k : ℕ). k ≤ old.most) (sym (ap (λ (r : RoomValue). r.taken) p.5)) s.most;
       again = rw s.began tt;
       grow = s.grow;
     })
@@ -154,13 +171,15 @@ turn_too_long old room new before now counts later seen s p =
     let stands : new.standing ≡ standing.TooLong = ap (λ (r : RoomValue). r.standing) p.1 in record {
       got = s.got;
       over = [];
+      few = omega arith;
       consumes = subst (λ (bs : List ℕ). Consumes before now bs) (sym (append-nil s.got)) s.consumes;
       taken = ap (λ (r : RoomValue). r.taken) p.1 ∙ s.taken;
       kept = inl refl;
       answers = (subst IsTooLong s.rest p.0, ap (λ (r : RoomValue). r.lent) p.1 ∙ s.lent, stands);
       unread = λ e. absurd (cc);
       at_end = λ e. absurd (cc (stands, e));
-      within = subst (λ (k : ℕ). k ≤ MAX_INPUT) (sym (ap (λ (r : RoomValue). r.taken) p.1)) s.most;
+      limit = ap (λ (r : RoomValue). r.most) p.1 ∙ s.limit;
+      within = subst (λ (k : ℕ). k ≤ old.most) (sym (ap (λ (r : RoomValue). r.taken) p.1)) s.most;
       again = rw s.began tt;
       grow = s.grow;
     }
@@ -186,7 +205,8 @@ seeking_on old room opened new before now after counts mid later seen n k s p r 
       within = omega (arith, size, p.1);
       clear = subst (λ (bs : List ℕ). ¬ Contains bs 10) (sym front) p.0.1;
       grow = grows_on counts mid later s.grow r.6;
-      most = subst (λ (k : ℕ). k ≤ MAX_INPUT) (sym bounded) r.3;
+      limit = ap (λ (v : RoomValue). v.most) came ∙ s.limit;
+      most = omega (arith, bounded, r.3, ap (λ (v : RoomValue). v.most) p.2, s.limit);
       began = s.began;
     }
 
@@ -203,11 +223,12 @@ turn_unreadable old room opened mid new before now after counts midway later see
     let there : opened.taken ≡ room.taken = ap (λ (v : RoomValue). v.taken) p.2 in record {
       got = s.got;
       over = r.0;
+      few = r.5;
       consumes = Consumes-more before now after s.got r.0 s.consumes r.1;
       taken = taken ∙ s.taken;
       kept = elim (r.2) [
         | inl w ↦ inl w.1
-        | inr w ↦ inr (refl, taken ∙ sym there ∙ w.1)
+        | inr w ↦ inr (refl, taken ∙ sym there ∙ w.1 ∙ ap (λ (v : RoomValue). v.most) p.2 ∙ s.limit)
       ];
       answers = (subst IsOpen s.rest p.0, ap (λ (v : RoomValue). v.lent) is ∙ ap (λ (v : RoomValue). v.lent) same ∙ s.lent, stands);
       unread = λ e. inr (elim (r.2) [
@@ -215,7 +236,8 @@ turn_unreadable old room opened mid new before now after counts midway later see
         | inr w ↦ inl w.0
       ]);
       at_end = λ e. absurd (cc (stands, e));
-      within = subst (λ (k : ℕ). k ≤ MAX_INPUT) (sym taken) s.most;
+      limit = ap (λ (v : RoomValue). v.most) is ∙ ap (λ (v : RoomValue). v.most) same ∙ s.limit;
+      within = subst (λ (k : ℕ). k ≤ old.most) (sym taken) s.most;
       again = rw s.began tt;
       grow = grows_on counts midway later s.grow r.4;
     }
@@ -230,13 +252,15 @@ turn_unheld old room opened mid before now after counts midway later seen n s p 
     let stands : mid.standing ≡ standing.Reading = ap (λ (v : RoomValue). v.standing) same ∙ s.standing in record {
       got = s.got;
       over = [];
+      few = omega arith;
       consumes = subst (λ (bs : List ℕ). Consumes before after bs) (sym (append-nil s.got)) (Consumes-kept before now after s.got s.consumes r.0);
       taken = ap (λ (v : RoomValue). v.taken) same ∙ s.taken;
       kept = inl refl;
-      answers = (ap (λ (v : RoomValue). v.rest) same ∙ s.rest, ap (λ (v : RoomValue). v.lent) same ∙ s.lent, stands);
+      answers = (ap (λ (v : RoomValue). v.rest) same ∙ s.rest, ap (λ (v : RoomValue). v.lent) same ∙ s.lent, stands, subst IsOpen s.rest p.0);
       unread = λ e. absurd (cc);
       at_end = λ e. absurd (cc (stands, e));
-      within = subst (λ (k : ℕ). k ≤ MAX_INPUT) (sym (ap (λ (v : RoomValue). v.taken) same)) s.most;
+      limit = ap (λ (v : RoomValue). v.most) same ∙ s.limit;
+      within = subst (λ (k : ℕ). k ≤ old.most) (sym (ap (λ (v : RoomValue). v.taken) same)) s.most;
       again = rw s.began tt;
       grow = subst (λ (c : Counts). GrowTo counts c) (sym r.2) s.grow;
     }
@@ -246,11 +270,12 @@ empty_is [] h = refl
 empty_is (x ∷ xs) h = absurd (omega (arith, h))
 
 -- Closing old before after s.got room new: at the end the room handed out all it held
-record Closing (before after : Option (List ℕ)) (counts later : Counts) (got rest : List ℕ) (taken : ℕ) (new : RoomValue) : Type 0 where
+record Closing (before after : Option (List ℕ)) (counts later : Counts) (got rest : List ℕ) (taken most : ℕ) (new : RoomValue) : Type 0 where
   pub consumes : Consumes before after (got ++ [])
   pub lent : new.lent ≡ rest
   pub none : new.rest ≡ []
   pub taken_so : new.taken ≡ taken
+  pub limit_so : new.most ≡ most
   pub stands : new.standing ≡ standing.Ended
   pub at_end : IsAtEnd after
   pub grow : GrowTo counts later
@@ -258,7 +283,7 @@ record Closing (before after : Option (List ℕ)) (counts later : Counts) (got r
 closing : (old room opened mid out new : RoomValue) (before now after : Option (List ℕ)) (counts midway later : Counts) (seen n k : ℕ)
     (s : IsSeeking old before now counts midway room seen) → HandsFirst room (first.Open n) opened
     → ReadsMore opened now after midway later (Ok k) mid → k ≡ 0 → out ≡ handed_out n mid → new ≡ with_standing standing.Ended out
-    → Closing before after counts later s.got room.rest room.taken new
+    → Closing before after counts later s.got room.rest room.taken room.most new
 closing old room opened mid out new before now after counts midway later seen n k s p r none handed is =
     let nothing : r.0 ≡ [] = empty_is r.0 (sym r.1 ∙ none) in
     let came : mid ≡ with_bytes room r.0 = r.5 ∙ ap (λ (v : RoomValue). with_bytes v r.0) p.2 in
@@ -272,6 +297,7 @@ closing old room opened mid out new before now after counts midway later seen n 
       lent = ap (λ (v : RoomValue). v.lent) is ∙ ap (λ (v : RoomValue). v.lent) handed ∙ ap (take n) rest ∙ take_all n room.rest size;
       none = ap (λ (v : RoomValue). v.rest) is ∙ ap (λ (v : RoomValue). v.rest) handed ∙ ap (drop n) rest ∙ drop_all n room.rest size;
       taken_so = through ∙ taken;
+      limit_so = ap (λ (v : RoomValue). v.most) is ∙ ap (λ (v : RoomValue). v.most) handed ∙ ap (λ (v : RoomValue). v.most) came;
       stands = ap (λ (v : RoomValue). v.standing) is;
       at_end = r.4 none;
       grow = grows_on counts midway later s.grow r.6;
@@ -287,13 +313,15 @@ turn_none old room opened mid out new before now after counts midway later seen 
     let empty : room.rest ≡ [] = empty_is room.rest (sym p.1 ∙ no_bytes) in record {
       got = s.got;
       over = [];
+      few = omega arith;
       consumes = e.consumes;
       taken = e.taken_so ∙ s.taken;
       kept = inl refl;
       answers = (sym s.rest ∙ empty, e.none, e.lent ∙ empty, e.stands);
       unread = λ h. absurd (cc);
       at_end = λ h. inr e.at_end;
-      within = subst (λ (k : ℕ). k ≤ MAX_INPUT) (sym e.taken_so) s.most;
+      limit = e.limit_so ∙ s.limit;
+      within = subst (λ (k : ℕ). k ≤ old.most) (sym e.taken_so) s.most;
       again = rw s.began tt;
       grow = e.grow;
     }
@@ -310,13 +338,15 @@ turn_last old room opened mid out new before now after counts midway later seen 
     rw line (record {
       got = s.got;
       over = [];
+      few = omega arith;
       consumes = e.consumes;
       taken = e.taken_so ∙ s.taken;
       kept = inl refl;
       answers = (p.0.0, p.0.1, inr (e.lent, sym s.rest, size, e.none, e.stands));
       unread = λ h. absurd (cc);
       at_end = λ h. inr e.at_end;
-      within = subst (λ (k : ℕ). k ≤ MAX_INPUT) (sym e.taken_so) s.most;
+      limit = e.limit_so ∙ s.limit;
+      within = subst (λ (k : ℕ). k ≤ old.most) (sym e.taken_so) s.most;
       again = rw s.began tt;
       grow = e.grow;
     })

@@ -7,7 +7,6 @@ use Rattle.nb_names.specs.Devices.{ShowsUnread}
 use Rattle.nb_names.specs.DeviceFacts.{Appends-more, Appends-kept}
 use Rattle.nb_names.specs.LineFacts.{any_cut}
 use Rattle.nb_names.specs.Lines.{CutInto, rest, line, with_rest}
-use Rattle.nb_names.specs.declared.limits.TheConstants.{MAX_INPUT}
 use Rattle.nb_member.specs.declared.event.Event.{Event}
 use Rattle.nb_member.specs.declared.line_read_fault.LineReadFault.TheVariants as fault
 use Rattle.nb_member.specs.declared.replay_fault.ReplayFault.{ReplayFault}
@@ -39,16 +38,16 @@ stays : (m : MemberValue) (L : List Timed) (done : List (List ℕ)) (text : List
 stays m L done text new newer t same = subst (λ (x : MemberValue). SoFar m L done text x) (sym same) t
 
 -- the replay stopped after these lines, nothing of the next one's report being written
-stops_after : (m : MemberValue) (H : List Event) (s : Stands m H) (came : List ℕ) (left : Option (List ℕ)) (before after : Option (List ℕ))
+stops_after : (most : ℕ) (m : MemberValue) (H : List Event) (s : Stands m H) (came : List ℕ) (left : Option (List ℕ)) (before after : Option (List ℕ))
     (done more : List (List ℕ)) (text : List ℕ) (new : MemberValue) → SoFar m (live m.settings s.sayings) done text new
-    → new.settings ≡ m.settings → Appends before after text → AreLines came left (done ++ more)
-    → Stops m H (live m.settings s.sayings) came left new before after
-stops_after m H s came left before after done more text new t same written are = record {
+    → new.settings ≡ m.settings → Appends before after text → AreLines most came left (done ++ more)
+    → Stops most m H (live m.settings s.sayings) came left new before after
+stops_after most m H s came left before after done more text new t same written are = record {
   ready = done;
   last = [];
   more = more;
   at_most_one = omega arith;
-  are_lines = subst (λ (ls : List (List ℕ)). AreLines came left (ls ++ more)) (sym (append-nil done)) are;
+  are_lines = subst (λ (ls : List (List ℕ)). AreLines most came left (ls ++ more)) (sym (append-nil done)) are;
   others = t.events;
   report = text;
   reported = report_of m (live m.settings s.sayings) done text new t;
@@ -62,17 +61,17 @@ stops_after m H s came left before after done more text new t same written are =
 }
 
 -- the replay stopped at this line, a front of whose report is written
-stops_within : (m : MemberValue) (H : List Event) (s : Stands m H) (came : List ℕ) (left : Option (List ℕ)) (before after : Option (List ℕ))
+stops_within : (most : ℕ) (m : MemberValue) (H : List Event) (s : Stands m H) (came : List ℕ) (left : Option (List ℕ)) (before after : Option (List ℕ))
     (done more : List (List ℕ)) (l : List ℕ) (text front later : List ℕ) (new newer : MemberValue)
     → SoFar m (live m.settings s.sayings) done text new → SoFar m (live m.settings s.sayings) (done ++ l ∷ []) (text ++ (front ++ later)) newer
-    → newer.settings ≡ m.settings → Appends before after (text ++ front) → AreLines came left (done ++ l ∷ more)
-    → Stops m H (live m.settings s.sayings) came left newer before after
-stops_within m H s came left before after done more l text front later new newer t u same written are = record {
+    → newer.settings ≡ m.settings → Appends before after (text ++ front) → AreLines most came left (done ++ l ∷ more)
+    → Stops most m H (live m.settings s.sayings) came left newer before after
+stops_within most m H s came left before after done more l text front later new newer t u same written are = record {
   ready = done;
   last = l ∷ [];
   more = more;
   at_most_one = omega arith;
-  are_lines = subst (λ (ls : List (List ℕ)). AreLines came left ls) (sym (append_assoc done (l ∷ []) more)) are;
+  are_lines = subst (λ (ls : List (List ℕ)). AreLines most came left ls) (sym (append_assoc done (l ∷ []) more)) are;
   others = t.events;
   report = text;
   reported = report_of m (live m.settings s.sayings) done text new t;
@@ -84,71 +83,71 @@ stops_within m H s came left before after done more l text front later new newer
 }
 
 -- the replay ended at this line
-pub ends_at : (m : MemberValue) (H : List Event) (s : Stands m H) (came : List ℕ) (left : Option (List ℕ)) (before mid after : Option (List ℕ))
+pub ends_at : (most : ℕ) (m : MemberValue) (H : List Event) (s : Stands m H) (came : List ℕ) (left : Option (List ℕ)) (before mid after : Option (List ℕ))
     (done more : List (List ℕ)) (l text : List ℕ) (new newer : MemberValue) (number : ℕ)
     (t : SoFar m (live m.settings s.sayings) done text new) → KeepsStation m new
-    → newer.settings ≡ m.settings → Appends before mid text → number ≡ length done + 1 → AreLines came left (done ++ l ∷ more)
+    → newer.settings ≡ m.settings → Appends before mid text → number ≡ length done + 1 → AreLines most came left (done ++ l ∷ more)
     → (fault : ReplayFault)
     → HasNoWholeReport new (live_from m.settings (live m.settings s.sayings) t.sayings) number l newer mid after fault
-    → Replays m H (live m.settings s.sayings) came left newer before after (Err fault)
-ends_at m H s came left before mid after done more l text new newer number t same still written at are (Line k) p =
+    → Replays most m H (live m.settings s.sayings) came left newer before after (Err fault)
+ends_at most m H s came left before mid after done more l text new newer number t same still written at are (Line k) p =
     let u = stays m (live m.settings s.sayings) done text new newer t p.2 in (
       done,
       ended done more l are p.1,
       p.0 ∙ at,
       writes m H s before after done text newer u still (Appends-kept before mid after text written p.3),
     )
-ends_at m H s came left before mid after done more l text new newer number t same still written at are Read p = absurd p
-ends_at m H s came left before mid after done more l text new newer number t same still written at are Write p =
+ends_at most m H s came left before mid after done more l text new newer number t same still written at are Read p = absurd p
+ends_at most m H s came left before mid after done more l text new newer number t same still written at are Write p =
     let front = take p.front.0 p.text in
     let later = drop p.front.0 p.text in
     let u = with_line m (live m.settings s.sayings) done l text new newer t same number at p.text p.acted in
-    stops_within m H s came left before after done more l text front later new newer t
+    stops_within most m H s came left before after done more l text front later new newer t
     (subst (λ (bs : List ℕ). SoFar m (live m.settings s.sayings) (done ++ l ∷ []) (text ++ bs) newer) (sym (take-append-drop p.front.0 p.text)) u)
     still (Appends-more before mid after text front written p.front.2) are
-ends_at m H s came left before mid after done more l text new newer number t same still written at are NoMemory p =
+ends_at most m H s came left before mid after done more l text new newer number t same still written at are NoMemory p =
     elim (p.0) [
       | inl stayed ↦
-          stops_after m H s came left before after done (l ∷ more) text newer
+          stops_after most m H s came left before after done (l ∷ more) text newer
           (stays m (live m.settings s.sayings) done text new newer t stayed) still
           (Appends-kept before mid after text written p.1) are
       | inr acted ↦
-          stops_within m H s came left before after done more l text [] acted.0 new newer t
+          stops_within most m H s came left before after done more l text [] acted.0 new newer t
           (with_line m (live m.settings s.sayings) done l text new newer t same number at acted.0 acted.1)
           still (subst (λ (bs : List ℕ). Appends before after bs) (sym (append-nil text)) (Appends-kept before mid after text written p.1)) are
     ]
 
 -- ---- the lines among the bytes that came
 
--- EndsReplay m first left counts later new before after result: what a replay says of the bytes that it took
-abbrev pub EndsReplay : MemberValue → Option (List ℕ) → Option (List ℕ) → Counts → Counts → MemberValue
+-- EndsReplay most m first left counts later new before after result: what a replay says of the bytes that it took
+abbrev pub EndsReplay : ℕ → MemberValue → Option (List ℕ) → Option (List ℕ) → Counts → Counts → MemberValue
     → Option (List ℕ) → Option (List ℕ) → Result ℕ ReplayFault → Type 0
-EndsReplay m first left counts later new before after result =
+EndsReplay most m first left counts later new before after result =
     (bytes : List ℕ) × Consumes first left bytes
-    × ((result ≡ Err Read → ShowsUnread bytes counts later)
-    × ((H : List Event) (s : Stands m H) → Replays m H (live m.settings s.sayings) bytes left new before after result))
+    × ((result ≡ Err Read → ShowsUnread most bytes counts later)
+    × ((H : List Event) (s : Stands m H) → Replays most m H (live m.settings s.sayings) bytes left new before after result))
 
 -- all the bytes are looked at where they are no more than the limit
-all_looked_at : (bytes : List ℕ) → length bytes ≤ MAX_INPUT → looked_at bytes ≡ bytes
-all_looked_at bytes within = take_all MAX_INPUT bytes within
+all_looked_at : (most : ℕ) (bytes : List ℕ) → length bytes ≤ most → looked_at most bytes ≡ bytes
+all_looked_at most bytes within = take_all most bytes within
 
 -- the lines that were handed out, and those among what is held
-record LinesHeld (bytes : List ℕ) (left : Option (List ℕ)) (acted : List (List ℕ)) : Type 0 where
+record LinesHeld (most : ℕ) (bytes : List ℕ) (left : Option (List ℕ)) (acted : List (List ℕ)) : Type 0 where
   pub more : List (List ℕ)
-  pub are : AreLines bytes left (acted ++ more)
+  pub are : AreLines most bytes left (acted ++ more)
 
-lines_held : (first now : Option (List ℕ)) (counts later : Counts) (room : RoomValue) (lines : List (List ℕ)) (last : List ℕ)
-    (h : HandedOut first now counts later room lines last) → LinesHeld (h.passed ++ room.rest) now (with_rest lines last)
-lines_held first now counts later room lines last h =
-    let within : length (h.passed ++ room.rest) ≤ MAX_INPUT = omega (arith, h.within, h.taken) in
-    let all = all_looked_at (h.passed ++ room.rest) within in
+lines_held : (most : ℕ) (first now : Option (List ℕ)) (counts later : Counts) (room : RoomValue) (lines : List (List ℕ)) (last : List ℕ)
+    (h : HandedOut most first now counts later room lines last) → LinesHeld most (h.passed ++ room.rest) now (with_rest lines last)
+lines_held most first now counts later room lines last h =
+    let within : length (h.passed ++ room.rest) ≤ most = omega (arith, h.within, h.taken) in
+    let all = all_looked_at most (h.passed ++ room.rest) within in
     elim (h.stands) [
       | inl reading ↦
           let held = any_cut room.rest in
           let acted : lines ≡ with_rest lines last = ap (with_rest lines) (sym reading.1) in
           record {
             more = held.lines;
-            are = subst (λ (ls : List (List ℕ)). AreLines (h.passed ++ room.rest) now (ls ++ held.lines)) acted
+            are = subst (λ (ls : List (List ℕ)). AreLines most (h.passed ++ room.rest) now (ls ++ held.lines)) acted
                 (finished (lines ++ held.lines) held.left
                 (subst (λ (bs : List ℕ). CutInto bs (lines ++ held.lines) held.left) (sym all)
                 (cut_both h.passed room.rest lines held.lines last held.left reading.1 h.cut held.cut)));
@@ -157,7 +156,7 @@ lines_held first now counts later room lines last h =
           let front : h.passed ++ room.rest ≡ h.passed = ap (λ (bs : List ℕ). h.passed ++ bs) stopped.1 ∙ append-nil h.passed in
           record {
             more = [];
-            are = subst (λ (ls : List (List ℕ)). AreLines (h.passed ++ room.rest) now ls) (sym (append-nil (with_rest lines last)))
+            are = subst (λ (ls : List (List ℕ)). AreLines most (h.passed ++ room.rest) now ls) (sym (append-nil (with_rest lines last)))
                 (whole lines last (subst (λ (bs : List ℕ). CutInto bs lines last) (sym (all ∙ front)) h.cut)
                 (record { at_end = stopped.2; within = within }));
           }
@@ -169,21 +168,21 @@ plus_one n k same = ap (λ (x : ℕ). x + 1) same
 -- ---- how the loop ends
 
 -- the replay ended at a line
-pub ends_at_line : (m : MemberValue) (first now next : Option (List ℕ)) (counts_in later_in after_in : Counts)
+pub ends_at_line : (most : ℕ) (m : MemberValue) (first now next : Option (List ℕ)) (counts_in later_in after_in : Counts)
     (before mid after : Option (List ℕ)) (old counts : Counts) (room left : RoomValue) (l : List ℕ)
     (number : ℕ) (new newer : MemberValue) (fault : ReplayFault)
-    → IsReplaying m first now counts_in later_in before mid old counts room number new
+    → IsReplaying most m first now counts_in later_in before mid old counts room number new
     → ReadsLine room now next later_in after_in (Ok (Some l)) left → KeepsStation new newer
     → ((L : List Timed) → StandsOver new L → HasNoWholeReport new L (number + 1) l newer mid after fault)
-    → fault ≢ Read → EndsReplay m first next counts_in after_in newer before after (Err fault)
-ends_at_line m first now next counts_in later_in after_in before mid after old counts room left l number new newer fault t r kept stops unread =
-    let o = handed_more first now next counts_in later_in after_in room left t.lines t.last l t.handed r in
+    → fault ≢ Read → EndsReplay most m first next counts_in after_in newer before after (Err fault)
+ends_at_line most m first now next counts_in later_in after_in before mid after old counts room left l number new newer fault t r kept stops unread =
+    let o = handed_more most first now next counts_in later_in after_in room left t.lines t.last l t.handed r in
     let acted = with_rest t.lines t.last in
-    let held = lines_held first next counts_in after_in left o.lines o.last o.handed in
+    let held = lines_held most first next counts_in after_in left o.lines o.last o.handed in
     let bytes = o.handed.passed ++ left.rest in
-    let are : AreLines bytes next (acted ++ l ∷ held.more) =
-    subst (λ (ls : List (List ℕ)). AreLines bytes next ls) (append_assoc acted (l ∷ []) held.more)
-    (subst (λ (ls : List (List ℕ)). AreLines bytes next (ls ++ held.more)) o.are held.are) in (
+    let are : AreLines most bytes next (acted ++ l ∷ held.more) =
+    subst (λ (ls : List (List ℕ)). AreLines most bytes next ls) (append_assoc acted (l ∷ []) held.more)
+    (subst (λ (ls : List (List ℕ)). AreLines most bytes next (ls ++ held.more)) o.are held.are) in (
       bytes,
       o.handed.consumes,
       (
@@ -191,32 +190,32 @@ ends_at_line m first now next counts_in later_in after_in before mid after old c
         (λ H s.
             let L = live m.settings s.sayings in
             let was = t.turn L s.over in
-            ends_at m H s bytes next before mid after acted held.more l was.text new newer (number + 1) was.so_far
+            ends_at most m H s bytes next before mid after acted held.more l was.text new newer (number + 1) was.so_far
             t.kept (kept.0 ∙ t.kept.0) was.appends (plus_one number (length acted) t.counted) are fault
             (stops (live_from m.settings L was.so_far.sayings) was.so_far.stands)),
       ),
     )
 
-comes_malformed : (bytes : List ℕ) (left : Option (List ℕ)) (passed held : List ℕ) (lines : List (List ℕ))
-    → CutInto passed lines [] → looked_at bytes ≡ passed ++ held → LongFirst held → ComesMalformed bytes left lines
-comes_malformed bytes left passed _ lines before is (open_end held clear long) =
+comes_malformed : (most : ℕ) (bytes : List ℕ) (left : Option (List ℕ)) (passed held : List ℕ) (lines : List (List ℕ))
+    → CutInto passed lines [] → looked_at most bytes ≡ passed ++ held → LongFirst held → ComesMalformed most bytes left lines
+comes_malformed most bytes left passed _ lines before is (open_end held clear long) =
     too_long lines held (subst (λ (bs : List ℕ). CutInto bs lines held) (sym is)
     (subst (λ (ls : List (List ℕ)). CutInto (passed ++ held) ls held) (append-nil lines)
     (cut_both passed held lines [] [] held refl before (rest held clear)))) long
-comes_malformed bytes left passed _ lines before is (with_feed l after clear long) =
+comes_malformed most bytes left passed _ lines before is (with_feed l after clear long) =
     let c = any_cut after in
     ended lines c.lines l (finished (lines ++ l ∷ c.lines) c.left (subst (λ (bs : List ℕ). CutInto bs (lines ++ l ∷ c.lines) c.left) (sym is)
     (cut_both passed (l ++ 10 ∷ after) lines (l ∷ c.lines) [] c.left refl before (line l after c.left c.lines clear c.cut)))) (long_line l long)
 
 -- the next line is too long
-pub ends_too_long : (m : MemberValue) (first now next : Option (List ℕ)) (counts_in later_in after_in : Counts)
+pub ends_too_long : (most : ℕ) (m : MemberValue) (first now next : Option (List ℕ)) (counts_in later_in after_in : Counts)
     (before after : Option (List ℕ)) (old counts : Counts) (room left : RoomValue) (number : ℕ) (new : MemberValue)
-    → IsReplaying m first now counts_in later_in before after old counts room number new
+    → IsReplaying most m first now counts_in later_in before after old counts room number new
     → ReadsLine room now next later_in after_in (Err fault.TooLong) left
-    → EndsReplay m first next counts_in after_in new before after (Err (Line (number + 1)))
-ends_too_long m first now next counts_in later_in after_in before after old counts room left number new t r =
-    let was = was_reading first now counts_in later_in room t.lines t.last (Err fault.TooLong) t.handed r.again (λ e. absurd (cc e)) in
-    let c = came first now next counts_in later_in after_in room left t.lines t.last (Err fault.TooLong) t.handed was.1 r in
+    → EndsReplay most m first next counts_in after_in new before after (Err (Line (number + 1)))
+ends_too_long most m first now next counts_in later_in after_in before after old counts room left number new t r =
+    let was = was_reading most first now counts_in later_in room t.lines t.last (Err fault.TooLong) t.handed r.again (λ e. absurd (cc e)) in
+    let c = came most first now next counts_in later_in after_in room left t.lines t.last (Err fault.TooLong) t.handed was.1 r in
     let none = none_over room now next later_in after_in (Err fault.TooLong) left r (λ e. absurd (cc e)) in
     let held = room.rest ++ r.got in
     let acted : t.lines ≡ with_rest t.lines t.last = ap (with_rest t.lines) (sym was.1) in
@@ -228,9 +227,9 @@ ends_too_long m first now next counts_in later_in after_in before after old coun
         (λ H s.
             let turn = t.turn (live m.settings s.sayings) s.over in (
               with_rest t.lines t.last,
-              subst (λ (ls : List (List ℕ)). ComesMalformed bytes next ls) acted
-                  (comes_malformed bytes next c.passed held t.lines c.cut
-                  (kept_are first next counts_in after_in t.lines held r.over left.taken c (inl none)) (long_first held r.answers.0)),
+              subst (λ (ls : List (List ℕ)). ComesMalformed most bytes next ls) acted
+                  (comes_malformed most bytes next c.passed held t.lines c.cut
+                  (kept_are most first next counts_in after_in t.lines held r.over left.taken c (inl none)) (long_first held r.answers.0)),
               plus_one number (length (with_rest t.lines t.last)) t.counted,
               writes m H s before after (with_rest t.lines t.last) turn.text new turn.so_far t.kept.0 turn.appends,
             )),
@@ -238,18 +237,18 @@ ends_too_long m first now next counts_in later_in after_in before after old coun
     )
 
 -- the input can't be read further
-pub ends_unread : (m : MemberValue) (first now next : Option (List ℕ)) (counts_in later_in after_in : Counts)
+pub ends_unread : (most : ℕ) (m : MemberValue) (first now next : Option (List ℕ)) (counts_in later_in after_in : Counts)
     (before after : Option (List ℕ)) (old counts : Counts) (room left : RoomValue) (number : ℕ) (new : MemberValue)
-    → IsReplaying m first now counts_in later_in before after old counts room number new
+    → IsReplaying most m first now counts_in later_in before after old counts room number new
     → ReadsLine room now next later_in after_in (Err fault.Read) left
-    → EndsReplay m first next counts_in after_in new before after (Err Read)
-ends_unread m first now next counts_in later_in after_in before after old counts room left number new t r =
-    let was = was_reading first now counts_in later_in room t.lines t.last (Err fault.Read) t.handed r.again (λ e. absurd (cc e)) in
-    let c = came first now next counts_in later_in after_in room left t.lines t.last (Err fault.Read) t.handed was.1 r in
+    → EndsReplay most m first next counts_in after_in new before after (Err Read)
+ends_unread most m first now next counts_in later_in after_in before after old counts room left number new t r =
+    let was = was_reading most first now counts_in later_in room t.lines t.last (Err fault.Read) t.handed r.again (λ e. absurd (cc e)) in
+    let c = came most first now next counts_in later_in after_in room left t.lines t.last (Err fault.Read) t.handed was.1 r in
     let held = room.rest ++ r.got in
-    let over : (r.over ≡ []) ⊎ (left.taken ≡ MAX_INPUT) = elim (r.kept) [
+    let over : (r.over ≡ []) ⊎ (left.taken ≡ most) = elim (r.kept) [
       | inl none ↦ inl none
-      | inr full ↦ inr full.1
+      | inr full ↦ inr (full.1 ∙ t.handed.limit)
     ] in
     let acted : t.lines ≡ with_rest t.lines t.last = ap (with_rest t.lines) (sym was.1) in
     let cut : CutInto (c.passed ++ held) t.lines held =
@@ -258,14 +257,14 @@ ends_unread m first now next counts_in later_in after_in before after old counts
       (c.passed ++ held) ++ r.over,
       c.consumes,
       (
-        (λ e. shows_unread first now next counts_in later_in after_in room left t.lines t.last t.handed r c was.0),
+        (λ e. shows_unread most first now next counts_in later_in after_in room left t.lines t.last t.handed r c was.0),
         (λ H s.
             let turn = t.turn (live m.settings s.sayings) s.over in (
               with_rest t.lines t.last,
               held,
-              subst (λ (ls : List (List ℕ)). CutInto (looked_at ((c.passed ++ held) ++ r.over)) ls held) acted
+              subst (λ (ls : List (List ℕ)). CutInto (looked_at most ((c.passed ++ held) ++ r.over)) ls held) acted
                   (subst (λ (bs : List ℕ). CutInto bs t.lines held)
-                  (sym (kept_are first next counts_in after_in t.lines held r.over left.taken c over)) cut),
+                  (sym (kept_are most first next counts_in after_in t.lines held r.over left.taken c over)) cut),
               r.answers.0.0,
               writes m H s before after (with_rest t.lines t.last) turn.text new turn.so_far t.kept.0 turn.appends,
             )),
@@ -273,22 +272,22 @@ ends_unread m first now next counts_in later_in after_in before after old counts
     )
 
 -- there is no memory for the next line
-pub ends_unheld : (m : MemberValue) (first now next : Option (List ℕ)) (counts_in later_in after_in : Counts)
+pub ends_unheld : (most : ℕ) (m : MemberValue) (first now next : Option (List ℕ)) (counts_in later_in after_in : Counts)
     (before after : Option (List ℕ)) (old counts : Counts) (room left : RoomValue) (number : ℕ) (new : MemberValue)
-    → IsReplaying m first now counts_in later_in before after old counts room number new
+    → IsReplaying most m first now counts_in later_in before after old counts room number new
     → ReadsLine room now next later_in after_in (Err fault.NoMemory) left
-    → EndsReplay m first next counts_in after_in new before after (Err NoMemory)
-ends_unheld m first now next counts_in later_in after_in before after old counts room left number new t r =
-    let was = was_reading first now counts_in later_in room t.lines t.last (Err fault.NoMemory) t.handed r.again (λ e. absurd (cc e)) in
-    let c = came first now next counts_in later_in after_in room left t.lines t.last (Err fault.NoMemory) t.handed was.1 r in
+    → EndsReplay most m first next counts_in after_in new before after (Err NoMemory)
+ends_unheld most m first now next counts_in later_in after_in before after old counts room left number new t r =
+    let was = was_reading most first now counts_in later_in room t.lines t.last (Err fault.NoMemory) t.handed r.again (λ e. absurd (cc e)) in
+    let c = came most first now next counts_in later_in after_in room left t.lines t.last (Err fault.NoMemory) t.handed was.1 r in
     let none = none_over room now next later_in after_in (Err fault.NoMemory) left r (λ e. absurd (cc e)) in
     let held = room.rest ++ r.got in
     let cut = any_cut held in
     let acted : t.lines ≡ with_rest t.lines t.last = ap (with_rest t.lines) (sym was.1) in
     let bytes = (c.passed ++ held) ++ r.over in
-    let are : AreLines bytes next (t.lines ++ cut.lines) =
+    let are : AreLines most bytes next (t.lines ++ cut.lines) =
     finished (t.lines ++ cut.lines) cut.left (subst (λ (bs : List ℕ). CutInto bs (t.lines ++ cut.lines) cut.left)
-    (sym (kept_are first next counts_in after_in t.lines held r.over left.taken c (inl none)))
+    (sym (kept_are most first next counts_in after_in t.lines held r.over left.taken c (inl none)))
     (cut_both c.passed held t.lines cut.lines [] cut.left refl c.cut cut.cut)) in (
       bytes,
       c.consumes,
@@ -296,19 +295,19 @@ ends_unheld m first now next counts_in later_in after_in before after old counts
         (λ e. absurd (cc e)),
         (λ H s.
             let turn = t.turn (live m.settings s.sayings) s.over in
-            stops_after m H s bytes next before after (with_rest t.lines t.last) cut.lines turn.text new turn.so_far t.kept.0 turn.appends
-            (subst (λ (ls : List (List ℕ)). AreLines bytes next (ls ++ cut.lines)) acted are)),
+            stops_after most m H s bytes next before after (with_rest t.lines t.last) cut.lines turn.text new turn.so_far t.kept.0 turn.appends
+            (subst (λ (ls : List (List ℕ)). AreLines most bytes next (ls ++ cut.lines)) acted are)),
       ),
     )
 
 -- the input is at its end
-pub ends_at_end : (m : MemberValue) (first now next : Option (List ℕ)) (counts_in later_in after_in : Counts)
+pub ends_at_end : (most : ℕ) (m : MemberValue) (first now next : Option (List ℕ)) (counts_in later_in after_in : Counts)
     (before after : Option (List ℕ)) (old counts : Counts) (room left : RoomValue) (number : ℕ) (new : MemberValue)
-    → IsReplaying m first now counts_in later_in before after old counts room number new
+    → IsReplaying most m first now counts_in later_in before after old counts room number new
     → ReadsLine room now next later_in after_in (Ok None) left
-    → EndsReplay m first next counts_in after_in new before after (Ok number)
-ends_at_end m first now next counts_in later_in after_in before after old counts room left number new t r =
-    let a = handed_all first now next counts_in later_in after_in room left t.lines t.last t.handed r in (
+    → EndsReplay most m first next counts_in after_in new before after (Ok number)
+ends_at_end most m first now next counts_in later_in after_in before after old counts room left number new t r =
+    let a = handed_all most first now next counts_in later_in after_in room left t.lines t.last t.handed r in (
       a.bytes,
       a.consumes,
       (

@@ -20,7 +20,7 @@ use Rattle.nb_member.specs.Member.{MemberValue, StandsOver, Stands}
 use Rattle.nb_member.specs.Report.{ReportOfLine, nothing, passed, taken, tick, ReportOf}
 use Rattle.nb_member.specs.Replaying.{Replayed}
 use Rattle.nb_member.specs.LineReading.{ReadsLine}
-use Rattle.nb_member.specs.LineRoom.{RoomValue, nothing_held}
+use Rattle.nb_member.specs.LineRoom.{RoomValue, nothing_within}
 use Rattle.nb_member.specs.LinesSoFar.{HandedOut, nothing_handed, handed_more, bytes_less}
 
 -- ---- sayings
@@ -134,13 +134,13 @@ pub record Turn (m : MemberValue) (L : List Timed) (before after : Option (List 
   pub so_far : SoFar m L acted text new
   pub appends : Appends before after text
 
--- IsReplaying m first now counts_in later_in before after counts later room number new: so many lines of what was
+-- IsReplaying most m first now counts_in later_in before after counts later room number new: so many lines of what was
 -- read were handed out and acted on, for whatever fragments m stands over, and their report is written
-pub record IsReplaying (m : MemberValue) (first now : Option (List ℕ)) (counts_in later_in : Counts)
+pub record IsReplaying (most : ℕ) (m : MemberValue) (first now : Option (List ℕ)) (counts_in later_in : Counts)
     (before after : Option (List ℕ)) (counts later : Counts) (room : RoomValue) (number : ℕ) (new : MemberValue) : Type 0 where
   pub lines : List (List ℕ)
   pub last : List ℕ
-  pub handed : HandedOut first now counts_in later_in room lines last
+  pub handed : HandedOut most first now counts_in later_in room lines last
   pub counted : number ≡ length (with_rest lines last)
   pub within : number + length room.rest ≤ room.taken
   pub turn : (L : List Timed) → StandsOver m L → Turn m L before after (with_rest lines last) new
@@ -157,12 +157,12 @@ nothing_yet m L s = record {
 }
 
 -- before the first line
-pub first_turn : (m : MemberValue) (known before : Option (List ℕ)) (counts_in counts : Counts) (room : RoomValue) → room ≡ nothing_held
-    → IsReplaying m known known counts_in counts_in before before counts counts room 0 m
-first_turn m known before counts_in counts room is = record {
+pub first_turn : (most : ℕ) (m : MemberValue) (known before : Option (List ℕ)) (counts_in counts : Counts) (room : RoomValue) → room ≡ nothing_within most
+    → IsReplaying most m known known counts_in counts_in before before counts counts room 0 m
+first_turn most m known before counts_in counts room is = record {
   lines = [];
   last = [];
-  handed = nothing_handed known counts_in room is;
+  handed = nothing_handed most known counts_in room is;
   counted = refl;
   within = rw is (omega arith);
   turn = λ L s. record { text = []; so_far = nothing_yet m L s; appends = Appends-nil before };
@@ -184,14 +184,14 @@ turn_more m L before mid after acted l number new newer s t kept counted w =
     }
 
 -- after one more line
-pub next_turn : (m : MemberValue) (first now next : Option (List ℕ)) (counts_in later_in after_in : Counts)
+pub next_turn : (most : ℕ) (m : MemberValue) (first now next : Option (List ℕ)) (counts_in later_in after_in : Counts)
     (before mid after : Option (List ℕ)) (old counts later : Counts) (room left : RoomValue) (l : List ℕ)
-    (number : ℕ) (new newer : MemberValue) → IsReplaying m first now counts_in later_in before mid old counts room number new
+    (number : ℕ) (new newer : MemberValue) → IsReplaying most m first now counts_in later_in before mid old counts room number new
     → ReadsLine room now next later_in after_in (Ok (Some l)) left → KeepsStation new newer → GrowTo counts later
     → ((L : List Timed) → StandsOver new L → WritesLine new L (number + 1) l newer mid after)
-    → IsReplaying m first next counts_in after_in before after old later left (number + 1) newer
-next_turn m first now next counts_in later_in after_in before mid after old counts later room left l number new newer t r kept grow w =
-    let o = handed_more first now next counts_in later_in after_in room left t.lines t.last l t.handed r in
+    → IsReplaying most m first next counts_in after_in before after old later left (number + 1) newer
+next_turn most m first now next counts_in later_in after_in before mid after old counts later room left l number new newer t r kept grow w =
+    let o = handed_more most first now next counts_in later_in after_in room left t.lines t.last l t.handed r in
     let size : length (with_rest t.lines t.last ++ l ∷ []) ≡ length (with_rest t.lines t.last) + 1 =
     length-append (with_rest t.lines t.last) (l ∷ []) in record {
       lines = o.lines;

@@ -30,7 +30,7 @@ use Rattle.nb_member.specs.Hearing.{hears}
 use Rattle.nb_member.specs.Events.{Saying, came, refused, another, clock, Says, tick}
 use Rattle.nb_member.specs.Live.{Timed, is_full, is_source_full, HasRoom, live_after, live_from}
 use Rattle.nb_member.specs.Member.{MemberValue, StandsOver, with_timed, after_clock}
-use Rattle.nb_member.specs.Running.{refused_count, StopsAt, StopsBefore, Runs}
+use Rattle.nb_member.specs.Running.{IsLeft, IsPayload, refused_count, StopsAt, StopsBefore, Runs}
 use Rattle.nb_member.specs.Code.RunEvents.{noted, stop_of, HandedOut, HasTaken, RunsEvent}
 
 -- ---- what is known of a step
@@ -339,29 +339,35 @@ all_taken m events i new out n report so_far h is =
     take_all i events h ∙ sym (take_all (length events) events (omega arith)) in
     subst (λ (r : RunReport). Runs m events new r) (sym is)
     (runs_from m events new (record { deliveries = out.deliveries; errors = out.errors; taken = length events; refused = n; stop = None })
-    so_far.kept.0 so_far.kept.1 (omega arith) (λ L s. (
+    so_far.kept.0 so_far.kept.1 (omega arith)
+    (subst (λ (F : List Event). IsLeft F None) (sym (drop_of_length-le events (omega arith))) tt) (λ L s. (
       subst (λ (E : List Event). RanOver m L E new out.deliveries out.errors n) same (so_far.ran L s),
       none_left m.settings _ (drop (length events) events) (drop_of_length-le events (omega arith)),
     )))
+
+-- the events from a place on
+rest_is : (events : List Event) (i : ℕ) (event : Event) → i < length events → event ≡ get_or events i event
+    → drop i events ≡ event ∷ drop (suc i) events
+rest_is events i event h is = drop-cons events i event h ∙ ap (λ (x : Event). x ∷ drop (suc i) events) (sym is)
 
 -- where a run stops before an event
 stop_is : (settings : Settings) (M : List Timed) (events : List Event) (i : ℕ) (event : Event) (stop : RunStop)
     → i < length events → event ≡ get_or events i event → StopsAt settings M event stop
     → StopsBefore settings M (drop i events) (Some stop)
 stop_is settings M events i event stop h is s =
-    subst (λ (E : List Event). StopsBefore settings M E (Some stop))
-    (sym (drop-cons events i event h ∙ ap (λ (x : Event). x ∷ drop (suc i) events) (sym is))) s
+    subst (λ (E : List Event). StopsBefore settings M E (Some stop)) (sym (rest_is events i event h is)) s
 
 pub stopped_at : (m : MemberValue) (events : List Event) (i : ℕ) (event : Event) (old new : MemberValue)
     (before after : HandedOut) (n : ℕ) (stop : RunStop) (report : RunReport) → i < length events
     → event ≡ get_or events i event → RunSoFar m events i old before n → KeepsStation old new
-    → ((M : List Timed) → StandsOver old M → RunsEvent old M event new before after (Err stop))
+    → ((M : List Timed) → StandsOver old M → RunsEvent old M event new before after (Err stop)) → IsPayload event
     → report ≡ record { deliveries = after.deliveries; errors = after.errors; taken = i; refused = n; stop = Some stop }
     → Runs m events new report
-stopped_at m events i event old new before after n stop report h is so_far kept step reported =
+stopped_at m events i event old new before after n stop report h is so_far kept step payload reported =
     subst (λ (r : RunReport). Runs m events new r) (sym reported)
     (runs_from m events new (record { deliveries = after.deliveries; errors = after.errors; taken = i; refused = n; stop = Some stop })
-    (kept.0 ∙ so_far.kept.0) (kept.1 ∙ so_far.kept.1) (omega (arith, h)) (λ L s.
+    (kept.0 ∙ so_far.kept.0) (kept.1 ∙ so_far.kept.1) (omega (arith, h))
+    (subst (λ (E : List Event). IsLeft E (Some stop)) (sym (rest_is events i event h is)) payload) (λ L s.
     let r = so_far.ran L s in
     let M = live_from m.settings L r.sayings in
     let t = step M r.over in

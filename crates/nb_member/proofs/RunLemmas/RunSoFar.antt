@@ -15,7 +15,7 @@ use Rattle.nb_member.specs.Hearing.{hears}
 use Rattle.nb_member.specs.Events.{Saying, came, refused, another, clock, Says, Say, none, more}
 use Rattle.nb_member.specs.Live.{Timed, HasRoom, NoneFull, live_after, live_from, live}
 use Rattle.nb_member.specs.Member.{MemberValue, StandsOver, Stands}
-use Rattle.nb_member.specs.Running.{refused_count, StopsBefore, Runs}
+use Rattle.nb_member.specs.Running.{IsLeft, refused_count, StopsBefore, Runs}
 
 -- ---- what two lists of events say, one after the other
 
@@ -144,15 +144,16 @@ stands_after m new H E same h T said over =
 
 -- what a run did over what is live, it did for the events for which the member stands
 pub runs_from : (m : MemberValue) (events : List Event) (new : MemberValue) (report : RunReport)
-    → new.settings ≡ m.settings → new.names ≡ m.names → report.taken ≤ length events
+    → new.settings ≡ m.settings → new.names ≡ m.names → report.taken ≤ length events → IsLeft (drop report.taken events) report.stop
     → (ran : (L : List Timed) → StandsOver m L
     → (r : RanOver m L (take report.taken events) new report.deliveries report.errors report.refused)
     × StopsBefore m.settings (live_from m.settings L r.sayings) (drop report.taken events) report.stop)
     → Runs m events new report
-runs_from m events new report settings names within ran = record {
+runs_from m events new report settings names within left ran = record {
   settings_stay = settings;
   names_stay = names;
   within = within;
+  left = left;
   stands = λ H h.
       let r = ran (live m.settings h.sayings) h.over in
       stands_after m new H (take report.taken events) settings h r.0.sayings r.0.said r.0.over;

@@ -5,7 +5,6 @@ use Rattle.nb_names.specs.Counted.{Counts}
 use Rattle.nb_names.specs.Devices.{GrowTo, ShowsReadFault}
 use Rattle.nb_names.specs.Lines.{IsLine}
 use Rattle.nb_names.specs.declared.device_fault.DeviceFault.{DeviceFault}
-use Rattle.nb_names.specs.declared.limits.TheConstants.{MAX_INPUT}
 use Rattle.nb_member.specs.declared.limits.TheConstants.{MAX_HELD, MAX_LINE}
 use Rattle.nb_member.specs.declared.line_reading.First.{First}
 use Rattle.nb_member.specs.declared.line_reading.First.TheVariants.{Line, TooLong, Open}
@@ -24,30 +23,30 @@ Suits standing.Ended bytes = bytes ≡ []
 Suits standing.Unread bytes = IsOpen bytes
 Suits standing.TooLong bytes = IsTooLong bytes
 
--- IsRoom bytes from start end taken standing: such are the places and numbers of a room
-pub record IsRoom (bytes : List ℕ) (from start end taken : ℕ) (standing : Standing) : Type 0 where
+-- IsRoom bytes from start end taken most standing: such are the places and numbers of a room
+pub record IsRoom (bytes : List ℕ) (from start end taken most : ℕ) (standing : Standing) : Type 0 where
   pub handed_out : from ≤ start
   pub held : start ≤ end
   pub kept : end ≤ length bytes
   pub within : length bytes ≤ MAX_HELD
-  pub looked_at : taken ≤ MAX_INPUT
+  pub looked_at : taken ≤ most
   pub suits : Suits standing (drop start (take end bytes))
 
 -- the room without the line handed out last
 abbrev pub let_go_of : RoomValue → RoomValue
-let_go_of r = record { lent = []; rest = r.rest; taken = r.taken; standing = r.standing }
+let_go_of r = record { lent = []; rest = r.rest; taken = r.taken; most = r.most; standing = r.standing }
 
 -- the room, standing so
 abbrev pub with_standing : Standing → RoomValue → RoomValue
-with_standing s r = record { lent = r.lent; rest = r.rest; taken = r.taken; standing = s }
+with_standing s r = record { lent = r.lent; rest = r.rest; taken = r.taken; most = r.most; standing = s }
 
 -- the room after so many bytes of the rest were handed out
 abbrev pub handed_out : ℕ → RoomValue → RoomValue
-handed_out n r = record { lent = take n r.rest; rest = drop n r.rest; taken = r.taken; standing = r.standing }
+handed_out n r = record { lent = take n r.rest; rest = drop n r.rest; taken = r.taken; most = r.most; standing = r.standing }
 
 -- the room with these bytes more
 abbrev pub with_bytes : RoomValue → List ℕ → RoomValue
-with_bytes r got = record { lent = r.lent; rest = r.rest ++ got; taken = r.taken + length got; standing = r.standing }
+with_bytes r got = record { lent = r.lent; rest = r.rest ++ got; taken = r.taken + length got; most = r.most; standing = r.standing }
 
 -- ---- steps
 
@@ -61,7 +60,7 @@ abbrev pub HandsFirst : RoomValue → First → RoomValue → Type 0
 HandsFirst old (Line n) new =
     (line : List ℕ) × (n ≡ length line) × (n ≤ MAX_LINE) × IsLine line
     × (old.rest ≡ line ++ 10 ∷ new.rest)
-    × (new ≡ record { lent = line ++ 10 ∷ []; rest = new.rest; taken = old.taken; standing = old.standing })
+    × (new ≡ record { lent = line ++ 10 ∷ []; rest = new.rest; taken = old.taken; most = old.most; standing = old.standing })
 HandsFirst old TooLong new = IsTooLong old.rest × (new ≡ with_standing standing.TooLong old)
 HandsFirst old (Open n) new = IsOpen old.rest × (n ≡ length old.rest) × (new ≡ old)
 
@@ -69,12 +68,12 @@ HandsFirst old (Open n) new = IsOpen old.rest × (n ≡ length old.rest) × (new
 -- end; or the input can't be read further, maybe because it gave more bytes than are looked at
 abbrev pub ReadsMore : RoomValue → Option (List ℕ) → Option (List ℕ) → Counts → Counts → Result ℕ LineReadFault → RoomValue → Type 0
 ReadsMore old before left counts later (Ok n) new =
-    (got : List ℕ) × (n ≡ length got) × Consumes before left got × (old.taken + n ≤ MAX_INPUT)
+    (got : List ℕ) × (n ≡ length got) × Consumes before left got × (old.taken + n ≤ old.most)
     × (n ≡ 0 → IsAtEnd left) × (new ≡ with_bytes old got) × GrowTo counts later
 ReadsMore old before left counts later (Err fault.Read) new =
     (over : List ℕ) × Consumes before left over
-    × ((ShowsReadFault counts later × (over ≡ [])) ⊎ ((0 < length over) × (old.taken ≡ MAX_INPUT)))
-    × (new ≡ old) × GrowTo counts later
+    × ((ShowsReadFault counts later × (over ≡ [])) ⊎ ((0 < length over) × (old.taken ≡ old.most)))
+    × (new ≡ old) × GrowTo counts later × (length over ≤ 1)
 ReadsMore old before left counts later (Err fault.NoMemory) new =
     Keeps before left × (new ≡ old) × (later ≡ counts)
 ReadsMore old before left counts later (Err fault.TooLong) new = ⊥

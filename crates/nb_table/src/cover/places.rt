@@ -1,6 +1,6 @@
 //! The bytes that are known of a datagram's data, by place, its end, and the greatest promise.
 ghost use Rattle.std.specs.Option.{option_eq};
-ghost use Rattle.std.specs.Prelude.{◌≡◌, ◌==◌, ◌↔◌, ◌&&◌, ℕ, IfOk, IsTrue, OnOk, OnErr, Some, length};
+ghost use Rattle.std.specs.Prelude.{◌≡◌, ◌==◌, ◌↔◌, ◌&&◌, ℕ, IfOk, IsTrue, OnOk, OnErr, Some, length, None, Ok};
 ghost use Rattle.std.specs.FinMap as maps;
 ghost use Rattle.nb_datagram.specs.Fragment.{core_of};
 ghost use Rattle.nb_table.specs.Cover.{CoversFit, cover_of, covers_agree, covers_together, is_below_end, bytes_lie_below};
@@ -259,7 +259,9 @@ impl Places {
 
     /// The bytes up to the end, in order, if all are known. No memory is taken where one isn't.
     pub(crate) fn whole(&self, alloc: Global) -> Result<Option<Bytes>, NoMemory>
-        ensures { IfOk result (λ bytes. bytes ≡ bytes_to self.now.bytes self.now.end) }
+        ensures value { IfOk result (λ bytes. bytes ≡ bytes_to self.now.bytes self.now.end) }
+        ensures no_memory_needed { bytes_to self.now.bytes self.now.end ≡ None
+            → result ≡ Ok None }
     {
         match self.end {
             Some(end) => self.bytes.bytes_below(alloc, end),

@@ -1,5 +1,5 @@
 //! Bytes by place, kept as runs: places that follow one another.
-ghost use Rattle.std.specs.Prelude.{◌≡◌, ◌↔◌, ◌+◌, ◌++◌, ◌<◌, ℕ, length, IsTrue, IfOk, OnOk, OnErr, Some, true};
+ghost use Rattle.std.specs.Prelude.{◌≡◌, ◌↔◌, ◌+◌, ◌++◌, ◌<◌, ℕ, length, IsTrue, IfOk, OnOk, OnErr, Some, true, None, Ok};
 ghost use Rattle.std.specs.Ordering.{nat_cmp};
 ghost use Rattle.std.specs.List.{list_all};
 ghost use Rattle.std.specs.FinMap as maps;
@@ -154,7 +154,8 @@ impl Runs {
     /// The bytes at the places below the end, in order, if each is covered. No memory is taken
     /// where one isn't.
     pub(crate) fn bytes_below(&self, alloc: Global, end: u32) -> Result<Option<Bytes>, NoMemory>
-        ensures { IfOk result (λ bytes. bytes ≡ map_below self.now end) }
+        ensures value { IfOk result (λ bytes. bytes ≡ map_below self.now end) }
+        ensures no_memory_needed { map_below self.now end ≡ None → result ≡ Ok None }
     {
         match reading::bytes_between(&self.runs, 0, end as usize) {
             Some(bytes) => Ok(Some(Bytes::copy(alloc, bytes)?)),

@@ -1,5 +1,5 @@
 //! Entries that are whole, and their datagrams.
-ghost use Rattle.std.specs.Prelude.{◌≡◌, ◌↔◌, IsTrue, IfOk};
+ghost use Rattle.std.specs.Prelude.{◌≡◌, ◌↔◌, IsTrue, IfOk, None, Ok};
 ghost use Rattle.nb_datagram.specs.declared.limits.TheConstants.{MAX_LENGTH};
 ghost use Rattle.nb_table.specs.Limits.{IsShort};
 ghost use Rattle.nb_table.specs.Whole.{IsWhole};
@@ -24,7 +24,8 @@ impl Entry {
     /// The datagram of the key, if the entry is whole. No memory is taken where it isn't.
     pub(crate) fn datagram_of(&self, alloc: Global, key: Key) -> Result<Option<Datagram>, NoMemory>
         requires { IsShort MAX_LENGTH self.now }
-        ensures { IfOk result (λ datagram. datagram ≡ entry_datagram key self.now) }
+        ensures value { IfOk result (λ datagram. datagram ≡ entry_datagram key self.now) }
+        ensures no_memory_needed { entry_datagram key self.now ≡ None → result ≡ Ok None }
     {
         match &self.facts {
             Some(facts) => facts.datagram_of(alloc, key),

@@ -1,5 +1,5 @@
 //! The facts of two entries that don't contradict each other, united.
-ghost use Rattle.std.specs.Prelude.{◌≡◌, ◌≤◌, ◌&&◌, cond, IfOk, MatchOption, Some, None};
+ghost use Rattle.std.specs.Prelude.{◌≡◌, ◌≤◌, ◌&&◌, cond, IfOk, MatchOption, Some, None, Ok};
 ghost use Rattle.nb_datagram.specs.Fragment.{has_more};
 ghost use Rattle.nb_table.specs.Slot.{Held};
 ghost use Rattle.nb_table.specs.Cover.{bytes_lie_below};
@@ -126,8 +126,11 @@ impl Facts {
     /// The datagram of the key, if the facts are whole. No memory is taken where they aren't.
     pub(crate) fn datagram_of(&self, alloc: Global, key: Key) -> Result<Option<Datagram>, NoMemory>
         requires { AreShort MAX_LENGTH self.now }
-        ensures { IfOk result (λ datagram. datagram
+        ensures value { IfOk result (λ datagram. datagram
             ≡ datagram_with key self.now (bytes_to self.now.cover.bytes self.now.cover.end)) }
+        ensures no_memory_needed {
+            datagram_with key self.now (bytes_to self.now.cover.bytes self.now.cover.end) ≡ None
+            → result ≡ Ok None }
     {
         self.datagram(alloc, key, &self.places)
     }

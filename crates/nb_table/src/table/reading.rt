@@ -1,5 +1,5 @@
 //! What a table knows of a key's datagram.
-ghost use Rattle.std.specs.Prelude.{◌≡◌, IfOk};
+ghost use Rattle.std.specs.Prelude.{◌≡◌, IfOk, None, Ok};
 ghost use Rattle.nb_table.specs.Outline.{outline_at};
 ghost use Rattle.nb_table.specs.Whole.{datagram_at};
 
@@ -28,7 +28,10 @@ impl Table {
     ///
     /// `NoMemory` where memory ran out.
     pub fn datagram(&self, key: &Key) -> Result<Option<Datagram>, NoMemory>
-        ensures { IfOk result (λ datagram. datagram ≡ datagram_at self.now.contents key.now) }
+        ensures value { IfOk result (λ datagram.
+            datagram ≡ datagram_at self.now.contents key.now) }
+        ensures no_memory_needed { datagram_at self.now.contents key.now ≡ None
+            → result ≡ Ok None }
     {
         let _longest = self.longest;
         match self.entries.get(key) {

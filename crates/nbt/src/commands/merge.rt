@@ -1,6 +1,7 @@
 //! `nbt merge`: saved tables, joined.
 ghost use Rattle.std.specs.Prelude.{◌≡◌, ◌≢◌, OnOk, IfErr};
 ghost use Rattle.std.specs.Io.KnownBytes.{Keeps};
+ghost use Rattle.nb_names.specs.declared.limits.TheConstants.{MAX_INPUT};
 ghost use Rattle.nbt.specs.Input.{WasCut};
 ghost use Rattle.nb_names.specs.Devices.{ShowsWriteFault};
 ghost use Rattle.nbt.specs.Printing.{PrintsFront, PrintsLine};
@@ -44,7 +45,7 @@ pub fn run_merge<R: Read, W: Write>(
     ensures fault { IfErr result (MergeStops (IsCapacity matches.now)
         (R.remaining input.old.inner) (R.remaining input.new.inner)) }
     ensures cut { IfErr result (λ fault. fault ≡ Fault.Read →
-        WasCut (R.remaining input.old.inner) (R.remaining input.new.inner)
+        WasCut MAX_INPUT (R.remaining input.old.inner) (R.remaining input.new.inner)
         input.old.counts input.new.counts) }
     ensures why { IfErr result (λ fault. fault ≡ Fault.Write →
         ShowsWriteFault output.old.counts output.new.counts) }

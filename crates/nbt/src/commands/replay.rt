@@ -1,21 +1,22 @@
 //! `nbt replay`: the report of a capture, in a member with names.
-ghost use Rattle.std.specs.Prelude.{◌≡◌, map, Err, OnOk, IfOk, IfErr};
+ghost use Rattle.std.specs.Prelude.{◌≡◌, ℕ, map, Err, OnOk, IfOk, IfErr};
 ghost use Rattle.nb_names.specs.NameText.{IsFaultOf};
 ghost use Rattle.nb_names.specs.Devices.{ShowsWriteFault};
-ghost use Rattle.nbt.specs.Replaying.{AddsEach, AddsName, AreTexts, EndsWith, IsNamesFault, IsRefusedName, IsReplay, IsUnread, ReplaysCapture};
-ghost use Rattle.nbt.specs.Settings.{IsCapacity};
+ghost use Rattle.nbt.specs.Replaying.{AddsEach, AddsName, AreTexts, EndsWith, IsNamesFault, IsRefusedName, IsReplay, ReplaysCapture};
+ghost use Rattle.nbt.specs.Input.{WasCut};
+ghost use Rattle.nbt.specs.Settings.{IsCapacity, IsInputLimit};
 
 use crate::fault::Fault;
 use crate::output::Output;
-use crate::settings::{capacity_of, settings_with};
+use crate::settings::{capacity_of, input_limit_of, settings_with};
 use clap::ArgMatches;
 use nb_member::{AddFault, LocalNames, Member, ReplayFault};
 use nb_names::{Counted, name_from_text};
 use std::alloc::Global;
 use std::io::{Read, Write};
 
-/// `nbt replay [--keys N] [--per-source N] NAME..`: replays the input in a member with these names,
-/// and prints the report. A name that is repeated is passed over.
+/// `nbt replay [--keys N] [--per-source N] [--input-limit BYTES] NAME..`: replays the input in a
+/// member with these names, and prints the report. A name that is repeated is passed over.
 ///
 /// # Errors
 ///
@@ -30,14 +31,16 @@ pub fn run_replay<R: Read, W: Write>(
     input: &mut Counted<R>,
     output: &mut Output<W>,
 ) -> Result<(), Fault>
-    ensures printed { IsReplay (ReplaysCapture (IsCapacity matches.now) (AreTexts matches.now)
+    ensures printed { IsReplay (ReplaysCapture (IsCapacity matches.now)
+        (IsInputLimit matches.now) (AreTexts matches.now)
         (R.remaining input.old.inner) (R.remaining input.new.inner)
         (W.contents output.old.inner) (W.contents output.new.inner))
         (IsCapacity matches.now) (AreTexts matches.now)
         (R.remaining input.old.inner) (R.remaining input.new.inner)
         (W.contents output.old.inner) (W.contents output.new.inner) result }
     ensures cut { IfErr result (λ fault. fault ≡ Fault.Read →
-        IsUnread (R.remaining input.old.inner) (R.remaining input.new.inner)
+        (most : ℕ) × IsInputLimit matches.now most ×
+        WasCut most (R.remaining input.old.inner) (R.remaining input.new.inner)
         input.old.counts input.new.counts) }
     ensures why { IfErr result (λ fault. fault ≡ Fault.Write →
         ShowsWriteFault output.old.counts output.new.counts) }
@@ -48,7 +51,7 @@ pub fn run_replay<R: Read, W: Write>(
     };
     let names = names_of(alloc, words)?;
     let member = Member::new(alloc, settings_with(capacity), names);
-    output.replay(alloc, member, input)
+    output.replay(alloc, member, input, input_limit_of(matches))
 }
 
 /// What the program answers where a replay answers this.

@@ -1,5 +1,5 @@
 //! `nbt save`: what a capture says of datagrams, as a saved table.
-ghost use Rattle.std.specs.Prelude.{◌≡◌, ◌≢◌, ◌⊎◌, IfOk, IfErr, OnOk};
+ghost use Rattle.std.specs.Prelude.{◌≡◌, ℕ, ◌≢◌, ◌⊎◌, IfOk, IfErr, OnOk};
 ghost use Rattle.std.specs.Io.KnownBytes.{Keeps};
 ghost use Rattle.nb_member.specs.Member.{contents};
 ghost use Rattle.nbt.specs.Input.{WasCut};
@@ -8,23 +8,25 @@ ghost use Rattle.nbt.specs.Printing.{PrintsFront, PrintsLine};
 ghost use Rattle.nbt.specs.SaveFaults.{LineStops, PayloadStops, SaidStops, SaveFails, StopsSaving};
 ghost use Rattle.nbt.specs.Saved.{saved_digits};
 ghost use Rattle.nbt.specs.Saving.{SavesCapture, TakesLine, TakesPayload, TakesSaid};
-ghost use Rattle.nbt.specs.Settings.{IsCapacity};
+ghost use Rattle.nbt.specs.Settings.{IsCapacity, IsInputLimit};
 
 use crate::fault::Fault;
-use crate::lines::{said_by, unread_line};
+use crate::lines::said_by;
 use crate::output::Output;
 use crate::saved::print_saved;
-use crate::settings::{Capacity, PORT, capacity_of, settings_with};
+use crate::settings::{Capacity, PORT, capacity_of, input_limit_of, settings_with};
 use clap::ArgMatches;
-use nb_member::{Line, LineRoom, LocalNames, Member, MemberFault, next_from};
+use nb_member::{
+    Line, LineReadFault, LineRoom, LocalNames, Member, MemberFault, next_from,
+};
 use nb_names::Counted;
 use nb_table::TableFault;
 use std::alloc::Global;
 use std::io::{Read, Write};
 
-/// `nbt save [--keys N] [--per-source N]`: takes the payloads of port 138 and sets the clock at the
-/// ticks, each line of the input as it comes, in a member without names, and prints the member's
-/// table in hexadecimal.
+/// `nbt save [--keys N] [--per-source N] [--input-limit BYTES]`: takes the payloads of port 138 and
+/// sets the clock at the ticks, each line of the input as it comes, in a member without names, and
+/// prints the member's table in hexadecimal.
 ///
 /// # Errors
 ///
@@ -39,53 +41,61 @@ pub fn run_save<R: Read, W: Write>(
     input: &mut Counted<R>,
     output: &mut Output<W>,
 ) -> Result<(), Fault>
-    ensures printed { OnOk result (SavesCapture (IsCapacity matches.now)
+    ensures printed { OnOk result (SavesCapture (IsCapacity matches.now) (IsInputLimit matches.now)
         (PrintsLine (W.contents output.old.inner) (W.contents output.new.inner))
         (R.remaining input.old.inner) (R.remaining input.new.inner)) }
     ensures err { IfErr result (λ fault. fault ≢ Fault.Write →
         Keeps (W.contents output.old.inner) (W.contents output.new.inner)) }
     ensures write { IfErr result (λ fault. fault ≡ Fault.Write →
-        SavesCapture (IsCapacity matches.now)
+        SavesCapture (IsCapacity matches.now) (IsInputLimit matches.now)
         (PrintsFront (W.contents output.old.inner) (W.contents output.new.inner))
         (R.remaining input.old.inner) (R.remaining input.new.inner)) }
-    ensures fault { IfErr result (SaveFails (IsCapacity matches.now)
+    ensures fault { IfErr result (SaveFails (IsCapacity matches.now) (IsInputLimit matches.now)
         (R.remaining input.old.inner) (R.remaining input.new.inner)
         input.old.counts input.new.counts) }
     ensures cut { IfErr result (λ fault. fault ≡ Fault.Read →
-        WasCut (R.remaining input.old.inner) (R.remaining input.new.inner)
+        (most : ℕ) × IsInputLimit matches.now most ×
+        WasCut most (R.remaining input.old.inner) (R.remaining input.new.inner)
         input.old.counts input.new.counts) }
     ensures why { IfErr result (λ fault. fault ≡ Fault.Write →
         ShowsWriteFault output.old.counts output.new.counts) }
 {
     let capacity = capacity_of(matches)?;
-    let member = member_after(alloc, capacity, input)?;
+    let member = member_after(alloc, capacity, input_limit_of(matches), input)?;
     print_saved(alloc, member.table(), output)
 }
 
-/// A member without names that may hold so much, after the lines of an input.
+/// A member without names that may hold so much, after the lines of an input of so many bytes at
+/// most.
 fn member_after<R: Read>(
     alloc: Global,
     capacity: Capacity,
+    most: u64,
     input: &mut Counted<R>,
 ) -> Result<Member, Fault>
     ensures took { IfOk result (λ new. SavesCapture (λ given. given ≡ capacity)
+        (λ number. number ≡ most)
         (λ digits. digits ≡ saved_digits (contents new))
         (R.remaining input.old.inner) (R.remaining input.new.inner)) }
     ensures fault { IfErr result (λ fault. fault ≢ Fault.Write) }
     ensures stops { IfErr result (λ fault. (fault ≡ Fault.Memory) ⊎
-        StopsSaving (λ given. given ≡ capacity) (R.remaining input.old.inner)
+        StopsSaving (λ given. given ≡ capacity) (λ number. number ≡ most) (R.remaining input.old.inner)
         (R.remaining input.new.inner) input.old.counts input.new.counts fault) }
 {
     let mut member = Member::new(alloc, settings_with(capacity), LocalNames::new(alloc));
-    let mut room = LineRoom::new(alloc);
-    let mut number = 1;
+    let mut room = LineRoom::within(alloc, most);
+    let mut number = 0;
     'lines: loop {
         match next_from(&mut room, input) {
-            Ok(Some(line)) => take_line(alloc, number, line, &mut member)?,
+            Ok(Some(line)) => {
+                number += 1;
+                take_line(alloc, number, line, &mut member)?;
+            }
             Ok(None) => return Ok(member),
-            Err(fault) => return Err(unread_line(number, fault)),
+            Err(LineReadFault::TooLong) => return Err(Fault::Line(number + 1)),
+            Err(LineReadFault::Read) => return Err(Fault::Read),
+            Err(LineReadFault::NoMemory) => return Err(Fault::Memory),
         }
-        number += 1;
     }
 }
 

@@ -8,14 +8,17 @@ mod session;
 mod texts;
 
 use crate::fault::Fault;
-use crate::lines::{said_by, unread_line};
+use crate::lines::said_by;
 use crate::output::Output;
-use nb_member::{Line, LineRoom, next_from};
+use crate::settings::input_limit_of;
+use clap::ArgMatches;
+use nb_member::{Line, LineReadFault, LineRoom, next_from};
 use nb_names::{Counted, NoMemory};
 use std::alloc::Global;
 use std::io::{Read, Write};
 
-/// `nbt show`: shows the packets of the input in order, each line as it comes.
+/// `nbt show [--input-limit BYTES]`: shows the packets of the input in order, each line as it
+/// comes.
 ///
 /// # Errors
 ///
@@ -24,21 +27,26 @@ use std::io::{Read, Write};
 /// where memory ran out. What stands before it is shown.
 pub fn run_show<R: Read, W: Write>(
     alloc: Global,
+    matches: &ArgMatches<'_>,
     input: &mut Counted<R>,
     output: &mut Output<W>,
 ) -> Result<(), Fault>
     ensures why { IfErr result (λ fault. fault ≡ Fault.Write →
         ShowsWriteFault output.old.counts output.new.counts) }
 {
-    let mut room = LineRoom::new(alloc);
-    let mut number = 1;
+    let mut room = LineRoom::within(alloc, input_limit_of(matches));
+    let mut number = 0;
     'lines: loop {
         match next_from(&mut room, input) {
-            Ok(Some(line)) => show_line(alloc, number, line, output)?,
+            Ok(Some(line)) => {
+                number += 1;
+                show_line(alloc, number, line, output)?;
+            }
             Ok(None) => return Ok(()),
-            Err(fault) => return Err(unread_line(number, fault)),
+            Err(LineReadFault::TooLong) => return Err(Fault::Line(number + 1)),
+            Err(LineReadFault::Read) => return Err(Fault::Read),
+            Err(LineReadFault::NoMemory) => return Err(Fault::Memory),
         }
-        number += 1;
     }
 }
 

@@ -17,7 +17,7 @@ returns-in-Err c =
     stopped_at c.args.member.now c.args.events.now c.loop-index.index c.index-events-index.result c.loop-index.member
     c.take.new.member before after c.loop-index.refused c.in-Err.stop c.into_report.result c.loop-index-test.true
     c.index-events-index.is c.loop-index.invariant c.take.ensures.kept c.in-Err.ensures.step
-    c.into_report.ensures
+    c.in-Err.ensures.payload c.into_report.ensures
 
 pub loop-index-preserved : goal.loop-index-preserved
 loop-index-preserved c =

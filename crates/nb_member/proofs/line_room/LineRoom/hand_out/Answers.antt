@@ -8,4 +8,4 @@ returns c =
     let within : c.args.size ≤ length (drop c.self.inside.start (take c.self.inside.end c.self.inside.bytes.items)) =
     omega (arith, c.requires.within, ap (λ (v : RoomValue). length v.rest) c.self.view_is) in
     let is = handed_out_is c.self.inside.bytes.items c.self.inside.start c.self.inside.end c.args.size c.self.invariant.held c.self.invariant.kept within in
-    rw (← c.self.view_is) (λ i. record { lent = is.0 i; rest = is.1 i; taken = c.self.inside.taken; standing = c.self.inside.standing })
+    rw (← c.self.view_is) (λ i. record { lent = is.0 i; rest = is.1 i; taken = c.self.inside.taken; most = c.self.inside.most; standing = c.self.inside.standing })

@@ -12,4 +12,4 @@ pub returns-clause-datagram : goal.returns-clause-datagram
 returns-clause-datagram c =
     newly_always c.args.key c.args.self.now c.in_ok-datagram.datagram (datagram_of c.args.key (join_entry c.args.self.now c.args.other.now))
     (refutes c.is_whole.result c.is_whole.ensures c.if-is_whole.false)
-    (rw (← c.self.view_is, ← c.other.view_is) (c.in_ok-datagram.ensures ∙ ap (datagram_of c.args.key) c.in_ok-facts.ensures))
+    (rw (← c.self.view_is, ← c.other.view_is) (c.in_ok-datagram.ensures.value ∙ ap (datagram_of c.args.key) c.in_ok-facts.ensures))

@@ -1,4 +1,4 @@
-use Rattle.std.proofs.Common.{◌≤◌, rules, sym, ◌∙◌, ap}
+use Rattle.std.proofs.Common.{◌≤◌, rules, sym, refl, ◌∙◌, ap}
 use Rattle.std.proofs.lemmas.Result.{IfOk-weaker}
 use Rattle.std.specs.Option.{option_and_then}
 use Rattle.std.specs.FinMap as maps
@@ -23,10 +23,17 @@ returns-in-Some c =
     let m = c.self.inside.entries in
     let k = c.args.key.now in
     let found = get_is key_cmp_total m k ∙ sym c.in-Some.ensures.value in
-    rw (← c.self.view_is) (IfOk-weaker c.datagram_of.result _ _ (λ datagram is. is ∙ sym (ap (option_and_then (datagram_of k)) found)) c.datagram_of.ensures)
+    let there = ap (option_and_then (datagram_of k)) found in
+    rw (← c.self.view_is) (record {
+      value = IfOk-weaker c.datagram_of.result _ _ (λ datagram is. is ∙ sym there) c.datagram_of.ensures.value;
+      no_memory_needed = λ none. c.datagram_of.ensures.no_memory_needed (sym there ∙ none);
+    })
 
 pub returns-in-None : goal.returns-in-None
 returns-in-None c =
     let m = c.self.inside.entries in
     let k = c.args.key.now in
-    rw (← c.self.view_is) (sym (ap (option_and_then (datagram_of k)) (get_is key_cmp_total m k ∙ sym c.in-None.ensures.value)))
+    rw (← c.self.view_is) (record {
+      value = sym (ap (option_and_then (datagram_of k)) (get_is key_cmp_total m k ∙ sym c.in-None.ensures.value));
+      no_memory_needed = λ none. refl;
+    })

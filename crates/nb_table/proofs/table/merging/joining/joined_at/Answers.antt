@@ -36,4 +36,4 @@ returns-in_ok-copy-in-None-clause-entry c =
 pub returns-in_ok-copy-in-None-clause-datagram : goal.returns-in_ok-copy-in-None-clause-datagram
 returns-in_ok-copy-in-None-clause-datagram c =
     let none = get_is key_cmp_total c.args.entries.now c.args.key ∙ sym c.in-None.ensures.value in
-    handed_new (maps.from_entries {R = key_cmp} c.args.entries.now.entries) c.args.key c.args.other.now c.in_ok-datagram-in-None.datagram none c.in_ok-datagram-in-None.ensures
+    handed_new (maps.from_entries {R = key_cmp} c.args.entries.now.entries) c.args.key c.args.other.now c.in_ok-datagram-in-None.datagram none c.in_ok-datagram-in-None.ensures.value

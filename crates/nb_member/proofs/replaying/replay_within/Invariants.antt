@@ -1,11 +1,11 @@
 use Rattle.std.proofs.Common.{◌+◌, ◌-◌, length}
 use Rattle.nb_member.proofs.ReplayLemmas.ReplaySoFar.{IsReplaying}
-use Rattle.nb_member.proofs.replaying.replay.Given as goal
+use Rattle.nb_member.proofs.replaying.replay_within.Given as goal
 
 abbrev pub invariant-lines : goal.invariant-lines
 invariant-lines g l =
-    IsReplaying l.fn.member (g.R.Read.remaining l.fn.reader.inner) (g.R.Read.remaining l.reader.inner) l.fn.reader.counts l.reader.counts
+    IsReplaying l.fn.most l.fn.member (g.R.Read.remaining l.fn.reader.inner) (g.R.Read.remaining l.reader.inner) l.fn.reader.counts l.reader.counts
     (g.W.Write.contents l.fn.writer.inner) (g.W.Write.contents l.writer.inner) l.fn.writer.counts l.writer.counts l.room l.number l.member
 
 abbrev pub decreases-lines : goal.decreases-lines
-decreases-lines g l = (16777216 - l.room.taken) + length l.room.rest
+decreases-lines g l = (l.room.most - l.room.taken) + length l.room.rest

@@ -1,0 +1,9 @@
+use Rattle.std.specs.Prelude.{Ok}
+use Rattle.nbt.proofs.CommandShapes.{HasShape, with_arg}
+use Rattle.nbt.proofs.command_line.show_command.Goals as goal
+
+pub returns : goal.returns
+returns c =
+    let show : HasShape (Ok c.described-show.result) _ = record { app = c.described-show.ensures.app; local = c.described-show.ensures.local } in
+    let made = with_arg c.taking.result c.input_limit.result _ show c.taking.ensures c.input_limit.ensures.rule c.input_limit.ensures.local in
+    record { app = made.app; local = made.local }

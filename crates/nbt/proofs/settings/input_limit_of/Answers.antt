@@ -1,0 +1,13 @@
+use Rattle.std.proofs.Common.{sym, subst}
+use Rattle.std.specs.Prelude.{codes}
+use Rattle.std.specs.Str.Parse.{ExplainsUnsignedError, HasUnsignedDigitsIfOk, ParsesUnsigned}
+use Rattle.nbt.specs.Settings.{IsInputLimit}
+use Rattle.nbt.proofs.CapacityGiven.{number_or}
+use Rattle.nbt.proofs.settings.input_limit_of.Goals as goal
+
+pub returns : goal.returns
+returns c =
+    let matches = c.args.matches.now in
+    subst (IsInputLimit matches) (sym c.unwrap_or.ensures)
+    (number_or 64 16777216 (codes "input-limit") (λ text r. ParsesUnsigned 64 10 text r × ExplainsUnsignedError 10 text r × HasUnsignedDigitsIfOk text r) (λ text r read. read.0)
+    matches c.get_one.result c.get_one.ensures.none c.get_one.ensures.value)

@@ -14,12 +14,9 @@ import sys
 import tempfile
 import time
 
+from process_inputs import CAPTURE, COMMANDS, FRED, READING, REPORT, captures
 from process_runs import (HERE, at_terminal, broken_pipe, bytes_of, closed, limited, lines_of, quiet_terminal, rest_of, run,
                           small_pipe, start, starts, wait)
-
-JOE = '20454b45504546434143414341434143414341434143414341434143414341414100'
-FRED = '20454746434546454543414341434143414341434143414341434143414341434100'
-FOUND = b'1 delivered 10.0.0.5:138/0001 group JOE<00> FRED<20> empty\n'
 
 counts = {'passed': 0, 'failed': 0, 'skipped': 0}
 
@@ -48,43 +45,6 @@ def enough(count, wanted, name):
     """Fails where there are fewer cases than stated, or nothing is stated."""
     if not 0 < wanted <= count:
         check(False, f'{name}: {count} cases, of {wanted} at least (tests/counts.txt)')
-
-
-def packet(identifier, flags=2, offset=0, data=''):
-    """A group datagram's packet from JOE<00> to FRED<20>, as digits."""
-    length = (len(JOE) + len(FRED) + len(data)) // 2
-    return f'11{flags:02x}{identifier:04x}0a000005008a{length:04x}{offset:04x}{JOE}{FRED}{data}'
-
-
-# Each command: its words, an input, its status, its output and its errors.
-CAPTURE = f'138 0 {packet(1)}\n138 1 {packet(1)}\ntick 2000\n138 2001 {packet(1)}\n137 2002 00\n138 2003 17\n'.encode()
-REPORT = [FOUND, b'2 kept 10.0.0.5:138/0001\n', b'3 dropped 1\n', b'4' + FOUND[1:], b'5 passed\n',
-          b'6 refused truncated 1\n']
-TABLES = b'4e42543200000000\n4e42543200000000\n'
-SPOILT = b'4e425432000000010a000005008a000100\n'
-COMMANDS = [
-    (['name', 'FRED<20>'], b'', 0, f'{FRED}\n'.encode(), b''),
-    (['name', '--bytes', FRED], b'', 0, b'FRED<20>\n', b''),
-    (['name', 'FRED'], b'', 1, b'', b'nbt: bad text 4\n'),
-    (['build', 'keepalive'], b'', 0, b'139 0 85000000\n', b''),
-    (['build', 'nonsense'], b'', 1, b'', b'nbt: arguments\n'),
-    (['show'], b'tick 1\n139 2 85000000\n', 0, b'1 tick 1\n2 139 keepalive used=4\n', b''),
-    (['show'], b'tick 1\nx\n', 1, b'1 tick 1\n', b'nbt: line 2\n'),
-    (['replay', 'FRED<20>'], CAPTURE, 0, b''.join(REPORT), b''),
-    (['replay', 'FRED<20>'], b'tick 1\nx\n', 1, b'1 dropped 0\n', b'nbt: line 2\n'),
-    (['save'], b'tick 1\n138 0 17\n', 0, b'4e42543200000000\n', b''),
-    (['save'], b'x\n', 1, b'', b'nbt: line 1\n'),
-    (['merge'], TABLES, 0, b'4e42543200000000\n', b''),
-    (['merge'], b'', 1, b'', b'nbt: no tables\n'),
-    (['agree'], TABLES, 0, b'equal\n', b''),
-    (['list'], SPOILT, 0, b'10.0.0.5:138/0001 spoilt\n', b''),
-    (['list'], TABLES + b'\n', 1, b'', b'nbt: line 3\n'),
-    (['agree'], TABLES[:17] + SPOILT, 1, b'different\n', b''),
-    (['agree'], b'x\n', 1, b'', b'nbt: two tables wanted\n'),
-    (['save', '--per-source', '1'], f'138 0 {packet(1)}\n138 0 {packet(2)}\n'.encode(), 1, b'', b'nbt: full source\n'),
-    (['--version'], b'', 0, b'nbt 0.1.0\n', b''),
-]
-READING = [['show'], ['save'], ['replay', 'FRED<20>'], ['merge'], ['list'], ['agree']]
 
 
 def ordinary():
@@ -175,11 +135,6 @@ def is_cut(words, given, pipe, lines, count=0):
     return output == wanted and wait(process) == (3, b'nbt: write\n')
 
 
-def captures(count, data=''):
-    """A capture of first fragments, each of another key."""
-    return b''.join(f'138 0 {packet(it, data=data)}\n'.encode() for it in range(count))
-
-
 def shown_lines():
     """What `nbt show` has for each line of the capture."""
     return run(['show'], CAPTURE)[1].splitlines(keepends=True)
@@ -226,6 +181,21 @@ def stopping_input(words):
         wanted_end = (0, b'') if wanted else (1, b'nbt: line 2\n')
         check(waits and output == report[0] + wanted and wait(process) == wanted_end,
               f'nbt {words[0]}, an input that stops inside a line and goes on with {rest}')
+
+
+def open_inputs():
+    """An input that stays open after a line at which the command ends: it doesn't wait for more."""
+    for words, given, *wanted in [
+            (['show'], b'tick 1\nx\n', 1, b'1 tick 1\n', b'nbt: line 2\n'),
+            (['replay', 'FRED<20>'], b'tick 1\nx\n', 1, b'1 dropped 0\n', b'nbt: line 2\n'),
+            (['save'], b'tick 1\nx\n', 1, b'', b'nbt: line 2\n'),
+            (['save', '--keys', '1'], captures(2), 1, b'', b'nbt: full\n'),
+            (['save', '--per-source', '1'], captures(2), 1, b'', b'nbt: full source\n')]:
+        process = start(words)
+        process.stdin.write(given)
+        output = rest_of(process.stdout)
+        status, errors = wait(process)
+        check([status, output, errors] == wanted, f'nbt {" ".join(words)}, an input that stays open')
 
 
 def halting_inputs():
@@ -394,8 +364,8 @@ def is_told(ended, whole):
     return ended == whole or (status, errors) == (3, b'nbt: memory\n') and whole[1].startswith(output)
 
 
-for part in (ordinary, failing_outputs, closed_reports, cut_reports, inputs, halting_inputs, terminals, full_disks,
-             short_files, short_memory, short_stack):
+for part in (ordinary, failing_outputs, closed_reports, cut_reports, inputs, open_inputs, halting_inputs, terminals,
+             full_disks, short_files, short_memory, short_stack):
     before = sum(counts.values())
     part()
     count = sum(counts.values()) - before

@@ -1,0 +1,46 @@
+"""Packets, captures and commands for tests/process.py."""
+JOE = '20454b45504546434143414341434143414341434143414341434143414341414100'
+FRED = '20454746434546454543414341434143414341434143414341434143414341434100'
+
+
+def packet(identifier, flags=2, offset=0, data=''):
+    """A group datagram's packet from JOE<00> to FRED<20>, as digits."""
+    length = (len(JOE) + len(FRED) + len(data)) // 2
+    return f'11{flags:02x}{identifier:04x}0a000005008a{length:04x}{offset:04x}{JOE}{FRED}{data}'
+
+
+# Each command: its words, an input, its status, its output and its errors.
+FOUND = b'1 delivered 10.0.0.5:138/0001 group JOE<00> FRED<20> empty\n'
+CAPTURE = f'138 0 {packet(1)}\n138 1 {packet(1)}\ntick 2000\n138 2001 {packet(1)}\n137 2002 00\n138 2003 17\n'.encode()
+REPORT = [FOUND, b'2 kept 10.0.0.5:138/0001\n', b'3 dropped 1\n', b'4' + FOUND[1:], b'5 passed\n',
+          b'6 refused truncated 1\n']
+TABLES = b'4e42543200000000\n4e42543200000000\n'
+SPOILT = b'4e425432000000010a000005008a000100\n'
+COMMANDS = [
+    (['name', 'FRED<20>'], b'', 0, f'{FRED}\n'.encode(), b''),
+    (['name', '--bytes', FRED], b'', 0, b'FRED<20>\n', b''),
+    (['name', 'FRED'], b'', 1, b'', b'nbt: bad text 4\n'),
+    (['build', 'keepalive'], b'', 0, b'139 0 85000000\n', b''),
+    (['build', 'nonsense'], b'', 1, b'', b'nbt: arguments\n'),
+    (['show'], b'tick 1\n139 2 85000000\n', 0, b'1 tick 1\n2 139 keepalive used=4\n', b''),
+    (['show'], b'tick 1\nx\n', 1, b'1 tick 1\n', b'nbt: line 2\n'),
+    (['replay', 'FRED<20>'], CAPTURE, 0, b''.join(REPORT), b''),
+    (['replay', 'FRED<20>'], b'tick 1\nx\n', 1, b'1 dropped 0\n', b'nbt: line 2\n'),
+    (['save'], b'tick 1\n138 0 17\n', 0, b'4e42543200000000\n', b''),
+    (['save'], b'x\n', 1, b'', b'nbt: line 1\n'),
+    (['merge'], TABLES, 0, b'4e42543200000000\n', b''),
+    (['merge'], b'', 1, b'', b'nbt: no tables\n'),
+    (['agree'], TABLES, 0, b'equal\n', b''),
+    (['list'], SPOILT, 0, b'10.0.0.5:138/0001 spoilt\n', b''),
+    (['list'], TABLES + b'\n', 1, b'', b'nbt: line 3\n'),
+    (['agree'], TABLES[:17] + SPOILT, 1, b'different\n', b''),
+    (['agree'], b'x\n', 1, b'', b'nbt: two tables wanted\n'),
+    (['save', '--per-source', '1'], f'138 0 {packet(1)}\n138 0 {packet(2)}\n'.encode(), 1, b'', b'nbt: full source\n'),
+    (['--version'], b'', 0, b'nbt 0.1.0\n', b''),
+]
+READING = [['show'], ['save'], ['replay', 'FRED<20>'], ['merge'], ['list'], ['agree']]
+
+
+def captures(count, data=''):
+    """A capture of first fragments, each of another key."""
+    return b''.join(f'138 0 {packet(it, data=data)}\n'.encode() for it in range(count))

@@ -6,7 +6,7 @@ use Rattle.nbt.proofs.SavingTurns.{first_taking, taking_more, stops_at_line, sto
 use Rattle.nbt.proofs.commands.save.member_after.Goals as goal
 
 pub lines-init : goal.lines-init
-lines-init g c = first_taking c.args.most _ c.new-member.result _ _ c.within.result c.within.ensures (cc (c.new-member.ensures, c.settings_with.ensures, c.new.ensures))
+lines-init g c = first_taking c.args.most _ c.new-member.result _ _ c.within-room.result c.within-room.ensures (cc (c.new-member.ensures, c.settings_with.ensures, c.new.ensures))
 
 pub lines-smaller : goal.lines-smaller
 lines-smaller g c =

@@ -1,6 +1,7 @@
 mod CommandShapes
 pub mod AloneWords
 pub mod BuildingTurns
+pub mod ResponseLemmas
 pub mod SavingTurns
 pub mod ReplayingTurns
 pub mod TableTurns

@@ -8,6 +8,7 @@ pub mod CommandLine
 pub mod Lines
 pub mod Settings
 pub mod Building
+pub mod Responses
 pub mod Saved
 pub mod Saving
 pub mod SaveFaults

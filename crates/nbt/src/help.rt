@@ -29,13 +29,14 @@ pub const SHOW_HELP: &str =
 /// The packets that can be built, and how the program ends.
 pub const BUILD_HELP: &str =
     "Port 137: query ID NAME, status ID NAME, registration ID NAME TTL FLAGS ADDRESS, \
-     refresh (the same), release ID NAME{n}FLAGS ADDRESS{n}Port 139: request CALLED CALLING, \
+     refresh (the same), release ID NAME{n}FLAGS ADDRESS, response ID WORD NAME TYPE TTL HEX, a \
+     packet with one answer{n}Port 139: request CALLED CALLING, \
      message HEX, positive, negative CODE, retarget ADDRESS PORT, keepalive{n}Port 138: \
      unique KEY SOURCE DESTINATION HEX MOST, group and broadcast (the same), error KEY CODE, \
-     find KEY NAME,{n}found and missing (the same){n}{n}ID and FLAGS are four hexadecimal \
-     digits, CODE two; TTL, PORT and MOST (bytes of a piece) decimal numbers;{n}KEY is \
+     find KEY NAME,{n}found and missing (the same){n}{n}ID, WORD, TYPE and FLAGS are four \
+     hexadecimal digits, CODE two; TTL, PORT and MOST (bytes of a piece) decimal{n}numbers; KEY is \
      ADDRESS:PORT/ID; ADDRESS four decimal numbers with dots; HEX two digits a byte, or the \
-     word `empty`.{n}Names are as `nbt name` takes them.{n}{n}Example: nbt build --broadcast \
+     word{n}`empty`. Names are as `nbt name` takes them.{n}{n}Example: nbt build --broadcast \
      registration 0002 'FRED<20>' 300000 0000 10.0.0.5{n}{n}Exit status: 0 all was done, 1 \
      an argument was refused, 2 the command line was bad, 3 a device failed or{n}memory ran \
      out. With 1 and 3 one line, `nbt: ` and the reason, goes to standard error.";

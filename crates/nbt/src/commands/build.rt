@@ -7,6 +7,7 @@ ghost use Rattle.nb_names.specs.Devices.{AppendsFront, ShowsWriteFault};
 mod arguments;
 mod build_fault;
 mod datagram;
+mod response;
 mod service;
 mod session;
 
@@ -62,6 +63,7 @@ fn build(alloc: Global, matches: &ArgMatches<'_>) -> Result<String, BuildFault>
         "query" | "status" | "registration" | "refresh" | "release" => {
             service_line(alloc, what, words, matches.get_flag("broadcast"))
         }
+        "response" => response_line(alloc, words, matches.get_flag("broadcast")),
         "request" | "message" | "positive" | "negative" | "retarget" | "keepalive" => {
             session_line(alloc, what, words)
         }
@@ -82,6 +84,14 @@ fn service_line(
     ensures { IfOk result (λ lines. AreLines (string_bytes lines)) }
 {
     let packet = service::build(alloc, what, words, broadcast)?;
+    Ok(line(alloc, 137, &packet)?)
+}
+
+/// The line of a response of the name service.
+fn response_line(alloc: Global, words: &[&str], broadcast: bool) -> Result<String, BuildFault>
+    ensures { IfOk result (λ lines. AreLines (string_bytes lines)) }
+{
+    let packet = response::build(alloc, words, broadcast)?;
     Ok(line(alloc, 137, &packet)?)
 }
 

@@ -1,13 +1,21 @@
 //! The arguments of `nbt build`. Decimal numbers have no leading zeros; hexadecimal digits are read
 //! in either case.
+ghost use Rattle.std.specs.Prelude.{◌≡◌, IfOk, IsTrue, true};
+ghost use Rattle.std.specs.List.{list_all};
+ghost use Rattle.std.specs.Char.{is_ascii_digit};
+ghost use Rattle.nb_member.specs.Capture.{PayloadText};
+ghost use Rattle.nbt.specs.Responses.{DecimalText, HasNoLeadingZero, WordText};
 
 use crate::commands::build::build_fault::BuildFault;
-use hex::{FromHex, FromHexError};
+use hex::FromHex;
 use nb_datagram::Key;
+use nb_names::{DigitsFault, bytes_of_digits};
 use std::alloc::Global;
 
 /// A word of a packet, as an identifier or flags: four hexadecimal digits.
-pub fn word(text: &str) -> Result<u16, BuildFault> {
+pub fn word(text: &str) -> Result<u16, BuildFault>
+    ensures { IfOk result (λ number. WordText number text.now) }
+{
     match <[u8; 2] as FromHex>::from_hex(text) {
         Ok(bytes) => Ok(u16::from_be_bytes(bytes)),
         Err(_) => Err(BuildFault::Arguments),
@@ -23,11 +31,16 @@ pub fn code(text: &str) -> Result<u8, BuildFault> {
 }
 
 /// A decimal number to 4,294,967,295.
-pub fn long_number(text: &str) -> Result<u32, BuildFault> {
+pub fn long_number(text: &str) -> Result<u32, BuildFault>
+    ensures { IfOk result (λ number. DecimalText number text.now) }
+{
     if !is_decimal(text) {
         return Err(BuildFault::Arguments);
     }
-    text.parse::<u32>().map_err(|_| BuildFault::Arguments)
+    match text.parse::<u32>() {
+        Ok(number) => Ok(number),
+        Err(_) => Err(BuildFault::Arguments),
+    }
 }
 
 /// A decimal number to 65,535.
@@ -70,14 +83,19 @@ pub fn key(text: &str) -> Result<Key, BuildFault> {
 }
 
 /// Bytes: hexadecimal digits, two a byte and at least two, or `empty`.
-pub fn bytes(alloc: Global, text: &str) -> Result<Vec<u8>, BuildFault> {
+pub fn bytes(alloc: Global, text: &str) -> Result<Vec<u8>, BuildFault>
+    ensures { IfOk result (λ bytes. PayloadText bytes.items text.now) }
+{
     if text == "empty" {
         return Ok(Vec::new(alloc));
     }
-    match hex::decode(alloc, text) {
-        Ok(bytes) if !bytes.is_empty() => Ok(bytes),
-        Err(FromHexError::OutOfMemory) => Err(BuildFault::Memory),
-        _ => Err(BuildFault::Arguments),
+    if text.is_empty() {
+        return Err(BuildFault::Arguments);
+    }
+    match bytes_of_digits(alloc, text.as_bytes()) {
+        Ok(bytes) => Ok(bytes.into_vec()),
+        Err(DigitsFault::BadDigits) => Err(BuildFault::Arguments),
+        Err(DigitsFault::NoMemory) => Err(BuildFault::Memory),
     }
 }
 
@@ -89,11 +107,31 @@ fn small_number(text: &str) -> Result<u8, BuildFault> {
     text.parse::<u8>().map_err(|_| BuildFault::Arguments)
 }
 
-/// Whether a text is decimal digits, one at least, and none a leading zero.
-fn is_decimal(text: &str) -> bool {
-    match text.as_bytes() {
-        [] => false,
-        [b'0', _, ..] => false,
-        digits => digits.iter().all(|digit| digit.is_ascii_digit()),
+/// Whether a text is decimal digits, none of them a leading zero.
+fn is_decimal(text: &str) -> bool
+    ensures leading { IsTrue result → HasNoLeadingZero text.now }
+    ensures digits { IsTrue result → list_all is_ascii_digit text.now ≡ true }
+{
+    let digits = text.as_bytes();
+    if !has_no_leading_zero(digits) {
+        return false;
     }
+    are_digits(digits)
+}
+
+/// Whether more than one digit don't begin with a zero.
+fn has_no_leading_zero(digits: &[u8]) -> bool
+    ensures { IsTrue result → HasNoLeadingZero digits.now }
+{
+    if digits.len() < 2 {
+        return true;
+    }
+    digits[0] != b'0'
+}
+
+/// Whether each byte is a decimal digit.
+fn are_digits(text: &[u8]) -> bool
+    ensures { result ≡ list_all is_ascii_digit text.now }
+{
+    text.iter().all(|digit| digit.is_ascii_digit())
 }

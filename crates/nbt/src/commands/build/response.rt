@@ -1,0 +1,98 @@
+//! A response of the name service from arguments.
+ghost use Rattle.std.specs.Prelude.{◌≡◌, ℕ, List, [], ◌∷◌, map, IfOk, length};
+ghost use Rattle.nb_names.specs.declared.pointers.Pointers.TheVariants.{Refused};
+ghost use Rattle.nb_names.specs.Labels.{NameAt};
+ghost use Rattle.nb_names.specs.Name.{labels_of_name};
+ghost use Rattle.nb_service.specs.declared.classes.TheConstants.{IN};
+ghost use Rattle.nb_service.specs.Building.{packet_of};
+ghost use Rattle.nb_service.specs.Encoding.{packet_bytes};
+ghost use Rattle.nb_service.specs.Record.{ResourceData, record_of};
+ghost use Rattle.nbt.specs.Responses.{HasRdata, IsResponse, WordText, with_flag};
+
+use crate::commands::build::arguments::{bytes, long_number, word};
+use crate::commands::build::build_fault::BuildFault;
+use nb_names::{Bytes, DomainName, Name, Pointers, name_from_text, read_domain};
+use nb_service::classes::IN;
+use nb_service::{Packet, Record, RecordFault, Section, encode};
+use std::alloc::Global;
+
+/// The flag B of NM_FLAGS, by its place in the flag word.
+const B: u16 = 0x0010;
+
+/// The bytes of the response that ID WORD NAME TYPE TTL DATA give: a packet with one answer, of
+/// class IN, and nothing else. `broadcast` sets B in WORD.
+///
+/// # Errors
+///
+/// That of the first argument from the left that is refused; [`BuildFault::Arguments`] also for
+/// another number of them, and for DATA that isn't the spelling of a domain name where TYPE is NS;
+/// [`BuildFault::TooLong`] for more DATA than 65,535 bytes; [`BuildFault::Memory`].
+///
+/// RFC 1002 section 4.2.1.3.
+pub fn build(alloc: Global, words: &[&str], broadcast: bool) -> Result<Bytes, BuildFault>
+    ensures { IfOk result (λ bytes.
+        IsResponse (map (λ text. text.now) words.now) broadcast bytes) }
+{
+    let [id, flags, name, kind, ttl, digits] = words else {
+        return Err(BuildFault::Arguments);
+    };
+    let id = word(id)?;
+    let flags = flag_word(flags, broadcast)?;
+    let name = name_from_text(name)?;
+    let kind = word(kind)?;
+    let ttl = long_number(ttl)?;
+    let rdata = bytes(alloc, digits)?;
+    let answer = answer(&name, kind, ttl, rdata.as_slice())?;
+    encoded(alloc, id, flags, answer)
+}
+
+/// The flag word of these digits, with B set where the packet is broadcast.
+fn flag_word(digits: &str, broadcast: bool) -> Result<u16, BuildFault>
+    ensures { IfOk result (λ made. (number : ℕ) × WordText number digits.now
+        × (made ≡ with_flag number broadcast)) }
+{
+    let flags = word(digits)?;
+    Ok(if broadcast { flags | B } else { flags })
+}
+
+/// The record of a name, with these bytes as RDATA.
+fn answer<'a>(
+    name: &Name,
+    kind: u16,
+    ttl: u32,
+    bytes: &'a [u8],
+) -> Result<Record<'a>, BuildFault>
+    ensures { IfOk result (λ made. (rdata : ResourceData) × HasRdata kind bytes.entry.now rdata
+        × (made ≡ record_of (labels_of_name name.now) kind IN ttl rdata)) }
+{
+    match Record::bytes(name.to_domain(), kind, IN, ttl, bytes) {
+        Ok(answer) => Ok(answer),
+        Err(RecordFault::KindIsNs) => {
+            let domain = domain_of(bytes)?;
+            Ok(Record::ns(name.to_domain(), IN, ttl, domain))
+        }
+        Err(RecordFault::TooLong) => Err(BuildFault::TooLong),
+    }
+}
+
+/// The domain name whose spelling the bytes are.
+fn domain_of(bytes: &[u8]) -> Result<DomainName, BuildFault>
+    ensures { IfOk result (λ labels. NameAt bytes.now Refused 0 labels (length bytes.now)) }
+{
+    match read_domain(bytes, 0, Pointers::Refused) {
+        Ok((domain, next)) if next == bytes.len() => Ok(domain),
+        _ => Err(BuildFault::Arguments),
+    }
+}
+
+/// The bytes of a packet with this answer, and nothing else.
+fn encoded(alloc: Global, id: u16, word: u16, answer: Record<'_>) -> Result<Bytes, BuildFault>
+    ensures { IfOk result (λ bytes.
+        bytes ≡ packet_bytes (packet_of id word [] (answer.entry ∷ []) [] [])) }
+{
+    let mut packet = Packet::new(alloc, id, word);
+    match packet.push(Section::Answer, answer) {
+        Ok(()) => Ok(encode(alloc, &packet)?),
+        Err(_) => Err(BuildFault::Memory),
+    }
+}

@@ -42,8 +42,6 @@ returns-in_err-member-clause-cut g c =
       | inr stops ↦ (
         c.input_limit_of.result,
         c.input_limit_of.ensures,
-        stops.bytes,
-        stops.read,
-        subst (λ (n : ℕ). ShowsUnread n stops.bytes _ _) stops.limited (stops.cut read),
+        (stops.bytes, stops.read, subst (λ (n : ℕ). ShowsUnread n stops.bytes c.args.input.now.counts c.member_after.new.input.counts) stops.limited (stops.cut read)),
       )
     ])

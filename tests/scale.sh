@@ -134,7 +134,7 @@ fills_disk() {
 
 inputs() {
     local each
-    for each in many keys gaps flow ever; do
+    for each in many keys gaps flow ever wide; do
         python3 "$here/scale_capture.py" $each "$room"
     done
     cp many bad && sed -i '54321s/.*/138 0 xyz/' bad
@@ -172,9 +172,55 @@ with_parallel() {
     for each in part.*; do save <"$each" >"$each.table"; done
     gives table ./nbt-parallel "$program" --tables part.*.table
     refuses 1 'nbt-parallel: 2 tables are left, of which no two can be merged:*' ./nbt-parallel "$program" --tables table copy
-    refuses 1 'nbt-parallel: *nbt: full: there are more than 65535 keys. Cut by source *' ./nbt-parallel "$program" keys
+    too_large ./nbt-parallel
     ended ./nbt-parallel "$program" --by-source 2 keys out && [ "$(wc -l <out)" -eq 2 ]
     count $? './nbt-parallel --by-source 2, of 66,000 keys'
+    ended ./nbt-parallel "$program" --by-source 7 wide out && [ "$(wc -l <out)" -eq 7 ]
+    count $? './nbt-parallel --by-source 7, of a table of 39 MB'
+    rm out
+
+    # Comments make no difference, and go to all groups.
+    sed '1~2i # a comment' flow >said
+    ended ./nbt-parallel "$program" --by-source 3 --shard-bytes 262201 said out && merge <out | cmp -s flow.table
+    count $? './nbt-parallel --by-source 3, with comments'
+
+    # An OUT of several lines.
+    "$tools/nbt-parallel" --program "$program" --list out >output 2>errors && [ ! -s errors ] &&
+        sort output | cmp -s - <("$program" list --keys 65535 <flow.table | sort)
+    count $? "nbt-parallel --list: $(cat errors)"
+    "$tools/nbt-parallel" --list out --program "$program" 2>errors | head -c 1 >output
+    [ "${PIPESTATUS[0]}" -eq 3 ] && [ "$(cat errors)" = 'nbt-parallel: the program that reads this ended' ]
+    count $? "nbt-parallel --list, its reader ends: $(cat errors)"
+    { cat flow.table; echo 4e425432; } >faulty && "$tools/nbt-parallel" --program "$program" --list faulty >output 2>errors
+    [ $? -eq 1 ] && [ "$(cat errors)" = 'nbt-parallel: faulty: line 2: nbt: truncated' ]
+    count $? "nbt-parallel --list: $(cat errors)"
+    "$tools/nbt-parallel" --program "$program" --list nowhere >output 2>errors
+    [ $? -eq 3 ] && [ "$(cat errors)" = 'nbt-parallel: nowhere: No such file or directory' ]
+    count $? "nbt-parallel --list: $(cat errors)"
+    rm out
+    shows_progress ./nbt-parallel
+}
+
+# too_large ENGINE: captures whose table is too large are refused before anything is done, with a number that is enough.
+too_large() {
+    local name=${1#./}
+    : >started
+    refuses 1 "$name: keys has about 66000 keys and * bytes of saved tables, *. Cut by source address: --by-source 2" "$1" "$room/slow" keys
+    refuses 1 "$name: wide has about 50000 keys and * bytes of saved tables, *. Cut by source address: --by-source [5-7]" "$1" "$room/slow" wide
+    refuses 1 "$name: wide has about 50000 keys and * in 2 groups, *--by-source [5-7]" "$1" "$room/slow" --by-source 2 wide
+    [ ! -s started ]
+    count $? "$1: nothing is begun where a table is too large"
+}
+
+# shows_progress ENGINE: how many shards are done, on a terminal; it is gone at the end.
+shows_progress() {
+    ended "$here/terminal.py" output "$1" "$room/slow" --shard-bytes 400000 gaps out >shown && cmp -s out gaps.table &&
+        grep -q " [1-9] of 7 shards saved" shown && [[ $(cat shown) == *$'\r' ]]
+    count $? "$1 on a terminal"
+    rm -f out
+    ended "$here/terminal.py" output "$1" "$program" --quiet gaps out >shown && cmp -s out gaps.table && [ ! -s shown ]
+    count $? "$1 --quiet on a terminal"
+    rm -f out
 }
 
 with_dask() {
@@ -182,6 +228,8 @@ with_dask() {
     loses_client ./nbt-dask "$room/slow"
     on_cluster loses_worker "$tools/nbt-dask" --send --program "$room/slow" --scheduler
     refusals ./nbt-dask
+    too_large ./nbt-dask
+    shows_progress ./nbt-dask
     PATH=$room/installed/bin:$PATH gives gaps.table nbt-dask --workers 2 gaps
 }
 

@@ -8,6 +8,7 @@ keys   FOLDER/keys: 66,000 datagrams, each in one packet
 gaps   FOLDER/gaps: 40 bursts of packets, five seconds apart, a tick after each; only the last is held at the end
 flow   FOLDER/flow: a packet each 5 ms, and a tick each 100 ms, so that keys live across each tick
 ever   FOLDER/ever: the same of more than 16 MiB
+wide   FOLDER/wide: 50,000 datagrams, each in one packet, whose table has 39 MB
 """
 import os
 import random
@@ -84,6 +85,11 @@ def flow(rng, _folder, packets=4_000):
 
 def ever(rng, folder):
     return flow(rng, folder, 32_000)
+
+
+def wide(rng, _folder):
+    for place in range(50_000):
+        yield line(0, 1 + place % 50, place // 50, rng.randbytes(300))
 
 
 def main():

@@ -88,7 +88,7 @@ built() {
     [ "$(cat <&3 | wc -l)" -eq 0 ]
     count $? 'tshark finds as many packets as were built'
     exec 3<&-
-    pcap2cap "$room/built.pcap" | cmp -s - "$room/built"
+    pcap2cap --bare --quiet "$room/built.pcap" | cmp -s - "$room/built"
     count $? 'pcap2cap: the packets that were built'
 }
 
@@ -96,12 +96,23 @@ built() {
 
 payloads() { awk '$1 ~ /^13/ { print $1, $3 }' "$1"; }
 
+summary='58 frames, 51 of these ports, 19 left out'
+
 network() {
     "$here/network.py" "$room/network.pcap" >"$room/expected"
     mkdir "$room/own" && echo 'ip.defragment: FALSE' >"$room/own/preferences" && echo udp >"$room/own/disabled_protos"
     WIRESHARK_CONFIG_DIR=$room/own pcap2cap "$room/network.pcap" >"$room/capture" 2>"$room/errors"
-    [ $? -eq 0 ] && cmp -s "$room/capture" "$room/expected" && [ ! -s "$room/errors" ]
+    [ $? -eq 0 ] && diff "$room/expected" "$room/capture" && [ "$(cat "$room/errors")" = "$summary" ]
     count $? "pcap2cap: the packets of a network, whatever the user's settings of tshark"
+    pcap2cap --bare --quiet "$room/network.pcap" 2>"$room/errors" | cmp -s - <(grep -v '^# frame [0-9]* 2023' "$room/expected") &&
+        [ ! -s "$room/errors" ]
+    count $? 'pcap2cap --bare --quiet'
+    pcap2cap - <"$room/network.pcap" 2>"$room/errors" | cmp -s - "$room/expected" && [ "$(cat "$room/errors")" = "$summary" ] &&
+        cat "$room/network.pcap" | pcap2cap - 2>"$room/errors" | cmp -s - "$room/expected"
+    count $? 'pcap2cap -, a file and a pipe'
+    pcap2cap --port 138=20138 --port 137=20137 --quiet "$room/network.pcap" | diff "$room/expected" - | grep '^> 137' >"$room/output"
+    [ "$(cut -d ' ' -f 1-4 "$room/output")" = "> 137 20980 $(awk '$1 == 137 { print $3; exit }' "$room/expected")" ]
+    count $? 'pcap2cap --port 137=20137'
 
     # What `nbt show` and tshark say of the same packets, in the words of `nbt show`. Empty payloads, those of which a part
     # was captured, those that are no session packets, and segments that overlap are left to the cases above.
@@ -156,25 +167,55 @@ refused() {
     count $? "$tool $*: $message"
 }
 
+# closed TOOL MESSAGE WORD REDIRECTION: a standard stream is closed.
+closed() {
+    eval "ended '$here/../tools/$1' $3 2>'$room/errors' $4"
+    [ $? -eq 3 ] && [ "$(cat "$room/errors")" = "$2" ]
+    count $? "$1 $3 $4: $2"
+}
+
 others() {
     ended tshark -r "$room/network.pcap" -w "$room/network.pcapng" 2>"$room/errors"
-    pcap2cap "$room/network.pcapng" | cmp -s - "$room/expected"
+    pcap2cap --quiet "$room/network.pcapng" | cmp -s - "$room/expected"
     count $? 'pcap2cap: a pcapng file'
     head -c 400 "$room/network.pcap" >"$room/cut.pcap"
     pcap2cap "$room/cut.pcap" >"$room/output" 2>"$room/errors"
-    [ $? -eq 3 ] && cmp -s "$room/output" <(head -n 1 "$room/expected") && grep -q '^pcap2cap: tshark: .* cut short' "$room/errors"
+    [ $? -eq 3 ] && cmp -s "$room/output" <(head -n 2 "$room/expected") && grep -q '^pcap2cap: tshark: .* cut short' "$room/errors"
     count $? 'pcap2cap: a file that is cut off'
     pcap2cap "$room/capture" >"$room/output" 2>"$room/errors"
-    [ $? -eq 3 ] && [ ! -s "$room/output" ] && grep -q '^pcap2cap: tshark: ' "$room/errors"
+    [ $? -eq 2 ] && [ ! -s "$room/output" ] &&
+        [ "$(cat "$room/errors")" = "pcap2cap: $room/capture: the file holds no packets: it is the text of a capture" ]
+    count $? "pcap2cap: a capture's text"
+    cp "$here/../README.md" "$room/lines" && pcap2cap "$room/lines" >"$room/output" 2>"$room/errors"
+    [ $? -eq 2 ] && [ ! -s "$room/output" ] && [ -s "$room/errors" ]
+    count $? "pcap2cap: another text: $(cat "$room/errors")"
+    echo '{"a": 1}' | pcap2cap - >"$room/output" 2>"$room/errors"
+    [ "${PIPESTATUS[1]}" -eq 2 ] && [ "$(cat "$room/errors")" = 'pcap2cap: the file holds no packets: tshark takes it for JSON' ]
     count $? 'pcap2cap: a file that is no pcap'
     pcap2cap "$room/network.pcap" >/dev/full 2>"$room/errors"
-    [ $? -eq 3 ] && [ "$(cat "$room/errors")" = 'pcap2cap: write' ]
+    [ $? -eq 3 ] && [ "$(cat "$room/errors")" = 'pcap2cap: standard output: No space left on device' ]
     count $? 'pcap2cap, standard output full'
     cap2pcap <"$room/capture" >/dev/full 2>"$room/errors"
     [ $? -eq 3 ] && grep -q '^cap2pcap: text2pcap: ' "$room/errors"
     count $? 'cap2pcap, standard output full'
 
-    refused pcap2cap '' 2 'pcap2cap: usage: pcap2cap FILE >CAPTURE'
+    refused pcap2cap '' 2 "pcap2cap: usage: pcap2cap FILE >CAPTURE, or -, --live or -i INTERFACE in place of FILE; --help says more"
+    refused pcap2cap '' 2 'pcap2cap: argument --port: a service and a port are wanted, as 137=20137; --help says more' --port 136=7 x
+    refused pcap2cap '' 2 'pcap2cap: --port: 137 stands for 137 and 138' --port 138=137 x
+    refused pcap2cap '' 3 "pcap2cap: $room/no"$'\xff'": No such file or directory" "$room/no"$'\xff'
+    refused pcap2cap '' 3 "pcap2cap: $room: it is a directory" "$room"
+    : >"$room/empty"
+    refused pcap2cap '' 2 "pcap2cap: $room/empty: the file holds no packets: it is empty" "$room/empty"
+    closed pcap2cap 'pcap2cap: standard output is closed' "$room/network.pcap" '>&-'
+    closed pcap2cap 'pcap2cap: standard input is closed' - '<&-'
+    closed cap2pcap 'cap2pcap: standard input is closed' '' '<&-'
+    closed cap2pcap 'cap2pcap: standard output is closed' '' '</dev/null >&-'
+    pcap2cap "$room/network.pcap" 2>&- | cmp -s - "$room/expected"
+    count $? 'pcap2cap, standard error closed'
+    refused cap2pcap "$(head -c 300000 /dev/zero | tr '\0' 0)" 1 'cap2pcap: line 1'
+    (ulimit -v 4000000; cap2pcap </dev/zero >"$room/output" 2>"$room/errors")
+    [ $? -eq 1 ] && [ "$(cat "$room/errors")" = 'cap2pcap: line 1' ]
+    count $? 'cap2pcap: a line without an end'
     refused cap2pcap '' 2 'cap2pcap: usage: cap2pcap <CAPTURE >PCAP' capture
     refused cap2pcap $'# A capture\n137 0 0' 1 'cap2pcap: line 2'
     refused cap2pcap '138 18446744073709551616 00' 1 'cap2pcap: line 1'
@@ -187,9 +228,75 @@ others() {
 
     # Lines that are no whole session packet, and empty ones.
     printf '%s\n' '139 7 8500' '139 8 85000000' '138 9 empty' '139 9 8600000101' '139 10 empty' '139 11 82000000' >"$room/lines"
-    cap2pcap <"$room/lines" >"$room/output" && pcap2cap "$room/output" | cmp -s - <(printf '%s\n' '139 1 85000000' '138 2 empty' \
+    cap2pcap <"$room/lines" >"$room/output" && pcap2cap --bare --quiet "$room/output" | cmp -s - <(printf '%s\n' '139 1 85000000' '138 2 empty' \
         '139 2 8600000101' '139 4 82000000' '# stream 0 from 192.0.2.1 port 1024: bytes left over: 2 (8500)')
     count $? 'a stream ends with a line that is no session packet'
+}
+
+# ---- Long captures, readers that end, terminals, signals, and a network.
+
+# A pcap of so many queries, a millisecond apart.
+queries() {
+    seq "$1" | awk '{ printf "137 %d 000%x0110000100000000000020434b4141414141414141414141414141414141414141414141414141414141410000200001\n", $1, $1 % 16 }' |
+        cap2pcap
+}
+
+long() {
+    queries 100000 >"$room/long.pcap"
+    pcap2cap "$room/long.pcap" >"$room/output" 2>"$room/errors"
+    [ $? -eq 0 ] && diff - "$room/errors" <<'EOF'
+pcap2cap: more than 16777216 bytes are written now: nbt reads so many of one input
+100000 frames, 100000 of these ports, 0 left out
+EOF
+    count $? 'pcap2cap: more than one input'
+    pcap2cap "$room/long.pcap" 2>"$room/errors" | head -n 1 >"$room/output"
+    [ "${PIPESTATUS[0]}" -eq 3 ] && [ "$(cat "$room/errors")" = 'pcap2cap: the program that reads this ended' ]
+    count $? 'pcap2cap, its reader ends'
+    yes '138 0 00' | head -n 50000 | cap2pcap 2>"$room/errors" | head -c 1 >"$room/output"
+    [ "${PIPESTATUS[2]}" -eq 3 ] && [ "$(cat "$room/errors")" = 'cap2pcap: the program that reads this ended' ]
+    count $? 'cap2pcap, its reader ends'
+
+    # On a terminal the progress comes, and goes; not with --quiet.
+    local each="$here/../tools/pcap2cap"
+    ended "$here/terminal.py" "$room/output" "$each" "$room/long.pcap" >"$room/shown" && head -n 1 "$room/shown" |
+        grep -q $'^\rpcap2cap: [0-9]* of [0-9]* bytes *\r.* *\rpcap2cap: more than' && [ "$(tail -n 1 "$room/shown")" = \
+        $'100000 frames, 100000 of these ports, 0 left out\r' ]
+    count $? 'pcap2cap on a terminal'
+    ended "$here/terminal.py" "$room/output" "$each" --quiet "$room/network.pcap" >"$room/shown" && [ ! -s "$room/shown" ]
+    count $? 'pcap2cap --quiet on a terminal'
+}
+
+# interrupted TOOL: what a tool that waits for its input says to Ctrl-C.
+interrupted() {
+    sleep 4 | timeout --preserve-status -s INT 2 "$here/../tools/$1" ${2:-} >"$room/output" 2>"$room/errors"
+    [ "${PIPESTATUS[1]}" -eq 130 ] && [ "$(cat "$room/errors")" = "$1: interrupted" ]
+    count $? "$1 ${2:-}, Ctrl-C: $(cat "$room/errors")"
+}
+
+# A packet, a pause, another one, and Ctrl-C.
+live() {
+    (sleep 2; sends abc 20137; sleep 4; sends last 138) &
+    timeout --preserve-status -s INT 9 "$here/../tools/pcap2cap" -i lo --port 137=20137 >"$room/output" 2>"$room/errors"
+    [ $? -eq 0 ] && [ "$(cat "$room/errors")" = '2 frames, 2 of these ports, 0 left out' ] &&
+        sed -E 's/^(# frame [12]) 2[-0-9T:.]+Z 127.0.0.1:[0-9]+/\1/; s/^(138 4)[0-9]+/\1/' "$room/output" | head -n 9 | diff - <(printf '%s\n' \
+            '# frame 1 > 127.0.0.1:20137' '137 0 616263' 'tick 1000' 'tick 2000' 'tick 3000' 'tick 4000' '# frame 2 > 127.0.0.1:138' \
+            '138 4 6c617374' 'tick 5000')
+    count $? "pcap2cap -i lo: $(cat "$room/errors")"
+    wait
+}
+
+sends() { python3 -c 'import socket, sys
+socket.socket(socket.AF_INET, socket.SOCK_DGRAM).sendto(sys.argv[1].encode(), ("127.0.0.1", int(sys.argv[2])))' "$@"; }
+
+waits() {
+    interrupted pcap2cap -
+    interrupted cap2pcap
+    if ended tshark -i lo -a duration:0 >"$room/output" 2>&1; then
+        live
+    else
+        skipped=$((skipped + 1))
+        echo 'skipped: pcap2cap -i lo, 1 case (tshark may not listen to lo here)'
+    fi
 }
 
 mkdir "$room/bin" && ln -s "$program" "$room/bin/nbt"
@@ -197,5 +304,7 @@ for tool in pcap2cap cap2pcap; do ln -s "$(realpath "$here/../tools/$tool")" "$r
 part built built
 part network network
 part others others
+part long long
+part waits waits
 part page page docs/CAPTURES.md
 finish

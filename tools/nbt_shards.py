@@ -5,10 +5,13 @@ keys, so in a capture with ticks these are: the end of a tick that leaves no key
 tick. With groups by source address each range gives a shard for each group: the group's lines, and all ticks.
 """
 import argparse
+import collections
 import os
 import re
 import shutil
 import sys
+import time
+import zlib
 from collections import namedtuple
 
 MOST_READ = 16_777_216
@@ -16,6 +19,10 @@ MOST_KEYS = 65_535
 LONGEST_LINE = 262_200
 TIMEOUT = 2_000
 MOST_TOGETHER = 16
+MOST_GROUPS = 4_096
+# Two tables of so many bytes can always be merged.
+HALF = MOST_READ // 2
+BETWEEN_PROGRESS = 0.5
 HERE = os.path.dirname(os.path.abspath(__file__))
 BUILT = os.path.join(HERE, '..', 'crates', 'nbt', 'out', 'nbt')
 
@@ -29,6 +36,8 @@ Place = namedtuple('Place', 'end lines safe')
 TICK = re.compile(rb'tick ([0-9]{1,20})\n?\Z')
 PAYLOAD = re.compile(rb'138 ([0-9]{1,20}) ')
 SOURCE = re.compile(rb'138 [0-9]{1,20} [0-9A-Fa-f]{8}([0-9A-Fa-f]{8})')
+# A line with a fragment: from its type on its flags, its key (identifier, address, port), LENGTH, and its offset.
+FRAGMENT = re.compile(rb'\n138 [0-9]{1,20} (1[0-2])([0-9A-Fa-f]{2})([0-9A-Fa-f]{16})[0-9A-Fa-f]{4}([0-9A-Fa-f]{4})')
 
 
 class Stopped(Exception):
@@ -49,9 +58,10 @@ def parser(name, about):
     words.add_argument('--program', metavar='PATH', help='the program nbt, as the workers find it')
     words.add_argument('--shard-bytes', metavar='N', type=number(LONGEST_LINE + 1, MOST_READ), default=8_388_608,
                        help='how many bytes of a capture a shard has at most, where ticks allow it (8388608)')
-    words.add_argument('--by-source', metavar='N', type=number(1, 4_096),
+    words.add_argument('--by-source', metavar='N', type=number(1, MOST_GROUPS),
                        help='N tables, a line of OUT each: a source address goes to the table with its number modulo N')
     words.add_argument('--tables', action='store_true', help='the inputs are saved tables, a line each')
+    words.add_argument('--quiet', action='store_true', help='no progress; without it a terminal shows how many shards are done')
     return words
 
 
@@ -275,9 +285,12 @@ def line_count(data):
 
 
 def group_of(line, groups):
-    """The group of a line, or None for a tick, which each group has. What has no source address is of group 0."""
+    """The group of a line, or None for a tick, which each group has. Comments go to all groups by turns, so to say; what
+    else has no source address is of group 0."""
     if line.startswith(b'tick '):
         return None
+    if line.startswith(b'#'):
+        return zlib.crc32(line) % groups
     payload = SOURCE.match(line)
     return int(payload[1], 16) % groups if payload else 0
 
@@ -313,13 +326,197 @@ def line_of(shard, place):
 def explained(words):
     """The program's words, and what to do about them."""
     if words == 'nbt: full':
-        return '%s: there are more than %d keys. Cut by source address (--by-source), into more groups than now' % (words, MOST_KEYS)
+        return '%s: there are more than %d keys. Cut by source address, into twice as many groups (--by-source)' % (words, MOST_KEYS)
     return words or 'the program was ended, or a device failed'
+
+
+# ---- how many groups are needed
+
+class Sample:
+    """What a table of captures would have. The size is that of a fraction of the keys, where they have many fragments.
+
+    A key is of the sample by its bytes alone, so that it is with all its fragments or with none.
+    """
+
+    MOST, MOST_SEEN = 16_384, 524_288
+
+    def __init__(self):
+        self.seen = set()            # all keys, as long as they aren't too many
+        self.keys = {}               # for each key its fragments by offset, or None where they contradict each other
+        self.names = {}              # how many bytes the names of a key have
+        self.count = 0
+        self.below = 1 << 32         # keys whose number is less are of the sample
+
+    def read(self, block):
+        """Whole lines of a capture, each after a line feed."""
+        for match in FRAGMENT.finditer(block):
+            key = match[3].lower()
+            if len(self.seen) < self.MOST_SEEN:
+                self.seen.add(key)
+            if zlib.crc32(key) < self.below:
+                self.take(key, match, block)
+                if self.count > self.MOST:
+                    self.halve()
+
+    def take(self, key, match, block):
+        """A fragment. A first one that comes again with other bytes, or with another end, spoils its key."""
+        fragments = self.keys.setdefault(key, {})
+        offset = match[4]
+        known = fragments.get(offset) if fragments is not None else ()
+        if known == () or known and offset != b'0000':
+            return
+        end = block.find(b'\n', match.end())
+        payload = block[match.start(1):None if end < 0 else end]
+        content, more = zlib.crc32(payload.lower()), int(match[2], 16) & 1
+        if known and known[1] == content:
+            return
+        names, size = parts_of(payload)
+        if known and (known[0] == size or not (more or known[2])):
+            self.count -= len(fragments)
+            self.keys[key] = None
+        elif known is None or known[0] < size:
+            self.count += known is None
+            self.names[key] = names
+            fragments[offset] = size, content, more
+
+    def halve(self):
+        while self.count > self.MOST:
+            self.below //= 2
+            for key in [key for key in self.keys if zlib.crc32(key) >= self.below]:
+                self.count -= len(self.keys.pop(key) or ())
+                self.names.pop(key, None)
+
+    def by_address(self):
+        """For each address, as a number, how many keys it has, and about how many digits of a saved table."""
+        share = self.below / (1 << 32)
+        sums = {}
+        for key, fragments in self.keys.items():
+            size = 9
+            if fragments is not None:
+                data = min(sum(each[0] for each in fragments.values()),
+                           max(int(at, 16) + each[0] for at, each in fragments.items()))
+                size = 18 + self.names[key] + 4 * (data > 0) + data
+            known = sums.setdefault(int(key[4:12], 16), [0, 0])
+            known[0] += 1 / share
+            known[1] += 2 * size / share
+        if len(self.seen) < self.MOST_SEEN:
+            counts = collections.Counter(int(key[4:12], 16) for key in self.seen)
+            sums = {address: [count, sums.get(address, (0, 0))[1]] for address, count in counts.items()}
+        return sums
+
+
+def parts_of(payload):
+    """How many bytes a fragment's names have, and its data; 0 where the names aren't spelled out."""
+    at = 28
+    for _ in range(2):
+        while (length := int(payload[at:at + 2] or b'0', 16)) and length < 64:
+            at += 2 + 2 * length
+        at += 2
+    return (at - 28) // 2, max(0, (len(payload) - at) // 2)
+
+
+def judge_groups(options):
+    """Refuses captures whose table would be too large, before anything is done, and says how many groups would do.
+
+    Of a capture with ticks only what comes after the last one is counted: the others drop keys.
+    """
+    if options.tables:
+        return
+    begins = [last_tick(each) if has_ticks(each) else 0 for each in options.captures]
+    size = sum(os.path.getsize(capture) - begin for capture, begin in zip(options.captures, begins))
+    if size <= HALF:
+        return
+    sample, done = Sample(), 0
+    for capture, begin in zip(options.captures, begins):
+        for block in blocks_of(capture, begin):
+            sample.read(block)
+            done += len(block)
+            progress.show(done, size, 'bytes counted')
+    sums = sample.by_address()
+    # What is estimated may be wrong by so much: four standard deviations, were all keys of the same size.
+    sure = 1 if sample.below == 1 << 32 else 1 + 4 / max(1, len(sample.keys)) ** 0.5
+    groups = options.by_source or 1
+    counted = len(sample.seen) < sample.MOST_SEEN
+    if fits(sums, groups, MOST_KEYS * (1 if counted else sure), MOST_READ * sure):
+        return
+    keys, digits = (sum(each) for each in zip(*sums.values()))
+    raise Stopped('%s about %d keys and %d bytes of saved tables%s, of which a group may have %d and %d. %s'
+                  % ('the captures have' if len(options.captures) > 1 else options.captures[0] + ' has', keys, digits,
+                     ' in %d groups' % groups if groups > 1 else '', MOST_KEYS, HALF, enough(sums, groups, sure)), 1)
+
+
+def blocks_of(capture, begin):
+    """Whole lines of a capture from an offset on, some at a time, with a line feed before the first one."""
+    with open(capture, 'rb') as file:
+        file.seek(begin)
+        rest = b'\n'
+        while block := file.read(1 << 22):
+            cut = block.rfind(b'\n') + 1
+            if cut or len(rest) > LONGEST_LINE:
+                yield rest + block[:cut]
+                rest = b'\n'
+            rest += block[cut:]
+        yield rest
+
+
+def fits(sums, groups, most_keys, most_digits):
+    """Whether no group has more than that."""
+    held = {}
+    for address, (keys, digits) in sums.items():
+        group = held.setdefault(address % groups, [0, 0])
+        group[0] += keys
+        group[1] += digits
+        if group[0] > most_keys or group[1] > most_digits:
+            return False
+    return True
+
+
+def enough(sums, groups, sure):
+    """What to do: the least number of groups found that is enough, or the address that has too much by itself."""
+    tried = groups + 1
+    while tried <= MOST_GROUPS:
+        if fits(sums, tried, MOST_KEYS / sure, HALF / sure):
+            return 'Cut by source address: --by-source %d' % tried
+        tried += 1 + tried // 64
+    address = max(sums, key=lambda each: sums[each][1])
+    return 'No number of groups is enough: %s has %d keys and %d bytes; join shorter times of it' % (
+        '.'.join(str(byte) for byte in address.to_bytes(4, 'big')), *sums[address])
+
+
+# ---- progress
+
+class Progress:
+    """How many are done, on a terminal: at most twice a second, and erased at the end."""
+
+    def __init__(self):
+        self.name = None
+        self.next = 0.0
+        self.shown = 0
+
+    def begin(self, name, quiet):
+        if not quiet and sys.stderr is not None and sys.stderr.isatty():
+            self.name = name
+
+    def show(self, count, of, what):
+        if self.name is None or time.monotonic() < self.next:
+            return
+        self.next = time.monotonic() + BETWEEN_PROGRESS
+        text = '%s: %d of %d %s' % (self.name, count, of, what)
+        print('\r' + text.ljust(self.shown), end='', file=sys.stderr, flush=True)
+        self.shown = len(text)
+
+    def erase(self):
+        if self.shown:
+            print('\r' + ' ' * self.shown + '\r', end='', file=sys.stderr, flush=True)
+        self.shown = 0
+
+
+progress = Progress()
 
 
 # ---- how tables are grouped
 
-def grouped(sizes):
+def grouped(sizes, options):
     """Rows of places: the tables that one `nbt merge` reads together, the smaller ones first."""
     rows, room = [], 0
     for place in sorted(range(len(sizes)), key=lambda place: (sizes[place], place)):
@@ -330,9 +527,14 @@ def grouped(sizes):
         room -= sizes[place]
     if len(rows) == len(sizes):
         raise Stopped('%d tables are left, of which no two can be merged: the two smallest have %d bytes together, and `nbt '
-                      'merge` reads %d. Cut by source address (--by-source), into more groups than now'
-                      % (len(sizes), sum(sorted(sizes)[:2]), MOST_READ), 1)
+                      'merge` reads %d. Cut by source address: --by-source %d'
+                      % (len(sizes), sum(sorted(sizes)[:2]), MOST_READ, groups_for(sum(sizes), options)), 1)
     return rows
+
+
+def groups_for(size, options):
+    """A number of groups that is enough where addresses are spread evenly, for tables of one group with so many bytes."""
+    return (options.by_source or 1) * (1 + -(-size // HALF))
 
 
 # ---- how OUT is written
@@ -366,9 +568,12 @@ def run(name, main):
     """Runs an engine; a failure is one line on standard error, and leaves OUT as it was."""
     try:
         main()
+        progress.erase()
     except Stopped as why:
+        progress.erase()
         print('%s: %s' % (name, why), file=sys.stderr)
         sys.exit(why.status)
     except KeyboardInterrupt:
+        progress.erase()
         print('%s: interrupted' % name, file=sys.stderr)
         sys.exit(130)

@@ -37,13 +37,14 @@ bench: build
 fuzz: build
 	tests/fuzz.py --seconds $(SECONDS)
 
-# Build the program, and put it below PREFIX, with the tools and the manual page. Those that share a module lie beside it.
+# Build the program, and put it below PREFIX, with the tools and the manual page. The tools lie beside their modules.
 install: build
 	install -D -m 755 $(PROGRAM) '$(DESTDIR)$(PREFIX)/bin/nbt'
-	install -D -m 755 tools/pcap2cap '$(DESTDIR)$(PREFIX)/bin/nbt-pcap2cap'
-	install -D -m 755 tools/cap2pcap '$(DESTDIR)$(PREFIX)/bin/nbt-cap2pcap'
-	install -d '$(DESTDIR)$(PREFIX)/share/nbt'
-	install -m 755 tools/nbt-parallel tools/nbt-dask '$(DESTDIR)$(PREFIX)/share/nbt'
+	install -d '$(DESTDIR)$(PREFIX)/share/nbt/nbt_pcap'
+	install -m 755 tools/nbt-parallel tools/nbt-dask tools/pcap2cap tools/cap2pcap '$(DESTDIR)$(PREFIX)/share/nbt'
 	install -m 644 tools/nbt_shards.py '$(DESTDIR)$(PREFIX)/share/nbt'
+	install -m 644 tools/nbt_pcap/*.py '$(DESTDIR)$(PREFIX)/share/nbt/nbt_pcap'
 	ln -sf ../share/nbt/nbt-parallel ../share/nbt/nbt-dask '$(DESTDIR)$(PREFIX)/bin'
+	ln -sf ../share/nbt/pcap2cap '$(DESTDIR)$(PREFIX)/bin/nbt-pcap2cap'
+	ln -sf ../share/nbt/cap2pcap '$(DESTDIR)$(PREFIX)/bin/nbt-cap2pcap'
 	install -D -m 644 man/nbt.1 '$(DESTDIR)$(PREFIX)/share/man/man1/nbt.1'

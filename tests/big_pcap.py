@@ -1,0 +1,90 @@
+#!/usr/bin/env python3
+"""A pcap file of as many packets as are wanted, for the cost of tools/pcap2cap; always the same for a number and a seed.
+
+Usage: tests/big_pcap.py PACKETS PCAP [SEED]
+
+Of ten packets some four are name service (UDP 137), three are datagrams (UDP 138), and three are segments (TCP 139) of
+streams that begin, carry some messages and end, 64 of them at a time. 724,638 packets are 200 MB. The frames are Ethernet,
+1 to 5 ms apart; all of their numbers come from the seed.
+"""
+import random
+import struct
+import sys
+
+sys.dont_write_bytecode = True
+from wire import ACK, FIN, FRED, JOE, POSITIVE, REQUEST, SYN, TCP, UDP, ip, udp
+
+STREAMS = 64
+LAST_HOST = 250
+ETHERNET = bytes(12) + b'\x08\x00'
+
+
+def main():
+    packets, path = int(sys.argv[1]), sys.argv[2]
+    rng = random.Random(sys.argv[3] if len(sys.argv) > 3 else 'big')
+    streams = [stream(rng) for _ in range(STREAMS)]
+    moment = 0
+    with open(path, 'wb') as file:
+        file.write(struct.pack('<LHHLLLL', 0xa1b2c3d4, 2, 4, 0, 0, 262_144, 1))
+        for _ in range(packets):
+            moment += rng.randrange(1_000, 5_000)
+            data = ETHERNET + packet(rng, streams)
+            file.write(struct.pack('<LLLL', 1_700_000_000 + moment // 10**6, moment % 10**6, len(data), len(data)) + data)
+
+
+def packet(rng, streams):
+    kind = rng.randrange(10)
+    if kind < 4:
+        return ip(UDP, udp(137, 137, names(rng)), host(rng), host(rng))
+    if kind < 7:
+        return ip(UDP, udp(138, 138, datagram(rng)), host(rng), host(rng))
+    place = rng.randrange(STREAMS)
+    while (segment := next(streams[place], None)) is None:
+        streams[place] = stream(rng)
+    return segment
+
+
+def host(rng):
+    return bytes([10, 0, 0, rng.randrange(1, LAST_HOST)])
+
+
+def names(rng):
+    """A query, or the response to it."""
+    number = rng.randrange(65_536)
+    if rng.randrange(2):
+        return struct.pack('>6H', number, 0x0110, 1, 0, 0, 0) + FRED + struct.pack('>HH', 0x20, 1)
+    entry = struct.pack('>HHLHH4s', 0x20, 1, 300_000, 6, 0x6000, host(rng))
+    return struct.pack('>6H', number, 0x8500, 0, 1, 0, 0) + FRED + entry
+
+
+def datagram(rng):
+    """A group datagram in one packet."""
+    data = rng.randbytes(rng.randrange(20, 401))
+    header = struct.pack('>BBH4sHHH', 0x11, 0x02, rng.randrange(65_536), host(rng), 138, 68 + len(data), 0)
+    return header + JOE + FRED + data
+
+
+def stream(rng):
+    """The segments of a session: a request, its answer, some messages, and the end of both sides."""
+    client, server, port = host(rng), host(rng), rng.randrange(1_024, 65_536)
+    sent = [rng.randrange(2**32), rng.randrange(2**32)]
+
+    def segment(side, flags, payload=b''):
+        source, target = ((port, 139), (139, port))[side]
+        header = struct.pack('>HHLLBBHHH', source, target, sent[side], sent[1 - side], 0x50, flags, 65_535, 0, 0)
+        sent[side] = (sent[side] + len(payload) + bool(flags & (SYN | FIN))) % 2**32
+        return ip(TCP, header + payload, *((client, server), (server, client))[side])
+
+    yield segment(0, SYN)
+    yield segment(1, SYN | ACK)
+    yield segment(0, ACK, REQUEST)
+    yield segment(1, ACK, POSITIVE)
+    for _ in range(rng.randrange(10, 50)):
+        data = rng.randbytes(rng.randrange(20, 781))
+        yield segment(rng.randrange(2), ACK, struct.pack('>L', len(data)) + data)
+    yield segment(0, FIN | ACK)
+    yield segment(1, FIN | ACK)
+
+
+if __name__ == '__main__':
+    main()

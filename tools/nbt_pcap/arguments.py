@@ -1,0 +1,74 @@
+"""The command line of pcap2cap, and what can be said of its file before tshark reads it."""
+import argparse
+import os
+import stat
+
+from .process import NAME, Stopped
+
+SERVICES = (137, 138, 139)
+# How the text of a capture begins.
+CAPTURE_FRONTS = (b'# ', b'137 ', b'138 ', b'139 ', b'tick')
+
+
+class Words(argparse.ArgumentParser):
+    def error(self, message):
+        raise Stopped(2, '%s; --help says more' % message)
+
+
+def options_of(arguments):
+    words = Words(prog=NAME, add_help=False, allow_abbrev=False)
+    words.add_argument('-h', '--help', action='store_true')
+    words.add_argument('--bare', action='store_true')
+    words.add_argument('--quiet', action='store_true')
+    words.add_argument('--live', action='store_true')
+    words.add_argument('-i', dest='interface')
+    words.add_argument('--port', dest='ports', action='append', type=mapped, default=[(port, port) for port in SERVICES])
+    words.add_argument('file', nargs='?')
+    options = words.parse_args(arguments)
+    options.live = options.live or options.interface is not None
+    if not options.help and options.live == (options.file is not None):
+        raise Stopped(2, 'usage: %s FILE >CAPTURE, or -, --live or -i INTERFACE in place of FILE; --help says more' % NAME)
+    judge_ports(options.ports)
+    return options
+
+
+def mapped(text):
+    """A service and its port: 137=20137."""
+    service, _, port = text.partition('=')
+    if service not in map(str, SERVICES) or not (port.isascii() and port.isdigit() and 1 <= int(port) <= 65_535):
+        raise argparse.ArgumentTypeError('a service and a port are wanted, as 137=20137')
+    return int(port), int(service)
+
+
+def judge_ports(ports):
+    """Refuses a port that stands for two services."""
+    services = {}
+    for port, service in ports:
+        if services.setdefault((service == 139, port), service) != service:
+            raise Stopped(2, '--port: %d stands for %d and %d' % (port, services[False, port], service))
+
+
+def judge_file(path, closed):
+    """Refuses what holds no packets, and what can't be opened."""
+    title = 'standard input' if path == '-' else path
+    if path == '-' and 0 in closed:
+        raise Stopped(3, 'standard input is closed')
+    try:
+        status = os.fstat(0) if path == '-' else os.stat(path)
+        if stat.S_ISDIR(status.st_mode):
+            raise Stopped(3, '%s: it is a directory' % title)
+        begin = begin_of(path) if stat.S_ISREG(status.st_mode) else b''
+    except (OSError, ValueError) as error:
+        raise Stopped(3, '%s: %s' % (title, getattr(error, 'strerror', None) or error)) from error
+    if stat.S_ISREG(status.st_mode) and status.st_size == 0:
+        raise Stopped(2, '%s: the file holds no packets: it is empty' % title)
+    if begin.startswith(CAPTURE_FRONTS):
+        raise Stopped(2, '%s: the file holds no packets: it is the text of a capture' % title)
+
+
+def begin_of(path):
+    """The first bytes of a regular file, of which nothing is taken."""
+    if path == '-':
+        return os.pread(0, 4, 0)
+    with open(path, 'rb', buffering=0) as file:
+        return os.pread(file.fileno(), 4, 0)

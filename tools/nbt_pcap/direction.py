@@ -1,0 +1,189 @@
+"""The bytes that one side of a TCP stream sends: put into order, and cut into session packets."""
+import bisect
+import collections
+
+from .session import HEADER, has_header, is_whole, size_of
+
+# Bounds on what is held of one direction past missing bytes, and on the bytes of all of them that may come again.
+MOST_EARLY, MOST_EARLY_PIECES = 4_194_304, 4_096
+MOST_RECENT, MOST_RECENT_PIECES = 16_777_216, 65_536
+# How many bytes are shown of those that are in no packet.
+SHOWN = 32
+HALF, ALL = 2**31, 2**32
+
+
+class Recent:
+    """The latest bytes of all streams that are in order, for what comes again."""
+
+    def __init__(self):
+        self.parts = collections.deque()
+        self.size = 0
+
+    def keep(self, past, data):
+        past += data
+        self.parts.append((past, len(data)))
+        self.size += len(data)
+        while self.size > MOST_RECENT or len(self.parts) > MOST_RECENT_PIECES:
+            oldest, count = self.parts.popleft()
+            del oldest[:count]
+            self.size -= count
+
+
+class Direction:
+    """One side of a stream. Places count bytes on from its first sequence number, past 2^32."""
+
+    __slots__ = ('title', 'recent', 'first', 'due', 'early', 'early_size', 'held', 'past', 'uncut', 'frames', 'given_up', 'cut',
+                 'lost', 'end')
+
+    def __init__(self, title, recent, due):
+        self.title = title
+        self.recent = recent
+        self.first = self.due = due          # the place of the first byte, and of the next one
+        self.early = []                      # pieces past that place, in order, without overlaps
+        self.early_size = 0
+        self.held = bytearray()              # bytes in order that aren't cut yet, or the first of those that never are
+        self.past = bytearray()              # the latest bytes before the next one
+        self.uncut = 0                       # how many bytes in order are in no packet
+        self.frames = collections.deque()    # the places at which segments end that have bytes in no packet yet
+        self.given_up = 0                    # how many more segments have bytes that never come into one
+        self.cut = True                      # whether packets are still cut
+        self.lost = None                     # how many bytes were missing where that was given up, and how many came after
+        self.end = None                      # the place after the last byte, by FIN
+
+    def size(self):
+        return len(self.held) + self.early_size
+
+    def place(self, sequence):
+        return self.due + (sequence - self.due + HALF) % ALL - HALF
+
+    def pass_on(self, place, data):
+        """Whether the bytes come next, and are one whole packet: then they are taken, and nothing is held of them."""
+        if place != self.due or self.uncut or self.early or self.lost or not self.cut or not is_whole(data):
+            return False
+        self.due += len(data)
+        self.recent.keep(self.past, data)
+        return True
+
+    def take(self, place, data):
+        """Keeps what is new of a segment. Answers how many of its bytes differ from those that came first."""
+        differing = 0
+        if place < self.due:
+            differing = self.compare(place, data)
+            data = data[self.due - place:]
+            place = self.due
+        if not data:
+            return differing
+        if self.lost:
+            self.lost[1] += len(data)
+            self.given_up += 1
+        elif place == self.due and not self.early:
+            self.append(data)
+        else:
+            differing += self.put_aside(place, data)
+            while self.early and self.early[0][0] == self.due:
+                _, piece = self.early.pop(0)
+                self.early_size -= len(piece)
+                self.append(piece)
+            if self.early_size > MOST_EARLY or len(self.early) > MOST_EARLY_PIECES:
+                self.give_up()
+        return differing
+
+    def is_kept_alive(self, place, data):
+        """Whether it is a byte before the next one, whose value has no meaning: it keeps a connection alive."""
+        return len(data) == 1 and place == self.due - 1
+
+    def compare(self, place, data):
+        """How many of these bytes differ from the latest ones."""
+        if self.is_kept_alive(place, data):
+            return 0
+        start = self.due - len(self.past)
+        begin, end = max(place, start), min(place + len(data), self.due)
+        return unlike(self.past[begin - start:end - start], data[begin - place:end - place]) if begin < end else 0
+
+    def append(self, data):
+        """Bytes in order."""
+        self.due += len(data)
+        self.uncut += len(data)
+        if self.cut:
+            self.frames.append(self.due)
+            self.held += data
+            self.recent.keep(self.past, data)
+        else:
+            self.given_up += 1
+            self.held += data[:max(0, SHOWN - len(self.held))]
+
+    def put_aside(self, place, data):
+        """Keeps those bytes that weren't there. Answers how many others differ from those that were."""
+        differing, end, new = 0, place + len(data), []
+        at = max(bisect.bisect_right(self.early, (place + 1,)) - 1, 0)
+        cursor = place
+        for start, piece in self.early[at:]:
+            if start >= end:
+                break
+            if start + len(piece) <= cursor:
+                continue
+            if cursor < start:
+                new.append((cursor, data[cursor - place:start - place]))
+                cursor = start
+            stop = min(end, start + len(piece))
+            differing += unlike(piece[cursor - start:stop - start], data[cursor - place:stop - place])
+            cursor = stop
+        if cursor < end:
+            new.append((cursor, data[cursor - place:]))
+        for piece in new:
+            bisect.insort(self.early, piece)
+            self.early_size += len(piece[1])
+        return differing
+
+    def give_up(self):
+        """Waits no longer for missing bytes: counts what comes after them."""
+        self.lost = [self.early[0][0] - self.due, self.early_size]
+        self.given_up += len(self.early)
+        self.early = []
+        self.early_size = 0
+
+    def packets(self):
+        """The session packets that are whole by now. Nothing is cut after a header that no session packet has."""
+        while self.cut and len(self.held) >= HEADER:
+            size = size_of(self.held)
+            if len(self.held) < size:
+                return
+            packet = bytes(self.held[:size])
+            del self.held[:size]
+            self.uncut -= size
+            while self.frames and self.frames[0] <= self.due - self.uncut:
+                self.frames.popleft()
+            self.cut = has_header(packet)
+            yield packet
+        if not self.cut:
+            del self.held[SHOWN:]
+
+    def forget_frame(self, given_up):
+        """The latest segment is counted elsewhere; so many were given up before it."""
+        self.given_up -= self.given_up == given_up + 1
+        if self.frames and self.frames[-1] == self.due:
+            self.frames.pop()
+
+    def leftovers(self):
+        """What is told of the bytes that are in no packet, or None; and how many frames they came in."""
+        missing = self.lost or (self.early and [self.early[0][0] - self.due, self.early_size])
+        if not self.uncut and not missing:
+            return None, 0
+        text = '%s: bytes left over: %d' % (self.title, self.uncut)
+        if self.uncut:
+            text += ' (%s%s)' % (self.held[:SHOWN].hex(), '..' if self.uncut > SHOWN else '')
+        if missing:
+            text += ', then missing: %d, then captured: %d' % tuple(missing)
+        return text, len(self.frames) + self.given_up + len(self.early)
+
+    def is_over(self):
+        return self.end is not None and self.due >= self.end
+
+    def let_go(self):
+        """Gives back the bytes that might have come again."""
+        self.past.clear()
+
+
+def unlike(one, other):
+    """How many bytes differ."""
+    return 0 if one == other else sum(a != b for a, b in zip(one, other))

@@ -1,0 +1,54 @@
+"""How much of a file tshark has read, on a terminal that shows nothing else."""
+import os
+import time
+
+from .process import NAME
+
+BETWEEN = 0.5
+
+
+class Progress:
+    """A line on standard error that is written over, at most twice a second, and erased at the end."""
+
+    def __init__(self, options, process):
+        self.shown = 0
+        self.next = 0.0
+        self.path, self.process, self.place = options.file, process, None
+        self.wanted = not options.quiet and os.isatty(2) and not os.isatty(1)
+
+    def show(self, frames):
+        if not self.wanted or time.monotonic() < self.next:
+            return
+        self.next = time.monotonic() + BETWEEN
+        text = '%s: %s' % (NAME, self.bytes_read() or '%d frames' % frames)
+        self.write('\r' + text.ljust(self.shown))
+        self.shown = len(text)
+
+    def erase(self):
+        if self.shown:
+            self.write('\r' + ' ' * self.shown + '\r')
+        self.shown = 0
+
+    def write(self, text):
+        try:
+            os.write(2, text.encode(errors='surrogateescape'))
+        except OSError:
+            self.wanted = False
+
+    def bytes_read(self):
+        """By what Linux knows of the file that tshark has open; None where it doesn't."""
+        try:
+            size = os.stat(self.path).st_size
+            self.place = self.place or self.find()
+            with open(self.place) as file:
+                read = int(file.readline().split()[1])
+        except (OSError, TypeError, ValueError, IndexError):
+            return None
+        return '%d of %d bytes' % (min(read, size), size) if size else None
+
+    def find(self):
+        """The file of Linux that tells the place in the file."""
+        for each in os.listdir('/proc/%d/fd' % self.process.pid):
+            if os.path.samefile('/proc/%d/fd/%s' % (self.process.pid, each), self.path):
+                return '/proc/%d/fdinfo/%s' % (self.process.pid, each)
+        return None

@@ -12,7 +12,7 @@ import struct
 import sys
 
 sys.dont_write_bytecode = True
-from wire import ACK, FIN, FRED, JOE, POSITIVE, REQUEST, SYN, TCP, UDP, ip, udp
+from wire import ACK, FIN, FRED, JOE, POSITIVE, REQUEST, SYN, TCP, UDP, datagram, ip, udp
 
 STREAMS = 64
 LAST_HOST = 250
@@ -37,7 +37,7 @@ def packet(rng, streams):
     if kind < 4:
         return ip(UDP, udp(137, 137, names(rng)), host(rng), host(rng))
     if kind < 7:
-        return ip(UDP, udp(138, 138, datagram(rng)), host(rng), host(rng))
+        return ip(UDP, udp(138, 138, some_datagram(rng)), host(rng), host(rng))
     place = rng.randrange(STREAMS)
     while (segment := next(streams[place], None)) is None:
         streams[place] = stream(rng)
@@ -57,11 +57,8 @@ def names(rng):
     return struct.pack('>6H', number, 0x8500, 0, 1, 0, 0) + FRED + entry
 
 
-def datagram(rng):
-    """A group datagram in one packet."""
-    data = rng.randbytes(rng.randrange(20, 401))
-    header = struct.pack('>BBH4sHHH', 0x11, 0x02, rng.randrange(65_536), host(rng), 138, 68 + len(data), 0)
-    return header + JOE + FRED + data
+def some_datagram(rng):
+    return datagram(rng.randrange(65_536), rng.randbytes(rng.randrange(20, 401)), host(rng))
 
 
 def stream(rng):

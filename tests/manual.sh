@@ -1,6 +1,7 @@
 #!/usr/bin/env bash
 # The manual page: what mandoc says of it, where mandoc is installed, and whether it has each command and option of the
-# built program's help. Usage: tests/manual.sh [PROGRAM]; its last line is 'N passed, M failed, K skipped'.
+# built program's help; and what `make install` puts where. Usage: tests/manual.sh [PROGRAM]; its last line is 'N passed, M
+# failed, K skipped'.
 set -uo pipefail
 . "$(dirname "$0")/counting.sh"
 program=${1:-$here/../crates/nbt/out/nbt}
@@ -31,6 +32,20 @@ words() {
     done
 }
 
+# The program and its tools, installed, in another folder: each prints its help, and a capture becomes packets.
+installed() {
+    local tool
+    make -s -C "$here/.." -o build install PROGRAM="$(realpath "$program")" DESTDIR="$room/root" PREFIX=/usr >"$room/output" 2>&1
+    count $? "make install: $(cat "$room/output")"
+    for tool in nbt nbt-pcap2cap nbt-cap2pcap nbt-parallel nbt-dask; do
+        (cd "$room" && ended "$room/root/usr/bin/$tool" --help) >"$room/output" 2>"$room/errors" && [ -s "$room/output" ] && [ ! -s "$room/errors" ]
+        count $? "$tool, installed: $(cat "$room/errors")"
+    done
+    [ -f "$room/root/usr/share/man/man1/nbt.1" ] && [ -z "$(find "$room/root" -name __pycache__)" ]
+    count $? 'make install: the manual page, and nothing else'
+}
+
 if command -v mandoc >/dev/null; then part mandoc lint; else lacks mandoc mandoc; fi
 part words words
+part installed installed
 finish

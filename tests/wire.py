@@ -16,7 +16,6 @@ JOE, FRED = first_level('JOE', 0x00), first_level('FRED', 0x20)
 ENTRY = struct.pack('>HHLHH4s', 0x20, 1, 300_000, 6, 0x6000, SERVER)
 QUERY = struct.pack('>6H', 0x0003, 0x0110, 1, 0, 0, 0) + FRED + struct.pack('>HH', 0x20, 1)
 RESPONSE = struct.pack('>6H', 0x0003, 0x8500, 0, 1, 0, 0) + FRED + ENTRY
-DATAGRAM = struct.pack('>BBH4sHHH', 0x11, 0x02, 0x0007, CLIENT, 138, 68 + 1_000, 0) + JOE + FRED + bytes(range(250)) * 4
 REQUEST = b'\x81\0\0\x44' + FRED + JOE
 POSITIVE, KEEPALIVE, FOREIGN = b'\x82\0\0\0', b'\x85\0\0\0', b'GET / HTTP/1.0\r\n'
 SHORT, OTHER = b'\0\0\0\x0ashort text', b'\0\0\0\x09other one'
@@ -34,3 +33,12 @@ def ip6(protocol, data):
 
 def udp(source, target, payload):
     return struct.pack('>HHHH', source, target, 8 + len(payload), 0) + payload
+
+
+def datagram(identifier, data, source=CLIENT):
+    """A group datagram in one packet."""
+    header = struct.pack('>BBH4sHHH', 0x11, 0x02, identifier, source, 138, len(JOE + FRED) + len(data), 0)
+    return header + JOE + FRED + data
+
+
+DATAGRAM = datagram(7, bytes(range(250)) * 4)

@@ -216,6 +216,14 @@ others() {
     (ulimit -v 4000000; cap2pcap </dev/zero >"$room/output" 2>"$room/errors")
     [ $? -eq 1 ] && [ "$(cat "$room/errors")" = 'cap2pcap: line 1' ]
     count $? 'cap2pcap: a line without an end'
+    cap2pcap <"$room" >"$room/output" 2>"$room/errors"
+    [ $? -eq 3 ] && [ "$(cat "$room/errors")" = 'cap2pcap: standard input: Is a directory' ]
+    count $? 'cap2pcap: a directory'
+    pcap2cap - <"$room" >"$room/output" 2>"$room/errors"
+    [ $? -eq 3 ] && [ "$(cat "$room/errors")" = 'pcap2cap: standard input: it is a directory' ]
+    count $? 'pcap2cap -: a directory'
+    cap2pcap <"$room/capture" 2>&- | cmp -s - "$room/again.pcap"
+    count $? 'cap2pcap, standard error closed'
     refused cap2pcap '' 2 'cap2pcap: usage: cap2pcap <CAPTURE >PCAP' capture
     refused cap2pcap $'# A capture\n137 0 0' 1 'cap2pcap: line 2'
     refused cap2pcap '138 18446744073709551616 00' 1 'cap2pcap: line 1'
@@ -245,7 +253,7 @@ long() {
     queries 100000 >"$room/long.pcap"
     pcap2cap "$room/long.pcap" >"$room/output" 2>"$room/errors"
     [ $? -eq 0 ] && diff - "$room/errors" <<'EOF'
-pcap2cap: more than 16777216 bytes are written now: nbt reads so many of one input
+pcap2cap: more than 16777216 bytes are written now, and nbt reads no more of one input: cut the pcap, or give the capture to nbt-parallel
 100000 frames, 100000 of these ports, 0 left out
 EOF
     count $? 'pcap2cap: more than one input'
@@ -264,6 +272,10 @@ EOF
     count $? 'pcap2cap on a terminal'
     ended "$here/terminal.py" "$room/output" "$each" --quiet "$room/network.pcap" >"$room/shown" && [ ! -s "$room/shown" ]
     count $? 'pcap2cap --quiet on a terminal'
+    local began=$SECONDS
+    ended "$here/terminal.py" "$room/output" "$each" "$room/long.pcap" >"$room/shown" &&
+        [ "$(tr '\r' '\n' <"$room/shown" | grep -c ' of [0-9]* bytes')" -le $((2 * (SECONDS - began) + 3)) ]
+    count $? 'pcap2cap on a terminal: at most twice a second'
 }
 
 # interrupted TOOL: what a tool that waits for its input says to Ctrl-C.
@@ -283,6 +295,18 @@ live() {
             '138 4 6c617374' 'tick 5000')
     count $? "pcap2cap -i lo: $(cat "$room/errors")"
     wait
+    answers "'$here/../tools/pcap2cap' -i lo --quiet --port 138=20138" "'$program' show"
+    answers "'$here/../tools/pcap2cap' -i lo --quiet --port 138=20138" "'$program' replay 'FRED<20>'"
+}
+
+# answers CAPTURE ANSWER: each packet is answered within a second. Other work on this machine may be in the way: three tries.
+answers() {
+    local try
+    for try in 1 2 3; do
+        ended "$here/live.py" 20138 "$1" "$2" >"$room/output" 2>"$room/errors" && break
+    done
+    [ -s "$room/output" ]
+    count $? "$1 | $2: $(cat "$room/errors")"
 }
 
 sends() { python3 -c 'import socket, sys
@@ -294,9 +318,18 @@ waits() {
     if ended tshark -i lo -a duration:0 >"$room/output" 2>&1; then
         live
     else
-        skipped=$((skipped + 1))
-        echo 'skipped: pcap2cap -i lo, 1 case (tshark may not listen to lo here)'
+        skipped=$((skipped + 3))
+        echo 'skipped: pcap2cap -i lo, 3 cases (tshark may not listen to lo here)'
     fi
+}
+
+# examples/office.pcap, made once more.
+office() {
+    local example=$here/../examples/office
+    PATH=$room/bin:$PATH ended "$example.sh" >"$room/lines" && cap2pcap <"$room/lines" | cmp - "$example.pcap"
+    count $? 'examples/office.sh makes examples/office.pcap'
+    pcap2cap --bare --quiet "$example.pcap" | grep -v '^tick' | cmp - "$room/lines"
+    count $? 'examples/office.pcap has the packets that were built'
 }
 
 mkdir "$room/bin" && ln -s "$program" "$room/bin/nbt"
@@ -306,5 +339,6 @@ part network network
 part others others
 part long long
 part waits waits
+part office office
 part page page docs/CAPTURES.md
 finish

@@ -217,7 +217,7 @@ others() {
     [ $? -eq 1 ] && [ "$(cat "$room/errors")" = 'cap2pcap: line 1' ]
     count $? 'cap2pcap: a line without an end'
     cap2pcap <"$room" >"$room/output" 2>"$room/errors"
-    [ $? -eq 3 ] && [ "$(cat "$room/errors")" = 'cap2pcap: standard input: Is a directory' ]
+    [ $? -eq 3 ] && [ "$(cat "$room/errors")" = 'cap2pcap: standard input: it is a directory' ]
     count $? 'cap2pcap: a directory'
     pcap2cap - <"$room" >"$room/output" 2>"$room/errors"
     [ $? -eq 3 ] && [ "$(cat "$room/errors")" = 'pcap2cap: standard input: it is a directory' ]

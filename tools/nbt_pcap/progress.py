@@ -48,7 +48,11 @@ class Progress:
 
     def find(self):
         """The file of Linux that tells the place in the file."""
+        wanted = os.stat(self.path)
         for each in os.listdir('/proc/%d/fd' % self.process.pid):
-            if os.path.samefile('/proc/%d/fd/%s' % (self.process.pid, each), self.path):
-                return '/proc/%d/fdinfo/%s' % (self.process.pid, each)
+            try:
+                if os.path.samestat(os.stat('/proc/%d/fd/%s' % (self.process.pid, each)), wanted):
+                    return '/proc/%d/fdinfo/%s' % (self.process.pid, each)
+            except OSError:
+                continue
         return None

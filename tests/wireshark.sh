@@ -229,7 +229,7 @@ others() {
     refused cap2pcap '138 18446744073709551616 00' 1 'cap2pcap: line 1'
     refused cap2pcap '138 4294967296000 00' 1 'cap2pcap: line 1: a pcap file holds no moment after 4294967295999'
     refused cap2pcap "138 0 $(spelled '{HEX:65508}')" 1 'cap2pcap: line 1: a UDP packet holds at most 65507 bytes, not 65508'
-    mkdir "$room/bare" && ln -s "$(command -v cat)" "$room/bare"
+    mkdir "$room/bare" && ln -s "$(command -v cat)" "$(command -v env)" "$room/bare"
     ln -s "$(python3 -c 'import sys; print(sys.executable)')" "$room/bare/python3"
     PATH=$room/bare refused pcap2cap '' 3 "pcap2cap: tshark isn't installed; in Debian it is the package tshark" "$room/network.pcap"
     PATH=$room/bare refused cap2pcap '' 3 "cap2pcap: text2pcap isn't installed; in Debian it comes with the package tshark"
@@ -302,11 +302,11 @@ growing() {
     count $? "pcap2cap, peak of memory: $small and $large"
 }
 
-# interrupted TOOL: what a tool that waits for its input says to Ctrl-C.
+# interrupted SECONDS TOOL: what a tool that waits for its input, or still begins, says to Ctrl-C.
 interrupted() {
-    sleep 4 | timeout --preserve-status -s INT 2 "$here/../tools/$1" ${2:-} >"$room/output" 2>"$room/errors"
-    [ "${PIPESTATUS[1]}" -eq 130 ] && [ "$(cat "$room/errors")" = "$1: interrupted" ]
-    count $? "$1 ${2:-}, Ctrl-C: $(cat "$room/errors")"
+    sleep 4 | timeout --preserve-status -s INT "$1" "$here/../tools/$2" ${3:-} >"$room/output" 2>"$room/errors"
+    [ "${PIPESTATUS[1]}" -eq 130 ] && [ "$(cat "$room/errors")" = "$2: interrupted" ]
+    count $? "$2 ${3:-}, Ctrl-C after $1 s: $(cat "$room/errors")"
 }
 
 # A packet, a pause, another one, and Ctrl-C.
@@ -337,8 +337,11 @@ sends() { python3 -c 'import socket, sys
 socket.socket(socket.AF_INET, socket.SOCK_DGRAM).sendto(sys.argv[1].encode(), ("127.0.0.1", int(sys.argv[2])))' "$@"; }
 
 waits() {
-    interrupted pcap2cap -
-    interrupted cap2pcap
+    local seconds
+    for seconds in 0.05 0.1 2; do
+        interrupted $seconds pcap2cap -
+        interrupted $seconds cap2pcap
+    done
     if ended tshark -i lo -a duration:0 >"$room/output" 2>&1; then
         live
     else

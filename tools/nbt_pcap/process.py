@@ -64,6 +64,7 @@ def run(main):
     """Runs a tool, whose status `main` answers. Whatever ends it gives one line, and no traceback."""
     try:
         signal.signal(signal.SIGINT, signal.default_int_handler)
+        signal.pthread_sigmask(signal.SIG_UNBLOCK, [signal.SIGINT])
         status = main(open_closed_streams())
     except Stopped as why:
         say(str(why))

@@ -253,7 +253,7 @@ long() {
     queries 100000 >"$room/long.pcap"
     pcap2cap "$room/long.pcap" >"$room/output" 2>"$room/errors"
     [ $? -eq 0 ] && diff - "$room/errors" <<'EOF'
-pcap2cap: more than 16777216 bytes are written now, and nbt reads no more of one input: cut the pcap, or give the capture to nbt-parallel
+pcap2cap: more than 16777216 bytes are written now: nbt reads no more of one input without --input-limit
 100000 frames, 100000 of these ports, 0 left out
 EOF
     count $? 'pcap2cap: more than one input'

@@ -1,10 +1,9 @@
 """The lines of a capture: payloads and comments, and the clock whose ticks stand between them."""
 from .process import say, write
 
-# How many bytes nbt reads of one input, and what is said where more were written.
+# How many bytes nbt reads of one input without an option, and what is said where more were written.
 MOST_IN_A_CAPTURE = 16_777_216
-TOO_LONG = ('more than %d bytes are written now, and nbt reads no more of one input: cut the pcap, or give the capture to '
-            'nbt-parallel' % MOST_IN_A_CAPTURE)
+TOO_LONG = ('more than %d bytes are written now: nbt reads no more of one input without --input-limit' % MOST_IN_A_CAPTURE)
 FRAGMENT_TIMER = 2_000
 
 

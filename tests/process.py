@@ -14,7 +14,7 @@ import sys
 import tempfile
 import time
 
-from process_inputs import CAPTURE, COMMANDS, FRED, READING, REPORT, captures
+from process_inputs import CAPTURE, COMMANDS, FRED, READING, REPORT, captures, roomy
 from process_runs import (HERE, at_terminal, broken_pipe, bytes_of, closed, limited, lines_of, quiet_terminal, rest_of, run,
                           small_pipe, start, starts, wait)
 
@@ -337,6 +337,13 @@ def short_memory():
         check(whole[0] in outcomes, f'nbt {words[0]}: 64 megabytes are enough')
 
 
+def room():
+    """Inputs that want a known room, in little more memory than that."""
+    for name, words, given, output, limit in roomy():
+        ended = run(words, given, before=limited(limit << 10))
+        check(ended == (0, output, b''), f'nbt {words[0]}, {name} in {limit} kB: {ended[0]} {ended[2][:60]}')
+
+
 # The stack that is enough beside a run's words and environment (docs/ATTACKS.md).
 STACK = 96 << 10
 
@@ -365,7 +372,7 @@ def is_told(ended, whole):
 
 
 for part in (ordinary, failing_outputs, closed_reports, cut_reports, inputs, open_inputs, halting_inputs, terminals,
-             full_disks, short_files, short_memory, short_stack):
+             full_disks, short_files, short_memory, room, short_stack):
     before = sum(counts.values())
     part()
     count = sum(counts.values()) - before

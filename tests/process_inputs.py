@@ -1,4 +1,4 @@
-"""Packets, captures and commands for tests/process.py."""
+"""Packets, captures and commands for tests/process.py, and inputs that want a known room."""
 JOE = '20454b45504546434143414341434143414341434143414341434143414341414100'
 FRED = '20454746434546454543414341434143414341434143414341434143414341434100'
 
@@ -44,3 +44,34 @@ READING = [['show'], ['save'], ['replay', 'FRED<20>'], ['merge'], ['list'], ['ag
 def captures(count, data=''):
     """A capture of first fragments, each of another key."""
     return b''.join(f'138 0 {packet(it, data=data)}\n'.encode() for it in range(count))
+
+
+def pieces(*rows):
+    """A capture of pieces with more to come, each an identifier, an offset and data, and what a replay says of them."""
+    lines = (f'138 0 {packet(key, 1 if offset else 3, offset, data)}\n' for key, offset, data in rows)
+    report = (f'{number} kept 10.0.0.5:138/{key:04x}\n' for number, (key, _, _) in enumerate(rows, 1))
+    return ''.join(lines).encode(), ''.join(report).encode()
+
+
+def roomy():
+    """(name, words, input, output, kB of memory) of inputs that want a known room.
+
+    No contract says how much room is reserved beside what is held. Each limit is the least in which the program did
+    its work, and 15 percent more. Where a piece of a byte takes much more than its byte, long pieces take twice their
+    room, or an input is held whole, it doesn't do.
+    """
+    long, half = '5a' * 64_000, '5a' * 32_000
+    for name, limit, rows in [
+            ('65,535 keys of a byte', 69_800, [(key, 0, '5a') for key in range(65_535)]),
+            ('20,000 keys of three bytes, the middle one last', 25_500,
+             [(key, offset, '5a') for offset in (0, 2, 1) for key in range(20_000)]),
+            ('10 keys of 9,000 bytes apart', 13_100,
+             [(key, 2 * place, '5a') for place in range(9_000) for key in range(10)]),
+            ('120 keys of 64,000 bytes', 12_600, [(key, 0, long) for key in range(120)]),
+            ('120 keys of two pieces of 32,000 bytes', 15_200,
+             [(key, offset, half) for offset in (0, 32_000) for key in range(120)])]:
+        given, report = pieces(*rows)
+        yield name, ['replay', '--keys', '65535', 'FRED<20>'], given, report, limit
+    comments = (b'#' * 4_000 + b'\n') * 4_000
+    for words, output in [(['show'], b''), (['replay', 'FRED<20>'], b''), (['save'], b'4e42543200000000\n')]:
+        yield '16 MB of comments', words, comments, output, 3_500

@@ -67,7 +67,8 @@ pub fn replay<R: Read, W: Write>(
     // The bytes that this call took from the reader, and what was made of them.
     ensures replays { (bytes : List ℕ) ×
         Consumes (R.remaining reader.old.inner) (R.remaining reader.new.inner) bytes ×
-        ((result ≡ Err ReplayFault.Read → ShowsUnread MAX_INPUT bytes reader.old.counts reader.new.counts) ×
+        ((result ≡ Err ReplayFault.Read →
+        ShowsUnread MAX_INPUT bytes reader.old.counts reader.new.counts) ×
         ((H : List Event) (s : Stands member.old H) →
         Replays MAX_INPUT member.old H (live member.old.settings s.sayings) bytes
         (R.remaining reader.new.inner) member.new
@@ -96,7 +97,8 @@ pub fn replay_within<R: Read, W: Write>(
     // The bytes that this call took from the reader, and what was made of them.
     ensures replays { (bytes : List ℕ) ×
         Consumes (R.remaining reader.old.inner) (R.remaining reader.new.inner) bytes ×
-        ((result ≡ Err ReplayFault.Read → ShowsUnread most bytes reader.old.counts reader.new.counts) ×
+        ((result ≡ Err ReplayFault.Read →
+        ShowsUnread most bytes reader.old.counts reader.new.counts) ×
         ((H : List Event) (s : Stands member.old H) →
         Replays most member.old H (live member.old.settings s.sayings) bytes
         (R.remaining reader.new.inner) member.new

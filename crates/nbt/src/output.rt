@@ -98,13 +98,7 @@ impl<W> Output<W> {
         ensures why { IfErr result (λ fault. fault ≡ Fault.Write →
             ShowsWriteFault self.old.counts self.new.counts) }
     {
-        outcome_of(replay_within(
-            alloc,
-            input,
-            &mut self.device,
-            &mut member,
-            most,
-        ))
+        outcome_of(replay_within(alloc, input, &mut self.device, &mut member, most))
     }
 }
 

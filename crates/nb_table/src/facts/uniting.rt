@@ -128,9 +128,8 @@ impl Facts {
         requires { AreShort MAX_LENGTH self.now }
         ensures value { IfOk result (λ datagram. datagram
             ≡ datagram_with key self.now (bytes_to self.now.cover.bytes self.now.cover.end)) }
-        ensures no_memory_needed {
-            datagram_with key self.now (bytes_to self.now.cover.bytes self.now.cover.end) ≡ None
-            → result ≡ Ok None }
+        ensures no_memory_needed { datagram_with key self.now
+            (bytes_to self.now.cover.bytes self.now.cover.end) ≡ None → result ≡ Ok None }
     {
         self.datagram(alloc, key, &self.places)
     }

@@ -16,9 +16,7 @@ use crate::output::Output;
 use crate::saved::print_saved;
 use crate::settings::{Capacity, PORT, capacity_of, input_limit_of, settings_with};
 use clap::ArgMatches;
-use nb_member::{
-    Line, LineReadFault, LineRoom, LocalNames, Member, MemberFault, next_from,
-};
+use nb_member::{Line, LineReadFault, LineRoom, LocalNames, Member, MemberFault, next_from};
 use nb_names::Counted;
 use nb_table::TableFault;
 use std::alloc::Global;
@@ -79,8 +77,9 @@ fn member_after<R: Read>(
         (R.remaining input.old.inner) (R.remaining input.new.inner)) }
     ensures fault { IfErr result (λ fault. fault ≢ Fault.Write) }
     ensures stops { IfErr result (λ fault. (fault ≡ Fault.Memory) ⊎
-        StopsSaving (λ given. given ≡ capacity) (λ number. number ≡ most) (R.remaining input.old.inner)
-        (R.remaining input.new.inner) input.old.counts input.new.counts fault) }
+        StopsSaving (λ given. given ≡ capacity) (λ number. number ≡ most)
+        (R.remaining input.old.inner) (R.remaining input.new.inner)
+        input.old.counts input.new.counts fault) }
 {
     let mut member = Member::new(alloc, settings_with(capacity), LocalNames::new(alloc));
     let mut room = LineRoom::within(alloc, most);

@@ -56,12 +56,7 @@ fn flag_word(digits: &str, broadcast: bool) -> Result<u16, BuildFault>
 }
 
 /// The record of a name, with these bytes as RDATA.
-fn answer<'a>(
-    name: &Name,
-    kind: u16,
-    ttl: u32,
-    bytes: &'a [u8],
-) -> Result<Record<'a>, BuildFault>
+fn answer<'a>(name: &Name, kind: u16, ttl: u32, bytes: &'a [u8]) -> Result<Record<'a>, BuildFault>
     ensures { IfOk result (λ made. (rdata : ResourceData) × HasRdata kind bytes.entry.now rdata
         × (made ≡ record_of (labels_of_name name.now) kind IN ttl rdata)) }
 {

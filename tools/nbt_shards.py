@@ -285,11 +285,11 @@ def line_count(data):
 
 
 def group_of(line, groups):
-    """The group of a line, or None for a tick, which each group has. Comments go to all groups by turns, so to say; what
-    else has no source address is of group 0."""
+    """The group of a line, or None for a tick, which each group has. Comments and payloads of other ports, which a table has
+    nothing of, are spread over all groups; what else has no source address is of group 0."""
     if line.startswith(b'tick '):
         return None
-    if line.startswith(b'#'):
+    if line.startswith((b'#', b'137 ', b'139 ')):
         return zlib.crc32(line) % groups
     payload = SOURCE.match(line)
     return int(payload[1], 16) % groups if payload else 0

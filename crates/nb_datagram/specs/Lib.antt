@@ -9,5 +9,6 @@ pub mod Header
 pub mod Packet
 pub mod DatagramFaults
 pub mod FaultTexts
+pub mod Texts
 pub mod Pieces
 pub mod Code

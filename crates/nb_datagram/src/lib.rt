@@ -18,6 +18,7 @@ pub mod laws;
 pub mod limits;
 mod lists;
 mod packet;
+mod texts;
 mod too_long;
 
 pub use cut_fault::CutFault;
@@ -31,4 +32,5 @@ pub use key::Key;
 pub use kind::Kind;
 pub use lists::{Datagrams, ErrorPackets, Pieces};
 pub use packet::{ErrorPacket, Packet, QueryKind, QueryPacket};
+pub use texts::{kind_name, push_key};
 pub use too_long::TooLong;

@@ -16,6 +16,7 @@ pub fn answer(alloc: Global, call: &str, words: &mut Words<'_>) -> Result<String
         "service" => nb_examples_service::answer(alloc, call, words),
         "session" => nb_examples_session::answer(alloc, call, words),
         "datagram" => nb_examples_datagram::answer(alloc, call, words),
+        "text" => nb_examples_service::shown::answer(alloc, call, words),
         "table" => nb_examples_table::answer(alloc, call, words),
         "member" => nb_examples_member::answer(alloc, call, words),
         _ => Err(ExampleFault::NoSuchCall),

@@ -23,6 +23,8 @@ pub fn answer(alloc: Global, call: &str, words: &mut Words<'_>) -> Result<String
         "datagram" => values::datagram(alloc, words),
         "datagrams" => values::listed_datagrams(alloc, words),
         "errors" => values::listed_errors(alloc, words),
+        "key" => texts::key(alloc, words),
+        "kind" => texts::kind(alloc, words),
         "type" => values::message_type(alloc, words),
         "code" => values::error_code(alloc, words),
         "order" => values::order(alloc, words),

@@ -1,13 +1,44 @@
 //! Keys, kinds, fragments, datagrams and packets as text, and kinds from their words.
 
-use nb_datagram::{Datagram, ErrorPacket, Fragment, Key, Kind, Packet, QueryKind, QueryPacket};
+use nb_datagram::{
+    Datagram, ErrorPacket, Fragment, Key, Kind, Packet, QueryKind, QueryPacket, kind_name, push_key,
+};
 use nb_examples_words::byte_text::text_of_bytes;
 use nb_examples_words::fault::ExampleFault;
-use nb_examples_words::marks::{begin, end};
+use nb_examples_words::marks::{alone, begin, end, told};
 use nb_examples_words::words::Words;
 use nb_names::{Name, name_text};
 use std::alloc::Global;
 use std::fmt::Display;
+
+/// `key TEXT KEY`: the text with a key's after it.
+pub fn key(alloc: Global, words: &mut Words<'_>) -> Result<String, ExampleFault> {
+    let front = words.word()?;
+    let key = next_key(words)?;
+    let (said, text) = alone(alloc, || with_key(alloc, front, key))?;
+    told(said, text)
+}
+
+/// The text with a key's after it, or nothing where memory ran out.
+fn with_key(alloc: Global, front: &str, key: Key) -> Option<String> {
+    let Ok(mut text) = String::from_str(alloc, front) else {
+        return None;
+    };
+    match push_key(key, &mut text) {
+        Ok(()) => Some(text),
+        Err(_) => None,
+    }
+}
+
+/// `kind KIND`: the word for a kind.
+pub fn kind(alloc: Global, words: &mut Words<'_>) -> Result<String, ExampleFault> {
+    let kind = kind_of(words.word()?)?;
+    let mut said = begin(alloc)?;
+    let word = kind_name(kind);
+    end(&mut said)?;
+    said.push_str(word)?;
+    Ok(said)
+}
 
 /// A key as text: `10.0.0.5:138/0001`.
 pub fn key_text(alloc: Global, key: Key) -> Result<String, ExampleFault> {

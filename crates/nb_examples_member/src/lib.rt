@@ -32,7 +32,7 @@ pub fn answer(alloc: Global, call: &str, words: &mut Words<'_>) -> Result<String
         "many" => many::taken(alloc, words),
         "next" => reading::each_line(alloc, words),
         "next_within" => reading::each_line_within(alloc, words),
-        "key" | "datagram" => texts::answer(alloc, call, words),
+        "datagram" => texts::parts(alloc, words),
         "report" | "replay" | "written" => replays::replayed(alloc, call, words),
         "compare" => values::compared(alloc, words),
         "memory" => values::memory(alloc),

@@ -2,6 +2,7 @@
 #![tactic(auto)]
 
 mod devices;
+mod pieces;
 mod reading;
 mod texts;
 mod values;

@@ -1,16 +1,14 @@
 //! Texts of names, of bytes and of lines.
 
 use crate::devices;
+use crate::pieces;
 use crate::reading::domain_of;
 use nb_examples_words::byte_text::{bytes_of, text_of_bytes};
 use nb_examples_words::fault::ExampleFault;
 use nb_examples_words::marks::{alone, begin, end, told};
 use nb_examples_words::words::Words;
 use nb_names::lines::split_line;
-use nb_names::{
-    DigitsFault, Name, Scope, bytes_of_digits, domain_text, name_from_text, name_text, push_name,
-    write_domain,
-};
+use nb_names::{Name, Scope, domain_text, name_from_text, name_text, push_name, write_domain};
 use std::alloc::Global;
 
 /// What a call answers, as text.
@@ -21,7 +19,8 @@ pub fn answer(alloc: Global, call: &str, words: &mut Words<'_>) -> Result<String
         "name_text" => name_written(alloc, words),
         "domain_text" => domain_written(alloc, words),
         "push_name" => name_added(alloc, words),
-        "digits" => digits(alloc, words),
+        "digits" | "data" | "push_digits" | "push_data" | "push_word" | "push_address"
+        | "push_domain" => pieces::answer(alloc, call, words),
         "spelling" => spelled(alloc, words),
         "split_line" => line_split(alloc, words),
         _ => devices::answer(alloc, call, words),
@@ -108,22 +107,6 @@ fn with_name(alloc: Global, front: &str, name: &Name) -> Option<String> {
     match push_name(&mut text, name) {
         Ok(()) => Some(text),
         Err(_) => None,
-    }
-}
-
-/// `digits BYTES`: the bytes whose hexadecimal digits are the text of these bytes.
-fn digits(alloc: Global, words: &mut Words<'_>) -> Result<String, ExampleFault> {
-    let text = words.bytes(alloc)?;
-    let (mut said, answer) = alone(alloc, || match bytes_of_digits(alloc, text.as_slice()) {
-        Err(DigitsFault::NoMemory) => None,
-        answer => Some(answer),
-    })?;
-    match answer {
-        Ok(bytes) => told(said, text_of_bytes(alloc, bytes.as_slice())?),
-        Err(fault) => {
-            write!(said, "{fault}")?;
-            Ok(said)
-        }
     }
 }
 

@@ -1,9 +1,10 @@
-//! The calls of nb_service, as lines of examples make them.
+//! The calls of nb_service and nb_text, as lines of examples make them.
 #![tactic(auto)]
 
 mod building;
 mod decoding;
 mod parts;
+pub mod shown;
 mod texts;
 mod values;
 mod views;

@@ -2,7 +2,7 @@
 -- line's first. A moment is in milliseconds.
 use Rattle.std.specs.Prelude.{ℕ, List, codes, ◌≡◌, ◌<◌, ◌≤◌, ◌^◌, length, [], ◌∷◌, ◌++◌, Contains, Result, Ok, Err, Option, Some, None}
 use Rattle.std.specs.Str.Parse.{IsNumeral, digits_value}
-use Rattle.nb_names.specs.Hexadecimal.{HexText}
+use Rattle.nb_names.specs.Hexadecimal.{DataText}
 use Rattle.nb_member.specs.declared.limits.TheConstants.{MAX_MOMENT_DIGITS, MAX_LINE}
 use Rattle.nb_member.specs.declared.line.Line.{Line}
 use Rattle.nb_member.specs.declared.line.Line.TheVariants.{Packet, Tick}
@@ -39,18 +39,12 @@ pub record MomentText (moment : ℕ) (text : List ℕ) : Type 0 where
   pub value : moment ≡ digits_value 10 text
   pub fits : moment < 2 ^ 64
 
--- PayloadText payload text: the word is the digits of the payload's bytes, or `empty` where it has none
-pub data PayloadText : List ℕ → List ℕ → Type 0 where
-  empty : PayloadText [] (codes "empty")
-  digits : (payload text : List ℕ) → 0 < length text → HexText payload text
-      → PayloadText payload text
-
 -- ---- lines
 
 -- HasWords line value: the words of the line, with one space between them, stand for this
 pub data HasWords : List ℕ → Line → Type 0 where
   packet : (port moment : ℕ) (payload port_text moment_text payload_text : List ℕ)
-      → PortText port port_text → MomentText moment moment_text → PayloadText payload payload_text
+      → PortText port port_text → MomentText moment moment_text → DataText payload payload_text
       → HasWords (port_text ++ space ∷ (moment_text ++ space ∷ payload_text)) (Packet port moment payload)
   tick : (now : ℕ) (text : List ℕ) → MomentText now text → HasWords (codes "tick" ++ space ∷ text) (Tick now)
 

@@ -13,4 +13,5 @@ pub mod LineRoom
 pub mod LineReading
 pub mod LinesSoFar
 pub mod Replaying
+pub mod LinesCame
 pub mod Code

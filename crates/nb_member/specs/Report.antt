@@ -3,19 +3,16 @@
 -- A payload of port 138 and a look at the clock are events of the member. Payloads of the other ports pass
 -- it by. Empty lines and comments are counted, and have no line in the report. Numbers are decimal, bytes are
 -- hexadecimal in lower case.
-use Rattle.std.specs.Prelude.{ℕ, List, ◌++◌, slice_index, codes, [], ◌∷◌, Option, Some, None, Result, Ok, Err, ◌-◌, ◌≢◌, ◌+◌}
+use Rattle.std.specs.Prelude.{ℕ, List, ◌++◌, codes, [], ◌∷◌, Option, Some, None, Result, Ok, Err, ◌-◌, ◌≢◌, ◌+◌}
 use Rattle.std.specs.Fmt.{decimal}
-use Rattle.std.specs.Int.{w16, to_be_bytes}
 use Rattle.std.specs.FinMap as maps
-use Rattle.hex.specs.Hex.{encode_lower}
+use Rattle.nb_names.specs.Hexadecimal.{data_text, digits_text}
 use Rattle.nb_names.specs.NameText.{written}
 use Rattle.nb_names.specs.Name.{NetbiosName}
-use Rattle.nb_datagram.specs.declared.key.Key.{Key}
-use Rattle.nb_datagram.specs.declared.kind.Kind.{Kind}
-use Rattle.nb_datagram.specs.declared.kind.Kind.TheVariants.{Unique, Group, Broadcast}
 use Rattle.nb_datagram.specs.declared.packet.ErrorPacket.{ErrorPacket}
 use Rattle.nb_datagram.specs.declared.packet.Packet.TheVariants.{Error}
 use Rattle.nb_datagram.specs.Datagram.{DatagramParts}
+use Rattle.nb_datagram.specs.Texts.{key_text, kind_text}
 use Rattle.nb_datagram.specs.Packet.{packet_bytes}
 use Rattle.nb_member.specs.declared.outcome.Outcome.{Outcome}
 use Rattle.nb_member.specs.declared.outcome.Outcome.TheVariants.{Kept, Spoilt, Delivered, Unheard, Other}
@@ -33,29 +30,6 @@ use Rattle.nb_member.specs.Capture.{line_feed, space, HasValue, SaysNothing}
 
 -- ---- texts of values
 
--- an IPv4 address: its four numbers, with dots between them
-abbrev pub address_text : List ℕ → List ℕ
-address_text ip =
-    decimal (slice_index ip 0)
-    ++ (codes "." ++ (decimal (slice_index ip 1)
-    ++ (codes "." ++ (decimal (slice_index ip 2) ++ (codes "." ++ decimal (slice_index ip 3))))))
-
--- a key: the address, the port, and the identifier as four hexadecimal digits
-abbrev pub key_text : Key → List ℕ
-key_text k =
-    address_text k.ip ++ (codes ":" ++ (decimal k.port ++ (codes "/" ++ encode_lower (to_be_bytes w16 k.id))))
-
--- the word for a kind
-abbrev pub kind_text : Kind → List ℕ
-kind_text Unique = codes "unique"
-kind_text Group = codes "group"
-kind_text Broadcast = codes "broadcast"
-
--- data in hexadecimal, or `empty`
-abbrev pub data_text : List ℕ → List ℕ
-data_text [] = codes "empty"
-data_text (b ∷ bytes) = encode_lower (b ∷ bytes)
-
 -- a datagram's kind, source, destination and data, each after a space
 abbrev pub parts_text : DatagramParts → List ℕ
 parts_text d =
@@ -69,7 +43,7 @@ datagram_text d = key_text d.key ++ parts_text d
 -- what is said of the error packet that is answered, if there is one: its bytes
 abbrev pub error_text : Option ErrorPacket → List ℕ
 error_text None = []
-error_text (Some e) = codes " error " ++ encode_lower (packet_bytes (Error e))
+error_text (Some e) = codes " error " ++ digits_text (packet_bytes (Error e))
 
 -- ---- what became of a payload
 

@@ -1,13 +1,14 @@
 //! Reading a line of a capture.
-ghost use Rattle.std.specs.Prelude.{◌≡◌, ℕ, ◌<◌, ◌++◌, ◌∷◌, List, [], length, Contains, IfOk, MatchOption, IsTrue, ◌↔◌, Result, Ok, Err};
+ghost use Rattle.std.specs.Prelude.{◌≡◌, ℕ, ◌<◌, ◌++◌, ◌∷◌, List, length, Contains, MatchOption, IsTrue, ◌↔◌};
 ghost use Rattle.std.specs.List.{list_all};
 ghost use Rattle.std.specs.Char.{is_ascii_digit};
-ghost use Rattle.nb_member.specs.Capture.{space, PortText, MomentText, PayloadText, Reads, ReadsBy, NeedsMemory, Blank, HasWords};
+ghost use Rattle.nb_member.specs.Capture.{space, PortText, MomentText, Reads, ReadsBy, NeedsMemory, Blank, HasWords};
+ghost use Rattle.nb_names.specs.Hexadecimal.{DataText};
 
 use crate::limits::{MAX_LINE, MAX_MOMENT_DIGITS};
 use crate::line::Line;
 use crate::line_fault::LineFault;
-use nb_names::{Bytes, DigitsFault, bytes_of_digits};
+use nb_names::{Bytes, DigitsFault, data_of_text};
 use std::alloc::Global;
 use std::str;
 
@@ -144,25 +145,12 @@ fn are_digits(text: &[u8]) -> bool
 
 /// The payload that a word stands for.
 fn payload_of(alloc: Global, text: &[u8]) -> Result<Bytes, LineFault>
-    ensures { ReadsBy (λ payload. PayloadText payload text.now) (λ payload. 0 < length payload)
+    ensures { ReadsBy (λ payload. DataText payload text.now) (λ payload. 0 < length payload)
         result }
 {
-    if text == b"empty".as_slice() {
-        return Ok(no_bytes(alloc));
-    }
-    if text.is_empty() {
-        return Err(LineFault::BadLine);
-    }
-    match bytes_of_digits(alloc, text) {
+    match data_of_text(alloc, text) {
         Ok(payload) => Ok(payload),
         Err(DigitsFault::BadDigits) => Err(LineFault::BadLine),
         Err(DigitsFault::NoMemory) => Err(LineFault::NoMemory),
     }
-}
-
-/// An empty payload.
-fn no_bytes(alloc: Global) -> Bytes
-    ensures { result ≡ [] }
-{
-    Bytes::from_vec(Vec::new(alloc))
 }

@@ -3,7 +3,6 @@ ghost use Rattle.std.specs.Prelude.{◌≡◌, ◌++◌, codes, IfOk, string_byt
 ghost use Rattle.std.specs.Fmt.{decimal};
 ghost use Rattle.nb_member.specs.Report.{numbered, result_text};
 
-mod digits;
 pub(crate) mod texts;
 
 use crate::member_fault::MemberFault;

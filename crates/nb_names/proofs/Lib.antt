@@ -19,3 +19,6 @@ pub mod OutputLemmas
 pub mod InputLemmas
 pub mod LineLawLemmas
 pub mod HexadecimalLemmas
+pub mod DigitLemmas
+pub mod LetterLemmas
+pub mod DataLemmas

@@ -10,6 +10,7 @@ pub mod PacketFacts
 pub mod FaultTexts
 pub mod NameText
 pub mod Hexadecimal
+pub mod Addresses
 pub mod HexadecimalFacts
 pub mod TextFaults
 pub mod Code

@@ -3,13 +3,13 @@
 --
 -- Std's `digit_value` has the value of a digit or a letter of either case, and its `digit_char` the
 -- digit, in lower case, of a value.
-use Rattle.std.specs.Prelude.{◌≡◌, ◌==◌, ◌||◌, ℕ, ◌+◌, ◌-◌, ◌*◌, ◌/◌, ◌%◌, ◌<◌, ◌≤◌, Bool, false, IsTrue, List, [], ◌∷◌, ◌++◌, length, take, replicate, if◌then◌else◌, slice_index}
-use Rattle.std.specs.List.{flat_map}
+use Rattle.std.specs.Prelude.{◌≡◌, ◌==◌, ◌||◌, ◌&&◌, ℕ, ◌+◌, ◌-◌, ◌*◌, ◌/◌, ◌%◌, ◌<◌, ◌≤◌, Bool, false, nat_le, IsTrue, List, [], ◌∷◌, ◌++◌, length, take, replicate, if◌then◌else◌, slice_index, Option, Some, None}
+use Rattle.std.specs.List.{flat_map, list_all}
 use Rattle.std.specs.Char.{digit_value, digit_char, is_ascii_graphic}
-use Rattle.nb_names.specs.declared.limits.TheConstants.{FRONT_LENGTH}
+use Rattle.nb_names.specs.declared.limits.TheConstants.{FRONT_LENGTH, LETTERS}
 use Rattle.nb_names.specs.declared.text_fault.TextFault.{TextFault}
 use Rattle.nb_names.specs.declared.text_fault.TextFault.TheVariants.{BadText, TooLong}
-use Rattle.nb_names.specs.Ascii.{space, dot, less_than, greater_than, backslash}
+use Rattle.nb_names.specs.Ascii.{space, dot, less_than, greater_than, letter_a, letter_p, backslash}
 use Rattle.nb_names.specs.Name.{NetbiosName, IsScope}
 
 -- ---- the form
@@ -151,3 +151,34 @@ written name = bytes_written name.bytes ++ scope_text_of name.scope
 abbrev pub domain_written : List (List ℕ) → List ℕ
 domain_written [] = dot ∷ []
 domain_written (label ∷ labels) = items_of label ++ scope_text_of labels
+
+-- ---- labels that may be a NetBIOS name's
+
+-- whether a byte is a letter that spells half a byte: one of `A` to `P`
+abbrev pub is_letter : ℕ → Bool
+is_letter byte = nat_le letter_a byte && nat_le byte letter_p
+
+-- whether a label is the letters of a name's sixteen bytes
+abbrev pub are_letters : List ℕ → Bool
+are_letters label = length label == LETTERS && list_all is_letter label
+
+-- the bytes that letters stand for, two letters for each, the high half first
+abbrev pub bytes_of_letters : List ℕ → List ℕ
+bytes_of_letters [] = []
+bytes_of_letters (high ∷ []) = []
+bytes_of_letters (high ∷ low ∷ letters) = ((high - letter_a) * 16 + (low - letter_a)) ∷ bytes_of_letters letters
+
+-- the NetBIOS name that the labels of a domain name are, if they are one's
+abbrev pub name_of_labels : List (List ℕ) → Option NetbiosName
+name_of_labels [] = None
+name_of_labels (first ∷ scope) =
+    if are_letters first then Some (record { bytes = bytes_of_letters first; scope = scope }) else None
+
+-- either_written name labels: the name's text, if there is one, else that of a domain name with these labels
+abbrev pub either_written : Option NetbiosName → List (List ℕ) → List ℕ
+either_written (Some name) labels = written name
+either_written None labels = domain_written labels
+
+-- the form in which the labels that stand in a packet are written: as a NetBIOS name, where they are one's
+abbrev pub labels_written : List (List ℕ) → List ℕ
+labels_written labels = either_written (name_of_labels labels) labels

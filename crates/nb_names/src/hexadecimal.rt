@@ -1,9 +1,9 @@
 //! Bytes in hexadecimal.
-ghost use Rattle.std.specs.Prelude.{◌≡◌, ◌*◌, ◌%◌, ◌<◌, ◌≤◌, ℕ, List, length, false, IsTrue, Err};
+ghost use Rattle.std.specs.Prelude.{◌≡◌, ◌*◌, ◌%◌, ◌<◌, ◌≤◌, ℕ, List, [], length, false, IsTrue, Err};
 ghost use Rattle.std.specs.List.{list_all};
 ghost use Rattle.std.specs.Char.{digit_value, is_ascii_hexdigit};
 ghost use Rattle.nb_names.specs.NameText.{IsHexDigit};
-ghost use Rattle.nb_names.specs.Hexadecimal.{HexText, ReadsDigits};
+ghost use Rattle.nb_names.specs.Hexadecimal.{HexText, ReadsData, ReadsDigits};
 
 use crate::bytes::Bytes;
 use std::alloc::Global;
@@ -40,6 +40,34 @@ pub fn bytes_of_digits(alloc: Global, text: &[u8]) -> Result<Bytes, DigitsFault>
         Ok(room) => bytes_in(room, text),
         Err(_) => Err(fault_without_room(text)),
     }
+}
+
+/// The bytes that a text of data stands for: hexadecimal digits as [`bytes_of_digits`] reads them,
+/// of a byte or more, or the word `empty`.
+///
+/// # Errors
+///
+/// [`DigitsFault::BadDigits`] for any other text, whatever memory there is;
+/// [`DigitsFault::NoMemory`] only for the digits of a byte or more.
+///
+/// The form is our choice.
+pub fn data_of_text(alloc: Global, text: &[u8]) -> Result<Bytes, DigitsFault>
+    ensures { ReadsData text.now result }
+{
+    if text == b"empty".as_slice() {
+        return Ok(no_bytes(alloc));
+    }
+    if text.is_empty() {
+        return Err(DigitsFault::BadDigits);
+    }
+    bytes_of_digits(alloc, text)
+}
+
+/// No bytes.
+fn no_bytes(alloc: Global) -> Bytes
+    ensures { result ≡ [] }
+{
+    Bytes::from_vec(Vec::new(alloc))
 }
 
 /// The bytes that the digits stand for, in this room.

@@ -1,10 +1,12 @@
 //! NetBIOS names: labels, domain names, scopes, and the text that people write names in.
 #![tactic(auto)]
 
+mod addresses;
 mod bytes;
 mod collected;
 mod counted;
 mod device_fault;
+mod digits_writing;
 mod domain_name;
 mod fault;
 mod first_level;
@@ -35,12 +37,14 @@ mod text_steps;
 mod text_writing;
 mod writing;
 
+pub use addresses::push_address;
 pub use bytes::{Bytes, NoMemory};
 pub use counted::{Counted, Told};
 pub use device_fault::DeviceFault;
+pub use digits_writing::{push_data, push_digits, push_word};
 pub use domain_name::DomainName;
 pub use fault::NameFault;
-pub use hexadecimal::{DigitsFault, bytes_of_digits};
+pub use hexadecimal::{DigitsFault, bytes_of_digits, data_of_text};
 pub use items::Items;
 pub use label_fault::LabelFault;
 pub use name::{Name, NotNetbios};
@@ -50,5 +54,5 @@ pub use reading::{read_domain, read_name};
 pub use scope::Scope;
 pub use text_fault::TextFault;
 pub use text_reading::name_from_text;
-pub use text_writing::{domain_text, name_text, push_name};
+pub use text_writing::{domain_text, name_text, push_domain, push_name};
 pub use writing::write_domain;

@@ -3,7 +3,7 @@ ghost use Rattle.std.specs.Prelude.{◌≡◌, ◌++◌, ◌<◌, [], ◌∷◌,
 ghost use Rattle.std.specs.Char.{digit_char};
 ghost use Rattle.nb_names.specs.declared.limits.TheConstants.{NAME_LENGTH};
 ghost use Rattle.nb_names.specs.DomainName.{AreBytes, AreByteLabels};
-ghost use Rattle.nb_names.specs.NameText.{IsText, written, bytes_written, domain_written, trimmed, digits_of, item_of, items_of, scope_text_of};
+ghost use Rattle.nb_names.specs.NameText.{IsText, written, bytes_written, domain_written, trimmed, digits_of, item_of, items_of, scope_text_of, labels_written};
 
 use crate::bytes::NoMemory;
 use crate::domain_name::DomainName;
@@ -44,6 +44,24 @@ pub fn push_name(text: &mut String, name: &Name) -> Result<(), NoMemory>
     push_labels(text, name.scope().as_domain(), 0)
 }
 
+/// Adds the text of a domain name that stands in a packet: that of a NetBIOS name, as [`name_text`]
+/// has it, where it is one's, else as [`domain_text`] has it.
+///
+/// # Errors
+///
+/// [`NoMemory`] where memory ran out; some of the text may then be added.
+///
+/// The form is our choice.
+pub fn push_domain(text: &mut String, domain: &DomainName) -> Result<(), NoMemory>
+    ensures { OnOk result
+        (string_bytes text.new ≡ string_bytes text.old ++ labels_written domain.now) }
+{
+    match Name::from_domain(domain) {
+        Ok(name) => push_name(text, &name),
+        Err(_) => push_plain(text, domain),
+    }
+}
+
 /// The text of a domain name: the items of its labels with `.` between them; the root is `.`.
 ///
 /// # Errors
@@ -55,14 +73,25 @@ pub fn domain_text(alloc: Global, domain: &DomainName) -> Result<String, NoMemor
     ensures { IfOk result (λ text. string_bytes text ≡ domain_written domain.now) }
 {
     let mut text = String::new(alloc);
+    push_plain(&mut text, domain)?;
+    Ok(text)
+}
+
+/// Adds the text of a domain name, as [`domain_text`] has it.
+fn push_plain(text: &mut String, domain: &DomainName) -> Result<(), NoMemory>
+    ensures { OnOk result
+        (string_bytes text.new ≡ string_bytes text.old ++ domain_written domain.now) }
+{
     match domain.label(0) {
         Some(label) => {
-            push_items(&mut text, label)?;
-            push_labels(&mut text, domain, 1)?;
+            push_items(text, label)?;
+            push_labels(text, domain, 1)
         }
-        None => text.push('.')?,
+        None => {
+            text.push_str(".")?;
+            Ok(())
+        }
     }
-    Ok(text)
 }
 
 /// Adds a name's bytes: the items of the first fifteen, and the digits of the last.

@@ -7,7 +7,7 @@ use Rattle.std.proofs.lemmas.Option.{slice_get_past}
 use Rattle.std.specs.Int.{w16, to_be_bytes, from_be_bytes}
 use Rattle.std.specs.List.{flat_map, slice_get}
 use Rattle.std.specs.Prelude.{Some, None}
-use Rattle.nb_service.specs.Code.Pieces.{pieces, entry_of, entries_of, node_name_of, node_names_of}
+use Rattle.nb_service.specs.Views.{pieces, entry_of, entries_of, node_name_of, node_names_of}
 use Rattle.nb_service.specs.Views.{entry_bytes, node_name_bytes}
 
 -- each byte has eight bits

@@ -1,4 +1,3 @@
--- Words of the code's own steps and views (our choice). They are no part of what a packet is: each is held
+-- Words of the code's own steps (our choice). They are no part of what a packet is: each is held
 -- against the definitions by a contract.
 pub mod Steps
-pub mod Pieces

@@ -1,7 +1,7 @@
 //! Lists of addresses, as they stand in RDATA.
 ghost use Rattle.std.specs.Prelude.{◌≡◌, ◌*◌, ◌%◌, length, slice_get};
 ghost use Rattle.std.specs.List.{flat_map};
-ghost use Rattle.nb_service.specs.Views.{entry_bytes};
+ghost use Rattle.nb_service.specs.Views.{entry_bytes, entries_of};
 ghost use Rattle.nb_service.specs.declared.limits.TheConstants.{ENTRY_LENGTH};
 
 use crate::address_entry::AddressEntry;
@@ -17,7 +17,7 @@ pub struct AddressEntries<'a> {
 impl<'a> Model for AddressEntries<'a> {
     ghost use Rattle.std.specs.Prelude.{List};
     ghost use Rattle.nb_service.specs.declared.address_entry.AddressEntry.{AddressEntry};
-    ghost use Rattle.nb_service.specs.Code.Pieces.{entries_of};
+    ghost use Rattle.nb_service.specs.Views.{entries_of};
 
     ghost Value = { List AddressEntry };
 
@@ -28,6 +28,7 @@ impl<'a> AddressEntries<'a> {
     /// The entries that these bytes are, one after the other.
     pub(crate) fn of_bytes(bytes: &'a [u8]) -> Self
         requires { length bytes.now % ENTRY_LENGTH ≡ 0 }
+        ensures value { result ≡ entries_of bytes.entry.now }
         ensures bytes { flat_map entry_bytes result ≡ bytes.entry.now }
         ensures count { ENTRY_LENGTH * length result ≡ length bytes.entry.now }
     {

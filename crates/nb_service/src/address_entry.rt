@@ -1,6 +1,6 @@
 //! Addresses of a NetBIOS name.
 ghost use Rattle.std.specs.Prelude.{◌≡◌};
-ghost use Rattle.nb_service.specs.Code.Pieces.{entry_of};
+ghost use Rattle.nb_service.specs.Views.{entry_of};
 ghost use Rattle.nb_service.specs.Views.{entry_bytes};
 
 use crate::limits::ENTRY_LENGTH;

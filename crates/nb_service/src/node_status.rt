@@ -1,7 +1,7 @@
 //! The status of a node, as it stands in RDATA.
 ghost use Rattle.std.specs.Prelude.{◌≡◌, ◌<◌, ◌*◌, ◌%◌, length, slice_get, take, MatchOption};
 ghost use Rattle.std.specs.List.{flat_map};
-ghost use Rattle.nb_service.specs.Views.{node_name_bytes};
+ghost use Rattle.nb_service.specs.Views.{node_name_bytes, node_names_of};
 ghost use Rattle.nb_service.specs.declared.limits.TheConstants.{NODE_NAME_LENGTH, UNIT_ID_LENGTH};
 
 use crate::limits::{NODE_NAME_LENGTH, UNIT_ID_LENGTH};
@@ -17,7 +17,7 @@ pub struct NodeStatus<'a> {
 
 impl<'a> Model for NodeStatus<'a> {
     ghost use Rattle.nb_service.specs.Views.{StatusParts};
-    ghost use Rattle.nb_service.specs.Code.Pieces.{node_names_of};
+    ghost use Rattle.nb_service.specs.Views.{node_names_of};
 
     ghost Value = { StatusParts };
 
@@ -31,6 +31,7 @@ impl<'a> NodeStatus<'a> {
     /// The names that these bytes are, one after the other, and the statistics.
     pub(crate) fn of_parts(names: &'a [u8], statistics: &'a [u8]) -> Self
         requires { length names.now % NODE_NAME_LENGTH ≡ 0 }
+        ensures value { result.names ≡ node_names_of names.entry.now }
         ensures names { flat_map node_name_bytes result.names ≡ names.entry.now }
         ensures count { NODE_NAME_LENGTH * length result.names ≡ length names.entry.now }
         ensures statistics { result.statistics ≡ statistics.entry.now }

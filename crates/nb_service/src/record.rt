@@ -1,9 +1,9 @@
 //! Resource records.
-ghost use Rattle.std.specs.Prelude.{◌≡◌, ◌≢◌, ◌<◌, ◌*◌, ◌↔◌, ℕ, List, length, drop, IfOk, IsErrOf, MatchOption};
+ghost use Rattle.std.specs.Prelude.{◌≡◌, ◌≢◌, ◌<◌, ◌*◌, ◌↔◌, ℕ, List, [], length, drop, IfOk, IsErrOf, MatchOption};
 ghost use Rattle.std.specs.List.{flat_map};
 ghost use Rattle.nb_service.specs.Record.{of_bytes, of_domain, record_of, rdata_of, IsRdataOf};
 ghost use Rattle.nb_service.specs.declared.limits.TheConstants.{ENTRY_LENGTH, NODE_NAME_LENGTH};
-ghost use Rattle.nb_service.specs.Views.{HasEntries, HasStatus, entry_bytes, after_count};
+ghost use Rattle.nb_service.specs.Views.{HasEntries, HasStatus, entry_bytes, after_count, entries_in, status_in, no_status};
 
 use crate::address_entries::AddressEntries;
 use crate::kinds::{NB, NBSTAT, NS};
@@ -147,9 +147,11 @@ impl<'a> Record<'a> {
     /// None where the kind isn't NB, and where the RDATA isn't entries of six bytes alone.
     /// RFC 1002 section 4.2.13.
     pub fn address_entries(&self) -> Option<AddressEntries<'a>>
-        ensures { MatchOption result ((bytes : List ℕ) → ¬ HasEntries self.now bytes)
+        ensures found { MatchOption result ((bytes : List ℕ) → ¬ HasEntries self.now bytes)
             (λ entries. HasEntries self.now (flat_map entry_bytes entries)
             × (ENTRY_LENGTH * length entries ≡ length (flat_map entry_bytes entries))) }
+        ensures value { MatchOption result (entries_in self.now ≡ [])
+            (λ entries. entries ≡ entries_in self.now) }
     {
         let bytes = self.bytes_of_kind(NB)?;
         if bytes.len() % ENTRY_LENGTH != 0 {
@@ -163,10 +165,12 @@ impl<'a> Record<'a> {
     /// None where the kind isn't NBSTAT, and where the RDATA has less than NUM_NAMES promises.
     /// RFC 1002 section 4.2.18.
     pub fn node_status(&self) -> Option<NodeStatus<'a>>
-        ensures { MatchOption result ((count : ℕ) (rest : List ℕ) → ¬ HasStatus self.now count rest)
+        ensures found { MatchOption result ((count : ℕ) (rest : List ℕ) → ¬ HasStatus self.now count rest)
             (λ status. HasStatus self.now (length status.names) (after_count status)
             × (status.statistics
             ≡ drop (NODE_NAME_LENGTH * length status.names) (after_count status))) }
+        ensures value { MatchOption result (status_in self.now ≡ no_status)
+            (λ status. status ≡ status_in self.now) }
     {
         let bytes = self.bytes_of_kind(NBSTAT)?;
         let (count, rest) = bytes.split_first()?;

@@ -7,3 +7,4 @@ pub mod ReplayingTurns
 pub mod TableTurns
 pub mod JoinedLemmas
 pub mod CapacityGiven
+pub mod ShowingTurns

@@ -1,12 +1,12 @@
 -- What `nbt build` prints: a line of a capture for each packet that it builds (our choice).
 use Rattle.std.specs.Prelude.{◌≡◌, ℕ, List, [], ◌∷◌, ◌++◌, codes}
 use Rattle.std.specs.Fmt.{decimal}
-use Rattle.hex.specs.Hex.{encode_lower}
+use Rattle.nb_names.specs.Hexadecimal.{digits_text}
 use Rattle.nbt.specs.Printing.{line}
 
 -- payload_line port payload: the line of a capture for the payload, at moment 0
 abbrev pub payload_line : ℕ → List ℕ → List ℕ
-payload_line port payload = line (decimal port ++ codes " 0 " ++ encode_lower payload)
+payload_line port payload = line (decimal port ++ codes " 0 " ++ digits_text payload)
 
 -- payload_lines port payloads: the same of each payload, in order
 abbrev pub payload_lines : ℕ → List (List ℕ) → List ℕ

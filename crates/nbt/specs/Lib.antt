@@ -15,3 +15,5 @@ pub mod SaveFaults
 pub mod Replaying
 pub mod Tables
 pub mod Listing
+pub mod Showing
+pub mod Built

@@ -10,7 +10,8 @@ use Rattle.nb_table.specs.declared.outline.Outline.{Outline}
 use Rattle.nb_table.specs.Contents.{Contents}
 use Rattle.nb_table.specs.Outline.{outline_at}
 use Rattle.nb_table.specs.Whole.{datagram_at}
-use Rattle.nb_member.specs.Report.{key_text, kind_text, parts_text}
+use Rattle.nb_datagram.specs.Texts.{key_text, kind_text}
+use Rattle.nb_member.specs.Report.{parts_text}
 use Rattle.nbt.specs.Printing.{line}
 
 -- how many bytes the data has, or `?`

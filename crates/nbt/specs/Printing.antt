@@ -1,10 +1,10 @@
 -- What the program prints for names, and why it refuses them (our choice). A line ends with a line feed, 10.
-use Rattle.std.specs.Prelude.{◌≡◌, ◌≢◌, ◌⊎◌, ◌<◌, ℕ, List, [], ◌∷◌, ◌++◌, length, Option, Ok, IsErr}
+use Rattle.std.specs.Prelude.{◌≡◌, ◌≢◌, ◌⊎◌, ◌<◌, ℕ, List, [], ◌∷◌, ◌++◌, length, Option}
 use Rattle.std.specs.Io.KnownBytes.{Appends, Keeps}
-use Rattle.hex.specs.Hex.{encode_lower, decode_of}
 use Rattle.nb_names.specs.declared.pointers.Pointers.TheVariants.{Refused}
 use Rattle.nb_names.specs.Devices.{AppendsFront}
 use Rattle.nb_names.specs.DomainName.{spelling}
+use Rattle.nb_names.specs.Hexadecimal.{HexText, digits_text}
 use Rattle.nb_names.specs.Name.{NetbiosName, labels_of_name}
 use Rattle.nb_names.specs.NameText.{IsText, IsFaultOf, written}
 use Rattle.nb_names.specs.Labels.{NameAt}
@@ -29,7 +29,7 @@ PrintsFront old new text = AppendsFront old new (line text)
 pub record IsSpellingOf (text digits : List ℕ) : Type 0 where
   pub name : NetbiosName
   pub stands : IsText name text
-  pub exact : digits ≡ encode_lower (spelling (labels_of_name name))
+  pub exact : digits ≡ digits_text (spelling (labels_of_name name))
 
 -- why no spelling is printed for a text
 abbrev pub IsSpellingFault : List ℕ → Fault → Type 0
@@ -51,12 +51,16 @@ IsSpellingFault text Read = ⊥
 IsSpellingFault text Write = Unit {0}
 IsSpellingFault text Memory = Unit {0}
 
+-- the digits are of no bytes
+abbrev pub IsNoHex : List ℕ → Type 0
+IsNoHex digits = (bytes : List ℕ) → ¬ HexText bytes digits
+
 -- IsNameOf digits text: the text is the written form of the name whose spelling the digits are, in
 -- hexadecimal, and nothing else
 pub record IsNameOf (digits text : List ℕ) : Type 0 where
   pub bytes : List ℕ
   pub name : NetbiosName
-  pub decoded : decode_of digits ≡ Ok bytes
+  pub decoded : HexText bytes digits
   pub stands : NameAt bytes Refused 0 (labels_of_name name) (length bytes)
   pub exact : text ≡ written name
 
@@ -68,9 +72,9 @@ IsTrailing bytes at = (name : NetbiosName) × NameAt bytes Refused 0 (labels_of_
 -- why no name is printed for digits
 abbrev pub IsNameFault : List ℕ → Fault → Type 0
 IsNameFault digits (Text fault) = ⊥
-IsNameFault digits BadHex = IsErr (decode_of digits)
-IsNameFault digits (Name fault) = (bytes : List ℕ) × (decode_of digits ≡ Ok bytes) × NetbiosFaultAt bytes Refused 0 fault
-IsNameFault digits (TrailingBytes at) = (bytes : List ℕ) × (decode_of digits ≡ Ok bytes) × IsTrailing bytes at
+IsNameFault digits BadHex = IsNoHex digits
+IsNameFault digits (Name fault) = (bytes : List ℕ) × HexText bytes digits × NetbiosFaultAt bytes Refused 0 fault
+IsNameFault digits (TrailingBytes at) = (bytes : List ℕ) × HexText bytes digits × IsTrailing bytes at
 IsNameFault digits Arguments = ⊥
 IsNameFault digits TooLong = ⊥
 IsNameFault digits ZeroPiece = ⊥
@@ -97,7 +101,7 @@ IsNoWrite fault = fault ≢ Write
 
 -- why digits give no bytes
 abbrev pub IsDecodeFault : List ℕ → Fault → Type 0
-IsDecodeFault digits fault = ((fault ≡ BadHex) × IsErr (decode_of digits)) ⊎ (fault ≡ Memory)
+IsDecodeFault digits fault = ((fault ≡ BadHex) × IsNoHex digits) ⊎ (fault ≡ Memory)
 
 -- PrintsSpelling text old new: the spelling of the text's name is printed as a line
 abbrev pub PrintsSpelling : List ℕ → Option (List ℕ) → Option (List ℕ) → Type 0

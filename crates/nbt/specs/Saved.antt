@@ -1,12 +1,12 @@
 -- What the program prints of tables (our choice).
 use Rattle.std.specs.Prelude.{◌≡◌, ℕ, List}
-use Rattle.hex.specs.Hex.{encode_lower}
+use Rattle.nb_names.specs.Hexadecimal.{digits_text}
 use Rattle.nb_table.specs.Contents.{Contents}
 use Rattle.nb_table.specs.Saved.{saved}
 
 -- the saved table in hexadecimal
 abbrev pub saved_digits : Contents → List ℕ
-saved_digits contents = encode_lower (saved contents)
+saved_digits contents = digits_text (saved contents)
 
 -- IsSavedOf contents digits: the digits are the saved table, in hexadecimal
 abbrev pub IsSavedOf : Contents → List ℕ → Type 0

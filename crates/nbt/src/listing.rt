@@ -4,13 +4,13 @@ ghost use Rattle.std.specs.Io.KnownBytes.{Appends, Keeps};
 ghost use Rattle.nb_names.specs.Devices.{AppendsFront, ShowsWriteFault};
 ghost use Rattle.nb_table.specs.Outline.{outline_at};
 ghost use Rattle.nb_table.specs.Whole.{datagram_at};
-ghost use Rattle.nb_member.specs.Report.{key_text};
+ghost use Rattle.nb_datagram.specs.Texts.{key_text};
 ghost use Rattle.nbt.specs.Listing.{end_text, key_line, known_text, listing, outline_text};
 
 use crate::fault::Fault;
 use crate::output::Output;
-use nb_datagram::Key;
-use nb_member::{kind_name, push_key, push_parts};
+use nb_datagram::{Key, kind_name, push_key};
+use nb_member::push_parts;
 use nb_names::{NoMemory, push_name};
 use nb_table::{Outline, Table};
 use std::alloc::Global;

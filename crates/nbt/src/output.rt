@@ -2,6 +2,7 @@
 ghost use Rattle.std.specs.Prelude.{◌≡◌, ◌<◌, ◌≤◌, length, take, string_bytes, OnOk, OnErr, IfOk, IfErr};
 ghost use Rattle.std.specs.Io.KnownBytes.{Appends};
 ghost use Rattle.nb_names.specs.Counted.{no_calls};
+ghost use Rattle.nb_names.specs.Hexadecimal.{digits_text};
 ghost use Rattle.nb_names.specs.Devices.{AppendsFront, GrowTo, ShowsWriteFault};
 ghost use Rattle.nbt.specs.Printing.{line};
 ghost use Rattle.nbt.specs.Replaying.{EndsWith, ReplaysIn};
@@ -10,7 +11,7 @@ ghost use Rattle.nbt.specs.Input.{WasCut};
 use crate::commands::replay::outcome_of;
 use crate::fault::Fault;
 use nb_member::{Member, replay_within};
-use nb_names::Counted;
+use nb_names::{Counted, NoMemory, push_digits};
 use nb_names::output::{write_some, write_whole};
 use std::alloc::Global;
 use std::io;
@@ -133,4 +134,17 @@ pub fn with_line_feed(mut text: String) -> Result<String, Fault>
         Ok(()) => Ok(text),
         Err(_) => Err(Fault::Memory),
     }
+}
+
+/// The hexadecimal digits of bytes.
+///
+/// # Errors
+///
+/// [`NoMemory`] where memory ran out.
+pub fn digits_of(alloc: Global, bytes: &[u8]) -> Result<String, NoMemory>
+    ensures { IfOk result (λ text. string_bytes text ≡ digits_text bytes.now) }
+{
+    let mut text = String::new(alloc);
+    push_digits(bytes, &mut text)?;
+    Ok(text)
 }

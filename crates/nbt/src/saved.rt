@@ -5,7 +5,7 @@ ghost use Rattle.nbt.specs.Printing.{Leaves, PrintsLine};
 ghost use Rattle.nbt.specs.Saved.{saved_digits, IsSavedOf};
 
 use crate::fault::Fault;
-use crate::output::{Output, with_line_feed};
+use crate::output::{Output, digits_of, with_line_feed};
 use nb_table::Table;
 use std::alloc::Global;
 use std::io::Write;
@@ -30,7 +30,7 @@ pub fn print_saved<W: Write>(
         ShowsWriteFault output.old.counts output.new.counts) }
 {
     let saved = table.save()?;
-    let digits = hex::encode(alloc, saved.as_slice()).map_err(|_| Fault::Memory)?;
+    let digits = digits_of(alloc, saved.as_slice())?;
     let line = with_line_feed(digits)?;
     output.print(line.as_bytes())
 }

@@ -14,10 +14,11 @@ use Rattle.nb_member.specs.declared.line_fault.LineFault.{LineFault}
 use Rattle.nb_member.specs.declared.line_fault.LineFault.TheVariants.{BadLine, NoMemory}
 use Rattle.nb_member.specs.declared.limits.TheConstants.{MAX_LINE, MAX_MOMENT_DIGITS}
 use Rattle.nb_member.proofs.CaptureLemmas.Digits.{AllDigits-from_test, test-from_AllDigits}
-use Rattle.nb_names.specs.HexadecimalFacts.{HexText-from_test, test-from_HexText}
-use Rattle.nb_member.proofs.CaptureLemmas.Payloads.{PayloadText-cases, no_odd_hex, one_payload}
+use Rattle.nb_names.specs.HexadecimalFacts.{HexText-from_test, test-from_HexText, DataText-cases}
+use Rattle.nb_member.proofs.CaptureLemmas.Payloads.{no_odd_hex, one_payload}
 use Rattle.nb_member.proofs.CaptureLemmas.Words.{Contains-behind, Contains-before, Blank-cases, Says-cases, packet_behind, packet_at_space, packet_has_space, tick_behind, moment_no_space, port_no_space, tick_no_space, one_split}
-use Rattle.nb_member.specs.Capture.{PortText, names, datagrams, sessions, MomentText, PayloadText, empty, digits, HasWords, packet, tick, Blank, nothing, comment, HasValue, SaysNothing, IsMalformed, Reads}
+use Rattle.nb_member.specs.Capture.{PortText, names, datagrams, sessions, MomentText, HasWords, packet, tick, Blank, nothing, comment, HasValue, SaysNothing, IsMalformed, Reads}
+use Rattle.nb_names.specs.Hexadecimal.{DataText, empty, digits}
 
 -- ---- one value
 
@@ -161,17 +162,17 @@ decide_moment text =
       ]
     ]
 
-decide_payload : (text : List ℕ) → Either ((payload : List ℕ) × PayloadText payload text)
+decide_payload : (text : List ℕ) → Either ((payload : List ℕ) × DataText payload text)
 decide_payload text =
     elim (decide_same text (codes "empty")) [
       | inl is ↦ inl ([], rw is empty)
       | inr differ ↦ elim (cases_lt 0 (length text)) [
-        | inr none ↦ inr (λ p. elim (PayloadText-cases p.0 text p.1) [
+        | inr none ↦ inr (λ p. elim (DataText-cases p.0 text p.1) [
           | inl e ↦ differ e.1
           | inr d ↦ let some = d.0 in omega (arith, some)
         ])
         | inl some ↦ elim (cases_eq (length text % 2) 0) [
-          | inr odd ↦ inr (λ p. elim (PayloadText-cases p.0 text p.1) [
+          | inr odd ↦ inr (λ p. elim (DataText-cases p.0 text p.1) [
             | inl e ↦ differ e.1
             | inr d ↦ no_odd_hex text odd (p.0, d.1)
           ])
@@ -179,7 +180,7 @@ decide_payload text =
             | inl all ↦
                 let hex = HexText-from_test text all even in
                 inl (hex.0, digits hex.0 text some hex.1)
-            | inr refused ↦ inr (λ p. elim (PayloadText-cases p.0 text p.1) [
+            | inr refused ↦ inr (λ p. elim (DataText-cases p.0 text p.1) [
               | inl e ↦ differ e.1
               | inr d ↦ false≢true (sym refused ∙ test-from_HexText p.0 text d.1)
             ])

@@ -12,7 +12,8 @@ use Rattle.nb_member.specs.declared.line.Line.{Line}
 use Rattle.nb_member.specs.declared.line.Line.TheVariants.{Packet, Tick}
 use Rattle.nb_member.specs.declared.line_fault.LineFault.{LineFault}
 use Rattle.nb_member.specs.declared.line_fault.LineFault.TheVariants.{BadLine, NoMemory}
-use Rattle.nb_member.specs.Capture.{PortText, names, datagrams, sessions, MomentText, PayloadText, HasWords, packet, tick, Blank, nothing, comment, ReadsBy, NeedsMemory, for_payload}
+use Rattle.nb_member.specs.Capture.{PortText, names, datagrams, sessions, MomentText, HasWords, packet, tick, Blank, nothing, comment, ReadsBy, NeedsMemory, for_payload}
+use Rattle.nb_names.specs.Hexadecimal.{DataText}
 
 -- ---- comments
 
@@ -92,7 +93,7 @@ pub record IsPacket (port : ℕ) (words : List ℕ) (value : Line) : Type 0 wher
   pub moment_text : List ℕ
   pub payload_text : List ℕ
   pub has_moment : MomentText moment moment_text
-  pub has_payload : PayloadText payload payload_text
+  pub has_payload : DataText payload payload_text
   pub words_are : words ≡ moment_text ++ 32 ∷ payload_text
   pub value_is : value ≡ Packet port moment payload
 
@@ -192,7 +193,7 @@ tick_behind digits value says =
 -- a packet's words begin with a moment and a space
 pub packet_at_space : (port : ℕ) (words front behind : List ℕ) (value : Line) → IsPacket port words value
     → words ≡ front ++ 32 ∷ behind → ¬ Contains front 32
-    → (moment : ℕ) × (payload : List ℕ) × MomentText moment front × PayloadText payload behind × (value ≡ Packet port moment payload)
+    → (moment : ℕ) × (payload : List ℕ) × MomentText moment front × DataText payload behind × (value ≡ Packet port moment payload)
 packet_at_space port words front behind value h e no_space =
     let parts = one_split 32 front behind h.moment_text h.payload_text no_space (moment_no_space h.moment h.moment_text h.has_moment) (sym e ∙ h.words_are) in
     (h.moment, h.payload, rw parts.0 h.has_moment, rw parts.1 h.has_payload, h.value_is)
@@ -205,7 +206,7 @@ packet_has_space port words value h =
 -- what is answered of the payload's word is answered of the line
 pub packet_err : (port moment : ℕ) (text words front behind : List ℕ) (e : LineFault) → PortText port text
     → words ≡ front ++ 32 ∷ behind → ¬ Contains front 32 → MomentText moment front
-    → ReadsBy (λ payload. PayloadText payload behind) (λ payload. 0 < length payload) (Err e)
+    → ReadsBy (λ payload. DataText payload behind) (λ payload. 0 < length payload) (Err e)
     → ReadsBy (HasWords (text ++ 32 ∷ words)) NeedsMemory (Err e)
 packet_err port moment text words front behind BadLine p e no_space m none =
     λ value says.

@@ -1,7 +1,7 @@
 -- How a replay ends.
 use Rattle.std.proofs.Common.{◌≡◌, ◌⊎◌, ◌+◌, ◌≤◌, ◌++◌, ℕ, List, [], ◌∷◌, length, take, drop, Option, Some, None, Result, Ok, Err, ◌≢◌, refl, sym, subst, ◌∙◌, ap, inl, inr, append_assoc, arith}
 use Rattle.std.specs.Io.KnownBytes.{Appends, Consumes}
-use Rattle.std.proofs.lemmas.List.{append-nil, take-append-drop, take_all}
+use Rattle.std.proofs.lemmas.List.{append-nil, take-append-drop}
 use Rattle.nb_names.specs.Counted.{Counts}
 use Rattle.nb_names.specs.Devices.{ShowsUnread}
 use Rattle.nb_names.specs.DeviceFacts.{Appends-more, Appends-kept}
@@ -15,10 +15,11 @@ use Rattle.nb_member.specs.Code.ReplayLines.{HasNoWholeReport}
 use Rattle.nb_member.specs.Code.Members.{KeepsStation}
 use Rattle.nb_member.specs.LineReading.{ReadsLine}
 use Rattle.nb_member.specs.LineRoom.{RoomValue}
-use Rattle.nb_member.specs.LinesSoFar.{HandedOut, cut_both, was_reading, came, kept_are, none_over, handed_more, handed_all, shows_unread, LongFirst, open_end, with_feed, long_first, long_line}
+use Rattle.nb_member.specs.LinesSoFar.{cut_both, was_reading, came, kept_are, none_over, handed_more, handed_all, shows_unread, long_first}
 use Rattle.nb_member.specs.Live.{Timed, live_from, live}
 use Rattle.nb_member.specs.Member.{MemberValue, StandsOver, Stands}
-use Rattle.nb_member.specs.Replaying.{Replayed, Writes, Stops, Replays, AreLines, finished, whole, ComesMalformed, ended, too_long, looked_at}
+use Rattle.nb_member.specs.Replaying.{Replayed, Writes, Stops, Replays, AreLines, finished, ComesMalformed, ended, too_long, looked_at}
+use Rattle.nb_member.specs.LinesCame.{lines_held, comes_malformed}
 use Rattle.nb_member.proofs.ReplayLemmas.ReplaySoFar.{SoFar, with_line, report_of, replayed, IsReplaying}
 
 -- ---- where it ends
@@ -127,41 +128,6 @@ EndsReplay most m first left counts later new before after result =
     × ((result ≡ Err Read → ShowsUnread most bytes counts later)
     × ((H : List Event) (s : Stands m H) → Replays most m H (live m.settings s.sayings) bytes left new before after result))
 
--- all the bytes are looked at where they are no more than the limit
-all_looked_at : (most : ℕ) (bytes : List ℕ) → length bytes ≤ most → looked_at most bytes ≡ bytes
-all_looked_at most bytes within = take_all most bytes within
-
--- the lines that were handed out, and those among what is held
-record LinesHeld (most : ℕ) (bytes : List ℕ) (left : Option (List ℕ)) (acted : List (List ℕ)) : Type 0 where
-  pub more : List (List ℕ)
-  pub are : AreLines most bytes left (acted ++ more)
-
-lines_held : (most : ℕ) (first now : Option (List ℕ)) (counts later : Counts) (room : RoomValue) (lines : List (List ℕ)) (last : List ℕ)
-    (h : HandedOut most first now counts later room lines last) → LinesHeld most (h.passed ++ room.rest) now (with_rest lines last)
-lines_held most first now counts later room lines last h =
-    let within : length (h.passed ++ room.rest) ≤ most = omega (arith, h.within, h.taken) in
-    let all = all_looked_at most (h.passed ++ room.rest) within in
-    elim (h.stands) [
-      | inl reading ↦
-          let held = any_cut room.rest in
-          let acted : lines ≡ with_rest lines last = ap (with_rest lines) (sym reading.1) in
-          record {
-            more = held.lines;
-            are = subst (λ (ls : List (List ℕ)). AreLines most (h.passed ++ room.rest) now (ls ++ held.lines)) acted
-                (finished (lines ++ held.lines) held.left
-                (subst (λ (bs : List ℕ). CutInto bs (lines ++ held.lines) held.left) (sym all)
-                (cut_both h.passed room.rest lines held.lines last held.left reading.1 h.cut held.cut)));
-          }
-      | inr stopped ↦
-          let front : h.passed ++ room.rest ≡ h.passed = ap (λ (bs : List ℕ). h.passed ++ bs) stopped.1 ∙ append-nil h.passed in
-          record {
-            more = [];
-            are = subst (λ (ls : List (List ℕ)). AreLines most (h.passed ++ room.rest) now ls) (sym (append-nil (with_rest lines last)))
-                (whole lines last (subst (λ (bs : List ℕ). CutInto bs lines last) (sym (all ∙ front)) h.cut)
-                (record { at_end = stopped.2; within = within }));
-          }
-    ]
-
 plus_one : (n k : ℕ) → n ≡ k → n + 1 ≡ k + 1
 plus_one n k same = ap (λ (x : ℕ). x + 1) same
 
@@ -195,17 +161,6 @@ ends_at_line most m first now next counts_in later_in after_in before mid after 
             (stops (live_from m.settings L was.so_far.sayings) was.so_far.stands)),
       ),
     )
-
-comes_malformed : (most : ℕ) (bytes : List ℕ) (left : Option (List ℕ)) (passed held : List ℕ) (lines : List (List ℕ))
-    → CutInto passed lines [] → looked_at most bytes ≡ passed ++ held → LongFirst held → ComesMalformed most bytes left lines
-comes_malformed most bytes left passed _ lines before is (open_end held clear long) =
-    too_long lines held (subst (λ (bs : List ℕ). CutInto bs lines held) (sym is)
-    (subst (λ (ls : List (List ℕ)). CutInto (passed ++ held) ls held) (append-nil lines)
-    (cut_both passed held lines [] [] held refl before (rest held clear)))) long
-comes_malformed most bytes left passed _ lines before is (with_feed l after clear long) =
-    let c = any_cut after in
-    ended lines c.lines l (finished (lines ++ l ∷ c.lines) c.left (subst (λ (bs : List ℕ). CutInto bs (lines ++ l ∷ c.lines) c.left) (sym is)
-    (cut_both passed (l ++ 10 ∷ after) lines (l ∷ c.lines) [] c.left refl before (line l after c.left c.lines clear c.cut)))) (long_line l long)
 
 -- the next line is too long
 pub ends_too_long : (most : ℕ) (m : MemberValue) (first now next : Option (List ℕ)) (counts_in later_in after_in : Counts)

@@ -1,13 +1,13 @@
 //! Parts of the report's lines.
 ghost use Rattle.std.specs.Prelude.{◌≡◌, ◌++◌, codes, OnOk, string_bytes, Err};
 ghost use Rattle.nb_names.specs.NameText.{written};
-ghost use Rattle.nb_member.specs.Report.{address_text, data_text, datagram_text, error_text, kind_text, key_text, outcome_text, parts_text, result_text};
+ghost use Rattle.nb_datagram.specs.Texts.{key_text};
+ghost use Rattle.nb_member.specs.Report.{datagram_text, error_text, outcome_text, parts_text, result_text};
 
 use crate::member_fault::MemberFault;
 use crate::outcome::Outcome;
-use crate::report::digits::push_digits;
-use nb_datagram::{Datagram, ErrorPacket, Key, Kind, Packet, encode};
-use nb_names::{Name, NoMemory, push_name};
+use nb_datagram::{Datagram, ErrorPacket, Key, Packet, encode, kind_name, push_key};
+use nb_names::{Name, NoMemory, push_data, push_digits, push_name};
 use std::alloc::Global;
 
 /// Adds what became of a payload.
@@ -113,53 +113,6 @@ fn push_unheard(
 {
     push_key(key, text)?;
     push_error(alloc, error, text)
-}
-
-/// Adds a key as the report has it, `ADDRESS:PORT/ID`: the address with dots and the port in
-/// decimal, the identifier as four hexadecimal digits.
-///
-/// # Errors
-///
-/// `NoMemory` where memory ran out.
-pub fn push_key(key: Key, text: &mut String) -> Result<(), NoMemory>
-    ensures { OnOk result (string_bytes text.new ≡ string_bytes text.old ++ key_text key) }
-{
-    push_address(key.ip, text)?;
-    let port = key.port;
-    write!(text, ":{port}/")?;
-    push_digits(&key.id.to_be_bytes(), text)
-}
-
-/// Adds an address.
-fn push_address(ip: [u8; 4], text: &mut String) -> Result<(), NoMemory>
-    ensures { OnOk result (string_bytes text.new ≡ string_bytes text.old ++ address_text ip) }
-{
-    let [a, b, c, d] = ip;
-    write!(text, "{a}.{b}.{c}.{d}")?;
-    Ok(())
-}
-
-/// The report's word for a kind: `unique`, `group` or `broadcast`.
-pub fn kind_name(kind: Kind) -> &'static str
-    ensures { result.now ≡ kind_text kind }
-{
-    match kind {
-        Kind::Unique => "unique",
-        Kind::Group => "group",
-        Kind::Broadcast => "broadcast",
-    }
-}
-
-/// Adds data.
-fn push_data(bytes: &[u8], text: &mut String) -> Result<(), NoMemory>
-    ensures { OnOk result
-        (string_bytes text.new ≡ string_bytes text.old ++ data_text bytes.now) }
-{
-    if bytes.is_empty() {
-        text.push_str("empty")?;
-        return Ok(());
-    }
-    push_digits(bytes, text)
 }
 
 /// Adds the bytes of an error packet, if there is one.

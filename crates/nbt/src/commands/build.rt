@@ -15,7 +15,7 @@ use crate::commands::build::build_fault::BuildFault;
 use crate::fault::Fault;
 use crate::output::Output;
 use clap::ArgMatches;
-use nb_names::{Bytes, NoMemory};
+use nb_names::{Bytes, NoMemory, push_digits};
 use std::alloc::Global;
 use std::io::Write;
 
@@ -119,6 +119,9 @@ fn datagram_lines(alloc: Global, what: &str, words: &[&str]) -> Result<String, B
 fn line(alloc: Global, port: u16, payload: &Bytes) -> Result<String, NoMemory>
     ensures { IfOk result (λ text. string_bytes text ≡ payload_line port payload.now) }
 {
-    let digits = hex::encode(alloc, payload.as_slice())?;
-    Ok(format!(in alloc; "{port} 0 {digits}\n")?)
+    let mut text = String::new(alloc);
+    write!(text, "{port} 0 ")?;
+    push_digits(payload.as_slice(), &mut text)?;
+    text.push_str("\n")?;
+    Ok(text)
 }

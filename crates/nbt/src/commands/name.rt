@@ -1,15 +1,17 @@
 //! `nbt name`: the spelling of a name's text, and the text of a spelling.
-ghost use Rattle.std.specs.Prelude.{◌≡◌, ℕ, List, codes, IfOk, IfErr, OnOk, Ok, IsErr, string_bytes};
-ghost use Rattle.hex.specs.Hex.{decode_of};
+ghost use Rattle.std.specs.Prelude.{◌≡◌, ℕ, List, codes, IfOk, IfErr, OnOk, string_bytes};
+ghost use Rattle.nb_names.specs.Hexadecimal.{HexText};
 ghost use Rattle.nb_names.specs.Devices.{ShowsWriteFault};
 ghost use Rattle.nbt.specs.NameCommand.{IsValue, IsFlag, OutcomeOf};
 ghost use Rattle.nbt.specs.Printing.{Leaves, PrintsSpelling, PrintsName, IsSpellingOf, IsSpellingFault, IsNameOf, IsNameFault, IsDecodeFault, IsNoWrite};
 
 use crate::fault::Fault;
-use crate::output::{Output, with_line_feed};
+use crate::output::{Output, digits_of, with_line_feed};
 use clap::ArgMatches;
-use hex::FromHexError;
-use nb_names::{Pointers, name_from_text, name_text, read_name, write_domain};
+use nb_names::{
+    Bytes, DigitsFault, Pointers, bytes_of_digits, name_from_text, name_text, read_name,
+    write_domain,
+};
 use std::alloc::Global;
 use std::io::Write;
 
@@ -99,7 +101,7 @@ fn spelling_of(alloc: Global, text: &str) -> Result<String, Fault>
 {
     let name = name_from_text(text)?;
     let spelling = write_domain(alloc, &name.to_domain())?;
-    hex::encode(alloc, spelling.as_slice()).map_err(|_| Fault::Memory)
+    Ok(digits_of(alloc, spelling.as_slice())?)
 }
 
 /// The text of the name whose spelling the digits are.
@@ -109,20 +111,20 @@ fn name_of(alloc: Global, digits: &str) -> Result<String, Fault>
 {
     let bytes = decoded(alloc, digits)?;
     let (name, next) = read_name(bytes.as_slice(), 0, Pointers::Refused)?;
-    if next < bytes.len() {
+    if next < bytes.as_slice().len() {
         return Err(Fault::TrailingBytes(next));
     }
     Ok(name_text(alloc, &name)?)
 }
 
 /// The bytes that the digits give.
-fn decoded(alloc: Global, digits: &str) -> Result<Vec<u8>, Fault>
-    ensures found { IfOk result (λ bytes. decode_of digits.now ≡ Ok bytes.items) }
+fn decoded(alloc: Global, digits: &str) -> Result<Bytes, Fault>
+    ensures found { IfOk result (λ bytes. HexText bytes digits.now) }
     ensures fault { IfErr result (IsDecodeFault digits.now) }
 {
-    match hex::decode(alloc, digits) {
+    match bytes_of_digits(alloc, digits.as_bytes()) {
         Ok(bytes) => Ok(bytes),
-        Err(FromHexError::OutOfMemory) => Err(Fault::Memory),
-        Err(_) => Err(Fault::BadHex),
+        Err(DigitsFault::BadDigits) => Err(Fault::BadHex),
+        Err(DigitsFault::NoMemory) => Err(Fault::Memory),
     }
 }

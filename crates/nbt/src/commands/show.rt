@@ -1,11 +1,10 @@
 //! `nbt show`: the packets of a capture as text.
-ghost use Rattle.std.specs.Prelude.{◌≡◌, IfErr};
-ghost use Rattle.nb_names.specs.Devices.{GrowTo, ShowsWriteFault};
-
-mod datagram;
-mod service;
-mod session;
-mod texts;
+ghost use Rattle.std.specs.Prelude.{◌≡◌, ◌++◌, ℕ, List, OnOk, IfErr, string_bytes};
+ghost use Rattle.std.specs.Io.KnownBytes.{Appends, Consumes};
+ghost use Rattle.nb_names.specs.Devices.{GrowTo, ShowsUnread, ShowsWriteFault};
+ghost use Rattle.nb_member.specs.Capture.{Reads};
+ghost use Rattle.nbt.specs.Settings.{IsInputLimit};
+ghost use Rattle.nbt.specs.Showing.{IsUnshown, Shows, ShowsLine, ShowsSaid, ShowsValue};
 
 use crate::fault::Fault;
 use crate::lines::said_by;
@@ -14,6 +13,7 @@ use crate::settings::input_limit_of;
 use clap::ArgMatches;
 use nb_member::{Line, LineReadFault, LineRoom, next_from};
 use nb_names::{Counted, NoMemory};
+use nb_text::push_packet;
 use std::alloc::Global;
 use std::io::{Read, Write};
 
@@ -31,10 +31,17 @@ pub fn run_show<R: Read, W: Write>(
     input: &mut Counted<R>,
     output: &mut Output<W>,
 ) -> Result<(), Fault>
+    // How many bytes the input may have, those that were read, and what was printed of them.
+    ensures printed { (most : ℕ) × IsInputLimit matches.now most × ((bytes : List ℕ) ×
+        Consumes (R.remaining input.old.inner) (R.remaining input.new.inner) bytes ×
+        ((result ≡ Err Fault.Read → ShowsUnread most bytes input.old.counts input.new.counts) ×
+        Shows most bytes (R.remaining input.new.inner)
+        (W.contents output.old.inner) (W.contents output.new.inner) result)) }
     ensures why { IfErr result (λ fault. fault ≡ Fault.Write →
         ShowsWriteFault output.old.counts output.new.counts) }
 {
-    let mut room = LineRoom::within(alloc, input_limit_of(matches));
+    let most = input_limit_of(matches);
+    let mut room = LineRoom::within(alloc, most);
     let mut number = 0;
     'lines: loop {
         match next_from(&mut room, input) {
@@ -57,34 +64,58 @@ fn show_line<W: Write>(
     line: &[u8],
     output: &mut Output<W>,
 ) -> Result<(), Fault>
+    ensures shown { OnOk result ((text : List ℕ) × ShowsLine number line.now text ×
+        Appends (W.contents output.old.inner) (W.contents output.new.inner) text) }
+    ensures fault { IfErr result (IsUnshown number line.now
+        (W.contents output.old.inner) (W.contents output.new.inner)) }
     ensures grow { GrowTo output.old.counts output.new.counts }
     ensures why { IfErr result (λ fault. fault ≡ Fault.Write →
         ShowsWriteFault output.old.counts output.new.counts) }
 {
-    let Some(said) = said_by(alloc, number, line)? else {
+    let said = said_by(alloc, number, line)?;
+    show_said(alloc, number, &said, output)
+}
+
+/// Shows what a line says, if anything, whole or not at all.
+fn show_said<W: Write>(
+    alloc: Global,
+    number: usize,
+    said: &Option<Line>,
+    output: &mut Output<W>,
+) -> Result<(), Fault>
+    ensures shown { OnOk result ((text : List ℕ) × ShowsSaid number said.now text ×
+        Appends (W.contents output.old.inner) (W.contents output.new.inner) text) }
+    ensures fault { IfErr result (λ fault. (l : List ℕ) → Reads l (Ok said.now) →
+        IsUnshown number l (W.contents output.old.inner) (W.contents output.new.inner) fault) }
+    ensures grow { GrowTo output.old.counts output.new.counts }
+    ensures why { IfErr result (λ fault. fault ≡ Fault.Write →
+        ShowsWriteFault output.old.counts output.new.counts) }
+{
+    let Some(said) = said else {
         return Ok(());
     };
     let mut text = String::new(alloc);
-    push_line(alloc, number, &said, &mut text)?;
+    push_line(alloc, number, said, &mut text)?;
     output.print(text.as_bytes())
 }
 
 /// Adds the text of what a line says.
-fn push_line(alloc: Global, number: usize, said: &Line, text: &mut String) -> Result<(), NoMemory> {
+fn push_line(alloc: Global, number: usize, said: &Line, text: &mut String) -> Result<(), NoMemory>
+    ensures { OnOk result ((shown : List ℕ) × ShowsValue number said.now shown ×
+        (string_bytes text.new ≡ string_bytes text.old ++ shown)) }
+{
     match said {
-        Line::Tick { now } => writeln!(text, "{number} tick {now}")?,
+        Line::Tick { now } => {
+            writeln!(text, "{number} tick {now}")?;
+            Ok(())
+        }
         Line::Packet {
             port,
             moment: _,
             payload,
         } => {
             write!(text, "{number} {port} ")?;
-            match *port {
-                137 => service::push_packet(alloc, payload.as_slice(), text)?,
-                138 => datagram::push_packet(alloc, payload.as_slice(), text)?,
-                _ => session::push_packet(alloc, payload.as_slice(), text)?,
-            }
+            push_packet(alloc, *port, payload.as_slice(), text)
         }
     }
-    Ok(())
 }

@@ -1,21 +1,14 @@
-use Rattle.std.proofs.Common.{◌<◌, length, arith}
-use Rattle.std.proofs.lemmas.Bool.Decides.{nat_tests, Decides-eqb}
-use Rattle.std.proofs.lemmas.Slice.Eq.{slice_eq-Decides}
-use Rattle.nb_member.proofs.CaptureLemmas.Payloads.{some_payload, no_room}
+use Rattle.std.proofs.Common.{Err, ap, subst, ◌∙◌}
+use Rattle.nb_names.specs.Hexadecimal.{ReadsData}
 use Rattle.nb_member.proofs.capture.payload_of.Goals as goal
-use Rattle.nb_member.specs.Capture.{empty, digits}
-
-pub returns-then-eq : goal.returns-then-eq
-returns-then-eq c =
-    let is = (slice_eq-Decides Decides-eqb c.args.text.now c.as_slice.result.now c.eq.result c.eq.ensures).0 c.if-eq.true in
-    rw (is, c.as_slice.ensures, c.no_bytes.ensures) empty
 
 pub returns-in-Ok : goal.returns-in-Ok
-returns-in-Ok c =
-    let some : 0 < length c.args.text.now = grind (arith, nat_tests) in
-    digits c.in-Ok.payload c.args.text.now some (some_payload c.args.text.now _ c.in-Ok.payload c.bytes_of_digits.ensures c.in-Ok.is)
+returns-in-Ok c = subst (λ r. ReadsData c.args.text.now r) c.in-Ok.is c.data_of_text.ensures
+
+pub returns-in-Err-BadDigits : goal.returns-in-Err-BadDigits
+returns-in-Err-BadDigits c =
+    subst (λ r. ReadsData c.args.text.now r) (c.in-Err-BadDigits.is ∙ ap Err c.in-Err-BadDigits.field-0-is) c.data_of_text.ensures
 
 pub returns-in-Err-NoMemory : goal.returns-in-Err-NoMemory
 returns-in-Err-NoMemory c =
-    let some : 0 < length c.args.text.now = grind (arith, nat_tests) in
-    no_room c.args.text.now _ c.in-Err-NoMemory.field-0 some c.bytes_of_digits.ensures c.in-Err-NoMemory.is c.in-Err-NoMemory.field-0-is
+    subst (λ r. ReadsData c.args.text.now r) (c.in-Err-NoMemory.is ∙ ap Err c.in-Err-NoMemory.field-0-is) c.data_of_text.ensures

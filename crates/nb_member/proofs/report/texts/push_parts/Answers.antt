@@ -2,7 +2,8 @@ use Rattle.std.proofs.Common.{ℕ, List, ◌∷◌, ◌++◌, string_bytes, ap, 
 use Rattle.std.proofs.lemmas.Result.{on_ok_weaker}
 use Rattle.nb_names.specs.Name.{NetbiosName}
 use Rattle.nb_names.specs.NameText.{written}
-use Rattle.nb_member.specs.Report.{kind_text, data_text}
+use Rattle.nb_names.specs.Hexadecimal.{data_text}
+use Rattle.nb_datagram.specs.Texts.{kind_text}
 use Rattle.nb_member.proofs.ReportLemmas.{parts_added}
 use Rattle.nb_member.proofs.report.texts.push_parts.Goals as goal
 

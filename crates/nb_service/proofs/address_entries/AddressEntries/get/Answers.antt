@@ -1,5 +1,5 @@
 use Rattle.std.proofs.Common.{◌≡◌, ◌+◌, ◌-◌, ◌*◌, ◌/◌, ℕ, Some, length, take, drop, ap, sym, subst, ◌∙◌, arith}
-use Rattle.nb_service.specs.Code.Pieces.{entry_of}
+use Rattle.nb_service.specs.Views.{entry_of}
 use Rattle.nb_service.proofs.PiecesLemmas.{get-pieces, get_past-pieces}
 use Rattle.nb_service.proofs.address_entries.AddressEntries.get.Goals as goal
 

@@ -1,5 +1,5 @@
 use Rattle.std.proofs.Common.{◌≡◌, ◌+◌, ◌-◌, ◌*◌, ◌/◌, ℕ, Some, length, take, drop, ap, sym, subst, ◌∙◌, arith}
-use Rattle.nb_service.specs.Code.Pieces.{node_name_of}
+use Rattle.nb_service.specs.Views.{node_name_of}
 use Rattle.nb_service.proofs.PiecesLemmas.{get-pieces, get_past-pieces}
 use Rattle.nb_service.proofs.node_status.NodeStatus.get.Goals as goal
 

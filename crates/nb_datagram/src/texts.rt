@@ -1,0 +1,36 @@
+//! Keys and kinds as text.
+ghost use Rattle.std.specs.Prelude.{◌≡◌, ◌++◌, OnOk, string_bytes};
+ghost use Rattle.nb_datagram.specs.Texts.{key_text, kind_text};
+
+use crate::key::Key;
+use crate::kind::Kind;
+use nb_names::{NoMemory, push_address, push_word};
+
+/// Adds a key, `ADDRESS:PORT/ID`: the address with dots and the port in decimal, the identifier as
+/// four hexadecimal digits.
+///
+/// # Errors
+///
+/// [`NoMemory`] where memory ran out; some of the text may then be added.
+///
+/// The form is our choice.
+pub fn push_key(key: Key, text: &mut String) -> Result<(), NoMemory>
+    ensures { OnOk result (string_bytes text.new ≡ string_bytes text.old ++ key_text key) }
+{
+    push_address(key.ip, text)?;
+    let port = key.port;
+    write!(text, ":{port}/")?;
+    push_word(key.id, text)?;
+    Ok(())
+}
+
+/// The word for a kind: `unique`, `group` or `broadcast` (our choice).
+pub fn kind_name(kind: Kind) -> &'static str
+    ensures { result.now ≡ kind_text kind }
+{
+    match kind {
+        Kind::Unique => "unique",
+        Kind::Group => "group",
+        Kind::Broadcast => "broadcast",
+    }
+}

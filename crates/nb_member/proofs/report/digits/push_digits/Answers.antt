@@ -1,7 +1,0 @@
-use Rattle.nb_member.proofs.ReportLemmas.{part_more}
-use Rattle.nb_member.proofs.report.digits.push_digits.Goals as goal
-
-pub parts-preserved : goal.parts-preserved
-parts-preserved c =
-    part_more _ _ _ c.split_at.result.0.now c.split_at.result.1.now c.parts.rest.now 64 c.parts.invariant
-    c.split_at.ensures.front c.split_at.ensures.back (c.in_ok-push_part.ensures)

@@ -1,0 +1,12 @@
+pub mod ShownLemmas
+pub mod SetLemmas
+pub mod RowLemmas
+pub mod PieceLemmas
+pub mod FieldLemmas
+pub mod MidLemmas
+pub mod FaultLines
+pub mod ByteRows
+pub mod DatagramLines
+pub mod SessionLines
+pub mod ServiceLines
+pub mod ShownLines

@@ -1,0 +1,318 @@
+-- The text of a packet of port 137 is a line of words, and then lines of parts.
+use Rattle.std.proofs.Common.{◌≡◌, ◌==◌, ℕ, zero, suc, ◌+◌, ◌*◌, ◌/◌, ◌%◌, ◌<◌, ◌≤◌, nat_lt, nat_le, Bool, true, false, if◌then◌else◌, List, [], ◌∷◌, ◌++◌, length, take, drop, Option, Some, None, refl, arith, codes}
+use Rattle.std.specs.List.{AllByRecursion, flat_map}
+use Rattle.std.specs.Fmt.{decimal}
+use Rattle.std.specs.Int.{w16, to_be_bytes}
+use Rattle.std.proofs.lemmas.List.{length-drop, length-take-le}
+use Rattle.nb_names.specs.Addresses.{address_text}
+use Rattle.nb_names.specs.DomainName.{AreBytes, AreByteLabels, IsDomain}
+use Rattle.nb_names.specs.Hexadecimal.{data_text, digits_text, word_text}
+use Rattle.nb_names.specs.Name.{IsByteName}
+use Rattle.nb_names.specs.NameText.{labels_written, written}
+use Rattle.nb_names.specs.declared.pointers.Pointers.TheVariants.{Followed}
+use Rattle.nb_service.specs.declared.address_entry.AddressEntry.{AddressEntry}
+use Rattle.nb_service.specs.declared.kinds.TheConstants.{NB, NBSTAT}
+use Rattle.nb_service.specs.declared.node_name.NodeName.{NodeName}
+use Rattle.nb_service.specs.declared.question.Question.{Question}
+use Rattle.nb_service.specs.Flags.{opcode_of, rcode_of, ont_of}
+use Rattle.nb_service.specs.Packet.{ServicePacket, IsPacket, QuestionAt, RecordAt, RdataAt, bytes_there, domain_there, Row, none, more}
+use Rattle.nb_service.specs.Record.{ResourceData, of_bytes, of_domain, ResourceRecord}
+use Rattle.nb_service.specs.Views.{StatusParts, pieces, entry_of, entries_of_data, entries_in, node_name_of, status_of_size, status_of_data, status_in, no_status}
+use Rattle.nb_text.specs.Fields.{IsWord, AreLines}
+use Rattle.nb_text.specs.Lines.{line_end, used_text}
+use Rattle.nb_text.specs.Words.{operation_word, rcode_word, named_text, packet_flags, name_flags, set_text}
+use Rattle.nb_text.specs.ServiceText.{state_text, counts_text, header_line, type_text, question_line, rdata_text, record_line, entry_line, node_name_line, unit_line, status_lines, record_lines, service_text}
+use Rattle.nb_text.proofs.FieldLemmas.{IsSeen, literal, data_seen, data_word, name_word, labels_word, address_word, packet_set_word, name_set_word}
+use Rattle.nb_text.proofs.MidLemmas.{IsMid, mid_both, mid_seen, mid_word, mid_field, number_word, used_ends, ends_here, AreParts, no_parts, parts_both, parts_each, part_two, part_four, lines_then, IsNamed, chosen}
+use Rattle.nb_text.proofs.ByteRows.{bytes-take, bytes-drop, bytes-stand, labels_bytes, name_domain}
+
+-- ---- the header
+
+word_seen : (n : ℕ) → IsSeen (word_text n)
+word_seen n =
+    let high : n / 256 % 256 < 256 = omega arith in
+    let low : n % 256 < 256 = omega arith in
+    data_seen (to_be_bytes w16 n) (high, (low, tt))
+
+operation_named : (n : ℕ) → IsNamed (operation_word n)
+operation_named n =
+    chosen (n == 0) _ _ (literal (codes "query") refl)
+    (chosen (n == 5) _ _ (literal (codes "registration") refl)
+    (chosen (n == 6) _ _ (literal (codes "release") refl)
+    (chosen (n == 7) _ _ (literal (codes "wack") refl)
+    (chosen (n == 8) _ _ (literal (codes "refresh") refl) (chosen (n == 9) _ None (literal (codes "refresh") refl) tt)))))
+
+rcode_named : (n : ℕ) → IsNamed (rcode_word n)
+rcode_named n =
+    chosen (n == 0) _ _ (literal (codes "ok") refl)
+    (chosen (n == 1) _ _ (literal (codes "FMT_ERR") refl)
+    (chosen (n == 2) _ _ (literal (codes "SRV_ERR") refl)
+    (chosen (n == 3) _ _ (literal (codes "NAM_ERR") refl)
+    (chosen (n == 4) _ _ (literal (codes "IMP_ERR") refl)
+    (chosen (n == 5) _ _ (literal (codes "RFS_ERR") refl)
+    (chosen (n == 6) _ _ (literal (codes "ACT_ERR") refl) (chosen (n == 7) _ None (literal (codes "CFT_ERR") refl) tt)))))))
+
+named_seen : (name : Option (List ℕ)) (n : ℕ) → IsNamed name → IsSeen (named_text name n)
+named_seen (Some word) n h = h.1
+named_seen None n h = (number_word n).1
+
+state_mid : (word : ℕ) → IsMid (state_text word)
+state_mid word =
+    let operation = named_text (operation_word (opcode_of word)) (opcode_of word) in
+    let result = named_text (rcode_word (rcode_of word)) (rcode_of word) in
+    mid_both (codes " op=" ++ operation) _
+    (mid_field (codes "op=") operation refl (named_seen (operation_word (opcode_of word)) (opcode_of word) (operation_named (opcode_of word))))
+    (mid_both (codes " flags=" ++ set_text packet_flags word) (codes " rcode=" ++ result)
+    (mid_field (codes "flags=") (set_text packet_flags word) refl (packet_set_word word).1)
+    (mid_field (codes "rcode=") result refl (named_seen (rcode_word (rcode_of word)) (rcode_of word) (rcode_named (rcode_of word)))))
+
+counts_mid : (packet : ServicePacket) → IsMid (counts_text packet)
+counts_mid packet =
+    let questions = decimal (length packet.questions) in
+    let answers = decimal (length packet.answers) in
+    let authorities = decimal (length packet.authorities) in
+    let additional = decimal (length packet.additional) in
+    mid_both (codes " qd=" ++ questions) _ (mid_field (codes "qd=") questions refl (number_word (length packet.questions)).1)
+    (mid_both (codes " an=" ++ answers) _ (mid_field (codes "an=") answers refl (number_word (length packet.answers)).1)
+    (mid_both (codes " ns=" ++ authorities) (codes " ar=" ++ additional)
+    (mid_field (codes "ns=") authorities refl (number_word (length packet.authorities)).1)
+    (mid_field (codes "ar=") additional refl (number_word (length packet.additional)).1)))
+
+header_lines : (packet : ServicePacket) (used : ℕ) → AreLines (header_line packet used)
+header_lines packet used =
+    let id = word_text packet.id in
+    let word = codes " word=" ++ word_text packet.word in
+    let front : IsMid (id ++ word) =
+    mid_both id word (mid_seen id (word_seen packet.id)) (mid_field (codes "word=") (word_text packet.word) refl (word_seen packet.word)) in
+    front (state_text packet.word ++ (counts_text packet ++ used_text used))
+    (state_mid packet.word (counts_text packet ++ used_text used) (counts_mid packet (used_text used) (used_ends used)))
+    (codes "id=") (literal (codes "id=") refl)
+
+-- ---- questions and records
+
+-- labels that stand in bytes
+abbrev pub AreLabels : List (List ℕ) → Type 0
+AreLabels labels = IsDomain labels × AreByteLabels labels
+
+label_word : (labels : List (List ℕ)) → AreLabels labels → IsWord (labels_written labels)
+label_word labels h = labels_word labels h.0 h.1
+
+type_mid : (kind class : ℕ) → IsMid (type_text kind class)
+type_mid kind class =
+    mid_both (codes " type=" ++ word_text kind) (codes " class=" ++ word_text class)
+    (mid_field (codes "type=") (word_text kind) refl (word_seen kind)) (mid_field (codes "class=") (word_text class) refl (word_seen class))
+
+question_parts : (question : Question) → AreLabels question.name → AreParts (question_line question)
+question_parts question h =
+    let name = labels_written question.name in
+    let rest = type_text question.kind question.class ++ line_end in
+    part_two (codes "question" ++ ((32 ∷ name) ++ rest))
+    (mid_word name (label_word question.name h) rest (type_mid question.kind question.class line_end ends_here)
+    (codes "question") (literal (codes "question") refl))
+
+-- RDATA that stands in bytes
+abbrev pub IsByteData : ResourceData → Type 0
+IsByteData (of_bytes bytes) = AreBytes bytes
+IsByteData (of_domain labels) = AreLabels labels
+
+rdata_mid : (rdata : ResourceData) → IsByteData rdata → IsMid (rdata_text rdata)
+rdata_mid (of_bytes bytes) h = mid_field (codes "data=") (data_text bytes) refl (data_word bytes h).1
+rdata_mid (of_domain labels) h = mid_field (codes "domain=") (labels_written labels) refl (label_word labels h).1
+
+-- a record that stands in bytes
+pub record IsByteRecord (entry : ResourceRecord) : Type 0 where
+  pub name : AreLabels entry.name
+  pub rdata : IsByteData entry.rdata
+
+record_parts : (section : List ℕ) (entry : ResourceRecord) → IsWord section → IsByteRecord entry → AreParts (record_line section entry)
+record_parts section entry is h =
+    let name = labels_written entry.name in
+    let ttl = codes " ttl=" ++ decimal entry.ttl in
+    let last = rdata_text entry.rdata ++ line_end in
+    let middle = type_text entry.kind entry.class ++ (ttl ++ last) in
+    part_two (section ++ ((32 ∷ name) ++ middle))
+    (mid_word name (label_word entry.name h.name) middle
+    (type_mid entry.kind entry.class (ttl ++ last)
+    (mid_field (codes "ttl=") (decimal entry.ttl) refl (number_word entry.ttl).1 last (rdata_mid entry.rdata h.rdata line_end ends_here)))
+    section is)
+
+-- ---- parts of RDATA
+
+abbrev pub IsByteEntry : AddressEntry → Type 0
+IsByteEntry entry = (length entry.address ≡ 4) × AreBytes entry.address
+
+entry_parts : (entry : AddressEntry) → IsByteEntry entry → AreParts (entry_line entry)
+entry_parts entry h =
+    let flags = codes " flags=" ++ word_text entry.flags in
+    let ont = codes " ont=" ++ decimal (ont_of entry.flags) in
+    let last = codes " address=" ++ (address_text entry.address ++ line_end) in
+    part_four (codes "entry" ++ (flags ++ (ont ++ last)))
+    (mid_field (codes "flags=") (word_text entry.flags) refl (word_seen entry.flags) (ont ++ last)
+    (mid_field (codes "ont=") (decimal (ont_of entry.flags)) refl (number_word (ont_of entry.flags)).1 last
+    (mid_field (codes "address=") (address_text entry.address) refl (address_word entry.address h.0 h.1).1 line_end ends_here))
+    (codes "entry") (literal (codes "entry") refl))
+
+abbrev pub IsByteNode : NodeName → Type 0
+IsByteNode name = (length name.bytes ≡ 16) × AreBytes name.bytes
+
+plain_name : (bytes : List ℕ) → length bytes ≡ 16 → AreBytes bytes → IsByteName (record { bytes = bytes; scope = [] })
+plain_name bytes long a = (
+  record {
+    sixteen = long;
+    each = a;
+    scope = record { domain = record { each = tt; short = omega arith }; short = omega arith };
+  },
+  tt,
+)
+
+node_parts : (name : NodeName) → IsByteNode name → AreParts (node_name_line name)
+node_parts name h =
+    let text = written (record { bytes = name.bytes; scope = [] }) in
+    let flags = codes " flags=" ++ word_text name.flags in
+    let ont = codes " ont=" ++ decimal (ont_of name.flags) in
+    let last = codes " set=" ++ (set_text name_flags name.flags ++ line_end) in
+    part_four (codes "name" ++ ((32 ∷ text) ++ (flags ++ (ont ++ last))))
+    (mid_word text (name_word (record { bytes = name.bytes; scope = [] }) (plain_name name.bytes h.0 h.1)) (flags ++ (ont ++ last))
+    (mid_field (codes "flags=") (word_text name.flags) refl (word_seen name.flags) (ont ++ last)
+    (mid_field (codes "ont=") (decimal (ont_of name.flags)) refl (number_word (ont_of name.flags)).1 last
+    (mid_field (codes "set=") (set_text name_flags name.flags) refl (name_set_word name.flags).1 line_end ends_here)))
+    (codes "name") (literal (codes "name") refl))
+
+unit_parts : (statistics : List ℕ) → AreBytes statistics → AreParts (unit_line statistics)
+unit_parts statistics a = either (nat_lt (length statistics) 6) where
+  unit : AreParts (codes "    unit=" ++ (digits_text (take 6 statistics) ++ line_end))
+  unit =
+      part_four (codes "unit=" ++ (digits_text (take 6 statistics) ++ line_end))
+      (mid_seen (digits_text (take 6 statistics)) (data_seen (take 6 statistics) (bytes-take 6 statistics a)) line_end ends_here
+      (codes "unit=") (literal (codes "unit=") refl))
+
+  either : (test : Bool) → AreParts (if test then [] else codes "    unit=" ++ (digits_text (take 6 statistics) ++ line_end))
+  either true = no_parts
+  either false = unit
+
+-- a status that stands in bytes
+pub record IsByteStatus (status : StatusParts) : Type 0 where
+  pub names : AllByRecursion IsByteNode status.names
+  pub statistics : AreBytes status.statistics
+
+status_parts : (status : StatusParts) → IsByteStatus status → AreParts (status_lines status)
+status_parts status h =
+    parts_both (flat_map node_name_line status.names) (unit_line status.statistics)
+    (parts_each IsByteNode node_name_line status.names h.names node_parts) (unit_parts status.statistics h.statistics)
+
+-- ---- the views of RDATA are of bytes
+
+entries_each : (count : ℕ) (bytes : List ℕ) → 6 * count ≤ length bytes → AreBytes bytes
+    → AllByRecursion IsByteEntry (pieces 6 entry_of count bytes)
+entries_each zero bytes long a = tt
+entries_each (suc count) bytes long a =
+    let six : length (take 6 bytes) ≡ 6 = length-take-le 6 bytes (omega (arith, long)) in
+    let size = length-drop 2 (take 6 bytes) in
+    let left = length-drop 6 bytes in
+    let four : length (drop 2 (take 6 bytes)) ≡ 4 = omega (arith, six, size) in (
+      (four, bytes-drop 2 (take 6 bytes) (bytes-take 6 bytes a)),
+      entries_each count (drop 6 bytes) (omega (arith, long, left)) (bytes-drop 6 bytes a),
+    )
+
+nodes_each : (count : ℕ) (bytes : List ℕ) → 18 * count ≤ length bytes → AreBytes bytes
+    → AllByRecursion IsByteNode (pieces 18 node_name_of count bytes)
+nodes_each zero bytes long a = tt
+nodes_each (suc count) bytes long a =
+    let piece : length (take 18 bytes) ≡ 18 = length-take-le 18 bytes (omega (arith, long)) in
+    let left = length-drop 18 bytes in
+    let sixteen : length (take 16 (take 18 bytes)) ≡ 16 = length-take-le 16 (take 18 bytes) (omega (arith, piece)) in (
+      (sixteen, bytes-take 16 (take 18 bytes) (bytes-take 18 bytes a)),
+      nodes_each count (drop 18 bytes) (omega (arith, long, left)) (bytes-drop 18 bytes a),
+    )
+
+chosen_entries : (test : Bool) (entries : List AddressEntry) → AllByRecursion IsByteEntry entries
+    → AllByRecursion IsByteEntry (if test then entries else [])
+chosen_entries true entries h = h
+chosen_entries false entries h = tt
+
+data_entries : (rdata : ResourceData) → IsByteData rdata → AllByRecursion IsByteEntry (entries_of_data rdata)
+data_entries (of_bytes bytes) a =
+    chosen_entries (length bytes % 6 == 0) _ (entries_each (length bytes / 6) bytes (omega arith) a)
+data_entries (of_domain labels) h = tt
+
+chosen_status : (test : Bool) (status : StatusParts) → IsByteStatus status → IsByteStatus (if test then status else no_status)
+chosen_status true status h = h
+chosen_status false status h = record { names = tt; statistics = tt }
+
+size_status : (size : ℕ) (rest : List ℕ) → AreBytes rest → IsByteStatus (status_of_size size rest)
+size_status size rest a =
+    chosen_status (nat_le size (length rest)) _ (record {
+      names = nodes_each (length (take size rest) / 18) (take size rest) (omega arith) (bytes-take size rest a);
+      statistics = bytes-drop size rest a;
+    })
+
+data_status : (rdata : ResourceData) → IsByteData rdata → IsByteStatus (status_of_data rdata)
+data_status (of_bytes []) a = record { names = tt; statistics = tt }
+data_status (of_bytes (count ∷ rest)) a = size_status (18 * count) rest a.1
+data_status (of_domain labels) h = record { names = tt; statistics = tt }
+
+each_parts : (section : List ℕ) → IsWord section → (entry : ResourceRecord) → IsByteRecord entry → AreParts (record_lines section entry)
+each_parts section is entry h =
+    parts_both (record_line section entry) (flat_map entry_line (entries_in entry) ++ status_lines (status_in entry))
+    (record_parts section entry is h)
+    (parts_both (flat_map entry_line (entries_in entry)) (status_lines (status_in entry))
+    (parts_each IsByteEntry entry_line (entries_in entry)
+    (chosen_entries (entry.kind == NB) (entries_of_data entry.rdata) (data_entries entry.rdata h.rdata)) entry_parts)
+    (status_parts (status_in entry) (chosen_status (entry.kind == NBSTAT) (status_of_data entry.rdata) (data_status entry.rdata h.rdata))))
+
+section_parts : (section : List ℕ) (entries : List ResourceRecord) → IsWord section → AllByRecursion IsByteRecord entries
+    → AreParts (flat_map (record_lines section) entries)
+section_parts section entries is h = parts_each IsByteRecord (record_lines section) entries h (each_parts section is)
+
+-- ---- what stands in bytes
+
+abbrev pub IsByteQuestion : Question → Type 0
+IsByteQuestion question = AreLabels question.name
+
+questions_stand : (payload : List ℕ) (at : ℕ) (questions : List Question) (next : ℕ) → AreBytes payload
+    → Row (QuestionAt payload) at questions next → AllByRecursion IsByteQuestion questions
+questions_stand payload at _ next a none = tt
+questions_stand payload at _ next a (more between question questions one rest) = (
+  (name_domain payload Followed at question.name one.after one.name, labels_bytes payload Followed at at question.name one.after a one.name),
+  questions_stand payload between questions next a rest,
+)
+
+rdata_stands : (payload : List ℕ) (at size kind : ℕ) (rdata : ResourceData) → AreBytes payload → RdataAt payload at size kind rdata
+    → IsByteData rdata
+rdata_stands payload at size kind _ a (bytes_there bytes other long stands) = bytes-stand payload bytes at a stands
+rdata_stands payload at size kind _ a (domain_there labels is name) =
+    (name_domain payload Followed at labels (at + size) name, labels_bytes payload Followed at at labels (at + size) a name)
+
+records_stand : (payload : List ℕ) (at : ℕ) (entries : List ResourceRecord) (next : ℕ) → AreBytes payload
+    → Row (RecordAt payload) at entries next → AllByRecursion IsByteRecord entries
+records_stand payload at _ next a none = tt
+records_stand payload at _ next a (more between entry entries one rest) = (
+  record {
+    name = (name_domain payload Followed at entry.name one.after one.name, labels_bytes payload Followed at at entry.name one.after a one.name);
+    rdata = rdata_stands payload (one.after + 10) one.size entry.kind entry.rdata a one.rdata;
+  },
+  records_stand payload between entries next a rest,
+)
+
+all-split : (xs ys : List ResourceRecord) → AllByRecursion IsByteRecord (xs ++ ys)
+    → AllByRecursion IsByteRecord xs × AllByRecursion IsByteRecord ys
+all-split [] ys a = (tt, a)
+all-split (x ∷ xs) ys a = let rest = all-split xs ys a.1 in ((a.0, rest.0), rest.1)
+
+-- ---- the packet
+
+pub service_lines : (payload : List ℕ) (packet : ServicePacket) (used : ℕ) → AreBytes payload → IsPacket payload packet used
+    → AreLines (service_text packet used)
+service_lines payload packet used a is =
+    let all = records_stand payload is.after (packet.answers ++ (packet.authorities ++ packet.additional)) used a is.records in
+    let one = all-split packet.answers (packet.authorities ++ packet.additional) all in
+    let two = all-split packet.authorities packet.additional one.1 in
+    lines_then (header_line packet used) _ (header_lines packet used)
+    (parts_both (flat_map question_line packet.questions) _
+    (parts_each IsByteQuestion question_line packet.questions (questions_stand payload _ packet.questions is.after a is.questions) question_parts)
+    (parts_both (flat_map (record_lines (codes "answer")) packet.answers) _
+    (section_parts (codes "answer") packet.answers (literal (codes "answer") refl) one.0)
+    (parts_both (flat_map (record_lines (codes "authority")) packet.authorities)
+    (flat_map (record_lines (codes "additional")) packet.additional)
+    (section_parts (codes "authority") packet.authorities (literal (codes "authority") refl) two.0)
+    (section_parts (codes "additional") packet.additional (literal (codes "additional") refl) two.1))))

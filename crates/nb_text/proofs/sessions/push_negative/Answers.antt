@@ -1,0 +1,10 @@
+use Rattle.std.proofs.Common.{codes, string_bytes}
+use Rattle.nb_names.specs.NameText.{digits_of}
+use Rattle.nb_text.proofs.PieceLemmas.{and_then}
+use Rattle.nb_text.proofs.sessions.push_negative.Goals as goal
+
+pub returns : goal.returns
+returns c =
+    let rest_1 = digits_of c.args.code in
+    and_then (string_bytes c.args.text.now) (codes "negative code=") rest_1 c.in_ok-push_str.ensures.bytes
+    c.in_ok-push_digits.ensures

@@ -1,0 +1,17 @@
+use Rattle.std.proofs.Common.{◌++◌, string_bytes, ap, sym, ◌∙◌}
+use Rattle.std.proofs.lemmas.Result.{on_ok_weaker}
+use Rattle.std.proofs.lemmas.List.{append-nil}
+use Rattle.nb_service.specs.Views.{StatusParts}
+use Rattle.nb_text.specs.ServiceText.{status_lines}
+use Rattle.nb_text.proofs.statuses.push_status.Goals as goal
+
+pub returns-in-Some : goal.returns-in-Some
+returns-in-Some c =
+    let same = c.in-Some.ensures.value in
+    on_ok_weaker c.push_lines.result
+    (λ added. added ∙ ap (λ (s : StatusParts). string_bytes c.args.text.now ++ status_lines s) same) c.push_lines.ensures
+
+pub returns-in-None : goal.returns-in-None
+returns-in-None c =
+    let none = c.in-None.ensures.value in
+    rw none (sym (append-nil (string_bytes c.args.text.now)))

@@ -1,0 +1,31 @@
+-- What a reader of the texts can rely on (our choice): a text is lines; a line is words of printable ASCII with one space
+-- between them; two or four spaces begin the line of a part, and no other.
+use Rattle.std.specs.Prelude.{◌≡◌, ℕ, ◌<◌, ◌≤◌, List, ◌∷◌, ◌++◌, length}
+use Rattle.std.specs.List.{AllByRecursion, flat_map}
+use Rattle.nb_text.specs.Lines.{line_end}
+
+-- a character that can be seen: 21 to 7e in hexadecimal
+abbrev pub IsVisible : ℕ → Type 0
+IsVisible c = (33 ≤ c) × (c ≤ 126)
+
+-- a word: one such character or more, so it has no space
+abbrev pub IsWord : List ℕ → Type 0
+IsWord word = (0 < length word) × AllByRecursion IsVisible word
+
+-- AreWords line: the line is words, with one space between them
+pub data AreWords : List ℕ → Type 0 where
+  last : (word : List ℕ) → IsWord word → AreWords word
+  more : (word line : List ℕ) → IsWord word → AreWords line → AreWords (word ++ 32 ∷ line)
+
+-- IsPart line: two or four spaces, and then words
+pub data IsPart : List ℕ → Type 0 where
+  two : (line : List ℕ) → AreWords line → IsPart (32 ∷ 32 ∷ line)
+  four : (line : List ℕ) → AreWords line → IsPart (32 ∷ 32 ∷ 32 ∷ 32 ∷ line)
+
+-- the text is a line of words, and then lines of parts
+pub record AreLines (text : List ℕ) : Type 0 where
+  pub first : List ℕ
+  pub parts : List (List ℕ)
+  pub words : AreWords first
+  pub each : AllByRecursion IsPart parts
+  pub whole : text ≡ first ++ (line_end ++ flat_map (λ part. part ++ line_end) parts)

@@ -1,0 +1,102 @@
+-- The text of a name service packet, port 137 (our choice): a line for the header, then a line for each question and
+-- record, which two spaces begin, and after a record a line for each part of its RDATA, which four begin.
+use Rattle.std.specs.Prelude.{ℕ, nat_lt, List, [], ◌++◌, length, take, codes, if◌then◌else◌}
+use Rattle.std.specs.Fmt.{decimal}
+use Rattle.std.specs.List.{flat_map}
+use Rattle.nb_names.specs.Addresses.{address_text}
+use Rattle.nb_names.specs.Hexadecimal.{data_text, digits_text, word_text}
+use Rattle.nb_names.specs.NameText.{labels_written, written}
+use Rattle.nb_service.specs.declared.address_entry.AddressEntry.{AddressEntry}
+use Rattle.nb_service.specs.declared.node_name.NodeName.{NodeName}
+use Rattle.nb_service.specs.declared.question.Question.{Question}
+use Rattle.nb_service.specs.Flags.{opcode_of, rcode_of, ont_of}
+use Rattle.nb_service.specs.Packet.{ServicePacket}
+use Rattle.nb_service.specs.Record.{ResourceData, of_bytes, of_domain, ResourceRecord}
+use Rattle.nb_service.specs.Views.{StatusParts, entries_in, status_in}
+use Rattle.nb_text.specs.Lines.{line_end, used_text}
+use Rattle.nb_text.specs.Words.{operation_word, rcode_word, named_text, packet_flags, name_flags, set_text}
+
+-- ---- the header
+
+-- the identifier and the flag word
+abbrev pub identity_text : ServicePacket → List ℕ
+identity_text packet = codes "id=" ++ (word_text packet.id ++ (codes " word=" ++ word_text packet.word))
+
+-- what the flag word says
+abbrev pub state_text : ℕ → List ℕ
+state_text word =
+    codes " op=" ++ (named_text (operation_word (opcode_of word)) (opcode_of word)
+    ++ (codes " flags=" ++ (set_text packet_flags word
+    ++ (codes " rcode=" ++ named_text (rcode_word (rcode_of word)) (rcode_of word)))))
+
+-- how many questions, answers, authorities and additional records there are
+abbrev pub counts_text : ServicePacket → List ℕ
+counts_text packet =
+    codes " qd=" ++ (decimal (length packet.questions) ++ (codes " an=" ++ (decimal (length packet.answers)
+    ++ (codes " ns=" ++ (decimal (length packet.authorities) ++ (codes " ar=" ++ decimal (length packet.additional)))))))
+
+-- header_line packet used
+abbrev pub header_line : ServicePacket → ℕ → List ℕ
+header_line packet used =
+    identity_text packet ++ (state_text packet.word ++ (counts_text packet ++ used_text used))
+
+-- ---- questions and records
+
+-- type_text kind class: of a question or a record
+abbrev pub type_text : ℕ → ℕ → List ℕ
+type_text kind class = codes " type=" ++ (word_text kind ++ (codes " class=" ++ word_text class))
+
+-- a question
+abbrev pub question_line : Question → List ℕ
+question_line question =
+    codes "  question " ++ (labels_written question.name ++ (type_text question.kind question.class ++ line_end))
+
+-- RDATA: its bytes, or the name in a record of kind NS
+abbrev pub rdata_text : ResourceData → List ℕ
+rdata_text (of_bytes bytes) = codes " data=" ++ data_text bytes
+rdata_text (of_domain labels) = codes " domain=" ++ labels_written labels
+
+-- record_line section entry: a record of the section with this name
+abbrev pub record_line : List ℕ → ResourceRecord → List ℕ
+record_line section entry =
+    codes "  " ++ (section ++ (codes " " ++ (labels_written entry.name ++ (type_text entry.kind entry.class
+    ++ (codes " ttl=" ++ (decimal entry.ttl ++ (rdata_text entry.rdata ++ line_end)))))))
+
+-- ---- parts of RDATA
+
+-- an address entry
+abbrev pub entry_line : AddressEntry → List ℕ
+entry_line entry =
+    codes "    entry flags=" ++ (word_text entry.flags ++ (codes " ont=" ++ (decimal (ont_of entry.flags)
+    ++ (codes " address=" ++ (address_text entry.address ++ line_end)))))
+
+-- one of a node's names, which has no scope
+abbrev pub node_name_line : NodeName → List ℕ
+node_name_line name =
+    codes "    name " ++ (written (record { bytes = name.bytes; scope = [] }) ++ (codes " flags=" ++ (word_text name.flags
+    ++ (codes " ont=" ++ (decimal (ont_of name.flags) ++ (codes " set=" ++ (set_text name_flags name.flags ++ line_end)))))))
+
+-- the unit that a node's statistics begin with, where there are as many bytes
+abbrev pub unit_line : List ℕ → List ℕ
+unit_line statistics =
+    if nat_lt (length statistics) 6 then [] else codes "    unit=" ++ (digits_text (take 6 statistics) ++ line_end)
+
+-- a node's names, and its unit
+abbrev pub status_lines : StatusParts → List ℕ
+status_lines status = flat_map node_name_line status.names ++ unit_line status.statistics
+
+-- record_lines section entry: the record, and the parts of its RDATA
+abbrev pub record_lines : List ℕ → ResourceRecord → List ℕ
+record_lines section entry =
+    record_line section entry ++ (flat_map entry_line (entries_in entry) ++ status_lines (status_in entry))
+
+-- ---- the packet
+
+-- service_text packet used: the packet, which takes up so many bytes
+abbrev pub service_text : ServicePacket → ℕ → List ℕ
+service_text packet used =
+    header_line packet used
+    ++ (flat_map question_line packet.questions
+    ++ (flat_map (record_lines (codes "answer")) packet.answers
+    ++ (flat_map (record_lines (codes "authority")) packet.authorities
+    ++ flat_map (record_lines (codes "additional")) packet.additional)))

@@ -1,0 +1,120 @@
+//! The text of a datagram service packet.
+ghost use Rattle.std.specs.Prelude.{◌≡◌, ◌++◌, OnOk, string_bytes};
+ghost use Rattle.nb_datagram.specs.FaultTexts.{datagram_fault_text};
+ghost use Rattle.nb_text.specs.DatagramText.{datagram_text, error_text, flags_text, fragment_text, parts_text, query_text};
+ghost use Rattle.nb_text.specs.Lines.{refused_text};
+ghost use Rattle.nb_text.specs.Shown.{AddsShown};
+ghost use Rattle.nb_text.specs.Words.{query_word};
+
+use crate::words::push_used;
+use nb_datagram::{
+    DatagramFault, ErrorPacket, Fragment, Key, Packet, QueryKind, QueryPacket, decode, kind_name,
+    push_key,
+};
+use nb_names::{NoMemory, push_data, push_digits, push_name};
+
+/// Adds the text of a payload of port 138.
+pub fn push_datagram(payload: &[u8], text: &mut String) -> Result<(), NoMemory>
+    ensures { OnOk result
+        (AddsShown payload.now 138 (string_bytes text.old) (string_bytes text.new)) }
+{
+    match decode(payload) {
+        Ok((packet, used)) => push_whole(&packet, used, text),
+        Err(fault) => push_refusal(fault, text),
+    }
+}
+
+/// Adds why a payload begins with no packet.
+fn push_refusal(fault: DatagramFault, text: &mut String) -> Result<(), NoMemory>
+    ensures { OnOk result (string_bytes text.new
+        ≡ string_bytes text.old ++ refused_text (datagram_fault_text fault)) }
+{
+    writeln!(text, "refused {fault}")?;
+    Ok(())
+}
+
+/// Adds the line of a packet that takes up so many bytes.
+fn push_whole(packet: &Packet<'_>, used: usize, text: &mut String) -> Result<(), NoMemory>
+    ensures { OnOk result
+        (string_bytes text.new ≡ string_bytes text.old ++ datagram_text packet.now used) }
+{
+    push_parts(packet, text)?;
+    push_used(used, text)?;
+    Ok(())
+}
+
+/// Adds what the packet is, and its parts.
+fn push_parts(packet: &Packet<'_>, text: &mut String) -> Result<(), NoMemory>
+    ensures { OnOk result
+        (string_bytes text.new ≡ string_bytes text.old ++ parts_text packet.now) }
+{
+    match packet {
+        Packet::Direct(fragment) => push_fragment(fragment, text),
+        Packet::Error(error) => push_error(*error, text),
+        Packet::Query(query) => push_query(query, text),
+    }
+}
+
+/// Adds FLAGS and the key.
+fn push_flags(flags: u8, key: Key, text: &mut String) -> Result<(), NoMemory>
+    ensures { OnOk result
+        (string_bytes text.new ≡ string_bytes text.old ++ flags_text flags key) }
+{
+    text.push_str(" flags=")?;
+    push_digits(&[flags], text)?;
+    text.push_str(" key=")?;
+    push_key(key, text)?;
+    Ok(())
+}
+
+/// Adds a fragment's parts.
+fn push_fragment(fragment: &Fragment<'_>, text: &mut String) -> Result<(), NoMemory>
+    ensures { OnOk result
+        (string_bytes text.new ≡ string_bytes text.old ++ fragment_text fragment.now) }
+{
+    text.push_str(kind_name(fragment.kind()))?;
+    push_flags(fragment.flags(), fragment.key(), text)?;
+    let offset = fragment.offset();
+    write!(text, " offset={offset} source=")?;
+    push_name(text, fragment.source())?;
+    text.push_str(" destination=")?;
+    push_name(text, fragment.destination())?;
+    text.push_str(" data=")?;
+    push_data(fragment.bytes(), text)?;
+    Ok(())
+}
+
+/// Adds an error's parts.
+fn push_error(error: ErrorPacket, text: &mut String) -> Result<(), NoMemory>
+    ensures { OnOk result
+        (string_bytes text.new ≡ string_bytes text.old ++ error_text error) }
+{
+    text.push_str("error")?;
+    push_flags(error.flags, error.key, text)?;
+    text.push_str(" code=")?;
+    push_digits(&[error.code], text)?;
+    Ok(())
+}
+
+/// Adds a query's parts.
+fn push_query(query: &QueryPacket, text: &mut String) -> Result<(), NoMemory>
+    ensures { OnOk result
+        (string_bytes text.new ≡ string_bytes text.old ++ query_text query.now) }
+{
+    text.push_str(query_name(query.kind))?;
+    push_flags(query.flags, query.key, text)?;
+    text.push_str(" destination=")?;
+    push_name(text, &query.destination)?;
+    Ok(())
+}
+
+/// The word for a query packet.
+fn query_name(kind: QueryKind) -> &'static str
+    ensures { result.now ≡ query_word kind }
+{
+    match kind {
+        QueryKind::Request => "find",
+        QueryKind::Positive => "found",
+        QueryKind::Negative => "missing",
+    }
+}

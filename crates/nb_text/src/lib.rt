@@ -1,0 +1,14 @@
+//! The texts of packets, as `nbt show` prints them.
+#![tactic(auto)]
+
+mod datagrams;
+pub mod laws;
+mod names;
+mod records;
+mod sessions;
+mod sets;
+mod showing;
+mod statuses;
+mod words;
+
+pub use showing::push_packet;

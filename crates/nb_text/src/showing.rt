@@ -1,0 +1,38 @@
+//! The text of a payload.
+ghost use Rattle.std.specs.Prelude.{OnOk, string_bytes};
+ghost use Rattle.nb_text.specs.Shown.{AddsShown};
+
+use crate::datagrams::push_datagram;
+use crate::names::push_service;
+use crate::sessions::push_session;
+use nb_names::NoMemory;
+use std::alloc::Global;
+
+/// Adds the text of a payload that came to a port: the packet that it begins with, in a line and
+/// lines of its parts, or why it begins with none. Each line ends with a line feed.
+///
+/// Port 137 is the name service, 138 the datagram service; a payload of any other port is taken for
+/// a session packet, port 139. Bytes after the packet aren't shown.
+///
+/// # Errors
+///
+/// [`NoMemory`] where memory ran out. Some of the text may then be added: drop it.
+///
+/// The form is our choice.
+pub fn push_packet(
+    alloc: Global,
+    port: u16,
+    payload: &[u8],
+    text: &mut String,
+) -> Result<(), NoMemory>
+    ensures { OnOk result
+        (AddsShown payload.now port (string_bytes text.old) (string_bytes text.new)) }
+{
+    if port == 137 {
+        return push_service(alloc, payload, text);
+    }
+    if port == 138 {
+        return push_datagram(payload, text);
+    }
+    push_session(payload, text)
+}

@@ -33,6 +33,8 @@ pub fn answer(alloc: Global, call: &str, words: &mut Words<'_>) -> Result<String
         "insert" => inserting::inserts(alloc, words),
         "known" => reading::known(alloc, words),
         "states" => reading::compared_states(alloc, words),
+        "ranges" => reading::ranges(alloc, words),
+        "same_at" => reading::same_at(alloc, words),
         "datagram" => reading::datagram(alloc, words),
         "keys" => reading::keys(alloc, words),
         "drop" => reading::dropped(alloc, words),

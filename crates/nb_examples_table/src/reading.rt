@@ -35,11 +35,50 @@ fn outline_text(alloc: Global, outline: Option<Outline>) -> Result<String, Examp
     Ok(format!(in alloc; "{kind} {names} {held} of {end:?} in {runs}")?)
 }
 
+/// `ranges KEY TABLE`: the key's promise and the one that is awaited, or `none`; how many ranges
+/// its known places make up, and these, `FROM-TO`.
+pub fn ranges(alloc: Global, words: &mut Words<'_>) -> Result<String, ExampleFault> {
+    let key = next_key(words)?;
+    let table = table_of(alloc, words.rest())?;
+    let mut said = begin(alloc)?;
+    let outline = table.outline(&key);
+    let count = table.ranges(&key).count();
+    end(&mut said)?;
+    let promises = promises_text(alloc, outline)?;
+    write!(said, "{promises}, {count}")?;
+    for range in table.ranges(&key) {
+        let (from, to) = (range.from, range.to);
+        write!(said, " {from}-{to}")?;
+    }
+    Ok(said)
+}
+
+/// The promises of an outline as text, `none` where there is no outline.
+fn promises_text(alloc: Global, outline: Option<Outline>) -> Result<String, ExampleFault> {
+    let Some(outline) = outline else {
+        return Ok(String::from_str(alloc, "none")?);
+    };
+    let (promise, awaited) = (outline.promise, outline.awaited);
+    Ok(format!(in alloc; "{promise:?}, {awaited:?}")?)
+}
+
 /// `states KEY TABLE | TABLE`: what both tables know of the key, and whether that is equal.
 pub fn compared_states(alloc: Global, words: &mut Words<'_>) -> Result<String, ExampleFault> {
     let key = next_key(words)?;
     let (one, other) = two_tables(alloc, words.rest())?;
     comparison(alloc, &one.state(&key), &other.state(&key))
+}
+
+/// `same_at KEY TABLE | TABLE`: whether both tables have the same at the key, asked of either.
+pub fn same_at(alloc: Global, words: &mut Words<'_>) -> Result<String, ExampleFault> {
+    let key = next_key(words)?;
+    let (one, other) = two_tables(alloc, words.rest())?;
+    let mut said = begin(alloc)?;
+    let same = one.same_at(&other, &key);
+    let turned = other.same_at(&one, &key);
+    end(&mut said)?;
+    write!(said, "{same}, {turned}")?;
+    Ok(said)
 }
 
 /// `datagram KEY TABLE`: the key's datagram, `KIND KEY SOURCE DESTINATION BYTES`, or `none`.

@@ -1,2 +1,3 @@
 -- On specs/Conflict and ConflictTests.
 pub mod ConflictLemmas
+pub mod PromisedLemmas

@@ -2,6 +2,7 @@
 pub mod GroupLemmas
 pub mod SourceLemmas
 pub mod UnfitLemmas
+pub mod RefusalLemmas
 pub mod LimitsLemmas
 pub mod FittingLemmas
 pub mod MergingLemmas

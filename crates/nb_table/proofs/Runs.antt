@@ -3,3 +3,4 @@ pub mod RunsLemmas
 pub mod RowLemmas
 pub mod HeldLemmas
 pub mod EachPutLemmas
+pub mod RangeLemmas

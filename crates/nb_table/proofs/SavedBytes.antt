@@ -1,3 +1,4 @@
 -- On specs/Saved and SavedFits.
 pub mod SavedLemmas
 pub mod ShortLemmas
+pub mod ExampleLemmas

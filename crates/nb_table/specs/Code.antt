@@ -13,4 +13,5 @@ pub mod Part
 pub mod SavedRuns
 pub mod SavedTables
 pub mod RunSteps
+pub mod RangeSteps
 pub mod RunCodes

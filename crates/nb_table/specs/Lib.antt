@@ -10,6 +10,7 @@ pub mod Join
 pub mod KeyCounts
 pub mod Limits
 pub mod Merging
+pub mod Refusals
 pub mod Codes
 pub mod Whole
 pub mod Sender
@@ -19,6 +20,7 @@ pub mod Insert
 pub mod State
 pub mod RunCount
 pub mod Outline
+pub mod Ranges
 pub mod Equal
 pub mod FaultTexts
 pub mod Runs
@@ -26,5 +28,6 @@ pub mod Saved
 pub mod SavedFits
 pub mod SavedReading
 pub mod LoadFaults
+pub mod SavedExample
 pub mod Code
 pub mod Lemmas

@@ -11,6 +11,8 @@ mod gathering;
 mod joining;
 mod loading;
 mod parts;
+mod ranging;
+mod refusing;
 mod running;
 mod saving;
 
@@ -19,10 +21,10 @@ pub use completing::{
     whole_entries_have_a_datagram, whole_keys_have_a_datagram,
 };
 pub use conflicting::{
-    a_byte_at_an_end_conflicts, an_end_at_a_promise_conflicts, byte_is_that_which_covers,
-    conflict_test_is_the_relation, cover_agreement_is_the_relation, end_is_where_it_ends,
-    entry_agreement_is_the_relation, past_an_end_a_place_is_covered, promise_is_what_is_promised,
-    spoilt_test_is_the_relation,
+    a_byte_at_an_end_conflicts, an_end_at_a_promise_conflicts, an_end_past_a_promise_fits,
+    byte_is_that_which_covers, conflict_test_is_the_relation, cover_agreement_is_the_relation,
+    end_is_where_it_ends, entry_agreement_is_the_relation, past_an_end_a_place_is_covered,
+    promise_is_what_is_promised, promised_place_is_past_the_covered, spoilt_test_is_the_relation,
 };
 pub use equality::{
     a_change_is_one, a_state_is_one, covers_are_equal_where_contents_are,
@@ -57,8 +59,18 @@ pub use parts::{
     all_parts_give_the_datagram, parts_are_not_spoilt, parts_are_whole_where_all_are_there,
     pieces_are_all_parts,
 };
+pub use ranging::{
+    a_map_has_one_row_of_ranges, an_awaited_promise_is_past_the_bytes,
+    ranges_of_a_map_have_its_places,
+};
+pub use refusing::{
+    an_address_over_its_limit_is_reported_first, full_names_the_least_key,
+    full_source_names_the_least_key,
+};
 pub use running::{
     a_map_has_one_row_of_runs, map_of_runs_gives_them_back, runs_of_a_map_are_apart,
     runs_of_a_map_give_it_back,
 };
-pub use saving::{saved_bytes_tell_the_table, short_tables_fit_the_fields};
+pub use saving::{
+    saved_bytes_tell_the_table, saved_fields_stand_in_order, short_tables_fit_the_fields,
+};

@@ -14,8 +14,14 @@ pub struct Outline {
     pub destination: Name,
     /// How many bytes of the data are known.
     pub held: u32,
-    /// How many maximal runs these make up: 1 where they leave no gap.
+    /// How many maximal runs these make up: 1 where they leave no gap. `Table::ranges` says where
+    /// they lie.
     pub runs: u32,
     /// How many bytes the data has, if a fragment said so.
     pub end: Option<u32>,
+    /// The greatest place at which, or after which, a fragment promised a byte, if one did.
+    pub promise: Option<u32>,
+    /// That promise, where it reaches past all that is known: no known byte lies at its place or
+    /// after it.
+    pub awaited: Option<u32>,
 }

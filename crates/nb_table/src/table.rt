@@ -183,4 +183,19 @@ impl Table {
     {
         are_equal(&self.entries, &other.entries)
     }
+
+    /// Whether the other table has the same at a key, whatever the limits of both: neither holds
+    /// it, or both have the same entry there. No memory is taken.
+    pub fn same_at(&self, other: &Table, key: &Key) -> bool
+        ensures { IsTrue result ↔ (maps.get self.now.contents key.now
+            ≡ maps.get other.now.contents key.now) }
+    {
+        match self.entries.get(key) {
+            Some(entry) => match other.entries.get(key) {
+                Some(others) => entry == others,
+                None => false,
+            },
+            None => !other.entries.contains_key(key),
+        }
+    }
 }

@@ -8,3 +8,4 @@ pub mod TableTurns
 pub mod JoinedLemmas
 pub mod CapacityGiven
 pub mod ShowingTurns
+pub mod DifferenceLemmas

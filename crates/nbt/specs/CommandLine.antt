@@ -88,9 +88,9 @@ merge_app = limited_app (codes "merge")
 abbrev pub list_app : App
 list_app = limited_app (codes "list")
 
--- `agree`
+-- `agree [--list]`
 abbrev pub agree_app : App
-agree_app = new_app (codes "agree")
+agree_app = with_rule (new_app (codes "agree")) (flag_rule (codes "list"))
 
 -- the program itself has a version, and asks for a subcommand
 abbrev pub top_app : App

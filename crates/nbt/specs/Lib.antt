@@ -13,7 +13,9 @@ pub mod Saved
 pub mod Saving
 pub mod SaveFaults
 pub mod Replaying
+pub mod Differences
 pub mod Tables
 pub mod Listing
+pub mod Code
 pub mod Showing
 pub mod Built

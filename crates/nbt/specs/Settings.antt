@@ -1,5 +1,5 @@
 -- What the program's members and tables are set up with (our choice).
-use Rattle.std.specs.Prelude.{◌≡◌, ◌⊎◌, ◌<◌, ◌^◌, ℕ, List, [], ◌∷◌, Some, codes}
+use Rattle.std.specs.Prelude.{◌≡◌, ◌⊎◌, ◌<◌, ◌^◌, ℕ, Bool, true, false, List, [], ◌∷◌, Some, codes}
 use Rattle.std.specs.Str.Parse.{IsNumeral, digits_value, without_leading_plus}
 use Rattle.clap.specs.Words.{found_of, one_text}
 use Rattle.clap.specs.declared.parser.matches.ArgMatches.{ArgMatches}
@@ -38,6 +38,11 @@ IsSourceLimit matches n =
 abbrev pub IsInputLimit : ArgMatches → ℕ → Type 0
 IsInputLimit matches n =
     IsNumberOf 64 matches (codes "input-limit") n ⊎ (HasNoNumber 64 matches (codes "input-limit") × (n ≡ MAX_INPUT))
+
+-- IsListed matches list: `--list` is given, or isn't: the matches hold this for it
+abbrev pub IsListed : ArgMatches → Bool → Type 0
+IsListed matches true = one_text (found_of matches) (codes "list") ≡ Some (codes "true")
+IsListed matches false = one_text (found_of matches) (codes "list") ≡ Some (codes "false")
 
 -- IsCapacity matches c: as many keys as `--keys` says, and of each address as many as `--per-source` says
 pub record IsCapacity (matches : ArgMatches) (c : Capacity) : Type 0 where

@@ -1,9 +1,10 @@
 -- The tables that `nbt merge` and `nbt agree` read: a line for each, which is the saved table in hexadecimal
 -- (our choice). Lines are numbered from 1.
-use Rattle.std.specs.Prelude.{◌≡◌, ◌≢◌, ◌⊎◌, ◌+◌, ◌<◌, ◌≤◌, ℕ, List, [], ◌∷◌, ◌++◌, length, map, take, slice_get, Option, Some, codes}
-use Rattle.std.specs.Io.KnownBytes.{Consumes, IsAtEnd}
+use Rattle.std.specs.Prelude.{◌≡◌, ◌≢◌, ◌⊎◌, ◌+◌, ◌<◌, ◌≤◌, ℕ, Bool, true, false, List, [], ◌∷◌, ◌++◌, length, map, take, slice_get, Option, Some, codes}
+use Rattle.std.specs.Io.KnownBytes.{Appends, Consumes, IsAtEnd}
 use Rattle.std.specs.List.{AllZip}
 use Rattle.nb_names.specs.declared.limits.TheConstants.{MAX_INPUT}
+use Rattle.nb_names.specs.Devices.{AppendsFront}
 use Rattle.nb_names.specs.Hexadecimal.{HexText}
 use Rattle.nb_names.specs.Lines.{HasLines}
 use Rattle.nb_table.specs.declared.fault.TableFault.{TableFault}
@@ -19,7 +20,8 @@ use Rattle.nbt.specs.declared.fault.Fault.{Fault}
 use Rattle.nbt.specs.declared.fault.Fault.TheVariants.{Arguments, TooLong, Line, FullSource, Full, Load, NoTables, TwoTablesWanted, Read, Write, Memory}
 use Rattle.nbt.specs.declared.status.Status.{Status}
 use Rattle.nbt.specs.declared.status.Status.TheVariants.{Done, Refused}
-use Rattle.nbt.specs.Printing.{PrintsFront, PrintsLine}
+use Rattle.nbt.specs.Differences.{differences}
+use Rattle.nbt.specs.Printing.{PrintsFront, PrintsLine, line}
 use Rattle.nbt.specs.Settings.{HasNoCapacity, most_keys}
 
 -- what a table may hold that is read: so many keys, so many of each address, and datagrams of at most 65,535 bytes
@@ -136,16 +138,22 @@ pub data CompareFails (text : List ℕ) (fault : Fault) : Type 0 where
   not_two : (lines : List (List ℕ)) → HasLines text lines → length lines ≢ 2 → fault ≡ TwoTablesWanted → CompareFails text fault
   one_fails : (lines : List (List ℕ)) → HasLines text lines → length lines ≡ 2 → TablesFail most_keys text fault → CompareFails text fault
 
--- Tells t u status old new: whether the tables are equal is printed, and the status is that of refused input
--- where they aren't
-abbrev pub Tells : Contents → Contents → Status → Option (List ℕ) → Option (List ℕ) → Type 0
-Tells t u status old new =
-    ((t ≡ u) × (status ≡ Done) × PrintsLine old new (codes "equal"))
-    ⊎ ((t ≢ u) × (status ≡ Refused) × PrintsLine old new (codes "different"))
+-- what is printed of two tables that differ: that they do, and where it is asked for at which keys
+abbrev pub difference_text : Bool → Contents → Contents → List ℕ
+difference_text false t u = line (codes "different")
+difference_text true t u = line (codes "different") ++ differences t u
 
--- TellsFront t u old new: a front of the line that says whether the tables are equal is printed
-abbrev pub TellsFront : Contents → Contents → Option (List ℕ) → Option (List ℕ) → Type 0
-TellsFront t u old new = ((t ≡ u) × PrintsFront old new (codes "equal")) ⊎ ((t ≢ u) × PrintsFront old new (codes "different"))
+-- Tells list t u status old new: whether the tables are equal is printed, and the status is that of refused input
+-- where they aren't; the keys at which they differ are printed where it is asked for
+abbrev pub Tells : Bool → Contents → Contents → Status → Option (List ℕ) → Option (List ℕ) → Type 0
+Tells list t u status old new =
+    ((t ≡ u) × (status ≡ Done) × PrintsLine old new (codes "equal"))
+    ⊎ ((t ≢ u) × (status ≡ Refused) × Appends old new (difference_text list t u))
+
+-- TellsFront list t u old new: a front of what is printed of the two tables is printed
+abbrev pub TellsFront : Bool → Contents → Contents → Option (List ℕ) → Option (List ℕ) → Type 0
+TellsFront list t u old new =
+    ((t ≡ u) × PrintsFront old new (codes "equal")) ⊎ ((t ≢ u) × AppendsFront old new (difference_text list t u))
 
 -- ComparesTables IsPrinted old_in new_in: the whole input was read, its lines are two tables, and whether these
 -- are equal was printed, as IsPrinted says of the two

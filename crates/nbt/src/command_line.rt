@@ -38,7 +38,7 @@ pub fn command<'a>(alloc: Global) -> Result<Command<'a>, AllocError>
     let top = added(top, save_command(alloc));
     let top = added(top, merge_command(alloc));
     let top = added(top, list_command(alloc));
-    added(top, Ok(agree_command(alloc)))
+    added(top, agree_command(alloc))
 }
 
 /// A command with a subcommand more, where both could be made.
@@ -169,17 +169,23 @@ fn list_command<'a>(alloc: Global) -> Result<Command<'a>, AllocError>
     )
 }
 
-/// `agree`.
-fn agree_command<'a>(alloc: Global) -> Command<'a>
-    ensures app { app_of result ≡ agree_app }
-    ensures local { (fields_of result).has_globals ≡ false }
+/// `agree [--list]`.
+fn agree_command<'a>(alloc: Global) -> Result<Command<'a>, AllocError>
+    ensures app { IfOk result (λ command. app_of command ≡ agree_app) }
+    ensures local { IfOk result (λ command. (fields_of command).has_globals ≡ false) }
 {
-    described(
+    let agree = described(
         alloc,
         "agree",
         "Print whether the two saved tables on standard input, a line each, are equal",
         AGREE_HELP,
-    )
+    );
+    let list = flag(
+        alloc,
+        "list",
+        "Where they differ, print what either has of each key at which they do",
+    );
+    taking(Ok(agree), list)
 }
 
 /// A command of this name, with the texts before and after its help.

@@ -3,16 +3,17 @@ ghost use Rattle.std.specs.Prelude.{◌≡◌, ◌≢◌, ◌⊎◌, ◌++◌, I
 ghost use Rattle.std.specs.Io.KnownBytes.{Appends, Keeps};
 ghost use Rattle.nb_names.specs.Devices.{AppendsFront, ShowsWriteFault};
 ghost use Rattle.nb_table.specs.Outline.{outline_at};
+ghost use Rattle.nb_table.specs.Ranges.{ranges_at};
 ghost use Rattle.nb_table.specs.Whole.{datagram_at};
 ghost use Rattle.nb_datagram.specs.Texts.{key_text};
-ghost use Rattle.nbt.specs.Listing.{end_text, key_line, known_text, listing, outline_text};
+ghost use Rattle.nbt.specs.Listing.{end_text, key_line, known_text, listing, more_ranges_text, more_text, outline_text, partial_text, range_text, ranges_text};
 
 use crate::fault::Fault;
 use crate::output::Output;
 use nb_datagram::{Key, kind_name, push_key};
 use nb_member::push_parts;
 use nb_names::{NoMemory, push_name};
-use nb_table::{Outline, Table};
+use nb_table::{Outline, PlaceRange, Ranges, Table};
 use std::alloc::Global;
 use std::io::Write;
 
@@ -54,7 +55,11 @@ fn lines_of(alloc: Global, table: &Table) -> Result<String, NoMemory>
 }
 
 /// Adds the line of a key that is held.
-fn push_line(table: &Table, key: Key, text: &mut String) -> Result<(), NoMemory>
+///
+/// # Errors
+///
+/// `NoMemory` where memory ran out.
+pub fn push_line(table: &Table, key: Key, text: &mut String) -> Result<(), NoMemory>
     ensures { OnOk result
         (string_bytes text.new ≡ string_bytes text.old ++ key_line table.now.contents key) }
 {
@@ -68,7 +73,7 @@ fn push_line(table: &Table, key: Key, text: &mut String) -> Result<(), NoMemory>
 fn push_known(table: &Table, key: &Key, text: &mut String) -> Result<(), NoMemory>
     ensures { OnOk result (string_bytes text.new ≡ string_bytes text.old
         ++ known_text (datagram_at table.now.contents key.now)
-        (outline_at table.now.contents key.now)) }
+        (outline_at table.now.contents key.now) (ranges_at table.now.contents key.now)) }
 {
     if let Some(datagram) = table.datagram(key)? {
         text.push_str(" whole")?;
@@ -77,7 +82,7 @@ fn push_known(table: &Table, key: &Key, text: &mut String) -> Result<(), NoMemor
     match table.outline(key) {
         Some(outline) => {
             text.push_str(" partial ")?;
-            push_outline(&outline, text)
+            push_partial(&outline, table.ranges(key), text)
         }
         None => {
             text.push_str(" spoilt")?;
@@ -86,7 +91,71 @@ fn push_known(table: &Table, key: &Key, text: &mut String) -> Result<(), NoMemor
     }
 }
 
-/// Adds what is known of a datagram that isn't whole.
+/// Adds what is known of a datagram that isn't whole, the ranges of its known places among it.
+fn push_partial(
+    outline: &Outline,
+    ranges: Ranges<'_>,
+    text: &mut String,
+) -> Result<(), NoMemory>
+    ensures { OnOk result (string_bytes text.new
+        ≡ string_bytes text.old ++ partial_text outline.now ranges.entry) }
+{
+    push_outline(outline, text)?;
+    text.push_str(" ")?;
+    push_ranges(ranges, text)?;
+    push_more(outline.awaited, text)
+}
+
+/// Adds ranges of places, with a comma between two, or `-` where there is none.
+fn push_ranges(mut ranges: Ranges<'_>, text: &mut String) -> Result<(), NoMemory>
+    ensures { OnOk result
+        (string_bytes text.new ≡ string_bytes text.old ++ ranges_text ranges.entry) }
+{
+    match ranges.next() {
+        Some(range) => {
+            push_range(range, text)?;
+            push_more_ranges(ranges, text)
+        }
+        None => {
+            text.push_str("-")?;
+            Ok(())
+        }
+    }
+}
+
+/// Adds further ranges of places, with a comma before each.
+fn push_more_ranges(ranges: Ranges<'_>, text: &mut String) -> Result<(), NoMemory>
+    ensures { OnOk result
+        (string_bytes text.new ≡ string_bytes text.old ++ more_ranges_text ranges.entry) }
+{
+    for range in ranges {
+        text.push_str(",")?;
+        push_range(range, text)?;
+    }
+    Ok(())
+}
+
+/// Adds a range: its first place, and the one after its last.
+fn push_range(range: PlaceRange, text: &mut String) -> Result<(), NoMemory>
+    ensures { OnOk result (string_bytes text.new ≡ string_bytes text.old ++ range_text range) }
+{
+    let from = range.from;
+    let to = range.to;
+    write!(text, "{from}-{to}")?;
+    Ok(())
+}
+
+/// Adds the place of a promise that reaches past all that is known, where there is one.
+fn push_more(awaited: Option<u32>, text: &mut String) -> Result<(), NoMemory>
+    ensures { OnOk result (string_bytes text.new ≡ string_bytes text.old ++ more_text awaited) }
+{
+    if let Some(place) = awaited {
+        write!(text, " more {place}")?;
+    }
+    Ok(())
+}
+
+/// Adds what is known of a datagram that isn't whole but for its places.
 fn push_outline(outline: &Outline, text: &mut String) -> Result<(), NoMemory>
     ensures { OnOk result
         (string_bytes text.new ≡ string_bytes text.old ++ outline_text outline.now) }

@@ -4,6 +4,7 @@
 mod clap_answer;
 mod command_line;
 mod commands;
+mod differences;
 mod fault;
 mod flushing;
 mod help;

@@ -97,7 +97,7 @@ fn run_command<R: Read, W: Write>(
         Some(("save", matches)) => done(run_save(alloc, matches, input, output)),
         Some(("merge", matches)) => done(run_merge(alloc, matches, input, output)),
         Some(("list", matches)) => done(run_list(alloc, matches, input, output)),
-        Some(("agree", _)) => run_agree(alloc, input, output),
+        Some(("agree", matches)) => run_agree(alloc, matches, input, output),
         _ => Err(Fault::Arguments),
     }
 }

@@ -1,6 +1,6 @@
 //! What the program's members and tables are set up with.
-ghost use Rattle.std.specs.Prelude.{◌≡◌, IfOk, IfErr};
-ghost use Rattle.nbt.specs.Settings.{HasNoCapacity, IsCapacity, IsInputLimit, program_settings};
+ghost use Rattle.std.specs.Prelude.{◌≡◌, Bool, IfOk, IfErr};
+ghost use Rattle.nbt.specs.Settings.{HasNoCapacity, IsCapacity, IsInputLimit, IsListed, program_settings};
 
 use crate::fault::Fault;
 use clap::ArgMatches;
@@ -48,6 +48,13 @@ pub fn input_limit_of(matches: &ArgMatches<'_>) -> u64
     matches
         .get_one::<u64>("input-limit")
         .unwrap_or(MAX_INPUT as u64)
+}
+
+/// Whether `--list` is given.
+pub fn is_listed(matches: &ArgMatches<'_>) -> bool
+    ensures { (list : Bool) → IsListed matches.now list → result ≡ list }
+{
+    matches.get_flag("list")
 }
 
 /// The settings of a member that may hold so much, at 0.0.0.0 and the datagram service's port.

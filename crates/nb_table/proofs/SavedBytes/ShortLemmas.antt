@@ -1,5 +1,5 @@
 -- Tables within the limits fit the fields of a saved table.
-use Rattle.std.proofs.Common.{◌≡◌, ◌<◌, ◌≤◌, ◌^◌, ◌+◌, ◌==◌, ℕ, Bool, true, false, cond, length, List, [], ◌∷◌, Some, refl, sym, subst, ◌∙◌, arith}
+use Rattle.std.proofs.Common.{◌≡◌, ◌<◌, ◌≤◌, ◌^◌, ◌+◌, ◌==◌, ℕ, Bool, true, false, cond, length, List, [], ◌∷◌, Some, None, refl, sym, subst, ◌∙◌, arith}
 use Rattle.std.proofs.lemmas.Option.{none-some, same_Some}
 use Rattle.std.specs.List.{AllByRecursion}
 use Rattle.std.specs.Ordering.{nat_cmp, eq_by_cmp}
@@ -20,6 +20,7 @@ use Rattle.nb_table.specs.Merging.{AllShort}
 use Rattle.nb_table.specs.Runs.{RunValue, run_end, StartsPast, AreApart, in_front, runs_in, runs_of_map}
 use Rattle.nb_table.specs.Saved.{saved}
 use Rattle.nb_table.specs.SavedFits.{FitsRun, FitsCover, FitsFacts, FitsSaved, IsNamed}
+use Rattle.nb_table.specs.Code.RangeSteps.{EndBy}
 use Rattle.nb_table.specs.Code.RunSteps.{held_in}
 use Rattle.nb_table.specs.Code.SavedTables.{HasNames}
 use Rattle.nb_table.specs.Lemmas.MapsLemmas.{one_key}
@@ -29,10 +30,6 @@ use Rattle.nb_table.proofs.SavedReading.ReadBackLemmas.{read_back}
 use Rattle.nb_table.proofs.Runs.HeldLemmas.{held-map}
 use Rattle.nb_table.proofs.Runs.RunsLemmas.{runs_apart}
 use Rattle.nb_table.proofs.SavedBytes.SavedLemmas.{each_found}
-
--- each of the runs ends at most at n
-abbrev EndBy : ℕ → List RunValue → Type 0
-EndBy n = AllByRecursion (λ r. run_end r ≤ n)
 
 front_ends : (n i x : ℕ) (rs : List RunValue) → i < n → EndBy n rs → EndBy n (in_front i x rs)
 front_ends n i x [] below h = (omega (arith, below), tt)
@@ -61,6 +58,10 @@ places_below : (c : CoverFacts) → BytesBelow MAX_LENGTH c.bytes → AllByRecur
 places_below c below =
     each_found nat_cmp nat_cmp_total nat_cmp-IsAntisymmetric (λ i x. i < MAX_LENGTH) (maps.entries c.bytes) (maps.entries_sorted c.bytes)
     (λ i x f. below i x (maps.get-entries c.bytes i ∙ f))
+
+-- the runs of bytes that all lie below the limit end there at most
+pub runs_end_of : (m : maps.FinMap nat_cmp ℕ) → BytesBelow MAX_LENGTH m → EndBy MAX_LENGTH (runs_of_map m)
+runs_end_of m below = runs_end MAX_LENGTH (maps.entries m) (places_below (record { bytes = m; end = None; promise = None }) below)
 
 -- the runs of a short entry are no more than its places
 pub few_runs_of : (c : CoverFacts) → BytesBelow MAX_LENGTH c.bytes → length (runs_of_map c.bytes) < 2 ^ 32

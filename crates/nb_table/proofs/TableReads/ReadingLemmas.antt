@@ -1,5 +1,6 @@
 -- What reads of a table answer, and a table without a key.
-use Rattle.std.proofs.Common.{◌≡◌, ◌≤◌, ◌-◌, ℕ, Bool, true, false, cond, Option, Some, None, sym, ◌∙◌, subst, arith}
+use Rattle.std.proofs.Common.{◌≡◌, ◌≤◌, ◌-◌, ◌↔◌, ℕ, Bool, true, false, cond, not, IsTrue, Option, Some, None, is_some, sym, ◌∙◌, ap, subst, arith}
+use Rattle.std.proofs.lemmas.Option.{none-some, same_Some}
 use Rattle.std.specs.FinMap as maps
 use Rattle.nb_datagram.specs.declared.key.Key.{Key}
 use Rattle.nb_datagram.specs.Key.{same_key}
@@ -9,9 +10,11 @@ use Rattle.nb_table.specs.Slot.{Held}
 use Rattle.nb_table.specs.Slot.{Spoilt as Clashed}
 use Rattle.nb_table.specs.Entry.{EntryValue}
 use Rattle.nb_table.specs.Contents.{Contents}
+use Rattle.nb_table.specs.Equal.{same_entry}
 use Rattle.nb_table.specs.Limits.{TableValue, KeepsLimits}
 use Rattle.nb_table.specs.State.{IsState}
 use Rattle.nb_table.specs.Code.State.{IsEntryState}
+use Rattle.nb_table.specs.Lemmas.EqualLemmas.{entry_decides}
 use Rattle.nb_table.specs.Lemmas.SameLemmas.{key_cmp_total}
 use Rattle.nb_table.proofs.Limits.GroupLemmas.{few_remove}
 
@@ -39,3 +42,21 @@ remove_keeps t k keeps = record {
   short = λ q e h. keeps.short q e (cut (same_key q k) (maps.get t.contents q) e (sym (maps.get-remove key_cmp_total t.contents k q) ∙ h));
   formed = λ q e h. keeps.formed q e (cut (same_key q k) (maps.get t.contents q) e (sym (maps.get-remove key_cmp_total t.contents k q) ∙ h));
 }
+
+-- ---- one key of two tables
+
+pub both_held : (a b : Option EntryValue) (x y : EntryValue) (r : Bool) → a ≡ Some x → b ≡ Some y → r ≡ same_entry x y → IsTrue r ↔ (a ≡ b)
+both_held a b x y r at there is = (
+  λ h. at ∙ ap Some ((entry_decides x y).0 (sym is ∙ h)) ∙ sym there,
+  λ e. is ∙ (entry_decides x y).1 (same_Some x y (sym at ∙ e ∙ there)),
+)
+
+pub one_held : (a b : Option EntryValue) (x : EntryValue) → a ≡ Some x → b ≡ None → IsTrue false ↔ (a ≡ b)
+one_held a b x at none = (λ h. absurd (cc h), λ e. absurd (none-some x (sym none ∙ sym e ∙ at)))
+
+pub none_held : (a b : Option EntryValue) (r : Bool) → a ≡ None → r ≡ is_some b → IsTrue (not r) ↔ (a ≡ b)
+none_held a b r none is = (from b r is, λ e. ap not (is ∙ ap is_some (sym e ∙ none)))
+  where
+    from : (b : Option EntryValue) (r : Bool) → r ≡ is_some b → IsTrue (not r) → a ≡ b
+    from None r is h = none
+    from (Some y) r is h = let clash = sym (ap not is) ∙ h in absurd (cc clash)

@@ -49,7 +49,7 @@ impl Run {
     }
 
     /// The place of the first byte.
-    fn start(&self) -> u32
+    pub(crate) fn start(&self) -> u32
         ensures { result ≡ (value_of self.now).start }
     {
         self.stretch.start
@@ -63,7 +63,7 @@ impl Run {
     }
 
     /// The place after the last byte.
-    fn end(&self) -> usize
+    pub(crate) fn end(&self) -> usize
         ensures { result ≡ run_end (value_of self.now) }
     {
         self.stretch.start as usize + self.stretch.bytes.len()

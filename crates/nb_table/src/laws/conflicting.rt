@@ -1,8 +1,8 @@
 //! The tests by which tables are defined are the relations that say what they mean.
-ghost use Rattle.std.specs.Prelude.{◌≡◌, ◌↔◌, ◌≤◌, ℕ, List, Some, IsTrue};
+ghost use Rattle.std.specs.Prelude.{◌≡◌, ◌↔◌, ◌<◌, ◌≤◌, ℕ, List, Some, IsTrue};
 ghost use Rattle.nb_datagram.specs.declared.key.Key.{Key};
 ghost use Rattle.nb_datagram.specs.Fragment.{Core, Covers, EndsAt, byte_of, end_of_one};
-ghost use Rattle.nb_table.specs.Promise.{Promises, promise_of_one};
+ghost use Rattle.nb_table.specs.Promise.{GoesOnFrom, Promises, promise_of_one};
 ghost use Rattle.nb_table.specs.Cover.{CoverFacts, CoversFit, covers_agree};
 ghost use Rattle.nb_table.specs.Entry.{EntryFacts, FactsFit, facts_agree};
 ghost use Rattle.nb_table.specs.Conflict.{PastEnd, Conflict, IsSpoilt};
@@ -32,6 +32,20 @@ pub fn a_byte_at_an_end_conflicts()
 /// A fragment has a promise exactly where it promises that place.
 pub fn promise_is_what_is_promised()
     ensures { (f : Core) (r : ℕ) → (promise_of_one f ≡ Some r) ↔ Promises f r }
+{}
+
+/// A fragment promises a place exactly where it has M set, and the places that it covers are over
+/// there.
+pub fn promised_place_is_past_the_covered()
+    ensures { (f : Core) (r : ℕ) → Promises f r ↔ GoesOnFrom f r }
+{}
+
+/// A fragment that ends past the place at which, or after which, another promises a byte doesn't
+/// contradict it, where kinds and names are the same and so is each byte of both.
+pub fn an_end_past_a_promise_fits()
+    ensures { (f g : Core) (n r : ℕ) → EndsAt f n → Promises g r → r < n →
+        f.kind ≡ g.kind → f.source ≡ g.source → f.destination ≡ g.destination →
+        ((i x y : ℕ) → Covers f i x → Covers g i y → x ≡ y) → Conflict f g → ⊥ }
 {}
 
 /// A fragment that ends at the very place at which, or after which, another promises a byte

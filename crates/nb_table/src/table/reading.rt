@@ -1,10 +1,12 @@
 //! What a table knows of a key's datagram.
 ghost use Rattle.std.specs.Prelude.{◌≡◌, IfOk, None, Ok};
 ghost use Rattle.nb_table.specs.Outline.{outline_at};
+ghost use Rattle.nb_table.specs.Ranges.{ranges_at};
 ghost use Rattle.nb_table.specs.Whole.{datagram_at};
 
 use super::Table;
 use crate::outline::Outline;
+use crate::ranges::Ranges;
 use nb_datagram::{Datagram, Key};
 use nb_names::NoMemory;
 
@@ -19,6 +21,19 @@ impl Table {
         match self.entries.get(key) {
             Some(entry) => entry.outline(),
             None => None,
+        }
+    }
+
+    /// The ranges of the places at which bytes of a key's datagram are known, ascending: as few as
+    /// there can be, so that between two of them a place isn't known. None for a key that isn't
+    /// held, or is spoilt. No memory is taken.
+    pub fn ranges(&self, key: &Key) -> Ranges<'_>
+        ensures { result ≡ ranges_at self.now.contents key.now }
+    {
+        let _longest = self.longest;
+        match self.entries.get(key) {
+            Some(entry) => entry.ranges(),
+            None => Ranges::none(),
         }
     }
 

@@ -1,23 +1,27 @@
 //! `nbt agree`: whether two saved tables are the same.
-ghost use Rattle.std.specs.Prelude.{◌≡◌, ◌≢◌, IfOk, IfErr};
+ghost use Rattle.std.specs.Prelude.{◌≡◌, ◌≢◌, ◌⊎◌, Bool, IfOk, IfErr};
 ghost use Rattle.std.specs.Io.KnownBytes.{Keeps};
 ghost use Rattle.nb_names.specs.declared.limits.TheConstants.{MAX_INPUT};
 ghost use Rattle.nbt.specs.Input.{WasCut};
 ghost use Rattle.nb_names.specs.Devices.{ShowsWriteFault};
+ghost use Rattle.nbt.specs.Settings.{IsListed};
 ghost use Rattle.nbt.specs.Tables.{CompareFails, ComparesTables, FailsOn, Tells, TellsFront};
 
+use crate::differences::print_differences;
 use crate::fault::Fault;
 use crate::output::Output;
-use crate::settings::Capacity;
+use crate::settings::{Capacity, is_listed};
 use crate::status::Status;
 use crate::tables::{count_lines, tables_of, whole_input};
+use clap::ArgMatches;
 use nb_names::Counted;
 use nb_table::Table;
 use std::alloc::Global;
 use std::io::{Read, Write};
 
-/// `nbt agree`: reads two saved tables in hexadecimal, a line each, and prints whether they are
-/// equal. Where they aren't, the status is that of refused input.
+/// `nbt agree [--list]`: reads two saved tables in hexadecimal, a line each, and prints whether
+/// they are equal. Where they aren't, the status is that of refused input; with `--list` the keys
+/// at which they differ are printed, as [`print_differences`] has it.
 ///
 /// # Errors
 ///
@@ -27,17 +31,53 @@ use std::io::{Read, Write};
 /// output failed.
 pub fn run_agree<R: Read, W: Write>(
     alloc: Global,
+    matches: &ArgMatches<'_>,
     input: &mut Counted<R>,
     output: &mut Output<W>,
 ) -> Result<Status, Fault>
-    ensures printed { IfOk result (λ status. ComparesTables (λ t u. Tells t u status
+    ensures printed { (list : Bool) → IsListed matches.now list →
+        IfOk result (λ status. ComparesTables (λ t u. Tells list t u status
+        (W.contents output.old.inner) (W.contents output.new.inner))
+        (R.remaining input.old.inner) (R.remaining input.new.inner)) }
+    ensures status { IfOk result (λ status. status ≢ Status.BadUsage) }
+    ensures err { IfErr result (λ fault. fault ≢ Fault.Write →
+        Keeps (W.contents output.old.inner) (W.contents output.new.inner)) }
+    ensures write { (list : Bool) → IsListed matches.now list →
+        IfErr result (λ fault. fault ≡ Fault.Write →
+        ComparesTables (λ t u. TellsFront list t u
+        (W.contents output.old.inner) (W.contents output.new.inner))
+        (R.remaining input.old.inner) (R.remaining input.new.inner)) }
+    ensures fault { IfErr result (FailsOn CompareFails
+        (R.remaining input.old.inner) (R.remaining input.new.inner)) }
+    ensures cut { IfErr result (λ fault. fault ≡ Fault.Read →
+        WasCut MAX_INPUT (R.remaining input.old.inner) (R.remaining input.new.inner)
+        input.old.counts input.new.counts) }
+    ensures why { IfErr result (λ fault. fault ≡ Fault.Write →
+        ShowsWriteFault output.old.counts output.new.counts) }
+{
+    compare(alloc, is_listed(matches), input, output)
+}
+
+/// Reads two tables, and prints whether they are equal, and where they aren't, if that is asked
+/// for.
+///
+/// # Errors
+///
+/// Those of [`run_agree`].
+fn compare<R: Read, W: Write>(
+    alloc: Global,
+    list: bool,
+    input: &mut Counted<R>,
+    output: &mut Output<W>,
+) -> Result<Status, Fault>
+    ensures printed { IfOk result (λ status. ComparesTables (λ t u. Tells list t u status
         (W.contents output.old.inner) (W.contents output.new.inner))
         (R.remaining input.old.inner) (R.remaining input.new.inner)) }
     ensures status { IfOk result (λ status. status ≢ Status.BadUsage) }
     ensures err { IfErr result (λ fault. fault ≢ Fault.Write →
         Keeps (W.contents output.old.inner) (W.contents output.new.inner)) }
     ensures write { IfErr result (λ fault. fault ≡ Fault.Write →
-        ComparesTables (λ t u. TellsFront t u
+        ComparesTables (λ t u. TellsFront list t u
         (W.contents output.old.inner) (W.contents output.new.inner))
         (R.remaining input.old.inner) (R.remaining input.new.inner)) }
     ensures fault { IfErr result (FailsOn CompareFails
@@ -58,35 +98,45 @@ pub fn run_agree<R: Read, W: Write>(
     };
     let tables = tables_of(alloc, text.as_slice(), most_keys)?;
     match tables.as_slice() {
-        [first, second] => tell_same(first, second, output),
+        [first, second] => tell_same(alloc, list, first, second, output),
         _ => Err(Fault::TwoTablesWanted),
     }
 }
 
-/// Prints whether two tables are the same, and answers the status for it.
+/// Prints whether two tables are the same, and where they aren't, if that is asked for; answers the
+/// status for it.
 ///
 /// # Errors
 ///
-/// [`Fault::Write`] where the output failed.
+/// [`Fault::Memory`] where memory ran out; nothing is printed then. [`Fault::Write`] where the
+/// output failed.
 fn tell_same<W: Write>(
+    alloc: Global,
+    list: bool,
     first: &Table,
     second: &Table,
     output: &mut Output<W>,
 ) -> Result<Status, Fault>
-    ensures printed { IfOk result (λ status. Tells first.now.contents second.now.contents status
-        (W.contents output.old.inner) (W.contents output.new.inner)) }
+    ensures printed { IfOk result (λ status. Tells list first.now.contents second.now.contents
+        status (W.contents output.old.inner) (W.contents output.new.inner)) }
     ensures status { IfOk result (λ status. status ≢ Status.BadUsage) }
-    ensures fault { IfErr result (λ fault. fault ≡ Fault.Write) }
-    ensures write { IfErr result (λ _. TellsFront first.now.contents second.now.contents
+    ensures fault { IfErr result (λ fault. (fault ≡ Fault.Memory) ⊎ (fault ≡ Fault.Write)) }
+    ensures err { IfErr result (λ fault. fault ≢ Fault.Write →
+        Keeps (W.contents output.old.inner) (W.contents output.new.inner)) }
+    ensures write { IfErr result (λ fault. fault ≡ Fault.Write →
+        TellsFront list first.now.contents second.now.contents
         (W.contents output.old.inner) (W.contents output.new.inner)) }
     ensures why { IfErr result (λ fault. fault ≡ Fault.Write →
         ShowsWriteFault output.old.counts output.new.counts) }
 {
     if first.same(second) {
         output.print(b"equal\n")?;
-        Ok(Status::Done)
+        return Ok(Status::Done);
+    }
+    if list {
+        print_differences(alloc, first, second, output)?;
     } else {
         output.print(b"different\n")?;
-        Ok(Status::Refused)
     }
+    Ok(Status::Refused)
 }

@@ -1,10 +1,13 @@
-//! How many bytes runs have.
+//! How many bytes runs have, and where.
 ghost use Rattle.std.specs.Prelude.{◌≡◌, ◌≤◌};
 ghost use Rattle.std.specs.FinMap as maps;
 ghost use Rattle.nb_datagram.specs.declared.limits.TheConstants.{MAX_LENGTH};
+ghost use Rattle.nb_table.specs.Cover.{BytesBelow};
+ghost use Rattle.nb_table.specs.Ranges.{ranges_of_map};
 ghost use Rattle.nb_table.specs.Code.RunSteps.{held_in, values_of};
 
 use super::{Run, Runs};
+use crate::ranges::Ranges;
 
 /// How many bytes all the runs have.
 fn bytes_in(runs: &[Run]) -> usize
@@ -25,5 +28,13 @@ impl Runs {
         ensures { result ≡ maps.len self.now }
     {
         bytes_in(&self.runs)
+    }
+
+    /// The ranges of their places.
+    pub(crate) fn ranges(&self) -> Ranges<'_>
+        requires { BytesBelow MAX_LENGTH self.now }
+        ensures { result ≡ ranges_of_map self.now }
+    {
+        Ranges::of(&self.runs)
     }
 }

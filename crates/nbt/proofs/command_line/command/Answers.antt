@@ -2,7 +2,7 @@ use Rattle.std.proofs.Common.{ap, ◌≡◌, ◌∙◌, true, false}
 use Rattle.std.specs.Prelude.{Ok}
 use Rattle.clap.specs.declared.builder.command.Command.TheViews.{out-Command as fields_of}
 use Rattle.clap.specs.Simple.{app_of, app_of_fields, on_top}
-use Rattle.nbt.specs.CommandLine.{top_app, agree_app}
+use Rattle.nbt.specs.CommandLine.{top_app}
 use Rattle.nbt.proofs.CommandShapes.{HasShape, with_more}
 use Rattle.nbt.proofs.command_line.command.Goals as goal
 
@@ -22,7 +22,7 @@ pub returns : goal.returns
 returns c =
     let top : HasShape (Ok c.subcommand_required-top.result) top_app = record { app = top_is c; local = top_is_local c } in
     let show : HasShape c.show_command.result _ = record { app = c.show_command.ensures.app; local = c.show_command.ensures.local } in
-    let agree : HasShape (Ok c.agree_command.result) agree_app = record { app = c.agree_command.ensures.app; local = c.agree_command.ensures.local } in
+    let agree : HasShape c.agree_command.result _ = record { app = c.agree_command.ensures.app; local = c.agree_command.ensures.local } in
     let name : HasShape c.name_command.result _ = record { app = c.name_command.ensures.app; local = c.name_command.ensures.local } in
     let build : HasShape c.build_command.result _ = record { app = c.build_command.ensures.app; local = c.build_command.ensures.local } in
     let replay : HasShape c.replay_command.result _ = record { app = c.replay_command.ensures.app; local = c.replay_command.ensures.local } in

@@ -2,8 +2,8 @@ use Rattle.std.proofs.Common.{sym, ap, ◌∙◌, length, arith}
 use Rattle.std.proofs.lemmas.Result.{IfErr-weaker, IfOk-weaker, err_from_is_err_and}
 use Rattle.nbt.specs.Settings.{most_keys}
 use Rattle.nbt.proofs.JoinedLemmas.{as_many, compare_of_count, compare_of_line, compares_tables, two_items}
-use Rattle.nbt.proofs.commands.agree.run_agree.Goals as goal
-use Rattle.nbt.proofs.commands.agree.run_agree.Goals.{in_default, in_default-2}
+use Rattle.nbt.proofs.commands.agree.compare.Goals as goal
+use Rattle.nbt.proofs.commands.agree.compare.Goals.{in_default, in_default-2}
 
 pub returns-in-len2-clause-printed : goal.returns-in-len2-clause-printed
 returns-in-len2-clause-printed g c =

@@ -1,0 +1,113 @@
+-- The keys that are marked are those at which two tables differ, ascending.
+use Rattle.std.proofs.Common.{◌≡◌, ◌&&◌, ◌||◌, cond, Bool, true, false, not, List, [], ◌∷◌, filter, map, Option, Some, None, is_some, refl, sym, ◌∙◌, ap, ap₂, subst}
+use Rattle.std.specs.Prelude.{T}
+use Rattle.std.specs.Option.{option_eq, option_map}
+use Rattle.std.specs.Ordering.{eq_by_cmp}
+use Rattle.std.specs.List.{list_any}
+use Rattle.std.specs.FinMap.{is_sorted}
+use Rattle.std.specs.FinMap.Entries.{below_all}
+use Rattle.std.specs.FinMap as maps
+use Rattle.nb_datagram.specs.declared.key.Key.{Key}
+use Rattle.nb_datagram.specs.Key.{key_cmp}
+use Rattle.nb_table.specs.Maps.{joined_at}
+use Rattle.nb_table.specs.Contents.{Contents}
+use Rattle.nb_table.specs.Entry.{EntryValue, join_entry}
+use Rattle.nb_table.specs.Equal.{same_entry}
+use Rattle.nb_table.specs.Join.{join}
+use Rattle.nb_table.specs.Lemmas.KeyCountLemmas.{entries_kept, keys_kept, get_kept}
+use Rattle.nb_table.specs.Lemmas.MapsLemmas.{one_key}
+use Rattle.nb_table.specs.Lemmas.SameLemmas.{key_cmp_total, key_cmp_exact}
+use Rattle.nb_table.specs.Lemmas.TableLemmas.{get-join}
+use Rattle.nbt.specs.Differences.{differ_at, differing}
+use Rattle.nbt.specs.Code.Marks.{Marks, with_mark, marked}
+
+-- ---- what is marked, by look-ups
+
+-- marked_at b o: a mark where b says so, else what stands there
+marked_at : Bool → Option Unit → Option Unit
+marked_at b o = cond b (Some tt) o
+
+get-with_mark : (t u : Contents) (s : Marks) (k q : Key) → maps.get (with_mark t u s k) q ≡ marked_at (eq_by_cmp key_cmp q k && differ_at t u q) (maps.get s q)
+unfolding marked_at
+get-with_mark t u s k q = step (differ_at t u k) refl (eq_by_cmp key_cmp q k) refl
+  where
+    step : (d : Bool) → differ_at t u k ≡ d → (e : Bool) → eq_by_cmp key_cmp q k ≡ e → maps.get (cond d (maps.insert s k tt) s) q ≡ cond (e && differ_at t u q) (Some tt) (maps.get s q)
+    step true f true h = maps.get-insert key_cmp_total s k tt q ∙ ap (λ b. cond b (Some tt) (maps.get s q)) (h ∙ sym (ap (differ_at t u) (one_key key_cmp_exact q k h) ∙ f))
+    step true f false h = maps.get-insert key_cmp_total s k tt q ∙ ap (λ b. cond b (Some tt) (maps.get s q)) h
+    step false f true h = sym (ap (λ b. cond b (Some tt) (maps.get s q)) (ap (differ_at t u) (one_key key_cmp_exact q k h) ∙ f))
+    step false f false h = refl
+
+get-marked : (t u : Contents) (ks : List Key) (s : Marks) (q : Key) → maps.get (marked t u s ks) q ≡ marked_at (list_any (eq_by_cmp key_cmp q) ks && differ_at t u q) (maps.get s q)
+unfolding marked_at
+get-marked t u [] s q = refl
+get-marked t u (k ∷ ks) s q =
+    get-marked t u ks (with_mark t u s k) q
+    ∙ ap (cond (list_any (eq_by_cmp key_cmp q) ks && differ_at t u q) (Some tt)) (get-with_mark t u s k q)
+    ∙ step (list_any (eq_by_cmp key_cmp q) ks) (eq_by_cmp key_cmp q k) (differ_at t u q)
+  where
+    step : (a e d : Bool) → cond (a && d) (Some tt) (cond (e && d) (Some tt) (maps.get s q)) ≡ cond ((e || a) && d) (Some tt) (maps.get s q)
+    step true true true = refl
+    step true true false = refl
+    step true false d = elim d as (λ d. cond d (Some tt) (maps.get s q) ≡ cond d (Some tt) (maps.get s q)) [ true ↦ refl | false ↦ refl ]
+    step false true d = refl
+    step false false d = refl
+
+-- ---- maps with the same keys
+
+find-unit : {X : Type 0} (q : Key) (es : List (Key × X)) → maps.find key_cmp q (map (λ e. (e.0, tt)) es) ≡ option_map (λ x. tt) (maps.find key_cmp q es)
+find-unit q [] = refl
+find-unit q (e ∷ es) = step (eq_by_cmp key_cmp q e.0) (find-unit q es)
+  where
+    step : (b : Bool) → maps.find key_cmp q (map (λ f. (f.0, tt)) es) ≡ option_map (λ x. tt) (maps.find key_cmp q es) → cond b (Some tt) (maps.find key_cmp q (map (λ f. (f.0, tt)) es)) ≡ option_map (λ x. tt) (cond b (Some e.1) (maps.find key_cmp q es))
+    step true rec = refl
+    step false rec = rec
+
+below-unit : {X : Type 0} (k : Key) (es : List (Key × X)) → below_all key_cmp k (map (λ e. (e.0, tt)) es) ≡ below_all key_cmp k es
+below-unit k [] = refl
+below-unit k (e ∷ es) = ap (λ b. _ && b) (below-unit k es)
+
+sorted-unit : {X : Type 0} (es : List (Key × X)) → is_sorted key_cmp (map (λ e. (e.0, tt)) es) ≡ is_sorted key_cmp es
+sorted-unit [] = refl
+sorted-unit (e ∷ es) = ap₂ (λ a b. a && b) (below-unit e.0 es) (sorted-unit es)
+
+keys-unit : {X : Type 0} (es : List (Key × X)) → map (λ e. e.0) (map (λ e. (e.0, tt)) es) ≡ map (λ e. e.0) es
+keys-unit [] = refl
+keys-unit (e ∷ es) = ap (λ (ks : List Key). e.0 ∷ ks) (keys-unit es)
+
+keys_are : (s : Marks) (n : Contents) → ((q : Key) → maps.get s q ≡ option_map (λ x. tt) (maps.get n q)) → maps.keys s ≡ maps.keys n
+keys_are s n look =
+    let es = map (λ (e : Key × EntryValue). (e.0, tt)) (maps.entries n) in
+    let sorted = subst T (sym (sorted-unit (maps.entries n))) (maps.entries_sorted n) in
+    let same : s ≡ maps.from_sorted es = maps.same_map key_cmp_total key_cmp_exact _ _ (λ q. look q ∙ ap (option_map (λ x. tt)) (maps.get-entries n q) ∙ sym (find-unit q (maps.entries n)) ∙ sym (maps.get-from_sorted key_cmp es q sorted)) in
+    ap maps.keys same
+    ∙ ap (map (λ e. e.0)) (maps.entries-from_sorted key_cmp es sorted)
+    ∙ keys-unit (maps.entries n)
+
+-- ---- the keys of both tables
+
+both_at : (d : Bool) (a b : Option EntryValue) → cond (is_some b && d) (Some tt) (cond (is_some a && d) (Some tt) None) ≡ option_map (λ x. tt) (cond d (joined_at join_entry a b) None)
+both_at true None None = refl
+both_at true None (Some y) = refl
+both_at true (Some x) None = refl
+both_at true (Some x) (Some y) = refl
+both_at false None None = refl
+both_at false None (Some y) = refl
+both_at false (Some x) None = refl
+both_at false (Some x) (Some y) = refl
+
+get-both : (t u : Contents) (q : Key) → maps.get (marked t u (marked t u maps.empty (maps.keys t)) (maps.keys u)) q ≡ option_map (λ x. tt) (maps.get (maps.retain_keys (join t u) (differ_at t u)) q)
+unfolding marked_at
+get-both t u q =
+    get-marked t u (maps.keys u) (marked t u maps.empty (maps.keys t)) q
+    ∙ ap (cond (list_any (eq_by_cmp key_cmp q) (maps.keys u) && differ_at t u q) (Some tt)) (get-marked t u (maps.keys t) maps.empty q)
+    ∙ ap (λ o. cond (list_any (eq_by_cmp key_cmp q) (maps.keys u) && differ_at t u q) (Some tt) (cond (list_any (eq_by_cmp key_cmp q) (maps.keys t) && differ_at t u q) (Some tt) o)) (maps.get-empty key_cmp q)
+    ∙ ap₂ (λ b a. cond (b && differ_at t u q) (Some tt) (cond (a && differ_at t u q) (Some tt) None)) (sym (maps.contains_key-keys u q)) (sym (maps.contains_key-keys t q))
+    ∙ both_at (differ_at t u q) (maps.get t q) (maps.get u q)
+    ∙ ap (λ o. option_map (λ x. tt) (cond (differ_at t u q) o None)) (sym (get-join t u q))
+    ∙ ap (option_map (λ x. tt)) (sym (get_kept (join t u) (differ_at t u) q))
+
+pub marks_are : (t u : Contents) → maps.keys (marked t u (marked t u maps.empty (maps.keys t)) (maps.keys u)) ≡ differing t u
+marks_are t u =
+    keys_are _ (maps.retain_keys (join t u) (differ_at t u)) (get-both t u)
+    ∙ ap (map (λ e. e.0)) (entries_kept (join t u) (differ_at t u))
+    ∙ keys_kept (differ_at t u) (maps.entries (join t u))

@@ -1,0 +1,10 @@
+use Rattle.std.proofs.Common.{◌≡◌}
+use Rattle.std.specs.FinMap as maps
+use Rattle.nb_datagram.specs.Key.{key_cmp}
+use Rattle.nbt.specs.Code.Marks.{marked}
+use Rattle.nbt.proofs.differences.mark_each.Given as goal
+
+abbrev pub invariant-loop-key : goal.invariant-loop-key
+invariant-loop-key l =
+    marked l.one.contents l.other.contents (maps.from_entries {R = key_cmp} l.marks.entries) l.key-iterator
+    ≡ marked l.one.contents l.other.contents (maps.from_entries {R = key_cmp} l.fn.marks.entries) (maps.keys l.held.contents)

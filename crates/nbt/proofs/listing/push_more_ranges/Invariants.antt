@@ -1,0 +1,7 @@
+use Rattle.std.proofs.Common.{◌≡◌, ◌++◌, string_bytes}
+use Rattle.nbt.specs.Listing.{more_ranges_text}
+use Rattle.nbt.proofs.listing.push_more_ranges.Given as goal
+
+abbrev pub invariant-loop-range : goal.invariant-loop-range
+invariant-loop-range l =
+    string_bytes l.text ++ more_ranges_text l.range-iterator ≡ string_bytes l.fn.text ++ more_ranges_text l.fn.ranges

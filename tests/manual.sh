@@ -1,7 +1,8 @@
 #!/usr/bin/env bash
 # The manual pages: what mandoc says of them, where mandoc is installed, and whether they have each command and option of
 # the built program's and the tools' help; what bash and zsh offer; what `make install` puts where, and what `make
-# uninstall` leaves; the Debian package. Usage: tests/manual.sh [PROGRAM]; its last line is 'N passed, M failed, K skipped'.
+# uninstall` leaves; the Debian package; the places that docs/CHANGING.md names. Usage: tests/manual.sh [PROGRAM]; its last
+# line is 'N passed, M failed, K skipped'.
 set -uo pipefail
 . "$(dirname "$0")/counting.sh"
 program=${1:-$here/../crates/nbt/out/nbt}
@@ -33,6 +34,15 @@ words() {
             grep -qE "^\.It Fl ([a-zA-Z] , )?-${option#--}\b" "$page"
             count $? "man/nbt.1 has the option $option of $command"
         done
+    done
+}
+
+# Each file and folder that docs/CHANGING.md names is there.
+places() {
+    local place
+    for place in $(grep -oE '`[A-Za-z_]+(/[A-Za-z_.-]+)*`' "$here/../docs/CHANGING.md" | tr -d '`' | grep -E '/|\.md$' | sort -u); do
+        [ -e "$here/../$place" ]
+        count $? "docs/CHANGING.md names $place"
     done
 }
 
@@ -178,6 +188,7 @@ package_lint() {
 
 if command -v mandoc >/dev/null; then part mandoc lint; else lacks mandoc mandoc; fi
 part words words
+part places places
 part bash completion bash nbt.bash
 if command -v zsh >/dev/null; then part zsh completion zsh _nbt; else lacks zsh zsh; fi
 part installed installed

@@ -1,6 +1,5 @@
 //! The keys at which two tables differ, and what each of them has there.
 ghost use Rattle.std.specs.Prelude.{◌≡◌, ◌≢◌, ◌⊎◌, ◌++◌, true, map, IfOk, IfErr, OnOk, string_bytes};
-ghost use Rattle.std.specs.BTreeMap.{IsOrdered};
 ghost use Rattle.std.specs.FinMap as maps;
 ghost use Rattle.std.specs.Io.KnownBytes.{Appends, Keeps};
 ghost use Rattle.nb_datagram.specs.Key.{key_cmp};
@@ -56,7 +55,7 @@ fn differences_of(alloc: Global, one: &Table, other: &Table) -> Result<String, N
     let keys = differing_keys(alloc, one, other)?;
     let mut lines = String::new(alloc);
     lines.push_str("different\n")?;
-    for (key, _mark) in &keys {
+    for key in keys.keys() {
         push_two_lines(one, other, *key, &mut lines)?;
     }
     Ok(lines)

@@ -35,12 +35,12 @@ header_mid type flags key is a =
     (mid_field (codes "flags=") (digits_of flags) refl (digits_seen flags a.1.0))
     (mid_field (codes "key=") (key_text key) refl (key_word key is ip).1)
 
-kind_word : (kind : Kind) → IsWord (kind_text kind)
+pub kind_word : (kind : Kind) → IsWord (kind_text kind)
 kind_word Unique = literal (codes "unique") refl
 kind_word Group = literal (codes "group") refl
 kind_word Broadcast = literal (codes "broadcast") refl
 
-query_is_word : (kind : QueryKind) → IsWord (query_word kind)
+pub query_is_word : (kind : QueryKind) → IsWord (query_word kind)
 query_is_word Request = literal (codes "find") refl
 query_is_word Positive = literal (codes "found") refl
 query_is_word Negative = literal (codes "missing") refl

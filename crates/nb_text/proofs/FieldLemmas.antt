@@ -172,7 +172,7 @@ some_item b = either (is_plain b) where
 bytes_seen : (label : List ℕ) → AreBytes label → IsSeen (items_of label)
 bytes_seen label h = seen-each (λ (b : ℕ). b < 256) item_of label h byte_seen
 
-some_items : (label : List ℕ) → 0 < length label → 0 < length (items_of label)
+pub some_items : (label : List ℕ) → 0 < length label → 0 < length (items_of label)
 some_items [] none = absurd (omega (arith, none))
 some_items (b ∷ label) some = some-front (item_of b) (items_of label) (some_item b)
 
@@ -213,7 +213,7 @@ letters_small (high ∷ low ∷ letters) h =
     (small, letters_small letters two.1)
 
 -- labels of which the first is letters are a name's
-letters_name : (first : List ℕ) (scope : List (List ℕ)) → are_letters first ≡ true → IsDomain (first ∷ scope) → AreByteLabels scope
+pub letters_name : (first : List ℕ) (scope : List (List ℕ)) → are_letters first ≡ true → IsDomain (first ∷ scope) → AreByteLabels scope
     → IsByteName (record { bytes = bytes_of_letters first; scope = scope })
 letters_name first scope h domain bytes =
     let parts = and_parts (length first == 32) (list_all is_letter first) h in
@@ -239,7 +239,7 @@ labels_word (first ∷ scope) domain bytes = either (are_letters first) refl whe
 
 -- ---- keys
 
-at_small : (bytes : List ℕ) (i : ℕ) → i < length bytes → AreBytes bytes → slice_index bytes i < 256
+pub at_small : (bytes : List ℕ) (i : ℕ) → i < length bytes → AreBytes bytes → slice_index bytes i < 256
 at_small [] i low h = absurd (omega arith)
 at_small (b ∷ bytes) zero low h = h.0
 at_small (b ∷ bytes) (suc i) low h = at_small bytes i (omega arith) h.1

@@ -10,3 +10,9 @@ pub mod DatagramLines
 pub mod SessionLines
 pub mod ServiceLines
 pub mod ShownLines
+pub mod TellLemmas
+pub mod FieldTells
+pub mod LabelTells
+pub mod SessionTells
+pub mod DatagramTells
+pub mod ServiceTells

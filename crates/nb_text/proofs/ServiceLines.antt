@@ -7,6 +7,7 @@ use Rattle.std.proofs.lemmas.List.{length-drop, length-take-le}
 use Rattle.nb_names.specs.Addresses.{address_text}
 use Rattle.nb_names.specs.DomainName.{AreBytes, AreByteLabels, IsDomain}
 use Rattle.nb_names.specs.Hexadecimal.{data_text, digits_text, word_text}
+use Rattle.nb_names.specs.Labels.{NameAt}
 use Rattle.nb_names.specs.Name.{IsByteName}
 use Rattle.nb_names.specs.NameText.{labels_written, written}
 use Rattle.nb_names.specs.declared.pointers.Pointers.TheVariants.{Followed}
@@ -269,30 +270,35 @@ section_parts section entries is h = parts_each IsByteRecord (record_lines secti
 abbrev pub IsByteQuestion : Question → Type 0
 IsByteQuestion question = AreLabels question.name
 
+-- labels that stand there are of bytes, and a domain name's
+pub labels_stand : (payload : List ℕ) (at : ℕ) (labels : List (List ℕ)) (next : ℕ) → AreBytes payload
+    → NameAt payload Followed at labels next → AreLabels labels
+labels_stand payload at labels next a name =
+    (name_domain payload Followed at labels next name, labels_bytes payload Followed at at labels next a name)
+
 questions_stand : (payload : List ℕ) (at : ℕ) (questions : List Question) (next : ℕ) → AreBytes payload
     → Row (QuestionAt payload) at questions next → AllByRecursion IsByteQuestion questions
 questions_stand payload at _ next a none = tt
-questions_stand payload at _ next a (more between question questions one rest) = (
-  (name_domain payload Followed at question.name one.after one.name, labels_bytes payload Followed at at question.name one.after a one.name),
-  questions_stand payload between questions next a rest,
-)
+questions_stand payload at _ next a (more between question questions one rest) =
+    (labels_stand payload at question.name one.after a one.name, questions_stand payload between questions next a rest)
 
 rdata_stands : (payload : List ℕ) (at size kind : ℕ) (rdata : ResourceData) → AreBytes payload → RdataAt payload at size kind rdata
     → IsByteData rdata
 rdata_stands payload at size kind _ a (bytes_there bytes other long stands) = bytes-stand payload bytes at a stands
-rdata_stands payload at size kind _ a (domain_there labels is name) =
-    (name_domain payload Followed at labels (at + size) name, labels_bytes payload Followed at at labels (at + size) a name)
+rdata_stands payload at size kind _ a (domain_there labels is name) = labels_stand payload at labels (at + size) a name
+
+pub record_stands : (payload : List ℕ) (at : ℕ) (entry : ResourceRecord) (next : ℕ) → AreBytes payload → RecordAt payload at entry next
+    → IsByteRecord entry
+record_stands payload at entry next a one = record {
+  name = labels_stand payload at entry.name one.after a one.name;
+  rdata = rdata_stands payload (one.after + 10) one.size entry.kind entry.rdata a one.rdata;
+}
 
 records_stand : (payload : List ℕ) (at : ℕ) (entries : List ResourceRecord) (next : ℕ) → AreBytes payload
     → Row (RecordAt payload) at entries next → AllByRecursion IsByteRecord entries
 records_stand payload at _ next a none = tt
-records_stand payload at _ next a (more between entry entries one rest) = (
-  record {
-    name = (name_domain payload Followed at entry.name one.after one.name, labels_bytes payload Followed at at entry.name one.after a one.name);
-    rdata = rdata_stands payload (one.after + 10) one.size entry.kind entry.rdata a one.rdata;
-  },
-  records_stand payload between entries next a rest,
-)
+records_stand payload at _ next a (more between entry entries one rest) =
+    (record_stands payload at entry between a one, records_stand payload between entries next a rest)
 
 all-split : (xs ys : List ResourceRecord) → AllByRecursion IsByteRecord (xs ++ ys)
     → AllByRecursion IsByteRecord xs × AllByRecursion IsByteRecord ys

@@ -5,10 +5,19 @@ ghost use Rattle.nb_names.specs.DomainName.{IsDomain, AreByteLabels, AreBytes};
 ghost use Rattle.nb_names.specs.Hexadecimal.{data_text};
 ghost use Rattle.nb_names.specs.Name.{NetbiosName, IsByteName};
 ghost use Rattle.nb_names.specs.NameText.{labels_written, written};
+ghost use Rattle.nb_service.specs.Packet.{ServicePacket, IsPacket as IsServicePacket};
+ghost use Rattle.nb_session.specs.declared.packet.Packet.{Packet as SessionPacket};
+ghost use Rattle.nb_session.specs.declared.parsing.Parsed.TheVariants.{Whole};
+ghost use Rattle.nb_session.specs.Parsing.{Parses};
 ghost use Rattle.nb_datagram.specs.declared.key.Key.{Key};
+ghost use Rattle.nb_datagram.specs.declared.packet.Packet.{Packet as DatagramPacket};
 ghost use Rattle.nb_datagram.specs.Header.{IsKey};
+ghost use Rattle.nb_datagram.specs.Packet.{IsPacket as IsDatagramPacket};
 ghost use Rattle.nb_datagram.specs.Texts.{key_text};
+ghost use Rattle.nb_text.specs.DatagramText.{datagram_text};
 ghost use Rattle.nb_text.specs.Fields.{AreLines, IsWord};
+ghost use Rattle.nb_text.specs.ServiceText.{service_text};
+ghost use Rattle.nb_text.specs.SessionText.{session_text};
 ghost use Rattle.nb_text.specs.Shown.{Shown};
 ghost use Rattle.nb_text.specs.Words.{name_flags, packet_flags, set_text};
 
@@ -56,4 +65,38 @@ pub fn fields_are_words()
     ensures numbers { (n : ℕ) → IsWord (decimal n) }
     ensures packet_sets { (word : ℕ) → IsWord (set_text packet_flags word) }
     ensures name_sets { (word : ℕ) → IsWord (set_text name_flags word) }
+{}
+
+/// No two names are written alike, nor two lists of labels, two rows of bytes, or two keys.
+pub fn a_field_tells_its_value()
+    ensures names { (name other : NetbiosName) → IsByteName name → IsByteName other →
+        written name ≡ written other → name ≡ other }
+    ensures labels { (labels others : List (List ℕ)) → IsDomain labels → AreByteLabels labels →
+        IsDomain others → AreByteLabels others →
+        labels_written labels ≡ labels_written others → labels ≡ others }
+    ensures bytes { (bytes others : List ℕ) → AreBytes bytes → AreBytes others →
+        data_text bytes ≡ data_text others → bytes ≡ others }
+    ensures keys { (key other : Key) → IsKey key → AreBytes key.ip → IsKey other →
+        AreBytes other.ip → key_text key ≡ key_text other → key ≡ other }
+{}
+
+/// The text of a packet tells the packet: two packets of a port that are shown by the same text are
+/// equal in all parts. What the text says for `used` takes no part, so that may be any number:
+/// `shown` in the one, `again` in the other.
+///
+/// No part is an exception. Where a word stands for more than one value, as `refresh` for the
+/// operations 8 and 9, or a bit has no name, the line has the number in hexadecimal too.
+pub fn a_text_tells_its_packet()
+    ensures sessions { (payload other : List ℕ) (packet same : SessionPacket)
+        (used after shown again : ℕ) → AreBytes payload → AreBytes other →
+        Parses payload (Whole packet used) → Parses other (Whole same after) →
+        session_text (Whole packet shown) ≡ session_text (Whole same again) → packet ≡ same }
+    ensures datagrams { (payload other : List ℕ) (packet same : DatagramPacket)
+        (used after shown again : ℕ) → AreBytes payload → AreBytes other →
+        IsDatagramPacket payload packet used → IsDatagramPacket other same after →
+        datagram_text packet shown ≡ datagram_text same again → packet ≡ same }
+    ensures names { (payload other : List ℕ) (packet same : ServicePacket)
+        (used after shown again : ℕ) → AreBytes payload → AreBytes other →
+        IsServicePacket payload packet used → IsServicePacket other same after →
+        service_text packet shown ≡ service_text same again → packet ≡ same }
 {}

@@ -1,0 +1,250 @@
+-- The text of a name service packet tells the packet.
+use Rattle.std.proofs.Common.{◌≡◌, ℕ, ◌<◌, ◌^◌, nat_lt, Bool, true, false, if◌then◌else◌, List, [], ◌++◌, length, take, refl, ap, arith, codes}
+use Rattle.std.specs.List.{AllByRecursion, flat_map}
+use Rattle.std.specs.Fmt.{decimal}
+use Rattle.nb_names.specs.DomainName.{AreBytes}
+use Rattle.nb_names.specs.Hexadecimal.{digits_text}
+use Rattle.nb_service.specs.declared.question.Question.{Question}
+use Rattle.nb_service.specs.Packet.{ServicePacket, IsPacket, QuestionAt, RecordAt, Row, none, more}
+use Rattle.nb_service.specs.Record.{ResourceData, of_bytes, of_domain, ResourceRecord}
+use Rattle.nb_service.specs.Views.{entries_in, status_in}
+use Rattle.nb_service.proofs.SectionLemmas.{sections}
+use Rattle.nb_text.specs.Lines.{line_end, used_text}
+use Rattle.nb_text.specs.ServiceText.{state_text, counts_text, header_line, type_text, question_line, rdata_text, record_line, entry_line, node_name_line, unit_line, status_lines, record_lines, service_text}
+use Rattle.nb_text.proofs.MidLemmas.{number_word}
+use Rattle.nb_text.proofs.FieldTells.{number_tells, word_tells, data_tells}
+use Rattle.nb_text.proofs.LabelTells.{labels_tell}
+use Rattle.nb_text.proofs.ServiceLines.{AreLabels, IsByteData, IsByteRecord, labels_stand, record_stands}
+use Rattle.nb_text.proofs.TellLemmas.{EndsField, ends_both, ends_each, Tells, space, feed, tells_whole, seen_tells, both_tell, field_then, after_tells, same_tells, differ_tells, tells_then, each_tells}
+
+-- ---- the header
+
+end_tells : Tells line_end line_end (Unit {0})
+end_tells = same_tells line_end line_end refl
+
+-- how many bytes a packet takes up tells nothing of it
+used_tells : (m n : ℕ) → Tells (used_text m) (used_text n) (Unit {0})
+used_tells m n =
+    let number = seen_tells {F = Unit {0}} (decimal m) (decimal n) (number_word m).1 (number_word n).1 (λ _. tt) in
+    tells_then (field_then (codes " used=") number end_tells feed feed) (λ _. tt)
+
+-- Counts p q: the packets have as many items of each sort
+pub record Counts (p q : ServicePacket) : Type 0 where
+  pub questions : length p.questions ≡ length q.questions
+  pub answers : length p.answers ≡ length q.answers
+  pub authorities : length p.authorities ≡ length q.authorities
+  pub additional : length p.additional ≡ length q.additional
+
+-- a packet whose header has room for it
+pub record IsCounted (p : ServicePacket) : Type 0 where
+  pub id : p.id < 2 ^ 16
+  pub word : p.word < 2 ^ 16
+  pub questions : length p.questions < 2 ^ 64
+  pub answers : length p.answers < 2 ^ 64
+  pub authorities : length p.authorities < 2 ^ 64
+  pub additional : length p.additional < 2 ^ 64
+
+counts_tell : (p q : ServicePacket) → IsCounted p → IsCounted q → Tells (counts_text p) (counts_text q) (Counts p q)
+counts_tell p q a b =
+    let additional = after_tells (codes " ar=") (number_tells (length p.additional) (length q.additional) a.additional b.additional) in
+    let authorities = field_then (codes " ns=") (number_tells (length p.authorities) (length q.authorities) a.authorities b.authorities) additional space space in
+    let answers = field_then (codes " an=") (number_tells (length p.answers) (length q.answers) a.answers b.answers) authorities space space in
+    tells_then (field_then (codes " qd=") (number_tells (length p.questions) (length q.questions) a.questions b.questions) answers space space)
+    (λ h. record { questions = h.0; answers = h.1.0; authorities = h.1.1.0; additional = h.1.1.1 })
+
+-- SameHeader p q: the packets have one identifier, one flag word, and as many items of each sort
+pub record SameHeader (p q : ServicePacket) : Type 0 where
+  pub id : p.id ≡ q.id
+  pub word : p.word ≡ q.word
+  pub counts : Counts p q
+
+header_tells : (p q : ServicePacket) (m n : ℕ) → IsCounted p → IsCounted q → Tells (header_line p m) (header_line q n) (SameHeader p q)
+header_tells p q m n a b =
+    let word = after_tells (codes " word=") (word_tells p.word q.word a.word b.word) in
+    let identity = field_then (codes "id=") (word_tells p.id q.id a.id b.id) word space space in
+    let rest = both_tell (counts_tell p q a b) (λ _. used_tells m n) space space in
+    tells_then
+    (both_tell identity (λ h. both_tell (same_tells (state_text p.word) (state_text q.word) (ap state_text h.1)) (λ _. rest) space space) space space)
+    (λ h. record { id = h.0.0; word = h.0.1; counts = h.1.1.0 })
+
+-- ---- questions
+
+-- a question that stands in bytes, with its numbers
+pub record IsShownQuestion (question : Question) : Type 0 where
+  pub name : AreLabels question.name
+  pub kind : question.kind < 2 ^ 16
+  pub class : question.class < 2 ^ 16
+
+type_tells : (kind class other another : ℕ) → kind < 2 ^ 16 → class < 2 ^ 16 → other < 2 ^ 16 → another < 2 ^ 16
+    → Tells (type_text kind class) (type_text other another) ((kind ≡ other) × (class ≡ another))
+type_tells kind class other another a b p q =
+    field_then (codes " type=") (word_tells kind other a p) (after_tells (codes " class=") (word_tells class another b q)) space space
+
+question_tells : (x y : Question) → IsShownQuestion x → IsShownQuestion y → Tells (question_line x) (question_line y) (x ≡ y)
+question_tells x y a b =
+    let types = both_tell (type_tells x.kind x.class y.kind y.class a.kind a.class b.kind b.class) (λ _. end_tells) feed feed in
+    tells_then (field_then (codes "  question ") (labels_tell x.name y.name a.name b.name) types space space)
+    (λ h. λ i. record { name = h.0 i; kind = h.1.0.0 i; class = h.1.0.1 i })
+
+-- ---- records
+
+-- a record that stands in bytes, with its numbers
+pub record IsShownRecord (entry : ResourceRecord) : Type 0 where
+  pub bytes : IsByteRecord entry
+  pub kind : entry.kind < 2 ^ 16
+  pub class : entry.class < 2 ^ 16
+  pub ttl : entry.ttl < 2 ^ 32
+
+rdata_tells : (x y : ResourceData) → IsByteData x → IsByteData y → Tells (rdata_text x) (rdata_text y) (x ≡ y)
+rdata_tells (of_bytes xs) (of_bytes ys) a b = tells_then (after_tells (codes " data=") (data_tells xs ys a b)) (ap of_bytes)
+rdata_tells (of_domain xs) (of_domain ys) a b = tells_then (after_tells (codes " domain=") (labels_tell xs ys a b)) (ap of_domain)
+rdata_tells (of_bytes xs) (of_domain ys) a b = differ_tells _ _ (λ r s. refl)
+rdata_tells (of_domain xs) (of_bytes ys) a b = differ_tells _ _ (λ r s. refl)
+
+rdata_space : (x : ResourceData) → EndsField (rdata_text x ++ line_end)
+rdata_space (of_bytes xs) = space
+rdata_space (of_domain xs) = space
+
+record_tells : (section : List ℕ) (x y : ResourceRecord) → IsShownRecord x → IsShownRecord y
+    → Tells (record_line section x) (record_line section y) (x ≡ y)
+record_tells section x y a b =
+    let low = a.ttl in
+    let small = b.ttl in
+    let rdata = both_tell (rdata_tells x.rdata y.rdata a.bytes.rdata b.bytes.rdata) (λ _. end_tells) feed feed in
+    let ttl = field_then (codes " ttl=") (number_tells x.ttl y.ttl (omega (arith, low)) (omega (arith, small))) rdata (rdata_space x.rdata) (rdata_space y.rdata) in
+    let types = both_tell (type_tells x.kind x.class y.kind y.class a.kind a.class b.kind b.class) (λ _. ttl) space space in
+    let name = field_then (codes " ") (labels_tell x.name y.name a.bytes.name b.bytes.name) types space space in
+    tells_then (after_tells (codes "  ") (after_tells section name))
+    (λ h. λ i. record { name = h.0 i; kind = h.1.0.0 i; class = h.1.0.1 i; ttl = h.1.1.0 i; rdata = h.1.1.1.0 i })
+
+-- what follows a record's own line
+abbrev parts_lines : ResourceRecord → List ℕ
+parts_lines entry = flat_map entry_line (entries_in entry) ++ status_lines (status_in entry)
+
+unit_space : (statistics : List ℕ) → EndsField (unit_line statistics)
+unit_space statistics = either (nat_lt (length statistics) 6) where
+  either : (test : Bool) → EndsField (if test then [] else codes "    unit=" ++ (digits_text (take 6 statistics) ++ line_end))
+  either true = tt
+  either false = space
+
+parts_space : (entry : ResourceRecord) → EndsField (parts_lines entry)
+parts_space entry =
+    let status = status_in entry in
+    ends_both (flat_map entry_line (entries_in entry)) (status_lines status) (ends_each entry_line (entries_in entry) (λ _. space))
+    (ends_both (flat_map node_name_line status.names) (unit_line status.statistics) (ends_each node_name_line status.names (λ _. space))
+    (unit_space status.statistics))
+
+-- the lines of its parts are of the record that its own line told
+lines_tell : (section : List ℕ) (x y : ResourceRecord) → IsShownRecord x → IsShownRecord y
+    → Tells (record_lines section x) (record_lines section y) (x ≡ y)
+lines_tell section x y a b =
+    tells_then
+    (both_tell (record_tells section x y a b) (λ same. same_tells (parts_lines x) (parts_lines y) (ap parts_lines same)) (parts_space x) (parts_space y))
+    (λ h. h.0)
+
+section_tells : (section : List ℕ) (xs ys : List ResourceRecord) → length xs ≡ length ys → AllByRecursion IsShownRecord xs
+    → AllByRecursion IsShownRecord ys → Tells (flat_map (record_lines section) xs) (flat_map (record_lines section) ys) (xs ≡ ys)
+section_tells section xs ys size a b = each_tells IsShownRecord (record_lines section) xs ys size a b (λ _. space) (lines_tell section)
+
+section_space : (section : List ℕ) (xs : List ResourceRecord) → EndsField (flat_map (record_lines section) xs)
+section_space section xs = ends_each (record_lines section) xs (λ _. space)
+
+-- the lines after the answers, after the questions, and after the header
+abbrev after_answers : ServicePacket → List ℕ
+after_answers p = flat_map (record_lines (codes "authority")) p.authorities ++ flat_map (record_lines (codes "additional")) p.additional
+
+abbrev after_questions : ServicePacket → List ℕ
+after_questions p = flat_map (record_lines (codes "answer")) p.answers ++ after_answers p
+
+abbrev after_header : ServicePacket → List ℕ
+after_header p = flat_map question_line p.questions ++ after_questions p
+
+answers_space : (p : ServicePacket) → EndsField (after_answers p)
+answers_space p = ends_both _ _ (section_space (codes "authority") p.authorities) (section_space (codes "additional") p.additional)
+
+questions_space : (p : ServicePacket) → EndsField (after_questions p)
+questions_space p = ends_both _ _ (section_space (codes "answer") p.answers) (answers_space p)
+
+header_space : (p : ServicePacket) → EndsField (after_header p)
+header_space p = ends_both _ _ (ends_each question_line p.questions (λ _. space)) (questions_space p)
+
+-- ---- what stands in bytes
+
+questions_stand : (payload : List ℕ) (at : ℕ) (questions : List Question) (next : ℕ) → AreBytes payload
+    → Row (QuestionAt payload) at questions next → AllByRecursion IsShownQuestion questions
+questions_stand payload at _ next a none = tt
+questions_stand payload at _ next a (more between question questions one rest) = (
+  record { name = labels_stand payload at question.name one.after a one.name; kind = one.kind.fits; class = one.class.fits },
+  questions_stand payload between questions next a rest,
+)
+
+records_stand : (payload : List ℕ) (at : ℕ) (entries : List ResourceRecord) (next : ℕ) → AreBytes payload
+    → Row (RecordAt payload) at entries next → AllByRecursion IsShownRecord entries
+records_stand payload at _ next a none = tt
+records_stand payload at _ next a (more between entry entries one rest) = (
+  record { bytes = record_stands payload at entry between a one; kind = one.kind.fits; class = one.class.fits; ttl = one.ttl.fits },
+  records_stand payload between entries next a rest,
+)
+
+-- a packet that stands in bytes
+pub record IsShownPacket (p : ServicePacket) : Type 0 where
+  pub counted : IsCounted p
+  pub questions : AllByRecursion IsShownQuestion p.questions
+  pub answers : AllByRecursion IsShownRecord p.answers
+  pub authorities : AllByRecursion IsShownRecord p.authorities
+  pub additional : AllByRecursion IsShownRecord p.additional
+
+packet_stands : (payload : List ℕ) (packet : ServicePacket) (used : ℕ) → AreBytes payload → IsPacket payload packet used → IsShownPacket packet
+packet_stands payload packet used a is =
+    let at = sections payload packet used is in
+    let questions = is.header.questions.fits in
+    let answers = is.header.answers.fits in
+    let authorities = is.header.authorities.fits in
+    let additional = is.header.additional.fits in
+    record {
+      counted = record {
+        id = is.header.id.fits;
+        word = is.header.word.fits;
+        questions = omega (arith, questions);
+        answers = omega (arith, answers);
+        authorities = omega (arith, authorities);
+        additional = omega (arith, additional);
+      };
+      questions = questions_stand payload _ packet.questions at.answers a at.first;
+      answers = records_stand payload at.answers packet.answers at.authorities a at.second;
+      authorities = records_stand payload at.authorities packet.authorities at.additional a at.third;
+      additional = records_stand payload at.additional packet.additional used a at.last;
+    }
+
+-- ---- the packet
+
+items_tell : (p q : ServicePacket) → Counts p q → IsShownPacket p → IsShownPacket q
+    → Tells (after_header p) (after_header q)
+    ((p.questions ≡ q.questions) × ((p.answers ≡ q.answers) × ((p.authorities ≡ q.authorities) × (p.additional ≡ q.additional))))
+items_tell p q same a b =
+    let additional = section_tells (codes "additional") p.additional q.additional same.additional a.additional b.additional in
+    let authorities =
+    both_tell (section_tells (codes "authority") p.authorities q.authorities same.authorities a.authorities b.authorities) (λ _. additional)
+    (section_space (codes "additional") p.additional) (section_space (codes "additional") q.additional) in
+    let answers =
+    both_tell (section_tells (codes "answer") p.answers q.answers same.answers a.answers b.answers) (λ _. authorities) (answers_space p) (answers_space q) in
+    both_tell (each_tells IsShownQuestion question_line p.questions q.questions same.questions a.questions b.questions (λ _. space) question_tells)
+    (λ _. answers) (questions_space p) (questions_space q)
+
+packet_tells : (p q : ServicePacket) (m n : ℕ) → IsShownPacket p → IsShownPacket q → Tells (service_text p m) (service_text q n) (p ≡ q)
+packet_tells p q m n a b =
+    tells_then
+    (both_tell (header_tells p q m n a.counted b.counted) (λ h. items_tell p q h.counts a b) (header_space p) (header_space q))
+    (λ h. λ i. record {
+      id = h.0.id i;
+      word = h.0.word i;
+      questions = h.1.0 i;
+      answers = h.1.1.0 i;
+      authorities = h.1.1.1.0 i;
+      additional = h.1.1.1.1 i;
+    })
+
+pub service_tells : (payload other : List ℕ) (packet same : ServicePacket) (used after shown again : ℕ) → AreBytes payload → AreBytes other
+    → IsPacket payload packet used → IsPacket other same after → service_text packet shown ≡ service_text same again → packet ≡ same
+service_tells payload other packet same used after shown again a b here there e =
+    tells_whole (packet_tells packet same shown again (packet_stands payload packet used a here) (packet_stands other same after b there)) e

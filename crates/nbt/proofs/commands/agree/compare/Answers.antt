@@ -20,7 +20,7 @@ returns-in-len2-clause-write g c =
     let tables = c.as_slice-3.ensures.value in
     let items = two_items _ c.first-item.result c.second-item.result c.in-len2.len_at_least c.in-len2.len_below c.first-item.is c.second-item.is in
     IfErr-weaker c.tell_same.result _ _
-    (λ fault told write. compares_tables _ _ _ _ _ _ _ _ c.as_slice-2.ensures.value text.read text.ended text.within c.in_ok-tables.ensures.found (sym tables ∙ items) told)
+    (λ fault told write. compares_tables _ _ _ _ _ _ _ _ c.as_slice-2.ensures.value text.read text.ended text.within c.in_ok-tables.ensures.found (sym tables ∙ items) (told write))
     c.tell_same.ensures.write
 
 pub returns-then-count_lines-ne2-clause-fault : goal.returns-then-count_lines-ne2-clause-fault

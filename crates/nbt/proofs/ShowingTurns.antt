@@ -36,9 +36,9 @@ adds_packet n port moment payload old mid new value is front a =
       text,
       subst (λ (v : capture.Line). ShowsValue n v text) (sym is) (packet port moment payload a.text a.shown),
       a.added ∙ ap (λ (t : List ℕ). t ++ a.text) front ∙ append_assoc old (decimal n ++ behind) a.text
-      ∙ ap (λ (t : List ℕ). old ++ t)
-      (append_assoc (decimal n) behind a.text
-      ∙ ap (λ (t : List ℕ). decimal n ++ (codes " " ++ t)) (append_assoc (decimal port) (codes " ") a.text)),
+          ∙ ap (λ (t : List ℕ). old ++ t)
+          (append_assoc (decimal n) behind a.text
+          ∙ ap (λ (t : List ℕ). decimal n ++ (codes " " ++ t)) (append_assoc (decimal port) (codes " ") a.text)),
     )
 
 -- a look at the clock is a line

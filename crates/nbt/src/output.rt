@@ -10,9 +10,9 @@ ghost use Rattle.nbt.specs.Input.{WasCut};
 
 use crate::commands::replay::outcome_of;
 use crate::fault::Fault;
-use nb_member::{Member, CaptureOptions, replay_with};
-use nb_names::{Counted, NoMemory, push_digits};
+use nb_member::{CaptureOptions, Member, replay_with};
 use nb_names::output::{write_some, write_whole};
+use nb_names::{Counted, NoMemory, push_digits};
 use std::alloc::Global;
 use std::io;
 use std::io::{ErrorKind, Read, Write};
@@ -99,13 +99,7 @@ impl<W> Output<W> {
         ensures why { IfErr result (λ fault. fault ≡ Fault.Write →
             ShowsWriteFault self.old.counts self.new.counts) }
     {
-        outcome_of(replay_with(
-            alloc,
-            input,
-            &mut self.device,
-            &mut member,
-            options,
-        ))
+        outcome_of(replay_with(alloc, input, &mut self.device, &mut member, options))
     }
 }
 

@@ -4,7 +4,7 @@ ghost use Rattle.nbt.specs.Settings.{AreComments, AreOptions, HasNoCapacity, IsC
 
 use crate::fault::Fault;
 use clap::ArgMatches;
-use nb_member::{Comments, CaptureOptions, Settings};
+use nb_member::{CaptureOptions, Comments, Settings};
 use nb_names::limits::MAX_INPUT;
 
 /// The port of the datagram service (RFC 1002 section 4.4).

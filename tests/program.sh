@@ -283,7 +283,7 @@ memory() {
     remembers agree
 }
 
-mkdir "$room/bin" && ln -s "$(realpath "$program")" "$room/bin/nbt"
+with_tools "$program"
 printf '#!/bin/sh\nexec env LD_PRELOAD=%s/devices.so "$@"\n' "$room" >"$room/bin/hostile" && chmod +x "$room/bin/hostile"
 part shims compile devices refuse_memory
 part cases cases

@@ -33,6 +33,7 @@ pub fn answer(alloc: Global, call: &str, words: &mut Words<'_>) -> Result<String
         "next" => reading::each_line(alloc, words),
         "next_within" => reading::each_line_within(alloc, words),
         "datagram" => texts::parts(alloc, words),
+        "comment" => texts::comment(alloc, words),
         "report" | "replay" | "written" | "commented" => replays::replayed(alloc, call, words),
         "compare" => values::compared(alloc, words),
         "memory" => values::memory(alloc),

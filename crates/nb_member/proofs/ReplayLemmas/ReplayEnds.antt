@@ -1,12 +1,12 @@
 -- How a replay ends.
-use Rattle.std.proofs.Common.{◌≡◌, ◌⊎◌, ◌+◌, ◌≤◌, ◌++◌, ℕ, List, [], ◌∷◌, length, take, drop, Option, Some, None, Result, Ok, Err, ◌≢◌, refl, sym, subst, ◌∙◌, ap, inl, inr, append_assoc, arith}
+use Rattle.std.proofs.Common.{◌≡◌, ◌⊎◌, ◌+◌, ◌++◌, ℕ, List, [], ◌∷◌, length, take, drop, Option, Some, None, Result, Ok, Err, ◌≢◌, refl, sym, subst, ◌∙◌, ap, inl, inr, append_assoc, arith}
 use Rattle.std.specs.Io.KnownBytes.{Appends, Consumes}
 use Rattle.std.proofs.lemmas.List.{append-nil, take-append-drop}
 use Rattle.nb_names.specs.Counted.{Counts}
 use Rattle.nb_names.specs.Devices.{ShowsUnread}
 use Rattle.nb_names.specs.DeviceFacts.{Appends-more, Appends-kept}
 use Rattle.nb_names.specs.LineFacts.{any_cut}
-use Rattle.nb_names.specs.Lines.{CutInto, rest, line, with_rest}
+use Rattle.nb_names.specs.Lines.{CutInto, rest, with_rest}
 use Rattle.nb_member.specs.declared.comments.Comments.{Comments}
 use Rattle.nb_member.specs.declared.event.Event.{Event}
 use Rattle.nb_member.specs.declared.line_read_fault.LineReadFault.TheVariants as fault
@@ -19,7 +19,7 @@ use Rattle.nb_member.specs.LineRoom.{RoomValue}
 use Rattle.nb_member.specs.LinesSoFar.{cut_both, was_reading, came, kept_are, none_over, handed_more, handed_all, shows_unread, long_first}
 use Rattle.nb_member.specs.Live.{Timed, live_from, live}
 use Rattle.nb_member.specs.Member.{MemberValue, StandsOver, Stands}
-use Rattle.nb_member.specs.Replaying.{Replayed, Writes, Stops, Replays, AreLines, finished, ComesMalformed, ended, too_long, looked_at}
+use Rattle.nb_member.specs.Replaying.{Replayed, Writes, Stops, Replays, AreLines, finished, ComesMalformed, ended, looked_at}
 use Rattle.nb_member.specs.LinesCame.{lines_held, comes_malformed}
 use Rattle.nb_member.proofs.ReplayLemmas.ReplaySoFar.{SoFar, with_line, report_of, replayed, IsReplaying}
 

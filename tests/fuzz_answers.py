@@ -65,6 +65,7 @@ class Answers:
             answers(self.runner.run(['list', *words], given), listing, *ending)
         with self.runner.rule('agreed by the model'):
             answers(self.runner.run(['agree'], given), *agreeing(given))
+            answers(self.runner.run(['agree', '--list'], given), *agreeing(given, listed=True))
 
     def orders(self):
         """The same fragments in another order, repeated and with other spare bits: one table, one set of datagrams."""
@@ -176,10 +177,10 @@ def merging(given, keys, per_source):
     return table.saved().hex().encode() + b'\n', table.listing().encode(), 0, ''
 
 
-def agreeing(given):
-    """What `nbt agree` answers: its output, status and text."""
+def agreeing(given, listed=False):
+    """What `nbt agree` or `nbt agree --list` answers: its output, status and text."""
     try:
-        output = agrees(given)
+        output = agrees(given, listed)
     except Refused as refused:
         return b'', 1, f'nbt: {refused}\n'
     return output, int(output != b'equal\n'), ''

@@ -7,7 +7,7 @@ from fuzz_runs import answers, ends_as, expect
 from fuzz_traffic import some_limits
 
 KEY = re.compile(rb'(\d+)\.(\d+)\.(\d+)\.(\d+):(\d+)/([0-9a-f]{4}) '
-                 rb'(?:spoilt|(?:whole|partial) (?:unique|group|broadcast) \S+ \S+ (?:empty|(?:[0-9a-f]{2})+|\d+/[\d?]+ \d+))')
+                 rb'(?:spoilt|(?:whole|partial) (?:unique|group|broadcast) \S+ \S+ (?:empty|(?:[0-9a-f]{2})+|\d+/[\d?]+ \d+ (?:-|\d+-\d+(?:,\d+-\d+)*)(?: more \d+)?))')
 
 
 class Forms:

@@ -2,7 +2,7 @@
 import re
 
 from fuzz_packets import Refused, cut_at_line_feeds, read_name
-from table_model import LONGEST, Entry, Table
+from table_model import LONGEST, Entry, Table, differences
 
 MOST = (1 << 32) - 1
 DIGITS = re.compile(rb'(?:[0-9A-Fa-f]{2})+')
@@ -115,10 +115,12 @@ def joined(given, keys, per_source):
     return whole
 
 
-def agrees(given):
-    """What `nbt agree` prints."""
+def agrees(given, listed=False):
+    """What `nbt agree` prints, or `nbt agree --list`."""
     lines = cut_at_line_feeds(given)
     if len(lines) != 2:
         raise Refused('two tables wanted')
     first, second = read_tables(lines, MOST, MOST)
-    return b'equal\n' if first.saved() == second.saved() else b'different\n'
+    if first.saved() == second.saved():
+        return b'equal\n'
+    return b'different\n' + ''.join(differences(first, second) if listed else ()).encode()

@@ -167,7 +167,24 @@ def listed(entry):
     if entry.is_whole():
         return f'whole {entry.datagram_text()}'
     end = max(entry.ends) if entry.ends else '?'
-    return f'partial {entry.parts_text()} {len(entry.bytes)}/{end} {len(entry.runs())}'
+    runs = entry.runs()
+    places = ','.join(f'{start}-{start + length}' for start, length in runs) or '-'
+    promised = max(entry.promises, default=None)
+    awaited = promised is not None and all(place < promised for place in entry.bytes)
+    more = f' more {promised}' if awaited else ''
+    return f'partial {entry.parts_text()} {len(entry.bytes)}/{end} {len(runs)} {places}{more}'
+
+
+def differences(first, second):
+    """The lines of `nbt agree --list` after `different`."""
+    def known(entry):
+        return entry and (b'' if entry.is_spoilt() else saved_facts(entry))
+
+    for key in sorted(first.entries.keys() | second.entries.keys()):
+        both = first.entries.get(key), second.entries.get(key)
+        if known(both[0]) != known(both[1]):
+            for number, entry in enumerate(both, 1):
+                yield f'{number} {f"{key_text(key)} {listed(entry)}" if entry else "absent"}\n'
 
 
 def hears(names, entry):

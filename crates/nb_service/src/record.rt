@@ -165,7 +165,8 @@ impl<'a> Record<'a> {
     /// None where the kind isn't NBSTAT, and where the RDATA has less than NUM_NAMES promises.
     /// RFC 1002 section 4.2.18.
     pub fn node_status(&self) -> Option<NodeStatus<'a>>
-        ensures found { MatchOption result ((count : ℕ) (rest : List ℕ) → ¬ HasStatus self.now count rest)
+        ensures found { MatchOption result
+            ((count : ℕ) (rest : List ℕ) → ¬ HasStatus self.now count rest)
             (λ status. HasStatus self.now (length status.names) (after_count status)
             × (status.statistics
             ≡ drop (NODE_NAME_LENGTH * length status.names) (after_count status))) }

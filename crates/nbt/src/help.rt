@@ -84,8 +84,9 @@ pub const LIST_HELP: &str =
      line may lack its line feed.{n}The tables are joined; `--keys` and `--per-source` hold for \
      each and for their join.{n}Each key that one of them has is a line, ascending:{n}KEY whole \
      KIND SOURCE DESTINATION DATA, a datagram of which all is known;{n}KEY partial KIND SOURCE \
-     DESTINATION HELD/END RUNS, one of which HELD bytes of END are known (`?` where no \
-     fragment{n}said how many), in so many runs;{n}KEY spoilt, one whose fragments contradict \
+     DESTINATION HELD/END RUNS PLACES, one of which HELD bytes of END are known (`?` where \
+     no{n}fragment said how many), in so many runs, at PLACES: 0-4,8-12 are twelve but 4 to 7, - \
+     none; more PLACE after them{n}where data is promised to go on there or later;{n}KEY spoilt, one whose fragments contradict \
      each other.{n}All lines are judged before any table is joined.{n}{n}Example: { nbt save < \
      one; nbt save < other; } | nbt list{n}{n}Exit status: 0 all was done, 1 a line is no table, \
      there is none, or there are too many keys, 2 the command{n}line was bad, 3 a device failed \
@@ -94,7 +95,9 @@ pub const LIST_HELP: &str =
 /// The tables that are compared, and how the program ends.
 pub const AGREE_HELP: &str =
     "Two lines, each a saved table in hexadecimal, as `nbt save` prints it; the last line \
-     may lack its line feed.{n}{n}Example: { nbt save < one; nbt save < other; } | nbt \
+     may lack its line feed. With{n}`--list` each key in which they differ has two lines after \
+     `different`, ascending: `1 ` and `2 ` with what `nbt list`{n}prints of it in the first and \
+     in the second table, or `absent`.{n}{n}Example: { nbt save < one; nbt save < other; } | nbt \
      agree{n}{n}Exit status: 0 the tables are equal, 1 they differ, or the input was \
      refused, 2 the command line was bad, 3 a device{n}failed or memory ran out. With 3, and \
      with 1 where the input was refused, one line, `nbt: ` and the reason, goes \

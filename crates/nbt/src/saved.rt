@@ -1,7 +1,7 @@
 //! Tables in hexadecimal.
-ghost use Rattle.std.specs.Prelude.{◌≡◌, ◌⊎◌, OnOk, IfErr};
+ghost use Rattle.std.specs.Prelude.{◌≡◌, ◌⊎◌, OnOk, IfOk, IfErr, string_bytes};
 ghost use Rattle.nb_names.specs.Devices.{ShowsWriteFault};
-ghost use Rattle.nbt.specs.Printing.{Leaves, PrintsLine};
+ghost use Rattle.nbt.specs.Printing.{Leaves, PrintsLine, line};
 ghost use Rattle.nbt.specs.Saved.{saved_digits, IsSavedOf};
 
 use crate::fault::Fault;
@@ -29,8 +29,17 @@ pub fn print_saved<W: Write>(
     ensures why { IfErr result (λ fault. fault ≡ Fault.Write →
         ShowsWriteFault output.old.counts output.new.counts) }
 {
+    let line = saved_line(alloc, table)?;
+    output.print(line.as_bytes())
+}
+
+/// The line of a table as it is saved, in hexadecimal.
+fn saved_line(alloc: Global, table: &Table) -> Result<String, Fault>
+    ensures value { IfOk result (λ text. string_bytes text
+        ≡ line (saved_digits table.now.contents)) }
+    ensures fault { IfErr result (λ fault. fault ≡ Fault.Memory) }
+{
     let saved = table.save()?;
     let digits = digits_of(alloc, saved.as_slice())?;
-    let line = with_line_feed(digits)?;
-    output.print(line.as_bytes())
+    with_line_feed(digits)
 }

@@ -5,8 +5,13 @@ NAMES = 'FRED<20>'
 CAPTURE = examples/capture.txt
 SECONDS = 60
 PREFIX ?= /usr/local
+DEB = out
+ROOT = $(DESTDIR)$(PREFIX)
+TOOLS = tools/nbt-parallel tools/nbt-dask tools/pcap2cap tools/cap2pcap
+NAMED = nbt-pcap2cap nbt-cap2pcap nbt-parallel nbt-dask
+COMPLETIONS = $(ROOT)/share/bash-completion/completions
 
-.PHONY: run build try check test bench fuzz install
+.PHONY: run build try check test bench fuzz completions install uninstall deb
 
 # Prove and build the program, and replay a capture in a station with these names.
 run: build
@@ -37,14 +42,39 @@ bench: build
 fuzz: build
 	tests/fuzz.py --seconds $(SECONDS)
 
-# Build the program, and put it below PREFIX, with the tools and the manual page. The tools lie beside their modules.
-install: build
-	install -D -m 755 $(PROGRAM) '$(DESTDIR)$(PREFIX)/bin/nbt'
-	install -d '$(DESTDIR)$(PREFIX)/share/nbt/nbt_pcap'
-	install -m 755 tools/nbt-parallel tools/nbt-dask tools/pcap2cap tools/cap2pcap '$(DESTDIR)$(PREFIX)/share/nbt'
-	install -m 644 tools/nbt_shards.py '$(DESTDIR)$(PREFIX)/share/nbt'
-	install -m 644 tools/nbt_pcap/*.py '$(DESTDIR)$(PREFIX)/share/nbt/nbt_pcap'
-	ln -sf ../share/nbt/nbt-parallel ../share/nbt/nbt-dask '$(DESTDIR)$(PREFIX)/bin'
-	ln -sf ../share/nbt/pcap2cap '$(DESTDIR)$(PREFIX)/bin/nbt-pcap2cap'
-	ln -sf ../share/nbt/cap2pcap '$(DESTDIR)$(PREFIX)/bin/nbt-cap2pcap'
-	install -D -m 644 man/nbt.1 '$(DESTDIR)$(PREFIX)/share/man/man1/nbt.1'
+# Write the completions for bash and zsh anew, from the help texts of the built program and of the tools.
+completions: $(PROGRAM)
+	tools/completions.py bash $(PROGRAM) >completions/nbt.bash
+	tools/completions.py zsh $(PROGRAM) >completions/_nbt
+
+# Put the program below PREFIX, with its tools, pages and completions. It is built first where it isn't there yet: after a
+# change say make build. The tools lie beside their modules.
+install: $(PROGRAM)
+	install -D -m 755 $(PROGRAM) '$(ROOT)/bin/nbt'
+	install -d '$(ROOT)/share/nbt/nbt_pcap' '$(ROOT)/share/man/man1' '$(ROOT)/share/doc/nbt/docs' '$(ROOT)/share/doc/nbt/examples'
+	install -m 755 $(TOOLS) '$(ROOT)/share/nbt'
+	install -m 644 tools/nbt_shards.py '$(ROOT)/share/nbt'
+	install -m 644 tools/nbt_pcap/*.py '$(ROOT)/share/nbt/nbt_pcap'
+	ln -sf ../share/nbt/nbt-parallel ../share/nbt/nbt-dask '$(ROOT)/bin'
+	ln -sf ../share/nbt/pcap2cap '$(ROOT)/bin/nbt-pcap2cap'
+	ln -sf ../share/nbt/cap2pcap '$(ROOT)/bin/nbt-cap2pcap'
+	install -m 644 man/*.1 '$(ROOT)/share/man/man1'
+	install -m 644 README.md CHANGELOG.md '$(ROOT)/share/doc/nbt'
+	install -m 644 docs/*.md docs/picture.svg '$(ROOT)/share/doc/nbt/docs'
+	install -m 644 examples/capture.txt examples/office.pcap '$(ROOT)/share/doc/nbt/examples'
+	install -D -m 644 completions/nbt.bash '$(COMPLETIONS)/nbt'
+	for tool in $(NAMED); do ln -sf nbt '$(COMPLETIONS)'/$$tool; done
+	install -D -m 644 completions/_nbt '$(ROOT)/share/zsh/site-functions/_nbt'
+
+$(PROGRAM):
+	$(MAKE) build
+
+# Take away what install put below the same PREFIX, and the folders of its own.
+uninstall:
+	for name in nbt $(NAMED); do rm -f '$(ROOT)/bin'/$$name '$(ROOT)/share/man/man1'/$$name.1 '$(COMPLETIONS)'/$$name; done
+	rm -f '$(ROOT)/share/zsh/site-functions/_nbt'
+	rm -rf '$(ROOT)/share/nbt' '$(ROOT)/share/doc/nbt'
+
+# Make a Debian package of the built program, its tools and pages. DEBFULLNAME and DEBEMAIL say who answers for it.
+deb: $(PROGRAM)
+	tools/deb $(PROGRAM) '$(DEB)'

@@ -1,17 +1,22 @@
 #!/usr/bin/env bash
-# The manual page: what mandoc says of it, where mandoc is installed, and whether it has each command and option of the
-# built program's help; and what `make install` puts where. Usage: tests/manual.sh [PROGRAM]; its last line is 'N passed, M
-# failed, K skipped'.
+# The manual pages: what mandoc says of them, where mandoc is installed, and whether they have each command and option of
+# the built program's and the tools' help; what bash and zsh offer; what `make install` puts where, and what `make
+# uninstall` leaves; the Debian package; the places that docs/CHANGING.md names. Usage: tests/manual.sh [PROGRAM]; its last
+# line is 'N passed, M failed, K skipped'.
 set -uo pipefail
 . "$(dirname "$0")/counting.sh"
 program=${1:-$here/../crates/nbt/out/nbt}
 page=$here/../man/nbt.1
+tools=(nbt-pcap2cap nbt-cap2pcap nbt-parallel nbt-dask)
 
 # Pages of other programs needn't be installed.
 lint() {
-    ended mandoc -T lint "$page" >"$room/lint" 2>/dev/null
-    [ $? -lt 5 ] && ! grep -v 'referenced manual not found' "$room/lint"
-    count $? 'mandoc -T lint man/nbt.1'
+    local each
+    for each in "$here"/../man/*.1; do
+        ended mandoc -T lint "$each" >"$room/lint" 2>/dev/null
+        [ $? -lt 5 ] && ! grep -v 'referenced manual not found' "$room/lint"
+        count $? "mandoc -T lint man/${each##*/}"
+    done
 }
 
 # help_of [COMMAND]: the help of the program, or of a command.
@@ -32,20 +37,161 @@ words() {
     done
 }
 
-# The program and its tools, installed, in another folder: each prints its help, and a capture becomes packets.
+# Each file and folder that docs/CHANGING.md names is there.
+places() {
+    local place
+    for place in $(grep -oE '`[A-Za-z_]+(/[A-Za-z_.-]+)*`' "$here/../docs/CHANGING.md" | tr -d '`' | grep -E '/|\.md$' | sort -u); do
+        [ -e "$here/../$place" ]
+        count $? "docs/CHANGING.md names $place"
+    done
+}
+
+# The help of each installed tool says its installed name alone, and its page has each option of it.
+tool_words() {
+    local tool option
+    for tool in "${tools[@]}"; do
+        "$room/root/usr/bin/$tool" --help >"$room/help"
+        grep -q "$tool" "$room/help" && ! grep -qE "(^|[^-a-z_/])(pcap2cap|cap2pcap)" "$room/help"
+        count $? "the help of $tool has its name"
+        for option in $(grep -oE '(^|[^-a-z])--[a-z][a-z-]+' "$room/help" | grep -oE '[a-z][a-z-]+' | sort -u); do
+            grep -qE "Fl ([a-z] , )?-$option\b" "$here/../man/$tool.1"
+            count $? "man/$tool.1 has the option --$option"
+        done
+    done
+}
+
+# installing TARGET: make install or uninstall, without rt, of the built program, below $room/root.
+installing() {
+    (
+        PATH=$room/no_rt
+        "$(command -v make)" -s -C "$here/.." "$1" PROGRAM="$(realpath "$program")" DESTDIR="$room/root" PREFIX=/usr
+    ) >"$room/output" 2>&1
+    count $? "make $1, without rt: $(cat "$room/output")"
+}
+
+# The programs on PATH but rt.
+without_rt() {
+    local folder
+    mkdir "$room/no_rt"
+    for folder in ${PATH//:/ }; do
+        find "$folder/" -maxdepth 1 ! -type d ! -name rt -exec ln -s -t "$room/no_rt" {} + 2>/dev/null
+    done
+}
+
+# The program and its tools, installed, in another folder: each prints its help. Uninstalled, what others put there stays.
 installed() {
     local tool
-    make -s -C "$here/.." -o build install PROGRAM="$(realpath "$program")" DESTDIR="$room/root" PREFIX=/usr >"$room/output" 2>&1
-    count $? "make install: $(cat "$room/output")"
-    for tool in nbt nbt-pcap2cap nbt-cap2pcap nbt-parallel nbt-dask; do
+    without_rt
+    mkdir -p "$room/root/usr/bin" "$room/root/usr/share/man/man1"
+    touch "$room/root/usr/bin/other" "$room/root/usr/share/man/man1/other.1"
+    installing install
+    for tool in nbt "${tools[@]}"; do
         (cd "$room" && ended "$room/root/usr/bin/$tool" --help) >"$room/output" 2>"$room/errors" && [ -s "$room/output" ] && [ ! -s "$room/errors" ]
         count $? "$tool, installed: $(cat "$room/errors")"
+        [ -f "$room/root/usr/share/man/man1/$tool.1" ]
+        count $? "$tool, installed: its manual page"
     done
-    [ -f "$room/root/usr/share/man/man1/nbt.1" ] && [ -z "$(find "$room/root" -name __pycache__)" ]
-    count $? 'make install: the manual page, and nothing else'
+    [ -f "$room/root/usr/share/doc/nbt/README.md" ] && [ -f "$room/root/usr/share/doc/nbt/docs/GUIDE.md" ]
+    count $? 'make install: the pages'
+    cmp -s "$here/../completions/nbt.bash" "$room/root/usr/share/bash-completion/completions/nbt-parallel" && [ -f "$room/root/usr/share/zsh/site-functions/_nbt" ]
+    count $? 'make install: the completions'
+    tool_words
+    [ -z "$(find "$room/root" -name __pycache__)" ]
+    count $? 'the installed tools leave nothing there'
+    installing uninstall
+    (cd "$room/root" && find . ! -type d | sort) >"$room/left"
+    printf '%s\n' ./usr/bin/other ./usr/share/man/man1/other.1 | cmp -s - "$room/left"
+    count $? "make uninstall: $(tr '\n' ' ' <"$room/left")"
+}
+
+# The beginnings of command lines, and the words that a shell offers there; of files it offers those that are there.
+offers() {
+    cat <<'END'
+nbt s|show save
+nbt show -|--input-limit --help
+nbt save --|--keys --per-source --input-limit --help
+nbt replay --keys |
+nbt build r|registration refresh release response request retarget
+nbt build --broadcast que|query
+nbt build --b|--broadcast
+nbt help m|merge
+nbt-pcap2cap --b|--bare
+nbt-pcap2cap -|--bare --quiet --port --live -i --help
+nbt-cap2pcap --|--help
+nbt-parallel --s|--shard-bytes --sshlogin
+nbt-dask --w|--workers
+END
+}
+
+# offered LINE..: what bash offers at the end of a command line, a line for each.
+offered_by_bash() {
+    local line words
+    for line; do
+        IFS=' ' read -ra words <<<"$line"
+        [[ $line != *' ' ]] || words+=('')
+        ended bash -c '
+            . "$0"
+            [[ $(complete -p "$1") =~ -F\ ([a-z_]+) ]]
+            COMP_WORDS=("$@") COMP_CWORD=$(($# - 1))
+            "${BASH_REMATCH[1]}" "$1" "${!#}" "${COMP_WORDS[COMP_CWORD - 1]}"
+            echo "${COMPREPLY[*]}"' "$here/../completions/nbt.bash" "${words[@]}"
+    done
+}
+
+offered_by_zsh() { ended zsh -f "$here/completed.zsh" "$here/../completions" "$@"; }
+
+# completion SHELL FILE: the shell offers these words, and tools/completions.py writes the file anew.
+completion() {
+    local lines line wanted offered
+    "$here/../tools/completions.py" "$1" "$program" | cmp -s - "$here/../completions/$2"
+    count $? "completions/$2 is what tools/completions.py writes: make completions"
+    mapfile -t lines < <(offers)
+    mapfile -t offered < <("offered_by_$1" "${lines[@]%%|*}" 2>&1)
+    for ((line = 0; line < ${#lines[@]}; line++)); do
+        wanted=${lines[line]#*|}
+        [ "${offered[line]-none}" = "$wanted" ]
+        count $? "$1 at the end of '${lines[line]%%|*}': ${offered[line]-none}"
+    done
+}
+
+# packaged FOLDER: a Debian package of the program, in this folder.
+packaged() {
+    DEBFULLNAME='A tester' DEBEMAIL=tester@example.org \
+        make -s -C "$here/.." deb PROGRAM="$(realpath "$program")" DEB="$1" >"$room/output" 2>&1
+}
+
+# The package has what is installed, its program and tools run, and its version is the program's and CHANGELOG.md's.
+package() {
+    local tool version package
+    packaged "$room/deb"
+    count $? "make deb: $(cat "$room/output")"
+    package=$(echo "$room"/deb/nbt_*_amd64.deb)
+    version=$(sed -nE '/^## /{ s/^## ([0-9.]+), [0-9-]{10}$/\1/p; q; }' "$here/../CHANGELOG.md")
+    [ "$(dpkg-deb -f "$package" Version)" = "$version" ] && [ "$("$program" --version)" = "nbt $version" ]
+    count $? "one version: $version in CHANGELOG.md"
+    dpkg-deb -x "$package" "$room/unpacked"
+    for tool in nbt "${tools[@]}"; do
+        (cd "$room" && ended "$room/unpacked/usr/bin/$tool" --help) >"$room/output" 2>&1 && [ -f "$room/unpacked/usr/share/man/man1/$tool.1.gz" ]
+        count $? "$tool, unpacked: $(head -n 1 "$room/output")"
+    done
+    packaged "$room/again" && cmp -s "$package" "$room/again/${package##*/}"
+    count $? 'make deb, once more: the same bytes'
+}
+
+# A file with the licence is for the owner to add.
+package_lint() {
+    packaged "$room/deb"
+    ended lintian --tag-display-limit 0 --fail-on none "$room"/deb/nbt_*_amd64.deb >"$room/lint" 2>/dev/null
+    [ $? -lt 2 ] && ! grep '^E: ' "$room/lint" | grep -v 'no-copyright-file'
+    count $? 'lintian finds no error'
 }
 
 if command -v mandoc >/dev/null; then part mandoc lint; else lacks mandoc mandoc; fi
 part words words
+part places places
+part bash completion bash nbt.bash
+if command -v zsh >/dev/null; then part zsh completion zsh _nbt; else lacks zsh zsh; fi
 part installed installed
+if command -v dpkg-deb >/dev/null; then part deb package; else lacks deb dpkg-deb; fi
+if command -v lintian >/dev/null; then part lintian package_lint; else lacks lintian lintian; fi
 finish

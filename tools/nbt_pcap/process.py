@@ -40,6 +40,11 @@ def write(data):
         raise Stopped(3, 'standard output: %s' % error.strerror) from error
 
 
+def write_help(text):
+    """Writes a tool's help, in which NAME stands for the name that it was called by."""
+    write_all((text.replace('NAME', NAME).strip() + '\n').encode(errors='surrogateescape'))
+
+
 def write_all(data):
     data = memoryview(data)
     while data:

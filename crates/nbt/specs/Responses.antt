@@ -14,7 +14,6 @@ use Rattle.nb_service.specs.Building.{packet_of}
 use Rattle.nb_service.specs.Record.{ResourceData, of_bytes, of_domain, record_of}
 use Rattle.nb_service.specs.Packet.{ServicePacket}
 use Rattle.nb_service.specs.Encoding.{packet_bytes}
-use Rattle.nb_member.specs.Capture.{PayloadText}
 
 -- ---- words
 
@@ -74,6 +73,6 @@ pub record IsResponse (words : List (List ℕ)) (broadcast : Bool) (bytes : List
   pub is_name : IsText name name_text
   pub is_kind : WordText kind kind_text
   pub is_ttl : DecimalText ttl ttl_text
-  pub is_data : PayloadText data_bytes data_text
+  pub is_data : DataText data_bytes data_text
   pub stands : HasRdata kind data_bytes rdata
   pub exact : bytes ≡ packet_bytes (response id (with_flag word broadcast) name kind ttl rdata)

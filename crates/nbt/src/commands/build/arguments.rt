@@ -3,13 +3,13 @@
 ghost use Rattle.std.specs.Prelude.{◌≡◌, IfOk, IsTrue, true};
 ghost use Rattle.std.specs.List.{list_all};
 ghost use Rattle.std.specs.Char.{is_ascii_digit};
-ghost use Rattle.nb_member.specs.Capture.{PayloadText};
+ghost use Rattle.nb_names.specs.Hexadecimal.{DataText};
 ghost use Rattle.nbt.specs.Responses.{DecimalText, HasNoLeadingZero, WordText};
 
 use crate::commands::build::build_fault::BuildFault;
 use hex::FromHex;
 use nb_datagram::Key;
-use nb_names::{DigitsFault, bytes_of_digits};
+use nb_names::{DigitsFault, data_of_text};
 use std::alloc::Global;
 
 /// A word of a packet, as an identifier or flags: four hexadecimal digits.
@@ -84,15 +84,9 @@ pub fn key(text: &str) -> Result<Key, BuildFault> {
 
 /// Bytes: hexadecimal digits, two a byte and at least two, or `empty`.
 pub fn bytes(alloc: Global, text: &str) -> Result<Vec<u8>, BuildFault>
-    ensures { IfOk result (λ bytes. PayloadText bytes.items text.now) }
+    ensures { IfOk result (λ bytes. DataText bytes.items text.now) }
 {
-    if text == "empty" {
-        return Ok(Vec::new(alloc));
-    }
-    if text.is_empty() {
-        return Err(BuildFault::Arguments);
-    }
-    match bytes_of_digits(alloc, text.as_bytes()) {
+    match data_of_text(alloc, text.as_bytes()) {
         Ok(bytes) => Ok(bytes.into_vec()),
         Err(DigitsFault::BadDigits) => Err(BuildFault::Arguments),
         Err(DigitsFault::NoMemory) => Err(BuildFault::Memory),

@@ -1,0 +1,38 @@
+# Completion of nbt and its tools. tools/completions.py wrote it from their help texts.
+
+_nbt() {
+    local words=''
+    case $COMP_CWORD:${COMP_WORDS[1]} in
+    1:*) words='name show build replay save merge list agree help --help --version' ;;
+    2:help) words='name show build replay save merge list agree' ;;
+    *:name) words='--bytes --help' ;;
+    *:show) words='--input-limit --help' ;;
+    *:build)
+        words='--broadcast --help'
+        case $3 in build | --broadcast) words+=' query status registration refresh release response request message positive negative retarget keepalive unique group broadcast error find found missing' ;; esac
+        ;;
+    *:replay) words='--keys --per-source --input-limit --help' ;;
+    *:save) words='--keys --per-source --input-limit --help' ;;
+    *:merge) words='--keys --per-source --help' ;;
+    *:list) words='--keys --per-source --help' ;;
+    *:agree) words='--list --help' ;;
+    esac
+    case $3 in
+    --input-limit | --keys | --per-source) words='' ;;
+    esac
+    COMPREPLY=($(compgen -W "$words" -- "$2"))
+}
+complete -F _nbt nbt
+
+_nbt_tool() {
+    local words=''
+    case ${1##*/} in
+    nbt-pcap2cap) words='--bare --quiet --port --live -i --help' ;;
+    nbt-cap2pcap) words='--help' ;;
+    nbt-parallel) words='--program --shard-bytes --by-source --tables --quiet --jobs --sshlogin --retries --help --list' ;;
+    nbt-dask) words='--program --shard-bytes --by-source --tables --quiet --scheduler --workers --send --help' ;;
+    esac
+    COMPREPLY=()
+    [[ $2 != -* ]] || COMPREPLY=($(compgen -W "$words" -- "$2"))
+}
+complete -o default -F _nbt_tool nbt-pcap2cap nbt-cap2pcap nbt-parallel nbt-dask

@@ -1,8 +1,8 @@
 -- The keys that are marked are those at which two tables differ, ascending.
-use Rattle.std.proofs.Common.{◌≡◌, ◌&&◌, ◌||◌, cond, Bool, true, false, not, List, [], ◌∷◌, filter, map, Option, Some, None, is_some, refl, sym, ◌∙◌, ap, ap₂, subst}
+use Rattle.std.proofs.Common.{◌≡◌, ◌&&◌, ◌||◌, cond, Bool, true, false, not, List, [], ◌∷◌, filter, map, Option, Some, None, is_some, IsTrue, ◌↔◌, true≢false, refl, sym, ◌∙◌, ap, ap₂, subst}
 use Rattle.std.specs.Prelude.{T}
 use Rattle.std.specs.Option.{option_eq, option_map}
-use Rattle.std.specs.Ordering.{eq_by_cmp}
+use Rattle.std.specs.Ordering.{eq_by_cmp, is_lt}
 use Rattle.std.specs.List.{list_any}
 use Rattle.std.specs.FinMap.{is_sorted}
 use Rattle.std.specs.FinMap.Entries.{below_all}
@@ -14,12 +14,28 @@ use Rattle.nb_table.specs.Contents.{Contents}
 use Rattle.nb_table.specs.Entry.{EntryValue, join_entry}
 use Rattle.nb_table.specs.Equal.{same_entry}
 use Rattle.nb_table.specs.Join.{join}
+use Rattle.nb_table.specs.Lemmas.EqualLemmas.{options_decide, entry_decides}
 use Rattle.nb_table.specs.Lemmas.KeyCountLemmas.{entries_kept, keys_kept, get_kept}
 use Rattle.nb_table.specs.Lemmas.MapsLemmas.{one_key}
 use Rattle.nb_table.specs.Lemmas.SameLemmas.{key_cmp_total, key_cmp_exact}
 use Rattle.nb_table.specs.Lemmas.TableLemmas.{get-join}
 use Rattle.nbt.specs.Differences.{differ_at, differing}
 use Rattle.nbt.specs.Code.Marks.{Marks, with_mark, marked}
+
+-- ---- one key
+
+-- a key at which the tables have the same isn't marked
+pub unmarked : (t u : Contents) (s : Marks) (k : Key) (r : Bool) → IsTrue r ↔ (maps.get t k ≡ maps.get u k) → r ≡ true → s ≡ with_mark t u s k
+unmarked t u s k r same is =
+    sym (ap (λ b. cond (not b) (maps.insert s k tt) s) ((options_decide same_entry entry_decides (maps.get t k) (maps.get u k)).1 (same.0 is)))
+
+-- one at which they haven't is
+pub now_marked : (t u : Contents) (s : Marks) (k : Key) (r : Bool) → IsTrue r ↔ (maps.get t k ≡ maps.get u k) → r ≡ false → maps.insert s k tt ≡ with_mark t u s k
+now_marked t u s k r same is = step (option_eq same_entry (maps.get t k) (maps.get u k)) refl
+  where
+    step : (b : Bool) → option_eq same_entry (maps.get t k) (maps.get u k) ≡ b → maps.insert s k tt ≡ cond (not b) (maps.insert s k tt) s
+    step true h = absurd (true≢false (sym (same.1 ((options_decide same_entry entry_decides (maps.get t k) (maps.get u k)).0 h)) ∙ is))
+    step false h = refl
 
 -- ---- what is marked, by look-ups
 
@@ -54,38 +70,46 @@ get-marked t u (k ∷ ks) s q =
 
 -- ---- maps with the same keys
 
-find-unit : {X : Type 0} (q : Key) (es : List (Key × X)) → maps.find key_cmp q (map (λ e. (e.0, tt)) es) ≡ option_map (λ x. tt) (maps.find key_cmp q es)
+-- unit_of x: nothing is kept of a value
+abbrev unit_of : {X : Type 0} → X → Unit {0}
+unit_of x = tt
+
+-- unit_at e: nothing but the key is kept of an entry
+abbrev unit_at : {X : Type 0} → Key × X → Key × Unit {0}
+unit_at e = (e.0, tt)
+
+find-unit : {X : Type 0} (q : Key) (es : List (Key × X)) → maps.find key_cmp q (map unit_at es) ≡ option_map unit_of (maps.find key_cmp q es)
 find-unit q [] = refl
 find-unit q (e ∷ es) = step (eq_by_cmp key_cmp q e.0) (find-unit q es)
   where
-    step : (b : Bool) → maps.find key_cmp q (map (λ f. (f.0, tt)) es) ≡ option_map (λ x. tt) (maps.find key_cmp q es) → cond b (Some tt) (maps.find key_cmp q (map (λ f. (f.0, tt)) es)) ≡ option_map (λ x. tt) (cond b (Some e.1) (maps.find key_cmp q es))
+    step : (b : Bool) → maps.find key_cmp q (map unit_at es) ≡ option_map unit_of (maps.find key_cmp q es) → cond b (Some tt) (maps.find key_cmp q (map unit_at es)) ≡ option_map unit_of (cond b (Some e.1) (maps.find key_cmp q es))
     step true rec = refl
     step false rec = rec
 
-below-unit : {X : Type 0} (k : Key) (es : List (Key × X)) → below_all key_cmp k (map (λ e. (e.0, tt)) es) ≡ below_all key_cmp k es
+below-unit : {X : Type 0} (k : Key) (es : List (Key × X)) → below_all key_cmp k (map unit_at es) ≡ below_all key_cmp k es
 below-unit k [] = refl
-below-unit k (e ∷ es) = ap (λ b. _ && b) (below-unit k es)
+below-unit k (e ∷ es) = ap (λ b. is_lt (key_cmp k e.0) && b) (below-unit k es)
 
-sorted-unit : {X : Type 0} (es : List (Key × X)) → is_sorted key_cmp (map (λ e. (e.0, tt)) es) ≡ is_sorted key_cmp es
+sorted-unit : {X : Type 0} (es : List (Key × X)) → is_sorted key_cmp (map unit_at es) ≡ is_sorted key_cmp es
 sorted-unit [] = refl
 sorted-unit (e ∷ es) = ap₂ (λ a b. a && b) (below-unit e.0 es) (sorted-unit es)
 
-keys-unit : {X : Type 0} (es : List (Key × X)) → map (λ e. e.0) (map (λ e. (e.0, tt)) es) ≡ map (λ e. e.0) es
+keys-unit : {X : Type 0} (es : List (Key × X)) → map (λ (e : Key × Unit {0}). e.0) (map unit_at es) ≡ map (λ (e : Key × X). e.0) es
 keys-unit [] = refl
 keys-unit (e ∷ es) = ap (λ (ks : List Key). e.0 ∷ ks) (keys-unit es)
 
-keys_are : (s : Marks) (n : Contents) → ((q : Key) → maps.get s q ≡ option_map (λ x. tt) (maps.get n q)) → maps.keys s ≡ maps.keys n
+keys_are : (s : Marks) (n : Contents) → ((q : Key) → maps.get s q ≡ option_map unit_of (maps.get n q)) → maps.keys s ≡ maps.keys n
 keys_are s n look =
-    let es = map (λ (e : Key × EntryValue). (e.0, tt)) (maps.entries n) in
+    let es = map unit_at (maps.entries n) in
     let sorted = subst T (sym (sorted-unit (maps.entries n))) (maps.entries_sorted n) in
-    let same : s ≡ maps.from_sorted es = maps.same_map key_cmp_total key_cmp_exact _ _ (λ q. look q ∙ ap (option_map (λ x. tt)) (maps.get-entries n q) ∙ sym (find-unit q (maps.entries n)) ∙ sym (maps.get-from_sorted key_cmp es q sorted)) in
+    let same : s ≡ maps.from_sorted es = maps.same_map key_cmp_total key_cmp_exact _ _ (λ q. look q ∙ ap (option_map unit_of) (maps.get-entries n q) ∙ sym (find-unit q (maps.entries n)) ∙ sym (maps.get-from_sorted key_cmp es q sorted)) in
     ap maps.keys same
     ∙ ap (map (λ e. e.0)) (maps.entries-from_sorted key_cmp es sorted)
     ∙ keys-unit (maps.entries n)
 
 -- ---- the keys of both tables
 
-both_at : (d : Bool) (a b : Option EntryValue) → cond (is_some b && d) (Some tt) (cond (is_some a && d) (Some tt) None) ≡ option_map (λ x. tt) (cond d (joined_at join_entry a b) None)
+both_at : (d : Bool) (a b : Option EntryValue) → cond (is_some b && d) (Some tt) (cond (is_some a && d) (Some tt) None) ≡ option_map unit_of (cond d (joined_at join_entry a b) None)
 both_at true None None = refl
 both_at true None (Some y) = refl
 both_at true (Some x) None = refl
@@ -95,7 +119,7 @@ both_at false None (Some y) = refl
 both_at false (Some x) None = refl
 both_at false (Some x) (Some y) = refl
 
-get-both : (t u : Contents) (q : Key) → maps.get (marked t u (marked t u maps.empty (maps.keys t)) (maps.keys u)) q ≡ option_map (λ x. tt) (maps.get (maps.retain_keys (join t u) (differ_at t u)) q)
+get-both : (t u : Contents) (q : Key) → maps.get (marked t u (marked t u maps.empty (maps.keys t)) (maps.keys u)) q ≡ option_map unit_of (maps.get (maps.retain_keys (join t u) (differ_at t u)) q)
 unfolding marked_at
 get-both t u q =
     get-marked t u (maps.keys u) (marked t u maps.empty (maps.keys t)) q
@@ -103,8 +127,8 @@ get-both t u q =
     ∙ ap (λ o. cond (list_any (eq_by_cmp key_cmp q) (maps.keys u) && differ_at t u q) (Some tt) (cond (list_any (eq_by_cmp key_cmp q) (maps.keys t) && differ_at t u q) (Some tt) o)) (maps.get-empty key_cmp q)
     ∙ ap₂ (λ b a. cond (b && differ_at t u q) (Some tt) (cond (a && differ_at t u q) (Some tt) None)) (sym (maps.contains_key-keys u q)) (sym (maps.contains_key-keys t q))
     ∙ both_at (differ_at t u q) (maps.get t q) (maps.get u q)
-    ∙ ap (λ o. option_map (λ x. tt) (cond (differ_at t u q) o None)) (sym (get-join t u q))
-    ∙ ap (option_map (λ x. tt)) (sym (get_kept (join t u) (differ_at t u) q))
+    ∙ ap (λ o. option_map unit_of (cond (differ_at t u q) o None)) (sym (get-join t u q))
+    ∙ ap (option_map unit_of) (sym (get_kept (join t u) (differ_at t u) q))
 
 pub marks_are : (t u : Contents) → maps.keys (marked t u (marked t u maps.empty (maps.keys t)) (maps.keys u)) ≡ differing t u
 marks_are t u =

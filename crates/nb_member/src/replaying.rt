@@ -138,8 +138,8 @@ pub fn replay_with<R: Read, W: Write>(
         ((result ≡ Err ReplayFault.Read →
         ShowsUnread options.most bytes reader.old.counts reader.new.counts) ×
         ((H : List Event) (s : Stands member.old H) →
-        Replays options.comments options.most member.old H (live member.old.settings s.sayings) bytes
-        (R.remaining reader.new.inner) member.new
+        Replays options.comments options.most member.old H
+        (live member.old.settings s.sayings) bytes (R.remaining reader.new.inner) member.new
         (W.contents writer.old.inner) (W.contents writer.new.inner) result)) }
     ensures write { result ≡ Err ReplayFault.Write →
         ShowsWriteFault writer.old.counts writer.new.counts }

@@ -18,8 +18,8 @@ use nb_text::push_packet;
 use std::alloc::Global;
 use std::io::{Read, Write};
 
-/// `nbt show [--input-limit BYTES] [--comments]`: shows the packets of the input in order, each line
-/// as it comes, with `--comments` the comments between them.
+/// `nbt show [--input-limit BYTES] [--comments]`: shows the packets of the input in order, each
+/// line as it comes, with `--comments` the comments between them.
 ///
 /// # Errors
 ///
@@ -33,9 +33,11 @@ pub fn run_show<R: Read, W: Write>(
     output: &mut Output<W>,
 ) -> Result<(), Fault>
     // What the options ask, the bytes that were read, and what was printed of them.
-    ensures printed { (options : CaptureOptions) × AreOptions matches.now options × ((bytes : List ℕ) ×
+    ensures printed { (options : CaptureOptions) × AreOptions matches.now options ×
+        ((bytes : List ℕ) ×
         Consumes (R.remaining input.old.inner) (R.remaining input.new.inner) bytes ×
-        ((result ≡ Err Fault.Read → ShowsUnread options.most bytes input.old.counts input.new.counts) ×
+        ((result ≡ Err Fault.Read →
+        ShowsUnread options.most bytes input.old.counts input.new.counts) ×
         Shows options.comments options.most bytes (R.remaining input.new.inner)
         (W.contents output.old.inner) (W.contents output.new.inner) result)) }
     ensures why { IfErr result (λ fault. fault ≡ Fault.Write →
@@ -87,7 +89,8 @@ fn show_said<W: Write>(
     comments: Comments,
     output: &mut Output<W>,
 ) -> Result<(), Fault>
-    ensures shown { OnOk result ((text : List ℕ) × ShowsSaid comments number line.now said.now text ×
+    ensures shown { OnOk result ((text : List ℕ) ×
+        ShowsSaid comments number line.now said.now text ×
         Appends (W.contents output.old.inner) (W.contents output.new.inner) text) }
     ensures fault { IfErr result (λ fault. Reads line.now (Ok said.now) →
         IsUnshown comments number line.now

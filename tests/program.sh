@@ -259,6 +259,10 @@ memory() {
     remembers replay 'FRED<20>'
     remembers show
     remembers save
+    printf '# one\n138 0 %s\n#\377' $empty >"$room/input"
+    input=$room/input
+    remembers show --comments
+    remembers replay --comments 'FRED<20>'
     printf '138 0 %s\n' $empty "${empty/0001/0002}" "${empty/0001/0003}" >"$room/several"
     input=$room/several
     remembers replay --per-source 2 'FRED<20>'

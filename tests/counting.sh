@@ -80,6 +80,15 @@ requests() {
     return $status
 }
 
+# with_tools PROGRAM: $room/bin has the program and the tools that lead from a pcap and back, by the names that they have once
+# installed. tshark has no user's settings.
+with_tools() {
+    local tool
+    mkdir "$room/bin" && ln -s "$(realpath "$1")" "$room/bin/nbt"
+    for tool in pcap2cap cap2pcap; do ln -s "$(realpath "$here/../tools/$tool")" "$room/bin/nbt-$tool"; done
+    export WIRESHARK_CONFIG_DIR=$room/settings
+}
+
 # page FILE: the console samples of a page, where each command prints the lines after it. They run in a folder of their
 # own, which has the folder examples too, with the commands of $room/bin.
 page() {
@@ -99,9 +108,15 @@ page() {
     rm -r "$room/page"
 }
 
-# page_sample FILE COMMAND WANTED: one of them; none, where there is no command.
+# page_sample FILE COMMAND WANTED: one of them; none, where there is no command. It is left out where it reads a pcap and
+# tshark isn't installed.
 page_sample() {
     [ -n "$2" ] || return
+    if [[ $2 == *nbt-pcap2cap* ]] && ! command -v tshark >/dev/null; then
+        skipped=$((skipped + 1))
+        echo "skipped: $1: $2 (tshark isn't installed)"
+        return
+    fi
     (cd "$room/page" && PATH=$room/bin:$PATH ended bash -c "$2" </dev/null) >"$room/output" 2>&1
     printf '%s' "$3" | diff - "$room/output"
     count $? "$1: $2"

@@ -8,6 +8,7 @@ each input are held against rules. Those on forms (tests/fuzz_forms.py):
 - ends: within limits of time and memory, with a status of 0 to 3; standard error is empty at 0, one line `nbt: TEXT` at
   1 and 3, clap's text at 2; where they are refused `name`, `build`, `save`, `merge` and `list` print nothing;
 - lines: `show` and `replay` answer each line of a capture up to the first malformed one, whose number is the fault's;
+- commented: with `--comments` they print the same, and each comment in its place;
 - loaded: `merge` of what `save` and `merge` print prints it again, and `agree` of it twice says `equal`;
 - turned: tables that are merged in another order come to the same;
 - listed: `list` ends as `merge` does, and has a line for each key of what it joins, ascending;
@@ -54,9 +55,10 @@ from fuzz_packets import Name, text_of
 from fuzz_runs import Runner, Wrong
 from fuzz_traffic import Traffic
 
-RULES = ('ends', 'lines', 'loaded', 'turned', 'listed', 'built', 'named', 'shown', 'reported', 'saved', 'listed by the model',
-         'merged by the model', 'agreed by the model', 'saved alike', 'handed over alike', 'listed as delivered',
-         'merged as a tree', 'streams cut', 'streams walked', 'the same answer twice', 'short reads', 'memory refused')
+RULES = ('ends', 'lines', 'commented', 'loaded', 'turned', 'listed', 'built', 'named', 'shown', 'reported', 'saved',
+         'listed by the model', 'merged by the model', 'agreed by the model', 'saved alike', 'handed over alike',
+         'listed as delivered', 'merged as a tree', 'streams cut', 'streams walked', 'the same answer twice', 'short reads',
+         'memory refused')
 LONGEST_PRINTED = 1_000
 STATION = (Name(b'FRED'.ljust(15) + b'\x20', ()), Name(b'JOE'.ljust(15) + b'\0', ()))
 

@@ -2,7 +2,7 @@
 import re
 
 from fuzz_inputs import LONGEST_WORD, NAMES
-from fuzz_packets import read_capture
+from fuzz_packets import cut_at_line_feeds, read_capture
 from fuzz_runs import answers, ends_as, expect
 from fuzz_traffic import some_limits
 
@@ -27,9 +27,14 @@ class Forms:
             shown = run(['show'], given)
             expect(numbers_of(shown.output) == numbers, f'the lines shown are not {numbers}')
             ends_at(shown, malformed)
-            replayed = run(['replay', *limits, *self.rng.sample(NAMES, 2)], given)
+            stationed = [*limits, *self.rng.sample(NAMES, 2)]
+            replayed = run(['replay', *stationed], given)
             expect(numbers_of(replayed.output) == numbers, f'the lines reported are not {numbers}')
             ends_at(replayed, malformed)
+        with self.runner.rule('commented'):
+            for plain, words in (shown, []), (replayed, stationed):
+                commented = run([plain.words[0], '--comments', *words], given)
+                answers(commented, with_comments(given, malformed, plain.output), plain.status, plain.errors)
         saved = run(['save', *limits], given)
         if saved.status == 0:
             self.loads(saved)
@@ -128,6 +133,15 @@ def as_word(made):
 def numbers_of(output):
     """The numbers that the lines of an output begin with; lines that are indented have none."""
     return [int(it.split(b' ')[0]) for it in output.splitlines() if it[:1].isdigit()]
+
+
+def with_comments(given, malformed, output):
+    """What is printed of a capture with its comments, where this is without them."""
+    parts = {int(it.split(b' ')[0]): it for it in re.findall(rb'^\d.*\n(?: .*\n)*', output, re.MULTILINE)}
+    for number, line in enumerate(cut_at_line_feeds(given)[:malformed and malformed - 1], 1):
+        if line.startswith(b'#'):
+            parts[number] = b''.join(b'%c' % it if 0x20 <= it <= 0x7e else b'\\%02x' % it for it in line) + b'\n'
+    return b''.join(parts[number] for number in sorted(parts))
 
 
 def blocks(output):

@@ -108,7 +108,7 @@ installed() {
 offers() {
     cat <<'END'
 nbt s|show save
-nbt show -|--input-limit --help
+nbt show -|--input-limit --comments --help
 nbt save --|--keys --per-source --input-limit --help
 nbt replay --keys |
 nbt build r|registration refresh release response request retarget

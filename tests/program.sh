@@ -259,6 +259,10 @@ memory() {
     remembers replay 'FRED<20>'
     remembers show
     remembers save
+    printf '# one\n138 0 %s\n#\377' $empty >"$room/input"
+    input=$room/input
+    remembers show --comments
+    remembers replay --comments 'FRED<20>'
     printf '138 0 %s\n' $empty "${empty/0001/0002}" "${empty/0001/0003}" >"$room/several"
     input=$room/several
     remembers replay --per-source 2 'FRED<20>'
@@ -283,7 +287,7 @@ memory() {
     remembers agree
 }
 
-mkdir "$room/bin" && ln -s "$(realpath "$program")" "$room/bin/nbt"
+with_tools "$program"
 printf '#!/bin/sh\nexec env LD_PRELOAD=%s/devices.so "$@"\n' "$room" >"$room/bin/hostile" && chmod +x "$room/bin/hostile"
 part shims compile devices refuse_memory
 part cases cases

@@ -11,7 +11,7 @@ if ! command -v tshark >/dev/null; then
     finish
     exit
 fi
-export WIRESHARK_CONFIG_DIR=$room/settings
+with_tools "$program"
 
 nbt() { ended "$program" "$@"; }
 pcap2cap() { ended "$here/../tools/pcap2cap" "$@"; }
@@ -359,8 +359,6 @@ office() {
     count $? 'examples/office.pcap has the packets that were built'
 }
 
-mkdir "$room/bin" && ln -s "$program" "$room/bin/nbt"
-for tool in pcap2cap cap2pcap; do ln -s "$(realpath "$here/../tools/$tool")" "$room/bin/nbt-$tool"; done
 part built built
 part network network
 part others others

@@ -9,17 +9,24 @@ use nb_examples_words::devices::{Conduct, Sink, Source, WILLING};
 use nb_examples_words::fault::ExampleFault;
 use nb_examples_words::marks::{as_before, begin, end};
 use nb_examples_words::words::Words;
-use nb_member::{Member, ReplayFault, replay};
+use nb_member::{CaptureOptions, Comments, Member, ReplayFault, replay, replay_with};
 use nb_names::Counted;
 use std::alloc::Global;
 
 /// For how many bytes a writer has room, so that writing a report wants no memory.
 const REPORT_ROOM: usize = 150_000;
 
+/// Comments are in the report.
+const WITH_COMMENTS: CaptureOptions = CaptureOptions {
+    most: 16_777_216,
+    comments: Comments::Printed,
+};
+
 /// `report STATION CAPTURE`: how many lines a new member replays, or the fault, and the report.
 /// `replay STATION READER WRITER CAPTURE`: the same over a reader and a writer, each of which is
 /// three words, `MOST INTERRUPTS FAILING`. `written STATION READER WRITER CAPTURE`: the same, with
-/// what was written as bytes.
+/// what was written as bytes. `commented STATION CAPTURE`: as `report`, with the comments of the
+/// capture in the report.
 ///
 /// Where memory runs out, another new member replays the capture, and what was written before has
 /// to be a front of its report.
@@ -38,6 +45,7 @@ struct Replaying<'a> {
     writing: Conduct,
     capture: Vec<u8>,
     has_bytes: bool,
+    has_comments: bool,
 }
 
 impl<'a> Replaying<'a> {
@@ -45,7 +53,7 @@ impl<'a> Replaying<'a> {
     fn of(alloc: Global, call: &str, words: &mut Words<'a>) -> Result<Replaying<'a>, ExampleFault> {
         let station = words.word()?;
         let (mut reading, mut writing) = (WILLING, WILLING);
-        if call != "report" {
+        if call == "replay" || call == "written" {
             reading = words.conduct()?;
             writing = words.conduct()?;
         }
@@ -56,6 +64,7 @@ impl<'a> Replaying<'a> {
             writing,
             capture,
             has_bytes: call == "written",
+            has_comments: call == "commented",
         })
     }
 
@@ -75,7 +84,11 @@ impl<'a> Replaying<'a> {
     ) -> Result<u64, ReplayFault> {
         let mut source = Source::new(self.capture.as_slice(), self.reading);
         let reader = &mut Counted::new(&mut source);
-        replay(alloc, reader, &mut Counted::new(sink), member)
+        let writer = &mut Counted::new(sink);
+        if self.has_comments {
+            return replay_with(alloc, reader, writer, member, WITH_COMMENTS);
+        }
+        replay(alloc, reader, writer, member)
     }
 
     /// What a replay answers and writes.

@@ -8,6 +8,7 @@ pub mod Taking
 pub mod Deliveries
 pub mod Running
 pub mod Agreement
+pub mod Comments
 pub mod Report
 pub mod LineRoom
 pub mod LineReading

@@ -2,6 +2,7 @@
 use Rattle.std.specs.Prelude.{ℕ, List, take, ◌≤◌, length, Option, ◌+◌, ◌<◌, ◌++◌, ◌∷◌, ◌≡◌, Result, Ok, Err}
 use Rattle.std.specs.Io.KnownBytes.{IsAtEnd, Appends}
 use Rattle.nb_member.specs.declared.limits.TheConstants.{MAX_LINE}
+use Rattle.nb_member.specs.declared.comments.Comments.{Comments}
 use Rattle.nb_member.specs.declared.event.Event.{Event}
 use Rattle.nb_member.specs.declared.replay_fault.ReplayFault.{ReplayFault}
 use Rattle.nb_member.specs.declared.replay_fault.ReplayFault.TheVariants.{Line, Read, Write, NoMemory}
@@ -40,22 +41,22 @@ pub data ComesMalformed (most : ℕ) (bytes : List ℕ) (left : Option (List ℕ
 
 -- ---- what was acted on
 
--- Replayed m H L lines new text: the member m, which stands for the events H, acted on these lines, whose
+-- Replayed comments m H L lines new text: the member m, which stands for the events H, acted on these lines, whose
 -- report is text, and became new, which stands for H and the events of the lines. L are live after H
-pub record Replayed (m : MemberValue) (H : List Event) (L : List Timed) (lines : List (List ℕ)) (new : MemberValue) (text : List ℕ) : Type 0 where
+pub record Replayed (comments : Comments) (m : MemberValue) (H : List Event) (L : List Timed) (lines : List (List ℕ)) (new : MemberValue) (text : List ℕ) : Type 0 where
   pub events : List Event
-  pub reported : ReportOf m.settings m.names 1 L lines events text
+  pub reported : ReportOf comments m.settings m.names 1 L lines events text
   pub stands : Stands new (H ++ events)
 
--- Writes m H L lines new before after: the same, and exactly the report was written
-pub record Writes (m : MemberValue) (H : List Event) (L : List Timed) (lines : List (List ℕ)) (new : MemberValue) (before after : Option (List ℕ)) : Type 0 where
+-- Writes comments m H L lines new before after: the same, and exactly the report was written
+pub record Writes (comments : Comments) (m : MemberValue) (H : List Event) (L : List Timed) (lines : List (List ℕ)) (new : MemberValue) (before after : Option (List ℕ)) : Type 0 where
   pub text : List ℕ
-  pub replayed : Replayed m H L lines new text
+  pub replayed : Replayed comments m H L lines new text
   pub written : Appends before after text
 
--- Stops most m H L bytes left new before after: the first lines were acted on, `ready` and then `last`, which is
+-- Stops comments most m H L bytes left new before after: the first lines were acted on, `ready` and then `last`, which is
 -- one line at most. The report of `ready` is written, and then a front of what `last` adds to it
-pub record Stops (most : ℕ) (m : MemberValue) (H : List Event) (L : List Timed) (bytes : List ℕ) (left : Option (List ℕ)) (new : MemberValue) (before after : Option (List ℕ)) : Type 0 where
+pub record Stops (comments : Comments) (most : ℕ) (m : MemberValue) (H : List Event) (L : List Timed) (bytes : List ℕ) (left : Option (List ℕ)) (new : MemberValue) (before after : Option (List ℕ)) : Type 0 where
   pub ready : List (List ℕ)
   pub last : List (List ℕ)
   pub more : List (List ℕ)
@@ -63,24 +64,24 @@ pub record Stops (most : ℕ) (m : MemberValue) (H : List Event) (L : List Timed
   pub are_lines : AreLines most bytes left (ready ++ last ++ more)
   pub others : List Event
   pub report : List ℕ
-  pub reported : ReportOf m.settings m.names 1 L ready others report
+  pub reported : ReportOf comments m.settings m.names 1 L ready others report
   pub front : List ℕ
   pub later : List ℕ
-  pub replayed : Replayed m H L (ready ++ last) new (report ++ front ++ later)
+  pub replayed : Replayed comments m H L (ready ++ last) new (report ++ front ++ later)
   pub written : Appends before after (report ++ front)
 
--- Replays most m H L bytes left new before after result: what is answered where these bytes came from the
--- reader, with those left, and an input may have so many
-abbrev pub Replays : ℕ → MemberValue → List Event → List Timed → List ℕ → Option (List ℕ) → MemberValue → Option (List ℕ) → Option (List ℕ)
+-- Replays comments most m H L bytes left new before after result: what is answered where these bytes came from the
+-- reader, with those left, an input may have so many, and the report has comments or not
+abbrev pub Replays : Comments → ℕ → MemberValue → List Event → List Timed → List ℕ → Option (List ℕ) → MemberValue → Option (List ℕ) → Option (List ℕ)
     → Result ℕ ReplayFault → Type 0
-Replays most m H L bytes left new before after (Ok n) =
+Replays comments most m H L bytes left new before after (Ok n) =
     (lines : List (List ℕ)) × (rest : List ℕ) × CutInto bytes lines rest × IsWhole most bytes left
-    × (n ≡ length (with_rest lines rest)) × Writes m H L (with_rest lines rest) new before after
-Replays most m H L bytes left new before after (Err (Line n)) =
+    × (n ≡ length (with_rest lines rest)) × Writes comments m H L (with_rest lines rest) new before after
+Replays comments most m H L bytes left new before after (Err (Line n)) =
     (lines : List (List ℕ)) × ComesMalformed most bytes left lines × (n ≡ length lines + 1)
-    × Writes m H L lines new before after
-Replays most m H L bytes left new before after (Err Read) =
+    × Writes comments m H L lines new before after
+Replays comments most m H L bytes left new before after (Err Read) =
     (lines : List (List ℕ)) × (rest : List ℕ) × CutInto (looked_at most bytes) lines rest
-    × (length rest ≤ MAX_LINE) × Writes m H L lines new before after
-Replays most m H L bytes left new before after (Err Write) = Stops most m H L bytes left new before after
-Replays most m H L bytes left new before after (Err NoMemory) = Stops most m H L bytes left new before after
+    × (length rest ≤ MAX_LINE) × Writes comments m H L lines new before after
+Replays comments most m H L bytes left new before after (Err Write) = Stops comments most m H L bytes left new before after
+Replays comments most m H L bytes left new before after (Err NoMemory) = Stops comments most m H L bytes left new before after

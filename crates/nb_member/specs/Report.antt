@@ -1,8 +1,8 @@
 -- What the lines of a capture have happen to a member, and the report of them (our choice).
 --
 -- A payload of port 138 and a look at the clock are events of the member. Payloads of the other ports pass
--- it by. Empty lines and comments are counted, and have no line in the report. Numbers are decimal, bytes are
--- hexadecimal in lower case.
+-- it by. Empty lines and comments are counted; the report has comments where they are printed. Numbers are decimal,
+-- bytes are hexadecimal in lower case.
 use Rattle.std.specs.Prelude.{ℕ, List, ◌++◌, codes, [], ◌∷◌, Option, Some, None, Result, Ok, Err, ◌-◌, ◌≢◌, ◌+◌}
 use Rattle.std.specs.Fmt.{decimal}
 use Rattle.std.specs.FinMap as maps
@@ -14,6 +14,7 @@ use Rattle.nb_datagram.specs.declared.packet.Packet.TheVariants.{Error}
 use Rattle.nb_datagram.specs.Datagram.{DatagramParts}
 use Rattle.nb_datagram.specs.Texts.{key_text, kind_text}
 use Rattle.nb_datagram.specs.Packet.{packet_bytes}
+use Rattle.nb_member.specs.declared.comments.Comments.{Comments}
 use Rattle.nb_member.specs.declared.outcome.Outcome.{Outcome}
 use Rattle.nb_member.specs.declared.outcome.Outcome.TheVariants.{Kept, Spoilt, Delivered, Unheard, Other}
 use Rattle.nb_member.specs.declared.member_fault.MemberFault.{MemberFault}
@@ -26,6 +27,7 @@ use Rattle.nb_member.specs.Deliveries.{error_of}
 use Rattle.nb_member.specs.Events.{clock, Saying, Says}
 use Rattle.nb_member.specs.Live.{Timed, table_from, live_after}
 use Rattle.nb_member.specs.Taking.{Answers}
+use Rattle.nb_member.specs.Comments.{blank_text}
 use Rattle.nb_member.specs.Capture.{line_feed, space, HasValue, SaysNothing}
 
 -- ---- texts of values
@@ -70,28 +72,28 @@ numbered n text = decimal n ++ space ∷ (text ++ line_feed ∷ [])
 abbrev pub dropped : Settings → List Timed → ℕ → ℕ
 dropped settings L now = maps.len (table_from L) - maps.len (table_from (live_after settings L (clock now)))
 
--- ReportOfLine settings names n L line events text after: where L are live in a station with these names, line n
+-- ReportOfLine comments settings names n L line events text after: where L are live in a station with these names, line n
 -- of the capture is these events of the station, text is its line in the report, if it has one, and after
 -- it these are live
-pub data ReportOfLine (settings : Settings) (names : List NetbiosName) (n : ℕ) (L : List Timed) : List ℕ → List Event → List ℕ → List Timed → Type 0 where
-  nothing : (line : List ℕ) → SaysNothing line → ReportOfLine settings names n L line [] [] L
+pub data ReportOfLine (comments : Comments) (settings : Settings) (names : List NetbiosName) (n : ℕ) (L : List Timed) : List ℕ → List Event → List ℕ → List Timed → Type 0 where
+  nothing : (line : List ℕ) → SaysNothing line → ReportOfLine comments settings names n L line [] (blank_text comments line) L
   passed : (line payload : List ℕ) (port moment : ℕ) → HasValue line (Packet port moment payload) → port ≢ 138
-      → ReportOfLine settings names n L line [] (numbered n (codes "passed")) L
+      → ReportOfLine comments settings names n L line [] (numbered n (codes "passed")) L
   taken : (line payload : List ℕ) (moment : ℕ) (said : Saying) (result : Result Outcome MemberFault)
       → HasValue line (Packet 138 moment payload) → Says settings (event.Packet moment payload) said
       → Answers settings names L said result
-      → ReportOfLine settings names n L line (event.Packet moment payload ∷ []) (numbered n (result_text result))
+      → ReportOfLine comments settings names n L line (event.Packet moment payload ∷ []) (numbered n (result_text result))
       (live_after settings L said)
   tick : (line : List ℕ) (now : ℕ) → HasValue line (Tick now)
-      → ReportOfLine settings names n L line (event.Tick now ∷ [])
+      → ReportOfLine comments settings names n L line (event.Tick now ∷ [])
       (numbered n (codes "dropped " ++ decimal (dropped settings L now)))
       (live_after settings L (clock now))
 
--- ReportOf settings names n L lines events text: where L are live, these lines of the capture, the first of
+-- ReportOf comments settings names n L lines events text: where L are live, these lines of the capture, the first of
 -- which is line n, are these events, and text is their report
-pub data ReportOf (settings : Settings) (names : List NetbiosName) : ℕ → List Timed → List (List ℕ) → List Event → List ℕ → Type 0 where
-  none : (n : ℕ) (L : List Timed) → ReportOf settings names n L [] [] []
+pub data ReportOf (comments : Comments) (settings : Settings) (names : List NetbiosName) : ℕ → List Timed → List (List ℕ) → List Event → List ℕ → Type 0 where
+  none : (n : ℕ) (L : List Timed) → ReportOf comments settings names n L [] [] []
   more : (n : ℕ) (L after : List Timed) (line : List ℕ) (lines : List (List ℕ)) (events others : List Event)
-      (text report : List ℕ) → ReportOfLine settings names n L line events text after
-      → ReportOf settings names (n + 1) after lines others report
-      → ReportOf settings names n L (line ∷ lines) (events ++ others) (text ++ report)
+      (text report : List ℕ) → ReportOfLine comments settings names n L line events text after
+      → ReportOf comments settings names (n + 1) after lines others report
+      → ReportOf comments settings names n L (line ∷ lines) (events ++ others) (text ++ report)

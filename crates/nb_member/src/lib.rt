@@ -2,6 +2,9 @@
 #![tactic(auto)]
 
 mod capture;
+mod capture_options;
+mod comment_writing;
+mod comments;
 mod error_packets;
 mod event;
 pub mod laws;
@@ -27,6 +30,9 @@ mod starts;
 mod timed_table;
 
 pub use capture::capture_line;
+pub use capture_options::CaptureOptions;
+pub use comment_writing::push_comment;
+pub use comments::Comments;
 pub use event::Event;
 pub use line::Line;
 pub use line_fault::LineFault;
@@ -39,7 +45,7 @@ pub use member_fault::MemberFault;
 pub use outcome::{Dropped, Outcome};
 pub use pair::{Pair, two_members};
 pub use replay_fault::ReplayFault;
-pub use replaying::{replay, replay_within};
+pub use replaying::{replay, replay_with, replay_within};
 pub use report::texts::push_parts;
 pub use run_report::{RunReport, RunStop};
 pub use runs::run;

@@ -6,6 +6,7 @@ ghost use Rattle.nb_member.specs.Live.{Timed};
 ghost use Rattle.nb_member.specs.Member.{StandsOver};
 
 use crate::capture::capture_line;
+use crate::comments::Comments;
 use crate::laws;
 use crate::line::Line;
 use crate::line_fault::LineFault;
@@ -13,13 +14,13 @@ use crate::member::Member;
 use crate::member_fault::MemberFault;
 use crate::outcome::Outcome;
 use crate::replay_fault::ReplayFault;
-use crate::report::{dropped_line, passed_line, taken_line};
+use crate::report::{comment_line, dropped_line, passed_line, taken_line};
 use nb_names::NoMemory;
 use nb_table::TableFault;
 use std::alloc::Global;
 
 /// Acts on the line of a capture with this number, and answers its line of the report, which is
-/// empty where it has none.
+/// empty where it has none: that of a comment is the comment, where comments are printed.
 ///
 /// # Errors
 ///
@@ -29,19 +30,26 @@ pub fn act_on(
     alloc: Global,
     number: u64,
     line: &[u8],
+    comments: Comments,
     member: &mut Member,
 ) -> Result<String, ReplayFault>
     ensures acted { IfOk result (λ text. (L : List Timed) → StandsOver member.old L →
-        ReportsLine member.old L number line.now member.new (string_bytes text)) }
+        ReportsLine comments member.old L number line.now member.new (string_bytes text)) }
     ensures fault { IfErr result (λ fault. (L : List Timed) → StandsOver member.old L →
-        HasNoReport member.old L number line.now member.new fault) }
+        HasNoReport comments member.old L number line.now member.new fault) }
     ensures no_device { IfErr result (λ fault.
         (fault ≢ ReplayFault.Read) × (fault ≢ ReplayFault.Write)) }
     ensures kept { KeepsStation member.old member.new }
 {
     match capture_line(alloc, line) {
-        Ok(None) => Ok(String::new(alloc)),
-        Ok(Some(said)) => act(alloc, number, &said, member).map_err(|_| ReplayFault::NoMemory),
+        Ok(None) => match comment_line(alloc, comments, line) {
+            Ok(text) => Ok(text),
+            Err(_) => Err(ReplayFault::NoMemory),
+        },
+        Ok(Some(said)) => match act(alloc, number, &said, member) {
+            Ok(text) => Ok(text),
+            Err(_) => Err(ReplayFault::NoMemory),
+        },
         Err(LineFault::BadLine) => Err(ReplayFault::Line(number)),
         Err(LineFault::NoMemory) => Err(ReplayFault::NoMemory),
     }

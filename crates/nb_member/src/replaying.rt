@@ -3,6 +3,7 @@ ghost use Rattle.std.specs.Prelude.{◌≡◌, ◌≢◌, ◌≤◌, ℕ, List, 
 ghost use Rattle.std.specs.Io.KnownBytes.{Consumes};
 ghost use Rattle.nb_names.specs.declared.limits.TheConstants.{MAX_INPUT};
 ghost use Rattle.nb_names.specs.Devices.{GrowTo, ShowsUnread, ShowsWriteFault};
+ghost use Rattle.nb_member.specs.declared.comments.Comments.TheVariants.{LeftOut};
 ghost use Rattle.nb_member.specs.declared.event.Event.{Event};
 ghost use Rattle.nb_member.specs.Code.ReplayLines.{HasNoWholeReport, WritesLine};
 ghost use Rattle.nb_member.specs.Code.Members.{KeepsStation};
@@ -10,6 +11,8 @@ ghost use Rattle.nb_member.specs.Live.{Timed, live};
 ghost use Rattle.nb_member.specs.Member.{StandsOver, Stands};
 ghost use Rattle.nb_member.specs.Replaying.{Replays};
 
+use crate::capture_options::CaptureOptions;
+use crate::comments::Comments;
 use crate::line_read_fault::LineReadFault;
 use crate::line_reading::next_from;
 use crate::line_reports::act_on;
@@ -70,7 +73,7 @@ pub fn replay<R: Read, W: Write>(
         ((result ≡ Err ReplayFault.Read →
         ShowsUnread MAX_INPUT bytes reader.old.counts reader.new.counts) ×
         ((H : List Event) (s : Stands member.old H) →
-        Replays MAX_INPUT member.old H (live member.old.settings s.sayings) bytes
+        Replays LeftOut MAX_INPUT member.old H (live member.old.settings s.sayings) bytes
         (R.remaining reader.new.inner) member.new
         (W.contents writer.old.inner) (W.contents writer.new.inner) result)) }
     ensures write { result ≡ Err ReplayFault.Write →
@@ -100,7 +103,7 @@ pub fn replay_within<R: Read, W: Write>(
         ((result ≡ Err ReplayFault.Read →
         ShowsUnread most bytes reader.old.counts reader.new.counts) ×
         ((H : List Event) (s : Stands member.old H) →
-        Replays most member.old H (live member.old.settings s.sayings) bytes
+        Replays LeftOut most member.old H (live member.old.settings s.sayings) bytes
         (R.remaining reader.new.inner) member.new
         (W.contents writer.old.inner) (W.contents writer.new.inner) result)) }
     ensures write { result ≡ Err ReplayFault.Write →
@@ -108,13 +111,48 @@ pub fn replay_within<R: Read, W: Write>(
     ensures settings { member.new.settings ≡ member.old.settings }
     ensures names { member.new.names ≡ member.old.names }
 {
-    let mut room = LineRoom::within(alloc, most);
+    let options = CaptureOptions {
+        most,
+        comments: Comments::LeftOut,
+    };
+    replay_with(alloc, reader, writer, member, options)
+}
+
+/// Replays a capture in a member as [`replay_within`] does, with the comments of the capture in the
+/// report where they are printed: each in its place, as [`push_comment`](crate::push_comment) has
+/// it.
+///
+/// # Errors
+///
+/// Those of [`replay`], with the number of the options in the place of [`MAX_INPUT`].
+pub fn replay_with<R: Read, W: Write>(
+    alloc: Global,
+    reader: &mut Counted<R>,
+    writer: &mut Counted<W>,
+    member: &mut Member,
+    options: CaptureOptions,
+) -> Result<u64, ReplayFault>
+    // The bytes that this call took from the reader, and what was made of them.
+    ensures replays { (bytes : List ℕ) ×
+        Consumes (R.remaining reader.old.inner) (R.remaining reader.new.inner) bytes ×
+        ((result ≡ Err ReplayFault.Read →
+        ShowsUnread options.most bytes reader.old.counts reader.new.counts) ×
+        ((H : List Event) (s : Stands member.old H) →
+        Replays options.comments options.most member.old H
+        (live member.old.settings s.sayings) bytes (R.remaining reader.new.inner) member.new
+        (W.contents writer.old.inner) (W.contents writer.new.inner) result)) }
+    ensures write { result ≡ Err ReplayFault.Write →
+        ShowsWriteFault writer.old.counts writer.new.counts }
+    ensures settings { member.new.settings ≡ member.old.settings }
+    ensures names { member.new.names ≡ member.old.names }
+{
+    let mut room = LineRoom::within(alloc, options.most);
     let mut number = 0;
     'lines: loop {
         match next_from(&mut room, reader) {
             Ok(Some(line)) => {
                 number += 1;
-                replay_line(alloc, number, line, writer, member)?;
+                replay_line(alloc, number, line, options.comments, writer, member)?;
             }
             Ok(None) => return Ok(number),
             Err(LineReadFault::TooLong) => return Err(ReplayFault::Line(number + 1)),
@@ -133,14 +171,15 @@ fn replay_line<W: Write>(
     alloc: Global,
     number: u64,
     line: &[u8],
+    comments: Comments,
     writer: &mut Counted<W>,
     member: &mut Member,
 ) -> Result<(), ReplayFault>
     ensures written { OnOk result ((L : List Timed) → StandsOver member.old L →
-        WritesLine member.old L number line.now member.new
+        WritesLine comments member.old L number line.now member.new
         (W.contents writer.old.inner) (W.contents writer.new.inner)) }
     ensures fault { IfErr result (λ fault. (L : List Timed) → StandsOver member.old L →
-        HasNoWholeReport member.old L number line.now member.new
+        HasNoWholeReport comments member.old L number line.now member.new
         (W.contents writer.old.inner) (W.contents writer.new.inner) fault) }
     ensures unread { IfErr result (λ fault. fault ≢ ReplayFault.Read) }
     ensures why { IfErr result (λ fault. fault ≡ ReplayFault.Write →
@@ -148,7 +187,7 @@ fn replay_line<W: Write>(
     ensures grow { GrowTo writer.old.counts writer.new.counts }
     ensures kept { KeepsStation member.old member.new }
 {
-    let text = act_on(alloc, number, line, member)?;
+    let text = act_on(alloc, number, line, comments, member)?;
     match write_whole(writer, text.as_bytes()) {
         Ok(()) => Ok(()),
         Err(_) => Err(ReplayFault::Write),

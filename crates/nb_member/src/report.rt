@@ -1,10 +1,13 @@
 //! The lines of a replay's report.
 ghost use Rattle.std.specs.Prelude.{◌≡◌, ◌++◌, codes, IfOk, string_bytes};
 ghost use Rattle.std.specs.Fmt.{decimal};
+ghost use Rattle.nb_member.specs.Comments.{blank_text};
 ghost use Rattle.nb_member.specs.Report.{numbered, result_text};
 
 pub(crate) mod texts;
 
+use crate::comment_writing::push_comment;
+use crate::comments::Comments;
 use crate::member_fault::MemberFault;
 use crate::outcome::{Dropped, Outcome};
 use crate::report::texts::push_result;
@@ -13,6 +16,15 @@ use std::alloc::Global;
 
 /// The room that a line takes, in bytes, its data and long scopes aside.
 const USUAL_ROOM: usize = 160;
+
+/// The report's line about a line that is a comment or empty: the comment, or nothing.
+pub fn comment_line(alloc: Global, comments: Comments, line: &[u8]) -> Result<String, NoMemory>
+    ensures { IfOk result (λ text. string_bytes text ≡ blank_text comments line.now) }
+{
+    let mut text = String::new(alloc);
+    push_comment(comments, line, &mut text)?;
+    Ok(text)
+}
 
 /// The report's line about a payload that isn't the member's to take.
 pub fn passed_line(alloc: Global, number: u64) -> Result<String, NoMemory>

@@ -6,6 +6,7 @@ use Rattle.std.specs.Io.KnownBytes.{Consumes}
 use Rattle.nb_names.specs.Name.{NetbiosName}
 use Rattle.nb_member.specs.declared.event.Event.{Event}
 use Rattle.nb_member.specs.declared.replay_fault.ReplayFault.{ReplayFault}
+use Rattle.nb_member.specs.declared.capture_options.CaptureOptions.{CaptureOptions}
 use Rattle.nb_member.specs.Live.{live}
 use Rattle.nb_member.specs.Member.{MemberValue, new_member}
 use Rattle.nb_member.specs.Replaying.{Replays}
@@ -67,12 +68,12 @@ ends_as P replayed (Err Write) p is = subst P (sym is) p
 ends_as P replayed (Err Memory) p is = subst P (sym is) p
 ends_as P replayed (Err _) p is = absurd is
 
-pub replays_in : (most : ℕ) (m new : MemberValue) (old_in new_in old_out new_out : Option (List ℕ)) (bytes : List ℕ) (replayed : Result ℕ ReplayFault)
+pub replays_in : (options : CaptureOptions) (m new : MemberValue) (old_in new_in old_out new_out : Option (List ℕ)) (bytes : List ℕ) (replayed : Result ℕ ReplayFault)
     (result : Result Unit Fault) → Consumes old_in new_in bytes
-    → ((H : List Event) (s : Stands m H) → Replays most m H (live m.settings s.sayings) bytes new_in new old_out new_out replayed)
-    → EndsWith (λ answer. answer ≡ replayed) result → EndsWith (ReplaysIn most m old_in new_in old_out new_out) result
-replays_in most m new old_in new_in old_out new_out bytes replayed result read replays ends =
-    ends_as (ReplaysIn most m old_in new_in old_out new_out) replayed result (record { bytes = bytes; new = new; read = read; replays = replays }) ends
+    → ((H : List Event) (s : Stands m H) → Replays options.comments options.most m H (live m.settings s.sayings) bytes new_in new old_out new_out replayed)
+    → EndsWith (λ answer. answer ≡ replayed) result → EndsWith (ReplaysIn options m old_in new_in old_out new_out) result
+replays_in options m new old_in new_in old_out new_out bytes replayed result read replays ends =
+    ends_as (ReplaysIn options m old_in new_in old_out new_out) replayed result (record { bytes = bytes; new = new; read = read; replays = replays }) ends
 
 ends_weaker : (P Q : Result ℕ ReplayFault → Type 0) (result : Result Unit Fault) → ((answer : Result ℕ ReplayFault) → P answer → Q answer)
     → EndsWith P result → EndsWith Q result
@@ -93,15 +94,15 @@ is_replay P IsGiven AreWords old_in new_in old_out new_out (Err Memory) ends = i
 is_replay P IsGiven AreWords old_in new_in old_out new_out result ends = ends
 
 -- what a new member replayed
-of_new : (IsGiven : Capacity → Type 0) (IsMost : ℕ → Type 0) (AreWords : List (List ℕ) → Type 0) (old_in new_in old_out new_out : Option (List ℕ)) (limit : ℕ) (most : Capacity)
-    (words : List (List ℕ)) (names : List NetbiosName) → IsGiven most → IsMost limit → AreWords words → AddsEach words names → (answer : Result ℕ ReplayFault)
-    → ReplaysIn limit (new_member (program_settings most) names) old_in new_in old_out new_out answer
-    → ReplaysCapture IsGiven IsMost AreWords old_in new_in old_out new_out answer
-of_new IsGiven IsMost AreWords old_in new_in old_out new_out limit most words names given limited said named answer r = record {
+of_new : (IsGiven : Capacity → Type 0) (AreAsked : CaptureOptions → Type 0) (AreWords : List (List ℕ) → Type 0) (old_in new_in old_out new_out : Option (List ℕ)) (options : CaptureOptions) (most : Capacity)
+    (words : List (List ℕ)) (names : List NetbiosName) → IsGiven most → AreAsked options → AreWords words → AddsEach words names → (answer : Result ℕ ReplayFault)
+    → ReplaysIn options (new_member (program_settings most) names) old_in new_in old_out new_out answer
+    → ReplaysCapture IsGiven AreAsked AreWords old_in new_in old_out new_out answer
+of_new IsGiven AreAsked AreWords old_in new_in old_out new_out options most words names given asked said named answer r = record {
   capacity = most;
   given = given;
-  most = limit;
-  limited = limited;
+  options = options;
+  asked = asked;
   words = words;
   said = said;
   names = names;
@@ -116,12 +117,12 @@ of_new IsGiven IsMost AreWords old_in new_in old_out new_out limit most words na
   });
 }
 
-pub replays_capture : (IsGiven : Capacity → Type 0) (IsMost : ℕ → Type 0) (AreWords : List (List ℕ) → Type 0) (old_in new_in old_out new_out : Option (List ℕ)) (limit : ℕ) (most : Capacity)
-    (words : List (List ℕ)) (names : List NetbiosName) (m : MemberValue) (result : Result Unit Fault) → IsGiven most → IsMost limit → AreWords words
-    → AddsEach words names → m ≡ new_member (program_settings most) names → EndsWith (ReplaysIn limit m old_in new_in old_out new_out) result
-    → IsReplay (ReplaysCapture IsGiven IsMost AreWords old_in new_in old_out new_out) IsGiven AreWords old_in new_in old_out new_out result
-replays_capture IsGiven IsMost AreWords old_in new_in old_out new_out limit most words names m result given limited said named is ends =
-    is_replay (ReplaysCapture IsGiven IsMost AreWords old_in new_in old_out new_out) IsGiven AreWords old_in new_in old_out new_out result
-    (ends_weaker (ReplaysIn limit m old_in new_in old_out new_out) (ReplaysCapture IsGiven IsMost AreWords old_in new_in old_out new_out) result (λ answer r.
-    of_new IsGiven IsMost AreWords old_in new_in old_out new_out limit most words names given limited said named answer
-    (subst (λ (first : MemberValue). ReplaysIn limit first old_in new_in old_out new_out answer) is r)) ends)
+pub replays_capture : (IsGiven : Capacity → Type 0) (AreAsked : CaptureOptions → Type 0) (AreWords : List (List ℕ) → Type 0) (old_in new_in old_out new_out : Option (List ℕ)) (options : CaptureOptions) (most : Capacity)
+    (words : List (List ℕ)) (names : List NetbiosName) (m : MemberValue) (result : Result Unit Fault) → IsGiven most → AreAsked options → AreWords words
+    → AddsEach words names → m ≡ new_member (program_settings most) names → EndsWith (ReplaysIn options m old_in new_in old_out new_out) result
+    → IsReplay (ReplaysCapture IsGiven AreAsked AreWords old_in new_in old_out new_out) IsGiven AreWords old_in new_in old_out new_out result
+replays_capture IsGiven AreAsked AreWords old_in new_in old_out new_out options most words names m result given asked said named is ends =
+    is_replay (ReplaysCapture IsGiven AreAsked AreWords old_in new_in old_out new_out) IsGiven AreWords old_in new_in old_out new_out result
+    (ends_weaker (ReplaysIn options m old_in new_in old_out new_out) (ReplaysCapture IsGiven AreAsked AreWords old_in new_in old_out new_out) result (λ answer r.
+    of_new IsGiven AreAsked AreWords old_in new_in old_out new_out options most words names given asked said named answer
+    (subst (λ (first : MemberValue). ReplaysIn options first old_in new_in old_out new_out answer) is r)) ends)

@@ -64,17 +64,18 @@ limited_app name = with_rule (with_rule (new_app name) keys_rule) per_source_rul
 abbrev pub name_app : App
 name_app = with_rule (with_rule (new_app (codes "name")) (flag_rule (codes "bytes"))) (value_rule (codes "VALUE"))
 
--- `show [--input-limit BYTES]`
+-- `show [--input-limit BYTES] [--comments]`
 abbrev pub show_app : App
-show_app = with_rule (new_app (codes "show")) input_limit_rule
+show_app = with_rule (with_rule (new_app (codes "show")) input_limit_rule) (flag_rule (codes "comments"))
 
 -- `build [--broadcast] WHAT ARG..`
 abbrev pub build_app : App
 build_app = with_rule (with_rule (with_rule (new_app (codes "build")) (flag_rule (codes "broadcast"))) (value_rule (codes "WHAT"))) (list_rule (codes "ARG"))
 
--- `replay [--keys N] [--per-source N] [--input-limit BYTES] NAME..`
+-- `replay [--keys N] [--per-source N] [--input-limit BYTES] [--comments] NAME..`
 abbrev pub replay_app : App
-replay_app = with_rule (with_rule (limited_app (codes "replay")) input_limit_rule) (some_rule (codes "NAME"))
+replay_app =
+    with_rule (with_rule (with_rule (limited_app (codes "replay")) input_limit_rule) (flag_rule (codes "comments"))) (some_rule (codes "NAME"))
 
 -- `save [--keys N] [--per-source N] [--input-limit BYTES]`
 abbrev pub save_app : App

@@ -8,6 +8,7 @@ use Rattle.nb_names.specs.NameText.{IsText, IsFaultOf}
 use Rattle.nb_member.specs.declared.event.Event.{Event}
 use Rattle.nb_member.specs.declared.replay_fault.ReplayFault.{ReplayFault}
 use Rattle.nb_member.specs.declared.replay_fault.ReplayFault.TheVariants as replay
+use Rattle.nb_member.specs.declared.capture_options.CaptureOptions.{CaptureOptions}
 use Rattle.nb_member.specs.Live.{live}
 use Rattle.nb_member.specs.Member.{MemberValue, new_member}
 use Rattle.nb_member.specs.Replaying.{Replays}
@@ -56,14 +57,14 @@ pub record IsNamesFault (texts : List (List ℕ)) (fault : Fault) : Type 0 where
 
 -- ---- the replay
 
--- ReplaysIn most m old_in new_in old_out new_out answer: the member m replayed what was read of an input of so many
--- bytes at most, with this answer, and what it wrote was printed
-pub record ReplaysIn (most : ℕ) (m : MemberValue) (old_in new_in old_out new_out : Option (List ℕ)) (answer : Result ℕ ReplayFault) : Type 0 where
+-- ReplaysIn options m old_in new_in old_out new_out answer: the member m replayed what was read of an input as the options
+-- say, with this answer, and what it wrote was printed
+pub record ReplaysIn (options : CaptureOptions) (m : MemberValue) (old_in new_in old_out new_out : Option (List ℕ)) (answer : Result ℕ ReplayFault) : Type 0 where
   pub bytes : List ℕ
   pub new : MemberValue
   pub read : Consumes old_in new_in bytes
   pub replays : (H : List Event) (s : Stands m H)
-      → Replays most m H (live m.settings s.sayings) bytes new_in new old_out new_out answer
+      → Replays options.comments options.most m H (live m.settings s.sayings) bytes new_in new old_out new_out answer
 
 -- EndsWith IsAnswer result: a replay with such an answer ends the program's replay so
 abbrev pub EndsWith : (Result ℕ ReplayFault → Type 0) → Result Unit Fault → Type 0
@@ -74,15 +75,15 @@ EndsWith IsAnswer (Err Write) = IsAnswer (Err replay.Write)
 EndsWith IsAnswer (Err Memory) = IsAnswer (Err replay.NoMemory)
 EndsWith IsAnswer (Err _) = ⊥
 
--- ReplaysCapture IsGiven IsMost AreWords old_in new_in old_out new_out answer: a new member that may hold as much as is
--- given, with the names of the words, replayed what was read of an input of at most as many bytes as is said, with
--- this answer, and what it wrote was printed
-pub record ReplaysCapture (IsGiven : Capacity → Type 0) (IsMost : ℕ → Type 0) (AreWords : List (List ℕ) → Type 0)
+-- ReplaysCapture IsGiven AreAsked AreWords old_in new_in old_out new_out answer: a new member that may hold as much as is
+-- given, with the names of the words, replayed what was read of an input as the options say, with this answer, and
+-- what it wrote was printed
+pub record ReplaysCapture (IsGiven : Capacity → Type 0) (AreAsked : CaptureOptions → Type 0) (AreWords : List (List ℕ) → Type 0)
     (old_in new_in old_out new_out : Option (List ℕ)) (answer : Result ℕ ReplayFault) : Type 0 where
   pub capacity : Capacity
   pub given : IsGiven capacity
-  pub most : ℕ
-  pub limited : IsMost most
+  pub options : CaptureOptions
+  pub asked : AreAsked options
   pub words : List (List ℕ)
   pub said : AreWords words
   pub names : List NetbiosName
@@ -90,7 +91,7 @@ pub record ReplaysCapture (IsGiven : Capacity → Type 0) (IsMost : ℕ → Type
   pub bytes : List ℕ
   pub new : MemberValue
   pub read : Consumes old_in new_in bytes
-  pub replays : Replays most (new_member (program_settings capacity) names) [] [] bytes new_in new old_out new_out answer
+  pub replays : Replays options.comments options.most (new_member (program_settings capacity) names) [] [] bytes new_in new old_out new_out answer
 
 -- IsReplay IsAnswer IsGiven AreWords old_in new_in old_out new_out result: what the program answers: as a replay
 -- with such an answer ends, or a word was refused, no capacity or no words are given, or memory ran out

@@ -5,6 +5,7 @@ use Rattle.std.specs.Int.{w16, to_be_bytes}
 use Rattle.std.specs.Str.Parse.{IsNumeral, digits_value}
 use Rattle.hex.specs.Hex.{decode_of}
 use Rattle.nb_names.specs.declared.pointers.Pointers.TheVariants.{Refused}
+use Rattle.nb_names.specs.Hexadecimal.{DataText}
 use Rattle.nb_names.specs.Labels.{NameAt}
 use Rattle.nb_names.specs.Name.{NetbiosName, labels_of_name}
 use Rattle.nb_names.specs.NameText.{IsText}

@@ -1,9 +1,12 @@
 -- What the program's members and tables are set up with (our choice).
-use Rattle.std.specs.Prelude.{◌≡◌, ◌⊎◌, ◌<◌, ◌^◌, ℕ, Bool, true, false, List, [], ◌∷◌, Some, codes}
+use Rattle.std.specs.Prelude.{◌≡◌, ◌⊎◌, ◌<◌, ◌^◌, ℕ, Bool, true, false, List, [], ◌∷◌, Some, None, codes}
 use Rattle.std.specs.Str.Parse.{IsNumeral, digits_value, without_leading_plus}
 use Rattle.clap.specs.Words.{found_of, one_text}
 use Rattle.clap.specs.declared.parser.matches.ArgMatches.{ArgMatches}
 use Rattle.nb_names.specs.declared.limits.TheConstants.{MAX_INPUT}
+use Rattle.nb_member.specs.declared.comments.Comments.{Comments}
+use Rattle.nb_member.specs.declared.comments.Comments.TheVariants.{LeftOut, Printed}
+use Rattle.nb_member.specs.declared.capture_options.CaptureOptions.{CaptureOptions}
 use Rattle.nb_member.specs.declared.settings.Settings.{Settings}
 use Rattle.nbt.specs.declared.settings.Capacity.{Capacity}
 
@@ -43,6 +46,18 @@ IsInputLimit matches n =
 abbrev pub IsListed : ArgMatches → Bool → Type 0
 IsListed matches true = one_text (found_of matches) (codes "list") ≡ Some (codes "true")
 IsListed matches false = one_text (found_of matches) (codes "list") ≡ Some (codes "false")
+
+-- AreComments matches comments: comments are printed where the matches hold `true` for `--comments`, and left out where
+-- they hold `false` or nothing
+pub record AreComments (matches : ArgMatches) (comments : Comments) : Type 0 where
+  pub given : one_text (found_of matches) (codes "comments") ≡ Some (codes "true") → comments ≡ Printed
+  pub not_given : one_text (found_of matches) (codes "comments") ≡ Some (codes "false") → comments ≡ LeftOut
+  pub not_held : one_text (found_of matches) (codes "comments") ≡ None → comments ≡ LeftOut
+
+-- AreOptions matches options: what the matches ask of a replay
+pub record AreOptions (matches : ArgMatches) (options : CaptureOptions) : Type 0 where
+  pub limited : IsInputLimit matches options.most
+  pub comments : AreComments matches options.comments
 
 -- IsCapacity matches c: as many keys as `--keys` says, and of each address as many as `--per-source` says
 pub record IsCapacity (matches : ArgMatches) (c : Capacity) : Type 0 where

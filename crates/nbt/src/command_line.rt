@@ -1,5 +1,5 @@
 //! The words that the program takes.
-ghost use Rattle.std.specs.Prelude.{◌≡◌, IfOk, IsOkAnd, false};
+ghost use Rattle.std.specs.Prelude.{◌≡◌, IfOk, IsOkAnd, false, codes};
 ghost use Rattle.clap.specs.Words.{AddsArg, AddsSubcommand, app_of, new_app, rule_of};
 ghost use Rattle.clap.specs.declared.builder.command.Command.TheViews.{out-Command as fields_of};
 ghost use Rattle.nbt.specs.CommandLine.{name_app, show_app, build_app, replay_app, save_app, merge_app, list_app, agree_app, nbt_app, flag_rule, value_rule, list_rule, input_limit_rule, keys_rule, limited_app, per_source_rule, some_rule};
@@ -79,7 +79,7 @@ fn name_command<'a>(alloc: Global) -> Result<Command<'a>, AllocError>
     taking(taking(Ok(name), bytes), value)
 }
 
-/// `show [--input-limit BYTES]`.
+/// `show [--input-limit BYTES] [--comments]`.
 fn show_command<'a>(alloc: Global) -> Result<Command<'a>, AllocError>
     ensures app { IfOk result (λ command. app_of command ≡ show_app) }
     ensures local { IfOk result (λ command. (fields_of command).has_globals ≡ false) }
@@ -90,7 +90,7 @@ fn show_command<'a>(alloc: Global) -> Result<Command<'a>, AllocError>
         "Show the packets of the capture on standard input",
         SHOW_HELP,
     );
-    taking(Ok(show), input_limit(alloc))
+    taking(taking(Ok(show), input_limit(alloc)), comments(alloc))
 }
 
 /// `build [--broadcast] WHAT ARG..`.
@@ -110,7 +110,7 @@ fn build_command<'a>(alloc: Global) -> Result<Command<'a>, AllocError>
     taking(taking(taking(Ok(build), broadcast), what), words)
 }
 
-/// `replay [--keys N] [--per-source N] [--input-limit BYTES] NAME..`.
+/// `replay [--keys N] [--per-source N] [--input-limit BYTES] [--comments] NAME..`.
 fn replay_command<'a>(alloc: Global) -> Result<Command<'a>, AllocError>
     ensures app { IfOk result (λ command. app_of command ≡ replay_app) }
     ensures local { IfOk result (λ command. (fields_of command).has_globals ≡ false) }
@@ -126,7 +126,8 @@ fn replay_command<'a>(alloc: Global) -> Result<Command<'a>, AllocError>
         "NAME",
         "A name of the station, such as 'FRED<20>.NETBIOS.COM'",
     );
-    taking(taking(replay, input_limit(alloc)), names)
+    let replay = taking(taking(replay, input_limit(alloc)), comments(alloc));
+    taking(replay, names)
 }
 
 /// `save [--keys N] [--per-source N] [--input-limit BYTES]`.
@@ -232,6 +233,18 @@ fn flag<'a>(alloc: Global, name: &'a str, help: &'a str) -> Arg<'a>
         .long(name)
         .help(help)
         .action(ArgAction::SetTrue)
+}
+
+/// `--comments`.
+fn comments<'a>(alloc: Global) -> Arg<'a>
+    ensures rule { rule_of result ≡ flag_rule (codes "comments") }
+    ensures local { result.global ≡ false }
+{
+    flag(
+        alloc,
+        "comments",
+        "Print the comments of the capture, each in its place",
+    )
 }
 
 /// A word that is required.

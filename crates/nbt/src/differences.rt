@@ -62,11 +62,7 @@ fn differences_of(alloc: Global, one: &Table, other: &Table) -> Result<String, N
 }
 
 /// The keys at which two tables differ.
-fn differing_keys(
-    alloc: Global,
-    one: &Table,
-    other: &Table,
-) -> Result<BTreeMap<Key, ()>, NoMemory>
+fn differing_keys(alloc: Global, one: &Table, other: &Table) -> Result<BTreeMap<Key, ()>, NoMemory>
     ensures { IfOk result (λ keys. maps.keys (maps.from_entries {R = key_cmp} keys.entries)
         ≡ differing one.now.contents other.now.contents) }
 {
@@ -94,12 +90,7 @@ fn mark_each(
 }
 
 /// Marks a key, if two tables differ at it.
-fn mark(
-    marks: &mut BTreeMap<Key, ()>,
-    key: Key,
-    one: &Table,
-    other: &Table,
-) -> Result<(), NoMemory>
+fn mark(marks: &mut BTreeMap<Key, ()>, key: Key, one: &Table, other: &Table) -> Result<(), NoMemory>
     ensures { OnOk result (maps.from_entries {R = key_cmp} marks.new.entries
         ≡ with_mark one.now.contents other.now.contents
         (maps.from_entries {R = key_cmp} marks.old.entries) key) }
@@ -112,12 +103,7 @@ fn mark(
 }
 
 /// Adds what either table has at a key.
-fn push_two_lines(
-    one: &Table,
-    other: &Table,
-    key: Key,
-    text: &mut String,
-) -> Result<(), NoMemory>
+fn push_two_lines(one: &Table, other: &Table, key: Key, text: &mut String) -> Result<(), NoMemory>
     ensures { OnOk result (string_bytes text.new
         ≡ string_bytes text.old ++ two_lines one.now.contents other.now.contents key) }
 {

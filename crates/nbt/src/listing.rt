@@ -92,11 +92,7 @@ fn push_known(table: &Table, key: &Key, text: &mut String) -> Result<(), NoMemor
 }
 
 /// Adds what is known of a datagram that isn't whole, the ranges of its known places among it.
-fn push_partial(
-    outline: &Outline,
-    ranges: Ranges<'_>,
-    text: &mut String,
-) -> Result<(), NoMemory>
+fn push_partial(outline: &Outline, ranges: Ranges<'_>, text: &mut String) -> Result<(), NoMemory>
     ensures { OnOk result (string_bytes text.new
         ≡ string_bytes text.old ++ partial_text outline.now ranges.entry) }
 {

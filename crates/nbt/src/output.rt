@@ -10,9 +10,9 @@ ghost use Rattle.nbt.specs.Input.{WasCut};
 
 use crate::commands::replay::outcome_of;
 use crate::fault::Fault;
-use nb_member::{Member, replay_within};
-use nb_names::{Counted, NoMemory, push_digits};
+use nb_member::{CaptureOptions, Member, replay_with};
 use nb_names::output::{write_some, write_whole};
+use nb_names::{Counted, NoMemory, push_digits};
 use std::alloc::Global;
 use std::io;
 use std::io::{ErrorKind, Read, Write};
@@ -76,30 +76,30 @@ impl<W> Output<W> {
         }
     }
 
-    /// Replays an input of so many bytes at most in a member, and writes the report.
+    /// Replays an input in a member, as the options say, and writes the report.
     ///
     /// # Errors
     ///
-    /// Those of [`nb_member::replay_within`].
+    /// Those of [`replay_with`].
     pub fn replay<R: Read>(
         &mut self,
         alloc: Global,
         mut member: Member,
         input: &mut Counted<R>,
-        most: u64,
+        options: CaptureOptions,
     ) -> Result<(), Fault>
     where
         W: Write,
-        ensures replayed { EndsWith (ReplaysIn most member
+        ensures replayed { EndsWith (ReplaysIn options member
             (R.remaining input.old.inner) (R.remaining input.new.inner)
             (W.contents self.old.inner) (W.contents self.new.inner)) result }
         ensures cut { IfErr result (λ fault. fault ≡ Fault.Read →
-            WasCut most (R.remaining input.old.inner) (R.remaining input.new.inner)
+            WasCut options.most (R.remaining input.old.inner) (R.remaining input.new.inner)
             input.old.counts input.new.counts) }
         ensures why { IfErr result (λ fault. fault ≡ Fault.Write →
             ShowsWriteFault self.old.counts self.new.counts) }
     {
-        outcome_of(replay_within(alloc, input, &mut self.device, &mut member, most))
+        outcome_of(replay_with(alloc, input, &mut self.device, &mut member, options))
     }
 }
 

@@ -1,10 +1,10 @@
 //! What the program's members and tables are set up with.
 ghost use Rattle.std.specs.Prelude.{◌≡◌, Bool, IfOk, IfErr};
-ghost use Rattle.nbt.specs.Settings.{HasNoCapacity, IsCapacity, IsInputLimit, IsListed, program_settings};
+ghost use Rattle.nbt.specs.Settings.{AreComments, AreOptions, HasNoCapacity, IsCapacity, IsInputLimit, IsListed, program_settings};
 
 use crate::fault::Fault;
 use clap::ArgMatches;
-use nb_member::Settings;
+use nb_member::{CaptureOptions, Comments, Settings};
 use nb_names::limits::MAX_INPUT;
 
 /// The port of the datagram service (RFC 1002 section 4.4).
@@ -55,6 +55,27 @@ pub fn is_listed(matches: &ArgMatches<'_>) -> bool
     ensures { (list : Bool) → IsListed matches.now list → result ≡ list }
 {
     matches.get_flag("list")
+}
+
+/// Whether comments are printed: where `--comments` is given.
+pub fn comments_of(matches: &ArgMatches<'_>) -> Comments
+    ensures { AreComments matches.now result }
+{
+    if matches.get_flag("comments") {
+        Comments::Printed
+    } else {
+        Comments::LeftOut
+    }
+}
+
+/// What the options ask of a replay.
+pub fn options_of(matches: &ArgMatches<'_>) -> CaptureOptions
+    ensures { AreOptions matches.now result }
+{
+    CaptureOptions {
+        most: input_limit_of(matches),
+        comments: comments_of(matches),
+    }
 }
 
 /// The settings of a member that may hold so much, at 0.0.0.0 and the datagram service's port.

@@ -1,5 +1,5 @@
 -- Payloads: what a word stands for.
-use Rattle.std.proofs.Common.{◌≡◌, ◌≢◌, ℕ, ◌%◌, ◌<◌, List, length, sym, ap, ◌∙◌, arith, ◌⊎◌, inl, inr}
+use Rattle.std.proofs.Common.{◌≡◌, ◌≢◌, ℕ, ◌%◌, List, length, sym, ap, ◌∙◌, arith, inl, inr}
 use Rattle.std.specs.Prelude.{codes}
 use Rattle.nb_names.specs.Hexadecimal.{HexText}
 use Rattle.nb_names.specs.HexadecimalFacts.{length-HexText, one_HexText, DataText-cases}

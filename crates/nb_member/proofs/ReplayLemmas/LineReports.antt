@@ -3,6 +3,7 @@ use Rattle.std.proofs.Common.{◌≡◌, ◌≢◌, ◌+◌, ◌++◌, ◌∷◌
 use Rattle.std.specs.Prelude.{codes}
 use Rattle.std.specs.FinMap as maps
 use Rattle.std.specs.Fmt.{decimal}
+use Rattle.nb_member.specs.declared.comments.Comments.{Comments}
 use Rattle.nb_member.specs.declared.event.Event.TheVariants as event
 use Rattle.nb_member.specs.declared.line.Line.TheVariants.{Packet, Tick}
 use Rattle.nb_member.specs.declared.member_fault.MemberFault.{MemberFault}
@@ -16,48 +17,49 @@ use Rattle.nb_member.specs.Code.ReplayLines.{ReportsLine, HasNoReport, HasNoWhol
 use Rattle.nb_member.specs.Taking.{Does, Takes, TakesFragment, fragment, error, query, no_packet}
 use Rattle.nb_member.specs.Code.Members.{KeepsStation}
 use Rattle.nb_member.specs.Capture.{HasValue, SaysNothing}
+use Rattle.nb_member.specs.Comments.{blank_text}
 use Rattle.nb_member.specs.Events.{Saying, clock, Says}
 use Rattle.nb_member.specs.Live.{Timed, live_after}
 use Rattle.nb_member.specs.Member.{MemberValue, StandsOver, contents, with_timed, after_clock}
 use Rattle.nb_member.specs.Report.{ReportOfLine, nothing, passed, taken, tick, dropped, numbered, result_text}
 
 -- a line that says nothing
-pub quiet : (m : MemberValue) (L : List Timed) (n : ℕ) (line : List ℕ) → StandsOver m L → SaysNothing line
-    → ReportsLine m L n line m []
-quiet m L n line s h = record { events = []; live = L; acts = nothing line h; stands = s }
+pub quiet : (comments : Comments) (m : MemberValue) (L : List Timed) (n : ℕ) (line : List ℕ) → StandsOver m L → SaysNothing line
+    → ReportsLine comments m L n line m (blank_text comments line)
+quiet comments m L n line s h = record { events = []; live = L; acts = nothing line h; stands = s }
 
 -- a payload of another port
-pub passed_by : (m : MemberValue) (L : List Timed) (n port moment : ℕ) (payload line : List ℕ) → StandsOver m L
+pub passed_by : (comments : Comments) (m : MemberValue) (L : List Timed) (n port moment : ℕ) (payload line : List ℕ) → StandsOver m L
     → port ≢ 138 → HasValue line (Packet port moment payload)
-    → ReportsLine m L n line m (numbered n (codes "passed"))
-passed_by m L n port moment payload line s other h =
+    → ReportsLine comments m L n line m (numbered n (codes "passed"))
+passed_by comments m L n port moment payload line s other h =
     record { events = []; live = L; acts = passed line payload port moment h other; stands = s }
 
 -- a look at the clock
-pub looked : (m : MemberValue) (L : List Timed) (n now keys : ℕ) (new : MemberValue) (line : List ℕ) → StandsOver m L
+pub looked : (comments : Comments) (m : MemberValue) (L : List Timed) (n now keys : ℕ) (new : MemberValue) (line : List ℕ) → StandsOver m L
     → StandsOver (with_timed m (after_clock m.timed now)) (live_after m.settings L (clock now))
     → new ≡ with_timed m (after_clock m.timed now) → keys + maps.len (contents new) ≡ maps.len (contents m)
     → HasValue line (Tick now)
-    → ReportsLine m L n line new (numbered n (codes "dropped " ++ decimal keys))
-looked m L n now keys new line s after is count h =
+    → ReportsLine comments m L n line new (numbered n (codes "dropped " ++ decimal keys))
+looked comments m L n now keys new line s after is count h =
     let stands : StandsOver new (live_after m.settings L (clock now)) =
     subst (λ (x : MemberValue). StandsOver x (live_after m.settings L (clock now))) (sym is) after in
     let number : dropped m.settings L now ≡ keys = omega (arith, count, ap maps.len s.table_is, ap maps.len stands.table_is) in
     record {
       events = event.Tick now ∷ [];
       live = live_after m.settings L (clock now);
-      acts = subst (λ (k : ℕ). ReportOfLine m.settings m.names n L line (event.Tick now ∷ []) (numbered n (codes "dropped " ++ decimal k)) (live_after m.settings L (clock now)))
+      acts = subst (λ (k : ℕ). ReportOfLine comments m.settings m.names n L line (event.Tick now ∷ []) (numbered n (codes "dropped " ++ decimal k)) (live_after m.settings L (clock now)))
           number (tick line now h);
       stands = stands;
     }
 
 -- a payload
-pub took : (m : MemberValue) (L : List Timed) (n moment : ℕ) (payload : List ℕ) (new : MemberValue)
+pub took : (comments : Comments) (m : MemberValue) (L : List Timed) (n moment : ℕ) (payload : List ℕ) (new : MemberValue)
     (result : Result Outcome MemberFault) (said : Saying) (line : List ℕ)
     → Says m.settings (event.Packet moment payload) said → Does m L said new result
     → HasValue line (Packet 138 moment payload)
-    → ReportsLine m L n line new (numbered n (result_text result))
-took m L n moment payload new result said line says does h = record {
+    → ReportsLine comments m L n line new (numbered n (result_text result))
+took comments m L n moment payload new result said line says does h = record {
   events = event.Packet moment payload ∷ [];
   live = live_after m.settings L said;
   acts = taken line payload moment said result h says does.answers;
@@ -65,12 +67,12 @@ took m L n moment payload new result said line says does h = record {
 }
 
 -- a line that has no report leaves the writer as it was
-pub unwritten : (m : MemberValue) (L : List Timed) (n : ℕ) (line : List ℕ) (new : MemberValue) (known : Option (List ℕ))
-    (why : ReplayFault) → HasNoReport m L n line new why → HasNoWholeReport m L n line new known known why
-unwritten m L n line new known (fault.Line k) e = (e.0, e.1, e.2, Keeps-same known)
-unwritten m L n line new known fault.Read e = absurd e
-unwritten m L n line new known fault.Write e = absurd e
-unwritten m L n line new known fault.NoMemory e = (e, Keeps-same known)
+pub unwritten : (comments : Comments) (m : MemberValue) (L : List Timed) (n : ℕ) (line : List ℕ) (new : MemberValue) (known : Option (List ℕ))
+    (why : ReplayFault) → HasNoReport comments m L n line new why → HasNoWholeReport comments m L n line new known known why
+unwritten comments m L n line new known (fault.Line k) e = (e.0, e.1, e.2, Keeps-same known)
+unwritten comments m L n line new known fault.Read e = absurd e
+unwritten comments m L n line new known fault.Write e = absurd e
+unwritten comments m L n line new known fault.NoMemory e = (e, Keeps-same known)
 
 -- ---- what stays
 

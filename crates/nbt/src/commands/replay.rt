@@ -4,19 +4,20 @@ ghost use Rattle.nb_names.specs.NameText.{IsFaultOf};
 ghost use Rattle.nb_names.specs.Devices.{ShowsWriteFault};
 ghost use Rattle.nbt.specs.Replaying.{AddsEach, AddsName, AreTexts, EndsWith, IsNamesFault, IsRefusedName, IsReplay, ReplaysCapture};
 ghost use Rattle.nbt.specs.Input.{WasCut};
-ghost use Rattle.nbt.specs.Settings.{IsCapacity, IsInputLimit};
+ghost use Rattle.nbt.specs.Settings.{AreOptions, IsCapacity, IsInputLimit};
 
 use crate::fault::Fault;
 use crate::output::Output;
-use crate::settings::{capacity_of, input_limit_of, settings_with};
+use crate::settings::{capacity_of, options_of, settings_with};
 use clap::ArgMatches;
 use nb_member::{AddFault, LocalNames, Member, ReplayFault};
 use nb_names::{Counted, name_from_text};
 use std::alloc::Global;
 use std::io::{Read, Write};
 
-/// `nbt replay [--keys N] [--per-source N] [--input-limit BYTES] NAME..`: replays the input in a
-/// member with these names, and prints the report. A name that is repeated is passed over.
+/// `nbt replay [--keys N] [--per-source N] [--input-limit BYTES] [--comments] NAME..`: replays the
+/// input in a member with these names, and prints the report, with `--comments` the comments of the
+/// capture in it. A name that is repeated is passed over.
 ///
 /// # Errors
 ///
@@ -32,7 +33,7 @@ pub fn run_replay<R: Read, W: Write>(
     output: &mut Output<W>,
 ) -> Result<(), Fault>
     ensures printed { IsReplay (ReplaysCapture (IsCapacity matches.now)
-        (IsInputLimit matches.now) (AreTexts matches.now)
+        (AreOptions matches.now) (AreTexts matches.now)
         (R.remaining input.old.inner) (R.remaining input.new.inner)
         (W.contents output.old.inner) (W.contents output.new.inner))
         (IsCapacity matches.now) (AreTexts matches.now)
@@ -51,7 +52,7 @@ pub fn run_replay<R: Read, W: Write>(
     };
     let names = names_of(alloc, words)?;
     let member = Member::new(alloc, settings_with(capacity), names);
-    output.replay(alloc, member, input, input_limit_of(matches))
+    output.replay(alloc, member, input, options_of(matches))
 }
 
 /// What the program answers where a replay answers this.

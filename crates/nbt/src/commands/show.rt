@@ -3,22 +3,23 @@ ghost use Rattle.std.specs.Prelude.{◌≡◌, ◌++◌, ℕ, List, OnOk, IfErr,
 ghost use Rattle.std.specs.Io.KnownBytes.{Appends, Consumes};
 ghost use Rattle.nb_names.specs.Devices.{GrowTo, ShowsUnread, ShowsWriteFault};
 ghost use Rattle.nb_member.specs.Capture.{Reads};
-ghost use Rattle.nbt.specs.Settings.{IsInputLimit};
+ghost use Rattle.nbt.specs.Settings.{AreOptions};
+ghost use Rattle.nb_member.specs.declared.capture_options.CaptureOptions.{CaptureOptions};
 ghost use Rattle.nbt.specs.Showing.{IsUnshown, Shows, ShowsLine, ShowsSaid, ShowsValue};
 
 use crate::fault::Fault;
 use crate::lines::said_by;
 use crate::output::Output;
-use crate::settings::input_limit_of;
+use crate::settings::options_of;
 use clap::ArgMatches;
-use nb_member::{Line, LineReadFault, LineRoom, next_from};
+use nb_member::{Comments, Line, LineReadFault, LineRoom, next_from, push_comment};
 use nb_names::{Counted, NoMemory};
 use nb_text::push_packet;
 use std::alloc::Global;
 use std::io::{Read, Write};
 
-/// `nbt show [--input-limit BYTES]`: shows the packets of the input in order, each line as it
-/// comes.
+/// `nbt show [--input-limit BYTES] [--comments]`: shows the packets of the input in order, each
+/// line as it comes, with `--comments` the comments between them.
 ///
 /// # Errors
 ///
@@ -31,23 +32,25 @@ pub fn run_show<R: Read, W: Write>(
     input: &mut Counted<R>,
     output: &mut Output<W>,
 ) -> Result<(), Fault>
-    // How many bytes the input may have, those that were read, and what was printed of them.
-    ensures printed { (most : ℕ) × IsInputLimit matches.now most × ((bytes : List ℕ) ×
+    // What the options ask, the bytes that were read, and what was printed of them.
+    ensures printed { (options : CaptureOptions) × AreOptions matches.now options ×
+        ((bytes : List ℕ) ×
         Consumes (R.remaining input.old.inner) (R.remaining input.new.inner) bytes ×
-        ((result ≡ Err Fault.Read → ShowsUnread most bytes input.old.counts input.new.counts) ×
-        Shows most bytes (R.remaining input.new.inner)
+        ((result ≡ Err Fault.Read →
+        ShowsUnread options.most bytes input.old.counts input.new.counts) ×
+        Shows options.comments options.most bytes (R.remaining input.new.inner)
         (W.contents output.old.inner) (W.contents output.new.inner) result)) }
     ensures why { IfErr result (λ fault. fault ≡ Fault.Write →
         ShowsWriteFault output.old.counts output.new.counts) }
 {
-    let most = input_limit_of(matches);
-    let mut room = LineRoom::within(alloc, most);
+    let options = options_of(matches);
+    let mut room = LineRoom::within(alloc, options.most);
     let mut number = 0;
     'lines: loop {
         match next_from(&mut room, input) {
             Ok(Some(line)) => {
                 number += 1;
-                show_line(alloc, number, line, output)?;
+                show_line(alloc, number, line, options.comments, output)?;
             }
             Ok(None) => return Ok(()),
             Err(LineReadFault::TooLong) => return Err(Fault::Line(number + 1)),
@@ -62,41 +65,62 @@ fn show_line<W: Write>(
     alloc: Global,
     number: usize,
     line: &[u8],
+    comments: Comments,
     output: &mut Output<W>,
 ) -> Result<(), Fault>
-    ensures shown { OnOk result ((text : List ℕ) × ShowsLine number line.now text ×
+    ensures shown { OnOk result ((text : List ℕ) × ShowsLine comments number line.now text ×
         Appends (W.contents output.old.inner) (W.contents output.new.inner) text) }
-    ensures fault { IfErr result (IsUnshown number line.now
+    ensures fault { IfErr result (IsUnshown comments number line.now
         (W.contents output.old.inner) (W.contents output.new.inner)) }
     ensures grow { GrowTo output.old.counts output.new.counts }
     ensures why { IfErr result (λ fault. fault ≡ Fault.Write →
         ShowsWriteFault output.old.counts output.new.counts) }
 {
     let said = said_by(alloc, number, line)?;
-    show_said(alloc, number, &said, output)
+    show_said(alloc, number, line, &said, comments, output)
 }
 
-/// Shows what a line says, if anything, whole or not at all.
+/// Shows what a line says, or its comment, whole or not at all.
 fn show_said<W: Write>(
     alloc: Global,
     number: usize,
+    line: &[u8],
     said: &Option<Line>,
+    comments: Comments,
     output: &mut Output<W>,
 ) -> Result<(), Fault>
-    ensures shown { OnOk result ((text : List ℕ) × ShowsSaid number said.now text ×
+    ensures shown { OnOk result ((text : List ℕ) ×
+        ShowsSaid comments number line.now said.now text ×
         Appends (W.contents output.old.inner) (W.contents output.new.inner) text) }
-    ensures fault { IfErr result (λ fault. (l : List ℕ) → Reads l (Ok said.now) →
-        IsUnshown number l (W.contents output.old.inner) (W.contents output.new.inner) fault) }
+    ensures fault { IfErr result (λ fault. Reads line.now (Ok said.now) →
+        IsUnshown comments number line.now
+        (W.contents output.old.inner) (W.contents output.new.inner) fault) }
     ensures grow { GrowTo output.old.counts output.new.counts }
     ensures why { IfErr result (λ fault. fault ≡ Fault.Write →
         ShowsWriteFault output.old.counts output.new.counts) }
 {
-    let Some(said) = said else {
-        return Ok(());
-    };
     let mut text = String::new(alloc);
-    push_line(alloc, number, said, &mut text)?;
+    push_said(alloc, number, line, said, comments, &mut text)?;
     output.print(text.as_bytes())
+}
+
+/// Adds the text of what a line says, or of its comment.
+fn push_said(
+    alloc: Global,
+    number: usize,
+    line: &[u8],
+    said: &Option<Line>,
+    comments: Comments,
+    text: &mut String,
+) -> Result<(), NoMemory>
+    ensures { OnOk result ((shown : List ℕ) ×
+        ShowsSaid comments number line.now said.now shown ×
+        (string_bytes text.new ≡ string_bytes text.old ++ shown)) }
+{
+    match said {
+        Some(said) => push_line(alloc, number, said, text),
+        None => push_comment(comments, line, text),
+    }
 }
 
 /// Adds the text of what a line says.

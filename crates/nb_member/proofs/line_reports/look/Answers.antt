@@ -19,8 +19,8 @@ returns-clause-acted c =
     let keys = c.tick.result.keys in
     IfOk-weaker c.dropped_line.result (λ text. string_bytes text ≡ numbered n (codes "dropped " ++ decimal keys))
     (λ text. (L : List Timed) → StandsOver m L → ReportsValue m L n (Tick now) new (string_bytes text))
-    (λ text is L s l h. subst (λ (bytes : List ℕ). ReportsLine m L n l new bytes) (sym is)
-    (looked m L n now keys new l s (c.a_member_drops_what_the_clock_ends.ensures m L now s) c.tick.ensures.dropped c.tick.ensures.count h))
+    (λ text is L s comments l h. subst (λ (bytes : List ℕ). ReportsLine comments m L n l new bytes) (sym is)
+    (looked comments m L n now keys new l s (c.a_member_drops_what_the_clock_ends.ensures m L now s) c.tick.ensures.dropped c.tick.ensures.count h))
     c.dropped_line.ensures
 
 pub returns-clause-fault : goal.returns-clause-fault
@@ -31,7 +31,7 @@ returns-clause-fault c =
     let now = c.args.now in
     let keys = c.tick.result.keys in
     always_on_err c.dropped_line.result
-    (λ L s l h. inr (
+    (λ L s comments l h. inr (
       numbered n (codes "dropped " ++ decimal keys),
-      looked m L n now keys new l s (c.a_member_drops_what_the_clock_ends.ensures m L now s) c.tick.ensures.dropped c.tick.ensures.count h,
+      looked comments m L n now keys new l s (c.a_member_drops_what_the_clock_ends.ensures m L now s) c.tick.ensures.dropped c.tick.ensures.count h,
     ))

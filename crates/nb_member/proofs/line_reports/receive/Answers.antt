@@ -15,8 +15,8 @@ returns-then-port-ne138-clause-acted c =
     let n = c.args.number in
     IfOk-weaker c.passed_line.result (λ text. string_bytes text ≡ numbered n (codes "passed"))
     (λ text. (L : List Timed) → StandsOver m L → ReportsValue m L n (Packet c.args.port c.args.moment c.args.payload.now) m (string_bytes text))
-    (λ text is L s l h. subst (λ (bytes : List ℕ). ReportsLine m L n l m bytes) (sym is)
-    (passed_by m L n c.args.port c.args.moment c.args.payload.now l s c.if-port-ne138.true h))
+    (λ text is L s comments l h. subst (λ (bytes : List ℕ). ReportsLine comments m L n l m bytes) (sym is)
+    (passed_by comments m L n c.args.port c.args.moment c.args.payload.now l s c.if-port-ne138.true h))
     c.passed_line.ensures
 
 pub returns-clause-acted : goal.returns-clause-acted

@@ -21,7 +21,7 @@ returns-then-lacked_memory-clause-fault c =
     let payload = c.args.payload.now in
     let same = c.a_member_does_what_is_said.ensures.refused m new moment payload (Table NoMemory)
     (subst (λ (r : Result Outcome MemberFault). Takes m moment payload new r) (c.lacked_memory.ensures.lacked c.if-lacked_memory.true) c.take-taken.ensures) in
-    λ L s l h. inl same
+    λ L s comments l h. inl same
 
 pub returns-then-lacked_memory-clause-kept : goal.returns-then-lacked_memory-clause-kept
 returns-then-lacked_memory-clause-kept c =
@@ -38,10 +38,10 @@ returns-clause-acted c =
     let law = c.a_member_does_what_is_said.ensures in
     IfOk-weaker c.taken_line.result (λ text. string_bytes text ≡ numbered n (result_text result))
     (λ text. (L : List Timed) → StandsOver m L → ReportsValue m L n (Packet 138 moment payload) new (string_bytes text))
-    (λ text is L s l h.
+    (λ text is L s comments l h.
     let says = law.says m new L moment payload result s c.take-taken.ensures in
     let does = law.does m new L moment payload result says.0 s says.1 c.take-taken.ensures (c.lacked_memory.ensures.had c.if-lacked_memory.false) in
-    subst (λ (bytes : List ℕ). ReportsLine m L n l new bytes) (sym is) (took m L n moment payload new result says.0 l says.1 does h))
+    subst (λ (bytes : List ℕ). ReportsLine comments m L n l new bytes) (sym is) (took comments m L n moment payload new result says.0 l says.1 does h))
     c.taken_line.ensures
 
 pub returns-clause-fault : goal.returns-clause-fault
@@ -54,10 +54,10 @@ returns-clause-fault c =
     let result = c.take-taken.result in
     let law = c.a_member_does_what_is_said.ensures in
     always_on_err c.taken_line.result
-    (λ L s l h.
+    (λ L s comments l h.
     let says = law.says m new L moment payload result s c.take-taken.ensures in
     let does = law.does m new L moment payload result says.0 s says.1 c.take-taken.ensures (c.lacked_memory.ensures.had c.if-lacked_memory.false) in
-    inr (numbered n (result_text result), took m L n moment payload new result says.0 l says.1 does h))
+    inr (numbered n (result_text result), took comments m L n moment payload new result says.0 l says.1 does h))
 
 pub returns-clause-kept : goal.returns-clause-kept
 returns-clause-kept c =

@@ -11,8 +11,8 @@ returns c =
     let bytes = c.as_slice.ensures ∙ c.in_ok-bytes.ensures.written in
     on_ok_weaker c.push_digits.result
     (λ added.
-      added ∙ ap (λ (t : List ℕ). t ++ digits_text c.as_slice.result.now) c.in_ok-push_str.ensures.bytes
-      ∙ append_assoc old (codes " error ") (digits_text c.as_slice.result.now)
-      ∙ ap (λ (b : List ℕ). old ++ (codes " error " ++ digits_text b)) bytes
-      ∙ ap (λ (e : Option ErrorPacket). old ++ error_text e) (sym c.in-Some.is))
+    added ∙ ap (λ (t : List ℕ). t ++ digits_text c.as_slice.result.now) c.in_ok-push_str.ensures.bytes
+    ∙ append_assoc old (codes " error ") (digits_text c.as_slice.result.now)
+    ∙ ap (λ (b : List ℕ). old ++ (codes " error " ++ digits_text b)) bytes
+    ∙ ap (λ (e : Option ErrorPacket). old ++ error_text e) (sym c.in-Some.is))
     c.push_digits.ensures

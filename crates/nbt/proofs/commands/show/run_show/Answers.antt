@@ -8,7 +8,7 @@ use Rattle.nbt.proofs.commands.show.run_show.Goals as goal
 
 pub lines-init : goal.lines-init
 lines-init g c = record {
-  showing = first_turn c.input_limit_of-most.result _ _ _ c.within-room.result c.within-room.ensures;
+  showing = first_turn _ c.options_of-options.result.most _ _ _ c.within-room.result c.within-room.ensures;
   grow = record { empty = omega arith; interrupted = omega arith; failed = omega arith };
 }
 
@@ -34,7 +34,7 @@ lines-preserved g c =
     let e = c.in_ok-show_line-in-Ok-Some in
     let r = of_line _ _ _ _ _ _ c.next_from.result _ c.in-Ok-Some.line c.in-Ok-Some.is c.in-Ok-Some.field-0-is c.next_from.follows.holds-at-none in
     record {
-      showing = next_turn _ _ _ _ _ _ _ _ _ _ _ _ c.in-Ok-Some.line.now e.ensures.shown.0 c.lines.number c.lines.invariant.showing r
+      showing = next_turn _ _ _ _ _ _ _ _ _ _ _ _ _ c.in-Ok-Some.line.now e.ensures.shown.0 c.lines.number c.lines.invariant.showing r
           e.ensures.shown.1 e.ensures.shown.2;
       grow = grows_on _ c.lines.output.counts _ c.lines.invariant.grow e.ensures.grow;
     }
@@ -44,36 +44,36 @@ returns-in_err-show_line-in-Ok-Some-clause-printed g c =
     let p = err_from_is_err_and c.from_residual.result c.from_residual.ensures.1 in
     let e = c.in_err-show_line-in-Ok-Some in
     let r = of_line _ _ _ _ _ _ c.next_from.result _ c.in-Ok-Some.line c.in-Ok-Some.is c.in-Ok-Some.field-0-is c.next_from.follows.holds-at-none in
-    rw (p.1, p.2) (c.input_limit_of-most.result, c.input_limit_of-most.ensures, ends_at_line _ _ _ _ _ _ _ _ _ _ _ _ c.in-Ok-Some.line.now c.lines.number _ c.lines.invariant.showing r e.ensures.fault)
+    rw (p.1, p.2) (c.options_of-options.result, c.options_of-options.ensures, ends_at_line _ _ _ _ _ _ _ _ _ _ _ _ _ c.in-Ok-Some.line.now c.lines.number _ c.lines.invariant.showing r e.ensures.fault)
 
 pub returns-in-Ok-None-clause-printed : goal.returns-in-Ok-None-clause-printed
 returns-in-Ok-None-clause-printed g c = (
-  c.input_limit_of-most.result,
-  c.input_limit_of-most.ensures,
-  ends_at_end _ _ _ _ _ _ _ _ _ _ _ c.lines.number c.lines.invariant.showing
+  c.options_of-options.result,
+  c.options_of-options.ensures,
+  ends_at_end _ _ _ _ _ _ _ _ _ _ _ _ c.lines.number c.lines.invariant.showing
       (of_end _ _ _ _ _ _ c.next_from.result _ c.in-Ok-None.is c.in-Ok-None.field-0-is c.next_from.follows.holds-at-none),
 )
 
 pub returns-in-Err-TooLong-clause-printed : goal.returns-in-Err-TooLong-clause-printed
 returns-in-Err-TooLong-clause-printed g c = (
-  c.input_limit_of-most.result,
-  c.input_limit_of-most.ensures,
-  ends_too_long _ _ _ _ _ _ _ _ _ _ _ c.lines.number c.lines.invariant.showing
+  c.options_of-options.result,
+  c.options_of-options.ensures,
+  ends_too_long _ _ _ _ _ _ _ _ _ _ _ _ c.lines.number c.lines.invariant.showing
       (of_fault _ _ _ _ _ _ c.next_from.result _ _ c.in-Err-TooLong.is c.in-Err-TooLong.field-0-is c.next_from.follows.holds-at-none),
 )
 
 pub returns-in-Err-Read-clause-printed : goal.returns-in-Err-Read-clause-printed
 returns-in-Err-Read-clause-printed g c = (
-  c.input_limit_of-most.result,
-  c.input_limit_of-most.ensures,
-  ends_unread _ _ _ _ _ _ _ _ _ _ _ c.lines.number c.lines.invariant.showing
+  c.options_of-options.result,
+  c.options_of-options.ensures,
+  ends_unread _ _ _ _ _ _ _ _ _ _ _ _ c.lines.number c.lines.invariant.showing
       (of_fault _ _ _ _ _ _ c.next_from.result _ _ c.in-Err-Read.is c.in-Err-Read.field-0-is c.next_from.follows.holds-at-none),
 )
 
 pub returns-in-Err-NoMemory-clause-printed : goal.returns-in-Err-NoMemory-clause-printed
 returns-in-Err-NoMemory-clause-printed g c = (
-  c.input_limit_of-most.result,
-  c.input_limit_of-most.ensures,
-  ends_unheld _ _ _ _ _ _ _ _ _ _ _ c.lines.number c.lines.invariant.showing
+  c.options_of-options.result,
+  c.options_of-options.ensures,
+  ends_unheld _ _ _ _ _ _ _ _ _ _ _ _ c.lines.number c.lines.invariant.showing
       (of_fault _ _ _ _ _ _ c.next_from.result _ _ c.in-Err-NoMemory.is c.in-Err-NoMemory.field-0-is c.next_from.follows.holds-at-none),
 )

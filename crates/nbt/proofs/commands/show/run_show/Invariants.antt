@@ -5,7 +5,7 @@ use Rattle.nbt.proofs.commands.show.run_show.Given as goal
 
 abbrev pub invariant-lines : goal.invariant-lines
 invariant-lines g l = record {
-  showing : IsShowing l.most (g.R.Read.remaining l.fn.input.inner) (g.R.Read.remaining l.input.inner) l.fn.input.counts l.input.counts
+  showing : IsShowing l.options.comments l.options.most (g.R.Read.remaining l.fn.input.inner) (g.R.Read.remaining l.input.inner) l.fn.input.counts l.input.counts
       (g.W.Write.contents l.fn.output.inner) (g.W.Write.contents l.output.inner) l.room l.number;
   grow : GrowTo l.fn.output.counts l.output.counts;
 }

@@ -9,9 +9,9 @@ returns-clause-shown g c =
 
 pub returns-clause-fault : goal.returns-clause-fault
 returns-clause-fault g c =
-    IfErr-weaker c.show_said.result _ _ (λ fault unshown. unshown c.args.line.now c.in_ok-said.ensures.said) c.show_said.ensures.fault
+    IfErr-weaker c.show_said.result _ _ (λ fault unshown. unshown c.in_ok-said.ensures.said) c.show_said.ensures.fault
 
 pub returns-in_err-said-clause-fault : goal.returns-in_err-said-clause-fault
 returns-in_err-said-clause-fault g c =
     let p = err_from_is_err_and c.from_residual.result c.from_residual.ensures.1 in
-    rw (p.1, p.2) (unread_line c.args.number c.args.line.now _ _ c.in_err-said.ensures.fault)
+    rw (p.1, p.2) (unread_line _ c.args.number c.args.line.now _ _ c.in_err-said.ensures.fault)

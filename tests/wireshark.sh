@@ -357,6 +357,9 @@ office() {
     count $? 'examples/office.sh makes examples/office.pcap'
     pcap2cap --bare --quiet "$example.pcap" | grep -v '^tick' | cmp - "$room/lines"
     count $? 'examples/office.pcap has the packets that were built'
+    pcap2cap --quiet "$example.pcap" | nbt show 2>"$room/errors" | head -n 4 |
+        diff <(sed -n '/^```text$/,/^```$/p' "$here/../README.md" | sed '1d;$d') -
+    count $? 'README.md has the first packet of examples/office.pcap'
 }
 
 part built built

@@ -1,6 +1,6 @@
 #!/usr/bin/env bash
-# The manual pages: what mandoc says of them, where mandoc is installed, and whether they have each command and option of
-# the built program's and the tools' help; what bash and zsh offer; what `make install` puts where, and what `make
+# The manual pages: what mandoc says of them, where mandoc is installed, and whether they have each command, option and
+# refusal of the built program's and the tools' help; what bash and zsh offer; what `make install` puts where, and what `make
 # uninstall` leaves; the Debian package; the places that docs/CHANGING.md names. Usage: tests/manual.sh [PROGRAM]; its last
 # line is 'N passed, M failed, K skipped'.
 set -uo pipefail
@@ -35,6 +35,22 @@ words() {
             count $? "man/nbt.1 has the option $option of $command"
         done
     done
+}
+
+# What the help of a command says of a refusal, man/nbt.1 says too.
+refusals() {
+    local command line
+    for command in $(help_of | sed -n '/^Commands:/,/^$/s/^  \([a-z]*\) .*/\1/p' | grep -vx help); do
+        help_of "$command" | sed '1,/^What it may say/d'
+    done | sort -u >"$room/refusals"
+    sed 's/\\e/\\/g' "$page" | awk -F '"' '
+        /^\./ && text { print "  " text; text = "" }
+        /^\.It Li "/ { text = $2 ":"; next }
+        text { text = text " " $0 }' >"$room/advice"
+    while IFS= read -r line; do
+        grep -qxF -e "$line." "$room/advice"
+        count $? "man/nbt.1 has the line: $line"
+    done <"$room/refusals"
 }
 
 # Each file and folder that docs/CHANGING.md names is there.
@@ -188,6 +204,7 @@ package_lint() {
 
 if command -v mandoc >/dev/null; then part mandoc lint; else lacks mandoc mandoc; fi
 part words words
+part refusals refusals
 part places places
 part bash completion bash nbt.bash
 if command -v zsh >/dev/null; then part zsh completion zsh _nbt; else lacks zsh zsh; fi

@@ -235,6 +235,7 @@ memory() {
     remembers name --bytes "${fred}00"
     remembers name
     remembers name --help
+    remembers help 'bad text 4'
     remembers --help
     remembers
     remembers replay

@@ -165,7 +165,7 @@ def zsh_tool(name):
 
 def zsh(commands):
     lines = [quoted('%s:%s' % (command.name, command.about)) for command in commands]
-    lines.append(quoted('help:Print the help of a command'))
+    lines.append(quoted('help:Print the help of a command, or of a refusal'))
     return ZSH.format(written=WRITTEN, tool_names=' '.join(TOOLS), commands='\n'.join('        ' + line for line in lines),
                       options='\n'.join(map(zsh_command, commands)), tools='\n'.join(map(zsh_tool, TOOLS)))
 

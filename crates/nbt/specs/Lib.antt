@@ -19,3 +19,4 @@ pub mod Listing
 pub mod Code
 pub mod Showing
 pub mod Built
+pub mod Refusals

@@ -1,10 +1,13 @@
-//! What the help prints after a command's options. `{n}` is clap's line break.
+//! What the help prints after a command's options; [`crate::advice`] adds what may be refused.
+//! `{n}` is clap's line break.
 
 /// How the program ends.
 pub const STATUSES: &str =
     "Exit status: 0 all was done, 1 the input was refused, 2 the command line was bad, 3 a \
      device failed or memory ran out.{n}With 1 and 3 one line, `nbt: ` and the reason, goes \
-     to standard error.";
+     to standard error.{n}`nbt help REASON`, as in `nbt help 'bad text 4'`, prints what it means \
+     and what to do \
+     then.";
 
 /// The form of a name, and how the program ends.
 pub const NAME_HELP: &str =
@@ -14,7 +17,7 @@ pub const NAME_HELP: &str =
      hexadecimal digits.{n}{n}Example: nbt name 'FRED<20>.NETBIOS.COM'{n}{n}Exit status: 0 \
      all was done, 1 the value was refused, 2 the command line was bad, 3 a device failed or \
      memory{n}ran out. With 1 and 3 one line, `nbt: ` and the reason, goes to standard \
-     error.";
+     error.{n}{n}What it may say, and what to do then:";
 
 /// The lines of a capture, and how the program ends.
 pub const SHOW_HELP: &str =
@@ -24,7 +27,7 @@ pub const SHOW_HELP: &str =
      the word `empty`.{n}{n}Example: nbt build query 0001 'FRED<20>' | nbt show{n}{n}Exit \
      status: 0 all was shown, 1 a line is malformed, 2 the command line was bad, 3 a device \
      failed or memory{n}ran out. With 1 and 3 one line, `nbt: ` and the reason, goes to \
-     standard error, and the lines before it are shown.";
+     standard error, and the lines before it are shown.{n}{n}What it may say, and what to do then:";
 
 /// The packets that can be built, and how the program ends.
 pub const BUILD_HELP: &str =
@@ -39,7 +42,8 @@ pub const BUILD_HELP: &str =
      word{n}`empty`. Names are as `nbt name` takes them.{n}{n}Example: nbt build --broadcast \
      registration 0002 'FRED<20>' 300000 0000 10.0.0.5{n}{n}Exit status: 0 all was done, 1 \
      an argument was refused, 2 the command line was bad, 3 a device failed or{n}memory ran \
-     out. With 1 and 3 one line, `nbt: ` and the reason, goes to standard error.";
+     out. With 1 and 3 one line, `nbt: ` and the reason, goes to standard error.{n}{n}What it \
+     may say, and what to do then:";
 
 /// How a capture is replayed, and how the program ends.
 pub const REPLAY_HELP: &str =
@@ -55,7 +59,8 @@ pub const REPLAY_HELP: &str =
      packets of a sender come first.{n}{n}Example: nbt build group 10.0.0.5:138/0001 'JOE<00>' \
      'FRED<20>' 616263 2 | nbt replay 'FRED<20>'{n}{n}Exit status: 0 all was done, 1 a name was \
      refused or a line is malformed, 2 the command line was bad, 3 a device{n}failed or memory \
-     ran out. With 1 and 3 one line, `nbt: ` and the reason, goes to standard error.";
+     ran out. With 1 and 3 one line, `nbt: ` and the reason, goes to standard error.{n}{n}What \
+     it may say, and what to do then:";
 
 /// What is saved of a capture, and how the program ends.
 pub const SAVE_HELP: &str =
@@ -66,7 +71,7 @@ pub const SAVE_HELP: &str =
      nbt build group 10.0.0.5:138/0001 'JOE<00>' 'FRED<20>' 616263 2 | nbt save{n}{n}Exit \
      status: 0 all was done, 1 a line is malformed or there are too many keys, 2 the command \
      line was bad, 3 a device{n}failed or memory ran out. With 1 and 3 one line, `nbt: ` and the \
-     reason, goes to standard error.";
+     reason, goes to standard error.{n}{n}What it may say, and what to do then:";
 
 /// The tables that are joined, and how the program ends.
 pub const MERGE_HELP: &str =
@@ -76,7 +81,8 @@ pub const MERGE_HELP: &str =
      and for their join.{n}{n}Example: { nbt save < one; nbt save < other; } | nbt \
      merge{n}{n}Exit status: 0 all was done, 1 a line is no table, there is none, or there are \
      too many keys, 2 the command line was{n}bad, 3 a device failed or memory ran out. With 1 \
-     and 3 one line, `nbt: ` and the reason, goes to standard error.";
+     and 3 one line, `nbt: ` and the reason, goes to standard error.{n}{n}What it may say, and \
+     what to do then:";
 
 /// The tables whose keys are listed, and how the program ends.
 pub const LIST_HELP: &str =
@@ -86,11 +92,13 @@ pub const LIST_HELP: &str =
      KIND SOURCE DESTINATION DATA, a datagram of which all is known;{n}KEY partial KIND SOURCE \
      DESTINATION HELD/END RUNS PLACES, one of which HELD bytes of END are known (`?` where \
      no{n}fragment said how many), in so many runs, at PLACES: 0-4,8-12 are twelve but 4 to 7, - \
-     none; more PLACE after them{n}where data is promised to go on there or later;{n}KEY spoilt, one whose fragments contradict \
+     none; more PLACE after them{n}where data is promised to go on there or later;{n}KEY spoilt, \
+     one whose fragments contradict \
      each other.{n}All lines are judged before any table is joined.{n}{n}Example: { nbt save < \
      one; nbt save < other; } | nbt list{n}{n}Exit status: 0 all was done, 1 a line is no table, \
      there is none, or there are too many keys, 2 the command{n}line was bad, 3 a device failed \
-     or memory ran out. With 1 and 3 one line, `nbt: ` and the reason, goes to{n}standard error.";
+     or memory ran out. With 1 and 3 one line, `nbt: ` and the reason, goes to{n}standard \
+     error.{n}{n}What it may say, and what to do then:";
 
 /// The tables that are compared, and how the program ends.
 pub const AGREE_HELP: &str =
@@ -101,4 +109,4 @@ pub const AGREE_HELP: &str =
      agree{n}{n}Exit status: 0 the tables are equal, 1 they differ, or the input was \
      refused, 2 the command line was bad, 3 a device{n}failed or memory ran out. With 3, and \
      with 1 where the input was refused, one line, `nbt: ` and the reason, goes \
-     to{n}standard error.";
+     to{n}standard error.{n}{n}What it may say, and what to do then:";

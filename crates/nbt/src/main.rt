@@ -1,6 +1,7 @@
 //! `nbt`: NetBIOS packets on the command line.
 #![tactic(auto)]
 
+mod advice;
 mod clap_answer;
 mod command_line;
 mod commands;
@@ -13,6 +14,7 @@ mod lines;
 mod listing;
 mod output;
 mod program;
+mod refusals;
 mod saved;
 mod settings;
 mod status;

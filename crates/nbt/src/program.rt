@@ -6,7 +6,9 @@ ghost use Rattle.nb_names.specs.Devices.{ShowsWriteFault};
 ghost use Rattle.nbt.specs.FaultTexts.{status_after};
 ghost use Rattle.nbt.specs.CommandLine.{AreAlone, DoesRead};
 ghost use Rattle.nbt.specs.ClapAnswer.{Reports, answer_to};
+ghost use Rattle.nbt.specs.Refusals.{IsPrintFault};
 
+use crate::advice::{asked, helped_command, print_advice, refusal_lines};
 use crate::clap_answer::ClapAnswer;
 use crate::command_line::command;
 use crate::commands::agree::run_agree;
@@ -19,6 +21,7 @@ use crate::commands::save::run_save;
 use crate::commands::show::run_show;
 use crate::fault::Fault;
 use crate::output::Output;
+use crate::refusals::refusals;
 use crate::status::Status;
 use clap::{ArgMatches, Error};
 use nb_names::Counted;
@@ -31,7 +34,8 @@ use std::io::{Read, Write};
 /// `errors` as one line after `nbt: `; a fault in writing that line changes nothing. The status is
 /// 0 where all was done, 1 where input was refused or two tables differ, 2 where the command line
 /// was bad (with `clap`'s text on `errors`), 3 where a device failed or memory ran out. `clap`'s
-/// help and the version go to `output`, with status 0.
+/// help, with what the command may refuse, the line of a refusal after the word `help`, and the
+/// version go to `output`, with status 0.
 pub fn run<R: Read, W: Write, E: Write>(
     alloc: Global,
     words: &[String],
@@ -64,10 +68,13 @@ fn run_words<R: Read, W: Write, E: Write>(
     ensures usage { result ≡ Status.BadUsage →
         Keeps (W.contents output.old.inner) (W.contents output.new.inner) }
 {
+    if let Some(refusal) = asked(refusals(), words) {
+        return report(done(print_advice(alloc, refusal, output)), errors);
+    }
     match command(alloc) {
         Ok(command) => match command.try_get_matches_from(words) {
             Ok(matches) => report(run_command(alloc, &matches, input, output), errors),
-            Err(error) => report_unmatched(&error, output, errors),
+            Err(error) => report_unmatched(alloc, words, &error, output, errors),
         },
         Err(_) => report(Err(Fault::Memory), errors),
     }
@@ -131,6 +138,8 @@ pub fn report<E: Write>(outcome: Result<Status, Fault>, errors: &mut Output<E>) 
 /// The status where clap has no matches of the words. Its text goes to `output` where the help or
 /// the version is asked for, and to `errors` where the words are a bad command line.
 fn report_unmatched<W: Write, E: Write>(
+    alloc: Global,
+    words: &[String],
     error: &Error,
     output: &mut Output<W>,
     errors: &mut Output<E>,
@@ -139,17 +148,34 @@ fn report_unmatched<W: Write, E: Write>(
         (W.contents output.old.inner) (W.contents output.new.inner) }
 {
     match ClapAnswer::to(error.kind()) {
-        ClapAnswer::Asked => {
-            let shown = match write!(output, "{error}") {
-                Ok(()) => Ok(Status::Done),
-                Err(_) => Err(Fault::Write),
-            };
-            report(shown, errors)
-        }
+        ClapAnswer::Asked => report(done(print_help(alloc, words, error, output)), errors),
         ClapAnswer::Misused => {
             let _ = write!(errors, "{error}");
             Status::BadUsage
         }
         ClapAnswer::NoMemory => report(Err(Fault::Memory), errors),
+    }
+}
+
+/// Prints clap's help or the version, and after the help of a command what it may refuse.
+///
+/// # Errors
+///
+/// [`Fault::Memory`] where memory ran out; nothing is printed then. [`Fault::Write`] where the
+/// output failed.
+fn print_help<W: Write>(
+    alloc: Global,
+    words: &[String],
+    error: &Error,
+    output: &mut Output<W>,
+) -> Result<(), Fault>
+    ensures fault { IfErr result IsPrintFault }
+    ensures err { IfErr result (λ fault. fault ≢ Fault.Write →
+        Keeps (W.contents output.old.inner) (W.contents output.new.inner)) }
+{
+    let lines = refusal_lines(alloc, refusals(), helped_command(words))?;
+    match write!(output, "{error}") {
+        Ok(()) => output.print(lines.as_bytes()),
+        Err(_) => Err(Fault::Write),
     }
 }

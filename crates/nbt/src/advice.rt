@@ -1,0 +1,147 @@
+//! `nbt help REFUSAL`, and what the help of a command says of its refusals.
+ghost use Rattle.std.specs.Prelude.{◌≡◌, ◌⊎◌, ◌++◌, ◌∷◌, [], Contains, IfErr, IfNone, IfOk, IfSome, List, OnErr, OnOk, codes, map, string_bytes, ℕ};
+ghost use Rattle.std.specs.Io.KnownBytes.{Appends};
+ghost use Rattle.nb_names.specs.Devices.{AppendsFront};
+ghost use Rattle.nbt.specs.Refusals.{HasNone, IsFirstWith, IsPrintFault, advice_line, lines_by, lines_of_all};
+
+use crate::fault::Fault;
+use crate::output::Output;
+use crate::refusals::Refusal;
+use nb_names::NoMemory;
+use std::alloc::Global;
+use std::io::Write;
+
+/// The refusal of which help is asked for, where the words are the program's name, `help` and the
+/// text of one of these refusals.
+pub fn asked<'a>(refusals: &'a [Refusal], words: &[String]) -> Option<&'a Refusal>
+    ensures known { IfSome result (λ refusal. Contains refusals.now refusal.now) }
+    ensures unknown { (program text : List ℕ)
+        → map string_bytes words.now ≡ program ∷ codes "help" ∷ text ∷ []
+        → IfNone result (HasNone text refusals.now) }
+    ensures same { (program text : List ℕ)
+        → map string_bytes words.now ≡ program ∷ codes "help" ∷ text ∷ []
+        → HasNone text refusals.now
+        ⊎ IfSome result (λ refusal. refusal.now.words.now ≡ text) }
+{
+    match words {
+        [_, help, text] if help.as_str() == "help" => refusal_of(refusals, text.as_str()),
+        _ => None,
+    }
+}
+
+/// The refusal with this text: the words alone, or followed by a number, or after a colon or
+/// `refused`, as in `nbt: full` and `refused source name: truncated 14`.
+fn refusal_of<'a>(refusals: &'a [Refusal], text: &str) -> Option<&'a Refusal>
+    ensures known { IfSome result (λ refusal. Contains refusals.now refusal.now) }
+    ensures unknown { IfNone result (HasNone text.now refusals.now) }
+    ensures same { HasNone text.now refusals.now
+        ⊎ IfSome result (λ refusal. refusal.now.words.now ≡ text.now) }
+{
+    match with_words(refusals, text) {
+        Some(refusal) => Some(refusal),
+        None => with_words(refusals, words_of(text)),
+    }
+}
+
+/// The words of a refusal's text: what follows its last colon or `refused`, without the number at
+/// its end.
+fn words_of(text: &str) -> &str {
+    after(after(text, "refused "), ": ")
+        .trim_end_matches(|character: char| character.is_ascii_digit())
+        .trim_end_matches(' ')
+}
+
+/// What follows the last of these marks in the text; all of it, where there is none.
+fn after<'a>(text: &'a str, mark: &str) -> &'a str {
+    match text.rsplit_once(mark) {
+        Some((_, last)) => last,
+        None => text,
+    }
+}
+
+/// The first of these refusals that has these words.
+fn with_words<'a>(refusals: &'a [Refusal], words: &str) -> Option<&'a Refusal>
+    ensures { IsFirstWith words.now refusals.now result }
+{
+    refusals.iter().find(|refusal| refusal.words == words)
+}
+
+/// Prints what is said of a refusal, as a line.
+///
+/// # Errors
+///
+/// [`Fault::Memory`] where memory ran out; nothing is printed then. [`Fault::Write`] where the
+/// output failed.
+pub fn print_advice<W: Write>(
+    alloc: Global,
+    refusal: &Refusal,
+    output: &mut Output<W>,
+) -> Result<(), Fault>
+    ensures printed { OnOk result (Appends
+        (W.contents output.old.inner) (W.contents output.new.inner) (advice_line refusal.now)) }
+    ensures err { OnErr result (AppendsFront
+        (W.contents output.old.inner) (W.contents output.new.inner) (advice_line refusal.now)) }
+    ensures fault { IfErr result IsPrintFault }
+{
+    let mut line = String::new(alloc);
+    push_advice(refusal, &mut line)?;
+    output.print(line.as_bytes())
+}
+
+/// A line, after two spaces, for each of these refusals that the command may have.
+///
+/// # Errors
+///
+/// `NoMemory` where memory ran out.
+pub fn refusal_lines(alloc: Global, refusals: &[Refusal], command: &str) -> Result<String, NoMemory>
+    ensures { IfOk result (λ lines. string_bytes lines ≡ lines_of_all command.now refusals.now) }
+{
+    let mut lines = String::new(alloc);
+    push_all(command, refusals, &mut lines)?;
+    Ok(lines)
+}
+
+/// Adds a line, after two spaces, for each of these refusals that the command may have.
+fn push_all(command: &str, refusals: &[Refusal], lines: &mut String) -> Result<(), NoMemory>
+    ensures { OnOk result (string_bytes lines.new
+        ≡ string_bytes lines.old ++ lines_of_all command.now refusals.now) }
+{
+    for refusal in refusals {
+        push_by(command, refusal, lines)?;
+    }
+    Ok(())
+}
+
+/// Adds the line of a refusal after two spaces, if the command may have it.
+fn push_by(command: &str, refusal: &Refusal, lines: &mut String) -> Result<(), NoMemory>
+    ensures { OnOk result (string_bytes lines.new
+        ≡ string_bytes lines.old ++ lines_by command.now refusal.now) }
+{
+    if refusal.by.contains(&command) {
+        lines.push_str("  ")?;
+        push_advice(refusal, lines)?;
+    }
+    Ok(())
+}
+
+/// Adds what is said of a refusal, as a line.
+fn push_advice(refusal: &Refusal, text: &mut String) -> Result<(), NoMemory>
+    ensures { OnOk result
+        (string_bytes text.new ≡ string_bytes text.old ++ advice_line refusal.now) }
+{
+    text.push_str(refusal.words)?;
+    text.push_str(refusal.number)?;
+    text.push_str(": ")?;
+    text.push_str(refusal.advice)?;
+    text.push_str("\n")?;
+    Ok(())
+}
+
+/// The command whose help the words ask for; another word, where they ask for no command's.
+pub fn helped_command(words: &[String]) -> &str {
+    match words {
+        [_, help, command, ..] if help.as_str() == "help" => command.as_str(),
+        [_, command, ..] => command.as_str(),
+        _ => "",
+    }
+}

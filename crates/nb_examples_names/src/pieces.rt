@@ -56,7 +56,10 @@ fn bytes_added(alloc: Global, call: &str, words: &mut Words<'_>) -> Result<Strin
     let front = words.word()?;
     let bytes = words.bytes(alloc)?;
     let is_data = call == "push_data";
-    let (said, text) = alone(alloc, || with_bytes(alloc, front, is_data, bytes.as_slice()))?;
+    let (said, text) = alone(
+        alloc,
+        || with_bytes(alloc, front, is_data, bytes.as_slice()),
+    )?;
     told(said, text)
 }
 

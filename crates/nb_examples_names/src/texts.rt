@@ -1,8 +1,7 @@
 //! Texts of names, of bytes and of lines.
 
-use crate::devices;
-use crate::pieces;
 use crate::reading::domain_of;
+use crate::{devices, pieces};
 use nb_examples_words::byte_text::{bytes_of, text_of_bytes};
 use nb_examples_words::fault::ExampleFault;
 use nb_examples_words::marks::{alone, begin, end, told};
@@ -19,7 +18,12 @@ pub fn answer(alloc: Global, call: &str, words: &mut Words<'_>) -> Result<String
         "name_text" => name_written(alloc, words),
         "domain_text" => domain_written(alloc, words),
         "push_name" => name_added(alloc, words),
-        "digits" | "data" | "push_digits" | "push_data" | "push_word" | "push_address"
+        "digits"
+        | "data"
+        | "push_digits"
+        | "push_data"
+        | "push_word"
+        | "push_address"
         | "push_domain" => pieces::answer(alloc, call, words),
         "spelling" => spelled(alloc, words),
         "split_line" => line_split(alloc, words),

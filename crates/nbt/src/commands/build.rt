@@ -1,5 +1,5 @@
 //! `nbt build`: packets as the lines of a capture.
-ghost use Rattle.std.specs.Prelude.{◌≡◌, ◌≢◌, [], ◌∷◌, map, option_map, unwrap_or, codes, IfOk, IfErr, OnOk, string_bytes};
+ghost use Rattle.std.specs.Prelude.{◌≡◌, ◌≢◌, ◌++◌, Bool, [], map, option_map, unwrap_or, codes, IfOk, IfErr, OnOk, string_bytes};
 ghost use Rattle.std.specs.Io.KnownBytes.{Appends, Keeps};
 ghost use Rattle.clap.specs.Words.{found_of, matched_of, raw_values};
 ghost use Rattle.nb_names.specs.Devices.{AppendsFront, ShowsWriteFault};
@@ -89,9 +89,9 @@ fn build(alloc: Global, what: &str, words: &[&str], broadcast: bool) -> Result<S
             service_line(alloc, what, words, broadcast)
         }
         "request" | "message" | "positive" | "negative" | "retarget" | "keepalive" => {
-            session_line(alloc, what, words, broadcast)
+            session_line(alloc, what, words)
         }
-        _ => datagram_lines(alloc, what, words, broadcast),
+        _ => datagram_lines(alloc, what, words),
     }
 }
 
@@ -110,14 +110,9 @@ fn service_line(
 }
 
 /// The line of a session packet.
-fn session_line(
-    alloc: Global,
-    what: &str,
-    words: &[&str],
-    broadcast: bool,
-) -> Result<String, BuildFault>
-    ensures { IfOk result (λ lines. AreLinesOf broadcast what.now (map (λ w. w.now) words.now)
-        (string_bytes lines)) }
+fn session_line(alloc: Global, what: &str, words: &[&str]) -> Result<String, BuildFault>
+    ensures { IfOk result (λ lines. (broadcast : Bool) →
+        AreLinesOf broadcast what.now (map (λ w. w.now) words.now) (string_bytes lines)) }
 {
     let packet = session::build(alloc, what, words)?;
     Ok(line(alloc, 139, &packet)?)
@@ -125,23 +120,40 @@ fn session_line(
 
 /// The lines of the packets of a datagram, or of one that is no fragment.
 fn datagram_lines(alloc: Global, what: &str, words: &[&str]) -> Result<String, BuildFault>
-    ensures { IfOk result (λ lines. AreLines (string_bytes lines)) }
+    ensures { IfOk result (λ lines. (broadcast : Bool) →
+        AreLinesOf broadcast what.now (map (λ w. w.now) words.now) (string_bytes lines)) }
 {
     let packets = datagram::build(alloc, what, words)?;
-    let mut lines = String::new(alloc);
-    for packet in packets.as_slice() {
-        lines.push_str(line(alloc, 138, packet)?.as_str())?;
-    }
-    Ok(lines)
+    Ok(lines(alloc, 138, packets.as_slice())?)
 }
 
-/// The capture line of a payload, at moment 0.
+/// The capture lines of payloads, in order.
+fn lines(alloc: Global, port: u16, payloads: &[Bytes]) -> Result<String, NoMemory>
+    ensures { IfOk result (λ text. string_bytes text ≡ payload_lines port payloads.now) }
+{
+    let mut text = String::new(alloc);
+    for payload in payloads {
+        push_line(port, payload, &mut text)?;
+    }
+    Ok(text)
+}
+
+/// The capture line of a payload.
 fn line(alloc: Global, port: u16, payload: &Bytes) -> Result<String, NoMemory>
     ensures { IfOk result (λ text. string_bytes text ≡ payload_line port payload.now) }
 {
     let mut text = String::new(alloc);
-    write!(text, "{port} 0 ")?;
-    push_digits(payload.as_slice(), &mut text)?;
-    text.push_str("\n")?;
+    push_line(port, payload, &mut text)?;
     Ok(text)
+}
+
+/// Adds the capture line of a payload, at moment 0.
+fn push_line(port: u16, payload: &Bytes, text: &mut String) -> Result<(), NoMemory>
+    ensures { OnOk result
+        (string_bytes text.new ≡ string_bytes text.old ++ payload_line port payload.now) }
+{
+    write!(text, "{port} 0 ")?;
+    push_digits(payload.as_slice(), text)?;
+    text.push_str("\n")?;
+    Ok(())
 }

@@ -1,5 +1,5 @@
 -- What the texts of arguments stand for, and words one by one.
-use Rattle.std.proofs.Common.{◌≡◌, ℕ, zero, suc, ◌≤◌, ◌<◌, ◌^◌, true, List, [], ◌∷◌, ◌++◌, length, get_or, map, refl, sym, ap, ap₂, ◌∙◌, arith, append_assoc, Result, Ok}
+use Rattle.std.proofs.Common.{◌≡◌, ℕ, zero, suc, ◌≤◌, ◌<◌, ◌^◌, true, List, [], ◌∷◌, ◌++◌, length, get_or, map, refl, sym, ap, ap₂, subst, ◌∙◌, arith, append_assoc, Result, Ok}
 use Rattle.std.specs.Prelude.{codes}
 use Rattle.std.specs.Int.{w16, from_be_bytes}
 use Rattle.std.specs.List.{list_all}
@@ -58,7 +58,8 @@ word_from_bytes bytes text n d h many few fits is =
 -- the number of one byte
 pub code_from_bytes : (bytes text : List ℕ) (n d : ℕ) → HexText bytes text → 1 ≤ length bytes → length bytes < 2
     → n ≡ get_or bytes 0 d → CodeText n text
-code_from_bytes bytes text n d h many few is = rw (is, one_byte bytes d many few) at h
+code_from_bytes bytes text n d h many few is =
+    subst (λ (b : List ℕ). HexText b text) (one_byte bytes d many few ∙ ap (λ x. x ∷ []) (sym is)) h
 
 -- ---- addresses and keys
 
@@ -68,7 +69,7 @@ address_from_parts text p q a b c e w x y z first second third ha hb hc he =
     let last = third ∙ ap₂ (λ (s t : List ℕ). s ++ 46 ∷ t) hc.1 he.1 in
     let more = second ∙ ap₂ (λ (s t : List ℕ). s ++ 46 ∷ t) hb.1 last in
     let whole = first ∙ ap₂ (λ (s t : List ℕ). s ++ 46 ∷ t) ha.1 more in
-    (refl, (omega (arith, ha.0), omega (arith, hb.0), omega (arith, hc.0), omega (arith, he.0), tt), whole)
+    (refl, (omega (arith, ha.0), (omega (arith, hb.0), (omega (arith, hc.0), (omega (arith, he.0), tt)))), whole)
 
 pub key_from_parts : (text place id ip port : List ℕ) → text ≡ place ++ 47 ∷ id → place ≡ ip ++ 58 ∷ port
     → text ≡ ip ++ (codes ":" ++ (port ++ (codes "/" ++ id)))

@@ -35,7 +35,7 @@ pub response_built : {E F : Type 0} (broadcast : Bool) (words : List (List ℕ))
     → NumberText 4294967295 ttl e → DataText bytes f
     → IfOk r (λ made. (rdata : ResourceData) × HasRdata kind bytes rdata × (made ≡ record_of (labels_of_name name) kind IN ttl rdata))
     → IfOk out (λ encoded. (made : ResourceRecord) × (r ≡ Ok made)
-      × (encoded ≡ service.packet_bytes (packet_of id flags [] (made ∷ []) [] [])))
+    × (encoded ≡ service.packet_bytes (packet_of id flags [] (made ∷ []) [] [])))
     → IfOk out (IsServiceBuilt broadcast (codes "response") words)
 response_built broadcast words id flags kind ttl name bytes a b c d e f r (Ok encoded) are is_id is_flags is_name is_kind is_ttl is_data answer (made, is, exact) =
     let h = rw is at answer in

@@ -8,7 +8,9 @@ ghost use Rattle.nbt.specs.Built.{NamesDatagrams};
 
 use crate::commands::build::arguments::{code, data, key, number};
 use crate::commands::build::build_fault::BuildFault;
-use nb_datagram::{Datagram, ErrorPacket, Kind, Packet, Pieces, QueryKind, QueryPacket, cut, encode};
+use nb_datagram::{
+    Datagram, ErrorPacket, Kind, Packet, Pieces, QueryKind, QueryPacket, cut, encode,
+};
 use nb_names::{Bytes, Items, name_from_text};
 use std::alloc::Global;
 
@@ -53,11 +55,7 @@ fn fragments(alloc: Global, kind: Kind, words: &[&str]) -> Result<Items<Bytes>, 
 }
 
 /// The packets of the pieces of a datagram, of so many bytes of data at most.
-fn fragments_of(
-    alloc: Global,
-    datagram: &Datagram,
-    most: u16,
-) -> Result<Items<Bytes>, BuildFault>
+fn fragments_of(alloc: Global, datagram: &Datagram, most: u16) -> Result<Items<Bytes>, BuildFault>
     ensures { IfOk result (λ packets. packets ≡
         map (λ piece. packet_bytes (Packet.Direct piece)) (pieces datagram.now most)) }
 {

@@ -35,12 +35,7 @@ pub fn build(
 }
 
 /// A packet that asks for a name, or for a node's status, from ID NAME.
-fn question(
-    alloc: Global,
-    what: &str,
-    words: &[&str],
-    broadcast: bool,
-) -> Result<Bytes, BuildFault>
+fn question(alloc: Global, what: &str, words: &[&str], broadcast: bool) -> Result<Bytes, BuildFault>
     ensures { IfOk result (IsServiceBuilt broadcast what.now (map (λ w. w.now) words.now)) }
 {
     let [id, name] = words else {
@@ -68,7 +63,10 @@ fn claim(alloc: Global, what: &str, words: &[&str], broadcast: bool) -> Result<B
     let entry = entry.to_bytes();
     match what {
         "registration" => {
-            encoded(alloc, registration(alloc, id, &name, broadcast, ttl, &entry))
+            encoded(
+                alloc,
+                registration(alloc, id, &name, broadcast, ttl, &entry),
+            )
         }
         "refresh" => encoded(alloc, refresh(alloc, id, &name, broadcast, ttl, &entry)),
         _ => Err(BuildFault::Arguments),

@@ -9,7 +9,7 @@ returns-in-registration c =
     (five_words (λ w. w.now) _ c.args.words.now c.in-len5.len_at_least c.in-len5.len_below)
     (registration c.in_ok-id.id _ c.in_ok-name.name _ _ _ _ _ _ c.in_ok-id.ensures c.in_ok-name.ensures.found
     c.in_ok-ttl.ensures.0 c.in_ok-ttl.ensures.1)
-    (rw c.to_bytes.ensures at c.registration.ensures) c.encoded.ensures
+    (rw c.to_bytes-entry.ensures at c.registration.ensures) c.encoded.ensures
 
 pub returns-in-refresh : goal.returns-in-refresh
 returns-in-refresh c =
@@ -17,4 +17,4 @@ returns-in-refresh c =
     (five_words (λ w. w.now) _ c.args.words.now c.in-len5.len_at_least c.in-len5.len_below)
     (refresh c.in_ok-id.id _ c.in_ok-name.name _ _ _ _ _ _ c.in_ok-id.ensures c.in_ok-name.ensures.found
     c.in_ok-ttl.ensures.0 c.in_ok-ttl.ensures.1)
-    (rw c.to_bytes.ensures at c.refresh.ensures) c.encoded-in-refresh.ensures
+    (rw c.to_bytes-entry.ensures at c.refresh.ensures) c.encoded-in-refresh.ensures

@@ -24,10 +24,10 @@ lines-append port (x ∷ xs) ys =
     ap (λ l. payload_line port x ++ l) (lines-append port xs ys) ∙ sym (append_assoc (payload_line port x) (payload_lines port xs) (payload_lines port ys))
 
 -- a turn that added a line
-pub lines_more : (port : ℕ) (payloads : List (List ℕ)) (i : ℕ) (d : List ℕ) (old new : List ℕ) → i < length payloads
-    → old ≡ payload_lines port (take i payloads) → new ≡ old ++ payload_line port (get_or payloads i d)
+pub lines_more : (port : ℕ) (payloads : List (List ℕ)) (i : ℕ) (d payload old new : List ℕ) → i < length payloads
+    → payload ≡ get_or payloads i d → old ≡ payload_lines port (take i payloads) → new ≡ old ++ payload_line port payload
     → new ≡ payload_lines port (take (i + 1) payloads)
-lines_more port payloads i d old new lt before grown =
-    grown ∙ ap₂ (λ (a b : List ℕ). a ++ b) before (sym (append-nil (payload_line port (get_or payloads i d))))
+lines_more port payloads i d payload old new lt is before grown =
+    grown ∙ ap₂ (λ (a b : List ℕ). a ++ b) before (ap (payload_line port) is ∙ sym (append-nil (payload_line port (get_or payloads i d))))
     ∙ sym (lines-append port (take i payloads) (get_or payloads i d ∷ []))
     ∙ ap (payload_lines port) (sym (take_more payloads i d lt))

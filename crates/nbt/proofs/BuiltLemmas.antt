@@ -60,6 +60,13 @@ bare_built f what word words packet (Ok bytes) is_what named (none, h) =
     record { packet = packet; named = rw (is_what, none) named; exact = h }
 bare_built f what word words packet (Err fault) is_what named h = tt
 
+-- the pieces of a datagram, which were cut
+pub fragments_named : {F : Type 0} (P : Type 0) (what word : List ℕ) (words texts q : List (List ℕ)) (out : Result (List (List ℕ)) F)
+    → what ≡ word → words ≡ texts → (P → NamesDatagrams word texts q) → IfOk out (λ payloads. P × (payloads ≡ q))
+    → IfOk out (NamesDatagrams what words)
+fragments_named P what word words texts q (Ok payloads) is_what are named (cut, is) = rw (is_what, are, is) (named cut)
+fragments_named P what word words texts q (Err fault) is_what are named h = tt
+
 pub datagrams_named : {F : Type 0} (what word : List ℕ) (words texts q : List (List ℕ)) (out : Result (List (List ℕ)) F)
     → what ≡ word → words ≡ texts → NamesDatagrams word texts q → IfOk out (λ payloads. payloads ≡ q) → IfOk out (NamesDatagrams what words)
 datagrams_named what word words texts q (Ok payloads) is_what are named is = rw (is_what, are, is) named

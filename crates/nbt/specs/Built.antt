@@ -115,7 +115,7 @@ pub record IsSessionBuilt (what : List ℕ) (words : List (List ℕ)) (bytes : L
 -- NamesDatagrams what words payloads: these words name packets, whose bytes these are, in order
 pub data NamesDatagrams : List ℕ → List (List ℕ) → List (List ℕ) → Type 0 where
   fragments : (d : DatagramParts) (most : ℕ) (a b c e f : List ℕ) → KeyText d.key a → IsText d.source b → IsText d.destination c
-      → DataText d.bytes e → NumberText 65535 most f
+      → DataText d.bytes e → NumberText 65535 most f → 1 ≤ most
       → NamesDatagrams (kind_text d.kind) (a ∷ b ∷ c ∷ e ∷ f ∷ []) (map (λ p. datagram.packet_bytes (Direct p)) (pieces d most))
   error : (key : Key) (code : ℕ) (a b : List ℕ) → KeyText key a → CodeText code b
       → NamesDatagrams (codes "error") (a ∷ b ∷ []) (datagram.packet_bytes (Error (record { flags = 2; key = key; code = code })) ∷ [])

@@ -1,5 +1,5 @@
 //! Datagram service packets from arguments.
-ghost use Rattle.std.specs.Prelude.{◌≡◌, ◌++◌, [], ◌∷◌, map, codes, IfOk, OnOk};
+ghost use Rattle.std.specs.Prelude.{◌≡◌, ◌≤◌, ◌++◌, [], ◌∷◌, map, codes, IfOk, OnOk};
 ghost use Rattle.nb_datagram.specs.Packet.{packet_bytes};
 ghost use Rattle.nb_datagram.specs.Pieces.{pieces};
 ghost use Rattle.nb_datagram.specs.Texts.{kind_text};
@@ -56,8 +56,8 @@ fn fragments(alloc: Global, kind: Kind, words: &[&str]) -> Result<Items<Bytes>, 
 
 /// The packets of the pieces of a datagram, of so many bytes of data at most.
 fn fragments_of(alloc: Global, datagram: &Datagram, most: u16) -> Result<Items<Bytes>, BuildFault>
-    ensures { IfOk result (λ packets. packets ≡
-        map (λ piece. packet_bytes (Packet.Direct piece)) (pieces datagram.now most)) }
+    ensures { IfOk result (λ packets. (1 ≤ most) × (packets ≡
+        map (λ piece. packet_bytes (Packet.Direct piece)) (pieces datagram.now most))) }
 {
     let pieces = cut(alloc, datagram, most)?;
     encoded_pieces(alloc, pieces)

@@ -6,7 +6,6 @@ use Rattle.nb_datagram.specs.declared.packet.Packet.TheVariants.{Direct}
 use Rattle.nb_datagram.specs.Packet.{packet_bytes}
 use Rattle.nbt.proofs.commands.build.datagram.encoded_pieces.Goals as goal
 
-
 pub returns : goal.returns
 returns c =
     let end = YieldsList-end (YieldsList-from_vec {s = c.into_iter-piece-iterator.result} c.args.pieces (search rules) (search rules))

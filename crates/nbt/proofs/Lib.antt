@@ -1,7 +1,8 @@
 mod CommandShapes
 pub mod AloneWords
 pub mod BuildingTurns
-pub mod ResponseLemmas
+pub mod ArgumentLemmas
+pub mod BuiltLemmas
 pub mod SavingTurns
 pub mod ReplayingTurns
 pub mod TableTurns

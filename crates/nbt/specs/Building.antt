@@ -1,7 +1,10 @@
--- What `nbt build` prints: a line of a capture for each packet that it builds (our choice).
-use Rattle.std.specs.Prelude.{◌≡◌, ℕ, List, [], ◌∷◌, ◌++◌, codes}
+-- What `nbt build` prints: a line of a capture for each packet that its words name (our choice).
+use Rattle.std.specs.Prelude.{◌≡◌, ℕ, Bool, true, false, List, [], ◌∷◌, ◌++◌, Some, option_map, unwrap_or, codes}
 use Rattle.std.specs.Fmt.{decimal}
+use Rattle.clap.specs.Words.{first_value, found_of, matched_of, one_text, raw_values}
+use Rattle.clap.specs.declared.parser.matches.ArgMatches.{ArgMatches}
 use Rattle.nb_names.specs.Hexadecimal.{digits_text}
+use Rattle.nbt.specs.Built.{Names}
 use Rattle.nbt.specs.Printing.{line}
 
 -- payload_line port payload: the line of a capture for the payload, at moment 0
@@ -13,12 +16,35 @@ abbrev pub payload_lines : ℕ → List (List ℕ) → List ℕ
 payload_lines port [] = []
 payload_lines port (payload ∷ payloads) = payload_line port payload ++ payload_lines port payloads
 
--- BuildsLines IsPrinted: the lines of payloads of one port were printed, as IsPrinted says of the bytes
-pub record BuildsLines (IsPrinted : List ℕ → Type 0) : Type 0 where
+-- AreLinesOf broadcast what words bytes: these words name packets, and the bytes are their lines
+pub record AreLinesOf (broadcast : Bool) (what : List ℕ) (words : List (List ℕ)) (bytes : List ℕ) : Type 0 where
   pub port : ℕ
   pub payloads : List (List ℕ)
-  pub printed : IsPrinted (payload_lines port payloads)
+  pub named : Names broadcast what words port payloads
+  pub lines : bytes ≡ payload_lines port payloads
 
--- the bytes are the lines of payloads of one port
-abbrev pub AreLines : List ℕ → Type 0
-AreLines bytes = BuildsLines (λ lines. bytes ≡ lines)
+-- IsBroadcast matches broadcast: the matches hold this for `--broadcast`
+abbrev pub IsBroadcast : ArgMatches → Bool → Type 0
+IsBroadcast matches true = one_text (found_of matches) (codes "broadcast") ≡ Some (codes "true")
+IsBroadcast matches false = one_text (found_of matches) (codes "broadcast") ≡ Some (codes "false")
+
+-- AreWords matches broadcast what words: the matches hold these words, and `broadcast` is what they hold for `--broadcast`
+pub record AreWords (matches : ArgMatches) (broadcast : Bool) (what : List ℕ) (words : List (List ℕ)) : Type 0 where
+  pub has_flag : (given : Bool) → IsBroadcast matches given → broadcast ≡ given
+  pub has_what : first_value (found_of matches) (codes "WHAT") ≡ Some what
+  pub has_words : unwrap_or (option_map raw_values (matched_of (found_of matches) (codes "ARG"))) [] ≡ words
+
+-- AreBuilt matches bytes: the bytes are the lines of the packets that the matches' words name
+pub record AreBuilt (matches : ArgMatches) (bytes : List ℕ) : Type 0 where
+  pub broadcast : Bool
+  pub what : List ℕ
+  pub words : List (List ℕ)
+  pub given : AreWords matches broadcast what words
+  pub built : AreLinesOf broadcast what words bytes
+
+-- Builds matches IsPrinted: the lines of the packets that the matches' words name were printed, as IsPrinted says of
+-- the bytes
+pub record Builds (matches : ArgMatches) (IsPrinted : List ℕ → Type 0) : Type 0 where
+  pub lines : List ℕ
+  pub built : AreBuilt matches lines
+  pub printed : IsPrinted lines

@@ -1,8 +1,9 @@
 //! `nbt build`: packets as the lines of a capture.
-ghost use Rattle.std.specs.Prelude.{◌≡◌, ◌≢◌, IfOk, IfErr, OnOk, string_bytes};
+ghost use Rattle.std.specs.Prelude.{◌≡◌, ◌≢◌, ◌++◌, Bool, [], map, option_map, unwrap_or, codes, IfOk, IfErr, OnOk, string_bytes};
 ghost use Rattle.std.specs.Io.KnownBytes.{Appends, Keeps};
-ghost use Rattle.nbt.specs.Building.{AreLines, BuildsLines, payload_line};
+ghost use Rattle.clap.specs.Words.{found_of, matched_of, raw_values};
 ghost use Rattle.nb_names.specs.Devices.{AppendsFront, ShowsWriteFault};
+ghost use Rattle.nbt.specs.Building.{AreBuilt, AreLinesOf, Builds, IsBroadcast, payload_line, payload_lines};
 
 mod arguments;
 mod build_fault;
@@ -19,7 +20,7 @@ use nb_names::{Bytes, NoMemory, push_digits};
 use std::alloc::Global;
 use std::io::Write;
 
-/// `nbt build [--broadcast] WHAT ARG..`: prints a capture line for each packet built.
+/// `nbt build [--broadcast] WHAT ARG..`: prints a capture line for each packet that the words name.
 ///
 /// WHAT is judged before the number of arguments, and that before each of them from left to right.
 ///
@@ -34,16 +35,16 @@ pub fn run_build<W: Write>(
     matches: &ArgMatches<'_>,
     output: &mut Output<W>,
 ) -> Result<(), Fault>
-    ensures printed { OnOk result (BuildsLines
+    ensures printed { OnOk result (Builds matches.now
         (Appends (W.contents output.old.inner) (W.contents output.new.inner))) }
-    ensures write { IfErr result (λ fault. fault ≡ Fault.Write → BuildsLines
+    ensures write { IfErr result (λ fault. fault ≡ Fault.Write → Builds matches.now
         (AppendsFront (W.contents output.old.inner) (W.contents output.new.inner))) }
     ensures err { IfErr result (λ fault. fault ≢ Fault.Write →
         Keeps (W.contents output.old.inner) (W.contents output.new.inner)) }
     ensures why { IfErr result (λ fault. fault ≡ Fault.Write →
         ShowsWriteFault output.old.counts output.new.counts) }
 {
-    match build(alloc, matches) {
+    match lines_of(alloc, matches) {
         Ok(lines) => output.print(lines.as_bytes()),
         Err(BuildFault::Text(fault)) => Err(Fault::Text(fault)),
         Err(BuildFault::Arguments) => Err(Fault::Arguments),
@@ -53,24 +54,44 @@ pub fn run_build<W: Write>(
     }
 }
 
-/// The lines of the packets that the words ask for.
-fn build(alloc: Global, matches: &ArgMatches<'_>) -> Result<String, BuildFault>
-    ensures { IfOk result (λ lines. AreLines (string_bytes lines)) }
+/// The lines of the packets that the matches' words name.
+fn lines_of(alloc: Global, matches: &ArgMatches<'_>) -> Result<String, BuildFault>
+    ensures { IfOk result (λ lines. AreBuilt matches.now (string_bytes lines)) }
 {
-    let what = matches.get_str("WHAT").unwrap_or("");
-    let words = matches.get_strs("ARG").unwrap_or(&[]);
+    match matches.get_str("WHAT") {
+        Some(what) => build(alloc, what, words_of(matches), is_broadcast(matches)),
+        None => Err(BuildFault::Arguments),
+    }
+}
+
+/// The words after WHAT.
+fn words_of<'a>(matches: &'a ArgMatches<'_>) -> &'a [&'a str]
+    ensures { map (λ w. w.now) result.now ≡
+        unwrap_or (option_map raw_values (matched_of (found_of matches.now) (codes "ARG"))) [] }
+{
+    matches.get_strs("ARG").unwrap_or(&[])
+}
+
+/// Whether `--broadcast` is given.
+fn is_broadcast(matches: &ArgMatches<'_>) -> bool
+    ensures { (given : Bool) → IsBroadcast matches.now given → result ≡ given }
+{
+    matches.get_flag("broadcast")
+}
+
+/// The lines of the packets that the words name.
+fn build(alloc: Global, what: &str, words: &[&str], broadcast: bool) -> Result<String, BuildFault>
+    ensures { IfOk result (λ lines. AreLinesOf broadcast what.now (map (λ w. w.now) words.now)
+        (string_bytes lines)) }
+{
     match what {
-        "query" | "status" | "registration" | "refresh" | "release" => {
-            service_line(alloc, what, words, matches.get_flag("broadcast"))
+        "query" | "status" | "registration" | "refresh" | "release" | "response" => {
+            service_line(alloc, what, words, broadcast)
         }
-        "response" => response_line(alloc, words, matches.get_flag("broadcast")),
         "request" | "message" | "positive" | "negative" | "retarget" | "keepalive" => {
             session_line(alloc, what, words)
         }
-        "unique" | "group" | "broadcast" | "error" | "find" | "found" | "missing" => {
-            datagram_lines(alloc, what, words)
-        }
-        _ => Err(BuildFault::Arguments),
+        _ => datagram_lines(alloc, what, words),
     }
 }
 
@@ -81,23 +102,17 @@ fn service_line(
     words: &[&str],
     broadcast: bool,
 ) -> Result<String, BuildFault>
-    ensures { IfOk result (λ lines. AreLines (string_bytes lines)) }
+    ensures { IfOk result (λ lines. AreLinesOf broadcast what.now (map (λ w. w.now) words.now)
+        (string_bytes lines)) }
 {
     let packet = service::build(alloc, what, words, broadcast)?;
     Ok(line(alloc, 137, &packet)?)
 }
 
-/// The line of a response of the name service.
-fn response_line(alloc: Global, words: &[&str], broadcast: bool) -> Result<String, BuildFault>
-    ensures { IfOk result (λ lines. AreLines (string_bytes lines)) }
-{
-    let packet = response::build(alloc, words, broadcast)?;
-    Ok(line(alloc, 137, &packet)?)
-}
-
 /// The line of a session packet.
 fn session_line(alloc: Global, what: &str, words: &[&str]) -> Result<String, BuildFault>
-    ensures { IfOk result (λ lines. AreLines (string_bytes lines)) }
+    ensures { IfOk result (λ lines. (broadcast : Bool) →
+        AreLinesOf broadcast what.now (map (λ w. w.now) words.now) (string_bytes lines)) }
 {
     let packet = session::build(alloc, what, words)?;
     Ok(line(alloc, 139, &packet)?)
@@ -105,23 +120,40 @@ fn session_line(alloc: Global, what: &str, words: &[&str]) -> Result<String, Bui
 
 /// The lines of the packets of a datagram, or of one that is no fragment.
 fn datagram_lines(alloc: Global, what: &str, words: &[&str]) -> Result<String, BuildFault>
-    ensures { IfOk result (λ lines. AreLines (string_bytes lines)) }
+    ensures { IfOk result (λ lines. (broadcast : Bool) →
+        AreLinesOf broadcast what.now (map (λ w. w.now) words.now) (string_bytes lines)) }
 {
     let packets = datagram::build(alloc, what, words)?;
-    let mut lines = String::new(alloc);
-    for packet in packets.as_slice() {
-        lines.push_str(line(alloc, 138, packet)?.as_str())?;
-    }
-    Ok(lines)
+    Ok(lines(alloc, 138, packets.as_slice())?)
 }
 
-/// The capture line of a payload, at moment 0.
+/// The capture lines of payloads, in order.
+fn lines(alloc: Global, port: u16, payloads: &[Bytes]) -> Result<String, NoMemory>
+    ensures { IfOk result (λ text. string_bytes text ≡ payload_lines port payloads.now) }
+{
+    let mut text = String::new(alloc);
+    for payload in payloads {
+        push_line(port, payload, &mut text)?;
+    }
+    Ok(text)
+}
+
+/// The capture line of a payload.
 fn line(alloc: Global, port: u16, payload: &Bytes) -> Result<String, NoMemory>
     ensures { IfOk result (λ text. string_bytes text ≡ payload_line port payload.now) }
 {
     let mut text = String::new(alloc);
-    write!(text, "{port} 0 ")?;
-    push_digits(payload.as_slice(), &mut text)?;
-    text.push_str("\n")?;
+    push_line(port, payload, &mut text)?;
     Ok(text)
+}
+
+/// Adds the capture line of a payload, at moment 0.
+fn push_line(port: u16, payload: &Bytes, text: &mut String) -> Result<(), NoMemory>
+    ensures { OnOk result
+        (string_bytes text.new ≡ string_bytes text.old ++ payload_line port payload.now) }
+{
+    write!(text, "{port} 0 ")?;
+    push_digits(payload.as_slice(), text)?;
+    text.push_str("\n")?;
+    Ok(())
 }

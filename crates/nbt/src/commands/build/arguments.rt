@@ -1,38 +1,42 @@
 //! The arguments of `nbt build`. Decimal numbers have no leading zeros; hexadecimal digits are read
 //! in either case.
-ghost use Rattle.std.specs.Prelude.{◌≡◌, IfOk, IsTrue, true};
+ghost use Rattle.std.specs.Prelude.{◌≡◌, ◌<◌, ◌++◌, ◌∷◌, IfOk, IsTrue, true, length, slice_index};
 ghost use Rattle.std.specs.List.{list_all};
 ghost use Rattle.std.specs.Char.{is_ascii_digit};
-ghost use Rattle.nb_names.specs.Hexadecimal.{DataText};
-ghost use Rattle.nbt.specs.Responses.{DecimalText, HasNoLeadingZero, WordText};
+ghost use Rattle.nb_names.specs.Hexadecimal.{DataText, HexText};
+ghost use Rattle.nbt.specs.Built.{AddressText, CodeText, EntryTexts, KeyText, NumberText, WordText};
 
 use crate::commands::build::build_fault::BuildFault;
-use hex::FromHex;
 use nb_datagram::Key;
-use nb_names::{DigitsFault, data_of_text};
+use nb_names::{Bytes, DigitsFault, bytes_of_digits, data_of_text};
+use nb_service::AddressEntry;
 use std::alloc::Global;
 
 /// A word of a packet, as an identifier or flags: four hexadecimal digits.
-pub fn word(text: &str) -> Result<u16, BuildFault>
+pub fn word(alloc: Global, text: &str) -> Result<u16, BuildFault>
     ensures { IfOk result (λ number. WordText number text.now) }
 {
-    match <[u8; 2] as FromHex>::from_hex(text) {
-        Ok(bytes) => Ok(u16::from_be_bytes(bytes)),
-        Err(_) => Err(BuildFault::Arguments),
+    let digits = digits(alloc, text)?;
+    match digits.as_slice() {
+        [high, low] => Ok(u16::from_be_bytes([*high, *low])),
+        _ => Err(BuildFault::Arguments),
     }
 }
 
 /// A code: two hexadecimal digits.
-pub fn code(text: &str) -> Result<u8, BuildFault> {
-    match <[u8; 1] as FromHex>::from_hex(text) {
-        Ok(bytes) => Ok(bytes[0]),
-        Err(_) => Err(BuildFault::Arguments),
+pub fn code(alloc: Global, text: &str) -> Result<u8, BuildFault>
+    ensures { IfOk result (λ code. CodeText code text.now) }
+{
+    let digits = digits(alloc, text)?;
+    match digits.as_slice() {
+        [code] => Ok(*code),
+        _ => Err(BuildFault::Arguments),
     }
 }
 
 /// A decimal number to 4,294,967,295.
 pub fn long_number(text: &str) -> Result<u32, BuildFault>
-    ensures { IfOk result (λ number. DecimalText number text.now) }
+    ensures { IfOk result (λ number. NumberText 4294967295 number text.now) }
 {
     if !is_decimal(text) {
         return Err(BuildFault::Arguments);
@@ -44,66 +48,99 @@ pub fn long_number(text: &str) -> Result<u32, BuildFault>
 }
 
 /// A decimal number to 65,535.
-pub fn number(text: &str) -> Result<u16, BuildFault> {
-    if !is_decimal(text) {
-        return Err(BuildFault::Arguments);
+pub fn number(text: &str) -> Result<u16, BuildFault>
+    ensures { IfOk result (λ number. NumberText 65535 number text.now) }
+{
+    match u16::try_from(long_number(text)?) {
+        Ok(number) => Ok(number),
+        Err(_) => Err(BuildFault::Arguments),
     }
-    text.parse::<u16>().map_err(|_| BuildFault::Arguments)
 }
 
 /// An IPv4 address: four decimal numbers to 255, with dots between them.
-pub fn address(text: &str) -> Result<[u8; 4], BuildFault> {
-    let mut parts = text.split('.');
-    let mut address = [0; 4];
-    for byte in &mut address {
-        let Some(part) = parts.next() else {
-            return Err(BuildFault::Arguments);
-        };
-        *byte = small_number(part)?;
-    }
-    match parts.next() {
-        None => Ok(address),
-        Some(_) => Err(BuildFault::Arguments),
-    }
+pub fn address(text: &str) -> Result<[u8; 4], BuildFault>
+    ensures { IfOk result (λ address. AddressText address text.now) }
+{
+    let (first, rest) = parts(text, '.')?;
+    let (second, rest) = parts(rest, '.')?;
+    let (third, fourth) = parts(rest, '.')?;
+    Ok([
+        small_number(first)?,
+        small_number(second)?,
+        small_number(third)?,
+        small_number(fourth)?,
+    ])
 }
 
-/// A datagram's key: its sender's address and port, and the identifier, as `10.0.0.5:138/0001`.
-pub fn key(text: &str) -> Result<Key, BuildFault> {
-    let Some((place, id)) = text.split_once('/') else {
-        return Err(BuildFault::Arguments);
-    };
-    let Some((ip, port)) = place.split_once(':') else {
-        return Err(BuildFault::Arguments);
-    };
-    Ok(Key {
-        ip: address(ip)?,
-        port: number(port)?,
-        id: word(id)?,
+/// An address entry of a packet, of its flags and its address.
+pub fn entry(alloc: Global, flags: &str, place: &str) -> Result<AddressEntry, BuildFault>
+    ensures { IfOk result (λ entry. EntryTexts entry flags.now place.now) }
+{
+    Ok(AddressEntry {
+        flags: word(alloc, flags)?,
+        address: address(place)?,
     })
 }
 
-/// Bytes: hexadecimal digits, two a byte and at least two, or `empty`.
-pub fn bytes(alloc: Global, text: &str) -> Result<Vec<u8>, BuildFault>
-    ensures { IfOk result (λ bytes. DataText bytes.items text.now) }
+/// A datagram's key: its sender's address and port, and the identifier, as `10.0.0.5:138/0001`.
+pub fn key(alloc: Global, text: &str) -> Result<Key, BuildFault>
+    ensures { IfOk result (λ key. KeyText key text.now) }
+{
+    let (place, id) = parts(text, '/')?;
+    let (ip, port) = parts(place, ':')?;
+    Ok(Key {
+        ip: address(ip)?,
+        port: number(port)?,
+        id: word(alloc, id)?,
+    })
+}
+
+/// Data: hexadecimal digits, two a byte and at least two, or `empty`.
+pub fn data(alloc: Global, text: &str) -> Result<Bytes, BuildFault>
+    ensures { IfOk result (λ bytes. DataText bytes text.now) }
 {
     match data_of_text(alloc, text.as_bytes()) {
-        Ok(bytes) => Ok(bytes.into_vec()),
+        Ok(bytes) => Ok(bytes),
         Err(DigitsFault::BadDigits) => Err(BuildFault::Arguments),
         Err(DigitsFault::NoMemory) => Err(BuildFault::Memory),
     }
 }
 
-/// A decimal number to 255.
-fn small_number(text: &str) -> Result<u8, BuildFault> {
-    if !is_decimal(text) {
-        return Err(BuildFault::Arguments);
+/// The bytes that hexadecimal digits give, two a byte.
+fn digits(alloc: Global, text: &str) -> Result<Bytes, BuildFault>
+    ensures { IfOk result (λ bytes. HexText bytes text.now) }
+{
+    match bytes_of_digits(alloc, text.as_bytes()) {
+        Ok(bytes) => Ok(bytes),
+        Err(DigitsFault::BadDigits) => Err(BuildFault::Arguments),
+        Err(DigitsFault::NoMemory) => Err(BuildFault::Memory),
     }
-    text.parse::<u8>().map_err(|_| BuildFault::Arguments)
+}
+
+/// What stands before the first of these marks, which is ASCII, and what stands behind it.
+fn parts(text: &str, mark: char) -> Result<(&str, &str), BuildFault>
+    requires { mark < 128 }
+    ensures { IfOk result (λ parts. text.now ≡ parts.0.now ++ mark ∷ parts.1.now) }
+{
+    match text.split_once(mark) {
+        Some(parts) => Ok(parts),
+        None => Err(BuildFault::Arguments),
+    }
+}
+
+/// A decimal number to 255.
+fn small_number(text: &str) -> Result<u8, BuildFault>
+    ensures { IfOk result (λ number. NumberText 255 number text.now) }
+{
+    match u8::try_from(long_number(text)?) {
+        Ok(number) => Ok(number),
+        Err(_) => Err(BuildFault::Arguments),
+    }
 }
 
 /// Whether a text is decimal digits, none of them a leading zero.
 fn is_decimal(text: &str) -> bool
-    ensures leading { IsTrue result → HasNoLeadingZero text.now }
+    ensures leading { IsTrue result → slice_index text.now 0 ≡ 48 → length text.now < 2 }
     ensures digits { IsTrue result → list_all is_ascii_digit text.now ≡ true }
 {
     let digits = text.as_bytes();
@@ -115,7 +152,7 @@ fn is_decimal(text: &str) -> bool
 
 /// Whether more than one digit don't begin with a zero.
 fn has_no_leading_zero(digits: &[u8]) -> bool
-    ensures { IsTrue result → HasNoLeadingZero digits.now }
+    ensures { IsTrue result → slice_index digits.now 0 ≡ 48 → length digits.now < 2 }
 {
     if digits.len() < 2 {
         return true;

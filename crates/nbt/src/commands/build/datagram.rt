@@ -1,9 +1,17 @@
 //! Datagram service packets from arguments.
+ghost use Rattle.std.specs.Prelude.{◌≡◌, ◌≤◌, ◌++◌, [], ◌∷◌, map, codes, IfOk, OnOk};
+ghost use Rattle.nb_datagram.specs.Packet.{packet_bytes};
+ghost use Rattle.nb_datagram.specs.Pieces.{pieces};
+ghost use Rattle.nb_datagram.specs.Texts.{kind_text};
+ghost use Rattle.nb_text.specs.Words.{query_word};
+ghost use Rattle.nbt.specs.Built.{NamesDatagrams};
 
-use crate::commands::build::arguments::{bytes, code, key, number};
+use crate::commands::build::arguments::{code, data, key, number};
 use crate::commands::build::build_fault::BuildFault;
-use nb_datagram::{Datagram, ErrorPacket, Kind, Packet, QueryKind, QueryPacket, cut, encode};
-use nb_names::{Bytes, name_from_text};
+use nb_datagram::{
+    Datagram, ErrorPacket, Kind, Packet, Pieces, QueryKind, QueryPacket, cut, encode,
+};
+use nb_names::{Bytes, Items, name_from_text};
 use std::alloc::Global;
 
 /// FLAGS of the packets that are no fragments: the first of its datagram, and the last.
@@ -13,11 +21,13 @@ const FLAGS: u8 = 0x02;
 ///
 /// `unique`, `group` and `broadcast` take KEY SOURCE DESTINATION HEX MOST and give a packet for
 /// each piece; `error` takes KEY CODE; `find`, `found` and `missing` take KEY NAME.
-pub fn build(alloc: Global, what: &str, words: &[&str]) -> Result<Vec<Bytes>, BuildFault> {
+pub fn build(alloc: Global, what: &str, words: &[&str]) -> Result<Items<Bytes>, BuildFault>
+    ensures { IfOk result (NamesDatagrams what.now (map (λ w. w.now) words.now)) }
+{
     match what {
-        "unique" => pieces(alloc, Kind::Unique, words),
-        "group" => pieces(alloc, Kind::Group, words),
-        "broadcast" => pieces(alloc, Kind::Broadcast, words),
+        "unique" => fragments(alloc, Kind::Unique, words),
+        "group" => fragments(alloc, Kind::Group, words),
+        "broadcast" => fragments(alloc, Kind::Broadcast, words),
         "error" => error(alloc, words),
         "find" => query(alloc, QueryKind::Request, words),
         "found" => query(alloc, QueryKind::Positive, words),
@@ -27,52 +37,70 @@ pub fn build(alloc: Global, what: &str, words: &[&str]) -> Result<Vec<Bytes>, Bu
 }
 
 /// The packets of the pieces of a datagram, from KEY SOURCE DESTINATION HEX MOST.
-fn pieces(alloc: Global, kind: Kind, words: &[&str]) -> Result<Vec<Bytes>, BuildFault> {
+fn fragments(alloc: Global, kind: Kind, words: &[&str]) -> Result<Items<Bytes>, BuildFault>
+    ensures { IfOk result (NamesDatagrams (kind_text kind) (map (λ w. w.now) words.now)) }
+{
     let [place, source, destination, digits, most] = words else {
         return Err(BuildFault::Arguments);
     };
-    let key = key(place)?;
+    let key = key(alloc, place)?;
     let source = name_from_text(source)?;
     let destination = name_from_text(destination)?;
-    let data = Bytes::from_vec(bytes(alloc, digits)?);
+    let data = data(alloc, digits)?;
     let most = number(most)?;
     match Datagram::new(key, kind, source, destination, data) {
-        Ok(datagram) => pieces_of(alloc, &datagram, most),
+        Ok(datagram) => fragments_of(alloc, &datagram, most),
         Err(_) => Err(BuildFault::TooLong),
     }
 }
 
 /// The packets of the pieces of a datagram, of so many bytes of data at most.
-fn pieces_of(alloc: Global, datagram: &Datagram, most: u16) -> Result<Vec<Bytes>, BuildFault> {
-    let mut packets = Vec::new(alloc);
-    for piece in cut(alloc, datagram, most)?.into_vec() {
-        packets.push(encode(alloc, &Packet::Direct(piece))?)?;
+fn fragments_of(alloc: Global, datagram: &Datagram, most: u16) -> Result<Items<Bytes>, BuildFault>
+    ensures { IfOk result (λ packets. (1 ≤ most) × (packets ≡
+        map (λ piece. packet_bytes (Packet.Direct piece)) (pieces datagram.now most))) }
+{
+    let pieces = cut(alloc, datagram, most)?;
+    encoded_pieces(alloc, pieces)
+}
+
+/// The packets of these pieces.
+fn encoded_pieces(alloc: Global, pieces: Pieces<'_>) -> Result<Items<Bytes>, BuildFault>
+    ensures { IfOk result (λ packets. packets ≡
+        map (λ piece. packet_bytes (Packet.Direct piece)) pieces.entry) }
+{
+    let mut packets = Items::from_vec(Vec::new(alloc));
+    for piece in pieces.into_vec() {
+        push(alloc, Packet::Direct(piece), &mut packets)?;
     }
     Ok(packets)
 }
 
 /// An error packet, from KEY CODE.
-fn error(alloc: Global, words: &[&str]) -> Result<Vec<Bytes>, BuildFault> {
+fn error(alloc: Global, words: &[&str]) -> Result<Items<Bytes>, BuildFault>
+    ensures { IfOk result (NamesDatagrams (codes "error") (map (λ w. w.now) words.now)) }
+{
     let [place, digits] = words else {
         return Err(BuildFault::Arguments);
     };
-    let key = key(place)?;
-    let code = code(digits)?;
+    let key = key(alloc, place)?;
+    let code = code(alloc, digits)?;
     let flags = FLAGS;
-    alone(alloc, &Packet::Error(ErrorPacket { flags, key, code }))
+    alone(alloc, Packet::Error(ErrorPacket { flags, key, code }))
 }
 
 /// A query packet, from KEY NAME.
-fn query(alloc: Global, kind: QueryKind, words: &[&str]) -> Result<Vec<Bytes>, BuildFault> {
+fn query(alloc: Global, kind: QueryKind, words: &[&str]) -> Result<Items<Bytes>, BuildFault>
+    ensures { IfOk result (NamesDatagrams (query_word kind) (map (λ w. w.now) words.now)) }
+{
     let [place, name] = words else {
         return Err(BuildFault::Arguments);
     };
-    let key = key(place)?;
+    let key = key(alloc, place)?;
     let destination = name_from_text(name)?;
     let flags = FLAGS;
     alone(
         alloc,
-        &Packet::Query(QueryPacket {
+        Packet::Query(QueryPacket {
             kind,
             flags,
             key,
@@ -82,8 +110,18 @@ fn query(alloc: Global, kind: QueryKind, words: &[&str]) -> Result<Vec<Bytes>, B
 }
 
 /// The bytes of one packet.
-fn alone(alloc: Global, packet: &Packet<'_>) -> Result<Vec<Bytes>, BuildFault> {
-    let mut packets = Vec::new(alloc);
-    packets.push(encode(alloc, packet)?)?;
+fn alone(alloc: Global, packet: Packet<'_>) -> Result<Items<Bytes>, BuildFault>
+    ensures { IfOk result (λ packets. packets ≡ packet_bytes packet.entry ∷ []) }
+{
+    let mut packets = Items::from_vec(Vec::new(alloc));
+    push(alloc, packet, &mut packets)?;
     Ok(packets)
+}
+
+/// Adds the bytes of a packet after those of the others.
+fn push(alloc: Global, packet: Packet<'_>, packets: &mut Items<Bytes>) -> Result<(), BuildFault>
+    ensures { OnOk result (packets.new ≡ packets.old ++ packet_bytes packet.entry ∷ []) }
+{
+    packets.push(encode(alloc, &packet)?)?;
+    Ok(())
 }

@@ -1,15 +1,17 @@
 //! A response of the name service from arguments.
-ghost use Rattle.std.specs.Prelude.{◌≡◌, ℕ, List, [], ◌∷◌, map, IfOk, length};
+ghost use Rattle.std.specs.Prelude.{◌≡◌, ℕ, List, [], ◌∷◌, map, codes, IfOk, Ok, length};
 ghost use Rattle.nb_names.specs.declared.pointers.Pointers.TheVariants.{Refused};
+ghost use Rattle.nb_names.specs.Hexadecimal.{DataText};
 ghost use Rattle.nb_names.specs.Labels.{NameAt};
 ghost use Rattle.nb_names.specs.Name.{labels_of_name};
 ghost use Rattle.nb_service.specs.declared.classes.TheConstants.{IN};
 ghost use Rattle.nb_service.specs.Building.{packet_of};
 ghost use Rattle.nb_service.specs.Encoding.{packet_bytes};
-ghost use Rattle.nb_service.specs.Record.{ResourceData, record_of};
-ghost use Rattle.nbt.specs.Responses.{HasRdata, IsResponse, WordText, with_flag};
+ghost use Rattle.nb_service.specs.Record.{ResourceData, ResourceRecord, record_of};
+ghost use Rattle.nbt.specs.Built.{IsServiceBuilt, NumberText, WordText};
+ghost use Rattle.nbt.specs.Responses.{HasRdata, response_packet, with_flag};
 
-use crate::commands::build::arguments::{bytes, long_number, word};
+use crate::commands::build::arguments::{data, long_number, word};
 use crate::commands::build::build_fault::BuildFault;
 use nb_names::{Bytes, DomainName, Name, Pointers, name_from_text, read_domain};
 use nb_service::classes::IN;
@@ -30,29 +32,35 @@ const B: u16 = 0x0010;
 ///
 /// RFC 1002 section 4.2.1.3.
 pub fn build(alloc: Global, words: &[&str], broadcast: bool) -> Result<Bytes, BuildFault>
-    ensures { IfOk result (λ bytes.
-        IsResponse (map (λ text. text.now) words.now) broadcast bytes) }
+    ensures { IfOk result
+        (IsServiceBuilt broadcast (codes "response") (map (λ w. w.now) words.now)) }
 {
     let [id, flags, name, kind, ttl, digits] = words else {
         return Err(BuildFault::Arguments);
     };
-    let id = word(id)?;
-    let flags = flag_word(flags, broadcast)?;
+    let id = word(alloc, id)?;
+    let flags = flag_word(alloc, flags, broadcast)?;
     let name = name_from_text(name)?;
-    let kind = word(kind)?;
-    let ttl = long_number(ttl)?;
-    let rdata = bytes(alloc, digits)?;
-    let answer = answer(&name, kind, ttl, rdata.as_slice())?;
-    encoded(alloc, id, flags, answer)
+    let (kind, ttl) = kind_and_ttl(alloc, kind, ttl)?;
+    let rdata = data(alloc, digits)?;
+    answered(alloc, id, flags, answer(&name, kind, ttl, rdata.as_slice()))
 }
 
 /// The flag word of these digits, with B set where the packet is broadcast.
-fn flag_word(digits: &str, broadcast: bool) -> Result<u16, BuildFault>
+fn flag_word(alloc: Global, digits: &str, broadcast: bool) -> Result<u16, BuildFault>
     ensures { IfOk result (λ made. (number : ℕ) × WordText number digits.now
         × (made ≡ with_flag number broadcast)) }
 {
-    let flags = word(digits)?;
+    let flags = word(alloc, digits)?;
     Ok(if broadcast { flags | B } else { flags })
+}
+
+/// The type of a record, and its time to live.
+fn kind_and_ttl(alloc: Global, kind: &str, ttl: &str) -> Result<(u16, u32), BuildFault>
+    ensures { IfOk result (λ both. WordText both.0 kind.now
+        × NumberText 4294967295 both.1 ttl.now) }
+{
+    Ok((word(alloc, kind)?, long_number(ttl)?))
 }
 
 /// The record of a name, with these bytes as RDATA.
@@ -77,6 +85,22 @@ fn domain_of(bytes: &[u8]) -> Result<DomainName, BuildFault>
     match read_domain(bytes, 0, Pointers::Refused) {
         Ok((domain, next)) if next == bytes.len() => Ok(domain),
         _ => Err(BuildFault::Arguments),
+    }
+}
+
+/// The bytes of a packet with this answer, where it could be made, and nothing else.
+fn answered(
+    alloc: Global,
+    id: u16,
+    word: u16,
+    answer: Result<Record<'_>, BuildFault>,
+) -> Result<Bytes, BuildFault>
+    ensures { IfOk result (λ bytes. (made : ResourceRecord) × (answer.entry ≡ Ok made)
+        × (bytes ≡ packet_bytes (packet_of id word [] (made ∷ []) [] []))) }
+{
+    match answer {
+        Ok(answer) => encoded(alloc, id, word, answer),
+        Err(fault) => Err(fault),
     }
 }
 

@@ -1,7 +1,12 @@
 //! Name service packets from arguments.
+ghost use Rattle.std.specs.Prelude.{◌≡◌, ℕ, map, codes, IfOk, Ok};
+ghost use Rattle.nb_service.specs.Packet.{ServicePacket};
+ghost use Rattle.nb_service.specs.Encoding.{packet_bytes};
+ghost use Rattle.nbt.specs.Built.{EntryTexts, IsServiceBuilt, NumberText};
 
-use crate::commands::build::arguments::{address, long_number, word};
+use crate::commands::build::arguments::{entry, long_number, word};
 use crate::commands::build::build_fault::BuildFault;
+use crate::commands::build::response;
 use nb_names::{Bytes, NoMemory, name_from_text};
 use nb_service::{
     AddressEntry, Packet, encode, node_status_request, query, refresh, registration, release,
@@ -11,80 +16,97 @@ use std::alloc::Global;
 /// The bytes of the packet that WHAT and its arguments give.
 ///
 /// `query` and `status` take ID NAME, `registration` and `refresh` ID NAME TTL FLAGS ADDRESS,
-/// `release` ID NAME FLAGS ADDRESS.
+/// `release` ID NAME FLAGS ADDRESS, and `response` ID WORD NAME TYPE TTL DATA.
 pub fn build(
     alloc: Global,
     what: &str,
     words: &[&str],
     broadcast: bool,
-) -> Result<Bytes, BuildFault> {
+) -> Result<Bytes, BuildFault>
+    ensures { IfOk result (IsServiceBuilt broadcast what.now (map (λ w. w.now) words.now)) }
+{
     match what {
         "query" | "status" => question(alloc, what, words, broadcast),
         "registration" | "refresh" => claim(alloc, what, words, broadcast),
         "release" => withdrawal(alloc, words, broadcast),
+        "response" => response::build(alloc, words, broadcast),
         _ => Err(BuildFault::Arguments),
     }
 }
 
 /// A packet that asks for a name, or for a node's status, from ID NAME.
-fn question(
-    alloc: Global,
-    what: &str,
-    words: &[&str],
-    broadcast: bool,
-) -> Result<Bytes, BuildFault> {
+fn question(alloc: Global, what: &str, words: &[&str], broadcast: bool) -> Result<Bytes, BuildFault>
+    ensures { IfOk result (IsServiceBuilt broadcast what.now (map (λ w. w.now) words.now)) }
+{
     let [id, name] = words else {
         return Err(BuildFault::Arguments);
     };
-    let id = word(id)?;
+    let id = word(alloc, id)?;
     let name = name_from_text(name)?;
-    let packet = if what == "query" {
-        query(alloc, id, &name, broadcast)
-    } else {
-        node_status_request(alloc, id, &name, broadcast)
-    };
-    encoded(alloc, packet)
+    match what {
+        "query" => encoded(alloc, query(alloc, id, &name, broadcast)),
+        "status" => encoded(alloc, node_status_request(alloc, id, &name, broadcast)),
+        _ => Err(BuildFault::Arguments),
+    }
 }
 
 /// A packet that registers a name, or refreshes it, from ID NAME TTL FLAGS ADDRESS.
-fn claim(alloc: Global, what: &str, words: &[&str], broadcast: bool) -> Result<Bytes, BuildFault> {
+fn claim(alloc: Global, what: &str, words: &[&str], broadcast: bool) -> Result<Bytes, BuildFault>
+    ensures { IfOk result (IsServiceBuilt broadcast what.now (map (λ w. w.now) words.now)) }
+{
     let [id, name, ttl, flags, place] = words else {
         return Err(BuildFault::Arguments);
     };
-    let id = word(id)?;
+    let id = word(alloc, id)?;
     let name = name_from_text(name)?;
-    let ttl = long_number(ttl)?;
-    let entry = entry(flags, place)?;
-    let packet = if what == "registration" {
-        registration(alloc, id, &name, broadcast, ttl, &entry)
-    } else {
-        refresh(alloc, id, &name, broadcast, ttl, &entry)
-    };
-    encoded(alloc, packet)
+    let (ttl, entry) = claimed(alloc, ttl, flags, place)?;
+    let entry = entry.to_bytes();
+    match what {
+        "registration" => {
+            encoded(
+                alloc,
+                registration(alloc, id, &name, broadcast, ttl, &entry),
+            )
+        }
+        "refresh" => encoded(alloc, refresh(alloc, id, &name, broadcast, ttl, &entry)),
+        _ => Err(BuildFault::Arguments),
+    }
 }
 
 /// A packet that gives a name up, from ID NAME FLAGS ADDRESS.
-fn withdrawal(alloc: Global, words: &[&str], broadcast: bool) -> Result<Bytes, BuildFault> {
+fn withdrawal(alloc: Global, words: &[&str], broadcast: bool) -> Result<Bytes, BuildFault>
+    ensures { IfOk result
+        (IsServiceBuilt broadcast (codes "release") (map (λ w. w.now) words.now)) }
+{
     let [id, name, flags, place] = words else {
         return Err(BuildFault::Arguments);
     };
-    let id = word(id)?;
+    let id = word(alloc, id)?;
     let name = name_from_text(name)?;
-    let entry = entry(flags, place)?;
+    let entry = entry(alloc, flags, place)?.to_bytes();
     encoded(alloc, release(alloc, id, &name, broadcast, &entry))
 }
 
+/// How long a claim to a name lasts, in seconds, and its address entry.
+fn claimed(
+    alloc: Global,
+    ttl: &str,
+    flags: &str,
+    place: &str,
+) -> Result<(u32, AddressEntry), BuildFault>
+    ensures { IfOk result (λ claim. NumberText 4294967295 claim.0 ttl.now
+        × EntryTexts claim.1 flags.now place.now) }
+{
+    Ok((long_number(ttl)?, entry(alloc, flags, place)?))
+}
+
 /// The bytes of a packet, where there was memory to make it.
-fn encoded(alloc: Global, made: Result<Packet<'_>, NoMemory>) -> Result<Bytes, BuildFault> {
+fn encoded(alloc: Global, made: Result<Packet<'_>, NoMemory>) -> Result<Bytes, BuildFault>
+    ensures { IfOk result (λ bytes. (packet : ServicePacket) × (made.entry ≡ Ok packet)
+        × (bytes ≡ packet_bytes packet)) }
+{
     match made {
         Ok(packet) => Ok(encode(alloc, &packet)?),
         Err(NoMemory) => Err(BuildFault::Memory),
     }
-}
-
-/// The address entry of the flags and the address.
-fn entry(flags: &str, place: &str) -> Result<[u8; 6], BuildFault> {
-    let flags = word(flags)?;
-    let address = address(place)?;
-    Ok(AddressEntry { flags, address }.to_bytes())
 }

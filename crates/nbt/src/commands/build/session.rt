@@ -1,6 +1,9 @@
 //! Session packets from arguments.
+ghost use Rattle.std.specs.Prelude.{◌≡◌, [], map, codes, IfOk};
+ghost use Rattle.nb_session.specs.Packet.{IsPacket};
+ghost use Rattle.nbt.specs.Built.{IsSessionBuilt};
 
-use crate::commands::build::arguments::{address, bytes, code, number};
+use crate::commands::build::arguments::{address, code, data, number};
 use crate::commands::build::build_fault::BuildFault;
 use nb_names::{Bytes, name_from_text};
 use nb_session::{MessageData, Packet, encode};
@@ -10,7 +13,9 @@ use std::alloc::Global;
 ///
 /// `request` takes CALLED CALLING, `message` HEX, `negative` CODE, `retarget` ADDRESS PORT, and
 /// `positive` and `keepalive` take none.
-pub fn build(alloc: Global, what: &str, words: &[&str]) -> Result<Bytes, BuildFault> {
+pub fn build(alloc: Global, what: &str, words: &[&str]) -> Result<Bytes, BuildFault>
+    ensures { IfOk result (IsSessionBuilt what.now (map (λ w. w.now) words.now)) }
+{
     match what {
         "request" => request(alloc, words),
         "message" => message(alloc, words),
@@ -23,7 +28,9 @@ pub fn build(alloc: Global, what: &str, words: &[&str]) -> Result<Bytes, BuildFa
 }
 
 /// The bytes of a request, from CALLED CALLING.
-fn request(alloc: Global, words: &[&str]) -> Result<Bytes, BuildFault> {
+fn request(alloc: Global, words: &[&str]) -> Result<Bytes, BuildFault>
+    ensures { IfOk result (IsSessionBuilt (codes "request") (map (λ w. w.now) words.now)) }
+{
     let [called, calling] = words else {
         return Err(BuildFault::Arguments);
     };
@@ -33,11 +40,13 @@ fn request(alloc: Global, words: &[&str]) -> Result<Bytes, BuildFault> {
 }
 
 /// The bytes of a message, from HEX.
-fn message(alloc: Global, words: &[&str]) -> Result<Bytes, BuildFault> {
+fn message(alloc: Global, words: &[&str]) -> Result<Bytes, BuildFault>
+    ensures { IfOk result (IsSessionBuilt (codes "message") (map (λ w. w.now) words.now)) }
+{
     let [digits] = words else {
         return Err(BuildFault::Arguments);
     };
-    let bytes = bytes(alloc, digits)?;
+    let bytes = data(alloc, digits)?;
     match MessageData::new(bytes.as_slice()) {
         Ok(message) => encoded(alloc, &Packet::Message(message)),
         Err(_) => Err(BuildFault::TooLong),
@@ -45,15 +54,19 @@ fn message(alloc: Global, words: &[&str]) -> Result<Bytes, BuildFault> {
 }
 
 /// The bytes of a negative response, from CODE.
-fn negative(alloc: Global, words: &[&str]) -> Result<Bytes, BuildFault> {
+fn negative(alloc: Global, words: &[&str]) -> Result<Bytes, BuildFault>
+    ensures { IfOk result (IsSessionBuilt (codes "negative") (map (λ w. w.now) words.now)) }
+{
     let [digits] = words else {
         return Err(BuildFault::Arguments);
     };
-    encoded(alloc, &Packet::Negative(code(digits)?))
+    encoded(alloc, &Packet::Negative(code(alloc, digits)?))
 }
 
 /// The bytes of a retarget response, from ADDRESS PORT.
-fn retarget(alloc: Global, words: &[&str]) -> Result<Bytes, BuildFault> {
+fn retarget(alloc: Global, words: &[&str]) -> Result<Bytes, BuildFault>
+    ensures { IfOk result (IsSessionBuilt (codes "retarget") (map (λ w. w.now) words.now)) }
+{
     let [place, port] = words else {
         return Err(BuildFault::Arguments);
     };
@@ -63,7 +76,9 @@ fn retarget(alloc: Global, words: &[&str]) -> Result<Bytes, BuildFault> {
 }
 
 /// The bytes of a packet that takes no arguments.
-fn bare(alloc: Global, words: &[&str], packet: &Packet<'_>) -> Result<Bytes, BuildFault> {
+fn bare(alloc: Global, words: &[&str], packet: &Packet<'_>) -> Result<Bytes, BuildFault>
+    ensures { IfOk result (λ bytes. (words.now ≡ []) × IsPacket packet.now bytes) }
+{
     match words {
         [] => encoded(alloc, packet),
         _ => Err(BuildFault::Arguments),
@@ -71,6 +86,8 @@ fn bare(alloc: Global, words: &[&str], packet: &Packet<'_>) -> Result<Bytes, Bui
 }
 
 /// The bytes of a packet.
-fn encoded(alloc: Global, packet: &Packet<'_>) -> Result<Bytes, BuildFault> {
+fn encoded(alloc: Global, packet: &Packet<'_>) -> Result<Bytes, BuildFault>
+    ensures { IfOk result (IsPacket packet.now) }
+{
     Ok(encode(alloc, packet)?)
 }

@@ -1,5 +1,5 @@
-use Rattle.nbt.proofs.BuildingTurns.{lines_of_one}
+use Rattle.nbt.proofs.BuildingTurns.{session_lines}
 use Rattle.nbt.proofs.commands.build.session_line.Goals as goal
 
 pub returns : goal.returns
-returns c = lines_of_one 139 _ _ c.in_ok-line.ensures
+returns c broadcast = session_lines broadcast _ _ _ _ c.in_ok-packet.ensures c.in_ok-line.ensures

@@ -1,4 +1,4 @@
-use Rattle.nbt.proofs.ResponseLemmas.{number_from_parse}
+use Rattle.nbt.proofs.ArgumentLemmas.{number_from_parse}
 use Rattle.nbt.proofs.commands.build.arguments.long_number.Goals as goal
 
 pub returns-in-Ok : goal.returns-in-Ok

@@ -1,0 +1,12 @@
+use Rattle.std.proofs.Common.{◌≡◌, ap, ◌∙◌, arith, map}
+use Rattle.std.proofs.lemmas.Result.{IfOk-weaker}
+use Rattle.nb_datagram.specs.declared.packet.Packet.TheVariants.{Direct}
+use Rattle.nb_datagram.specs.Packet.{packet_bytes}
+use Rattle.nbt.proofs.commands.build.datagram.fragments_of.Goals as goal
+
+pub returns : goal.returns
+returns c =
+    let some : ¬ (c.args.most ≡ 0) = λ zero. let clash = c.cut.ensures.zero.1 zero in cc (clash, c.in_ok-pieces.was) in
+    IfOk-weaker c.encoded_pieces.result _ _
+    (λ packets is. (omega (arith, some), is ∙ ap (map (λ piece. packet_bytes (Direct piece))) c.in_ok-pieces.ensures.value))
+    c.encoded_pieces.ensures

@@ -1,0 +1,16 @@
+use Rattle.std.proofs.Common.{sym, ap, ◌∙◌}
+use Rattle.std.specs.Prelude.{option_map}
+use Rattle.std.proofs.lemmas.Result.{IfOk-weaker}
+use Rattle.nbt.proofs.commands.build.lines_of.Goals as goal
+
+pub returns-in-Some : goal.returns-in-Some
+returns-in-Some c =
+    IfOk-weaker c.build.result _ _
+    (λ lines built. record {
+      broadcast = c.is_broadcast.result;
+      what = _;
+      words = _;
+      given = record { has_flag = c.is_broadcast.ensures; has_what = sym c.get_str.ensures ∙ ap (option_map (λ s. s.now)) c.in-Some.is; has_words = sym c.words_of.ensures };
+      built = built;
+    })
+    c.build.ensures

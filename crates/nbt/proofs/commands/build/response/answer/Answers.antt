@@ -1,7 +1,6 @@
-use Rattle.std.proofs.Common.{◌≡◌, sym, ap, ◌∙◌, Ok, Err, Result}
+use Rattle.std.proofs.Common.{sym, ap, ◌∙◌, Err}
 use Rattle.nb_service.specs.declared.classes.TheConstants.{IN}
 use Rattle.nb_service.specs.Record.{of_bytes, of_domain, record_of}
-use Rattle.nb_names.specs.Name.{labels_of_name}
 use Rattle.nbt.specs.Responses.{plain, domain}
 use Rattle.nbt.proofs.commands.build.response.answer.Goals as goal
 

@@ -189,8 +189,8 @@ streams() {
 # ---- Each request for memory refused.
 
 # remembers WORD..: with each request refused, the process ends with status 3, `nbt: memory`, and what its command leaves
-# on its output then. Of words that aren't a command line it may also end as with ample memory, but not at each request;
-# with none refused it does.
+# on its output then. Of words that aren't a command line, and of bad digits (digits=bad), it may also end as with ample
+# memory, but not at each request; with none refused it does.
 remembers() {
     local status n told=0
     requests "$program" "$@" <"$input" >"$room/ample" 2>"$room/ample_errors"
@@ -200,6 +200,7 @@ remembers() {
     for ((n = 1; n <= number; n++)); do
         refusing NBT_REFUSED=$n "$program" "$@" <"$input" >"$room/output" 2>"$room/errors"
         case $? in
+        1) [ "$status" -eq 1 ] && [ "${digits:-}" = bad ] && is_ample ;;
         2) [ "$status" -eq 2 ] && is_ample ;;
         3) holds "$room/errors" $'nbt: memory\n' && is_left_by "${1:-}" && told=$((told + 1)) ;;
         *) false ;;
@@ -231,7 +232,7 @@ memory() {
     remembers name 'FRED<20>.NETBIOS.COM'
     remembers name --bytes "$scoped"
     remembers name FRED
-    remembers name --bytes 0g
+    digits=bad remembers name --bytes 0g
     remembers name --bytes "${fred}00"
     remembers name
     remembers name --help

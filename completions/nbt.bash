@@ -6,12 +6,12 @@ _nbt() {
     1:*) words='name show build replay save merge list agree help --help --version' ;;
     2:help) words='name show build replay save merge list agree' ;;
     *:name) words='--bytes --help' ;;
-    *:show) words='--input-limit --help' ;;
+    *:show) words='--input-limit --comments --help' ;;
     *:build)
         words='--broadcast --help'
         case $3 in build | --broadcast) words+=' query status registration refresh release response request message positive negative retarget keepalive unique group broadcast error find found missing' ;; esac
         ;;
-    *:replay) words='--keys --per-source --input-limit --help' ;;
+    *:replay) words='--keys --per-source --input-limit --comments --help' ;;
     *:save) words='--keys --per-source --input-limit --help' ;;
     *:merge) words='--keys --per-source --help' ;;
     *:list) words='--keys --per-source --help' ;;

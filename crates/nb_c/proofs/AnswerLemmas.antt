@@ -1,0 +1,20 @@
+-- What is judged and answered is done.
+use Rattle.std.proofs.Common.{◌≡◌, ℕ, List, Result, Ok, Err, inl, inr, subst, sym}
+use Rattle.nb_c.specs.declared.refusal.Refusal.{Refusal}
+use Rattle.nb_c.specs.declared.refusal.Refusal.TheVariants.{NoMemory, Fault, FaultAt}
+use Rattle.nb_c.specs.Outputs.{Alone, Answers, Does, Judged}
+
+module _ (Says : Result (List ℕ) Refusal → Type 0) (old new : List ℕ) (used used' at at' status : ℕ) where
+  alone : (answer : Result (List ℕ) Refusal) → Alone (List ℕ) Says answer → Answers answer old new used used' at at' status
+      → Does Says old new used used' at at' status
+  alone answer j h = record {
+    some = inr (answer, (j.said, h));
+    only = λ other said. inr (subst (λ (told : Result (List ℕ) Refusal). Answers told old new used used' at at' status) (sym (j.only other said)) h);
+  }
+
+  pub does : (answer : Result (List ℕ) Refusal) → Judged (List ℕ) Says answer → Answers answer old new used used' at at' status
+      → Does Says old new used used' at at' status
+  does (Ok bytes) j h = alone (Ok bytes) j h
+  does (Err NoMemory) j h = record { some = inl h; only = λ other said. inl h }
+  does (Err (Fault code)) j h = alone (Err (Fault code)) j h
+  does (Err (FaultAt code place)) j h = alone (Err (FaultAt code place)) j h

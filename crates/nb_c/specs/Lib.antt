@@ -1,0 +1,4 @@
+pub mod Names
+pub mod Outputs
+pub mod Statuses
+pub mod Words

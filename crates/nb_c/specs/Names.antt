@@ -1,0 +1,32 @@
+-- What the calls on names answer (RFC 1001 section 14.1, RFC 1002 section 4.1).
+use Rattle.std.specs.Prelude.{◌≡◌, ◌⊎◌, ◌<◌, ℕ, List, length, Result, Ok, Err}
+use Rattle.nb_names.specs.declared.fault.NameFault.{NameFault}
+use Rattle.nb_names.specs.declared.pointers.Pointers.TheVariants.{Refused}
+use Rattle.nb_names.specs.declared.text_fault.TextFault.{TextFault}
+use Rattle.nb_names.specs.DomainName.{spelling}
+use Rattle.nb_names.specs.Labels.{NameAt}
+use Rattle.nb_names.specs.Name.{NetbiosName, IsName, labels_of_name}
+use Rattle.nb_names.specs.NameFaults.{NetbiosFaultAt}
+use Rattle.nb_names.specs.NameText.{IsText, IsFaultOf, written}
+use Rattle.nb_c.specs.declared.refusal.Refusal.{Refusal}
+use Rattle.nb_c.specs.declared.refusal.Refusal.TheVariants.{FaultAt}
+use Rattle.nb_c.specs.declared.statuses.TheConstants.{NAME_TRAILING_BYTES}
+use Rattle.nb_c.specs.Statuses.{text_refusal, name_refusal}
+
+-- Spells text answer: the text is of a name, whose spelling is answered, or has this fault
+abbrev pub Spells : List ℕ → Result (List ℕ) Refusal → Type 0
+Spells text (Ok bytes) = (name : NetbiosName) × IsText name text × (bytes ≡ spelling (labels_of_name name))
+Spells text (Err refusal) = (fault : TextFault) × IsFaultOf text fault × (refusal ≡ text_refusal fault)
+
+-- why the bytes aren't one name: it can't be read, or bytes follow it
+abbrev pub IsNoSpelling : List ℕ → Refusal → Type 0
+IsNoSpelling bytes refusal =
+    ((fault : NameFault) × NetbiosFaultAt bytes Refused 0 fault × (refusal ≡ name_refusal fault))
+    ⊎ ((name : NetbiosName) × (next : ℕ) × IsName name × NameAt bytes Refused 0 (labels_of_name name) next
+      × (next < length bytes) × (refusal ≡ FaultAt NAME_TRAILING_BYTES next))
+
+-- Reads bytes answer: the bytes are one name, whose text is answered, or have this fault
+abbrev pub Reads : List ℕ → Result (List ℕ) Refusal → Type 0
+Reads bytes (Ok text) =
+    (name : NetbiosName) × IsName name × NameAt bytes Refused 0 (labels_of_name name) (length bytes) × (text ≡ written name)
+Reads bytes (Err refusal) = IsNoSpelling bytes refusal

@@ -1,0 +1,9 @@
+//! NetBIOS packets for callers in C: the calls of include/nbt.h.
+#![tactic(auto)]
+
+pub mod names;
+mod output;
+mod refusal;
+pub mod statuses;
+mod texts;
+pub mod words;

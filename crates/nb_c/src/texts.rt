@@ -1,0 +1,38 @@
+//! Names, read from the bytes of a caller's text.
+ghost use Rattle.std.specs.Prelude.{◌≡◌, IfOk, IfErr, IsOkAnd};
+ghost use Rattle.std.specs.Str.{IsUtf8, IsValidUpTo};
+ghost use Rattle.nb_names.specs.Name.{NetbiosName};
+ghost use Rattle.nb_names.specs.NameText.{IsText, IsBad, IsFaultOf};
+
+use nb_names::{Name, TextFault, name_from_text};
+
+/// The name that the bytes of a text stand for.
+///
+/// # Errors
+///
+/// As [`name_from_text`]. A byte that isn't ASCII is of no text of the form.
+pub(crate) fn name_of_text(text: &[u8]) -> Result<Name, TextFault>
+    ensures found { IfOk result (λ name. IsText name text.now) }
+    ensures only { (name : NetbiosName) → IsText name text.now →
+        IsOkAnd result (λ read. read ≡ name) }
+    ensures fault { IfErr result (IsFaultOf text.now) }
+{
+    match str::from_utf8(text) {
+        Ok(whole) => name_from_text(whole),
+        Err(fault) => Err(TextFault::BadText(bad_place(text, fault.valid_up_to()))),
+    }
+}
+
+/// Where a text leaves the form that is UTF-8 up to a place alone.
+fn bad_place(text: &[u8], valid: usize) -> usize
+    requires { IsValidUpTo text.now valid }
+    ensures { IsBad text.now result }
+{
+    match str::from_utf8(&text[..valid]) {
+        Ok(front) => match name_from_text(front) {
+            Err(TextFault::BadText(place)) => place,
+            Err(TextFault::TooLong) | Ok(_) => valid,
+        },
+        Err(_) => 0,
+    }
+}

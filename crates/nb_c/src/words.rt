@@ -1,0 +1,205 @@
+//! The words of statuses (our choice).
+ghost use Rattle.std.specs.Prelude.{◌≡◌, option_map};
+ghost use Rattle.nb_c.specs.Outputs.{Answers};
+ghost use Rattle.nb_c.specs.Words.{status_answer, status_word, outcome_word, text_word, name_word, source_word, destination_word, packet_word, request_word, table_word, second_word, join_word, station_word, last_word};
+
+use crate::output::put;
+use crate::statuses::{DONE, NO_ROOM, NO_MEMORY, BAD_TEXT, LONG_TEXT, SOURCE_BAD_TEXT, SOURCE_LONG_TEXT, DESTINATION_BAD_TEXT, DESTINATION_LONG_TEXT, NAME_TRUNCATED, NAME_RESERVED_LABEL, NAME_POINTER, NAME_LONG, NAME_NOT_NETBIOS, NAME_TRAILING_BYTES, NAME_BAD_POINTER, SOURCE_TRUNCATED, SOURCE_RESERVED_LABEL, SOURCE_POINTER, SOURCE_LONG, SOURCE_NOT_NETBIOS, SOURCE_BAD_POINTER, DESTINATION_TRUNCATED, DESTINATION_RESERVED_LABEL, DESTINATION_POINTER, DESTINATION_LONG, DESTINATION_NOT_NETBIOS, DESTINATION_BAD_POINTER, TRUNCATED, UNKNOWN_TYPE, MORE, RESERVED_FLAGS, BAD_LENGTH, TRAILING_BYTES, UNKNOWN_REQUEST, ZERO_PIECE, LONG_DATA, TABLE_BAD_MAGIC, TABLE_TRUNCATED, TABLE_NOT_CANONICAL, TABLE_LONG, TABLE_FULL_SOURCE, TABLE_FULL, SECOND_BAD_MAGIC, SECOND_TRUNCATED, SECOND_NOT_CANONICAL, SECOND_LONG, SECOND_FULL_SOURCE, SECOND_FULL, MISPLACED_FIRST, LONG, FULL_SOURCE, FULL, NAME_PRESENT, TOO_MANY_NAMES, UNKNOWN_STATUS};
+
+/// Writes the words of a status: plain ASCII, without a line feed.
+///
+/// A number that is no status is answered by [`UNKNOWN_STATUS`]. The words are our choice.
+#[unsafe(no_mangle)]
+pub extern "C" fn nbt_status_text(status: u32, into: &mut [u8], used: &mut usize) -> u32
+    ensures { Answers (status_answer status) into.old into.new used.old used.new 0 0 result }
+{
+    match status_words(status) {
+        Some(words) => put(words.as_bytes(), into, used),
+        None => UNKNOWN_STATUS,
+    }
+}
+
+/// The words of a status, if it is one.
+fn status_words(status: u32) -> Option<&'static str>
+    ensures { option_map (λ words. words.now) result ≡ status_word status }
+{
+    match status / 10 {
+        0 => outcome_words(status),
+        1 => text_words(status),
+        2 => name_words(status),
+        3 => source_words(status),
+        4 => destination_words(status),
+        5 => packet_words(status),
+        6 => request_words(status),
+        7 => table_words(status),
+        8 => second_words(status),
+        9 => join_words(status),
+        10 => station_words(status),
+        25 => last_words(status),
+        _ => None,
+    }
+}
+
+/// The words of a status of what isn't about an input.
+fn outcome_words(status: u32) -> Option<&'static str>
+    ensures { option_map (λ words. words.now) result ≡ outcome_word status }
+{
+    match status {
+        DONE => Some("done"),
+        NO_ROOM => Some("no room"),
+        NO_MEMORY => Some("memory"),
+        _ => None,
+    }
+}
+
+/// The words of a status on a text.
+fn text_words(status: u32) -> Option<&'static str>
+    ensures { option_map (λ words. words.now) result ≡ text_word status }
+{
+    match status {
+        BAD_TEXT => Some("bad text"),
+        LONG_TEXT => Some("text too long"),
+        SOURCE_BAD_TEXT => Some("source: bad text"),
+        SOURCE_LONG_TEXT => Some("source: text too long"),
+        DESTINATION_BAD_TEXT => Some("destination: bad text"),
+        DESTINATION_LONG_TEXT => Some("destination: text too long"),
+        _ => None,
+    }
+}
+
+/// The words of a status on a name that is read.
+fn name_words(status: u32) -> Option<&'static str>
+    ensures { option_map (λ words. words.now) result ≡ name_word status }
+{
+    match status {
+        NAME_TRUNCATED => Some("name: truncated"),
+        NAME_RESERVED_LABEL => Some("name: reserved label"),
+        NAME_POINTER => Some("name: pointer not allowed"),
+        NAME_LONG => Some("name: too long"),
+        NAME_NOT_NETBIOS => Some("name: not netbios"),
+        NAME_TRAILING_BYTES => Some("name: trailing bytes"),
+        NAME_BAD_POINTER => Some("name: bad pointer"),
+        _ => None,
+    }
+}
+
+/// The words of a status on a source's name that is read.
+fn source_words(status: u32) -> Option<&'static str>
+    ensures { option_map (λ words. words.now) result ≡ source_word status }
+{
+    match status {
+        SOURCE_TRUNCATED => Some("source name: truncated"),
+        SOURCE_RESERVED_LABEL => Some("source name: reserved label"),
+        SOURCE_POINTER => Some("source name: pointer not allowed"),
+        SOURCE_LONG => Some("source name: too long"),
+        SOURCE_NOT_NETBIOS => Some("source name: not netbios"),
+        SOURCE_BAD_POINTER => Some("source name: bad pointer"),
+        _ => None,
+    }
+}
+
+/// The words of a status on a destination's name that is read.
+fn destination_words(status: u32) -> Option<&'static str>
+    ensures { option_map (λ words. words.now) result ≡ destination_word status }
+{
+    match status {
+        DESTINATION_TRUNCATED => Some("destination name: truncated"),
+        DESTINATION_RESERVED_LABEL => Some("destination name: reserved label"),
+        DESTINATION_POINTER => Some("destination name: pointer not allowed"),
+        DESTINATION_LONG => Some("destination name: too long"),
+        DESTINATION_NOT_NETBIOS => Some("destination name: not netbios"),
+        DESTINATION_BAD_POINTER => Some("destination name: bad pointer"),
+        _ => None,
+    }
+}
+
+/// The words of a status on a packet.
+fn packet_words(status: u32) -> Option<&'static str>
+    ensures { option_map (λ words. words.now) result ≡ packet_word status }
+{
+    match status {
+        TRUNCATED => Some("truncated"),
+        UNKNOWN_TYPE => Some("unknown type"),
+        MORE => Some("more bytes needed"),
+        RESERVED_FLAGS => Some("reserved flags"),
+        BAD_LENGTH => Some("bad length"),
+        TRAILING_BYTES => Some("trailing bytes"),
+        _ => None,
+    }
+}
+
+/// The words of a status on what is asked to be written.
+fn request_words(status: u32) -> Option<&'static str>
+    ensures { option_map (λ words. words.now) result ≡ request_word status }
+{
+    match status {
+        UNKNOWN_REQUEST => Some("unknown request"),
+        ZERO_PIECE => Some("zero piece"),
+        LONG_DATA => Some("data too long"),
+        _ => None,
+    }
+}
+
+/// The words of a status on a saved table.
+fn table_words(status: u32) -> Option<&'static str>
+    ensures { option_map (λ words. words.now) result ≡ table_word status }
+{
+    match status {
+        TABLE_BAD_MAGIC => Some("table: bad magic"),
+        TABLE_TRUNCATED => Some("table: truncated"),
+        TABLE_NOT_CANONICAL => Some("table: not canonical"),
+        TABLE_LONG => Some("table: too long"),
+        TABLE_FULL_SOURCE => Some("table: full source"),
+        TABLE_FULL => Some("table: full"),
+        _ => None,
+    }
+}
+
+/// The words of a status on the second of two saved tables.
+fn second_words(status: u32) -> Option<&'static str>
+    ensures { option_map (λ words. words.now) result ≡ second_word status }
+{
+    match status {
+        SECOND_BAD_MAGIC => Some("second table: bad magic"),
+        SECOND_TRUNCATED => Some("second table: truncated"),
+        SECOND_NOT_CANONICAL => Some("second table: not canonical"),
+        SECOND_LONG => Some("second table: too long"),
+        SECOND_FULL_SOURCE => Some("second table: full source"),
+        SECOND_FULL => Some("second table: full"),
+        _ => None,
+    }
+}
+
+/// The words of a status on a table and what is joined to it.
+fn join_words(status: u32) -> Option<&'static str>
+    ensures { option_map (λ words. words.now) result ≡ join_word status }
+{
+    match status {
+        MISPLACED_FIRST => Some("misplaced first"),
+        LONG => Some("too long"),
+        FULL_SOURCE => Some("full source"),
+        FULL => Some("full"),
+        _ => None,
+    }
+}
+
+/// The words of a status on a station's names.
+fn station_words(status: u32) -> Option<&'static str>
+    ensures { option_map (λ words. words.now) result ≡ station_word status }
+{
+    match status {
+        NAME_PRESENT => Some("name present"),
+        TOO_MANY_NAMES => Some("too many names"),
+        _ => None,
+    }
+}
+
+/// The words of a status of the last number.
+fn last_words(status: u32) -> Option<&'static str>
+    ensures { option_map (λ words. words.now) result ≡ last_word status }
+{
+    match status {
+        UNKNOWN_STATUS => Some("unknown status"),
+        _ => None,
+    }
+}

@@ -1,8 +1,10 @@
 -- What is judged and answered is done.
-use Rattle.std.proofs.Common.{◌≡◌, ℕ, List, Result, Ok, Err, inl, inr, subst, sym}
+use Rattle.std.proofs.Common.{◌≡◌, ℕ, List, Result, Ok, Err, inl, inr, subst, sym, tt}
+use Rattle.std.specs.Prelude.{IfOk}
+use Rattle.nb_names.specs.declared.bytes.NoMemory.{NoMemory}
 use Rattle.nb_c.specs.declared.refusal.Refusal.{Refusal}
-use Rattle.nb_c.specs.declared.refusal.Refusal.TheVariants.{NoMemory, Fault, FaultAt}
-use Rattle.nb_c.specs.Outputs.{Alone, Answers, Does, Judged}
+use Rattle.nb_c.specs.declared.refusal.Refusal.TheVariants.{Memory, Fault, FaultAt}
+use Rattle.nb_c.specs.Outputs.{Alone, Answers, Does, Judged, of_memory}
 
 module _ (Says : Result (List ℕ) Refusal → Type 0) (old new : List ℕ) (used used' at at' status : ℕ) where
   alone : (answer : Result (List ℕ) Refusal) → Alone (List ℕ) Says answer → Answers answer old new used used' at at' status
@@ -15,6 +17,12 @@ module _ (Says : Result (List ℕ) Refusal → Type 0) (old new : List ℕ) (use
   pub does : (answer : Result (List ℕ) Refusal) → Judged (List ℕ) Says answer → Answers answer old new used used' at at' status
       → Does Says old new used used' at at' status
   does (Ok bytes) j h = alone (Ok bytes) j h
-  does (Err NoMemory) j h = record { some = inl h; only = λ other said. inl h }
+  does (Err Memory) j h = record { some = inl h; only = λ other said. inl h }
   does (Err (Fault code)) j h = alone (Err (Fault code)) j h
   does (Err (FaultAt code place)) j h = alone (Err (FaultAt code place)) j h
+
+-- bytes that are judged, if there is memory for them
+pub judged : (Says : Result (List ℕ) Refusal → Type 0) (bytes : List ℕ) (told : Result (List ℕ) NoMemory)
+    → Alone (List ℕ) Says (Ok bytes) → IfOk told (λ (found : List ℕ). found ≡ bytes) → Judged (List ℕ) Says (of_memory told)
+judged Says bytes (Ok found) j e = subst (λ (b : List ℕ). Alone (List ℕ) Says (Ok b)) (sym e) j
+judged Says bytes (Err fault) j e = tt

@@ -25,8 +25,8 @@ IsNoSpelling bytes refusal =
     ⊎ ((name : NetbiosName) × (next : ℕ) × IsName name × NameAt bytes Refused 0 (labels_of_name name) next
       × (next < length bytes) × (refusal ≡ FaultAt NAME_TRAILING_BYTES next))
 
--- Reads bytes answer: the bytes are one name, whose text is answered, or have this fault
-abbrev pub Reads : List ℕ → Result (List ℕ) Refusal → Type 0
-Reads bytes (Ok text) =
+-- Tells bytes answer: the bytes are one name, whose text is answered, or have this fault
+abbrev pub Tells : List ℕ → Result (List ℕ) Refusal → Type 0
+Tells bytes (Ok text) =
     (name : NetbiosName) × IsName name × NameAt bytes Refused 0 (labels_of_name name) (length bytes) × (text ≡ written name)
-Reads bytes (Err refusal) = IsNoSpelling bytes refusal
+Tells bytes (Err refusal) = IsNoSpelling bytes refusal

@@ -1,8 +1,9 @@
 -- What a call does to what its caller lends it (our choice): the front of a buffer, how many bytes it has or wants, and
 -- the place of a fault.
 use Rattle.std.specs.Prelude.{◌≡◌, ◌⊎◌, ℕ, Bool, nat_le, List, ◌++◌, length, drop, Result, Ok, Err, if◌then◌else◌, ⊤}
+use Rattle.nb_names.specs.declared.bytes.NoMemory.{NoMemory}
 use Rattle.nb_c.specs.declared.refusal.Refusal.{Refusal}
-use Rattle.nb_c.specs.declared.refusal.Refusal.TheVariants.{NoMemory, Fault, FaultAt}
+use Rattle.nb_c.specs.declared.refusal.Refusal.TheVariants.{Memory, Fault, FaultAt}
 use Rattle.nb_c.specs.declared.statuses.TheConstants.{DONE, NO_ROOM, NO_MEMORY}
 
 -- whether the bytes fit into a buffer
@@ -19,15 +20,20 @@ put_status bytes buffer = if fits bytes buffer then DONE else NO_ROOM
 
 -- the status of a refusal
 abbrev pub refused_status : Refusal → ℕ
-refused_status NoMemory = NO_MEMORY
+refused_status Memory = NO_MEMORY
 refused_status (Fault status) = status
 refused_status (FaultAt status place) = status
 
 -- at_refused refusal at: the place of a fault, where it has one, else what stood there
 abbrev pub at_refused : Refusal → ℕ → ℕ
-at_refused NoMemory at = at
+at_refused Memory at = at
 at_refused (Fault status) at = at
 at_refused (FaultAt status place) at = place
+
+-- the answer of a call that only memory can refuse
+abbrev pub of_memory : Result (List ℕ) NoMemory → Result (List ℕ) Refusal
+of_memory (Ok bytes) = Ok bytes
+of_memory (Err fault) = Err Memory
 
 -- Answers answer old new used used' at at' status: a call with this answer leaves the buffer, the number of bytes and
 -- the place so, and has this status
@@ -44,15 +50,15 @@ pub record Alone (A : Type 0) (Says : Result A Refusal → Type 0) (answer : Res
 
 -- Judged Says answer: this is said, and nothing else, unless memory ran out
 abbrev pub Judged : (A : Type 0) → (Result A Refusal → Type 0) → Result A Refusal → Type 0
-Judged A Says (Ok bytes) = Alone A Says (Ok bytes)
-Judged A Says (Err NoMemory) = ⊤
+Judged A Says (Ok value) = Alone A Says (Ok value)
+Judged A Says (Err Memory) = ⊤
 Judged A Says (Err (Fault status)) = Alone A Says (Err (Fault status))
 Judged A Says (Err (FaultAt status place)) = Alone A Says (Err (FaultAt status place))
 
 -- Does Says old new used used' at at' status: a call does what is said, and whatever is said is what it does, unless
 -- memory runs out
 pub record Does (Says : Result (List ℕ) Refusal → Type 0) (old new : List ℕ) (used used' at at' status : ℕ) : Type 0 where
-  pub some : Answers (Err NoMemory) old new used used' at at' status
+  pub some : Answers (Err Memory) old new used used' at at' status
       ⊎ ((answer : Result (List ℕ) Refusal) × Says answer × Answers answer old new used used' at at' status)
   pub only : (answer : Result (List ℕ) Refusal) → Says answer
-      → Answers (Err NoMemory) old new used used' at at' status ⊎ Answers answer old new used used' at at' status
+      → Answers (Err Memory) old new used used' at at' status ⊎ Answers answer old new used used' at at' status

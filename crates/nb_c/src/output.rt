@@ -1,10 +1,10 @@
 //! What a call writes for its caller. Nothing else writes to a buffer.
 ghost use Rattle.std.specs.Prelude.{◌≡◌, length};
-ghost use Rattle.nb_c.specs.Outputs.{put_into, put_status, at_refused, refused_status, Answers};
+ghost use Rattle.nb_c.specs.Outputs.{put_into, put_status, at_refused, refused_status, of_memory, Answers};
 
 use crate::refusal::Refusal;
 use crate::statuses::{DONE, NO_MEMORY, NO_ROOM};
-use nb_names::Bytes;
+use nb_names::{Bytes, NoMemory};
 
 /// Copies the bytes to the front of a buffer, where they fit.
 pub(crate) fn put(bytes: &[u8], into: &mut [u8], used: &mut usize) -> u32
@@ -26,7 +26,7 @@ pub(crate) fn refuse(refusal: Refusal, at: &mut usize) -> u32
     ensures status { result ≡ refused_status refusal }
 {
     match refusal {
-        Refusal::NoMemory => NO_MEMORY,
+        Refusal::Memory => NO_MEMORY,
         Refusal::Fault(status) => status,
         Refusal::FaultAt(status, place) => {
             *at = place;
@@ -47,5 +47,29 @@ pub(crate) fn write_answer(
     match answer {
         Ok(bytes) => put(bytes.as_slice(), into, used),
         Err(refusal) => refuse(refusal, at),
+    }
+}
+
+/// Writes the bytes, unless memory ran out.
+pub(crate) fn write_bytes(
+    bytes: Result<Bytes, NoMemory>,
+    into: &mut [u8],
+    used: &mut usize,
+) -> u32
+    ensures { Answers (of_memory bytes) into.old into.new used.old used.new 0 0 result }
+{
+    match bytes {
+        Ok(bytes) => put(bytes.as_slice(), into, used),
+        Err(_) => NO_MEMORY,
+    }
+}
+
+/// What a call answers with these bytes, unless memory ran out.
+pub(crate) fn answer_of(bytes: Result<Bytes, NoMemory>) -> Result<Bytes, Refusal>
+    ensures { result ≡ of_memory bytes }
+{
+    match bytes {
+        Ok(bytes) => Ok(bytes),
+        Err(_) => Err(Refusal::Memory),
     }
 }

@@ -6,28 +6,17 @@ use crate::statuses::{
     BAD_TEXT, LONG_TEXT, NAME_BAD_POINTER, NAME_LONG, NAME_NOT_NETBIOS, NAME_POINTER,
     NAME_RESERVED_LABEL, NAME_TRUNCATED,
 };
-use nb_names::{NameFault, NoMemory, TextFault};
+use nb_names::{NameFault, TextFault};
 
 /// Why a call does nothing: a status, and where the fault stands, if it has a place.
 #[derive(Clone, Copy, Debug, PartialEq, Eq)]
 pub enum Refusal {
     /// Memory ran out.
-    NoMemory,
+    Memory,
     /// A fault without a place.
     Fault(u32),
     /// A fault, and its place in bytes.
     FaultAt(u32, usize),
-}
-
-impl From<NoMemory> for Refusal {
-    ghost use Rattle.std.specs.Prelude.{◌≡◌};
-    ghost use Rattle.nb_c.specs.declared.refusal.Refusal.TheVariants.{NoMemory};
-
-    ghost from_gives = { λ _ refusal. refusal ≡ NoMemory };
-
-    fn from(_fault: NoMemory) -> Refusal {
-        Refusal::NoMemory
-    }
 }
 
 /// Why a text is of no name.

@@ -1,10 +1,19 @@
 //! The words of statuses (our choice).
 ghost use Rattle.std.specs.Prelude.{◌≡◌, option_map};
 ghost use Rattle.nb_c.specs.Outputs.{Answers};
-ghost use Rattle.nb_c.specs.Words.{status_answer, status_word, outcome_word, text_word, name_word, source_word, destination_word, packet_word, request_word, table_word, second_word, join_word, station_word, last_word};
+ghost use Rattle.nb_c.specs.Words.{status_answer, status_word, outcome_word, text_word, name_word, source_word, destination_word, packet_word, request_word};
 
 use crate::output::put;
-use crate::statuses::{DONE, NO_ROOM, NO_MEMORY, BAD_TEXT, LONG_TEXT, SOURCE_BAD_TEXT, SOURCE_LONG_TEXT, DESTINATION_BAD_TEXT, DESTINATION_LONG_TEXT, NAME_TRUNCATED, NAME_RESERVED_LABEL, NAME_POINTER, NAME_LONG, NAME_NOT_NETBIOS, NAME_TRAILING_BYTES, NAME_BAD_POINTER, SOURCE_TRUNCATED, SOURCE_RESERVED_LABEL, SOURCE_POINTER, SOURCE_LONG, SOURCE_NOT_NETBIOS, SOURCE_BAD_POINTER, DESTINATION_TRUNCATED, DESTINATION_RESERVED_LABEL, DESTINATION_POINTER, DESTINATION_LONG, DESTINATION_NOT_NETBIOS, DESTINATION_BAD_POINTER, TRUNCATED, UNKNOWN_TYPE, MORE, RESERVED_FLAGS, BAD_LENGTH, TRAILING_BYTES, UNKNOWN_REQUEST, ZERO_PIECE, LONG_DATA, TABLE_BAD_MAGIC, TABLE_TRUNCATED, TABLE_NOT_CANONICAL, TABLE_LONG, TABLE_FULL_SOURCE, TABLE_FULL, SECOND_BAD_MAGIC, SECOND_TRUNCATED, SECOND_NOT_CANONICAL, SECOND_LONG, SECOND_FULL_SOURCE, SECOND_FULL, MISPLACED_FIRST, LONG, FULL_SOURCE, FULL, NAME_PRESENT, TOO_MANY_NAMES, UNKNOWN_STATUS};
+use crate::statuses::{
+    DONE, NO_ROOM, NO_MEMORY, BAD_TEXT, LONG_TEXT, SOURCE_BAD_TEXT, SOURCE_LONG_TEXT,
+    DESTINATION_BAD_TEXT, DESTINATION_LONG_TEXT, NAME_TRUNCATED, NAME_RESERVED_LABEL,
+    NAME_POINTER, NAME_LONG, NAME_NOT_NETBIOS, NAME_TRAILING_BYTES, NAME_BAD_POINTER,
+    SOURCE_TRUNCATED, SOURCE_RESERVED_LABEL, SOURCE_POINTER, SOURCE_LONG, SOURCE_NOT_NETBIOS,
+    SOURCE_BAD_POINTER, DESTINATION_TRUNCATED, DESTINATION_RESERVED_LABEL, DESTINATION_POINTER,
+    DESTINATION_LONG, DESTINATION_NOT_NETBIOS, DESTINATION_BAD_POINTER, TRUNCATED, UNKNOWN_TYPE,
+    MORE, RESERVED_FLAGS, BAD_LENGTH, TRAILING_BYTES, UNKNOWN_REQUEST, ZERO_PIECE, LONG_DATA,
+    UNKNOWN_STATUS,
+};
 
 /// Writes the words of a status: plain ASCII, without a line feed.
 ///
@@ -24,19 +33,13 @@ fn status_words(status: u32) -> Option<&'static str>
     ensures { option_map (λ words. words.now) result ≡ status_word status }
 {
     match status / 10 {
-        0 => outcome_words(status),
         1 => text_words(status),
         2 => name_words(status),
         3 => source_words(status),
         4 => destination_words(status),
         5 => packet_words(status),
         6 => request_words(status),
-        7 => table_words(status),
-        8 => second_words(status),
-        9 => join_words(status),
-        10 => station_words(status),
-        25 => last_words(status),
-        _ => None,
+        _ => outcome_words(status),
     }
 }
 
@@ -48,6 +51,7 @@ fn outcome_words(status: u32) -> Option<&'static str>
         DONE => Some("done"),
         NO_ROOM => Some("no room"),
         NO_MEMORY => Some("memory"),
+        UNKNOWN_STATUS => Some("unknown status"),
         _ => None,
     }
 }
@@ -136,70 +140,6 @@ fn request_words(status: u32) -> Option<&'static str>
         UNKNOWN_REQUEST => Some("unknown request"),
         ZERO_PIECE => Some("zero piece"),
         LONG_DATA => Some("data too long"),
-        _ => None,
-    }
-}
-
-/// The words of a status on a saved table.
-fn table_words(status: u32) -> Option<&'static str>
-    ensures { option_map (λ words. words.now) result ≡ table_word status }
-{
-    match status {
-        TABLE_BAD_MAGIC => Some("table: bad magic"),
-        TABLE_TRUNCATED => Some("table: truncated"),
-        TABLE_NOT_CANONICAL => Some("table: not canonical"),
-        TABLE_LONG => Some("table: too long"),
-        TABLE_FULL_SOURCE => Some("table: full source"),
-        TABLE_FULL => Some("table: full"),
-        _ => None,
-    }
-}
-
-/// The words of a status on the second of two saved tables.
-fn second_words(status: u32) -> Option<&'static str>
-    ensures { option_map (λ words. words.now) result ≡ second_word status }
-{
-    match status {
-        SECOND_BAD_MAGIC => Some("second table: bad magic"),
-        SECOND_TRUNCATED => Some("second table: truncated"),
-        SECOND_NOT_CANONICAL => Some("second table: not canonical"),
-        SECOND_LONG => Some("second table: too long"),
-        SECOND_FULL_SOURCE => Some("second table: full source"),
-        SECOND_FULL => Some("second table: full"),
-        _ => None,
-    }
-}
-
-/// The words of a status on a table and what is joined to it.
-fn join_words(status: u32) -> Option<&'static str>
-    ensures { option_map (λ words. words.now) result ≡ join_word status }
-{
-    match status {
-        MISPLACED_FIRST => Some("misplaced first"),
-        LONG => Some("too long"),
-        FULL_SOURCE => Some("full source"),
-        FULL => Some("full"),
-        _ => None,
-    }
-}
-
-/// The words of a status on a station's names.
-fn station_words(status: u32) -> Option<&'static str>
-    ensures { option_map (λ words. words.now) result ≡ station_word status }
-{
-    match status {
-        NAME_PRESENT => Some("name present"),
-        TOO_MANY_NAMES => Some("too many names"),
-        _ => None,
-    }
-}
-
-/// The words of a status of the last number.
-fn last_words(status: u32) -> Option<&'static str>
-    ensures { option_map (λ words. words.now) result ≡ last_word status }
-{
-    match status {
-        UNKNOWN_STATUS => Some("unknown status"),
         _ => None,
     }
 }

@@ -1,5 +1,5 @@
 -- What is judged and answered is done.
-use Rattle.std.proofs.Common.{◌≡◌, ℕ, List, Result, Ok, Err, inl, inr, subst, sym, tt}
+use Rattle.std.proofs.Common.{◌≡◌, ℕ, List, Result, Ok, Err, inl, inr, subst, sym}
 use Rattle.std.specs.Prelude.{IfOk}
 use Rattle.nb_names.specs.declared.bytes.NoMemory.{NoMemory}
 use Rattle.nb_c.specs.declared.refusal.Refusal.{Refusal}
@@ -10,7 +10,7 @@ module _ (Says : Result (List ℕ) Refusal → Type 0) (old new : List ℕ) (use
   alone : (answer : Result (List ℕ) Refusal) → Alone (List ℕ) Says answer → Answers answer old new used used' at at' status
       → Does Says old new used used' at at' status
   alone answer j h = record {
-    some = inr (answer, (j.said, h));
+    some = inr (answer, j.said, h);
     only = λ other said. inr (subst (λ (told : Result (List ℕ) Refusal). Answers told old new used used' at at' status) (sym (j.only other said)) h);
   }
 

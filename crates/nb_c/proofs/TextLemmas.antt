@@ -5,9 +5,13 @@ use Rattle.std.specs.Str.{IsAscii, IsUtf8, IsValidUpTo}
 use Rattle.std.proofs.lemmas.Bool.{cases_lt}
 use Rattle.std.proofs.lemmas.Bool.Decides.{nat_tests}
 use Rattle.std.proofs.lemmas.List.{take-take, length-take-le, append-nil}
+use Rattle.std.proofs.Math.Seq.{take-append_seam}
 use Rattle.std.proofs.lemmas.Str.{IsUtf8-from_ascii, IsAscii-append, IsAscii-take}
 use Rattle.std.proofs.lemmas.Str.Ascii.{IsAscii-nil, IsAscii-cons}
-use Rattle.nb_names.specs.NameText.{is_plain, IsHexDigit, Item, plain, escaped, Items, no_item, more_items, ScopeText, no_label, more_labels, HasForm, IsFormed, IsFront, IsBad}
+use Rattle.nb_names.specs.NameText.{is_plain, IsHexDigit, Item, plain, escaped, Items, no_item, more_items, ScopeText, no_label, more_labels, HasForm, IsFormed, IsFront, IsBad, IsFaultOf}
+use Rattle.nb_names.specs.declared.text_fault.TextFault.{TextFault}
+use Rattle.nb_names.specs.declared.text_fault.TextFault.TheVariants.{BadText, TooLong}
+use Rattle.nb_c.specs.Statuses.{place_of}
 
 graphic : (c : ℕ) → is_ascii_graphic c ≡ true → c < 128
 graphic c h = grind (arith, nat_tests)
@@ -82,3 +86,9 @@ bad_end text valid v formed =
       front = ([], subst IsFormed (sym (append-nil (take valid text))) formed);
       longest = λ count past within. none_past text valid count v past;
     }
+
+-- a text that is UTF-8 up to a place, and whose front up to there has a fault
+pub fault_front : (text : List ℕ) (valid : ℕ) (fault : TextFault) → IsValidUpTo text valid → IsFaultOf (take valid text) fault
+    → IsBad text (place_of fault valid)
+fault_front text valid (BadText place) v fails = bad_front text valid place v fails.1
+fault_front text valid TooLong v fails = bad_end text valid v fails.0

@@ -1,4 +1,5 @@
 -- The status of each fault, and the place that goes with it (our choice).
+use Rattle.std.specs.Prelude.{ℕ}
 use Rattle.nb_names.specs.declared.fault.NameFault.{NameFault}
 use Rattle.nb_names.specs.declared.fault.NameFault.TheVariants as names
 use Rattle.nb_names.specs.declared.text_fault.TextFault.{TextFault}
@@ -11,6 +12,11 @@ use Rattle.nb_c.specs.declared.statuses.TheConstants.{BAD_TEXT, LONG_TEXT, NAME_
 abbrev pub text_refusal : TextFault → Refusal
 text_refusal (texts.BadText place) = FaultAt BAD_TEXT place
 text_refusal texts.TooLong = Fault LONG_TEXT
+
+-- place_of fault other: the place of a text's fault, if it has one, else the other
+abbrev pub place_of : TextFault → ℕ → ℕ
+place_of (texts.BadText place) other = place
+place_of texts.TooLong other = other
 
 -- why no name stands where one is read
 abbrev pub name_refusal : NameFault → Refusal

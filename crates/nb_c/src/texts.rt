@@ -3,6 +3,7 @@ ghost use Rattle.std.specs.Prelude.{◌≡◌, IfOk, IfErr, IsOkAnd};
 ghost use Rattle.std.specs.Str.{IsUtf8, IsValidUpTo};
 ghost use Rattle.nb_names.specs.Name.{NetbiosName};
 ghost use Rattle.nb_names.specs.NameText.{IsText, IsBad, IsFaultOf};
+ghost use Rattle.nb_c.specs.Statuses.{place_of};
 
 use nb_names::{Name, TextFault, name_from_text};
 
@@ -30,9 +31,19 @@ fn bad_place(text: &[u8], valid: usize) -> usize
 {
     match str::from_utf8(&text[..valid]) {
         Ok(front) => match name_from_text(front) {
-            Err(TextFault::BadText(place)) => place,
-            Err(TextFault::TooLong) | Ok(_) => valid,
+            Ok(_) => valid,
+            Err(fault) => place_of(fault, valid),
         },
         Err(_) => 0,
+    }
+}
+
+/// The place of a fault, if it has one, else the other.
+fn place_of(fault: TextFault, other: usize) -> usize
+    ensures { result ≡ place_of fault other }
+{
+    match fault {
+        TextFault::BadText(place) => place,
+        TextFault::TooLong => other,
     }
 }

@@ -4,7 +4,7 @@ use Rattle.std.specs.Prelude.{IfOk}
 use Rattle.nb_names.specs.declared.bytes.NoMemory.{NoMemory}
 use Rattle.nb_c.specs.declared.refusal.Refusal.{Refusal}
 use Rattle.nb_c.specs.declared.refusal.Refusal.TheVariants.{Memory, Fault, FaultAt}
-use Rattle.nb_c.specs.Outputs.{Alone, Answers, Does, Judged, of_memory}
+use Rattle.nb_c.specs.Outputs.{Alone, Answers, Does, Judged, Filled, Fills, of_memory}
 
 module _ (Says : Result (List ℕ) Refusal → Type 0) (old new : List ℕ) (used used' at at' status : ℕ) where
   alone : (answer : Result (List ℕ) Refusal) → Alone (List ℕ) Says answer → Answers answer old new used used' at at' status
@@ -26,3 +26,11 @@ pub judged : (Says : Result (List ℕ) Refusal → Type 0) (bytes : List ℕ) (t
     → Alone (List ℕ) Says (Ok bytes) → IfOk told (λ (found : List ℕ). found ≡ bytes) → Judged (List ℕ) Says (of_memory told)
 judged Says bytes (Ok found) j e = subst (λ (b : List ℕ). Alone (List ℕ) Says (Ok b)) (sym e) j
 judged Says bytes (Err fault) j e = tt
+
+-- what alone is said and filled in
+pub fills : (A : Type 0) (Says : Result A Refusal → Type 0) (answer : Result A Refusal) (old new : A) (at at' status : ℕ)
+    → Alone A Says answer → Filled A answer old new at at' status → Fills A Says old new at at' status
+fills A Says answer old new at at' status j h = record {
+  some = (answer, j.said, h);
+  only = λ other said. subst (λ (told : Result A Refusal). Filled A told old new at at' status) (sym (j.only other said)) h;
+}

@@ -1,3 +1,4 @@
 pub mod AnswerLemmas
 pub mod NameLemmas
+pub mod ReadLemmas
 pub mod TextLemmas

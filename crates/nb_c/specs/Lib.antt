@@ -1,4 +1,6 @@
+pub mod Datagrams
 pub mod Names
 pub mod Outputs
+pub mod Sessions
 pub mod Statuses
 pub mod Words

@@ -62,3 +62,15 @@ pub record Does (Says : Result (List ℕ) Refusal → Type 0) (old new : List �
       ⊎ ((answer : Result (List ℕ) Refusal) × Says answer × Answers answer old new used used' at at' status)
   pub only : (answer : Result (List ℕ) Refusal) → Says answer
       → Answers (Err Memory) old new used used' at at' status ⊎ Answers answer old new used used' at at' status
+
+-- Filled A answer old new at at' status: a call with this answer leaves what it fills in and the place so, and has this
+-- status
+abbrev pub Filled : (A : Type 0) → Result A Refusal → A → A → ℕ → ℕ → ℕ → Type 0
+Filled A (Ok value) old new at at' status = (new ≡ value) × (at' ≡ at) × (status ≡ DONE)
+Filled A (Err refusal) old new at at' status =
+    (new ≡ old) × (at' ≡ at_refused refusal at) × (status ≡ refused_status refusal)
+
+-- Fills A Says old new at at' status: a call fills in what is said, and whatever is said is what it fills in
+pub record Fills (A : Type 0) (Says : Result A Refusal → Type 0) (old new : A) (at at' status : ℕ) : Type 0 where
+  pub some : (answer : Result A Refusal) × Says answer × Filled A answer old new at at' status
+  pub only : (answer : Result A Refusal) → Says answer → Filled A answer old new at at' status

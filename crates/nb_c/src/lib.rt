@@ -1,10 +1,12 @@
 //! NetBIOS packets for callers in C: the calls of include/nbt.h.
 #![tactic(auto)]
 
+pub mod datagrams;
 pub mod laws;
 pub mod names;
 mod output;
 mod refusal;
+pub mod sessions;
 pub mod statuses;
 mod texts;
 pub mod words;

@@ -1,6 +1,6 @@
 //! What a call writes for its caller. Nothing else writes to a buffer.
 ghost use Rattle.std.specs.Prelude.{◌≡◌, length};
-ghost use Rattle.nb_c.specs.Outputs.{put_into, put_status, at_refused, refused_status, of_memory, Answers};
+ghost use Rattle.nb_c.specs.Outputs.{put_into, put_status, at_refused, refused_status, of_memory, Answers, Filled};
 
 use crate::refusal::Refusal;
 use crate::statuses::{DONE, NO_MEMORY, NO_ROOM};
@@ -71,5 +71,18 @@ pub(crate) fn answer_of(bytes: Result<Bytes, NoMemory>) -> Result<Bytes, Refusal
     match bytes {
         Ok(bytes) => Ok(bytes),
         Err(_) => Err(Refusal::Memory),
+    }
+}
+
+/// Fills in what a call answers, or where the fault stands.
+pub(crate) fn fill<T: Copy>(answer: Result<T, Refusal>, into: &mut T, at: &mut usize) -> u32
+    ensures { Filled T answer into.old into.new at.old at.new result }
+{
+    match answer {
+        Ok(value) => {
+            *into = value;
+            DONE
+        }
+        Err(refusal) => refuse(refusal, at),
     }
 }

@@ -31,8 +31,8 @@ header_places type flags key used = record {
   source_length = 0;
   destination = 0;
   destination_length = 0;
-  data = 0;
-  data_length = 0;
+  contents = 0;
+  contents_length = 0;
   used = used;
 }
 
@@ -49,8 +49,8 @@ fragment_places f used = record {
   source_length = length (name_bytes f.source);
   destination = DIRECT_HEADER_LENGTH + length (name_bytes f.source);
   destination_length = length (name_bytes f.destination);
-  data = DIRECT_HEADER_LENGTH + length (name_bytes f.source) + length (name_bytes f.destination);
-  data_length = length f.bytes;
+  contents = DIRECT_HEADER_LENGTH + length (name_bytes f.source) + length (name_bytes f.destination);
+  contents_length = length f.bytes;
   used = used;
 }
 
@@ -67,8 +67,8 @@ error_places e used = record {
   source_length = 0;
   destination = 0;
   destination_length = 0;
-  data = HEADER_LENGTH;
-  data_length = 1;
+  contents = HEADER_LENGTH;
+  contents_length = 1;
   used = used;
 }
 
@@ -85,8 +85,8 @@ query_places q used = record {
   source_length = 0;
   destination = HEADER_LENGTH;
   destination_length = length (name_bytes q.destination);
-  data = 0;
-  data_length = 0;
+  contents = 0;
+  contents_length = 0;
   used = used;
 }
 

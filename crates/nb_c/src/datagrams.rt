@@ -41,9 +41,9 @@ pub struct NbtDatagram {
     /// How many bytes it has.
     pub destination_length: usize,
     /// Where the data stands, or an error's code.
-    pub data: usize,
+    pub contents: usize,
     /// How many bytes it has.
-    pub data_length: usize,
+    pub contents_length: usize,
     /// How many bytes the packet has.
     pub used: usize,
 }
@@ -101,8 +101,8 @@ fn header_places(packet_type: u8, flags: u8, key: Key, used: usize) -> NbtDatagr
         source_length: 0,
         destination: 0,
         destination_length: 0,
-        data: 0,
-        data_length: 0,
+        contents: 0,
+        contents_length: 0,
         used,
     }
 }
@@ -118,8 +118,8 @@ fn fragment_places(fragment: &Fragment<'_>, used: usize) -> NbtDatagram
     places.source_length = spelled_length(fragment.source());
     places.destination = places.source + places.source_length;
     places.destination_length = spelled_length(fragment.destination());
-    places.data = places.destination + places.destination_length;
-    places.data_length = fragment.bytes().len();
+    places.contents = places.destination + places.destination_length;
+    places.contents_length = fragment.bytes().len();
     places
 }
 
@@ -128,8 +128,8 @@ fn error_places(error: &ErrorPacket, used: usize) -> NbtDatagram
     ensures { result ≡ error_places error.now used }
 {
     let mut places = header_places(ERROR_TYPE, error.flags, error.key, used);
-    places.data = HEADER_LENGTH;
-    places.data_length = 1;
+    places.contents = HEADER_LENGTH;
+    places.contents_length = 1;
     places
 }
 

@@ -21,6 +21,14 @@ module _ (Says : Result (List ℕ) Refusal → Type 0) (old new : List ℕ) (use
   does (Err (Fault code)) j h = alone (Err (Fault code)) j h
   does (Err (FaultAt code place)) j h = alone (Err (FaultAt code place)) j h
 
+-- what alone is said is judged
+pub judged_alone : (Says : Result (List ℕ) Refusal → Type 0) (answer : Result (List ℕ) Refusal) → Alone (List ℕ) Says answer
+    → Judged (List ℕ) Says answer
+judged_alone Says (Ok bytes) j = j
+judged_alone Says (Err Memory) j = tt
+judged_alone Says (Err (Fault status)) j = j
+judged_alone Says (Err (FaultAt status place)) j = j
+
 -- bytes that are judged, if there is memory for them
 pub judged : (Says : Result (List ℕ) Refusal → Type 0) (bytes : List ℕ) (told : Result (List ℕ) NoMemory)
     → Alone (List ℕ) Says (Ok bytes) → IfOk told (λ (found : List ℕ). found ≡ bytes) → Judged (List ℕ) Says (of_memory told)

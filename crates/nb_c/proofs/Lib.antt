@@ -1,4 +1,5 @@
 pub mod AnswerLemmas
+pub mod FrameLemmas
 pub mod NameLemmas
 pub mod ReadLemmas
 pub mod TextLemmas

@@ -1,4 +1,5 @@
 pub mod Datagrams
+pub mod Framing
 pub mod Names
 pub mod Outputs
 pub mod Sessions

@@ -2,6 +2,7 @@
 #![tactic(auto)]
 
 pub mod datagrams;
+pub mod framing;
 pub mod laws;
 pub mod names;
 mod output;

@@ -34,15 +34,17 @@ pub extern "C" fn nbt_session_write(
 fn packet_of(alloc: Global, packet_type: u8, body: &[u8]) -> Result<Bytes, Refusal>
     ensures { Judged (List ℕ) (Writes packet_type body.now) result }
 {
-    let Some(kind) = Kind::of_type(packet_type) else {
-        return Err(Refusal::Fault(UNKNOWN_TYPE));
-    };
-    if body.len() > MAX_MESSAGE {
-        return Err(Refusal::Fault(BAD_LENGTH));
-    }
-    match frame(alloc, kind, body) {
-        Ok(bytes) => judge(bytes),
-        Err(_) => Err(Refusal::Memory),
+    match Kind::of_type(packet_type) {
+        None => Err(Refusal::Fault(UNKNOWN_TYPE)),
+        Some(kind) => {
+            if body.len() > MAX_MESSAGE {
+                return Err(Refusal::Fault(BAD_LENGTH));
+            }
+            match frame(alloc, kind, body) {
+                Ok(bytes) => judge(bytes),
+                Err(_) => Err(Refusal::Memory),
+            }
+        }
     }
 }
 

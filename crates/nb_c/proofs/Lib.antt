@@ -2,4 +2,5 @@ pub mod AnswerLemmas
 pub mod FrameLemmas
 pub mod NameLemmas
 pub mod ReadLemmas
+pub mod ShowLemmas
 pub mod TextLemmas

@@ -8,6 +8,7 @@ pub mod names;
 mod output;
 mod refusal;
 pub mod sessions;
+pub mod showing;
 pub mod statuses;
 mod texts;
 pub mod words;

@@ -1,14 +1,12 @@
--- A text has one answer.
-use Rattle.std.proofs.Common.{◌≡◌, ℕ, List, Result, Ok, Err, refl}
+-- What is answered by the texts of names is answered alone.
+use Rattle.std.proofs.Common.{◌≡◌, ◌∙◌, ℕ, List, Result, Ok, Err, IfOk, IfErr, refl, ap, sym, subst}
 use Rattle.nb_names.specs.declared.text_fault.TextFault.{TextFault}
-use Rattle.nb_names.specs.declared.text_fault.TextFault.TheVariants.{BadText, TooLong}
-use Rattle.nb_names.specs.DomainName.{spelling}
-use Rattle.nb_names.specs.Name.{NetbiosName, labels_of_name}
+use Rattle.nb_names.specs.Name.{NetbiosName}
 use Rattle.nb_names.specs.NameText.{IsText, IsFaultOf}
 use Rattle.nb_c.specs.declared.refusal.Refusal.{Refusal}
-use Rattle.nb_c.specs.Names.{Spells}
-use Rattle.nb_c.specs.Outputs.{Alone, Judged}
-use Rattle.nb_c.specs.Statuses.{text_refusal}
+use Rattle.nb_c.specs.declared.refusal.Refusal.TheVariants.{Memory, Fault, FaultAt}
+use Rattle.nb_c.specs.Names.{IsRead}
+use Rattle.nb_c.specs.Outputs.{Alone, Judged, OrMemory}
 
 -- a text has one name or one fault
 pub record TextLaws (text : List ℕ) : Type 0 where
@@ -16,19 +14,44 @@ pub record TextLaws (text : List ℕ) : Type 0 where
   pub one_fault : (a b : TextFault) → IsFaultOf text a → IsFaultOf text b → a ≡ b
   pub apart : (name : NetbiosName) (fault : TextFault) → IsText name text → ¬ IsFaultOf text fault
 
-module _ (text : List ℕ) (laws : TextLaws text) where
-  pub spelled : (name : NetbiosName) → IsText name text → Alone (List ℕ) (Spells text) (Ok (spelling (labels_of_name name)))
-  spelled name stands = record { said = (name, stands, refl); only = others } where
-    others : (other : Result (List ℕ) Refusal) → Spells text other → other ≡ Ok (spelling (labels_of_name name))
-    others (Ok bytes) (found, there, exact) = cc (exact, laws.one name found stands there)
-    others (Err refusal) (fault, fails, exact) = absurd (laws.apart name fault stands fails)
+pub one_read : (text : List ℕ) → TextLaws text → (a b : Result NetbiosName TextFault) → IsRead text a → IsRead text b → a ≡ b
+one_read text laws (Ok a) (Ok b) h k = ap (λ (n : NetbiosName). Ok n) (laws.one a b h k)
+one_read text laws (Ok a) (Err b) h k = absurd (laws.apart a b h k)
+one_read text laws (Err a) (Ok b) h k = absurd (laws.apart b a k h)
+one_read text laws (Err a) (Err b) h k = ap (λ (f : TextFault). Err f) (laws.one_fault a b h k)
 
-  unspelled : (fault : TextFault) → IsFaultOf text fault → Alone (List ℕ) (Spells text) (Err (text_refusal fault))
-  unspelled fault fails = record { said = (fault, fails, refl); only = others } where
-    others : (other : Result (List ℕ) Refusal) → Spells text other → other ≡ Err (text_refusal fault)
-    others (Ok bytes) (found, there, exact) = absurd (laws.apart found fault there fails)
-    others (Err refusal) (found, there, exact) = cc (exact, laws.one_fault found fault there fails)
+-- what is read
+pub read_of : (text : List ℕ) (read : Result NetbiosName TextFault) → IfOk read (λ (name : NetbiosName). IsText name text)
+    → IfErr read (IsFaultOf text) → IsRead text read
+read_of text (Ok name) found fault = found
+read_of text (Err fault) found fails = fails
 
-  pub judged_text : (fault : TextFault) → IsFaultOf text fault → Judged (List ℕ) (Spells text) (Err (text_refusal fault))
-  judged_text (BadText place) fails = unspelled (BadText place) fails
-  judged_text TooLong fails = unspelled TooLong fails
+-- what is answered unless memory runs out is judged
+module _ (Says : Result (List ℕ) Refusal → Type 0) (expected : Result (List ℕ) Refusal) (j : Alone (List ℕ) Says expected) where
+  there : (answer : Result (List ℕ) Refusal) → answer ≡ expected → Alone (List ℕ) Says answer
+  there answer h = subst (λ (told : Result (List ℕ) Refusal). Alone (List ℕ) Says told) (sym h) j
+
+  pub or_memory : (answer : Result (List ℕ) Refusal) → OrMemory expected answer → Judged (List ℕ) Says answer
+  or_memory (Ok bytes) h = there (Ok bytes) h
+  or_memory (Err Memory) h = tt
+  or_memory (Err (Fault status)) h = there (Err (Fault status)) h
+  or_memory (Err (FaultAt status place)) h = there (Err (FaultAt status place)) h
+
+-- an answer by what a text is read as
+pub read_alone : (text : List ℕ) → TextLaws text → (answer : Result NetbiosName TextFault → Result (List ℕ) Refusal)
+    → (read : Result NetbiosName TextFault) → IsRead text read
+    → Alone (List ℕ) (λ other. (found : Result NetbiosName TextFault) × IsRead text found × (other ≡ answer found)) (answer read)
+read_alone text laws answer read is = record {
+  said = (read, is, refl);
+  only = λ other (found, there, exact). exact ∙ ap answer (one_read text laws found read there is);
+}
+
+-- an answer by what two texts are read as
+pub reads_alone : (first second : List ℕ) → TextLaws first → TextLaws second
+    → (answer : Result NetbiosName TextFault → Result NetbiosName TextFault → Result (List ℕ) Refusal)
+    → (from to : Result NetbiosName TextFault) → IsRead first from → IsRead second to
+    → Alone (List ℕ) (λ other. (a b : Result NetbiosName TextFault) × IsRead first a × IsRead second b × (other ≡ answer a b)) (answer from to)
+reads_alone first second laws more answer from to is there = record {
+  said = (from, to, is, there, refl);
+  only = λ other (a, b, h, k, exact). cc (exact, one_read first laws a from h is, one_read second more b to k there);
+}

@@ -13,10 +13,19 @@ use Rattle.nb_c.specs.declared.refusal.Refusal.TheVariants.{FaultAt}
 use Rattle.nb_c.specs.declared.statuses.TheConstants.{NAME_TRAILING_BYTES}
 use Rattle.nb_c.specs.Statuses.{text_refusal, name_refusal}
 
--- Spells text answer: the text is of a name, whose spelling is answered, or has this fault
+-- IsRead text read: the text is of this name, or has this fault
+abbrev pub IsRead : List ℕ → Result NetbiosName TextFault → Type 0
+IsRead text (Ok name) = IsText name text
+IsRead text (Err fault) = IsFaultOf text fault
+
+-- what is answered where a text is read so: the name's spelling, or the fault
+abbrev pub spelling_answer : Result NetbiosName TextFault → Result (List ℕ) Refusal
+spelling_answer (Ok name) = Ok (spelling (labels_of_name name))
+spelling_answer (Err fault) = Err (text_refusal fault)
+
+-- Spells text answer: this is answered of the text
 abbrev pub Spells : List ℕ → Result (List ℕ) Refusal → Type 0
-Spells text (Ok bytes) = (name : NetbiosName) × IsText name text × (bytes ≡ spelling (labels_of_name name))
-Spells text (Err refusal) = (fault : TextFault) × IsFaultOf text fault × (refusal ≡ text_refusal fault)
+Spells text answer = (read : Result NetbiosName TextFault) × IsRead text read × (answer ≡ spelling_answer read)
 
 -- why the bytes aren't one name: it can't be read, or bytes follow it
 abbrev pub IsNoSpelling : List ℕ → Refusal → Type 0

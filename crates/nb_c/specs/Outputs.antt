@@ -55,6 +55,13 @@ Judged A Says (Err Memory) = ⊤
 Judged A Says (Err (Fault status)) = Alone A Says (Err (Fault status))
 Judged A Says (Err (FaultAt status place)) = Alone A Says (Err (FaultAt status place))
 
+-- OrMemory expected answer: what is answered is this, unless memory ran out
+abbrev pub OrMemory : Result (List ℕ) Refusal → Result (List ℕ) Refusal → Type 0
+OrMemory expected (Ok bytes) = Ok bytes ≡ expected
+OrMemory expected (Err Memory) = ⊤
+OrMemory expected (Err (Fault status)) = Err (Fault status) ≡ expected
+OrMemory expected (Err (FaultAt status place)) = Err (FaultAt status place) ≡ expected
+
 -- Does Says old new used used' at at' status: a call does what is said, and whatever is said is what it does, unless
 -- memory runs out
 pub record Does (Says : Result (List ℕ) Refusal → Type 0) (old new : List ℕ) (used used' at at' status : ℕ) : Type 0 where

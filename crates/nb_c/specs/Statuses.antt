@@ -17,6 +17,16 @@ abbrev pub text_refusal : TextFault → Refusal
 text_refusal (texts.BadText place) = FaultAt statuses.BAD_TEXT place
 text_refusal texts.TooLong = Fault statuses.LONG_TEXT
 
+-- why the source's text is of no name
+abbrev pub source_text_refusal : TextFault → Refusal
+source_text_refusal (texts.BadText place) = FaultAt statuses.SOURCE_BAD_TEXT place
+source_text_refusal texts.TooLong = Fault statuses.SOURCE_LONG_TEXT
+
+-- why the destination's text is of no name
+abbrev pub destination_text_refusal : TextFault → Refusal
+destination_text_refusal (texts.BadText place) = FaultAt statuses.DESTINATION_BAD_TEXT place
+destination_text_refusal texts.TooLong = Fault statuses.DESTINATION_LONG_TEXT
+
 -- place_of fault other: the place of a text's fault, if it has one, else the other
 abbrev pub place_of : TextFault → ℕ → ℕ
 place_of (texts.BadText place) other = place

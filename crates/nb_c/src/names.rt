@@ -1,8 +1,8 @@
 //! Names, as texts and as spellings.
 ghost use Rattle.std.specs.Prelude.{◌≡◌, List, ℕ, IfOk};
 ghost use Rattle.nb_names.specs.NameText.{written};
-ghost use Rattle.nb_c.specs.Names.{Spells, Tells};
-ghost use Rattle.nb_c.specs.Outputs.{Does, Judged};
+ghost use Rattle.nb_c.specs.Names.{Spells, Tells, spelling_answer};
+ghost use Rattle.nb_c.specs.Outputs.{Does, Judged, OrMemory};
 
 use crate::output::{answer_of, write_answer};
 use crate::refusal::{Refusal, name_refusal, text_refusal};
@@ -10,7 +10,9 @@ use crate::statuses::NAME_TRAILING_BYTES;
 use crate::texts::name_of_text;
 use nb_names::laws::{labels_tell_the_name, one_netbios_fault, one_reading};
 use nb_names::text_laws::{one_name, one_text_fault};
-use nb_names::{Bytes, Name, NoMemory, Pointers, name_text, read_name, write_domain};
+use nb_names::{
+    Bytes, Name, NoMemory, Pointers, TextFault, name_text, read_name, write_domain,
+};
 use std::alloc::Global;
 
 /// Writes the spelling of the name with this text.
@@ -52,7 +54,14 @@ fn spelling_of(alloc: Global, text: &[u8]) -> Result<Bytes, Refusal>
     // For the clause: a text has one name or one fault. The calls do nothing.
     one_name();
     one_text_fault();
-    match name_of_text(text) {
+    spelling_read(alloc, name_of_text(text))
+}
+
+/// The spelling of a name, if one was read.
+fn spelling_read(alloc: Global, read: Result<Name, TextFault>) -> Result<Bytes, Refusal>
+    ensures { OrMemory (spelling_answer read) result }
+{
+    match read {
         Ok(name) => answer_of(write_domain(alloc, &name.to_domain())),
         Err(fault) => Err(text_refusal(fault)),
     }

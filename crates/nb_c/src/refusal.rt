@@ -1,12 +1,13 @@
 //! Why a call does nothing.
 ghost use Rattle.std.specs.Prelude.{◌≡◌};
-ghost use Rattle.nb_c.specs.Statuses.{text_refusal, name_refusal, source_refusal, destination_refusal, datagram_refusal, session_refusal};
+ghost use Rattle.nb_c.specs.Statuses.{text_refusal, source_text_refusal, destination_text_refusal, name_refusal, source_refusal, destination_refusal, datagram_refusal, session_refusal};
 
 use crate::statuses::{
-    BAD_LENGTH, BAD_TEXT, DESTINATION_BAD_POINTER, DESTINATION_LONG, DESTINATION_NOT_NETBIOS,
-    DESTINATION_POINTER, DESTINATION_RESERVED_LABEL, DESTINATION_TRUNCATED, LONG_TEXT,
-    NAME_BAD_POINTER, NAME_LONG, NAME_NOT_NETBIOS, NAME_POINTER, NAME_RESERVED_LABEL,
-    NAME_TRUNCATED, RESERVED_FLAGS, SOURCE_BAD_POINTER, SOURCE_LONG, SOURCE_NOT_NETBIOS,
+    BAD_LENGTH, BAD_TEXT, DESTINATION_BAD_POINTER, DESTINATION_BAD_TEXT, DESTINATION_LONG,
+    DESTINATION_LONG_TEXT, DESTINATION_NOT_NETBIOS, DESTINATION_POINTER,
+    DESTINATION_RESERVED_LABEL, DESTINATION_TRUNCATED, LONG_TEXT, NAME_BAD_POINTER, NAME_LONG,
+    NAME_NOT_NETBIOS, NAME_POINTER, NAME_RESERVED_LABEL, NAME_TRUNCATED, RESERVED_FLAGS,
+    SOURCE_BAD_POINTER, SOURCE_BAD_TEXT, SOURCE_LONG, SOURCE_LONG_TEXT, SOURCE_NOT_NETBIOS,
     SOURCE_POINTER, SOURCE_RESERVED_LABEL, SOURCE_TRUNCATED, TRAILING_BYTES, TRUNCATED,
     UNKNOWN_TYPE,
 };
@@ -32,6 +33,26 @@ pub(crate) fn text_refusal(fault: TextFault) -> Refusal
     match fault {
         TextFault::BadText(place) => Refusal::FaultAt(BAD_TEXT, place),
         TextFault::TooLong => Refusal::Fault(LONG_TEXT),
+    }
+}
+
+/// Why the source's text is of no name.
+pub(crate) fn source_text_refusal(fault: TextFault) -> Refusal
+    ensures { result ≡ source_text_refusal fault }
+{
+    match fault {
+        TextFault::BadText(place) => Refusal::FaultAt(SOURCE_BAD_TEXT, place),
+        TextFault::TooLong => Refusal::Fault(SOURCE_LONG_TEXT),
+    }
+}
+
+/// Why the destination's text is of no name.
+pub(crate) fn destination_text_refusal(fault: TextFault) -> Refusal
+    ensures { result ≡ destination_text_refusal fault }
+{
+    match fault {
+        TextFault::BadText(place) => Refusal::FaultAt(DESTINATION_BAD_TEXT, place),
+        TextFault::TooLong => Refusal::Fault(DESTINATION_LONG_TEXT),
     }
 }
 

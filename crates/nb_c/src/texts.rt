@@ -1,8 +1,8 @@
 //! Names, read from the bytes of a caller's text.
-ghost use Rattle.std.specs.Prelude.{◌≡◌, IfOk, IfErr, IsOkAnd};
-ghost use Rattle.std.specs.Str.{IsUtf8, IsValidUpTo};
-ghost use Rattle.nb_names.specs.Name.{NetbiosName};
-ghost use Rattle.nb_names.specs.NameText.{IsText, IsBad, IsFaultOf};
+ghost use Rattle.std.specs.Prelude.{◌≡◌};
+ghost use Rattle.std.specs.Str.{IsValidUpTo};
+ghost use Rattle.nb_names.specs.NameText.{IsBad};
+ghost use Rattle.nb_c.specs.Names.{IsRead};
 ghost use Rattle.nb_c.specs.Statuses.{place_of};
 
 use nb_names::{Name, TextFault, name_from_text};
@@ -13,10 +13,7 @@ use nb_names::{Name, TextFault, name_from_text};
 ///
 /// As [`name_from_text`]. A byte that isn't ASCII is of no text of the form.
 pub(crate) fn name_of_text(text: &[u8]) -> Result<Name, TextFault>
-    ensures found { IfOk result (λ name. IsText name text.now) }
-    ensures only { (name : NetbiosName) → IsText name text.now →
-        IsOkAnd result (λ read. read ≡ name) }
-    ensures fault { IfErr result (IsFaultOf text.now) }
+    ensures { IsRead text.now result }
 {
     match str::from_utf8(text) {
         Ok(whole) => name_from_text(whole),

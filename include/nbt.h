@@ -9,16 +9,16 @@
  * Buffers. A buffer is a pointer and then its length in bytes. No pointer is null, even where the length is 0, and the
  * buffers and numbers that one call writes overlap nothing else of that call. The library keeps no pointer to them.
  *
- * Output goes to the front of `into`, without a byte of zero behind it. At NBT_DONE `*used` is how many bytes were
- * written, and the bytes behind them are as they were. At NBT_NO_ROOM `*used` is how many are wanted, more than
+ * Output goes to the front of `into`, without a byte of zero after it. At NBT_DONE `*used` is how many bytes were
+ * written, and the bytes after them are as they were. At NBT_NO_ROOM `*used` is how many are wanted, more than
  * `into_length`, and `into` is as it was: call again with as many. At any other status nothing is written but `*at`.
  *
  * `*at` is where the fault stands, in bytes from the start of the input that has it, counted from 0. It is written at
  * those statuses alone whose line below says what it is.
  *
- * Memory is taken by malloc and given back by free, and each call gives back what it took, but for stations.
- * NBT_NO_MEMORY changes nothing. The calls that aren't about a station may be made from any thread at any time; those
- * of one station one at a time. No call may be made from a signal handler.
+ * Memory is taken by malloc and realloc, and each call gives back by free what it took. NBT_NO_MEMORY changes nothing.
+ * The calls may be made from any thread at any time, but not from a signal handler, nor in the forked child of a process
+ * with threads.
  *
  * Names as texts are written as in FRED<20> or FRED<20>.NETBIOS.COM (our choice): the characters of the name, its
  * sixteenth byte as two hexadecimal digits between < and >, and the labels of its scope, each after a full stop. A byte
@@ -56,7 +56,7 @@ enum nbt_status {
     NBT_NAME_POINTER = 22,         /* a pointer stands where none may; *at: where */
     NBT_NAME_LONG = 23,            /* a label makes the spelling longer than 255 bytes; *at: where it stands */
     NBT_NAME_NOT_NETBIOS = 24,     /* labels that no NetBIOS name has; *at: a place in their spelling */
-    NBT_NAME_TRAILING_BYTES = 25,  /* bytes behind the spelling; *at: where they begin */
+    NBT_NAME_TRAILING_BYTES = 25,  /* bytes after the spelling; *at: where they begin */
     NBT_NAME_BAD_POINTER = 26,     /* a pointer that doesn't go back; *at: where */
 
     /* The source's name in a datagram packet; as those of 20 to 26. */
@@ -81,38 +81,12 @@ enum nbt_status {
     NBT_MORE = 52,           /* the packet isn't there whole yet; *at: how many bytes are missing, at least */
     NBT_RESERVED_FLAGS = 53, /* a flag that has to be zero is set (RFC 1002 section 4.3.1) */
     NBT_BAD_LENGTH = 54,     /* no packet of this type has a body of this length */
-    NBT_TRAILING_BYTES = 55, /* bytes behind the names of a session request; *at: where they begin */
+    NBT_TRAILING_BYTES = 55, /* bytes after the names of a session request; *at: where they begin */
 
     /* What was asked to be written. */
     NBT_UNKNOWN_REQUEST = 60, /* no number of enum nbt_request */
     NBT_ZERO_PIECE = 61,      /* pieces of no bytes */
-    NBT_LONG_DATA = 62,       /* the data passes 65,535 bytes, or a piece does with its names */
-
-    /* A saved table. */
-    NBT_TABLE_BAD_MAGIC = 70,     /* it begins with neither NBT2 nor NBT1 */
-    NBT_TABLE_TRUNCATED = 71,     /* it ends before or inside a field */
-    NBT_TABLE_NOT_CANONICAL = 72, /* no saved table has this; *at: where it stands */
-    NBT_TABLE_LONG = 73,          /* a datagram that is longer than the longest */
-    NBT_TABLE_FULL_SOURCE = 74,   /* more keys of one address than may be held */
-    NBT_TABLE_FULL = 75,          /* more keys than may be held */
-
-    /* The second of two saved tables; as those of 70 to 75. */
-    NBT_SECOND_BAD_MAGIC = 80,
-    NBT_SECOND_TRUNCATED = 81,
-    NBT_SECOND_NOT_CANONICAL = 82, /* *at counts in the second */
-    NBT_SECOND_LONG = 83,
-    NBT_SECOND_FULL_SOURCE = 84,
-    NBT_SECOND_FULL = 85,
-
-    /* A table and what is joined to it. */
-    NBT_MISPLACED_FIRST = 90, /* a fragment says that it is the first and isn't at offset 0, or the other way round */
-    NBT_LONG = 91,            /* it reaches past the longest datagram */
-    NBT_FULL_SOURCE = 92,     /* the table would have more keys of one address than it may hold */
-    NBT_FULL = 93,            /* the table would have more keys than it may hold */
-
-    /* A station. */
-    NBT_NAME_PRESENT = 100,   /* a name stands twice; *at: where its second text begins */
-    NBT_TOO_MANY_NAMES = 101, /* more than 254; *at: where the first too many begins */
+    NBT_LONG_DATA = 62,       /* the data passes 65,535 bytes, or a packet of it does */
 
     NBT_UNKNOWN_STATUS = 255 /* no number of this enum */
 };
@@ -128,7 +102,7 @@ uint32_t nbt_status_text(uint32_t status, uint8_t *into, size_t into_length, siz
 uint32_t nbt_name_spell(const uint8_t *text, size_t text_length,
                         uint8_t *into, size_t into_length, size_t *used, size_t *at);
 
-/* The text of the name with this spelling, which is without pointers and has no byte behind it.
+/* The text of the name with this spelling, which is without pointers and has no byte after it.
  * 20 to 24, NBT_NAME_TRAILING_BYTES, NBT_NO_MEMORY, NBT_NO_ROOM. */
 uint32_t nbt_name_text(const uint8_t *spelling, size_t spelling_length,
                        uint8_t *into, size_t into_length, size_t *used, size_t *at);
@@ -166,8 +140,8 @@ uint32_t nbt_datagram_read(const uint8_t *payload, size_t payload_length, struct
 
 /* The packets of a datagram, cut into pieces of at most `most` bytes of data, in order, each after its length in two
  * bytes, the higher one first. Source and destination are texts; `type` is 0x10, 0x11 or 0x12.
- * NBT_UNKNOWN_TYPE, 12 to 15, NBT_LONG_DATA for data over 65,535 bytes, NBT_ZERO_PIECE, NBT_LONG_DATA for a piece that
- * passes 65,535 bytes with its names, NBT_NO_MEMORY (which may come before those that follow the texts), NBT_NO_ROOM.
+ * NBT_UNKNOWN_TYPE, 12 to 15, NBT_LONG_DATA for data over 65,535 bytes, NBT_ZERO_PIECE, NBT_LONG_DATA where the longest
+ * packet would pass 65,535 bytes, NBT_NO_MEMORY (which may come before those that follow the texts), NBT_NO_ROOM.
  * RFC 1002 section 4.4.2; that each fragment carries both names is our choice. */
 uint32_t nbt_datagram_write(uint8_t type, uint16_t identifier, uint32_t address, uint16_t port,
                             const uint8_t *source, size_t source_length,
@@ -178,7 +152,7 @@ uint32_t nbt_datagram_write(uint8_t type, uint16_t identifier, uint32_t address,
 /* A packet of the session service: RFC 1002 section 4.3. */
 struct nbt_session {
     uint8_t type;       /* TYPE: 0x00 a message, 0x81 a request, 0x82 and 0x83 its answers, 0x84 retarget, 0x85 alive */
-    size_t body;        /* where the body begins: behind the four bytes of the header */
+    size_t body;        /* where the body begins: after the four bytes of the header */
     size_t body_length; /* at most 131,071 bytes */
     size_t used;        /* the bytes of the packet; what follows it isn't looked at */
 };
@@ -211,85 +185,6 @@ uint32_t nbt_service_request(uint32_t request, uint16_t identifier, bool broadca
                              const uint8_t *name, size_t name_length,
                              uint32_t time_to_live, uint16_t nb_flags, uint32_t address,
                              uint8_t *into, size_t into_length, size_t *used, size_t *at);
-
-/* Saved tables: what is known of datagrams, as the command `nbt save` writes it, as bytes (our choice). Both forms are
- * read, that which begins with NBT1 and that which begins with NBT2; the second is written. ------------------------- */
-
-/* The join of two tables, saved: it holds what either knows. `keys` and `per_source` are how many keys each of the
- * three may have, and how many of one address.
- * 70 to 75 of the first, 80 to 85 of the second, NBT_FULL_SOURCE, NBT_FULL, NBT_NO_MEMORY (which may come before those
- * that follow 75), NBT_NO_ROOM. */
-uint32_t nbt_table_merge(const uint8_t *first, size_t first_length, const uint8_t *second, size_t second_length,
-                         uint32_t keys, uint32_t per_source,
-                         uint8_t *into, size_t into_length, size_t *used, size_t *at);
-
-/* What the command `nbt list` prints of a table: a line for each key, ascending, line feeds included.
- * 70 to 72, NBT_NO_MEMORY, NBT_NO_ROOM. */
-uint32_t nbt_table_list(const uint8_t *table, size_t table_length,
-                        uint8_t *into, size_t into_length, size_t *used, size_t *at);
-
-/* A station: its names, and a table that payloads fill and the clock empties. RFC 1002 section 5.3. ------------------ */
-
-/* Filled in by nbt_station_create alone, given up by nbt_station_free, each once; its copies aren't used. */
-struct nbt_station {
-    void *at;
-};
-
-/* Makes a station with these names, texts with one space between them (none where the length is 0), this address and
- * port, an empty table of at most so many keys, and so many of one address. `*station` is what goes to the `at` of a
- * struct nbt_station; it is written at NBT_DONE alone.
- * For the first name that has a fault: NBT_BAD_TEXT, NBT_LONG_TEXT, whose place counts from the front of `names`,
- * NBT_NAME_PRESENT, NBT_TOO_MANY_NAMES; NBT_NO_MEMORY. */
-uint32_t nbt_station_create(const uint8_t *names, size_t names_length, uint32_t address, uint16_t port,
-                            uint32_t keys, uint32_t per_source, void **station, size_t *at);
-
-/* What became of a payload. */
-enum nbt_outcome {
-    NBT_KEPT = 0,      /* a fragment, whose datagram isn't whole yet or was before */
-    NBT_SPOILT = 1,    /* a fragment that contradicts what was known of its datagram */
-    NBT_DELIVERED = 2, /* a fragment that made its datagram whole, and one of the names hears it */
-    NBT_UNHEARD = 3,   /* a fragment that made its datagram whole, and none of the names hears it */
-    NBT_OTHER = 4,     /* an error or a query packet */
-    NBT_REFUSED = 5    /* no packet; the status says why */
-};
-
-struct nbt_taken {
-    uint32_t outcome;          /* a number of enum nbt_outcome */
-    uint16_t identifier;       /* the key of the fragment's datagram; 0 at NBT_OTHER and NBT_REFUSED */
-    uint16_t port;
-    uint32_t address;
-    uint8_t type;              /* at NBT_DELIVERED 0x10, 0x11 or 0x12; else 0 */
-    size_t source_length;      /* at NBT_DELIVERED: the text of the source, at the front of the buffer */
-    size_t destination_length; /* then that of the destination */
-    size_t data_length;        /* then the data */
-    size_t error_length;       /* else: the error packet to send to where the payload came from; 0 where there is none */
-};
-
-/* Takes a payload that came at this moment, in milliseconds from a beginning of the caller's. The buffer gets what
- * `*taken` says.
- * NBT_NO_ROOM, which leaves the station as it was; then those of nbt_datagram_read, with `*taken` and the error packet
- * written; NBT_MISPLACED_FIRST, NBT_LONG, NBT_FULL_SOURCE, NBT_FULL, NBT_NO_MEMORY, which leave the station as it was. */
-uint32_t nbt_station_take(struct nbt_station *station, uint64_t moment,
-                          const uint8_t *payload, size_t payload_length, struct nbt_taken *taken,
-                          uint8_t *into, size_t into_length, size_t *used, size_t *at);
-
-/* Looks at the clock, which shows `now`: drops each key that came at least 2,000 milliseconds before. `*dropped` is how
- * many.
- * NBT_NO_MEMORY. */
-uint32_t nbt_station_tick(struct nbt_station *station, uint64_t now, uint32_t *dropped);
-
-/* The station's table, saved.
- * NBT_NO_MEMORY, NBT_NO_ROOM. */
-uint32_t nbt_station_save(struct nbt_station *station, uint8_t *into, size_t into_length, size_t *used);
-
-/* Joins a saved table to the station's, at this moment. `*delivered` is how many datagrams that one of the names hears
- * became whole by this.
- * 70 to 75, NBT_LONG, NBT_FULL_SOURCE, NBT_FULL, NBT_NO_MEMORY, which leave the station as it was. */
-uint32_t nbt_station_absorb(struct nbt_station *station, const uint8_t *table, size_t table_length, uint64_t moment,
-                            uint32_t *delivered, size_t *at);
-
-/* Gives a station back. */
-void nbt_station_free(struct nbt_station station);
 
 #ifdef __cplusplus
 }

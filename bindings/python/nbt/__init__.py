@@ -5,7 +5,6 @@ packets     what `nbt show` prints of a payload
 datagrams   packets of port 138
 sessions    packets of port 139
 service     requests of port 137
-tables      saved tables
 statuses    why a call did nothing, as exceptions
 numbers     numbers and addresses, judged before a call
 library     the shared library, found and loaded
@@ -18,7 +17,6 @@ from .packets import show
 from .service import node_status, query, refresh, registration, release
 from .sessions import SessionPacket, SessionType
 from .statuses import MoreNeeded, NbtError, Status
-from .tables import list_table, merge
 
-__all__ = ['Datagram', 'DatagramType', 'MoreNeeded', 'NbtError', 'SessionPacket', 'SessionType', 'Status', 'list_table',
-           'merge', 'node_status', 'query', 'refresh', 'registration', 'release', 'show', 'spell', 'text']
+__all__ = ['Datagram', 'DatagramType', 'MoreNeeded', 'NbtError', 'SessionPacket', 'SessionType', 'Status', 'node_status',
+           'query', 'refresh', 'registration', 'release', 'show', 'spell', 'text']

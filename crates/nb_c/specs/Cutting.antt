@@ -1,9 +1,10 @@
 -- What the call that writes the packets of a datagram answers (RFC 1002 section 4.4.2).
 use Rattle.std.specs.Prelude.{◌≡◌, ◌==◌, ◌+◌, ◌%◌, ℕ, Bool, nat_lt, min, List, ◌++◌, length, Option, Some, None, Result, Ok, Err, if◌then◌else◌}
-use Rattle.std.specs.Int.{w16, to_be_bytes}
+use Rattle.std.specs.Int.{w16, w32, to_be_bytes}
 use Rattle.std.specs.List.{flat_map}
 use Rattle.nb_names.specs.declared.text_fault.TextFault.{TextFault}
 use Rattle.nb_names.specs.Name.{NetbiosName}
+use Rattle.nb_datagram.specs.declared.key.Key.{Key}
 use Rattle.nb_datagram.specs.declared.kind.Kind.{Kind}
 use Rattle.nb_datagram.specs.declared.kind.Kind.TheVariants.{Unique, Group, Broadcast}
 use Rattle.nb_datagram.specs.declared.limits.TheConstants.{MAX_LENGTH, DIRECT_HEADER_LENGTH}
@@ -23,6 +24,10 @@ use Rattle.nb_c.specs.Statuses.{source_text_refusal, destination_text_refusal}
 abbrev pub kind_with : ℕ → Option Kind
 kind_with type =
     if type == 16 then Some Unique else if type == 17 then Some Group else if type == 18 then Some Broadcast else None
+
+-- the key of a datagram that is sent so
+abbrev pub key_of : Sent → Key
+key_of sent = record { ip = to_be_bytes w32 sent.address; port = sent.port; id = sent.identifier }
 
 -- the bytes of a fragment's packet
 abbrev pub packet_of : FragmentParts → List ℕ
@@ -53,7 +58,7 @@ cut_kind None sent source destination contents = Err (Fault UNKNOWN_TYPE)
 cut_kind (Some kind) sent (Err fault) destination contents = Err (source_text_refusal fault)
 cut_kind (Some kind) sent (Ok source) (Err fault) contents = Err (destination_text_refusal fault)
 cut_kind (Some kind) sent (Ok source) (Ok destination) contents =
-    cut_answer (record { key = sent.key; kind = kind; source = source; destination = destination; bytes = contents }) sent.most
+    cut_answer (record { key = key_of sent; kind = kind; source = source; destination = destination; bytes = contents }) sent.most
 
 -- the same, by the type's number
 abbrev pub cut_names : Sent → Result NetbiosName TextFault → Result NetbiosName TextFault → List ℕ → Result (List ℕ) Refusal

@@ -1,8 +1,7 @@
 //! Datagrams, cut into packets of the datagram service.
 ghost use Rattle.std.specs.Prelude.{◌≡◌, ◌++◌, ◌≤◌, List, ℕ, length, IfOk, OnOk, MatchOption};
-ghost use Rattle.std.specs.Int.{w32, to_be_bytes};
 ghost use Rattle.std.specs.List.{flat_map};
-ghost use Rattle.nb_c.specs.Cutting.{Cuts, are_long, cut_answer, cut_names, kind_with, packet_of, counted};
+ghost use Rattle.nb_c.specs.Cutting.{Cuts, are_long, cut_answer, cut_names, key_of, kind_with, packet_of, counted};
 ghost use Rattle.nb_c.specs.Outputs.{Does, Judged, OrMemory};
 ghost use Rattle.nb_datagram.specs.declared.limits.TheConstants.{MAX_LENGTH};
 ghost use Rattle.nb_datagram.specs.Pieces.{pieces};
@@ -22,8 +21,12 @@ use std::alloc::Global;
 pub struct Sent {
     /// MSG_TYPE.
     pub packet_type: u8,
-    /// SOURCE_IP, SOURCE_PORT and DGM_ID.
-    pub key: Key,
+    /// DGM_ID.
+    pub identifier: u16,
+    /// SOURCE_IP.
+    pub address: u32,
+    /// SOURCE_PORT.
+    pub port: u16,
     /// The most bytes of data in a packet.
     pub most: u16,
 }
@@ -48,18 +51,17 @@ pub extern "C" fn nbt_datagram_write(
 ) -> u32
     ensures { Does (Cuts (record {
         packet_type = packet_type;
-        key = record { ip = to_be_bytes w32 address; port = port; id = identifier };
+        identifier = identifier;
+        address = address;
+        port = port;
         most = most;
     }) source.now destination.now contents.now) into.old into.new used.old used.new at.old at.new result }
 {
-    let key = Key {
-        ip: address.to_be_bytes(),
-        port,
-        id: identifier,
-    };
     let sent = Sent {
         packet_type,
-        key,
+        identifier,
+        address,
+        port,
         most,
     };
     write_answer(answer(alloc, sent, source, destination, contents), into, used, at)
@@ -125,7 +127,7 @@ fn cut_data(
     contents: &[u8],
 ) -> Result<Bytes, Refusal>
     ensures { OrMemory (cut_answer (record {
-        key = sent.key;
+        key = key_of sent;
         kind = kind;
         source = source;
         destination = destination;
@@ -134,10 +136,21 @@ fn cut_data(
 {
     match Bytes::copy(alloc, contents) {
         Err(_) => Err(Refusal::Memory),
-        Ok(bytes) => match Datagram::new(sent.key, kind, source, destination, bytes) {
+        Ok(bytes) => match Datagram::new(key_of(sent), kind, source, destination, bytes) {
             Err(_) => Err(Refusal::Fault(LONG_DATA)),
             Ok(datagram) => cut_whole(alloc, &datagram, sent.most),
         },
+    }
+}
+
+/// The key of a datagram that is sent so.
+fn key_of(sent: Sent) -> Key
+    ensures { result ≡ key_of sent }
+{
+    Key {
+        ip: sent.address.to_be_bytes(),
+        port: sent.port,
+        id: sent.identifier,
     }
 }
 
@@ -171,7 +184,7 @@ fn are_long(datagram: &Datagram, most: u16) -> bool
 
 /// The packets of the pieces, each after its length.
 fn joined(alloc: Global, pieces: Pieces<'_>) -> Result<Bytes, NoMemory>
-    ensures { IfOk result (λ bytes. bytes ≡ flat_map (λ piece. counted (packet_of piece)) pieces) }
+    ensures { IfOk result (λ bytes. bytes ≡ flat_map (λ piece. counted (packet_of piece)) pieces.entry) }
 {
     let mut bytes = Vec::new(alloc);
     for piece in pieces.into_vec() {
@@ -182,7 +195,7 @@ fn joined(alloc: Global, pieces: Pieces<'_>) -> Result<Bytes, NoMemory>
 
 /// Adds the packet of a piece, after its length.
 fn push_piece(alloc: Global, piece: Fragment<'_>, bytes: &mut Vec<u8>) -> Result<(), NoMemory>
-    ensures { OnOk result (bytes.new.items ≡ bytes.old.items ++ counted (packet_of piece)) }
+    ensures { OnOk result (bytes.new.items ≡ bytes.old.items ++ counted (packet_of piece.entry)) }
 {
     let packet = encode(alloc, &Packet::Direct(piece))?;
     push_counted(packet.as_slice(), bytes)

@@ -1,8 +1,7 @@
 //! Requests of the name service, written.
 ghost use Rattle.std.specs.Prelude.{◌≡◌, List, ℕ, IfOk};
-ghost use Rattle.std.specs.Int.{w32, to_be_bytes};
 ghost use Rattle.nb_c.specs.Outputs.{Does, Judged, OrMemory};
-ghost use Rattle.nb_c.specs.Requests.{Requests, request_answer, requested};
+ghost use Rattle.nb_c.specs.Requests.{Requests, entry_of, request_answer, requested};
 ghost use Rattle.nb_service.specs.Encoding.{packet_bytes};
 ghost use Rattle.nb_service.specs.Views.{entry_bytes};
 
@@ -33,8 +32,10 @@ pub struct Asked {
     pub broadcast: bool,
     /// TTL, in seconds.
     pub time_to_live: u32,
-    /// NB_FLAGS and the address.
-    pub entry: AddressEntry,
+    /// NB_FLAGS.
+    pub nb_flags: u16,
+    /// The address of the name.
+    pub address: u32,
 }
 
 /// Writes a request about the name with this text.
@@ -59,19 +60,17 @@ pub extern "C" fn nbt_service_request(
         identifier = identifier;
         broadcast = broadcast;
         time_to_live = time_to_live;
-        entry = record { flags = nb_flags; address = to_be_bytes w32 address };
+        nb_flags = nb_flags;
+        address = address;
     }) name.now) into.old into.new used.old used.new at.old at.new result }
 {
-    let entry = AddressEntry {
-        flags: nb_flags,
-        address: address.to_be_bytes(),
-    };
     let asked = Asked {
         request,
         identifier,
         broadcast,
         time_to_live,
-        entry,
+        nb_flags,
+        address,
     };
     write_answer(answer(alloc, asked, name), into, used, at)
 }
@@ -103,12 +102,22 @@ fn request_read(
     }
 }
 
+/// The address that is asked for, with its flags.
+fn entry_of(asked: Asked) -> AddressEntry
+    ensures { result ≡ entry_of asked }
+{
+    AddressEntry {
+        flags: asked.nb_flags,
+        address: asked.address.to_be_bytes(),
+    }
+}
+
 /// The bytes of a request about a name.
 fn bytes_of(alloc: Global, asked: Asked, name: &Name) -> Result<Bytes, NoMemory>
     ensures { IfOk result (λ bytes.
-        bytes ≡ packet_bytes (requested asked name.now (entry_bytes asked.entry))) }
+        bytes ≡ packet_bytes (requested asked name.now (entry_bytes (entry_of asked)))) }
 {
-    let entry = asked.entry.to_bytes();
+    let entry = entry_of(asked).to_bytes();
     let packet = packet_of(alloc, asked, name, &entry)?;
     encode(alloc, &packet)
 }

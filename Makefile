@@ -5,8 +5,9 @@ NAMES = 'FRED<20>'
 CAPTURE = examples/capture.txt
 SECONDS = 60
 PREFIX ?= /usr/local
+LIBRARY = out/lib
 
-.PHONY: run build try check test bench fuzz install
+.PHONY: run build try check test bench fuzz install lib install-lib
 
 # Prove and build the program, and replay a capture in a station with these names.
 run: build
@@ -48,3 +49,18 @@ install: build
 	ln -sf ../share/nbt/pcap2cap '$(DESTDIR)$(PREFIX)/bin/nbt-pcap2cap'
 	ln -sf ../share/nbt/cap2pcap '$(DESTDIR)$(PREFIX)/bin/nbt-cap2pcap'
 	install -D -m 644 man/nbt.1 '$(DESTDIR)$(PREFIX)/share/man/man1/nbt.1'
+
+# Prove the library for C and build it: LIBRARY has libnbt.a, libnbt.so.0 and nbt.pc.
+lib:
+	cd crates/nb_c && rt lib
+	tools/library crates/nb_c/out/libnb_c.a '$(LIBRARY)' '$(PREFIX)'
+
+# Build the library, and put it below PREFIX, with its header, and the package for Python, which finds it there.
+install-lib: lib
+	install -d '$(DESTDIR)$(PREFIX)/lib/pkgconfig' '$(DESTDIR)$(PREFIX)/include' '$(DESTDIR)$(PREFIX)/share/nbt/python/nbt'
+	install -m 644 '$(LIBRARY)/libnbt.a' '$(DESTDIR)$(PREFIX)/lib'
+	install -m 755 '$(LIBRARY)/libnbt.so.0' '$(DESTDIR)$(PREFIX)/lib'
+	ln -sf libnbt.so.0 '$(DESTDIR)$(PREFIX)/lib/libnbt.so'
+	sed 's|^prefix=.*|prefix=$(PREFIX)|' '$(LIBRARY)/nbt.pc' >'$(DESTDIR)$(PREFIX)/lib/pkgconfig/nbt.pc'
+	install -m 644 include/nbt.h '$(DESTDIR)$(PREFIX)/include'
+	install -m 644 bindings/python/nbt/* '$(DESTDIR)$(PREFIX)/share/nbt/python/nbt'

@@ -50,7 +50,7 @@ class Status(enum.IntEnum):
 
 
 # The statuses that say where the fault stands.
-PLACED = frozenset(Status) & {10, 12, 14, *range(20, 27), *range(30, 37), *range(40, 47), 50, 52, 55}
+PLACED = frozenset(it for it in Status if it in {10, 12, 14, *range(20, 27), *range(30, 37), *range(40, 47), 50, 52, 55})
 
 
 class NbtError(ValueError):

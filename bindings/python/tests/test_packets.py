@@ -3,6 +3,7 @@ import unittest
 
 import nbt
 from nbt import DatagramType, SessionType, Status
+from nbt.packets import SHOW
 
 FRED = bytes.fromhex('20') + b'EGFCEFEECACACACACACACACACACACACA\0'
 JOE = bytes.fromhex('20') + b'EKEPEFCACACACACACACACACACACACAAA\0'
@@ -127,8 +128,10 @@ class Shown(unittest.TestCase):
 
     def test_long(self):
         """A text that is longer than the room that it is first given."""
-        answer = bytes.fromhex('000385000000000100000000') + FRED + bytes.fromhex('002100010000000000f90d')
-        text = nbt.show(137, answer + (b'\x01' * 15 + b'\x00\x04\x00') * 13 + bytes(2))
+        answer = bytes.fromhex('000385000000000100000000') + FRED + bytes.fromhex('002100010000000000ed0d')
+        status = answer + (b'\x01' * 15 + b'\x00\x04\x00') * 13 + bytes(2)
+        text = SHOW(137, status, len(status), room=10).decode()
+        self.assertEqual(text, nbt.show(137, status))
         self.assertIn('\n    name ' + r'\01' * 15 + '<00>', text)
 
 

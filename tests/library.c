@@ -97,27 +97,34 @@ static void shown(uint16_t port, const uint8_t *payload, size_t length, size_t r
     fwrite(into, 1, used, stdout);
 }
 
+/* Counts a call, and says whether it is to be made again: memory ran out. */
+static int again(uint32_t status)
+{
+    calls += 1;
+    refusals += status == NBT_NO_MEMORY;
+    return status == NBT_NO_MEMORY;
+}
+
 /* The text of a spelling, and its spelling again. */
 static void named(const uint8_t *spelling, size_t length, uint8_t **text, size_t *used)
 {
-    uint8_t *again;
+    uint8_t *spelt;
     size_t at = 88, back = 0;
     uint32_t status;
-    expect(nbt_name_text(spelling, length, room(names, 0), 0, used, &at) == NBT_NO_ROOM, "nbt_name_text: no room");
+    do
+        status = nbt_name_text(spelling, length, room(names, 0), 0, used, &at);
+    while (again(status));
+    expect(status == NBT_NO_ROOM, "nbt_name_text: no room");
     *text = room(names, *used);
-    do {
+    do
         status = nbt_name_text(spelling, length, *text, *used, used, &at);
-        calls += 1;
-        refusals += status == NBT_NO_MEMORY;
-    } while (status == NBT_NO_MEMORY);
+    while (again(status));
     expect(status == NBT_DONE && at == 88, "nbt_name_text: a name of a packet");
-    again = room(texts, length);
-    do {
-        status = nbt_name_spell(*text, *used, again, length, &back, &at);
-        calls += 1;
-        refusals += status == NBT_NO_MEMORY;
-    } while (status == NBT_NO_MEMORY);
-    expect(status == NBT_DONE && at == 88 && back == length && memcmp(again, spelling, length) == 0, "nbt_name_spell: the name again");
+    spelt = room(texts, length);
+    do
+        status = nbt_name_spell(*text, *used, spelt, length, &back, &at);
+    while (again(status));
+    expect(status == NBT_DONE && at == 88 && back == length && memcmp(spelt, spelling, length) == 0, "nbt_name_spell: the name again");
 }
 
 /* A datagram that is whole in one packet is written as this packet. */
@@ -133,12 +140,10 @@ static void written(const uint8_t *payload, const struct nbt_datagram *read)
     if (read->flags != 2 || read->offset != 0 || read->used > 65535)
         return;
     into = room(packets, 2 + read->used);
-    do {
+    do
         status = nbt_datagram_write(read->type, read->identifier, read->address, read->port, source, source_length, text, length,
                                     payload + read->data, read->data_length, 65535, into, 2 + read->used, &used, &at);
-        calls += 1;
-        refusals += status == NBT_NO_MEMORY;
-    } while (status == NBT_NO_MEMORY);
+    while (again(status));
     expect(status == NBT_DONE && at == 88 && used == 2 + read->used, "nbt_datagram_write: the datagram of a packet");
     expect((size_t)into[0] * 256 + into[1] == read->used, "nbt_datagram_write: the length of a packet");
     expect(memcmp(into + 2, payload, read->used) == 0, "nbt_datagram_write: the packet again");
@@ -184,11 +189,9 @@ static void session(const uint8_t *payload, size_t length)
     }
     expect(at == 88 && read.body == 4 && read.body + read.body_length == read.used && read.used <= length, "nbt_session_read: the places");
     into = room(packets, read.used);
-    do {
+    do
         status = nbt_session_write(read.type, payload + read.body, read.body_length, into, read.used, &used, &at);
-        calls += 1;
-        refusals += status == NBT_NO_MEMORY;
-    } while (status == NBT_NO_MEMORY);
+    while (again(status));
     expect(status == NBT_DONE && at == 88 && used == read.used && memcmp(into, payload, used) == 0, "nbt_session_write: the packet again");
 }
 
@@ -212,7 +215,7 @@ int main(int count, char **words)
         size_t length, i;
         uint8_t *payload;
         digits += 1;
-        length = *digits == 'e' ? 0 : strcspn(digits, "\n") / 2;
+        length = strncmp(digits, "empty", 5) == 0 ? 0 : strcspn(digits, "\n") / 2;
         payload = room(payloads, length);
         for (i = 0; i < length; i++)
             payload[i] = (uint8_t)(value(digits[2 * i]) * 16 + value(digits[2 * i + 1]));

@@ -3,6 +3,8 @@
 # sanitizers, memory that runs out, and the package for Python. Usage: tests/library.sh [PROGRAM]; its last line is 'N
 # passed, M failed, K skipped'.
 set -uo pipefail
+# What stands last in a pipe counts its cases here.
+shopt -s lastpipe
 . "$(dirname "$0")/counting.sh"
 program=$(realpath "${1:-$here/../crates/nbt/out/nbt}")
 top=$(realpath "$here/..")
@@ -102,7 +104,7 @@ callers() {
 refused() {
     local each
     [ -f "$room/plain" ] || compiled plain
-    lines 60 2
+    lines 30 2
     requests "$room/plain" 2 <"$room/lines2" >"$room/output" 2>"$room/errors"
     count $? "requests for memory are counted: $number"
     for ((each = 1; each <= number; each++)); do

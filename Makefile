@@ -63,4 +63,5 @@ install-lib: lib
 	ln -sf libnbt.so.0 '$(DESTDIR)$(PREFIX)/lib/libnbt.so'
 	sed 's|^prefix=.*|prefix=$(PREFIX)|' '$(LIBRARY)/nbt.pc' >'$(DESTDIR)$(PREFIX)/lib/pkgconfig/nbt.pc'
 	install -m 644 include/nbt.h '$(DESTDIR)$(PREFIX)/include'
-	install -m 644 bindings/python/nbt/* '$(DESTDIR)$(PREFIX)/share/nbt/python/nbt'
+	install -m 644 bindings/python/nbt/*.py bindings/python/nbt/py.typed '$(DESTDIR)$(PREFIX)/share/nbt/python/nbt'
+	ln -sf ../../../../lib/libnbt.so.0 '$(DESTDIR)$(PREFIX)/share/nbt/python/nbt'

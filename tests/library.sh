@@ -144,8 +144,23 @@ installed() {
         count $? "a program by pkg-config $each: $(head -n 1 "$room/log")"
         LD_LIBRARY_PATH=$room/root/lib ended "$room/example" | same "$(wanted "$top/bindings/c/show.c")" "a program by pkg-config $each"
     done
-    PYTHONPATH=$room/root/share/nbt/python LD_LIBRARY_PATH=$room/root/lib PYTHONDONTWRITEBYTECODE=1 \
-        ended python3 -c 'import nbt; print(nbt.text(nbt.spell("FRED<20>")))' 2>&1 | same 'FRED<20>' 'the package, installed'
+    # The programs with which docs/CALLING.md begins, and what it says that they print.
+    block c >"$room/first.c"
+    flags=$(PKG_CONFIG_PATH=$room/root/lib/pkgconfig pkg-config --cflags --libs nbt)
+    $CC -std=c11 -Wall -Wextra -Werror -o "$room/example" "$room/first.c" $flags >"$room/log" 2>&1
+    count $? "the program in C of docs/CALLING.md: $(head -n 1 "$room/log")"
+    LD_LIBRARY_PATH=$room/root/lib ended "$room/example" | same "$(block text)" 'the program in C of docs/CALLING.md'
+    block python >"$room/first.py"
+    PYTHONPATH=$room/root/share/nbt/python PYTHONDONTWRITEBYTECODE=1 ended python3 "$room/first.py" 2>&1 \
+        | same "$(block text 2)" 'the program in Python of docs/CALLING.md'
+}
+
+# block LANGUAGE [NUMBER]: a block of docs/CALLING.md in this language, the first of them if no number is given.
+block() {
+    awk -v mark="\`\`\`$1" -v wanted="${2:-1}" '
+        /^```$/ { shown = 0 }
+        shown
+        $0 == mark && ++found == wanted { shown = 1 }' "$top/docs/CALLING.md"
 }
 
 part shims compile refuse_memory

@@ -43,10 +43,10 @@ scope_ascii _ _ (more_labels label labels items text some first rest) =
 formed_ascii : (text : List ℕ) → IsFormed text → IsAscii text
 formed_ascii text (parts, form) =
     let digits = IsAscii-cons form.high (form.low ∷ 62 ∷ form.behind) (hex_ascii form.high form.high_digit)
-      (IsAscii-cons form.low (62 ∷ form.behind) (hex_ascii form.low form.low_digit)
-      (IsAscii-cons 62 form.behind (omega arith) (scope_ascii parts.scope form.behind form.scope))) in
+    (IsAscii-cons form.low (62 ∷ form.behind) (hex_ascii form.low form.low_digit)
+    (IsAscii-cons 62 form.behind (omega arith) (scope_ascii parts.scope form.behind form.scope))) in
     subst IsAscii (sym form.whole) (IsAscii-append form.items (60 ∷ form.high ∷ form.low ∷ 62 ∷ form.behind)
-      (items_ascii parts.front form.items form.front) (IsAscii-cons 60 (form.high ∷ form.low ∷ 62 ∷ form.behind) (omega arith) digits))
+    (items_ascii parts.front form.items form.front) (IsAscii-cons 60 (form.high ∷ form.low ∷ 62 ∷ form.behind) (omega arith) digits))
 
 -- a text of the form is UTF-8
 pub formed_utf8 : (text : List ℕ) → IsFormed text → IsUtf8 text
@@ -71,11 +71,11 @@ bad_front text valid place v bad =
       front = subst (λ (front : List ℕ). (rest : List ℕ) × IsFormed (front ++ rest)) (take-take place valid text low) bad.front;
       longest = λ count past within. either count past (cases_lt valid count);
     } where
-  either : (count : ℕ) → place < count → (valid < count) ⊎ (count ≤ valid) → ¬ IsFront text count
-  either count past (inl more) = none_past text valid count v more
-  either count past (inr less) = λ front.
-      bad.longest count past (omega (arith, length-take-le valid text (omega (arith, v.short)), less))
-      (subst (λ (front : List ℕ). (rest : List ℕ) × IsFormed (front ++ rest)) (sym (take-take count valid text less)) front)
+      either : (count : ℕ) → place < count → (valid < count) ⊎ (count ≤ valid) → ¬ IsFront text count
+      either count past (inl more) = none_past text valid count v more
+      either count past (inr less) = λ front.
+          bad.longest count past (omega (arith, length-take-le valid text (omega (arith, v.short)), less))
+          (subst (λ (front : List ℕ). (rest : List ℕ) × IsFormed (front ++ rest)) (sym (take-take count valid text less)) front)
 
 -- a text that is UTF-8 up to a place, and has the form there, leaves it at that place
 pub bad_end : (text : List ℕ) (valid : ℕ) → IsValidUpTo text valid → IsFormed (take valid text) → IsBad text valid

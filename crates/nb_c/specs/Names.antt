@@ -32,7 +32,7 @@ abbrev pub IsNoSpelling : List ℕ → Refusal → Type 0
 IsNoSpelling bytes refusal =
     ((fault : NameFault) × NetbiosFaultAt bytes Refused 0 fault × (refusal ≡ name_refusal fault))
     ⊎ ((name : NetbiosName) × (next : ℕ) × IsName name × NameAt bytes Refused 0 (labels_of_name name) next
-      × (next < length bytes) × (refusal ≡ FaultAt NAME_TRAILING_BYTES next))
+    × (next < length bytes) × (refusal ≡ FaultAt NAME_TRAILING_BYTES next))
 
 -- Tells bytes answer: the bytes are one name, whose text is answered, or have this fault
 abbrev pub Tells : List ℕ → Result (List ℕ) Refusal → Type 0

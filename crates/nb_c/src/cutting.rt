@@ -50,11 +50,11 @@ pub extern "C" fn nbt_datagram_write(
     at: &mut usize,
 ) -> u32
     ensures { Does (Cuts (record {
-        packet_type = packet_type;
-        identifier = identifier;
-        address = address;
-        port = port;
-        most = most;
+      packet_type = packet_type;
+      identifier = identifier;
+      address = address;
+      port = port;
+      most = most;
     }) source.now destination.now contents.now) into.old into.new used.old used.new at.old at.new result }
 {
     let sent = Sent {
@@ -64,7 +64,12 @@ pub extern "C" fn nbt_datagram_write(
         port,
         most,
     };
-    write_answer(answer(alloc, sent, source, destination, contents), into, used, at)
+    write_answer(
+        answer(alloc, sent, source, destination, contents),
+        into,
+        used,
+        at,
+    )
 }
 
 /// The packets of the datagram between the names with these texts.
@@ -80,7 +85,13 @@ fn answer(
     // For the clause: a text has one name or one fault. The calls do nothing.
     one_name();
     one_text_fault();
-    packets(alloc, sent, name_of_text(source), name_of_text(destination), contents)
+    packets(
+        alloc,
+        sent,
+        name_of_text(source),
+        name_of_text(destination),
+        contents,
+    )
 }
 
 /// The packets of the datagram between two names, if they are names.
@@ -127,11 +138,11 @@ fn cut_data(
     contents: &[u8],
 ) -> Result<Bytes, Refusal>
     ensures { OrMemory (cut_answer (record {
-        key = key_of sent;
-        kind = kind;
-        source = source;
-        destination = destination;
-        bytes = contents.now;
+      key = key_of sent;
+      kind = kind;
+      source = source;
+      destination = destination;
+      bytes = contents.now;
     }) sent.most) result }
 {
     match Bytes::copy(alloc, contents) {

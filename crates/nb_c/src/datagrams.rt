@@ -52,11 +52,7 @@ pub struct NbtDatagram {
 ///
 /// RFC 1002 section 4.4.
 #[unsafe(no_mangle)]
-pub extern "C" fn nbt_datagram_read(
-    payload: &[u8],
-    packet: &mut NbtDatagram,
-    at: &mut usize,
-) -> u32
+pub extern "C" fn nbt_datagram_read(payload: &[u8], packet: &mut NbtDatagram, at: &mut usize) -> u32
     ensures { Fills NbtDatagram (Reads payload.now) packet.old packet.new at.old at.new result }
 {
     fill(read(payload), packet, at)

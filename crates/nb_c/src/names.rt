@@ -10,9 +10,7 @@ use crate::statuses::NAME_TRAILING_BYTES;
 use crate::texts::name_of_text;
 use nb_names::laws::{labels_tell_the_name, one_netbios_fault, one_reading};
 use nb_names::text_laws::{one_name, one_text_fault};
-use nb_names::{
-    Bytes, Name, NoMemory, Pointers, TextFault, name_text, read_name, write_domain,
-};
+use nb_names::{Bytes, Name, NoMemory, Pointers, TextFault, name_text, read_name, write_domain};
 use std::alloc::Global;
 
 /// Writes the spelling of the name with this text.

@@ -51,11 +51,7 @@ pub(crate) fn write_answer(
 }
 
 /// Writes the bytes, unless memory ran out.
-pub(crate) fn write_bytes(
-    bytes: Result<Bytes, NoMemory>,
-    into: &mut [u8],
-    used: &mut usize,
-) -> u32
+pub(crate) fn write_bytes(bytes: Result<Bytes, NoMemory>, into: &mut [u8], used: &mut usize) -> u32
     ensures { Answers (of_memory bytes) into.old into.new used.old used.new 0 0 result }
 {
     match bytes {

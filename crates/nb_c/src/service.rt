@@ -56,12 +56,12 @@ pub extern "C" fn nbt_service_request(
     at: &mut usize,
 ) -> u32
     ensures { Does (Requests (record {
-        request = request;
-        identifier = identifier;
-        broadcast = broadcast;
-        time_to_live = time_to_live;
-        nb_flags = nb_flags;
-        address = address;
+      request = request;
+      identifier = identifier;
+      broadcast = broadcast;
+      time_to_live = time_to_live;
+      nb_flags = nb_flags;
+      address = address;
     }) name.now) into.old into.new used.old used.new at.old at.new result }
 {
     let asked = Asked {

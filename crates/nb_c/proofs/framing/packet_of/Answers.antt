@@ -14,4 +14,4 @@ returns-then-body-gt-MAX_MESSAGE c = long_body _ _ c.in-Some.kind c.in-Some.ensu
 pub returns-in-Ok : goal.returns-in-Ok
 returns-in-Ok c =
     judged_alone _ _ (framed _ _ c.in-Some.kind _ c.in-Some.ensures c.if-body-gt-MAX_MESSAGE.false
-      (subst (λ (b : List ℕ). Alone (List ℕ) (Stands b) c.judge.result) c.in-Ok.ensures c.judge.ensures))
+    (subst (λ (b : List ℕ). Alone (List ℕ) (Stands b) c.judge.result) c.in-Ok.ensures c.judge.ensures))

@@ -3,7 +3,7 @@ use Rattle.std.proofs.Common.{◌≡◌, ℕ, List, Result, Ok, Err, IfOk}
 use Rattle.nb_names.specs.declared.bytes.NoMemory.{NoMemory}
 use Rattle.nb_text.specs.Shown.{Shown}
 use Rattle.nb_c.specs.declared.refusal.Refusal.{Refusal}
-use Rattle.nb_c.specs.Outputs.{Alone, Judged, of_memory}
+use Rattle.nb_c.specs.Outputs.{Judged, of_memory}
 use Rattle.nb_c.specs.Showing.{Shows}
 
 pub judged_text : (payload : List ℕ) (port : ℕ) → ((text other : List ℕ) → Shown payload port text → Shown payload port other → text ≡ other)

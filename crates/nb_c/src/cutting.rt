@@ -55,7 +55,8 @@ pub extern "C" fn nbt_datagram_write(
       address = address;
       port = port;
       most = most;
-    }) source.now destination.now contents.now) into.old into.new used.old used.new at.old at.new result }
+    }) source.now destination.now contents.now)
+        into.old into.new used.old used.new at.old at.new result }
 {
     let sent = Sent {
         packet_type,
@@ -195,7 +196,8 @@ fn are_long(datagram: &Datagram, most: u16) -> bool
 
 /// The packets of the pieces, each after its length.
 fn joined(alloc: Global, pieces: Pieces<'_>) -> Result<Bytes, NoMemory>
-    ensures { IfOk result (λ bytes. bytes ≡ flat_map (λ piece. counted (packet_of piece)) pieces.entry) }
+    ensures { IfOk result (λ bytes.
+        bytes ≡ flat_map (λ piece. counted (packet_of piece)) pieces.entry) }
 {
     let mut bytes = Vec::new(alloc);
     for piece in pieces.into_vec() {

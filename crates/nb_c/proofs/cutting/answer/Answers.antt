@@ -1,5 +1,3 @@
-use Rattle.std.proofs.Common.{ℕ, List}
-use Rattle.nb_names.specs.declared.text_fault.TextFault.{TextFault}
 use Rattle.nb_c.proofs.NameLemmas.{TextLaws, or_memory, reads_alone}
 use Rattle.nb_c.specs.Cutting.{cut_names}
 use Rattle.nb_c.proofs.cutting.answer.Goals as goal

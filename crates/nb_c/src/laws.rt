@@ -1,5 +1,10 @@
 //! Laws of the definitions that the contracts cite. Each is proved; a call does nothing.
-ghost use Rattle.std.specs.Prelude.{◌≡◌};
+ghost use Rattle.std.specs.Prelude.{◌≡◌, ℕ, List};
+ghost use Rattle.nb_names.specs.Labels.{StandsAt};
+ghost use Rattle.nb_datagram.specs.declared.packet.Packet.TheVariants.{Direct};
+ghost use Rattle.nb_datagram.specs.Fragment.{FragmentParts};
+ghost use Rattle.nb_datagram.specs.Packet.{IsPacket, name_bytes};
+ghost use Rattle.nb_c.specs.Datagrams.{fragment_places};
 ghost use Rattle.nb_c.specs.declared.statuses.TheConstants.{DONE, NO_ROOM, NO_MEMORY, BAD_TEXT, LONG_TEXT, SOURCE_BAD_TEXT, SOURCE_LONG_TEXT, DESTINATION_BAD_TEXT, DESTINATION_LONG_TEXT, NAME_TRUNCATED, NAME_RESERVED_LABEL, NAME_POINTER, NAME_LONG, NAME_NOT_NETBIOS, NAME_TRAILING_BYTES, NAME_BAD_POINTER, SOURCE_TRUNCATED, SOURCE_RESERVED_LABEL, SOURCE_POINTER, SOURCE_LONG, SOURCE_NOT_NETBIOS, SOURCE_BAD_POINTER, DESTINATION_TRUNCATED, DESTINATION_RESERVED_LABEL, DESTINATION_POINTER, DESTINATION_LONG, DESTINATION_NOT_NETBIOS, DESTINATION_BAD_POINTER, TRUNCATED, UNKNOWN_TYPE, MORE, RESERVED_FLAGS, BAD_LENGTH, TRAILING_BYTES, UNKNOWN_REQUEST, ZERO_PIECE, LONG_DATA, UNKNOWN_STATUS};
 
 /// The number of each status.
@@ -20,4 +25,17 @@ pub fn numbers()
         × (RESERVED_FLAGS ≡ 53) × (BAD_LENGTH ≡ 54) × (TRAILING_BYTES ≡ 55) }
     ensures requests { (UNKNOWN_REQUEST ≡ 60) × (ZERO_PIECE ≡ 61) × (LONG_DATA ≡ 62) }
     ensures unknown { (UNKNOWN_STATUS ≡ 255) }
+{}
+
+/// The names and the data of a fragment stand in the payload where they are said to stand.
+pub fn parts_stand_at_their_places()
+    ensures source { (payload : List ℕ) (f : FragmentParts) (used : ℕ) →
+        IsPacket payload (Direct f) used →
+        StandsAt payload (fragment_places f used).source (name_bytes f.source) }
+    ensures destination { (payload : List ℕ) (f : FragmentParts) (used : ℕ) →
+        IsPacket payload (Direct f) used →
+        StandsAt payload (fragment_places f used).destination (name_bytes f.destination) }
+    ensures bytes { (payload : List ℕ) (f : FragmentParts) (used : ℕ) →
+        IsPacket payload (Direct f) used →
+        StandsAt payload (fragment_places f used).contents f.bytes }
 {}

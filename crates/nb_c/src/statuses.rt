@@ -1,4 +1,4 @@
-//! The numbers that calls answer. A number stands for one thing, in all versions. Each has its words.
+//! The numbers that calls answer. Each stands for one thing, in all versions, and has its words.
 
 /// Done.
 pub const DONE: u32 = 0;

@@ -87,9 +87,9 @@ worst() {
 # lines COUNT SEED: payloads, and what `nbt show` prints of them.
 lines() {
     "$here/library_payloads.py" --seed "$2" "$1" >"$room/lines$2"
-    sed 's/ / 0 /' "$room/lines$2" | ended "$program" show >"$room/lines$2.wanted"
-    [ "$(grep -c '' "$room/lines$2")" -eq "$1" ] && grep -q . "$room/lines$2.wanted"
-    count $? "$1 payloads of tests/library_payloads.py, and nbt show"
+    sed 's/ / 0 /' "$room/lines$2" | ended "$program" show --input-limit 4294967296 >"$room/lines$2.wanted"
+    [ $? -eq 0 ] && [ "$(grep -cE '^[0-9]+ 13[789] ' "$room/lines$2.wanted")" -eq "$1" ]
+    count $? "$1 payloads of tests/library_payloads.py, and nbt show of each"
 }
 
 callers() {

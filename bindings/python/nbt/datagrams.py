@@ -8,7 +8,7 @@ from dataclasses import dataclass
 from typing import Iterator, List, Optional
 
 from . import names
-from .library import BYTES, ROOM, Buffer, Reader, Writer, given
+from .library import BYTES, Buffer, Reader, Writer, given
 from .numbers import Address, address_number, number
 
 
@@ -90,7 +90,7 @@ class Datagram:
         texts, whole = [source.encode(), destination.encode()], given(data)
         written = WRITE(number(type, 8, 'type'), number(identifier, 16, 'identifier'), address_number(address),
                         number(port, 16, 'port'), texts[0], len(texts[0]), texts[1], len(texts[1]), whole, len(whole),
-                        number(most, 16, 'most'), room=len(whole) + ROOM)
+                        number(most, 16, 'most'))
         return list(pieces(written))
 
 

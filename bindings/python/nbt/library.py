@@ -7,15 +7,15 @@ from __future__ import annotations
 
 import ctypes
 import os
-from typing import Any, Union
+from typing import Any, List, Union
 
 from .statuses import Status, refusal
 
 Buffer = Union[bytes, bytearray, memoryview]
 
 NAME = 'libnbt.so.0'
-# How many bytes an answer may have before a call is made a second time.
-ROOM = 1_024
+# How many bytes an answer may have before a call is made a second time, and how many a room has that is kept.
+ROOM, MOST_SPARE = 4_096, 1 << 20
 
 BYTES = (ctypes.c_char_p, ctypes.c_size_t)
 SIZE = ctypes.POINTER(ctypes.c_size_t)
@@ -71,24 +71,45 @@ class Reader:
         return found
 
 
+class Room:
+    """What a call writes to: bytes, how many there are, and a place."""
+
+    def __init__(self) -> None:
+        self.used, self.at = ctypes.c_size_t(), ctypes.c_size_t()
+        self.places = ctypes.byref(self.used), ctypes.byref(self.at)
+        self.grow(ROOM)
+
+    def grow(self, length: int) -> None:
+        """Room for so many bytes."""
+        self.length, self.into = length, ctypes.create_string_buffer(length)
+
+
+# Rooms that no call uses now. A call takes one and puts it back, so no two calls ever have the same.
+SPARE: List[Room] = []
+
+
 class Writer:
     """A call that writes bytes into a buffer: it is made again with more room where that is wanted."""
 
     def __init__(self, name: str, *arguments: Any, places: bool = True) -> None:
-        self.places = places
+        self.count = 2 if places else 1
         self.call = Call(name, *arguments, *BYTES, SIZE, *([SIZE] if places else []))
 
-    def __call__(self, *arguments: Any, room: int = ROOM) -> bytes:
-        used, at = ctypes.c_size_t(), ctypes.c_size_t()
-        last = (ctypes.byref(used), ctypes.byref(at)) if self.places else (ctypes.byref(used),)
-        while True:
-            into = ctypes.create_string_buffer(room)
-            status = self.call(*arguments, into, room, *last)
-            if status == 0:
-                return ctypes.string_at(into, used.value)
-            if status != 1:
-                raise words_of(status, at.value)
-            room = used.value
+    def __call__(self, *arguments: Any) -> bytes:
+        try:
+            room = SPARE.pop()
+        except IndexError:
+            room = Room()
+        status = self.call(*arguments, room.into, room.length, *room.places[:self.count])
+        while status == 1:
+            room.grow(room.used.value)
+            status = self.call(*arguments, room.into, room.length, *room.places[:self.count])
+        written, at = ctypes.string_at(room.into, room.used.value if status == 0 else 0), room.at.value
+        if room.length <= MOST_SPARE:
+            SPARE.append(room)
+        if status != 0:
+            raise words_of(status, at)
+        return written
 
 
 STATUS_TEXT = Writer('nbt_status_text', ctypes.c_uint32, places=False)

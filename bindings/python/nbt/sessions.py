@@ -5,7 +5,7 @@ import ctypes
 import enum
 from dataclasses import dataclass
 
-from .library import BYTES, ROOM, Buffer, Reader, Writer, given
+from .library import BYTES, Buffer, Reader, Writer, given
 from .numbers import number
 
 
@@ -58,4 +58,4 @@ class SessionPacket:
         places count from the front of the packet.
         """
         data = given(body)
-        return WRITE(number(type, 8, 'type'), data, len(data), room=len(data) + ROOM)
+        return WRITE(number(type, 8, 'type'), data, len(data))

@@ -1,9 +1,10 @@
 """Packets of ports 137, 138 and 139."""
 import unittest
+from concurrent.futures import ThreadPoolExecutor
 
 import nbt
 from nbt import DatagramType, SessionType, Status
-from nbt.packets import SHOW
+from nbt.library import SPARE
 
 FRED = bytes.fromhex('20') + b'EGFCEFEECACACACACACACACACACACACA\0'
 JOE = bytes.fromhex('20') + b'EKEPEFCACACACACACACACACACACACAAA\0'
@@ -130,9 +131,17 @@ class Shown(unittest.TestCase):
         """A text that is longer than the room that it is first given."""
         answer = bytes.fromhex('000385000000000100000000') + FRED + bytes.fromhex('002100010000000000ed0d')
         status = answer + (b'\x01' * 15 + b'\x00\x04\x00') * 13 + bytes(2)
-        text = SHOW(137, status, len(status), room=10).decode()
+        for room in SPARE:
+            room.grow(10)
+        text = nbt.show(137, status)
+        self.assertGreater(SPARE[-1].length, 10)
         self.assertEqual(text, nbt.show(137, status))
         self.assertIn('\n    name ' + r'\01' * 15 + '<00>', text)
+
+    def test_threads(self):
+        with ThreadPoolExecutor(4) as pool:
+            texts = list(pool.map(lambda code: nbt.show(139, b'\x83\0\0\1' + bytes([code])), list(range(256)) * 8))
+        self.assertEqual(texts, [f'negative code={code:02x} used=5\n' for code in range(256)] * 8)
 
 
 if __name__ == '__main__':

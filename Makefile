@@ -10,8 +10,9 @@ ROOT = $(DESTDIR)$(PREFIX)
 TOOLS = tools/nbt-parallel tools/nbt-dask tools/pcap2cap tools/cap2pcap
 NAMED = nbt-pcap2cap nbt-cap2pcap nbt-parallel nbt-dask
 COMPLETIONS = $(ROOT)/share/bash-completion/completions
+LIBRARY = out/lib
 
-.PHONY: run build try check test bench fuzz completions install uninstall deb
+.PHONY: run build try check test bench fuzz completions install uninstall deb lib install-lib
 
 # Prove and build the program, and replay a capture in a station with these names.
 run: build
@@ -78,3 +79,19 @@ uninstall:
 # Make a Debian package of the built program, its tools and pages. DEBFULLNAME and DEBEMAIL say who answers for it.
 deb: $(PROGRAM)
 	tools/deb $(PROGRAM) '$(DEB)'
+
+# Prove the library for C and build it: LIBRARY has libnbt.a, libnbt.so.0 and nbt.pc.
+lib:
+	cd crates/nb_c && rt lib
+	tools/library crates/nb_c/out/libnb_c.a '$(LIBRARY)' '$(PREFIX)'
+
+# Build the library, and put it below PREFIX, with its header, and the package for Python, which finds it there.
+install-lib: lib
+	install -d '$(DESTDIR)$(PREFIX)/lib/pkgconfig' '$(DESTDIR)$(PREFIX)/include' '$(DESTDIR)$(PREFIX)/share/nbt/python/nbt'
+	install -m 644 '$(LIBRARY)/libnbt.a' '$(DESTDIR)$(PREFIX)/lib'
+	install -m 755 '$(LIBRARY)/libnbt.so.0' '$(DESTDIR)$(PREFIX)/lib'
+	ln -sf libnbt.so.0 '$(DESTDIR)$(PREFIX)/lib/libnbt.so'
+	sed 's|^prefix=.*|prefix=$(PREFIX)|' '$(LIBRARY)/nbt.pc' >'$(DESTDIR)$(PREFIX)/lib/pkgconfig/nbt.pc'
+	install -m 644 include/nbt.h '$(DESTDIR)$(PREFIX)/include'
+	install -m 644 bindings/python/nbt/*.py bindings/python/nbt/py.typed '$(DESTDIR)$(PREFIX)/share/nbt/python/nbt'
+	ln -sf ../../../../lib/libnbt.so.0 '$(DESTDIR)$(PREFIX)/share/nbt/python/nbt'

@@ -75,7 +75,7 @@ proofs=$(($(grep -c '^[a-z]' crates.txt) + $(find crates -path '*/must-fail/*.ed
 stated=$(least rt all)
 
 step rt 170 $((proofs > stated && stated > 0 ? proofs : stated)) tests/costs.py rt ci
-for each in program.sh process.py examples.sh wireshark.sh manual.sh scale.sh; do
+for each in program.sh process.py examples.sh wireshark.sh manual.sh library.sh scale.sh; do
     step $each 20 "$(least $each all)" "tests/$each"
 done
 cat "$room/skips" "$room/failures"

@@ -1,0 +1,22 @@
+"""NetBIOS packets over TCP and UDP (RFC 1001, RFC 1002), read and written by the shared library libnbt.
+
+names       texts and spellings
+packets     what `nbt show` prints of a payload
+datagrams   packets of port 138
+sessions    packets of port 139
+service     requests of port 137
+statuses    why a call did nothing, as exceptions
+numbers     numbers and addresses, judged before a call
+library     the shared library, found and loaded
+
+The calls may be made from any thread, and let other threads run meanwhile.
+"""
+from .datagrams import Datagram, DatagramType
+from .names import spell, text
+from .packets import show
+from .service import node_status, query, refresh, registration, release
+from .sessions import SessionPacket, SessionType
+from .statuses import MoreNeeded, NbtError, Status
+
+__all__ = ['Datagram', 'DatagramType', 'MoreNeeded', 'NbtError', 'SessionPacket', 'SessionType', 'Status', 'node_status',
+           'query', 'refresh', 'registration', 'release', 'show', 'spell', 'text']

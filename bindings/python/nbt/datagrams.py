@@ -1,0 +1,103 @@
+"""Packets of the datagram service, port 138: RFC 1002 section 4.4."""
+from __future__ import annotations
+
+import ctypes
+import enum
+import ipaddress
+from dataclasses import dataclass
+from typing import Iterator, List, Optional
+
+from . import names
+from .library import BYTES, Buffer, Reader, Writer, given
+from .numbers import Address, address_number, number
+
+
+class DatagramType(enum.IntEnum):
+    """MSG_TYPE: three kinds of fragment, an error, and a query with its two answers."""
+
+    UNIQUE = 0x10
+    GROUP = 0x11
+    BROADCAST = 0x12
+    ERROR = 0x13
+    FIND = 0x14
+    FOUND = 0x15
+    MISSING = 0x16
+
+
+class Found(ctypes.Structure):
+    """struct nbt_datagram."""
+
+    _fields_ = [('type', ctypes.c_uint8), ('flags', ctypes.c_uint8), ('identifier', ctypes.c_uint16),
+                ('address', ctypes.c_uint32), ('port', ctypes.c_uint16), ('offset', ctypes.c_uint16),
+                ('source', ctypes.c_size_t), ('source_length', ctypes.c_size_t), ('destination', ctypes.c_size_t),
+                ('destination_length', ctypes.c_size_t), ('data', ctypes.c_size_t), ('data_length', ctypes.c_size_t),
+                ('used', ctypes.c_size_t)]
+
+
+READ = Reader('nbt_datagram_read', Found)
+WRITE = Writer('nbt_datagram_write', ctypes.c_uint8, ctypes.c_uint16, ctypes.c_uint32, ctypes.c_uint16, *BYTES, *BYTES,
+               *BYTES, ctypes.c_uint16)
+
+
+@dataclass(frozen=True)
+class Datagram:
+    """A packet of port 138."""
+
+    type: DatagramType
+    flags: int                      # FLAGS, all eight bits
+    identifier: int                 # DGM_ID
+    address: ipaddress.IPv4Address  # SOURCE_IP
+    port: int                       # SOURCE_PORT
+    offset: int                     # PACKET_OFFSET: where the data begins in the datagram's; 0 but in a fragment
+    source: Optional[str]           # SOURCE_NAME, as a text; None but in a fragment
+    destination: Optional[str]      # DESTINATION_NAME, as a text; None in an error
+    data: bytes                     # a fragment's data, or an error's code, which is one byte; b'' in a query
+    used: int                       # the bytes of the packet: what follows them isn't looked at
+
+    @property
+    def more(self) -> bool:
+        """Whether more fragments follow."""
+        return self.flags & 0x01 != 0
+
+    @property
+    def first(self) -> bool:
+        """Whether it is the first fragment."""
+        return self.flags & 0x02 != 0
+
+    @classmethod
+    def read(cls, payload: Buffer) -> Datagram:
+        """The packet at the front of a payload of port 138.
+
+        NbtError: TRUNCATED, UNKNOWN_TYPE, SOURCE_TRUNCATED to SOURCE_NOT_NETBIOS, DESTINATION_TRUNCATED to
+        DESTINATION_NOT_NETBIOS.
+        """
+        whole = given(payload)
+        found = READ(whole)
+        part = lambda start, length: whole[start:start + length]
+        name = lambda start, length: names.text(part(start, length)) if length else None
+        return cls(DatagramType(found.type), found.flags, found.identifier, ipaddress.IPv4Address(found.address), found.port,
+                   found.offset, name(found.source, found.source_length), name(found.destination, found.destination_length),
+                   part(found.data, found.data_length), found.used)
+
+    @staticmethod
+    def write(type: int, identifier: int, address: Address, port: int, source: str, destination: str, data: Buffer,
+              most: int = 512) -> List[bytes]:
+        """The packets of a datagram, cut into pieces of at most `most` bytes of data, in order. The type is UNIQUE, GROUP or
+        BROADCAST; source and destination are texts.
+
+        NbtError: UNKNOWN_TYPE, SOURCE_BAD_TEXT to DESTINATION_LONG_TEXT, LONG_DATA, ZERO_PIECE.
+        """
+        texts, whole = [source.encode(), destination.encode()], given(data)
+        written = WRITE(number(type, 8, 'type'), number(identifier, 16, 'identifier'), address_number(address),
+                        number(port, 16, 'port'), texts[0], len(texts[0]), texts[1], len(texts[1]), whole, len(whole),
+                        number(most, 16, 'most'))
+        return list(pieces(written))
+
+
+def pieces(written: bytes) -> Iterator[bytes]:
+    """The packets, each of which stands after its length in two bytes."""
+    at = 0
+    while at < len(written):
+        end = at + 2 + int.from_bytes(written[at:at + 2], 'big')
+        yield written[at + 2:end]
+        at = end

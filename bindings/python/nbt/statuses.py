@@ -1,0 +1,79 @@
+"""Why a call did nothing: the statuses of the library, each a number that stands for one thing in all versions, and the
+exceptions that have them."""
+from __future__ import annotations
+
+import enum
+from typing import Optional
+
+
+class Status(enum.IntEnum):
+    """The numbers of enum nbt_status; include/nbt.h says when each comes."""
+
+    DONE = 0
+    NO_ROOM = 1
+    NO_MEMORY = 2
+    BAD_TEXT = 10
+    LONG_TEXT = 11
+    SOURCE_BAD_TEXT = 12
+    SOURCE_LONG_TEXT = 13
+    DESTINATION_BAD_TEXT = 14
+    DESTINATION_LONG_TEXT = 15
+    NAME_TRUNCATED = 20
+    NAME_RESERVED_LABEL = 21
+    NAME_POINTER = 22
+    NAME_LONG = 23
+    NAME_NOT_NETBIOS = 24
+    NAME_TRAILING_BYTES = 25
+    NAME_BAD_POINTER = 26
+    SOURCE_TRUNCATED = 30
+    SOURCE_RESERVED_LABEL = 31
+    SOURCE_POINTER = 32
+    SOURCE_LONG = 33
+    SOURCE_NOT_NETBIOS = 34
+    SOURCE_BAD_POINTER = 36
+    DESTINATION_TRUNCATED = 40
+    DESTINATION_RESERVED_LABEL = 41
+    DESTINATION_POINTER = 42
+    DESTINATION_LONG = 43
+    DESTINATION_NOT_NETBIOS = 44
+    DESTINATION_BAD_POINTER = 46
+    TRUNCATED = 50
+    UNKNOWN_TYPE = 51
+    MORE = 52
+    RESERVED_FLAGS = 53
+    BAD_LENGTH = 54
+    TRAILING_BYTES = 55
+    UNKNOWN_REQUEST = 60
+    ZERO_PIECE = 61
+    LONG_DATA = 62
+    UNKNOWN_STATUS = 255
+
+
+# The statuses that say where the fault stands.
+PLACED = frozenset(it for it in Status if it in {10, 12, 14, *range(20, 27), *range(30, 37), *range(40, 47), 50, 52, 55})
+
+
+class NbtError(ValueError):
+    """A call did nothing: `status` says why, and `at` where the fault stands, in bytes of the input, or None where it has
+    no place. The text is the library's words, and the place."""
+
+    def __init__(self, status: Status, at: Optional[int], words: str) -> None:
+        super().__init__(words if at is None else f'{words} {at}')
+        self.status = status
+        self.at = at
+
+
+class MoreNeeded(NbtError):
+    """The packet isn't there whole yet: `missing` is how many bytes of it are missing, at least."""
+
+    @property
+    def missing(self) -> int:
+        return self.at or 0
+
+
+def refusal(status: int, at: int, words: str) -> Exception:
+    """The exception of a status: MemoryError where memory ran out, else NbtError."""
+    if status == Status.NO_MEMORY:
+        return MemoryError(words)
+    kind = MoreNeeded if status == Status.MORE else NbtError
+    return kind(Status(status), at if status in PLACED else None, words)

@@ -1,0 +1,148 @@
+"""Packets of ports 137, 138 and 139."""
+import unittest
+from concurrent.futures import ThreadPoolExecutor
+
+import nbt
+from nbt import DatagramType, SessionType, Status
+from nbt.library import SPARE
+
+FRED = bytes.fromhex('20') + b'EGFCEFEECACACACACACACACACACACACA\0'
+JOE = bytes.fromhex('20') + b'EKEPEFCACACACACACACACACACACACAAA\0'
+# A group datagram from JOE<00> at 10.0.0.5:138 to FRED<20>, whole in one packet.
+HELLO = bytes.fromhex('1102000a0a000005008a00490000') + JOE + FRED + b'hello'
+
+
+class Datagrams(unittest.TestCase):
+    def test_read(self):
+        found = nbt.Datagram.read(HELLO + b'not looked at')
+        self.assertEqual((found.type, found.flags, found.first, found.more), (DatagramType.GROUP, 2, True, False))
+        self.assertEqual((found.identifier, str(found.address), found.port, found.offset), (10, '10.0.0.5', 138, 0))
+        self.assertEqual((found.source, found.destination, found.data), ('JOE<00>', 'FRED<20>', b'hello'))
+        self.assertEqual(found.used, len(HELLO))
+
+    def test_read_others(self):
+        error = nbt.Datagram.read(bytes.fromhex('1300000a0a000005008a82'))
+        self.assertEqual((error.type, error.source, error.destination, error.data, error.used),
+                         (DatagramType.ERROR, None, None, b'\x82', 11))
+        find = nbt.Datagram.read(bytes.fromhex('1400000a0a000005008a') + FRED)
+        self.assertEqual((find.type, find.source, find.destination, find.data, find.used),
+                         (DatagramType.FIND, None, 'FRED<20>', b'', 44))
+
+    def test_refused(self):
+        for payload, status, at in [(HELLO[:9], Status.TRUNCATED, 9), (b'\x17' + HELLO[1:], Status.UNKNOWN_TYPE, None),
+                                    (HELLO[:-1], Status.TRUNCATED, len(HELLO) - 1),
+                                    (HELLO.replace(JOE, b'\xc0' + JOE[1:]), Status.SOURCE_POINTER, 14),
+                                    (HELLO.replace(FRED, b'\x80' + FRED[1:]), Status.DESTINATION_RESERVED_LABEL, 48)]:
+            with self.subTest(status), self.assertRaises(nbt.NbtError) as caught:
+                nbt.Datagram.read(payload)
+            self.assertEqual((caught.exception.status, caught.exception.at), (status, at))
+
+    def test_write(self):
+        self.assertEqual(nbt.Datagram.write(DatagramType.GROUP, 10, '10.0.0.5', 138, 'JOE<00>', 'FRED<20>', b'hello'), [HELLO])
+        pieces = nbt.Datagram.write(0x11, 10, 0x0a000005, 138, 'JOE<00>', 'FRED<20>', b'hello', 2)
+        found = [nbt.Datagram.read(it) for it in pieces]
+        self.assertEqual([(it.offset, it.data, it.first, it.more) for it in found],
+                         [(0, b'he', True, True), (2, b'll', False, True), (4, b'o', False, False)])
+        self.assertEqual([it.used for it in found], [len(it) for it in pieces])
+
+    def test_write_refused(self):
+        for changed, status in [({'type': 0x13}, Status.UNKNOWN_TYPE), ({'source': 'JOE'}, Status.SOURCE_BAD_TEXT),
+                                ({'destination': 'A' * 16 + '<20>'}, Status.DESTINATION_LONG_TEXT),
+                                ({'data': bytes(65_536)}, Status.LONG_DATA), ({'most': 0}, Status.ZERO_PIECE),
+                                ({'data': bytes(65_535), 'most': 65_535}, Status.LONG_DATA)]:
+            words = {'type': 0x10, 'identifier': 1, 'address': '10.0.0.5', 'port': 138, 'source': 'JOE<00>',
+                     'destination': 'FRED<20>', 'data': b'', 'most': 512, **changed}
+            with self.subTest(status), self.assertRaises(nbt.NbtError) as caught:
+                nbt.Datagram.write(**words)
+            self.assertEqual(caught.exception.status, status)
+
+    def test_numbers_are_judged(self):
+        for words in [(0x111, 1, '10.0.0.5', 138), (0x11, 65_536, '10.0.0.5', 138), (0x11, 1, '10.0.0', 138),
+                      (0x11, 1, '10.0.0.5', -1)]:
+            with self.subTest(words), self.assertRaises(ValueError):
+                nbt.Datagram.write(*words, 'JOE<00>', 'FRED<20>', b'')
+
+
+class Sessions(unittest.TestCase):
+    def test_read(self):
+        packet = nbt.SessionPacket.read(b'\0\0\0\x05hello and more')
+        self.assertEqual((packet.type, packet.body, packet.used), (SessionType.MESSAGE, b'hello', 9))
+        request = b'\x81\0\0\x44' + FRED + JOE
+        self.assertEqual(nbt.SessionPacket.read(request).body, FRED + JOE)
+
+    def test_more(self):
+        for data, missing in [(b'', 4), (b'\x85', 3), (b'\0\0\0\x05he', 3)]:
+            with self.assertRaises(nbt.MoreNeeded) as caught:
+                nbt.SessionPacket.read(data)
+            self.assertEqual(caught.exception.missing, missing)
+
+    def test_refused(self):
+        for data, status, at in [(b'\x86\0\0\0', Status.UNKNOWN_TYPE, None), (b'\0\2\0\0', Status.RESERVED_FLAGS, None),
+                                 (b'\x82\0\0\1', Status.BAD_LENGTH, None),
+                                 (b'\x81\0\0\x45' + FRED + JOE + b'x', Status.TRAILING_BYTES, 72)]:
+            with self.subTest(status), self.assertRaises(nbt.NbtError) as caught:
+                nbt.SessionPacket.read(data)
+            self.assertEqual((caught.exception.status, caught.exception.at), (status, at))
+
+    def test_write(self):
+        self.assertEqual(nbt.SessionPacket.write(SessionType.KEEPALIVE), b'\x85\0\0\0')
+        self.assertEqual(nbt.SessionPacket.write(0x83, b'\x82'), b'\x83\0\0\1\x82')
+        long = nbt.SessionPacket.write(0, bytes(131_071))
+        self.assertEqual((long[:4], len(long)), (b'\0\1\xff\xff', 131_075))
+        for words, status in [((0x86, b''), Status.UNKNOWN_TYPE), ((0, bytes(131_072)), Status.BAD_LENGTH),
+                              ((0x81, FRED + FRED[:33] + b'\xc0'), Status.NAME_TRUNCATED)]:
+            with self.subTest(status), self.assertRaises(nbt.NbtError) as caught:
+                nbt.SessionPacket.write(*words)
+            self.assertEqual(caught.exception.status, status)
+
+
+class Service(unittest.TestCase):
+    def test_requests(self):
+        question = FRED + bytes.fromhex('00200001')
+        record = lambda time: bytes.fromhex('c00c00200001') + time.to_bytes(4, 'big') + bytes.fromhex('000660000a000005')
+        head = lambda word, additional: bytes.fromhex('0003') + word + bytes.fromhex('000100000000') + additional
+        self.assertEqual(nbt.query(3, 'FRED<20>', broadcast=True), head(b'\1\x10', b'\0\0') + question)
+        self.assertEqual(nbt.node_status(3, 'FRED<20>'), head(b'\0\0', b'\0\0') + FRED + bytes.fromhex('00210001'))
+        self.assertEqual(nbt.registration(3, 'FRED<20>', 300_000, 0x6000, '10.0.0.5', True),
+                         head(b'\x29\x10', b'\0\1') + question + record(300_000))
+        self.assertEqual(nbt.refresh(3, 'FRED<20>', 300_000, 0x6000, '10.0.0.5'),
+                         head(b'\x40\0', b'\0\1') + question + record(300_000))
+        self.assertEqual(nbt.release(3, 'FRED<20>', 0x6000, '10.0.0.5'), head(b'\x30\0', b'\0\1') + question + record(0))
+
+    def test_refused(self):
+        with self.assertRaises(nbt.NbtError) as caught:
+            nbt.query(3, 'FRED')
+        self.assertEqual((caught.exception.status, caught.exception.at), (Status.BAD_TEXT, 4))
+        with self.assertRaises(ValueError):
+            nbt.query(65_536, 'FRED<20>')
+
+
+class Shown(unittest.TestCase):
+    def test_texts(self):
+        self.assertEqual(nbt.show(138, HELLO), 'group flags=02 key=10.0.0.5:138/000a offset=0 source=JOE<00> '
+                                               'destination=FRED<20> data=68656c6c6f used=87\n')
+        self.assertEqual(nbt.show(139, b'\x85\0\0\0'), 'keepalive used=4\n')
+        self.assertEqual(nbt.show(7, b'\x85'), 'more 3\n')
+        self.assertEqual(nbt.show(137, b''), 'refused truncated 0\n')
+        with self.assertRaises(ValueError):
+            nbt.show(65_536, b'')
+
+    def test_long(self):
+        """A text that is longer than the room that it is first given."""
+        answer = bytes.fromhex('000385000000000100000000') + FRED + bytes.fromhex('002100010000000000ed0d')
+        status = answer + (b'\x01' * 15 + b'\x00\x04\x00') * 13 + bytes(2)
+        for room in SPARE:
+            room.grow(10)
+        text = nbt.show(137, status)
+        self.assertGreater(SPARE[-1].length, 10)
+        self.assertEqual(text, nbt.show(137, status))
+        self.assertIn('\n    name ' + r'\01' * 15 + '<00>', text)
+
+    def test_threads(self):
+        with ThreadPoolExecutor(4) as pool:
+            texts = list(pool.map(lambda code: nbt.show(139, b'\x83\0\0\1' + bytes([code])), list(range(256)) * 8))
+        self.assertEqual(texts, [f'negative code={code:02x} used=5\n' for code in range(256)] * 8)
+
+
+if __name__ == '__main__':
+    unittest.main()

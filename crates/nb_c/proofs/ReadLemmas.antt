@@ -1,0 +1,45 @@
+-- A payload of port 138 and a stream of port 139 have one answer each.
+use Rattle.std.proofs.Common.{◌≡◌, ℕ, List, Result, Ok, Err, refl}
+use Rattle.nb_datagram.specs.declared.fault.DatagramFault.{DatagramFault}
+use Rattle.nb_datagram.specs.declared.packet.Packet.{Packet}
+use Rattle.nb_datagram.specs.DatagramFaults.{PacketFails}
+use Rattle.nb_datagram.specs.Packet.{IsPacket}
+use Rattle.nb_session.specs.declared.parsing.Parsed.{Parsed}
+use Rattle.nb_session.specs.Parsing.{Parses}
+use Rattle.nb_c.specs.declared.datagrams.NbtDatagram.{NbtDatagram}
+use Rattle.nb_c.specs.declared.refusal.Refusal.{Refusal}
+use Rattle.nb_c.specs.declared.sessions.NbtSession.{NbtSession}
+use Rattle.nb_c.specs.Datagrams as datagrams
+use Rattle.nb_c.specs.Outputs.{Alone}
+use Rattle.nb_c.specs.Sessions as sessions
+use Rattle.nb_c.specs.Statuses.{datagram_refusal}
+
+-- a payload has one packet or one fault
+pub record PayloadLaws (payload : List ℕ) : Type 0 where
+  pub one : (a b : Packet) (used other : ℕ) → IsPacket payload a used → IsPacket payload b other → (a ≡ b) × (used ≡ other)
+  pub one_fault : (a b : DatagramFault) → PacketFails payload a → PacketFails payload b → a ≡ b
+  pub apart : (fault : DatagramFault) (packet : Packet) (used : ℕ) → PacketFails payload fault → ¬ IsPacket payload packet used
+
+module _ (payload : List ℕ) (laws : PayloadLaws payload) where
+  pub datagram_read : (packet : Packet) (used : ℕ) → IsPacket payload packet used
+      → Alone NbtDatagram (datagrams.Reads payload) (Ok (datagrams.places_of packet used))
+  datagram_read packet used stands = record { said = (packet, used, stands, refl); only = others } where
+    others : (other : Result NbtDatagram Refusal) → datagrams.Reads payload other → other ≡ Ok (datagrams.places_of packet used)
+    others (Ok places) (found, size, there, exact) =
+        let same = laws.one found packet size used there stands in cc (exact, same.0, same.1)
+    others (Err refusal) (fault, fails, exact) = absurd (laws.apart fault packet used fails stands)
+
+  pub datagram_refused : (fault : DatagramFault) → PacketFails payload fault
+      → Alone NbtDatagram (datagrams.Reads payload) (Err (datagram_refusal fault))
+  datagram_refused fault fails = record { said = (fault, fails, refl); only = others } where
+    others : (other : Result NbtDatagram Refusal) → datagrams.Reads payload other → other ≡ Err (datagram_refusal fault)
+    others (Ok places) (found, size, there, exact) = absurd (laws.apart fault found size fails there)
+    others (Err refusal) (found, there, exact) = cc (exact, laws.one_fault found fault there fails)
+
+-- what stands at the front of a stream is answered
+pub session_read : (bytes : List ℕ) (parsed : Parsed) → Parses bytes parsed
+    → ((other : Parsed) → Parses bytes other → parsed ≡ other)
+    → Alone NbtSession (sessions.Reads bytes) (sessions.read_answer parsed)
+session_read bytes parsed stands only = record { said = (parsed, stands, refl); only = others } where
+  others : (other : Result NbtSession Refusal) → sessions.Reads bytes other → other ≡ sessions.read_answer parsed
+  others other (found, there, exact) = cc (exact, only found there)

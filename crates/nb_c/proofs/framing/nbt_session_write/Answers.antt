@@ -1,0 +1,5 @@
+use Rattle.nb_c.proofs.AnswerLemmas.{does}
+use Rattle.nb_c.proofs.framing.nbt_session_write.Goals as goal
+
+pub returns : goal.returns
+returns c = does _ _ _ _ _ _ _ _ _ c.packet_of.ensures c.write_answer.ensures

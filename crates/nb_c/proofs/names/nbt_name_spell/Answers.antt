@@ -1,0 +1,5 @@
+use Rattle.nb_c.proofs.AnswerLemmas.{does}
+use Rattle.nb_c.proofs.names.nbt_name_spell.Goals as goal
+
+pub returns : goal.returns
+returns c = does _ _ _ _ _ _ _ _ _ c.spelling_of.ensures c.write_answer.ensures

@@ -1,0 +1,71 @@
+-- What the call that writes the packets of a datagram answers (RFC 1002 section 4.4.2).
+use Rattle.std.specs.Prelude.{◌≡◌, ◌==◌, ◌+◌, ◌%◌, ℕ, Bool, nat_lt, min, List, ◌++◌, length, Option, Some, None, Result, Ok, Err, if◌then◌else◌}
+use Rattle.std.specs.Int.{w16, w32, to_be_bytes}
+use Rattle.std.specs.List.{flat_map}
+use Rattle.nb_names.specs.declared.text_fault.TextFault.{TextFault}
+use Rattle.nb_names.specs.Name.{NetbiosName}
+use Rattle.nb_datagram.specs.declared.key.Key.{Key}
+use Rattle.nb_datagram.specs.declared.kind.Kind.{Kind}
+use Rattle.nb_datagram.specs.declared.kind.Kind.TheVariants.{Unique, Group, Broadcast}
+use Rattle.nb_datagram.specs.declared.limits.TheConstants.{MAX_LENGTH, DIRECT_HEADER_LENGTH}
+use Rattle.nb_datagram.specs.declared.packet.Packet.TheVariants.{Direct}
+use Rattle.nb_datagram.specs.Datagram.{DatagramParts}
+use Rattle.nb_datagram.specs.Fragment.{FragmentParts}
+use Rattle.nb_datagram.specs.Packet.{name_bytes, packet_bytes}
+use Rattle.nb_datagram.specs.Pieces.{pieces}
+use Rattle.nb_c.specs.declared.cutting.Sent.{Sent}
+use Rattle.nb_c.specs.declared.refusal.Refusal.{Refusal}
+use Rattle.nb_c.specs.declared.refusal.Refusal.TheVariants.{Fault}
+use Rattle.nb_c.specs.declared.statuses.TheConstants.{UNKNOWN_TYPE, LONG_DATA, ZERO_PIECE}
+use Rattle.nb_c.specs.Names.{IsRead}
+use Rattle.nb_c.specs.Statuses.{source_text_refusal, destination_text_refusal}
+
+-- the kind of datagram with this MSG_TYPE: hexadecimal 10, 11 and 12
+abbrev pub kind_with : ℕ → Option Kind
+kind_with type =
+    if type == 16 then Some Unique else if type == 17 then Some Group else if type == 18 then Some Broadcast else None
+
+-- the key of a datagram that is sent so
+abbrev pub key_of : Sent → Key
+key_of sent = record { ip = to_be_bytes w32 sent.address; port = sent.port; id = sent.identifier }
+
+-- the bytes of a fragment's packet
+abbrev pub packet_of : FragmentParts → List ℕ
+packet_of piece = packet_bytes (Direct piece)
+
+-- the bytes of a packet, after their number in two bytes, the higher one first
+abbrev pub counted : List ℕ → List ℕ
+counted packet = to_be_bytes w16 (length packet % 65536) ++ packet
+
+-- are_long datagram most: whether the longest packet of the datagram, cut into pieces of so many bytes, has more than
+-- 65,535 bytes: its header, both names and the data
+abbrev pub are_long : DatagramParts → ℕ → Bool
+are_long d most =
+    nat_lt MAX_LENGTH (DIRECT_HEADER_LENGTH + length (name_bytes d.source) + length (name_bytes d.destination) + min (length d.bytes) most)
+
+-- cut_answer datagram most: the packets of the datagram's pieces, in order, each after its length, or the first fault
+abbrev pub cut_answer : DatagramParts → ℕ → Result (List ℕ) Refusal
+cut_answer d most =
+    if nat_lt MAX_LENGTH (length d.bytes) then Err (Fault LONG_DATA)
+    else if most == 0 then Err (Fault ZERO_PIECE)
+    else if are_long d most then Err (Fault LONG_DATA)
+    else Ok (flat_map (λ piece. counted (packet_of piece)) (pieces d most))
+
+-- cut_kind kind sent source destination contents: what is answered where the type is of this kind, or of none, and where the
+-- texts of the names are read so
+abbrev pub cut_kind : Option Kind → Sent → Result NetbiosName TextFault → Result NetbiosName TextFault → List ℕ → Result (List ℕ) Refusal
+cut_kind None sent source destination contents = Err (Fault UNKNOWN_TYPE)
+cut_kind (Some kind) sent (Err fault) destination contents = Err (source_text_refusal fault)
+cut_kind (Some kind) sent (Ok source) (Err fault) contents = Err (destination_text_refusal fault)
+cut_kind (Some kind) sent (Ok source) (Ok destination) contents =
+    cut_answer (record { key = key_of sent; kind = kind; source = source; destination = destination; bytes = contents }) sent.most
+
+-- the same, by the type's number
+abbrev pub cut_names : Sent → Result NetbiosName TextFault → Result NetbiosName TextFault → List ℕ → Result (List ℕ) Refusal
+cut_names sent = cut_kind (kind_with sent.packet_type) sent
+
+-- Cuts sent source destination contents answer: this is answered where the names have these texts
+abbrev pub Cuts : Sent → List ℕ → List ℕ → List ℕ → Result (List ℕ) Refusal → Type 0
+Cuts sent source destination contents answer =
+    (from to : Result NetbiosName TextFault) × IsRead source from × IsRead destination to
+    × (answer ≡ cut_names sent from to contents)

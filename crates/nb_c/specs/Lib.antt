@@ -1,0 +1,10 @@
+pub mod Cutting
+pub mod Datagrams
+pub mod Framing
+pub mod Names
+pub mod Outputs
+pub mod Requests
+pub mod Sessions
+pub mod Showing
+pub mod Statuses
+pub mod Words

@@ -1,0 +1,225 @@
+//! Datagrams, cut into packets of the datagram service.
+ghost use Rattle.std.specs.Prelude.{◌≡◌, ◌++◌, ◌≤◌, List, ℕ, length, IfOk, OnOk, MatchOption};
+ghost use Rattle.std.specs.List.{flat_map};
+ghost use Rattle.nb_c.specs.Cutting.{Cuts, are_long, cut_answer, cut_names, key_of, kind_with, packet_of, counted};
+ghost use Rattle.nb_c.specs.Outputs.{Does, Judged, OrMemory};
+ghost use Rattle.nb_datagram.specs.declared.limits.TheConstants.{MAX_LENGTH};
+ghost use Rattle.nb_datagram.specs.Pieces.{pieces};
+
+use crate::output::{answer_of, write_answer};
+use crate::refusal::{Refusal, destination_text_refusal, source_text_refusal};
+use crate::statuses::{LONG_DATA, UNKNOWN_TYPE, ZERO_PIECE};
+use crate::texts::name_of_text;
+use nb_datagram::limits::{DIRECT_HEADER_LENGTH, MAX_LENGTH};
+use nb_datagram::{Datagram, Fragment, Key, Kind, Packet, Pieces, cut, encode};
+use nb_names::text_laws::{one_name, one_text_fault};
+use nb_names::{Bytes, Name, NoMemory, TextFault};
+use std::alloc::Global;
+
+/// How a datagram is sent: what its packets say but for the names, and the most data of each.
+#[derive(Clone, Copy)]
+pub struct Sent {
+    /// MSG_TYPE.
+    pub packet_type: u8,
+    /// DGM_ID.
+    pub identifier: u16,
+    /// SOURCE_IP.
+    pub address: u32,
+    /// SOURCE_PORT.
+    pub port: u16,
+    /// The most bytes of data in a packet.
+    pub most: u16,
+}
+
+/// Writes the packets of a datagram, each after its length in two bytes.
+///
+/// RFC 1002 section 4.4.2; that each fragment carries both names is our choice.
+#[unsafe(no_mangle)]
+pub extern "C" fn nbt_datagram_write(
+    alloc: Global,
+    packet_type: u8,
+    identifier: u16,
+    address: u32,
+    port: u16,
+    source: &[u8],
+    destination: &[u8],
+    contents: &[u8],
+    most: u16,
+    into: &mut [u8],
+    used: &mut usize,
+    at: &mut usize,
+) -> u32
+    ensures { Does (Cuts (record {
+      packet_type = packet_type;
+      identifier = identifier;
+      address = address;
+      port = port;
+      most = most;
+    }) source.now destination.now contents.now)
+        into.old into.new used.old used.new at.old at.new result }
+{
+    let sent = Sent {
+        packet_type,
+        identifier,
+        address,
+        port,
+        most,
+    };
+    write_answer(
+        answer(alloc, sent, source, destination, contents),
+        into,
+        used,
+        at,
+    )
+}
+
+/// The packets of the datagram between the names with these texts.
+fn answer(
+    alloc: Global,
+    sent: Sent,
+    source: &[u8],
+    destination: &[u8],
+    contents: &[u8],
+) -> Result<Bytes, Refusal>
+    ensures { Judged (List ℕ) (Cuts sent source.now destination.now contents.now) result }
+{
+    // For the clause: a text has one name or one fault. The calls do nothing.
+    one_name();
+    one_text_fault();
+    packets(
+        alloc,
+        sent,
+        name_of_text(source),
+        name_of_text(destination),
+        contents,
+    )
+}
+
+/// The packets of the datagram between two names, if they are names.
+fn packets(
+    alloc: Global,
+    sent: Sent,
+    source: Result<Name, TextFault>,
+    destination: Result<Name, TextFault>,
+    contents: &[u8],
+) -> Result<Bytes, Refusal>
+    ensures { OrMemory (cut_names sent source destination contents.now) result }
+{
+    match kind_with(sent.packet_type) {
+        None => Err(Refusal::Fault(UNKNOWN_TYPE)),
+        Some(kind) => match source {
+            Err(fault) => Err(source_text_refusal(fault)),
+            Ok(source) => match destination {
+                Err(fault) => Err(destination_text_refusal(fault)),
+                Ok(destination) => cut_data(alloc, sent, kind, source, destination, contents),
+            },
+        },
+    }
+}
+
+/// The kind of datagram with this MSG_TYPE.
+fn kind_with(packet_type: u8) -> Option<Kind>
+    ensures { result ≡ kind_with packet_type }
+{
+    match packet_type {
+        0x10 => Some(Kind::Unique),
+        0x11 => Some(Kind::Group),
+        0x12 => Some(Kind::Broadcast),
+        _ => None,
+    }
+}
+
+/// The packets of the datagram with this data.
+fn cut_data(
+    alloc: Global,
+    sent: Sent,
+    kind: Kind,
+    source: Name,
+    destination: Name,
+    contents: &[u8],
+) -> Result<Bytes, Refusal>
+    ensures { OrMemory (cut_answer (record {
+      key = key_of sent;
+      kind = kind;
+      source = source;
+      destination = destination;
+      bytes = contents.now;
+    }) sent.most) result }
+{
+    match Bytes::copy(alloc, contents) {
+        Err(_) => Err(Refusal::Memory),
+        Ok(bytes) => match Datagram::new(key_of(sent), kind, source, destination, bytes) {
+            Err(_) => Err(Refusal::Fault(LONG_DATA)),
+            Ok(datagram) => cut_whole(alloc, &datagram, sent.most),
+        },
+    }
+}
+
+/// The key of a datagram that is sent so.
+fn key_of(sent: Sent) -> Key
+    ensures { result ≡ key_of sent }
+{
+    Key {
+        ip: sent.address.to_be_bytes(),
+        port: sent.port,
+        id: sent.identifier,
+    }
+}
+
+/// The packets of a datagram.
+fn cut_whole(alloc: Global, datagram: &Datagram, most: u16) -> Result<Bytes, Refusal>
+    requires { length datagram.now.bytes ≤ MAX_LENGTH }
+    ensures { OrMemory (cut_answer datagram.now most) result }
+{
+    if most == 0 {
+        return Err(Refusal::Fault(ZERO_PIECE));
+    }
+    if are_long(datagram, most) {
+        return Err(Refusal::Fault(LONG_DATA));
+    }
+    match cut(alloc, datagram, most) {
+        Ok(pieces) => answer_of(joined(alloc, pieces)),
+        // The other faults were judged.
+        Err(_) => Err(Refusal::Memory),
+    }
+}
+
+/// Whether the longest packet of a datagram passes 65,535 bytes.
+fn are_long(datagram: &Datagram, most: u16) -> bool
+    ensures { result ≡ are_long datagram.now most }
+{
+    let source = datagram.source().to_domain().spelled_len();
+    let destination = datagram.destination().to_domain().spelled_len();
+    let data = datagram.bytes().len().min(usize::from(most));
+    DIRECT_HEADER_LENGTH + source + destination + data > MAX_LENGTH
+}
+
+/// The packets of the pieces, each after its length.
+fn joined(alloc: Global, pieces: Pieces<'_>) -> Result<Bytes, NoMemory>
+    ensures { IfOk result (λ bytes.
+        bytes ≡ flat_map (λ piece. counted (packet_of piece)) pieces.entry) }
+{
+    let mut bytes = Vec::new(alloc);
+    for piece in pieces.into_vec() {
+        push_piece(alloc, piece, &mut bytes)?;
+    }
+    Ok(Bytes::from_vec(bytes))
+}
+
+/// Adds the packet of a piece, after its length.
+fn push_piece(alloc: Global, piece: Fragment<'_>, bytes: &mut Vec<u8>) -> Result<(), NoMemory>
+    ensures { OnOk result (bytes.new.items ≡ bytes.old.items ++ counted (packet_of piece.entry)) }
+{
+    let packet = encode(alloc, &Packet::Direct(piece))?;
+    push_counted(packet.as_slice(), bytes)
+}
+
+/// Adds the bytes of a packet, after their number in two bytes.
+fn push_counted(packet: &[u8], bytes: &mut Vec<u8>) -> Result<(), NoMemory>
+    ensures { OnOk result (bytes.new.items ≡ bytes.old.items ++ counted packet.now) }
+{
+    let length = (packet.len() % 65_536) as u16;
+    bytes.extend_from_slice(&length.to_be_bytes())?;
+    bytes.extend_from_slice(packet)?;
+    Ok(())
+}

@@ -1,0 +1,148 @@
+//! Packets of the datagram service, read.
+ghost use Rattle.std.specs.Prelude.{◌≡◌, ◌≤◌, length};
+ghost use Rattle.nb_c.specs.Datagrams.{Reads, places_of, header_places, fragment_places, error_places, query_places};
+ghost use Rattle.nb_c.specs.declared.datagrams.NbtDatagram.{NbtDatagram};
+ghost use Rattle.nb_c.specs.Outputs.{Alone, Fills};
+ghost use Rattle.nb_datagram.specs.Packet.{name_bytes};
+ghost use Rattle.nb_names.specs.declared.limits.TheConstants.{MAX_SPELLING};
+
+use crate::output::fill;
+use crate::refusal::{Refusal, datagram_refusal};
+use nb_datagram::laws::{one_datagram_fault, one_packet};
+use nb_datagram::limits::{DIRECT_HEADER_LENGTH, HEADER_LENGTH};
+use nb_datagram::{ErrorPacket, Fragment, Key, Packet, QueryPacket, decode};
+use nb_names::Name;
+
+/// MSG_TYPE of error packets.
+const ERROR_TYPE: u8 = 0x13;
+
+/// A packet of the datagram service: its numbers, and where its parts stand in the payload.
+#[repr(C)]
+#[derive(Clone, Copy)]
+pub struct NbtDatagram {
+    /// MSG_TYPE.
+    pub packet_type: u8,
+    /// FLAGS.
+    pub flags: u8,
+    /// DGM_ID.
+    pub identifier: u16,
+    /// SOURCE_IP.
+    pub address: u32,
+    /// SOURCE_PORT.
+    pub port: u16,
+    /// PACKET_OFFSET, 0 but in a fragment.
+    pub offset: u16,
+    /// Where the spelling of the source stands.
+    pub source: usize,
+    /// How many bytes it has.
+    pub source_length: usize,
+    /// Where the spelling of the destination stands.
+    pub destination: usize,
+    /// How many bytes it has.
+    pub destination_length: usize,
+    /// Where the data stands, or an error's code.
+    pub contents: usize,
+    /// How many bytes it has.
+    pub contents_length: usize,
+    /// How many bytes the packet has.
+    pub used: usize,
+}
+
+/// Reads the packet at the front of a payload of port 138. No memory is taken.
+///
+/// RFC 1002 section 4.4.
+#[unsafe(no_mangle)]
+pub extern "C" fn nbt_datagram_read(payload: &[u8], packet: &mut NbtDatagram, at: &mut usize) -> u32
+    ensures { Fills NbtDatagram (Reads payload.now) packet.old packet.new at.old at.new result }
+{
+    fill(read(payload), packet, at)
+}
+
+/// The numbers and places of the packet at the front of a payload.
+fn read(payload: &[u8]) -> Result<NbtDatagram, Refusal>
+    ensures { Alone NbtDatagram (Reads payload.now) result }
+{
+    // For the clause: a payload has one packet or one fault. The calls do nothing.
+    one_packet();
+    one_datagram_fault();
+    match decode(payload) {
+        Ok((packet, used)) => Ok(places_of(&packet, used)),
+        Err(fault) => Err(datagram_refusal(fault)),
+    }
+}
+
+/// The numbers and places of a packet that has so many bytes.
+fn places_of(packet: &Packet<'_>, used: usize) -> NbtDatagram
+    ensures { result ≡ places_of packet.now used }
+{
+    match packet {
+        Packet::Direct(fragment) => fragment_places(fragment, used),
+        Packet::Error(error) => error_places(error, used),
+        Packet::Query(query) => query_places(query, used),
+    }
+}
+
+/// What stands in the header, and nothing else yet.
+fn header_places(packet_type: u8, flags: u8, key: Key, used: usize) -> NbtDatagram
+    ensures { result ≡ header_places packet_type flags key used }
+{
+    NbtDatagram {
+        packet_type,
+        flags,
+        identifier: key.id,
+        address: u32::from_be_bytes(key.ip),
+        port: key.port,
+        offset: 0,
+        source: 0,
+        source_length: 0,
+        destination: 0,
+        destination_length: 0,
+        contents: 0,
+        contents_length: 0,
+        used,
+    }
+}
+
+/// The numbers and places of a fragment.
+fn fragment_places(fragment: &Fragment<'_>, used: usize) -> NbtDatagram
+    ensures { result ≡ fragment_places fragment.now used }
+{
+    let kind = fragment.kind().message_type();
+    let mut places = header_places(kind, fragment.flags(), fragment.key(), used);
+    places.offset = fragment.offset();
+    places.source = DIRECT_HEADER_LENGTH;
+    places.source_length = spelled_length(fragment.source());
+    places.destination = places.source + places.source_length;
+    places.destination_length = spelled_length(fragment.destination());
+    places.contents = places.destination + places.destination_length;
+    places.contents_length = fragment.bytes().len();
+    places
+}
+
+/// The numbers and places of an error packet.
+fn error_places(error: &ErrorPacket, used: usize) -> NbtDatagram
+    ensures { result ≡ error_places error.now used }
+{
+    let mut places = header_places(ERROR_TYPE, error.flags, error.key, used);
+    places.contents = HEADER_LENGTH;
+    places.contents_length = 1;
+    places
+}
+
+/// The numbers and places of a query packet.
+fn query_places(query: &QueryPacket, used: usize) -> NbtDatagram
+    ensures { result ≡ query_places query.now used }
+{
+    let mut places = header_places(query.kind.message_type(), query.flags, query.key, used);
+    places.destination = HEADER_LENGTH;
+    places.destination_length = spelled_length(&query.destination);
+    places
+}
+
+/// How many bytes the spelling of a name has.
+fn spelled_length(name: &Name) -> usize
+    ensures value { result ≡ length (name_bytes name.now) }
+    ensures short { result ≤ MAX_SPELLING }
+{
+    name.to_domain().spelled_len()
+}

@@ -1,0 +1,92 @@
+//! Names, as texts and as spellings.
+ghost use Rattle.std.specs.Prelude.{◌≡◌, List, ℕ, IfOk};
+ghost use Rattle.nb_names.specs.NameText.{written};
+ghost use Rattle.nb_c.specs.Names.{Spells, Tells, spelling_answer};
+ghost use Rattle.nb_c.specs.Outputs.{Does, Judged, OrMemory};
+
+use crate::output::{answer_of, write_answer};
+use crate::refusal::{Refusal, name_refusal, text_refusal};
+use crate::statuses::NAME_TRAILING_BYTES;
+use crate::texts::name_of_text;
+use nb_names::laws::{labels_tell_the_name, one_netbios_fault, one_reading};
+use nb_names::text_laws::{one_name, one_text_fault};
+use nb_names::{Bytes, Name, NoMemory, Pointers, TextFault, name_text, read_name, write_domain};
+use std::alloc::Global;
+
+/// Writes the spelling of the name with this text.
+///
+/// RFC 1001 section 14.1, RFC 1002 section 4.1; the form of texts is our choice.
+#[unsafe(no_mangle)]
+pub extern "C" fn nbt_name_spell(
+    alloc: Global,
+    text: &[u8],
+    into: &mut [u8],
+    used: &mut usize,
+    at: &mut usize,
+) -> u32
+    ensures { Does (Spells text.now) into.old into.new used.old used.new at.old at.new result }
+{
+    write_answer(spelling_of(alloc, text), into, used, at)
+}
+
+/// Writes the text of the name with this spelling, which has no byte after it.
+///
+/// RFC 1001 section 14.1, RFC 1002 section 4.1; the form of texts is our choice.
+#[unsafe(no_mangle)]
+pub extern "C" fn nbt_name_text(
+    alloc: Global,
+    spelling: &[u8],
+    into: &mut [u8],
+    used: &mut usize,
+    at: &mut usize,
+) -> u32
+    ensures { Does (Tells spelling.now) into.old into.new used.old used.new at.old at.new result }
+{
+    write_answer(text_of(alloc, spelling), into, used, at)
+}
+
+/// The spelling of the name with this text.
+fn spelling_of(alloc: Global, text: &[u8]) -> Result<Bytes, Refusal>
+    ensures { Judged (List ℕ) (Spells text.now) result }
+{
+    // For the clause: a text has one name or one fault. The calls do nothing.
+    one_name();
+    one_text_fault();
+    spelling_read(alloc, name_of_text(text))
+}
+
+/// The spelling of a name, if one was read.
+fn spelling_read(alloc: Global, read: Result<Name, TextFault>) -> Result<Bytes, Refusal>
+    ensures { OrMemory (spelling_answer read) result }
+{
+    match read {
+        Ok(name) => answer_of(write_domain(alloc, &name.to_domain())),
+        Err(fault) => Err(text_refusal(fault)),
+    }
+}
+
+/// The text of the name with this spelling.
+fn text_of(alloc: Global, spelling: &[u8]) -> Result<Bytes, Refusal>
+    ensures { Judged (List ℕ) (Tells spelling.now) result }
+{
+    // For the clause: a spelling has one name or one fault. The calls do nothing.
+    one_reading();
+    one_netbios_fault();
+    labels_tell_the_name();
+    match read_name(spelling, 0, Pointers::Refused) {
+        Ok((name, next)) => {
+            if next < spelling.len() {
+                return Err(Refusal::FaultAt(NAME_TRAILING_BYTES, next));
+            }
+            answer_of(text_bytes(alloc, &name))
+        }
+        Err(fault) => Err(name_refusal(fault)),
+    }
+}
+
+/// The bytes of a name's text.
+fn text_bytes(alloc: Global, name: &Name) -> Result<Bytes, NoMemory>
+    ensures { IfOk result (λ bytes. bytes ≡ written name.now) }
+{
+    Ok(Bytes::from_vec(name_text(alloc, name)?.into_bytes()))
+}

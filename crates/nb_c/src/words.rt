@@ -1,0 +1,145 @@
+//! The words of statuses (our choice).
+ghost use Rattle.std.specs.Prelude.{◌≡◌, option_map};
+ghost use Rattle.nb_c.specs.Outputs.{Answers};
+ghost use Rattle.nb_c.specs.Words.{status_answer, status_word, outcome_word, text_word, name_word, source_word, destination_word, packet_word, request_word};
+
+use crate::output::put;
+use crate::statuses::{
+    BAD_LENGTH, BAD_TEXT, DESTINATION_BAD_POINTER, DESTINATION_BAD_TEXT, DESTINATION_LONG,
+    DESTINATION_LONG_TEXT, DESTINATION_NOT_NETBIOS, DESTINATION_POINTER,
+    DESTINATION_RESERVED_LABEL, DESTINATION_TRUNCATED, DONE, LONG_DATA, LONG_TEXT, MORE,
+    NAME_BAD_POINTER, NAME_LONG, NAME_NOT_NETBIOS, NAME_POINTER, NAME_RESERVED_LABEL,
+    NAME_TRAILING_BYTES, NAME_TRUNCATED, NO_MEMORY, NO_ROOM, RESERVED_FLAGS, SOURCE_BAD_POINTER,
+    SOURCE_BAD_TEXT, SOURCE_LONG, SOURCE_LONG_TEXT, SOURCE_NOT_NETBIOS, SOURCE_POINTER,
+    SOURCE_RESERVED_LABEL, SOURCE_TRUNCATED, TRAILING_BYTES, TRUNCATED, UNKNOWN_REQUEST,
+    UNKNOWN_STATUS, UNKNOWN_TYPE, ZERO_PIECE,
+};
+
+/// Writes the words of a status: plain ASCII, without a line feed.
+///
+/// A number that is no status is answered by [`UNKNOWN_STATUS`]. The words are our choice.
+#[unsafe(no_mangle)]
+pub extern "C" fn nbt_status_text(status: u32, into: &mut [u8], used: &mut usize) -> u32
+    ensures { Answers (status_answer status) into.old into.new used.old used.new 0 0 result }
+{
+    match status_words(status) {
+        Some(words) => put(words.as_bytes(), into, used),
+        None => UNKNOWN_STATUS,
+    }
+}
+
+/// The words of a status, if it is one.
+fn status_words(status: u32) -> Option<&'static str>
+    ensures { option_map (λ words. words.now) result ≡ status_word status }
+{
+    match status / 10 {
+        1 => text_words(status),
+        2 => name_words(status),
+        3 => source_words(status),
+        4 => destination_words(status),
+        5 => packet_words(status),
+        6 => request_words(status),
+        _ => outcome_words(status),
+    }
+}
+
+/// The words of a status of what isn't about an input.
+fn outcome_words(status: u32) -> Option<&'static str>
+    ensures { option_map (λ words. words.now) result ≡ outcome_word status }
+{
+    match status {
+        DONE => Some("done"),
+        NO_ROOM => Some("no room"),
+        NO_MEMORY => Some("memory"),
+        UNKNOWN_STATUS => Some("unknown status"),
+        _ => None,
+    }
+}
+
+/// The words of a status on a text.
+fn text_words(status: u32) -> Option<&'static str>
+    ensures { option_map (λ words. words.now) result ≡ text_word status }
+{
+    match status {
+        BAD_TEXT => Some("bad text"),
+        LONG_TEXT => Some("text too long"),
+        SOURCE_BAD_TEXT => Some("source: bad text"),
+        SOURCE_LONG_TEXT => Some("source: text too long"),
+        DESTINATION_BAD_TEXT => Some("destination: bad text"),
+        DESTINATION_LONG_TEXT => Some("destination: text too long"),
+        _ => None,
+    }
+}
+
+/// The words of a status on a name that is read.
+fn name_words(status: u32) -> Option<&'static str>
+    ensures { option_map (λ words. words.now) result ≡ name_word status }
+{
+    match status {
+        NAME_TRUNCATED => Some("name: truncated"),
+        NAME_RESERVED_LABEL => Some("name: reserved label"),
+        NAME_POINTER => Some("name: pointer not allowed"),
+        NAME_LONG => Some("name: too long"),
+        NAME_NOT_NETBIOS => Some("name: not netbios"),
+        NAME_TRAILING_BYTES => Some("name: trailing bytes"),
+        NAME_BAD_POINTER => Some("name: bad pointer"),
+        _ => None,
+    }
+}
+
+/// The words of a status on a source's name that is read.
+fn source_words(status: u32) -> Option<&'static str>
+    ensures { option_map (λ words. words.now) result ≡ source_word status }
+{
+    match status {
+        SOURCE_TRUNCATED => Some("source name: truncated"),
+        SOURCE_RESERVED_LABEL => Some("source name: reserved label"),
+        SOURCE_POINTER => Some("source name: pointer not allowed"),
+        SOURCE_LONG => Some("source name: too long"),
+        SOURCE_NOT_NETBIOS => Some("source name: not netbios"),
+        SOURCE_BAD_POINTER => Some("source name: bad pointer"),
+        _ => None,
+    }
+}
+
+/// The words of a status on a destination's name that is read.
+fn destination_words(status: u32) -> Option<&'static str>
+    ensures { option_map (λ words. words.now) result ≡ destination_word status }
+{
+    match status {
+        DESTINATION_TRUNCATED => Some("destination name: truncated"),
+        DESTINATION_RESERVED_LABEL => Some("destination name: reserved label"),
+        DESTINATION_POINTER => Some("destination name: pointer not allowed"),
+        DESTINATION_LONG => Some("destination name: too long"),
+        DESTINATION_NOT_NETBIOS => Some("destination name: not netbios"),
+        DESTINATION_BAD_POINTER => Some("destination name: bad pointer"),
+        _ => None,
+    }
+}
+
+/// The words of a status on a packet.
+fn packet_words(status: u32) -> Option<&'static str>
+    ensures { option_map (λ words. words.now) result ≡ packet_word status }
+{
+    match status {
+        TRUNCATED => Some("truncated"),
+        UNKNOWN_TYPE => Some("unknown type"),
+        MORE => Some("more bytes needed"),
+        RESERVED_FLAGS => Some("reserved flags"),
+        BAD_LENGTH => Some("bad length"),
+        TRAILING_BYTES => Some("trailing bytes"),
+        _ => None,
+    }
+}
+
+/// The words of a status on what is asked to be written.
+fn request_words(status: u32) -> Option<&'static str>
+    ensures { option_map (λ words. words.now) result ≡ request_word status }
+{
+    match status {
+        UNKNOWN_REQUEST => Some("unknown request"),
+        ZERO_PIECE => Some("zero piece"),
+        LONG_DATA => Some("data too long"),
+        _ => None,
+    }
+}

@@ -1,0 +1,174 @@
+#!/usr/bin/env bash
+# The library for C: what it is made of, the examples of bindings/c, a caller's worst (tests/library.c) beside `nbt show`,
+# sanitizers, memory that runs out, and the package for Python. Usage: tests/library.sh [PROGRAM]; its last line is 'N
+# passed, M failed, K skipped'.
+set -uo pipefail
+# What stands last in a pipe counts its cases here.
+shopt -s lastpipe
+. "$(dirname "$0")/counting.sh"
+program=$(realpath "${1:-$here/../crates/nbt/out/nbt}")
+top=$(realpath "$here/..")
+built=$room/built
+CC=${CC:-cc}
+strict=(-std=c11 -O1 -g -Wall -Wextra -Wpedantic -Werror "-I$top/include")
+payloads=10000
+
+# same WANTED NAME: whether standard input is what is wanted.
+same() {
+    diff <(printf '%s\n' "$1") - >"$room/difference"
+    count $? "$2: $(head -c 300 "$room/difference")"
+}
+
+calls() { grep -oE '\bnbt_[a-z_]+\(' "$top/include/nbt.h" | tr -d '(' | sort -u; }
+
+# The files, what they define and what they need.
+files() {
+    (cd "$top/crates/nb_c" && rt lib) >"$room/log" 2>&1
+    count $? "rt lib: $(tail -n 1 "$room/log")"
+    "$top/tools/library" "$top/crates/nb_c/out/libnb_c.a" "$built" "$room/root" >"$room/log" 2>&1
+    count $? "tools/library: $(tail -n 1 "$room/log")"
+    nm -D --defined-only "$built/libnbt.so.0" | awk '{ print $3 }' | sort | same "$(calls)" 'libnbt.so.0 exports the calls of the header'
+    nm -g --defined-only "$built/libnbt.a" | awk 'NF == 3 { print $3 }' | sort | same "$(calls)" 'libnbt.a exports the calls of the header'
+    readelf -d "$built/libnbt.so.0" | sed -n 's/.*(SONAME).*\[\(.*\)\]/\1/p' | same libnbt.so.0 'the soname'
+    readelf -d "$built/libnbt.so.0" | sed -n 's/.*(NEEDED).*\[\(.*\)\]/\1/p' | same libc.so.6 'libnbt.so.0 needs the C library alone'
+    readelf -lW "$built/libnbt.so.0" | grep GNU_STACK | grep -c E | same 0 'the stack of its callers is not made executable'
+}
+
+# wanted FILE: what an example prints, which its last comment says.
+wanted() { awk '/^ \*\/$/ { shown = 0 } shown { sub(/^ \* ?/, ""); print } /^\/\* Prints:$/ { shown = 1 }' "$1"; }
+
+# example FILE WAY OPTION..: an example, compiled and linked so, prints what it says.
+example() {
+    $CC "${strict[@]}" -o "$room/example" "$1" "${@:3}" >"$room/log" 2>&1
+    count $? "$(basename "$1"), $2: $(head -n 1 "$room/log")"
+    LD_LIBRARY_PATH=$built ended ${under[@]+"${under[@]}"} "$room/example" 2>"$room/errors" | sed 's/ *$//' | same "$(wanted "$1")" "$(basename "$1"), $2"
+    [ ! -s "$room/errors" ]
+    count $? "$(basename "$1"), $2: $(head -n 1 "$room/errors")"
+}
+
+# Each call of the header has an example of its own.
+examples() {
+    local each under=()
+    for each in $(calls); do
+        [ -f "$top/bindings/c/${each#nbt_}.c" ]
+        count $? "an example of $each"
+    done
+    for each in "$top"/bindings/c/*.c; do
+        example "$each" shared "-L$built" -lnbt
+        example "$each" static "$built/libnbt.a"
+        example "$each" sanitized -fsanitize=address,undefined -fno-sanitize-recover=all "$built/libnbt.a"
+    done
+    printf '#include <nbt.h>\nint main() { return nbt_status_text(0, nullptr, 0, nullptr) == NBT_DONE; }\n' >"$room/header.cpp"
+    c++ -Wall -Wextra -Werror "-I$top/include" -c -o "$room/header.o" "$room/header.cpp" >"$room/log" 2>&1
+    count $? "the header in C++: $(head -n 1 "$room/log")"
+}
+
+under_valgrind() {
+    local each under=(valgrind -q --error-exitcode=99 --leak-check=full)
+    for each in "$top"/bindings/c/*.c; do
+        example "$each" valgrind "$built/libnbt.a"
+    done
+}
+
+# compiled NAME OPTION..: tests/library.c, compiled so, as $room/NAME.
+compiled() {
+    $CC "${strict[@]}" -o "$room/$1" "$here/library.c" "${@:2}" "$built/libnbt.a" >"$room/log" 2>&1
+    count $? "tests/library.c, $1: $(head -n 1 "$room/log")"
+}
+
+# worst NAME LINES [ROOMS]: tests/library.c over lines, whose answers are those wanted.
+worst() {
+    ended "$room/$1" ${3:+"$3"} <"$2" >"$room/output" 2>"$room/errors"
+    count $? "tests/library.c, $1: $(tail -n 1 "$room/errors")"
+    cmp -s "$2.wanted" "$room/output"
+    count $? "tests/library.c, $1, prints what nbt show prints: $(diff "$2.wanted" "$room/output" | head -c 300)"
+}
+
+# lines COUNT SEED: payloads, and what `nbt show` prints of them.
+lines() {
+    "$here/library_payloads.py" --seed "$2" "$1" >"$room/lines$2"
+    sed 's/ / 0 /' "$room/lines$2" | ended "$program" show --input-limit 4294967296 >"$room/lines$2.wanted"
+    [ $? -eq 0 ] && [ "$(grep -cE '^[0-9]+ 13[789] ' "$room/lines$2.wanted")" -eq "$1" ]
+    count $? "$1 payloads of tests/library_payloads.py, and nbt show of each"
+}
+
+callers() {
+    compiled plain
+    compiled sanitized -fsanitize=address,undefined -fno-sanitize-recover=all
+    lines "$payloads" 1
+    worst plain "$room/lines1" 64
+    worst sanitized "$room/lines1" 8
+}
+
+# Each request of the library for memory refused in turn: the call says so, changes nothing, and then does what it should.
+refused() {
+    local each
+    [ -f "$room/plain" ] || compiled plain
+    lines 30 2
+    requests "$room/plain" 2 <"$room/lines2" >"$room/output" 2>"$room/errors"
+    count $? "requests for memory are counted: $number"
+    for ((each = 1; each <= number; each++)); do
+        refusing NBT_REFUSED=$each "$room/plain" 2 <"$room/lines2" >"$room/output" 2>"$room/errors" \
+            && grep -q ' 1 refusals$' "$room/errors" && cmp -s "$room/lines2.wanted" "$room/output"
+        count $? "request $each is refused: $(tail -n 1 "$room/errors")"
+    done
+}
+
+# The package for Python, over the shared object, and beside `nbt show`.
+python() {
+    (cd "$top/bindings/python" && NBT_LIBRARY=$built/libnbt.so.0 PYTHONDONTWRITEBYTECODE=1 PYTHONPATH=. \
+        ended python3 -m unittest discover -v tests) >"$room/log" 2>&1
+    count $? "python3 -m unittest: $(tail -n 3 "$room/log" | head -c 300)"
+    grep -cE '\.\.\. ok$' "$room/log" >"$room/tests"
+    passed=$((passed + $(cat "$room/tests")))
+    lines 1000 3
+    NBT_LIBRARY=$built/libnbt.so.0 PYTHONDONTWRITEBYTECODE=1 PYTHONPATH=$top/bindings/python ended python3 -c '
+import sys, nbt
+for number, line in enumerate(sys.stdin, 1):
+    port, digits = line.split()
+    print(number, port, nbt.show(int(port), bytes.fromhex(digits.replace("empty", ""))), end="")
+' <"$room/lines3" >"$room/output" 2>"$room/errors"
+    cmp -s "$room/lines3.wanted" "$room/output"
+    count $? "nbt.show prints what nbt show prints: $(tail -n 1 "$room/errors")"
+}
+
+# Installed in another folder, and found by pkg-config.
+installed() {
+    local each flags
+    make -s -C "$top" -o lib install-lib LIBRARY="$built" DESTDIR= PREFIX="$room/root" >"$room/log" 2>&1
+    count $? "make install-lib: $(tail -n 1 "$room/log")"
+    for each in '' --static; do
+        flags=$(PKG_CONFIG_PATH=$room/root/lib/pkgconfig pkg-config --cflags --libs $each nbt 2>"$room/errors")
+        count $? "pkg-config $each: $(head -n 1 "$room/errors")"
+        $CC -std=c11 -o "$room/example" "$top/bindings/c/show.c" $flags ${each:+-static} >"$room/log" 2>&1
+        count $? "a program by pkg-config $each: $(head -n 1 "$room/log")"
+        LD_LIBRARY_PATH=$room/root/lib ended "$room/example" | same "$(wanted "$top/bindings/c/show.c")" "a program by pkg-config $each"
+    done
+    # The programs with which docs/CALLING.md begins, and what it says that they print.
+    block c >"$room/first.c"
+    flags=$(PKG_CONFIG_PATH=$room/root/lib/pkgconfig pkg-config --cflags --libs nbt)
+    $CC -std=c11 -Wall -Wextra -Werror -o "$room/example" "$room/first.c" $flags >"$room/log" 2>&1
+    count $? "the program in C of docs/CALLING.md: $(head -n 1 "$room/log")"
+    LD_LIBRARY_PATH=$room/root/lib ended "$room/example" | same "$(block text)" 'the program in C of docs/CALLING.md'
+    block python >"$room/first.py"
+    PYTHONPATH=$room/root/share/nbt/python PYTHONDONTWRITEBYTECODE=1 ended python3 "$room/first.py" 2>&1 \
+        | same "$(block text 2)" 'the program in Python of docs/CALLING.md'
+}
+
+# block LANGUAGE [NUMBER]: a block of docs/CALLING.md in this language, the first of them if no number is given.
+block() {
+    awk -v mark="\`\`\`$1" -v wanted="${2:-1}" '
+        /^```$/ { shown = 0 }
+        shown
+        $0 == mark && ++found == wanted { shown = 1 }' "$top/docs/CALLING.md"
+}
+
+part shims compile refuse_memory
+part files files
+part examples examples
+if command -v valgrind >/dev/null; then part valgrind under_valgrind; else lacks valgrind valgrind; fi
+part callers callers
+part memory refused
+part python python
+if command -v pkg-config >/dev/null; then part installed installed; else lacks installed pkg-config; fi
+finish

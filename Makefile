@@ -7,8 +7,8 @@ SECONDS = 60
 PREFIX ?= /usr/local
 DEB = out
 ROOT = $(DESTDIR)$(PREFIX)
-TOOLS = tools/nbt-parallel tools/nbt-dask tools/pcap2cap tools/cap2pcap
-NAMED = nbt-pcap2cap nbt-cap2pcap nbt-parallel nbt-dask
+TOOLS = tools/nbt-parallel tools/nbt-dask tools/nbt-station tools/pcap2cap tools/cap2pcap
+NAMED = nbt-pcap2cap nbt-cap2pcap nbt-parallel nbt-dask nbt-station
 COMPLETIONS = $(ROOT)/share/bash-completion/completions
 LIBRARY = out/lib
 
@@ -56,7 +56,7 @@ install: $(PROGRAM)
 	install -m 755 $(TOOLS) '$(ROOT)/share/nbt'
 	install -m 644 tools/nbt_shards.py '$(ROOT)/share/nbt'
 	install -m 644 tools/nbt_pcap/*.py '$(ROOT)/share/nbt/nbt_pcap'
-	ln -sf ../share/nbt/nbt-parallel ../share/nbt/nbt-dask '$(ROOT)/bin'
+	ln -sf ../share/nbt/nbt-parallel ../share/nbt/nbt-dask ../share/nbt/nbt-station '$(ROOT)/bin'
 	ln -sf ../share/nbt/pcap2cap '$(ROOT)/bin/nbt-pcap2cap'
 	ln -sf ../share/nbt/cap2pcap '$(ROOT)/bin/nbt-cap2pcap'
 	install -m 644 man/*.1 '$(ROOT)/share/man/man1'
@@ -85,7 +85,8 @@ lib:
 	cd crates/nb_c && rt lib
 	tools/library crates/nb_c/out/libnb_c.a '$(LIBRARY)' '$(PREFIX)'
 
-# Build the library, and put it below PREFIX, with its header, and the package for Python, which finds it there.
+# Build the library, and put it below PREFIX, with its header, the package for Python, which finds it there, and the crate for
+# Rust.
 install-lib: lib
 	install -d '$(DESTDIR)$(PREFIX)/lib/pkgconfig' '$(DESTDIR)$(PREFIX)/include' '$(DESTDIR)$(PREFIX)/share/nbt/python/nbt'
 	install -m 644 '$(LIBRARY)/libnbt.a' '$(DESTDIR)$(PREFIX)/lib'
@@ -95,3 +96,6 @@ install-lib: lib
 	install -m 644 include/nbt.h '$(DESTDIR)$(PREFIX)/include'
 	install -m 644 bindings/python/nbt/*.py bindings/python/nbt/py.typed '$(DESTDIR)$(PREFIX)/share/nbt/python/nbt'
 	ln -sf ../../../../lib/libnbt.so.0 '$(DESTDIR)$(PREFIX)/share/nbt/python/nbt'
+	install -d '$(DESTDIR)$(PREFIX)/share/nbt/rust/src'
+	install -m 644 bindings/rust/Cargo.toml bindings/rust/build.rs '$(DESTDIR)$(PREFIX)/share/nbt/rust'
+	install -m 644 bindings/rust/src/*.rs '$(DESTDIR)$(PREFIX)/share/nbt/rust/src'

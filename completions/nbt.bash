@@ -6,15 +6,15 @@ _nbt() {
     1:*) words='name show build replay save merge list agree help --help --version' ;;
     2:help) words='name show build replay save merge list agree' ;;
     *:name) words='--bytes --help' ;;
-    *:show) words='--input-limit --comments --help' ;;
+    *:show) words='--input-limit --comments --json --help' ;;
     *:build)
         words='--broadcast --help'
         case $3 in build | --broadcast) words+=' query status registration refresh release response request message positive negative retarget keepalive unique group broadcast error find found missing' ;; esac
         ;;
-    *:replay) words='--keys --per-source --input-limit --comments --help' ;;
+    *:replay) words='--keys --per-source --input-limit --comments --json --help' ;;
     *:save) words='--keys --per-source --input-limit --help' ;;
     *:merge) words='--keys --per-source --help' ;;
-    *:list) words='--keys --per-source --help' ;;
+    *:list) words='--keys --per-source --json --help' ;;
     *:agree) words='--list --help' ;;
     esac
     case $3 in
@@ -31,8 +31,9 @@ _nbt_tool() {
     nbt-cap2pcap) words='--help' ;;
     nbt-parallel) words='--program --shard-bytes --by-source --tables --quiet --jobs --sshlogin --retries --help --list' ;;
     nbt-dask) words='--program --shard-bytes --by-source --tables --quiet --scheduler --workers --send --help' ;;
+    nbt-station) words='--bind --port --address --keys --per-source --json --save --help' ;;
     esac
     COMPREPLY=()
     [[ $2 != -* ]] || COMPREPLY=($(compgen -W "$words" -- "$2"))
 }
-complete -o default -F _nbt_tool nbt-pcap2cap nbt-cap2pcap nbt-parallel nbt-dask
+complete -o default -F _nbt_tool nbt-pcap2cap nbt-cap2pcap nbt-parallel nbt-dask nbt-station

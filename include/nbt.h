@@ -16,9 +16,9 @@
  * `*at` is where the fault stands, in bytes from the start of the input that has it, counted from 0. It is written at
  * those statuses alone whose line below says what it is.
  *
- * Memory is taken by malloc and realloc, and each call gives back by free what it took. NBT_NO_MEMORY changes nothing.
- * The calls may be made from any thread at any time, but not from a signal handler, nor in the forked child of a process
- * with threads.
+ * Memory is taken by malloc and realloc, and each call gives back by free what it took, but for what a station keeps.
+ * NBT_NO_MEMORY changes nothing. The calls may be made from any thread at any time, those on one station one at a time,
+ * but not from a signal handler, nor in the forked child of a process with threads.
  *
  * Names as texts are written as in FRED<20> or FRED<20>.NETBIOS.COM (our choice): the characters of the name, its
  * sixteenth byte as two hexadecimal digits between < and >, and the labels of its scope, each after a full stop. A byte
@@ -87,6 +87,32 @@ enum nbt_status {
     NBT_UNKNOWN_REQUEST = 60, /* no number of enum nbt_request */
     NBT_ZERO_PIECE = 61,      /* pieces of no bytes */
     NBT_LONG_DATA = 62,       /* the data passes 65,535 bytes, or a packet of it does */
+
+    /* A saved table; of two, the first. */
+    NBT_TABLE_BAD_MAGIC = 70,     /* it begins with neither NBT2 nor NBT1 */
+    NBT_TABLE_TRUNCATED = 71,     /* it ends before or inside a field that has to follow */
+    NBT_TABLE_NOT_CANONICAL = 72, /* no saved table has there what it has; *at: where */
+    NBT_TABLE_LONG = 73,          /* a datagram longer than the longest; none where that is 65,535 bytes */
+    NBT_TABLE_FULL_SOURCE = 74,   /* more keys of one address than may be held */
+    NBT_TABLE_FULL = 75,          /* more keys than may be held in all */
+
+    /* The second of two saved tables; as those of 70 to 75. */
+    NBT_SECOND_BAD_MAGIC = 80,
+    NBT_SECOND_TRUNCATED = 81,
+    NBT_SECOND_NOT_CANONICAL = 82, /* *at counts in the second */
+    NBT_SECOND_LONG = 83,
+    NBT_SECOND_FULL_SOURCE = 84,
+    NBT_SECOND_FULL = 85,
+
+    /* A table, and the fragment or the table that it doesn't take in. */
+    NBT_MISPLACED_FIRST = 90, /* a fragment has the flag 0x02 at an offset other than 0, or lacks it at 0 */
+    NBT_LONG = 91,            /* a fragment reaches past the longest datagram, 65,535 bytes */
+    NBT_FULL_SOURCE = 92,     /* as many keys of the address are held as may be, and a further one is new */
+    NBT_FULL = 93,            /* as many keys are held as may be in all, and a further one is new */
+
+    /* The names of a station. */
+    NBT_NAME_PRESENT = 100,   /* a name stands there twice; *at: where its second text begins */
+    NBT_TOO_MANY_NAMES = 101, /* more than 254 names; *at: where the text of the 255th begins */
 
     NBT_UNKNOWN_STATUS = 255 /* no number of this enum */
 };
@@ -185,6 +211,86 @@ uint32_t nbt_service_request(uint32_t request, uint16_t identifier, bool broadca
                              const uint8_t *name, size_t name_length,
                              uint32_t time_to_live, uint16_t nb_flags, uint32_t address,
                              uint8_t *into, size_t into_length, size_t *used, size_t *at);
+
+/* Saved tables: what is known of datagrams, as the command `nbt save` writes it, as bytes instead of digits (our choice).
+ * Both forms are read, NBT1 and NBT2; the second is written. docs/FORMATS.md has them. ------------------------------ */
+
+/* Joins two tables, and writes the joined one: all that either knows. Each of the three has room for `keys` keys, and
+ * for `per_source` keys of one address, whatever its ports; UINT32_MAX is no limit.
+ * 70 to 75 of the first, 80 to 85 of the second, NBT_FULL_SOURCE, NBT_FULL, NBT_NO_MEMORY (which may come before those
+ * that follow the first), NBT_NO_ROOM. */
+uint32_t nbt_table_merge(const uint8_t *first, size_t first_length, const uint8_t *second, size_t second_length,
+                         uint32_t keys, uint32_t per_source,
+                         uint8_t *into, size_t into_length, size_t *used, size_t *at);
+
+/* A station: its names, and a table that the payloads of port 138 fill and the clock empties (RFC 1002 section 5.3).
+ * A datagram is handed over once, by the payload that makes it whole, if one of the names hears it: the name that it is
+ * for or, of a broadcast, a name of that name's scope. -------------------------------------------------------------- */
+
+/* What nbt_station_create fills in, and nbt_station_free gives back, once each. The other calls move what it points to,
+ * so a copy made before one isn't good after it. */
+struct nbt_station {
+    void *at;
+};
+
+/* Makes a station with these names: their texts with one space between two, and none where the length is 0. Error
+ * packets have this address and port. Its table is empty, and has room for `keys` keys, and for `per_source` of one
+ * address, whatever its ports; UINT32_MAX is no limit. A key is kept from its first fragment on until the clock drops it,
+ * some 200 bytes and the data each. `*station`, written at NBT_DONE alone, goes to `at` of a struct nbt_station.
+ * The first fault of the names in order: NBT_BAD_TEXT and NBT_LONG_TEXT (*at counts from the front of `names`),
+ * NBT_NAME_PRESENT, NBT_TOO_MANY_NAMES; NBT_NO_MEMORY, which may come before them. */
+uint32_t nbt_station_create(const uint8_t *names, size_t names_length, uint32_t address, uint16_t port,
+                            uint32_t keys, uint32_t per_source, void **station, size_t *at);
+
+/* What became of a payload. */
+enum nbt_outcome {
+    NBT_KEPT = 0,      /* a fragment, by which its datagram became neither whole nor spoilt */
+    NBT_SPOILT = 1,    /* a fragment that contradicts what was known of its datagram */
+    NBT_DELIVERED = 2, /* a fragment that made its datagram whole, and one of the names hears it */
+    NBT_UNHEARD = 3,   /* a fragment that made its datagram whole, and none of the names hears it */
+    NBT_OTHER = 4,     /* an error or a query packet; the station is as it was */
+    NBT_REFUSED = 5    /* no packet stands at the front of the payload; the station is as it was */
+};
+
+/* What became of a payload, in numbers. A number of which nothing is said is 0. */
+struct nbt_taken {
+    uint32_t outcome;          /* one of enum nbt_outcome */
+    uint32_t address;          /* of a fragment: the key of its datagram, SOURCE_IP, SOURCE_PORT and DGM_ID */
+    uint16_t port;
+    uint16_t identifier;
+    uint8_t type;              /* at NBT_DELIVERED: MSG_TYPE, 0x10 to a unique name, 0x11 to a group, 0x12 a broadcast */
+    size_t source_length;      /* at NBT_DELIVERED: the spelling of the source stands at the front of the buffer, */
+    size_t destination_length; /* then that of the destination, */
+    size_t data_length;        /* then the data */
+    size_t error_length;       /* at NBT_UNHEARD and NBT_REFUSED: the packet that stands at the front of the buffer, to be
+                                  sent to where the payload came from; 0 where there is none to send */
+    uint32_t refusal;          /* at NBT_REFUSED: the status that nbt_datagram_read answers to the payload, */
+    size_t refused_at;         /* and the place that goes with it, if it has one */
+};
+
+/* As many bytes as no call of nbt_station_take writes more of: two spellings of at most 255 bytes, and 65,535 of data. */
+#define NBT_TAKE_ROOM 66045
+
+/* Takes a payload of port 138 that came at this moment, in milliseconds since any moment of the caller's choice. The
+ * buffer has room for NBT_TAKE_ROOM bytes, whatever the payload: where it has less the answer is NBT_NO_ROOM, and
+ * `*used` is NBT_TAKE_ROOM. So nothing can be lost for want of room once the payload is taken in. At NBT_DONE `*used`
+ * bytes are written, and `*taken` says which.
+ * NBT_NO_ROOM, NBT_MISPLACED_FIRST, NBT_LONG, NBT_FULL_SOURCE, NBT_FULL, NBT_NO_MEMORY (which may come before those that
+ * follow the first). At each of these the station, the buffer and `*taken` are as they were. */
+uint32_t nbt_station_take(struct nbt_station *station, uint64_t moment, const uint8_t *payload, size_t payload_length,
+                          struct nbt_taken *taken, uint8_t *into, size_t into_length, size_t *used);
+
+/* Looks at the clock, which shows `now`: drops each key that came at least 2,000 milliseconds before, whatever is known
+ * of it. `*dropped` is how many. That a station has to be shown the clock is our choice; nothing else drops a key.
+ * NBT_NO_MEMORY. */
+uint32_t nbt_station_tick(struct nbt_station *station, uint64_t now, uint32_t *dropped);
+
+/* Writes the station's table, saved. The names, the limits and the moments aren't in it.
+ * NBT_NO_MEMORY, NBT_NO_ROOM. */
+uint32_t nbt_station_save(struct nbt_station *station, uint8_t *into, size_t into_length, size_t *used);
+
+/* Gives a station back, with all that it kept. */
+void nbt_station_free(struct nbt_station station);
 
 #ifdef __cplusplus
 }

@@ -3,7 +3,7 @@
 # failed, and the last one counts all cases: 'N passed, M failed, K skipped'.
 set -uo pipefail
 cd "$(dirname "$0")/.." || exit
-. tests/counting.sh
+. tests/lib/counting.sh
 log=$room/log
 running=
 trap '[ -z "$running" ] || kill "$running"; exit 130' INT TERM
@@ -70,11 +70,18 @@ missing() {
     fi
 }
 
+# How many checks `rt ci` runs side by side: one for each processor, where there are 4 GB for each. By itself it expects more
+# memory than they take, and leaves processors idle.
+checks=$(awk -v most="$(nproc)" '$1 == "MemAvailable:" {
+    checks = int($2 / 4000000)
+    print checks < 1 ? 1 : checks < most ? checks : most
+}' /proc/meminfo)
+
 # How many crates there are to prove, and edits to refuse: those that lie here, or as many as are stated.
 proofs=$(($(grep -c '^[a-z]' crates.txt) + $(find crates -path '*/must-fail/*.edit' | wc -l)))
 stated=$(least rt all)
 
-step rt 170 $((proofs > stated && stated > 0 ? proofs : stated)) tests/costs.py rt ci
+step rt 170 $((proofs > stated && stated > 0 ? proofs : stated)) env RT_JOBS="$checks" tests/lib/costs.py rt ci
 for each in program.sh process.py examples.sh wireshark.sh manual.sh library.sh scale.sh; do
     step $each 20 "$(least $each all)" "tests/$each"
 done

@@ -12,6 +12,7 @@ import struct
 import sys
 
 sys.dont_write_bytecode = True
+sys.path.insert(1, f'{sys.path[0]}/lib')
 from wire import ACK, FIN, FRED, JOE, POSITIVE, REQUEST, SYN, TCP, UDP, datagram, ip, udp
 
 STREAMS = 64

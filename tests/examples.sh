@@ -3,7 +3,7 @@
 # memory refused in turn, of the whole program and of single calls. Usage: tests/examples.sh [PROGRAM]; its last line is 'N
 # passed, M failed, K skipped'.
 set -uo pipefail
-. "$(dirname "$0")/counting.sh"
+. "$(dirname "$0")/lib/counting.sh"
 program=$(realpath "${1:-$here/../crates/nb_examples/out/nb_examples}")
 examples=$here/../crates/nb_examples/examples
 
@@ -11,13 +11,13 @@ ordinary() {
     "$here/join_examples.sh" --check
     count $? 'the examples are joined (tests/join_examples.sh)'
     enough "$(sed 's/ .*//' "$examples/../stdout")" "$(least nb_examples lines)" 'crates/nb_examples/stdout'
-    "$here/rust_samples.py"
-    count $? 'the Rust samples of the pages stand in the sources (tests/rust_samples.py)'
+    "$here/lib/rust_samples.py"
+    count $? 'the Rust samples of the pages stand in the sources (tests/lib/rust_samples.py)'
 
     # Names and texts by the thousand, whose answers a slow model finds.
-    "$here/names_model.py" | ended "$program" >"$room/output"
+    "$here/lib/names_model.py" | ended "$program" >"$room/output"
     [ $? -eq 0 ] && grep -qE '^[0-9]{5,} examples, 0 wrong$' "$room/output"
-    count $? "the examples of tests/names_model.py: $(tail -n 1 "$room/output")"
+    count $? "the examples of tests/lib/names_model.py: $(tail -n 1 "$room/output")"
 
     # Words that mean nothing have no answer, and an answer that differs is printed.
     printf '%s\n' 'session.parse 0z = more 4' 'session.parse 00 00 = more 3' 'session.pares 00 = more 3' 'session.parse {X} = more 3' \

@@ -1,11 +1,11 @@
 #!/usr/bin/env bash
-# The library for C: what it is made of, the examples of bindings/c, a caller's worst (tests/library.c) beside `nbt show`,
-# sanitizers, memory that runs out, and the package for Python. Usage: tests/library.sh [PROGRAM]; its last line is 'N
-# passed, M failed, K skipped'.
+# The library for C: what it is made of, the examples of bindings/c, a caller's worst (tests/lib/library.c) beside `nbt
+# show`, sanitizers, memory that runs out, the package for Python, nbt-station, and the crate for Rust. Usage:
+# tests/library.sh [PROGRAM]; its last line is 'N passed, M failed, K skipped'.
 set -uo pipefail
 # What stands last in a pipe counts its cases here.
 shopt -s lastpipe
-. "$(dirname "$0")/counting.sh"
+. "$(dirname "$0")/lib/counting.sh"
 program=$(realpath "${1:-$here/../crates/nbt/out/nbt}")
 top=$(realpath "$here/..")
 built=$room/built
@@ -70,26 +70,26 @@ under_valgrind() {
     done
 }
 
-# compiled NAME OPTION..: tests/library.c, compiled so, as $room/NAME.
+# compiled NAME OPTION..: tests/lib/library.c, compiled so, as $room/NAME.
 compiled() {
-    $CC "${strict[@]}" -o "$room/$1" "$here/library.c" "${@:2}" "$built/libnbt.a" >"$room/log" 2>&1
-    count $? "tests/library.c, $1: $(head -n 1 "$room/log")"
+    $CC "${strict[@]}" -o "$room/$1" "$here/lib/library.c" "${@:2}" "$built/libnbt.a" >"$room/log" 2>&1
+    count $? "tests/lib/library.c, $1: $(head -n 1 "$room/log")"
 }
 
-# worst NAME LINES [ROOMS]: tests/library.c over lines, whose answers are those wanted.
+# worst NAME LINES [ROOMS]: tests/lib/library.c over lines, whose answers are those wanted.
 worst() {
     ended "$room/$1" ${3:+"$3"} <"$2" >"$room/output" 2>"$room/errors"
-    count $? "tests/library.c, $1: $(tail -n 1 "$room/errors")"
+    count $? "tests/lib/library.c, $1: $(tail -n 1 "$room/errors")"
     cmp -s "$2.wanted" "$room/output"
-    count $? "tests/library.c, $1, prints what nbt show prints: $(diff "$2.wanted" "$room/output" | head -c 300)"
+    count $? "tests/lib/library.c, $1, prints what nbt show prints: $(diff "$2.wanted" "$room/output" | head -c 300)"
 }
 
 # lines COUNT SEED: payloads, and what `nbt show` prints of them.
 lines() {
-    "$here/library_payloads.py" --seed "$2" "$1" >"$room/lines$2"
+    "$here/lib/library_payloads.py" --seed "$2" "$1" >"$room/lines$2"
     sed 's/ / 0 /' "$room/lines$2" | ended "$program" show --input-limit 4294967296 >"$room/lines$2.wanted"
     [ $? -eq 0 ] && [ "$(grep -cE '^[0-9]+ 13[789] ' "$room/lines$2.wanted")" -eq "$1" ]
-    count $? "$1 payloads of tests/library_payloads.py, and nbt show of each"
+    count $? "$1 payloads of tests/lib/library_payloads.py, and nbt show of each"
 }
 
 callers() {
@@ -130,6 +130,25 @@ for number, line in enumerate(sys.stdin, 1):
 ' <"$room/lines3" >"$room/output" 2>"$room/errors"
     cmp -s "$room/lines3.wanted" "$room/output"
     count $? "nbt.show prints what nbt show prints: $(tail -n 1 "$room/errors")"
+    { cat "$top/examples/capture.txt"; sed 's/ / 2500 /' "$room/lines3"; echo tick 4000; } >"$room/capture"
+    ended "$program" replay 'FRED<20>' 'JOE<00>' <"$room/capture" | awk '
+        $2 == "refused" { print $1, $2 ($(NF - 1) == "error" ? " error " $NF : ""); next }
+        { print }' >"$room/replayed"
+    NBT_LIBRARY=$built/libnbt.so.0 PYTHONDONTWRITEBYTECODE=1 PYTHONPATH=$top/bindings/python \
+        ended "$here/lib/library_replay.py" 'FRED<20>' 'JOE<00>' <"$room/capture" >"$room/output" 2>"$room/errors"
+    grep -q ' delivered ' "$room/output" && cmp -s "$room/replayed" "$room/output"
+    count $? "a station does what nbt replay does: $(tail -n 1 "$room/errors") $(diff "$room/replayed" "$room/output" | head -c 300)"
+}
+
+# tools/nbt-station on sockets of the loopback interface.
+station() {
+    NBT_LIBRARY=$built/libnbt.so.0 "$timeout" -k 5 600 "$here/lib/station.py" "$top/tools/nbt-station" "$program" \
+        >"$room/cases" 2>"$room/errors"
+    count $? "tests/lib/station.py: $(tail -n 1 "$room/errors")"
+    while IFS= read -r each; do
+        [[ $each == ok:* ]]
+        count $? "nbt-station: ${each#failed: }"
+    done <"$room/cases"
 }
 
 # Installed in another folder, and found by pkg-config.
@@ -155,6 +174,47 @@ installed() {
         | same "$(block text 2)" 'the program in Python of docs/CALLING.md'
 }
 
+# cargo COMMAND [OPTION]..: cargo's command on the crate for Rust, over what is installed below $room/root.
+in_rust() {
+    (
+        cd "$top/bindings/rust" || exit
+        export PKG_CONFIG_PATH=$room/root/lib/pkgconfig LD_LIBRARY_PATH=$room/root/lib CARGO_TARGET_DIR=$room/target
+        ended cargo "$@"
+    ) >"$room/log" 2>&1
+    count $? "cargo $1: $(grep -m 1 -E '^(error|Diff|test .* FAILED)' "$room/log")"
+}
+
+# in_rust_too TOOL COMMAND [OPTION]..: the same, where cargo has this tool.
+in_rust_too() {
+    if cargo "$1" --version >/dev/null 2>&1; then
+        in_rust "$@"
+    else
+        skipped=$((skipped + 1))
+        echo "skipped: cargo $1 (it isn't installed)"
+    fi
+}
+
+# The crate for Rust: its tests and examples over the shared object, also in a program that links libnbt.a, and beside `nbt show`.
+rust() {
+    in_rust test --offline --locked
+    passed=$((passed + $(awk '/^test result: ok/ { sum += $4 } END { print sum + 0 }' "$room/log")))
+    in_rust_too fmt --check
+    in_rust_too clippy --offline --locked --all-targets -- -D warnings
+    RUSTDOCFLAGS='-D warnings' in_rust doc --offline --locked --no-deps
+    in_rust build --offline --locked --release --examples
+    lines 1000 4
+    LD_LIBRARY_PATH=$room/root/lib ended "$room/target/release/examples/show_lines" <"$room/lines4" >"$room/output" 2>"$room/errors"
+    cmp -s "$room/lines4.wanted" "$room/output"
+    count $? "nbt::show_into prints what nbt show prints: $(tail -n 1 "$room/errors")"
+    # The program of docs/CALLING.md in a folder of its own, over the crate that is installed.
+    mkdir -p "$room/user/src"
+    printf '[package]\nname = "first"\nversion = "0.1.0"\nedition = "2021"\n\n[dependencies]\nnbt = { path = "%s" }\n' \
+        "$room/root/share/nbt/rust" >"$room/user/Cargo.toml"
+    block rust >"$room/user/src/main.rs"
+    (cd "$room/user" && PKG_CONFIG_PATH=$room/root/lib/pkgconfig NBT_STATIC=1 CARGO_TARGET_DIR=$room/user/target \
+        ended cargo run --quiet --offline) 2>&1 | same "$(block text 3)" 'the program in Rust of docs/CALLING.md'
+}
+
 # block LANGUAGE [NUMBER]: a block of docs/CALLING.md in this language, the first of them if no number is given.
 block() {
     awk -v mark="\`\`\`$1" -v wanted="${2:-1}" '
@@ -170,5 +230,13 @@ if command -v valgrind >/dev/null; then part valgrind under_valgrind; else lacks
 part callers callers
 part memory refused
 part python python
+part station station
 if command -v pkg-config >/dev/null; then part installed installed; else lacks installed pkg-config; fi
+if ! command -v pkg-config >/dev/null; then
+    lacks rust pkg-config
+elif command -v cargo >/dev/null; then
+    part rust rust
+else
+    lacks rust cargo
+fi
 finish

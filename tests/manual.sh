@@ -4,10 +4,10 @@
 # uninstall` leaves; the Debian package; the places that docs/CHANGING.md names. Usage: tests/manual.sh [PROGRAM]; its last
 # line is 'N passed, M failed, K skipped'.
 set -uo pipefail
-. "$(dirname "$0")/counting.sh"
+. "$(dirname "$0")/lib/counting.sh"
 program=${1:-$here/../crates/nbt/out/nbt}
 page=$here/../man/nbt.1
-tools=(nbt-pcap2cap nbt-cap2pcap nbt-parallel nbt-dask)
+tools=(nbt-pcap2cap nbt-cap2pcap nbt-parallel nbt-dask nbt-station)
 
 # Pages of other programs needn't be installed.
 lint() {
@@ -124,7 +124,7 @@ installed() {
 offers() {
     cat <<'END'
 nbt s|show save
-nbt show -|--input-limit --comments --help
+nbt show -|--input-limit --comments --json --help
 nbt save --|--keys --per-source --input-limit --help
 nbt replay --keys |
 nbt build r|registration refresh release response request retarget
@@ -136,6 +136,7 @@ nbt-pcap2cap -|--bare --quiet --port --live -i --help
 nbt-cap2pcap --|--help
 nbt-parallel --s|--shard-bytes --sshlogin
 nbt-dask --w|--workers
+nbt-station --p|--port --per-source
 END
 }
 
@@ -154,7 +155,7 @@ offered_by_bash() {
     done
 }
 
-offered_by_zsh() { ended zsh -f "$here/completed.zsh" "$here/../completions" "$@"; }
+offered_by_zsh() { ended zsh -f "$here/lib/completed.zsh" "$here/../completions" "$@"; }
 
 # completion SHELL FILE: the shell offers these words, and tools/completions.py writes the file anew.
 completion() {

@@ -14,8 +14,9 @@ import sys
 import tempfile
 import time
 
+sys.path.insert(1, f'{sys.path[0]}/lib')
 from process_inputs import CAPTURE, COMMANDS, FRED, READING, REPORT, captures, roomy
-from process_runs import (HERE, at_terminal, broken_pipe, bytes_of, closed, limited, lines_of, quiet_terminal, rest_of, run,
+from process_runs import (TESTS, at_terminal, broken_pipe, bytes_of, closed, limited, lines_of, quiet_terminal, rest_of, run,
                           small_pipe, start, starts, wait)
 
 counts = {'passed': 0, 'failed': 0, 'skipped': 0}
@@ -30,7 +31,7 @@ def check(passed, name):
 
 def least():
     """How many cases each part has at least, by tests/counts.txt."""
-    with open(os.path.join(HERE, 'counts.txt')) as lines:
+    with open(os.path.join(TESTS, 'counts.txt')) as lines:
         rows = [line.split() for line in lines if line.startswith('process.py ')]
     return {part: int(count) for _, part, count in rows}
 

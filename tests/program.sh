@@ -3,7 +3,7 @@
 # and each request for memory refused in turn. Usage: tests/program.sh [PROGRAM]; its last line is 'N passed, M failed, K
 # skipped'.
 set -uo pipefail
-. "$(dirname "$0")/counting.sh"
+. "$(dirname "$0")/lib/counting.sh"
 program=${1:-$here/../crates/nbt/out/nbt}
 
 fred=20454746434546454543414341434143414341434143414341434143414341434100
@@ -19,7 +19,7 @@ holds() { printf '%s' "$2" | cmp -s - "$1"; }
 
 # ---- The cases of tests/cases: after `$ COMMAND` stand the lines of its standard output, those of its standard error
 # behind `! `, and `? STATUS` where that isn't 0. `...` stands for text that isn't empty, {FRED} and the like for spellings.
-# `hostile NAME=VALUE .. COMMAND` runs a command over the devices of tests/devices.c.
+# `hostile NAME=VALUE .. COMMAND` runs a command over the devices of tests/lib/devices.c.
 
 spelled() { sed "s/{FRED}/$fred/g; s/{JOE}/$joe/g; s/{SCOPED}/$scoped/g; s/{WILDCARD}/$wildcard/g; s/{EMPTY}/$empty/g" "$1"; }
 
@@ -60,6 +60,19 @@ cases() {
 pages() {
     page README.md
     page docs/GUIDE.md
+}
+
+# What `--json` prints, and the text made anew from it.
+objects() {
+    local counts='^([0-9]{1,9}) passed, ([0-9]{1,9}) failed$'
+    "$here/lib/json_lines.py" "$program" >"$room/objects"
+    if [[ $(tail -n 1 "$room/objects") =~ $counts ]]; then
+        passed=$((passed + BASH_REMATCH[1]))
+        failed=$((failed + BASH_REMATCH[2]))
+        grep '^failed: ' "$room/objects"
+    else
+        count 1 "tests/lib/json_lines.py has no last line"
+    fi
 }
 
 # ---- Streams that can't be read or written; a closed standard error changes nothing.
@@ -259,7 +272,9 @@ memory() {
     printf '138 0 %s\n138 1 %s\ntick 2000\n138 2001 %s\n137 2002 00\n138 2003 17\n' $empty $empty $empty >"$room/capture"
     input=$room/capture
     remembers replay 'FRED<20>'
+    remembers replay --json --comments 'FRED<20>'
     remembers show
+    remembers show --json
     remembers save
     printf '# one\n138 0 %s\n#\377' $empty >"$room/input"
     input=$room/input
@@ -275,6 +290,7 @@ memory() {
     input=$room/tables
     remembers merge
     remembers list
+    remembers list --json
     remembers agree
     { head -n 1 "$room/tables" && nbt save <"$room/several"; } >"$room/unequal"
     input=$room/unequal
@@ -294,6 +310,7 @@ printf '#!/bin/sh\nexec env LD_PRELOAD=%s/devices.so "$@"\n' "$room" >"$room/bin
 part shims compile devices refuse_memory
 part cases cases
 part pages pages
+part objects objects
 part streams streams
 part memory memory
 finish

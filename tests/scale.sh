@@ -3,7 +3,7 @@
 # inputs and devices that are refused. What isn't installed is left out. Usage: tests/scale.sh [PROGRAM]; its last line is
 # 'N passed, M failed, K skipped'.
 set -uo pipefail
-. "$(dirname "$0")/counting.sh"
+. "$(dirname "$0")/lib/counting.sh"
 program=$(realpath "${1:-$here/../crates/nbt/out/nbt}")
 tools=$(realpath "$here/../tools")
 cd "$room" || exit
@@ -135,7 +135,7 @@ fills_disk() {
 inputs() {
     local each
     for each in many keys gaps flow ever wide; do
-        python3 "$here/scale_capture.py" $each "$room"
+        python3 "$here/lib/scale_capture.py" $each "$room"
     done
     cp many bad && sed -i '54321s/.*/138 0 xyz/' bad
 
@@ -214,11 +214,11 @@ too_large() {
 
 # shows_progress ENGINE: how many shards are done, on a terminal; it is gone at the end.
 shows_progress() {
-    ended "$here/terminal.py" output "$1" "$room/slow" --shard-bytes 400000 gaps out >shown && cmp -s out gaps.table &&
+    ended "$here/lib/terminal.py" output "$1" "$room/slow" --shard-bytes 400000 gaps out >shown && cmp -s out gaps.table &&
         grep -q " [1-9] of 7 shards saved" shown && [[ $(cat shown) == *$'\r' ]]
     count $? "$1 on a terminal"
     rm -f out
-    ended "$here/terminal.py" output "$1" "$program" --quiet gaps out >shown && cmp -s out gaps.table && [ ! -s shown ]
+    ended "$here/lib/terminal.py" output "$1" "$program" --quiet gaps out >shown && cmp -s out gaps.table && [ ! -s shown ]
     count $? "$1 --quiet on a terminal"
     rm -f out
 }

@@ -8,7 +8,7 @@ room=$(mktemp -d)
 trap 'rm -rf "$room"' EXIT
 cd "$room"
 copies=16
-python3 "$here/scale_capture.py" few "$room"
+python3 "$here/lib/scale_capture.py" few "$room"
 for ((i = 0; i < copies; i++)); do cat few; done >capture
 size=$(($(stat -c %s capture) >> 20))
 

@@ -3,7 +3,7 @@
 # show` has them, by way of tools/cap2pcap and tools/pcap2cap. Usage: tests/wireshark.sh [PROGRAM]; its last line is
 # 'N passed, M failed, K skipped'. Where tshark isn't installed all of it is left out.
 set -uo pipefail
-. "$(dirname "$0")/counting.sh"
+. "$(dirname "$0")/lib/counting.sh"
 program=$(realpath "${1:-$here/../crates/nbt/out/nbt}")
 
 if ! command -v tshark >/dev/null; then
@@ -24,7 +24,7 @@ fields() {
     ended tshark -n -r "$file" -o tcp.reassemble_out_of_order:TRUE -Y "$filter" -T fields "${@/#/-e}" 2>"$room/errors"
 }
 
-# ---- The packets of `nbt build`, by the cases of tests/dissected.txt.
+# ---- The packets of `nbt build`, by the cases of tests/lib/dissected.txt.
 
 label=$(printf 'L%.0s' {1..63})
 
@@ -64,7 +64,7 @@ built() {
         '' | '#'*) ;;
         *) told[-1]+=$(spelled "$line" | shortened)$'\n' ;;
         esac
-    done <"$here/dissected.txt"
+    done <"$here/lib/dissected.txt"
 
     # Empty fields are left out, and so are the words that tshark adds to a name's text.
     cap2pcap <"$room/built" >"$room/built.pcap"
@@ -92,14 +92,14 @@ built() {
     count $? 'pcap2cap: the packets that were built'
 }
 
-# ---- A network's packets, by tests/network.py.
+# ---- A network's packets, by tests/lib/network.py.
 
 payloads() { awk '$1 ~ /^13/ { print $1, $3 }' "$1"; }
 
 summary='58 frames, 51 of these ports, 19 left out'
 
 network() {
-    "$here/network.py" "$room/network.pcap" >"$room/expected"
+    "$here/lib/network.py" "$room/network.pcap" >"$room/expected"
     mkdir "$room/own" && echo 'ip.defragment: FALSE' >"$room/own/preferences" && echo udp >"$room/own/disabled_protos"
     WIRESHARK_CONFIG_DIR=$room/own pcap2cap "$room/network.pcap" >"$room/capture" 2>"$room/errors"
     [ $? -eq 0 ] && diff "$room/expected" "$room/capture" && [ "$(cat "$room/errors")" = "$summary" ]
@@ -264,16 +264,24 @@ EOF
     [ "${PIPESTATUS[2]}" -eq 3 ] && [ "$(cat "$room/errors")" = 'cap2pcap: the program that reads this ended' ]
     count $? 'cap2pcap, its reader ends'
 
+    # An hour of datagrams, one each second, through a pipe at once: each is delivered, and a tick drops its key.
+    nbt build group 10.0.0.5:138/0001 'JOE<00>' 'FRED<20>' 6869 | awk '{ for (i = 0; i < 3600; i++)
+        printf "138 %d %s%04x%s\n", 1000 * i, substr($3, 1, 4), i, substr($3, 9) }' | cap2pcap >"$room/hour.pcap"
+    cat "$room/hour.pcap" | pcap2cap --quiet - | nbt replay 'FRED<20>' >"$room/output" 2>"$room/errors"
+    [ "${PIPESTATUS[*]}" = '0 0 0' ] && [ "$(awk '{ said[$2]++ } $2 == "dropped" { keys += $3 } END { print said["delivered"], keys }' \
+        "$room/output")" = '3600 3598' ]
+    count $? "an hour of datagrams through a pipe: $(tail -n 1 "$room/output")"
+
     # On a terminal the progress comes, and goes; not with --quiet.
     local each="$here/../tools/pcap2cap"
-    ended "$here/terminal.py" "$room/output" "$each" "$room/long.pcap" >"$room/shown" && head -n 1 "$room/shown" |
+    ended "$here/lib/terminal.py" "$room/output" "$each" "$room/long.pcap" >"$room/shown" && head -n 1 "$room/shown" |
         grep -q $'^\rpcap2cap: [0-9]* of [0-9]* bytes *\r.* *\rpcap2cap: more than' && tail -n 1 "$room/shown" |
         grep -qE $'(^| \r)100000 frames, 100000 of these ports, 0 left out\r$'
     count $? 'pcap2cap on a terminal'
-    ended "$here/terminal.py" "$room/output" "$each" --quiet "$room/network.pcap" >"$room/shown" && [ ! -s "$room/shown" ]
+    ended "$here/lib/terminal.py" "$room/output" "$each" --quiet "$room/network.pcap" >"$room/shown" && [ ! -s "$room/shown" ]
     count $? 'pcap2cap --quiet on a terminal'
     local began=$SECONDS
-    ended "$here/terminal.py" "$room/output" "$each" "$room/long.pcap" >"$room/shown" &&
+    ended "$here/lib/terminal.py" "$room/output" "$each" "$room/long.pcap" >"$room/shown" &&
         [ "$(tr '\r' '\n' <"$room/shown" | grep -c ' of [0-9]* bytes')" -le $((2 * (SECONDS - began) + 3)) ]
     count $? 'pcap2cap on a terminal: at most twice a second'
 }
@@ -327,10 +335,27 @@ live() {
 answers() {
     local try
     for try in 1 2 3; do
-        ended "$here/live.py" 20138 "$1" "$2" >"$room/output" 2>"$room/errors" && break
+        ended "$here/lib/live.py" 20138 "$1" "$2" >"$room/output" 2>"$room/errors" && break
     done
     [ -s "$room/output" ]
     count $? "$1 | $2: $(cat "$room/errors")"
+}
+
+# The same of packets that come from tcpdump by a pipe, which ends with tcpdump.
+dumped() {
+    local dump
+    if ! command -v tcpdump >/dev/null; then
+        lacks dumped tcpdump
+        return
+    fi
+    if ! timeout --preserve-status -s INT 1 tcpdump -i lo -w - >"$room/output" 2>"$room/errors"; then
+        skip dumped 'tcpdump may not listen to lo here'
+        return
+    fi
+    dump="bash -c \"exec tcpdump -i lo --immediate-mode -U -w - udp port 20138 2>'$room/dump' \
+        > >(exec '$here/../tools/pcap2cap' --quiet --port 138=20138 -)\""
+    answers "$dump" "'$program' show"
+    answers "$dump" "'$program' replay 'FRED<20>'"
 }
 
 sends() { python3 -c 'import socket, sys
@@ -368,6 +393,7 @@ part others others
 part long long
 part growing growing
 part waits waits
+part dumped dumped
 part office office
 part page page docs/CAPTURES.md
 finish

@@ -5,18 +5,22 @@ packets     what `nbt show` prints of a payload
 datagrams   packets of port 138
 sessions    packets of port 139
 service     requests of port 137
+stations    stations, which put datagrams together
+tables      saved tables
 statuses    why a call did nothing, as exceptions
 numbers     numbers and addresses, judged before a call
 library     the shared library, found and loaded
 
-The calls may be made from any thread, and let other threads run meanwhile.
+The calls may be made from any thread, those on one station one at a time, and let other threads run meanwhile.
 """
 from .datagrams import Datagram, DatagramType
 from .names import spell, text
 from .packets import show
 from .service import node_status, query, refresh, registration, release
 from .sessions import SessionPacket, SessionType
+from .stations import Delivery, Outcome, Station, Taken
 from .statuses import MoreNeeded, NbtError, Status
+from .tables import merge
 
-__all__ = ['Datagram', 'DatagramType', 'MoreNeeded', 'NbtError', 'SessionPacket', 'SessionType', 'Status', 'node_status',
-           'query', 'refresh', 'registration', 'release', 'show', 'spell', 'text']
+__all__ = ['Datagram', 'DatagramType', 'Delivery', 'MoreNeeded', 'NbtError', 'Outcome', 'SessionPacket', 'SessionType', 'Station',
+           'Status', 'Taken', 'merge', 'node_status', 'query', 'refresh', 'registration', 'release', 'show', 'spell', 'text']

@@ -8,7 +8,7 @@ from dataclasses import dataclass
 from typing import Iterator, List, Optional
 
 from . import names
-from .library import BYTES, Buffer, Reader, Writer, given
+from .library import BYTES, Buffer, Reader, given, writer
 from .numbers import Address, address_number, number
 
 
@@ -35,7 +35,7 @@ class Found(ctypes.Structure):
 
 
 READ = Reader('nbt_datagram_read', Found)
-WRITE = Writer('nbt_datagram_write', ctypes.c_uint8, ctypes.c_uint16, ctypes.c_uint32, ctypes.c_uint16, *BYTES, *BYTES,
+WRITE = writer('nbt_datagram_write', ctypes.c_uint8, ctypes.c_uint16, ctypes.c_uint32, ctypes.c_uint16, *BYTES, *BYTES,
                *BYTES, ctypes.c_uint16)
 
 

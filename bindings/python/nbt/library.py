@@ -7,18 +7,22 @@ from __future__ import annotations
 
 import ctypes
 import os
-from typing import Any, List, Union
+from typing import Any, Callable, List, Union
 
-from .statuses import Status, refusal
+from .statuses import refusal
 
 Buffer = Union[bytes, bytearray, memoryview]
 
 NAME = 'libnbt.so.0'
 # How many bytes an answer may have before a call is made a second time, and how many a room has that is kept.
 ROOM, MOST_SPARE = 4_096, 1 << 20
+# Of enum nbt_status.
+DONE, NO_ROOM = 0, 1
 
-BYTES = (ctypes.c_char_p, ctypes.c_size_t)
-SIZE = ctypes.POINTER(ctypes.c_size_t)
+# Addresses are given as numbers. Lengths have the same type: both are as wide, so C is passed the same, and ctypes takes a
+# number for c_void_p in half the time that it wants for c_size_t.
+ADDRESS = LENGTH = ctypes.c_void_p
+BYTES = (ctypes.c_char_p, LENGTH)
 
 
 def loaded() -> ctypes.CDLL:
@@ -39,21 +43,14 @@ def given(data: Buffer) -> bytes:
     return data if type(data) is bytes else bytes(memoryview(data))
 
 
-class Call:
-    """A call of the library that answers a status. Its function is looked up when it is first made."""
-
-    def __init__(self, name: str, *arguments: Any) -> None:
-        self.name = name
-        self.arguments = arguments
-        self.function: Any = None
-
-    def __call__(self, *arguments: Any) -> int:
-        if self.function is None:
-            function = getattr(LIBRARY, self.name)
-            function.argtypes = self.arguments
-            function.restype = ctypes.c_uint32
-            self.function = function
-        return self.function(*arguments)
+def call(name: str, *arguments: Any) -> Any:
+    """A call of the library that answers a status; ImportError where the library is older than this package and lacks it."""
+    try:
+        function = getattr(LIBRARY, name)
+    except AttributeError as error:
+        raise ImportError(str(error)) from error
+    function.argtypes, function.restype = arguments, ctypes.c_uint32
+    return function
 
 
 class Reader:
@@ -61,58 +58,57 @@ class Reader:
 
     def __init__(self, name: str, structure: Any) -> None:
         self.structure = structure
-        self.call = Call(name, *BYTES, ctypes.POINTER(structure), SIZE)
+        self.call = call(name, *BYTES, ADDRESS, ADDRESS)
 
     def __call__(self, data: bytes) -> Any:
         found, at = self.structure(), ctypes.c_size_t()
-        status = self.call(data, len(data), ctypes.byref(found), ctypes.byref(at))
-        if status != Status.DONE:
+        status = self.call(data, len(data), ctypes.addressof(found), ctypes.addressof(at))
+        if status != DONE:
             raise words_of(status, at.value)
         return found
 
 
 class Room:
-    """What a call writes to: bytes, how many there are, and a place."""
+    """What a call writes to: bytes, how many of them it used, and a place; `words` are what the call is told of it."""
 
     def __init__(self) -> None:
         self.used, self.at = ctypes.c_size_t(), ctypes.c_size_t()
-        self.places = ctypes.byref(self.used), ctypes.byref(self.at)
         self.grow(ROOM)
 
     def grow(self, length: int) -> None:
         """Room for so many bytes."""
         self.length, self.into = length, ctypes.create_string_buffer(length)
+        self.words = ctypes.addressof(self.into), length, ctypes.addressof(self.used), ctypes.addressof(self.at)
 
 
 # Rooms that no call uses now. A call takes one and puts it back, so no two calls ever have the same.
 SPARE: List[Room] = []
 
 
-class Writer:
+def writer(name: str, *arguments: Any, places: bool = True) -> Callable[..., bytes]:
     """A call that writes bytes into a buffer: it is made again with more room where that is wanted."""
+    count = 4 if places else 3
+    made = call(name, *arguments, *(ADDRESS, LENGTH, ADDRESS, ADDRESS)[:count])
 
-    def __init__(self, name: str, *arguments: Any, places: bool = True) -> None:
-        self.count = 2 if places else 1
-        self.call = Call(name, *arguments, *BYTES, SIZE, *([SIZE] if places else []))
-
-    def __call__(self, *arguments: Any) -> bytes:
+    def write(*arguments: Any) -> bytes:
         try:
             room = SPARE.pop()
         except IndexError:
             room = Room()
-        status = self.call(*arguments, room.into, room.length, *room.places[:self.count])
-        while status == 1:
-            room.grow(room.used.value)
-            status = self.call(*arguments, room.into, room.length, *room.places[:self.count])
-        written, at = ctypes.string_at(room.into, room.used.value if status == 0 else 0), room.at.value
-        if room.length <= MOST_SPARE:
-            SPARE.append(room)
-        if status != 0:
-            raise words_of(status, at)
-        return written
+        try:
+            while (status := made(*(arguments + room.words[:count]))) == NO_ROOM:
+                room.grow(room.used.value)
+            if status != DONE:
+                raise words_of(status, room.at.value)
+            return room.into[:room.used.value]
+        finally:
+            if room.length <= MOST_SPARE:
+                SPARE.append(room)
+
+    return write
 
 
-STATUS_TEXT = Writer('nbt_status_text', ctypes.c_uint32, places=False)
+STATUS_TEXT = writer('nbt_status_text', ctypes.c_uint32, places=False)
 
 
 def words_of(status: int, at: int) -> Exception:

@@ -3,10 +3,10 @@ section 4.1. The form of texts is the library's choice: the characters of the na
 digits between < and >, and the labels of its scope, each after a full stop."""
 from __future__ import annotations
 
-from .library import BYTES, Buffer, Writer, given
+from .library import BYTES, Buffer, given, writer
 
-SPELL = Writer('nbt_name_spell', *BYTES)
-TEXT = Writer('nbt_name_text', *BYTES)
+SPELL = writer('nbt_name_spell', *BYTES)
+TEXT = writer('nbt_name_text', *BYTES)
 
 
 def spell(text: str) -> bytes:

@@ -9,7 +9,7 @@ Address = Union[str, int, ipaddress.IPv4Address]
 
 def number(value: int, bits: int, what: str) -> int:
     """The number, if it has at most so many bits; else ValueError."""
-    if not 0 <= value < 1 << bits:
+    if value >> bits:  # -1 of a negative one
         raise ValueError(f'{what}: {value} is no number of {bits} bits')
     return value
 

@@ -3,10 +3,10 @@ from __future__ import annotations
 
 import ctypes
 
-from .library import BYTES, Buffer, Writer, given
+from .library import BYTES, Buffer, given, writer
 from .numbers import number
 
-SHOW = Writer('nbt_show', ctypes.c_uint16, *BYTES, places=False)
+SHOW = writer('nbt_show', ctypes.c_uint16, *BYTES, places=False)
 
 
 def show(port: int, payload: Buffer) -> str:

@@ -8,11 +8,11 @@ from __future__ import annotations
 
 import ctypes
 
-from .library import BYTES, Writer
+from .library import BYTES, writer
 from .numbers import Address, address_number, number
 
 QUERY, NODE_STATUS, REGISTRATION, REFRESH, RELEASE = range(5)
-REQUEST = Writer('nbt_service_request', ctypes.c_uint32, ctypes.c_uint16, ctypes.c_bool, *BYTES, ctypes.c_uint32,
+REQUEST = writer('nbt_service_request', ctypes.c_uint32, ctypes.c_uint16, ctypes.c_bool, *BYTES, ctypes.c_uint32,
                  ctypes.c_uint16, ctypes.c_uint32)
 
 

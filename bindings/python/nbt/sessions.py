@@ -5,7 +5,7 @@ import ctypes
 import enum
 from dataclasses import dataclass
 
-from .library import BYTES, Buffer, Reader, Writer, given
+from .library import BYTES, Buffer, Reader, given, writer
 from .numbers import number
 
 
@@ -28,7 +28,7 @@ class Found(ctypes.Structure):
 
 
 READ = Reader('nbt_session_read', Found)
-WRITE = Writer('nbt_session_write', ctypes.c_uint8, *BYTES)
+WRITE = writer('nbt_session_write', ctypes.c_uint8, *BYTES)
 
 
 @dataclass(frozen=True)

@@ -46,11 +46,30 @@ class Status(enum.IntEnum):
     UNKNOWN_REQUEST = 60
     ZERO_PIECE = 61
     LONG_DATA = 62
+    TABLE_BAD_MAGIC = 70
+    TABLE_TRUNCATED = 71
+    TABLE_NOT_CANONICAL = 72
+    TABLE_LONG = 73
+    TABLE_FULL_SOURCE = 74
+    TABLE_FULL = 75
+    SECOND_BAD_MAGIC = 80
+    SECOND_TRUNCATED = 81
+    SECOND_NOT_CANONICAL = 82
+    SECOND_LONG = 83
+    SECOND_FULL_SOURCE = 84
+    SECOND_FULL = 85
+    MISPLACED_FIRST = 90
+    LONG = 91
+    FULL_SOURCE = 92
+    FULL = 93
+    NAME_PRESENT = 100
+    TOO_MANY_NAMES = 101
     UNKNOWN_STATUS = 255
 
 
 # The statuses that say where the fault stands.
-PLACED = frozenset(it for it in Status if it in {10, 12, 14, *range(20, 27), *range(30, 37), *range(40, 47), 50, 52, 55})
+PLACED = frozenset(it for it in Status if it in {10, 12, 14, *range(20, 27), *range(30, 37), *range(40, 47), 50, 52, 55, 72,
+                                                 82, 100, 101})
 
 
 class NbtError(ValueError):

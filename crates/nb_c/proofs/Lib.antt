@@ -1,7 +1,10 @@
 pub mod AnswerLemmas
 pub mod FrameLemmas
+pub mod HandleValues
+pub mod MergeLemmas
 pub mod NameLemmas
 pub mod PlaceLemmas
 pub mod ReadLemmas
 pub mod ShowLemmas
+pub mod TellLemmas
 pub mod TextLemmas

@@ -1,10 +1,13 @@
 pub mod Cutting
 pub mod Datagrams
 pub mod Framing
+pub mod KeptCode
 pub mod Names
 pub mod Outputs
 pub mod Requests
 pub mod Sessions
 pub mod Showing
+pub mod Stations
 pub mod Statuses
+pub mod Tables
 pub mod Words

@@ -2,7 +2,7 @@
 use Rattle.std.specs.Prelude.{◌==◌, ◌/◌, ℕ, List, Option, Some, None, Result, Ok, Err, codes, if◌then◌else◌}
 use Rattle.nb_c.specs.declared.refusal.Refusal.{Refusal}
 use Rattle.nb_c.specs.declared.refusal.Refusal.TheVariants.{Fault}
-use Rattle.nb_c.specs.declared.statuses.TheConstants.{DONE, NO_ROOM, NO_MEMORY, BAD_TEXT, LONG_TEXT, SOURCE_BAD_TEXT, SOURCE_LONG_TEXT, DESTINATION_BAD_TEXT, DESTINATION_LONG_TEXT, NAME_TRUNCATED, NAME_RESERVED_LABEL, NAME_POINTER, NAME_LONG, NAME_NOT_NETBIOS, NAME_TRAILING_BYTES, NAME_BAD_POINTER, SOURCE_TRUNCATED, SOURCE_RESERVED_LABEL, SOURCE_POINTER, SOURCE_LONG, SOURCE_NOT_NETBIOS, SOURCE_BAD_POINTER, DESTINATION_TRUNCATED, DESTINATION_RESERVED_LABEL, DESTINATION_POINTER, DESTINATION_LONG, DESTINATION_NOT_NETBIOS, DESTINATION_BAD_POINTER, TRUNCATED, UNKNOWN_TYPE, MORE, RESERVED_FLAGS, BAD_LENGTH, TRAILING_BYTES, UNKNOWN_REQUEST, ZERO_PIECE, LONG_DATA, UNKNOWN_STATUS}
+use Rattle.nb_c.specs.declared.statuses.TheConstants.{DONE, NO_ROOM, NO_MEMORY, BAD_TEXT, LONG_TEXT, SOURCE_BAD_TEXT, SOURCE_LONG_TEXT, DESTINATION_BAD_TEXT, DESTINATION_LONG_TEXT, NAME_TRUNCATED, NAME_RESERVED_LABEL, NAME_POINTER, NAME_LONG, NAME_NOT_NETBIOS, NAME_TRAILING_BYTES, NAME_BAD_POINTER, SOURCE_TRUNCATED, SOURCE_RESERVED_LABEL, SOURCE_POINTER, SOURCE_LONG, SOURCE_NOT_NETBIOS, SOURCE_BAD_POINTER, DESTINATION_TRUNCATED, DESTINATION_RESERVED_LABEL, DESTINATION_POINTER, DESTINATION_LONG, DESTINATION_NOT_NETBIOS, DESTINATION_BAD_POINTER, TRUNCATED, UNKNOWN_TYPE, MORE, RESERVED_FLAGS, BAD_LENGTH, TRAILING_BYTES, UNKNOWN_REQUEST, ZERO_PIECE, LONG_DATA, TABLE_BAD_MAGIC, TABLE_TRUNCATED, TABLE_NOT_CANONICAL, TABLE_LONG, TABLE_FULL_SOURCE, TABLE_FULL, SECOND_BAD_MAGIC, SECOND_TRUNCATED, SECOND_NOT_CANONICAL, SECOND_LONG, SECOND_FULL_SOURCE, SECOND_FULL, MISPLACED_FIRST, LONG, FULL_SOURCE, FULL, NAME_PRESENT, TOO_MANY_NAMES, UNKNOWN_STATUS}
 
 -- the words of a status of what isn't about an input
 abbrev pub outcome_word : ℕ → Option (List ℕ)
@@ -77,6 +77,44 @@ request_word status =
     else if status == LONG_DATA then Some (codes "data too long")
     else None
 
+-- the words of a status on a saved table
+abbrev pub table_word : ℕ → Option (List ℕ)
+table_word status =
+    if status == TABLE_BAD_MAGIC then Some (codes "table: bad magic")
+    else if status == TABLE_TRUNCATED then Some (codes "table: truncated")
+    else if status == TABLE_NOT_CANONICAL then Some (codes "table: not canonical")
+    else if status == TABLE_LONG then Some (codes "table: too long")
+    else if status == TABLE_FULL_SOURCE then Some (codes "table: full source")
+    else if status == TABLE_FULL then Some (codes "table: full")
+    else None
+
+-- the words of a status on the second of two saved tables
+abbrev pub second_word : ℕ → Option (List ℕ)
+second_word status =
+    if status == SECOND_BAD_MAGIC then Some (codes "second table: bad magic")
+    else if status == SECOND_TRUNCATED then Some (codes "second table: truncated")
+    else if status == SECOND_NOT_CANONICAL then Some (codes "second table: not canonical")
+    else if status == SECOND_LONG then Some (codes "second table: too long")
+    else if status == SECOND_FULL_SOURCE then Some (codes "second table: full source")
+    else if status == SECOND_FULL then Some (codes "second table: full")
+    else None
+
+-- the words of a status on a table that takes in no more
+abbrev pub joining_word : ℕ → Option (List ℕ)
+joining_word status =
+    if status == MISPLACED_FIRST then Some (codes "misplaced first")
+    else if status == LONG then Some (codes "too long")
+    else if status == FULL_SOURCE then Some (codes "full source")
+    else if status == FULL then Some (codes "full")
+    else None
+
+-- the words of a status on the names of a station
+abbrev pub station_word : ℕ → Option (List ℕ)
+station_word status =
+    if status == NAME_PRESENT then Some (codes "name: present")
+    else if status == TOO_MANY_NAMES then Some (codes "too many names")
+    else None
+
 -- the words of a status, if it is one; the numbers of a matter have one number of tens
 abbrev pub status_word : ℕ → Option (List ℕ)
 status_word status =
@@ -86,6 +124,10 @@ status_word status =
     else if status / 10 == 4 then destination_word status
     else if status / 10 == 5 then packet_word status
     else if status / 10 == 6 then request_word status
+    else if status / 10 == 7 then table_word status
+    else if status / 10 == 8 then second_word status
+    else if status / 10 == 9 then joining_word status
+    else if status / 10 == 10 then station_word status
     else outcome_word status
 
 -- what is answered of a status

@@ -1,19 +1,25 @@
 //! Why a call does nothing.
 ghost use Rattle.std.specs.Prelude.{◌≡◌};
 ghost use Rattle.nb_c.specs.Statuses.{text_refusal, source_text_refusal, destination_text_refusal, name_refusal, source_refusal, destination_refusal, datagram_refusal, session_refusal};
+ghost use Rattle.nb_c.specs.Outputs.{refused_status};
+ghost use Rattle.nb_c.specs.Stations.{table_refusal};
+ghost use Rattle.nb_c.specs.Tables.{first_refusal, second_refusal};
 
 use crate::statuses::{
     BAD_LENGTH, BAD_TEXT, DESTINATION_BAD_POINTER, DESTINATION_BAD_TEXT, DESTINATION_LONG,
     DESTINATION_LONG_TEXT, DESTINATION_NOT_NETBIOS, DESTINATION_POINTER,
-    DESTINATION_RESERVED_LABEL, DESTINATION_TRUNCATED, LONG_TEXT, NAME_BAD_POINTER, NAME_LONG,
-    NAME_NOT_NETBIOS, NAME_POINTER, NAME_RESERVED_LABEL, NAME_TRUNCATED, RESERVED_FLAGS,
-    SOURCE_BAD_POINTER, SOURCE_BAD_TEXT, SOURCE_LONG, SOURCE_LONG_TEXT, SOURCE_NOT_NETBIOS,
-    SOURCE_POINTER, SOURCE_RESERVED_LABEL, SOURCE_TRUNCATED, TRAILING_BYTES, TRUNCATED,
-    UNKNOWN_TYPE,
+    DESTINATION_RESERVED_LABEL, DESTINATION_TRUNCATED, FULL, FULL_SOURCE, LONG, LONG_TEXT,
+    MISPLACED_FIRST, NAME_BAD_POINTER, NAME_LONG, NAME_NOT_NETBIOS, NAME_POINTER,
+    NAME_RESERVED_LABEL, NAME_TRUNCATED, NO_MEMORY, RESERVED_FLAGS, SECOND_BAD_MAGIC, SECOND_FULL,
+    SECOND_FULL_SOURCE, SECOND_LONG, SECOND_NOT_CANONICAL, SECOND_TRUNCATED, SOURCE_BAD_POINTER,
+    SOURCE_BAD_TEXT, SOURCE_LONG, SOURCE_LONG_TEXT, SOURCE_NOT_NETBIOS, SOURCE_POINTER,
+    SOURCE_RESERVED_LABEL, SOURCE_TRUNCATED, TABLE_BAD_MAGIC, TABLE_FULL, TABLE_FULL_SOURCE,
+    TABLE_LONG, TABLE_NOT_CANONICAL, TABLE_TRUNCATED, TRAILING_BYTES, TRUNCATED, UNKNOWN_TYPE,
 };
 use nb_datagram::DatagramFault;
 use nb_names::{NameFault, TextFault};
 use nb_session::SessionFault;
+use nb_table::{LoadFault, TableFault};
 
 /// Why a call does nothing: a status, and where the fault stands, if it has a place.
 #[derive(Clone, Copy, Debug, PartialEq, Eq)]
@@ -120,5 +126,59 @@ pub(crate) fn session_refusal(fault: SessionFault) -> Refusal
         SessionFault::BadLength => Refusal::Fault(BAD_LENGTH),
         SessionFault::Name(fault) => name_refusal(fault),
         SessionFault::TrailingBytes(place) => Refusal::FaultAt(TRAILING_BYTES, place),
+    }
+}
+
+/// Why a table doesn't take in a fragment, or another table.
+pub(crate) fn table_refusal(fault: TableFault) -> Refusal
+    ensures { result ≡ table_refusal fault }
+{
+    match fault {
+        TableFault::MisplacedFirst => Refusal::Fault(MISPLACED_FIRST),
+        TableFault::TooLong => Refusal::Fault(LONG),
+        TableFault::FullSource(_) => Refusal::Fault(FULL_SOURCE),
+        TableFault::Full(_) => Refusal::Fault(FULL),
+        TableFault::NoMemory => Refusal::Memory,
+    }
+}
+
+/// The status of a refusal.
+pub(crate) fn status_of(refusal: Refusal) -> u32
+    ensures { result ≡ refused_status refusal }
+{
+    match refusal {
+        Refusal::Memory => NO_MEMORY,
+        Refusal::Fault(status) => status,
+        Refusal::FaultAt(status, _) => status,
+    }
+}
+
+/// Why the first of two saved tables isn't read.
+pub(crate) fn first_refusal(fault: LoadFault) -> Refusal
+    ensures { result ≡ first_refusal fault }
+{
+    match fault {
+        LoadFault::BadMagic => Refusal::Fault(TABLE_BAD_MAGIC),
+        LoadFault::Truncated => Refusal::Fault(TABLE_TRUNCATED),
+        LoadFault::NotCanonical(at) => Refusal::FaultAt(TABLE_NOT_CANONICAL, at),
+        LoadFault::TooLong => Refusal::Fault(TABLE_LONG),
+        LoadFault::FullSource => Refusal::Fault(TABLE_FULL_SOURCE),
+        LoadFault::Full => Refusal::Fault(TABLE_FULL),
+        LoadFault::NoMemory => Refusal::Memory,
+    }
+}
+
+/// Why the second isn't read.
+pub(crate) fn second_refusal(fault: LoadFault) -> Refusal
+    ensures { result ≡ second_refusal fault }
+{
+    match fault {
+        LoadFault::BadMagic => Refusal::Fault(SECOND_BAD_MAGIC),
+        LoadFault::Truncated => Refusal::Fault(SECOND_TRUNCATED),
+        LoadFault::NotCanonical(at) => Refusal::FaultAt(SECOND_NOT_CANONICAL, at),
+        LoadFault::TooLong => Refusal::Fault(SECOND_LONG),
+        LoadFault::FullSource => Refusal::Fault(SECOND_FULL_SOURCE),
+        LoadFault::Full => Refusal::Fault(SECOND_FULL),
+        LoadFault::NoMemory => Refusal::Memory,
     }
 }

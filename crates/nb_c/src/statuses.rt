@@ -111,5 +111,59 @@ pub const ZERO_PIECE: u32 = 61;
 /// Data too long.
 pub const LONG_DATA: u32 = 62;
 
+/// Table: bad magic.
+pub const TABLE_BAD_MAGIC: u32 = 70;
+
+/// Table: truncated.
+pub const TABLE_TRUNCATED: u32 = 71;
+
+/// Table: not canonical.
+pub const TABLE_NOT_CANONICAL: u32 = 72;
+
+/// Table: too long.
+pub const TABLE_LONG: u32 = 73;
+
+/// Table: full source.
+pub const TABLE_FULL_SOURCE: u32 = 74;
+
+/// Table: full.
+pub const TABLE_FULL: u32 = 75;
+
+/// Second table: bad magic.
+pub const SECOND_BAD_MAGIC: u32 = 80;
+
+/// Second table: truncated.
+pub const SECOND_TRUNCATED: u32 = 81;
+
+/// Second table: not canonical.
+pub const SECOND_NOT_CANONICAL: u32 = 82;
+
+/// Second table: too long.
+pub const SECOND_LONG: u32 = 83;
+
+/// Second table: full source.
+pub const SECOND_FULL_SOURCE: u32 = 84;
+
+/// Second table: full.
+pub const SECOND_FULL: u32 = 85;
+
+/// Misplaced first.
+pub const MISPLACED_FIRST: u32 = 90;
+
+/// Too long.
+pub const LONG: u32 = 91;
+
+/// Full source.
+pub const FULL_SOURCE: u32 = 92;
+
+/// Full.
+pub const FULL: u32 = 93;
+
+/// Name: present.
+pub const NAME_PRESENT: u32 = 100;
+
+/// Too many names.
+pub const TOO_MANY_NAMES: u32 = 101;
+
 /// Unknown status.
 pub const UNKNOWN_STATUS: u32 = 255;

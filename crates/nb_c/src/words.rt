@@ -1,18 +1,21 @@
 //! The words of statuses (our choice).
 ghost use Rattle.std.specs.Prelude.{◌≡◌, option_map};
 ghost use Rattle.nb_c.specs.Outputs.{Answers};
-ghost use Rattle.nb_c.specs.Words.{status_answer, status_word, outcome_word, text_word, name_word, source_word, destination_word, packet_word, request_word};
+ghost use Rattle.nb_c.specs.Words.{status_answer, status_word, outcome_word, text_word, name_word, source_word, destination_word, packet_word, request_word, table_word, second_word, joining_word, station_word};
 
 use crate::output::put;
 use crate::statuses::{
     BAD_LENGTH, BAD_TEXT, DESTINATION_BAD_POINTER, DESTINATION_BAD_TEXT, DESTINATION_LONG,
     DESTINATION_LONG_TEXT, DESTINATION_NOT_NETBIOS, DESTINATION_POINTER,
-    DESTINATION_RESERVED_LABEL, DESTINATION_TRUNCATED, DONE, LONG_DATA, LONG_TEXT, MORE,
-    NAME_BAD_POINTER, NAME_LONG, NAME_NOT_NETBIOS, NAME_POINTER, NAME_RESERVED_LABEL,
-    NAME_TRAILING_BYTES, NAME_TRUNCATED, NO_MEMORY, NO_ROOM, RESERVED_FLAGS, SOURCE_BAD_POINTER,
-    SOURCE_BAD_TEXT, SOURCE_LONG, SOURCE_LONG_TEXT, SOURCE_NOT_NETBIOS, SOURCE_POINTER,
-    SOURCE_RESERVED_LABEL, SOURCE_TRUNCATED, TRAILING_BYTES, TRUNCATED, UNKNOWN_REQUEST,
-    UNKNOWN_STATUS, UNKNOWN_TYPE, ZERO_PIECE,
+    DESTINATION_RESERVED_LABEL, DESTINATION_TRUNCATED, DONE, FULL, FULL_SOURCE, LONG, LONG_DATA,
+    LONG_TEXT, MISPLACED_FIRST, MORE, NAME_BAD_POINTER, NAME_LONG, NAME_NOT_NETBIOS, NAME_POINTER,
+    NAME_PRESENT, NAME_RESERVED_LABEL, NAME_TRAILING_BYTES, NAME_TRUNCATED, NO_MEMORY, NO_ROOM,
+    RESERVED_FLAGS, SECOND_BAD_MAGIC, SECOND_FULL, SECOND_FULL_SOURCE, SECOND_LONG,
+    SECOND_NOT_CANONICAL, SECOND_TRUNCATED, SOURCE_BAD_POINTER, SOURCE_BAD_TEXT, SOURCE_LONG,
+    SOURCE_LONG_TEXT, SOURCE_NOT_NETBIOS, SOURCE_POINTER, SOURCE_RESERVED_LABEL, SOURCE_TRUNCATED,
+    TABLE_BAD_MAGIC, TABLE_FULL, TABLE_FULL_SOURCE, TABLE_LONG, TABLE_NOT_CANONICAL,
+    TABLE_TRUNCATED, TOO_MANY_NAMES, TRAILING_BYTES, TRUNCATED, UNKNOWN_REQUEST, UNKNOWN_STATUS,
+    UNKNOWN_TYPE, ZERO_PIECE,
 };
 
 /// Writes the words of a status: plain ASCII, without a line feed.
@@ -39,6 +42,10 @@ fn status_words(status: u32) -> Option<&'static str>
         4 => destination_words(status),
         5 => packet_words(status),
         6 => request_words(status),
+        7 => table_words(status),
+        8 => second_words(status),
+        9 => joining_words(status),
+        10 => station_words(status),
         _ => outcome_words(status),
     }
 }
@@ -140,6 +147,60 @@ fn request_words(status: u32) -> Option<&'static str>
         UNKNOWN_REQUEST => Some("unknown request"),
         ZERO_PIECE => Some("zero piece"),
         LONG_DATA => Some("data too long"),
+        _ => None,
+    }
+}
+
+/// The words of a status on a saved table.
+fn table_words(status: u32) -> Option<&'static str>
+    ensures { option_map (λ words. words.now) result ≡ table_word status }
+{
+    match status {
+        TABLE_BAD_MAGIC => Some("table: bad magic"),
+        TABLE_TRUNCATED => Some("table: truncated"),
+        TABLE_NOT_CANONICAL => Some("table: not canonical"),
+        TABLE_LONG => Some("table: too long"),
+        TABLE_FULL_SOURCE => Some("table: full source"),
+        TABLE_FULL => Some("table: full"),
+        _ => None,
+    }
+}
+
+/// The words of a status on the second of two saved tables.
+fn second_words(status: u32) -> Option<&'static str>
+    ensures { option_map (λ words. words.now) result ≡ second_word status }
+{
+    match status {
+        SECOND_BAD_MAGIC => Some("second table: bad magic"),
+        SECOND_TRUNCATED => Some("second table: truncated"),
+        SECOND_NOT_CANONICAL => Some("second table: not canonical"),
+        SECOND_LONG => Some("second table: too long"),
+        SECOND_FULL_SOURCE => Some("second table: full source"),
+        SECOND_FULL => Some("second table: full"),
+        _ => None,
+    }
+}
+
+/// The words of a status on a table that takes in no more.
+fn joining_words(status: u32) -> Option<&'static str>
+    ensures { option_map (λ words. words.now) result ≡ joining_word status }
+{
+    match status {
+        MISPLACED_FIRST => Some("misplaced first"),
+        LONG => Some("too long"),
+        FULL_SOURCE => Some("full source"),
+        FULL => Some("full"),
+        _ => None,
+    }
+}
+
+/// The words of a status on the names of a station.
+fn station_words(status: u32) -> Option<&'static str>
+    ensures { option_map (λ words. words.now) result ≡ station_word status }
+{
+    match status {
+        NAME_PRESENT => Some("name: present"),
+        TOO_MANY_NAMES => Some("too many names"),
         _ => None,
     }
 }

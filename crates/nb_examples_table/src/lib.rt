@@ -9,12 +9,12 @@
 #![tactic(auto)]
 
 mod caller;
+mod comparing;
 mod definitions;
 mod drawing;
 mod faults;
 mod held_against;
 mod inserting;
-mod joining;
 mod many;
 mod merging;
 mod reading;
@@ -50,8 +50,8 @@ pub fn answer(alloc: Global, call: &str, words: &mut Words<'_>) -> Result<String
 /// What another call answers.
 fn answer_more(alloc: Global, call: &str, words: &mut Words<'_>) -> Result<String, ExampleFault> {
     match call {
-        "cover" => joining::compared::<Cover>(alloc, words),
-        "entry" => joining::compared::<Entry>(alloc, words),
+        "cover" => comparing::compared::<Cover>(alloc, words),
+        "entry" => comparing::compared::<Entry>(alloc, words),
         "save" => saving::saved(alloc, words),
         "load" => saving::loaded(alloc, words),
         "loaded" => saving::inserts_after_load(alloc, words),

@@ -12,7 +12,7 @@ pub mod Comments
 pub mod Report
 pub mod LineRoom
 pub mod LineReading
-pub mod LinesSoFar
 pub mod Replaying
 pub mod LinesCame
 pub mod Code
+pub mod Shared

@@ -46,7 +46,7 @@ pub use outcome::{Dropped, Outcome};
 pub use pair::{Pair, two_members};
 pub use replay_fault::ReplayFault;
 pub use replaying::{replay, replay_with, replay_within};
-pub use report::texts::push_parts;
+pub use report::texts::{push_parts, push_result};
 pub use run_report::{RunReport, RunStop};
 pub use runs::run;
 pub use settings::Settings;

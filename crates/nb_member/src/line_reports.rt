@@ -68,7 +68,7 @@ fn act(alloc: Global, number: u64, said: &Line, member: &mut Member) -> Result<S
     ensures kept { KeepsStation member.old member.new }
 {
     match said {
-        Line::Tick { now } => look(alloc, number, *now, member),
+        Line::Tick { now } => tick(alloc, number, *now, member),
         Line::Packet {
             port,
             moment,
@@ -99,8 +99,8 @@ fn receive(
     take(alloc, number, moment, payload, member)
 }
 
-/// Looks at the clock.
-fn look(alloc: Global, number: u64, now: u64, member: &mut Member) -> Result<String, NoMemory>
+/// Looks at the clock, as a tick says.
+fn tick(alloc: Global, number: u64, now: u64, member: &mut Member) -> Result<String, NoMemory>
     ensures acted { IfOk result (λ text. (L : List Timed) → StandsOver member.old L →
         ReportsValue member.old L number (Line.Tick now) member.new (string_bytes text)) }
     ensures fault { OnErr result ((L : List Timed) → StandsOver member.old L →

@@ -32,7 +32,7 @@ name_of_labels-name name h =
     let long : length (letters name.bytes) ≡ 32 = omega (arith, length-letters name.bytes, h.sixteen) in
     rw (long, letters_pass name.bytes h.each, bytes_given_back name.bytes) refl
 
--- ---- labels that are no name's
+-- ---- labels of no NetBIOS name
 
 letter_is : (byte : ℕ) → is_letter byte ≡ true → IsLetter byte
 letter_is byte h =

@@ -8,6 +8,7 @@ pub mod FaultTexts
 pub mod Encoding
 pub mod Views
 pub mod Requests
+pub mod Responses
 pub mod Equality
 pub mod EqualityFacts
 pub mod Code

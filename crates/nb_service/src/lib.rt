@@ -24,6 +24,7 @@ mod rdata;
 mod reading;
 mod record;
 mod requests;
+mod responses;
 mod section;
 mod writing;
 
@@ -42,4 +43,5 @@ pub use question::Question;
 pub use rdata::Rdata;
 pub use record::{Record, RecordFault};
 pub use requests::{node_status_request, query, refresh, registration, release};
+pub use responses::response;
 pub use section::Section;

@@ -1,4 +1,4 @@
--- On specs/Cover and Code/Places: the bytes by place.
+-- On specs/Cover and Code/CoverFacts: the bytes by place.
 pub mod PlacedLemmas
 pub mod PutLemmas
-pub mod PlacesLemmas
+pub mod CoverFactsLemmas

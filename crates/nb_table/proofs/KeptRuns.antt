@@ -7,4 +7,4 @@ pub mod RunPlaceLemmas
 pub mod RunReadLemmas
 pub mod RunMapLemmas
 pub mod RunUniteLemmas
-pub mod RunPlacesLemmas
+pub mod RunFactsLemmas

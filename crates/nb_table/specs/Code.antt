@@ -4,7 +4,7 @@ pub mod Change
 pub mod State
 pub mod Fitting
 pub mod Parties
-pub mod Places
+pub mod CoverFacts
 pub mod Plain
 pub mod Each
 pub mod TakenBack

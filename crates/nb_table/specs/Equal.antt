@@ -6,9 +6,14 @@ use Rattle.std.specs.Ordering.{nat_cmp}
 use Rattle.std.specs.FinMap as maps
 use Rattle.nb_names.specs.Name.{name_eq}
 use Rattle.nb_datagram.specs.Kind.{same_kind}
+use Rattle.nb_table.specs.Slot.{Slot}
 use Rattle.nb_table.specs.Cover.{CoverFacts, CoverValue}
 use Rattle.nb_table.specs.Entry.{EntryFacts, EntryValue}
 use Rattle.nb_table.specs.Codes.{held}
+
+-- same_slot same a b: both are spoilt, or both hold facts that are the same
+abbrev pub same_slot : {X : Type 0} → (X → X → Bool) → Slot X → Slot X → Bool
+same_slot same a b = option_eq same (held a) (held b)
 
 -- the two have the same bytes at the same places
 abbrev pub same_bytes : maps.FinMap nat_cmp ℕ → maps.FinMap nat_cmp ℕ → Bool
@@ -21,7 +26,7 @@ same_cover_facts a b =
 
 -- the two covers are equal
 abbrev pub same_cover : CoverValue → CoverValue → Bool
-same_cover a b = option_eq same_cover_facts (held a) (held b)
+same_cover = same_slot same_cover_facts
 
 -- the two have the same kind, names and cover
 abbrev pub same_entry_facts : EntryFacts → EntryFacts → Bool
@@ -31,4 +36,4 @@ same_entry_facts a b =
 
 -- the two entries are equal
 abbrev pub same_entry : EntryValue → EntryValue → Bool
-same_entry a b = option_eq same_entry_facts (held a) (held b)
+same_entry = same_slot same_entry_facts

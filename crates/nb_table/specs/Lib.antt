@@ -30,4 +30,4 @@ pub mod SavedReading
 pub mod LoadFaults
 pub mod SavedExample
 pub mod Code
-pub mod Lemmas
+pub mod Shared

@@ -2,11 +2,9 @@
 --
 -- It is said once over the facts' type. Covers and entries are two cases of it.
 use Rattle.std.specs.Prelude.{Bool, cond}
-
--- spoilt by facts that contradict each other, or what all of them say together
-pub data Slot (X : Type 0) : Type 0 where
-  Spoilt : Slot X
-  Held : X → Slot X
+-- spoilt by facts that contradict each other, or what all of them say together: the code's own type
+pub use Rattle.nb_table.specs.declared.slot.Slot.{Slot}
+pub use Rattle.nb_table.specs.declared.slot.Slot.TheVariants.{Spoilt, Held}
 
 -- join_slot agree together a b: what one side has spoilt stays so, and facts that don't agree spoil it;
 -- otherwise the facts of both together

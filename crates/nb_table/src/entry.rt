@@ -1,61 +1,187 @@
 //! Entries: what is known of one datagram.
-ghost use Rattle.std.specs.Prelude.{◌≡◌, ◌≢◌, ◌≤◌, IfOk, OnOk, OnErr, Some, None};
+ghost use Rattle.std.specs.Prelude.{◌≡◌, ◌≢◌, ◌↔◌, ◌≤◌, ℕ, IfOk, OnOk, OnErr, IsTrue, Some, None, length, Ok};
 ghost use Rattle.nb_datagram.specs.Fragment.{core_of, reach};
 ghost use Rattle.nb_datagram.specs.declared.limits.TheConstants.{MAX_LENGTH};
 ghost use Rattle.nb_table.specs.Slot.{Spoilt, Held};
-ghost use Rattle.nb_table.specs.Entry.{facts_of, join_entry};
-ghost use Rattle.nb_table.specs.Limits.{IsShort};
+ghost use Rattle.nb_table.specs.Entry.{facts_agree, facts_of, join_entry};
+ghost use Rattle.nb_table.specs.Limits.{AreShort, IsShort};
+ghost use Rattle.nb_table.specs.Runs.{runs_of_map};
+ghost use Rattle.nb_table.specs.RunCount.{entry_run_count};
+ghost use Rattle.nb_table.specs.Whole.{IsWholeCover, bytes_to, datagram_with};
 ghost use Rattle.nb_table.specs.Code.Change.{KeyChange, change_of};
 ghost use Rattle.nb_table.specs.Code.State.{IsEntryState};
-ghost use Rattle.nb_table.specs.RunCount.{entry_run_count};
 
-mod joining;
+mod growing;
 mod reading;
+mod taking_in;
+mod uniting;
 mod whole;
 
 use crate::change::BoxedChange;
-use crate::facts::Facts;
+use crate::cover::CoverFacts;
+use crate::parties::Parties;
+use crate::slot::Slot;
 use crate::state::State;
-use nb_datagram::Fragment;
-use nb_names::NoMemory;
+use nb_datagram::{Datagram, Fragment, Key, Kind};
+use nb_names::{Bytes, Name, NoMemory};
 use std::alloc::Global;
 use std::marker::Model;
 
+/// The kind, both names, and the known bytes with their places.
+#[derive(Drop)]
+pub struct EntryFacts {
+    pub(crate) kind: Kind,
+    pub(crate) parties: Parties,
+    pub(crate) cover: CoverFacts,
+}
+
+impl Model for EntryFacts {
+    ghost use Rattle.nb_table.specs.Entry.{EntryFacts};
+    ghost use Rattle.nb_table.specs.Codes.{entry_facts_code};
+    ghost use Rattle.nb_table.specs.Cover.{AreCoverFacts};
+
+    ghost Value = { EntryFacts };
+
+    ghost coded = { entry_facts_code };
+
+    ghost view = { λ f. record {
+      kind = f.kind;
+      source = f.parties.source;
+      destination = f.parties.destination;
+      cover = f.cover;
+    } };
+
+    ghost invariant = { λ f. AreCoverFacts f.cover };
+}
+
+impl EntryFacts {
+    /// The facts of these parts. The names are copied.
+    pub(crate) fn new(
+        alloc: Global,
+        kind: Kind,
+        source: &Name,
+        destination: &Name,
+        cover: CoverFacts,
+    ) -> Result<EntryFacts, NoMemory>
+        ensures { IfOk result (λ facts. facts ≡ record {
+          kind = kind;
+          source = source.now;
+          destination = destination.now;
+          cover = cover;
+        }) }
+    {
+        let parties = Parties::copy(alloc, source, destination)?;
+        Ok(EntryFacts {
+            kind,
+            parties,
+            cover,
+        })
+    }
+
+    /// What one fragment says.
+    pub(crate) fn of(alloc: Global, fragment: &Fragment<'_>) -> Result<EntryFacts, NoMemory>
+        ensures { IfOk result (λ facts. facts ≡ facts_of (core_of fragment.now)) }
+    {
+        let cover = CoverFacts::of(alloc, fragment)?;
+        let kind = fragment.kind();
+        EntryFacts::new(
+            alloc,
+            kind,
+            fragment.source(),
+            fragment.destination(),
+            cover,
+        )
+    }
+
+    /// Whether a fragment doesn't contradict what is known.
+    pub(crate) fn agrees_with(&self, fragment: &Fragment<'_>) -> bool
+        ensures { result ≡ facts_agree self.now (facts_of (core_of fragment.now)) }
+    {
+        self.kind == fragment.kind()
+            && *self.parties.source() == *fragment.source()
+            && *self.parties.destination() == *fragment.destination()
+            && self.cover.agrees_with(fragment)
+    }
+
+    /// The datagram of the key with this kind, these names and these bytes.
+    fn datagram_from(&self, key: Key, bytes: Bytes) -> Datagram
+        requires { length bytes ≤ MAX_LENGTH }
+        ensures { result ≡ record {
+          key = key;
+          kind = self.now.kind;
+          source = self.now.source;
+          destination = self.now.destination;
+          bytes = bytes;
+        } }
+    {
+        let source = self.parties.source().copied();
+        let destination = self.parties.destination().copied();
+        Datagram::new(key, self.kind, source, destination, bytes).unwrap()
+    }
+
+    /// The datagram of the key with this kind and these names, and with these places, if they are
+    /// whole. No memory is taken where they aren't.
+    fn datagram(
+        &self,
+        alloc: Global,
+        key: Key,
+        cover: &CoverFacts,
+    ) -> Result<Option<Datagram>, NoMemory>
+        requires { (n : ℕ) → cover.now.end ≡ Some n → n ≤ MAX_LENGTH }
+        ensures value { IfOk result (λ datagram.
+            datagram ≡ datagram_with key self.now (bytes_to cover.now.bytes cover.now.end)) }
+        ensures no_memory_needed { bytes_to cover.now.bytes cover.now.end ≡ None
+            → result ≡ Ok None }
+    {
+        match cover.whole(alloc)? {
+            Some(bytes) => Ok(Some(self.datagram_from(key, bytes))),
+            None => Ok(None),
+        }
+    }
+
+    /// How many runs the bytes make up.
+    pub(crate) fn run_count(&self) -> u32
+        requires { AreShort MAX_LENGTH self.now }
+        ensures { result ≡ length (runs_of_map self.now.cover.bytes) }
+    {
+        self.cover.run_count() as u32
+    }
+
+    /// Whether the end and each byte before it are known.
+    pub(crate) fn is_whole(&self) -> bool
+        ensures { IsTrue result ↔ IsWholeCover self.now.cover }
+    {
+        self.cover.is_whole()
+    }
+}
+
+impl PartialEq for EntryFacts {
+    ghost use Rattle.nb_table.specs.Shared.EqualLemmas.{entry_facts_per};
+    ghost use Rattle.nb_table.specs.Equal.{same_entry_facts};
+
+    ghost eq = { same_entry_facts };
+
+    ghost laws = { entry_facts_per };
+
+    fn eq(&self, other: &Self) -> bool {
+        self.kind == other.kind
+            && *self.parties.source() == *other.parties.source()
+            && *self.parties.destination() == *other.parties.destination()
+            && self.cover == other.cover
+    }
+}
+
+impl Eq for EntryFacts {
+    ghost use Rattle.nb_table.specs.Shared.EqualLemmas.{entry_facts_equiv};
+
+    ghost laws = { entry_facts_equiv };
+}
+
 /// What is known of one datagram: its kind, both names and its cover; or spoilt, by facts that
 /// contradict each other.
-#[derive(Drop)]
-pub struct Entry {
-    pub(crate) facts: Option<Facts>,
-}
+pub type Entry = Slot<EntryFacts>;
 
-impl Model for Entry {
-    ghost use Rattle.nb_table.specs.Entry.{EntryValue, IsEntry};
-    ghost use Rattle.nb_table.specs.Codes.{slot_of, entry_code};
-
-    ghost Value = { EntryValue };
-
-    ghost coded = { entry_code };
-
-    ghost view = { λ e. slot_of e.facts };
-
-    ghost invariant = { λ e. IsEntry (slot_of e.facts) };
-}
-
-impl Entry {
-    /// What is held.
-    pub(crate) fn held(facts: Facts) -> Entry
-        ensures { result ≡ Held facts }
-    {
-        Entry { facts: Some(facts) }
-    }
-
-    /// A spoilt entry.
-    pub(crate) fn spoilt() -> Entry
-        ensures { result ≡ Spoilt }
-    {
-        Entry { facts: None }
-    }
-
+impl Slot<EntryFacts> {
     /// What one fragment says of its datagram. Memory is taken for its bytes.
     ///
     /// # Errors
@@ -64,8 +190,7 @@ impl Entry {
     pub fn of(alloc: Global, fragment: &Fragment<'_>) -> Result<Entry, NoMemory>
         ensures { IfOk result (λ entry. entry ≡ Held (facts_of (core_of fragment.now))) }
     {
-        let facts = Facts::of(alloc, fragment)?;
-        Ok(Entry { facts: Some(facts) })
+        Ok(Slot::Held(EntryFacts::of(alloc, fragment)?))
     }
 
     /// What one fragment says of its datagram, and what that changes at its key, which was new.
@@ -78,8 +203,8 @@ impl Entry {
         ensures change { IfOk result (λ made.
             KeyChange fragment.now.key None (Some made.0) (change_of made.1)) }
     {
-        let (facts, change) = Facts::first(alloc, fragment)?;
-        Ok((Entry { facts: Some(facts) }, change))
+        let (facts, change) = EntryFacts::first(alloc, fragment)?;
+        Ok((Slot::Held(facts), change))
     }
 
     /// Joins a fragment in place. All memory is taken before anything changes, and none where the
@@ -101,11 +226,11 @@ impl Entry {
         ensures more { OnErr result
             (join_entry self.old (Held (facts_of (core_of fragment.now))) ≢ self.old) }
     {
-        let Some(facts) = &mut self.facts else {
+        let Slot::Held(facts) = self else {
             return Ok(BoxedChange::Same);
         };
         if !facts.agrees_with(fragment) {
-            self.facts = None;
+            *self = Slot::Spoilt;
             return Ok(BoxedChange::Spoilt);
         }
         facts.grow(alloc, fragment)
@@ -116,9 +241,9 @@ impl Entry {
         requires { IsShort MAX_LENGTH self.now }
         ensures { result ≡ entry_run_count self.now }
     {
-        match &self.facts {
-            Some(facts) => Some(facts.run_count()),
-            None => None,
+        match self {
+            Slot::Held(facts) => Some(facts.run_count()),
+            Slot::Spoilt => None,
         }
     }
 
@@ -126,9 +251,9 @@ impl Entry {
     pub(crate) fn state(&self) -> State
         ensures { IsEntryState self.now result }
     {
-        match &self.facts {
-            None => State::Spoilt,
-            Some(facts) => {
+        match self {
+            Slot::Spoilt => State::Spoilt,
+            Slot::Held(facts) => {
                 if facts.is_whole() {
                     State::Whole
                 } else {
@@ -137,23 +262,4 @@ impl Entry {
             }
         }
     }
-}
-
-impl PartialEq for Entry {
-    ghost use Rattle.nb_table.specs.Lemmas.EqualLemmas.{entry_per};
-    ghost use Rattle.nb_table.specs.Equal.{same_entry};
-
-    ghost eq = { same_entry };
-
-    ghost laws = { entry_per };
-
-    fn eq(&self, other: &Self) -> bool {
-        self.facts == other.facts
-    }
-}
-
-impl Eq for Entry {
-    ghost use Rattle.nb_table.specs.Lemmas.EqualLemmas.{entry_equiv};
-
-    ghost laws = { entry_equiv };
 }

@@ -8,7 +8,7 @@ mod conflicting;
 mod equality;
 mod fitting;
 mod gathering;
-mod joining;
+mod join_laws;
 mod loading;
 mod parts;
 mod ranging;
@@ -44,7 +44,7 @@ pub use gathering::{
     table_of_a_list_is_the_only_one, table_of_a_list_is_well_formed,
     table_of_two_lists_is_the_join,
 };
-pub use joining::{
+pub use join_laws::{
     cover_join_is_associative, cover_join_is_commutative, cover_join_is_idempotent,
     cover_join_is_well_formed, entry_join_is_associative, entry_join_is_commutative,
     entry_join_is_idempotent, entry_join_is_well_formed, joining_a_fragment_changes_its_key,

@@ -1,5 +1,5 @@
 -- The keys that are marked are those at which two tables differ, ascending.
-use Rattle.std.proofs.Common.{◌≡◌, ◌&&◌, ◌||◌, cond, Bool, true, false, not, List, [], ◌∷◌, filter, map, Option, Some, None, is_some, IsTrue, ◌↔◌, true≢false, refl, sym, ◌∙◌, ap, ap₂, subst}
+use Rattle.std.proofs.Common.{◌≡◌, ◌&&◌, ◌||◌, cond, Bool, true, false, not, List, [], ◌∷◌, map, Option, Some, None, is_some, IsTrue, ◌↔◌, true≢false, refl, sym, ◌∙◌, ap, ap₂, subst}
 use Rattle.std.specs.Prelude.{T}
 use Rattle.std.specs.Option.{option_eq, option_map}
 use Rattle.std.specs.Ordering.{eq_by_cmp, is_lt}
@@ -14,11 +14,11 @@ use Rattle.nb_table.specs.Contents.{Contents}
 use Rattle.nb_table.specs.Entry.{EntryValue, join_entry}
 use Rattle.nb_table.specs.Equal.{same_entry}
 use Rattle.nb_table.specs.Join.{join}
-use Rattle.nb_table.specs.Lemmas.EqualLemmas.{options_decide, entry_decides}
-use Rattle.nb_table.specs.Lemmas.KeyCountLemmas.{entries_kept, keys_kept, get_kept}
-use Rattle.nb_table.specs.Lemmas.MapsLemmas.{one_key}
-use Rattle.nb_table.specs.Lemmas.SameLemmas.{key_cmp_total, key_cmp_exact}
-use Rattle.nb_table.specs.Lemmas.TableLemmas.{get-join}
+use Rattle.nb_table.specs.Shared.EqualLemmas.{options_decide, entry_decides}
+use Rattle.nb_table.specs.Shared.KeyCountLemmas.{entries_kept, keys_kept, get_kept}
+use Rattle.nb_table.specs.Shared.MapsLemmas.{one_key}
+use Rattle.nb_table.specs.Shared.SameLemmas.{key_cmp_total, key_cmp_exact}
+use Rattle.nb_table.specs.Shared.TableLemmas.{get-join}
 use Rattle.nbt.specs.Differences.{differ_at, differing}
 use Rattle.nbt.specs.Code.Marks.{Marks, with_mark, marked}
 

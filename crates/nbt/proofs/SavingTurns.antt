@@ -18,7 +18,7 @@ use Rattle.nb_member.specs.declared.outcome.Outcome.{Outcome}
 use Rattle.nb_member.specs.Capture.{Reads}
 use Rattle.nb_member.specs.LineReading.{ReadsLine}
 use Rattle.nb_member.specs.LineRoom.{RoomValue, nothing_within}
-use Rattle.nb_member.specs.LinesSoFar.{HandedOut, nothing_handed, Came, came, kept_are, none_over, was_reading, handed_more, handed_all, bytes_less, shows_unread, LongFirst, open_end, with_feed, long_first, long_line}
+use Rattle.nb_member.specs.Shared.LinesSoFar.{HandedOut, nothing_handed, Came, came, kept_are, none_over, was_reading, handed_more, handed_all, bytes_less, shows_unread, LongFirst, open_end, with_feed, long_first, long_line}
 use Rattle.nb_member.specs.Member.{MemberValue, contents}
 use Rattle.nb_member.specs.Taking.{Takes}
 use Rattle.nbt.specs.declared.settings.Capacity.{Capacity}

@@ -64,18 +64,18 @@ limited_app name = with_rule (with_rule (new_app name) keys_rule) per_source_rul
 abbrev pub name_app : App
 name_app = with_rule (with_rule (new_app (codes "name")) (flag_rule (codes "bytes"))) (value_rule (codes "VALUE"))
 
--- `show [--input-limit BYTES] [--comments]`
+-- `show [--input-limit BYTES] [--comments] [--json]`
 abbrev pub show_app : App
-show_app = with_rule (with_rule (new_app (codes "show")) input_limit_rule) (flag_rule (codes "comments"))
+show_app = with_rule (with_rule (with_rule (new_app (codes "show")) input_limit_rule) (flag_rule (codes "comments"))) (flag_rule (codes "json"))
 
 -- `build [--broadcast] WHAT ARG..`
 abbrev pub build_app : App
 build_app = with_rule (with_rule (with_rule (new_app (codes "build")) (flag_rule (codes "broadcast"))) (value_rule (codes "WHAT"))) (list_rule (codes "ARG"))
 
--- `replay [--keys N] [--per-source N] [--input-limit BYTES] [--comments] NAME..`
+-- `replay [--keys N] [--per-source N] [--input-limit BYTES] [--comments] [--json] NAME..`
 abbrev pub replay_app : App
 replay_app =
-    with_rule (with_rule (with_rule (limited_app (codes "replay")) input_limit_rule) (flag_rule (codes "comments"))) (some_rule (codes "NAME"))
+    with_rule (with_rule (with_rule (with_rule (limited_app (codes "replay")) input_limit_rule) (flag_rule (codes "comments"))) (flag_rule (codes "json"))) (some_rule (codes "NAME"))
 
 -- `save [--keys N] [--per-source N] [--input-limit BYTES]`
 abbrev pub save_app : App
@@ -85,9 +85,9 @@ save_app = with_rule (limited_app (codes "save")) input_limit_rule
 abbrev pub merge_app : App
 merge_app = limited_app (codes "merge")
 
--- `list [--keys N] [--per-source N]`
+-- `list [--keys N] [--per-source N] [--json]`
 abbrev pub list_app : App
-list_app = limited_app (codes "list")
+list_app = with_rule (limited_app (codes "list")) (flag_rule (codes "json"))
 
 -- `agree [--list]`
 abbrev pub agree_app : App

@@ -18,5 +18,6 @@ pub mod Tables
 pub mod Listing
 pub mod Code
 pub mod Showing
+pub mod Telling
 pub mod Built
 pub mod Refusals

@@ -47,6 +47,10 @@ abbrev pub IsListed : ArgMatches → Bool → Type 0
 IsListed matches true = one_text (found_of matches) (codes "list") ≡ Some (codes "true")
 IsListed matches false = one_text (found_of matches) (codes "list") ≡ Some (codes "false")
 
+-- the matches hold that `--json` isn't given
+abbrev pub IsText : ArgMatches → Type 0
+IsText matches = one_text (found_of matches) (codes "json") ≡ Some (codes "false")
+
 -- AreComments matches comments: comments are printed where the matches hold `true` for `--comments`, and left out where
 -- they hold `false` or nothing
 pub record AreComments (matches : ArgMatches) (comments : Comments) : Type 0 where

@@ -38,51 +38,52 @@ pub record ShowsLine (comments : Comments) (n : ℕ) (l text : List ℕ) : Type 
   pub reads : Reads l (Ok said)
   pub shows : ShowsSaid comments n l said text
 
--- ShowsLines comments n ls text: the texts of these lines, the first of which is line n, one after the other
-pub data ShowsLines (comments : Comments) : ℕ → List (List ℕ) → List ℕ → Type 0 where
-  none : (n : ℕ) → ShowsLines comments n [] []
-  more : (n : ℕ) (l text others : List ℕ) (ls : List (List ℕ)) → ShowsLine comments n l text → ShowsLines comments (n + 1) ls others
-      → ShowsLines comments n (l ∷ ls) (text ++ others)
+-- ShowsLines IsText n ls text: texts of these lines, the first of which is line n, one after the other; IsText n l text says
+-- which text line n has, where it is l
+pub data ShowsLines (IsText : ℕ → List ℕ → List ℕ → Type 0) : ℕ → List (List ℕ) → List ℕ → Type 0 where
+  none : (n : ℕ) → ShowsLines IsText n [] []
+  more : (n : ℕ) (l text others : List ℕ) (ls : List (List ℕ)) → IsText n l text → ShowsLines IsText (n + 1) ls others
+      → ShowsLines IsText n (l ∷ ls) (text ++ others)
 
 -- ---- what is printed
 
--- Prints comments ls before after: exactly the text of these lines of the capture, from the first, was printed
-pub record Prints (comments : Comments) (ls : List (List ℕ)) (before after : Option (List ℕ)) : Type 0 where
+-- Prints IsText ls before after: exactly the text of these lines of the capture, from the first, was printed
+pub record Prints (IsText : ℕ → List ℕ → List ℕ → Type 0) (ls : List (List ℕ)) (before after : Option (List ℕ)) : Type 0 where
   pub text : List ℕ
-  pub shows : ShowsLines comments 1 ls text
+  pub shows : ShowsLines IsText 1 ls text
   pub printed : Appends before after text
 
--- PrintsPart comments most bytes left before after: of an input of so many bytes at most, the text of some first lines was printed,
+-- PrintsPart IsText most bytes left before after: of an input of so many bytes at most, the text of some first lines was printed,
 -- and then a front of that of the next one
-pub record PrintsPart (comments : Comments) (most : ℕ) (bytes : List ℕ) (left before after : Option (List ℕ)) : Type 0 where
+pub record PrintsPart (IsText : ℕ → List ℕ → List ℕ → Type 0) (most : ℕ) (bytes : List ℕ) (left before after : Option (List ℕ)) : Type 0 where
   pub ready : List (List ℕ)
   pub next : List ℕ
   pub more : List (List ℕ)
   pub are_lines : AreLines most bytes left (ready ++ next ∷ more)
   pub text : List ℕ
-  pub shows : ShowsLines comments 1 ready text
+  pub shows : ShowsLines IsText 1 ready text
   pub front : List ℕ
   pub later : List ℕ
-  pub shows_next : ShowsLine comments (length ready + 1) next (front ++ later)
+  pub shows_next : IsText (length ready + 1) next (front ++ later)
   pub printed : Appends before after (text ++ front)
 
--- Shows comments most bytes left before after result: what is answered where these bytes came from an input of so many bytes at
+-- Shows IsText most bytes left before after result: what is answered where these bytes came from an input of so many bytes at
 -- most, with those left, and what was printed then: at each fault but that of a write the text of whole lines
-abbrev pub Shows : Comments → ℕ → List ℕ → Option (List ℕ) → Option (List ℕ) → Option (List ℕ) → Result Unit Fault → Type 0
-Shows comments most bytes left before after (Ok _) =
-    (lines : List (List ℕ)) × (rest : List ℕ) × CutInto bytes lines rest × IsWhole most bytes left × Prints comments (with_rest lines rest) before after
-Shows comments most bytes left before after (Err (Line n)) =
-    (lines : List (List ℕ)) × ComesMalformed most bytes left lines × (n ≡ length lines + 1) × Prints comments lines before after
-Shows comments most bytes left before after (Err Read) =
-    (lines : List (List ℕ)) × (rest : List ℕ) × CutInto (looked_at most bytes) lines rest × (length rest ≤ MAX_LINE) × Prints comments lines before after
-Shows comments most bytes left before after (Err Write) = PrintsPart comments most bytes left before after
-Shows comments most bytes left before after (Err Memory) =
-    (lines : List (List ℕ)) × (more : List (List ℕ)) × AreLines most bytes left (lines ++ more) × Prints comments lines before after
-Shows comments most bytes left before after (Err _) = ⊥
+abbrev pub Shows : (ℕ → List ℕ → List ℕ → Type 0) → ℕ → List ℕ → Option (List ℕ) → Option (List ℕ) → Option (List ℕ) → Result Unit Fault → Type 0
+Shows IsText most bytes left before after (Ok _) =
+    (lines : List (List ℕ)) × (rest : List ℕ) × CutInto bytes lines rest × IsWhole most bytes left × Prints IsText (with_rest lines rest) before after
+Shows IsText most bytes left before after (Err (Line n)) =
+    (lines : List (List ℕ)) × ComesMalformed most bytes left lines × (n ≡ length lines + 1) × Prints IsText lines before after
+Shows IsText most bytes left before after (Err Read) =
+    (lines : List (List ℕ)) × (rest : List ℕ) × CutInto (looked_at most bytes) lines rest × (length rest ≤ MAX_LINE) × Prints IsText lines before after
+Shows IsText most bytes left before after (Err Write) = PrintsPart IsText most bytes left before after
+Shows IsText most bytes left before after (Err Memory) =
+    (lines : List (List ℕ)) × (more : List (List ℕ)) × AreLines most bytes left (lines ++ more) × Prints IsText lines before after
+Shows IsText most bytes left before after (Err _) = ⊥
 
--- IsUnshown comments n l before after fault: why l, which is line n of the capture, isn't shown, or not whole
-abbrev pub IsUnshown : Comments → ℕ → List ℕ → Option (List ℕ) → Option (List ℕ) → Fault → Type 0
-IsUnshown comments n l before after (Line m) = (m ≡ n) × IsMalformed l × Keeps before after
-IsUnshown comments n l before after Memory = Keeps before after
-IsUnshown comments n l before after Write = (text : List ℕ) × ShowsLine comments n l text × AppendsFront before after text
-IsUnshown comments n l before after _ = ⊥
+-- IsUnshown IsText n l before after fault: why l, which is line n of the capture, isn't shown, or not whole
+abbrev pub IsUnshown : (ℕ → List ℕ → List ℕ → Type 0) → ℕ → List ℕ → Option (List ℕ) → Option (List ℕ) → Fault → Type 0
+IsUnshown IsText n l before after (Line m) = (m ≡ n) × IsMalformed l × Keeps before after
+IsUnshown IsText n l before after Memory = Keeps before after
+IsUnshown IsText n l before after Write = (text : List ℕ) × IsText n l text × AppendsFront before after text
+IsUnshown IsText n l before after _ = ⊥

@@ -79,7 +79,7 @@ fn name_command<'a>(alloc: Global) -> Result<Command<'a>, AllocError>
     taking(taking(Ok(name), bytes), value)
 }
 
-/// `show [--input-limit BYTES] [--comments]`.
+/// `show [--input-limit BYTES] [--comments] [--json]`.
 fn show_command<'a>(alloc: Global) -> Result<Command<'a>, AllocError>
     ensures app { IfOk result (λ command. app_of command ≡ show_app) }
     ensures local { IfOk result (λ command. (fields_of command).has_globals ≡ false) }
@@ -90,7 +90,8 @@ fn show_command<'a>(alloc: Global) -> Result<Command<'a>, AllocError>
         "Show the packets of the capture on standard input",
         SHOW_HELP,
     );
-    taking(taking(Ok(show), input_limit(alloc)), comments(alloc))
+    let show = taking(taking(Ok(show), input_limit(alloc)), comments(alloc));
+    taking(show, json(alloc))
 }
 
 /// `build [--broadcast] WHAT ARG..`.
@@ -110,7 +111,7 @@ fn build_command<'a>(alloc: Global) -> Result<Command<'a>, AllocError>
     taking(taking(taking(Ok(build), broadcast), what), words)
 }
 
-/// `replay [--keys N] [--per-source N] [--input-limit BYTES] [--comments] NAME..`.
+/// `replay [--keys N] [--per-source N] [--input-limit BYTES] [--comments] [--json] NAME..`.
 fn replay_command<'a>(alloc: Global) -> Result<Command<'a>, AllocError>
     ensures app { IfOk result (λ command. app_of command ≡ replay_app) }
     ensures local { IfOk result (λ command. (fields_of command).has_globals ≡ false) }
@@ -127,7 +128,7 @@ fn replay_command<'a>(alloc: Global) -> Result<Command<'a>, AllocError>
         "A name of the station, such as 'FRED<20>.NETBIOS.COM'",
     );
     let replay = taking(taking(replay, input_limit(alloc)), comments(alloc));
-    taking(replay, names)
+    taking(taking(replay, json(alloc)), names)
 }
 
 /// `save [--keys N] [--per-source N] [--input-limit BYTES]`.
@@ -157,17 +158,18 @@ fn merge_command<'a>(alloc: Global) -> Result<Command<'a>, AllocError>
     )
 }
 
-/// `list [--keys N] [--per-source N]`.
+/// `list [--keys N] [--per-source N] [--json]`.
 fn list_command<'a>(alloc: Global) -> Result<Command<'a>, AllocError>
     ensures app { IfOk result (λ command. app_of command ≡ list_app) }
     ensures local { IfOk result (λ command. (fields_of command).has_globals ≡ false) }
 {
-    limited(
+    let list = limited(
         alloc,
         "list",
         "Print what the saved tables on standard input, a line each, know together of each key",
         LIST_HELP,
-    )
+    );
+    taking(list, json(alloc))
 }
 
 /// `agree [--list]`.
@@ -244,6 +246,18 @@ fn comments<'a>(alloc: Global) -> Arg<'a>
         alloc,
         "comments",
         "Print the comments of the capture, each in its place",
+    )
+}
+
+/// `--json`.
+fn json<'a>(alloc: Global) -> Arg<'a>
+    ensures rule { rule_of result ≡ flag_rule (codes "json") }
+    ensures local { result.global ≡ false }
+{
+    flag(
+        alloc,
+        "json",
+        "Print JSON: an object for each line, in a line of its own",
     )
 }
 

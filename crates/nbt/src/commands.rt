@@ -2,6 +2,7 @@
 
 pub mod agree;
 pub mod build;
+pub mod forms;
 pub mod list;
 pub mod merge;
 pub mod name;

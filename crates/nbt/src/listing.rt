@@ -44,7 +44,11 @@ pub fn print_listing<W: Write>(
 }
 
 /// The lines of a table's keys, ascending.
-fn lines_of(alloc: Global, table: &Table) -> Result<String, NoMemory>
+///
+/// # Errors
+///
+/// `NoMemory` where memory ran out.
+pub fn lines_of(alloc: Global, table: &Table) -> Result<String, NoMemory>
     ensures { IfOk result (λ lines. string_bytes lines ≡ listing table.now.contents) }
 {
     let mut lines = String::new(alloc);

@@ -9,7 +9,8 @@ mod differences;
 mod fault;
 mod flushing;
 mod help;
-mod joining;
+mod joining_input;
+mod json_lines;
 mod lines;
 mod listing;
 mod output;
@@ -19,6 +20,7 @@ mod saved;
 mod settings;
 mod status;
 mod tables;
+mod telling;
 
 use crate::fault::Fault;
 use crate::flushing::{FlushingInput, SharedOutput};

@@ -13,12 +13,10 @@ use crate::clap_answer::ClapAnswer;
 use crate::command_line::command;
 use crate::commands::agree::run_agree;
 use crate::commands::build::run_build;
-use crate::commands::list::run_list;
+use crate::commands::forms::{list_in_form, replay_in_form, show_in_form};
 use crate::commands::merge::run_merge;
 use crate::commands::name::run_name;
-use crate::commands::replay::run_replay;
 use crate::commands::save::run_save;
-use crate::commands::show::run_show;
 use crate::fault::Fault;
 use crate::output::Output;
 use crate::refusals::refusals;
@@ -98,12 +96,12 @@ fn run_command<R: Read, W: Write>(
 {
     match matches.subcommand() {
         Some(("name", matches)) => done(run_name(alloc, matches, output)),
-        Some(("show", matches)) => done(run_show(alloc, matches, input, output)),
+        Some(("show", matches)) => done(show_in_form(alloc, matches, input, output)),
         Some(("build", matches)) => done(run_build(alloc, matches, output)),
-        Some(("replay", matches)) => done(run_replay(alloc, matches, input, output)),
+        Some(("replay", matches)) => done(replay_in_form(alloc, matches, input, output)),
         Some(("save", matches)) => done(run_save(alloc, matches, input, output)),
         Some(("merge", matches)) => done(run_merge(alloc, matches, input, output)),
-        Some(("list", matches)) => done(run_list(alloc, matches, input, output)),
+        Some(("list", matches)) => done(list_in_form(alloc, matches, input, output)),
         Some(("agree", matches)) => run_agree(alloc, matches, input, output),
         _ => Err(Fault::Arguments),
     }

@@ -1,6 +1,6 @@
 //! What the program's members and tables are set up with.
-ghost use Rattle.std.specs.Prelude.{◌≡◌, Bool, IfOk, IfErr};
-ghost use Rattle.nbt.specs.Settings.{AreComments, AreOptions, HasNoCapacity, IsCapacity, IsInputLimit, IsListed, program_settings};
+ghost use Rattle.std.specs.Prelude.{◌≡◌, Bool, false, IfOk, IfErr};
+ghost use Rattle.nbt.specs.Settings.{AreComments, AreOptions, HasNoCapacity, IsCapacity, IsInputLimit, IsListed, IsText, program_settings};
 
 use crate::fault::Fault;
 use clap::ArgMatches;
@@ -55,6 +55,13 @@ pub fn is_listed(matches: &ArgMatches<'_>) -> bool
     ensures { (list : Bool) → IsListed matches.now list → result ≡ list }
 {
     matches.get_flag("list")
+}
+
+/// Whether `--json` is given.
+pub fn is_json(matches: &ArgMatches<'_>) -> bool
+    ensures { IsText matches.now → result ≡ false }
+{
+    matches.get_flag("json")
 }
 
 /// Whether comments are printed: where `--comments` is given.

@@ -12,7 +12,7 @@ use Rattle.std.specs.Cmp.{unsigned_Decides}
 use Rattle.std.specs.Cmp.Lexicographic.{pointwise_decides}
 use Rattle.nb_table.specs.Contents.{Contents}
 use Rattle.nb_table.specs.KeyCounts.{held_keys, of_source}
-use Rattle.nb_table.specs.Lemmas.KeyCountLemmas.{held_is, get_kept}
+use Rattle.nb_table.specs.Shared.KeyCountLemmas.{held_is, get_kept}
 use Rattle.std.proofs.lemmas.Bool.{false≢true, cases_lt}
 
 pub cases_bool : (b : Bool) → (b ≡ true) ⊎ (b ≡ false)

@@ -2,7 +2,7 @@
 use Rattle.std.proofs.Common.{◌≡◌, ℕ, Bool, true, false, not, ◌&&◌, ◌||◌, ◌⊎◌, subst, cond, List, [], ◌∷◌, ◌++◌, refl, sym, ap, ◌∙◌, arith, Option, Some, None, inl, inr}
 use Rattle.std.specs.Prelude.{filter, nat_le, is_some}
 use Rattle.std.specs.FinMap as maps
-use Rattle.std.proofs.lemmas.Bool.{false≢true}
+use Rattle.std.proofs.lemmas.Bool.{false≢true, leb-true}
 use Rattle.std.proofs.lemmas.List.{append_assoc, append-nil}
 use Rattle.nb_datagram.specs.declared.key.Key.{Key}
 use Rattle.nb_datagram.specs.Key.{same_key}
@@ -12,8 +12,7 @@ use Rattle.nb_table.specs.Maps.{joined_at}
 use Rattle.nb_table.specs.Entry.{EntryValue, join_entry}
 use Rattle.nb_table.specs.Contents.{Contents, entry_in, entry_at, table_of}
 use Rattle.nb_table.specs.ConflictTests.{keyed, with_key}
-use Rattle.nb_table.specs.Lemmas.SameLemmas.{le_is}
-use Rattle.nb_table.specs.Lemmas.TableLemmas.{get-join}
+use Rattle.nb_table.specs.Shared.TableLemmas.{get-join}
 use Rattle.nb_table.specs.Join.{join, SameCores}
 use Rattle.nb_member.specs.declared.settings.Settings.{Settings}
 use Rattle.nb_member.proofs.LiveLemmas.KeyCounts.{cases_bool, HasKeysOf, fewer_keys_without, fewer_of_group, own_source}
@@ -131,12 +130,12 @@ room_for known settings L f V within =
           elim parts.1 [
             | inl source ↦
                 let more = fewer_of_group (of_source f.key.ip) (table_from L) (table_of (cores L ++ core_of f ∷ V)) f.key has parts.0 there (own_source f.key) in
-                let held = le_is settings.per_source (held_keys (of_source f.key.ip) (table_from L)) source in
+                let held = leb-true settings.per_source (held_keys (of_source f.key.ip) (table_from L)) source in
                 let most = within.sources f.key.ip in
                 absurd (omega (arith, most, held, more))
             | inr keys ↦
                 let more = fewer_keys_without (table_from L) (table_of (cores L ++ core_of f ∷ V)) f.key has parts.0 there in
-                let held = le_is settings.keys (maps.len (table_from L)) keys in
+                let held = leb-true settings.keys (maps.len (table_from L)) keys in
                 let most = within.keys in
                 absurd (omega (arith, most, held, more))
           ]

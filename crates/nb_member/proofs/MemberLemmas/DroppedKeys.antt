@@ -9,8 +9,8 @@ use Rattle.nb_datagram.specs.KeyOrder.{key_cmp_total, key_cmp_exact}
 use Rattle.nb_table.specs.Entry.{EntryValue}
 use Rattle.nb_table.specs.Contents.{Contents}
 use Rattle.nb_table.specs.Limits.{TableValue}
-use Rattle.nb_table.specs.Lemmas.MapsLemmas.{one_key, below_none, T_left, T_right}
-use Rattle.nb_table.specs.Lemmas.TableLemmas.{same_table}
+use Rattle.nb_table.specs.Shared.MapsLemmas.{one_key, below_none, T_left, T_right}
+use Rattle.nb_table.specs.Shared.TableLemmas.{same_table}
 use Rattle.std.proofs.lemmas.Bool.{false≢true}
 use Rattle.nb_member.proofs.LiveLemmas.KeyCounts.{fewer_keys}
 use Rattle.nb_member.specs.Live.{is_over}

@@ -2,7 +2,7 @@
 use Rattle.std.proofs.Common.{◌≡◌, ℕ, ◌≤◌, Bool, true, false, not, ◌&&◌, ◌||◌, inl, inr, cond, List, [], ◌∷◌, ◌++◌, refl, sym, ap, ◌∙◌, arith, Option, Some, None}
 use Rattle.std.specs.Prelude.{filter, nat_le, is_some}
 use Rattle.std.specs.FinMap as maps
-use Rattle.std.proofs.lemmas.Bool.{false≢true}
+use Rattle.std.proofs.lemmas.Bool.{false≢true, leb-true, le-leb}
 use Rattle.nb_datagram.specs.declared.key.Key.{Key}
 use Rattle.nb_datagram.specs.Key.{same_key}
 use Rattle.nb_datagram.specs.KeyOrder.{key_cmp_total, same_key_decides}
@@ -13,7 +13,6 @@ use Rattle.nb_table.specs.Contents.{Contents, table_of}
 use Rattle.nb_table.specs.Join.{join}
 use Rattle.nb_table.specs.KeyCounts.{held_keys, of_source}
 use Rattle.nb_table.specs.Limits.{Limits, IsFull, IsFullSource}
-use Rattle.nb_table.specs.Lemmas.SameLemmas.{le_is, is_le}
 use Rattle.nb_member.specs.declared.settings.Settings.{Settings}
 use Rattle.nb_member.proofs.MemberLemmas.DroppedKeys.{get-lasting}
 use Rattle.nb_member.proofs.LiveLemmas.KeyCounts.{cases_bool}
@@ -50,14 +49,14 @@ source_is : (t : Contents) (l : Limits) (settings : Settings) (L : List Timed) (
 source_is t l settings L k table limits most =
     let per_source : l.per_source ≡ settings.per_source = ap (λ (x : Limits). x.per_source) limits in
     let held : held_keys (of_source k.ip) t ≡ held_keys (of_source k.ip) (table_from L) = ap (held_keys (of_source k.ip)) table in
-    is_le settings.per_source (held_keys (of_source k.ip) (table_from L)) (omega (arith, per_source, held, most))
+    le-leb settings.per_source (held_keys (of_source k.ip) (table_from L)) (omega (arith, per_source, held, most))
 
 is_source_is : (t : Contents) (l : Limits) (settings : Settings) (L : List Timed) (k : Key) → t ≡ table_from L
     → l ≡ limits_of settings → is_source_full settings L k ≡ true → l.per_source ≤ held_keys (of_source k.ip) t
 is_source_is t l settings L k table limits full =
     let per_source : l.per_source ≡ settings.per_source = ap (λ (x : Limits). x.per_source) limits in
     let held : held_keys (of_source k.ip) t ≡ held_keys (of_source k.ip) (table_from L) = ap (held_keys (of_source k.ip)) table in
-    let most = le_is settings.per_source (held_keys (of_source k.ip) (table_from L)) full in
+    let most = leb-true settings.per_source (held_keys (of_source k.ip) (table_from L)) full in
     omega (arith, per_source, held, most)
 
 -- a key for which the table of what is live has no room is full
@@ -69,7 +68,7 @@ full_is t l settings L k table limits full =
     let most = full.no_room in
     full_from (maps.get (table_from L) k) _
     (ap (λ (u : Contents). maps.get u k) (sym table) ∙ full.is_new)
-    (or_right (is_source_full settings L k) _ (is_le settings.keys (maps.len (table_from L)) (omega (arith, keys, held, most))))
+    (or_right (is_source_full settings L k) _ (le-leb settings.keys (maps.len (table_from L)) (omega (arith, keys, held, most))))
 
 -- and so is one whose address has no room
 pub source_full_is : (t : Contents) (l : Limits) (settings : Settings) (L : List Timed) (k : Key) → t ≡ table_from L
@@ -87,7 +86,7 @@ is_full_is t l settings L k table limits full none =
     let keys : l.keys ≡ settings.keys = ap (λ (x : Limits). x.keys) limits in
     let held : maps.len t ≡ maps.len (table_from L) = ap (λ (u : Contents). maps.len u) table in
     let parts = full_to (maps.get (table_from L) k) _ full in
-    let most = le_is settings.keys (maps.len (table_from L)) (or_second (is_source_full settings L k) _ parts.1 none) in
+    let most = leb-true settings.keys (maps.len (table_from L)) (or_second (is_source_full settings L k) _ parts.1 none) in
     record {
       is_new = ap (λ (u : Contents). maps.get u k) table ∙ parts.0;
       no_room = omega (arith, keys, held, most);

@@ -6,15 +6,15 @@ use Rattle.nb_datagram.specs.declared.key.Key.{Key}
 use Rattle.nb_datagram.specs.Key.{key_cmp, same_key}
 use Rattle.nb_datagram.specs.KeyOrder.{key_cmp_total, same_key_decides}
 use Rattle.nb_datagram.specs.Fragment.{FragmentParts, Core, core_of}
-use Rattle.nb_table.specs.Slot.{Held}
+use Rattle.nb_table.specs.declared.slot.Slot.TheVariants.{Held}
 use Rattle.nb_table.specs.Maps.{joined_onto}
 use Rattle.nb_table.specs.Entry.{EntryValue, join_entry, facts_of}
 use Rattle.nb_table.specs.Contents.{Contents, table_of}
 use Rattle.nb_table.specs.Join.{join}
 use Rattle.nb_table.specs.Limits.{TableValue, IsFull, IsFullSource}
 use Rattle.nb_table.specs.Insert.{Takes as TableTakes, NeedsNoMemory, Passes, with_fragment}
-use Rattle.nb_table.specs.Lemmas.TableLemmas.{same_table}
-use Rattle.nb_table.specs.Lemmas.FragmentLemmas.{join_one, needs_new}
+use Rattle.nb_table.specs.Shared.TableLemmas.{same_table}
+use Rattle.nb_table.specs.Shared.FragmentLemmas.{join_one, needs_new}
 use Rattle.nb_member.specs.Member.{Moments, begun}
 use Rattle.nb_member.specs.Code.Timers.{HaveOneSetOfKeys}
 

@@ -16,7 +16,7 @@ use Rattle.nb_member.specs.Code.ReplayLines.{HasNoWholeReport}
 use Rattle.nb_member.specs.Code.Members.{KeepsStation}
 use Rattle.nb_member.specs.LineReading.{ReadsLine}
 use Rattle.nb_member.specs.LineRoom.{RoomValue}
-use Rattle.nb_member.specs.LinesSoFar.{cut_both, was_reading, came, kept_are, none_over, handed_more, handed_all, shows_unread, long_first}
+use Rattle.nb_member.specs.Shared.LinesSoFar.{cut_both, was_reading, came, kept_are, none_over, handed_more, handed_all, shows_unread, long_first}
 use Rattle.nb_member.specs.Live.{Timed, live_from, live}
 use Rattle.nb_member.specs.Member.{MemberValue, StandsOver, Stands}
 use Rattle.nb_member.specs.Replaying.{Replayed, Writes, Stops, Replays, AreLines, finished, ComesMalformed, ended, looked_at}

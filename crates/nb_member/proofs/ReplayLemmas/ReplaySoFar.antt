@@ -22,7 +22,7 @@ use Rattle.nb_member.specs.Report.{ReportOfLine, nothing, passed, taken, tick, R
 use Rattle.nb_member.specs.Replaying.{Replayed}
 use Rattle.nb_member.specs.LineReading.{ReadsLine}
 use Rattle.nb_member.specs.LineRoom.{RoomValue, nothing_within}
-use Rattle.nb_member.specs.LinesSoFar.{HandedOut, nothing_handed, handed_more, bytes_less}
+use Rattle.nb_member.specs.Shared.LinesSoFar.{HandedOut, nothing_handed, handed_more, bytes_less}
 
 -- ---- sayings
 

@@ -10,7 +10,7 @@ use Rattle.nb_table.specs.Maps.{first_of, joined_at}
 use Rattle.nb_table.specs.Entry.{EntryValue, join_entry}
 use Rattle.nb_table.specs.Contents.{Contents}
 use Rattle.nb_table.specs.Join.{join}
-use Rattle.nb_table.specs.Lemmas.MapsLemmas.{get-joined}
+use Rattle.nb_table.specs.Shared.MapsLemmas.{get-joined}
 use Rattle.nb_member.specs.Taking.{start_after}
 use Rattle.nb_member.specs.Member.{Moments, begun}
 use Rattle.nb_member.specs.Code.Timers.{begun_each, HaveOneSetOfKeys}

@@ -10,7 +10,12 @@ use nb_datagram::{Datagram, ErrorPacket, Key, Packet, encode, kind_name, push_ke
 use nb_names::{Name, NoMemory, push_data, push_digits, push_name};
 use std::alloc::Global;
 
-/// Adds what became of a payload.
+/// Adds what became of a payload that a member took or refused, as the report has it after the
+/// line's number.
+///
+/// # Errors
+///
+/// `NoMemory` where memory ran out; some of the text may then be added.
 pub fn push_result(
     alloc: Global,
     taken: &Result<Outcome, MemberFault>,

@@ -5,13 +5,13 @@ use Rattle.nb_datagram.specs.Datagram.{DatagramParts}
 use Rattle.nb_table.specs.Slot.{Spoilt, Held}
 use Rattle.nb_table.specs.Cover.{CoverFacts}
 use Rattle.nb_table.specs.Entry.{EntryFacts, EntryValue, FactsFit, facts_together, join_entry}
-use Rattle.nb_table.specs.Lemmas.EntryLemmas.{facts_agree_of}
-use Rattle.nb_table.specs.Code.Places.{Holds}
+use Rattle.nb_table.specs.Shared.EntryLemmas.{facts_agree_of}
+use Rattle.nb_table.specs.Code.CoverFacts.{Holds}
 use Rattle.nb_table.specs.Whole.{bytes_to, datagram_with, datagram_of, newly}
 use Rattle.nb_table.specs.Code.Change.{KeyChange, grown_to}
-use Rattle.nb_table.specs.Lemmas.CoverLemmas.{together_held}
+use Rattle.nb_table.specs.Shared.CoverLemmas.{together_held}
 use Rattle.nb_table.proofs.Wholeness.WholeLemmas.{below_found}
-use Rattle.nb_table.proofs.Covers.PlacesLemmas.{together_holds}
+use Rattle.nb_table.proofs.Covers.CoverFactsLemmas.{together_holds}
 
 -- facts that are held add nothing
 pub facts_held : (a b : EntryFacts) → Holds a.cover b.cover → a ≡ facts_together a b

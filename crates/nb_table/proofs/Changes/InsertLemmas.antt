@@ -23,15 +23,15 @@ use Rattle.nb_table.proofs.Limits.GroupLemmas.{few_insert}
 use Rattle.nb_table.specs.Change.{IsChange}
 use Rattle.nb_table.specs.Code.Change.{KeyChange}
 use Rattle.nb_table.specs.Insert.{NeedsNoMemory, spoilt, contradicts, held, Passes, Lacks, Refuses}
-use Rattle.nb_table.specs.Lemmas.SameLemmas.{key_cmp_total, key_cmp_exact, same_key_decides}
-use Rattle.nb_table.specs.Lemmas.CoverLemmas.{bytes_below_both, first_either}
-use Rattle.nb_table.specs.Lemmas.PromiseLemmas.{greater_either, promise_of_decides}
-use Rattle.nb_table.specs.Lemmas.EntryLemmas.{facts_fit_of}
+use Rattle.nb_table.specs.Shared.SameLemmas.{key_cmp_total, key_cmp_exact, same_key_decides}
+use Rattle.nb_table.specs.Shared.CoverLemmas.{bytes_below_both, first_either}
+use Rattle.nb_table.specs.Shared.PromiseLemmas.{greater_either, promise_of_decides}
+use Rattle.nb_table.specs.Shared.EntryLemmas.{facts_fit_of}
 use Rattle.nb_table.proofs.Covers.PlacedLemmas.{end_of_decides}
-use Rattle.nb_table.proofs.Covers.PlacesLemmas.{below_by_reach}
-use Rattle.nb_table.specs.Lemmas.TableLemmas.{join_formed}
+use Rattle.nb_table.proofs.Covers.CoverFactsLemmas.{below_by_reach}
+use Rattle.nb_table.specs.Shared.TableLemmas.{join_formed}
 use Rattle.nb_table.proofs.Contents.ContentsLemmas.{table_of_formed}
-use Rattle.nb_table.specs.Lemmas.FragmentLemmas.{join_one, insert_at, needs_new}
+use Rattle.nb_table.specs.Shared.FragmentLemmas.{join_one, insert_at, needs_new}
 use Rattle.std.proofs.lemmas.Bool.{cases_lt}
 
 -- ---- no memory is needed

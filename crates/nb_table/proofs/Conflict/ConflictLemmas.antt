@@ -1,5 +1,6 @@
 -- The tests of conflict and spoiling are the relations.
 use Rattle.std.proofs.Common.{◌≡◌, ◌≢◌, ◌≤◌, ◌↔◌, ◌||◌, ◌⊎◌, inl, inr, ℕ, Bool, true, false, cond, not, List, [], ◌∷◌, Contains, filter, Option, Some, None, refl, sym, ◌∙◌, ap, subst, arith, nat_lt, Decides}
+use Rattle.std.proofs.lemmas.Bool.{eq-eqb, ltb-false}
 use Rattle.std.specs.Cmp.{nat_cmp_total}
 use Rattle.std.specs.List.{list_any}
 use Rattle.std.specs.FinMap as map
@@ -15,12 +16,12 @@ use Rattle.nb_table.specs.Conflict.{PastEnd, BreaksPromise, Conflict, kinds, sou
 use Rattle.nb_table.specs.ConflictTests.{conflicts, some_conflict, with_key, is_spoilt}
 use Rattle.nb_names.specs.Name.{name_eq}
 use Rattle.nb_names.specs.NameFacts.{name_eq_decides}
-use Rattle.nb_table.specs.Lemmas.MapsLemmas.{and_fails, entry_fails}
-use Rattle.nb_table.specs.Lemmas.SameLemmas.{is_eq, not_lt, refutes, same_kind_decides, same_key_decides}
+use Rattle.nb_table.specs.Shared.MapsLemmas.{and_fails, entry_fails}
+use Rattle.nb_table.specs.Shared.SameLemmas.{refutes, same_kind_decides, same_key_decides}
 use Rattle.nb_table.proofs.Covers.PlacedLemmas.{get-cover_of, byte_of_decides, end_of_decides, cover_of_formed}
-use Rattle.nb_table.specs.Lemmas.CoverLemmas.{bytes_below_decides}
-use Rattle.nb_table.specs.Lemmas.PromiseLemmas.{promise_of_decides}
-use Rattle.nb_table.specs.Lemmas.EntryLemmas.{facts_fit_of, entry_agrees, facts_unite}
+use Rattle.nb_table.specs.Shared.CoverLemmas.{bytes_below_decides}
+use Rattle.nb_table.specs.Shared.PromiseLemmas.{promise_of_decides}
+use Rattle.nb_table.specs.Shared.EntryLemmas.{facts_fit_of, entry_agrees, facts_unite}
 use Rattle.nb_table.proofs.Contents.OrderFreeLemmas.{in_cons, in_first, in_rest, in_none}
 
 -- ---- where a test fails
@@ -33,7 +34,7 @@ covered f i x c = get-cover_of f i ∙ (byte_of_decides f i x).1 c
 
 differs : (o : Option ℕ) (x : ℕ) → same_where o x ≡ false → (y : ℕ) × (o ≡ Some y) × (x ≢ y)
 differs None x e = absurd (cc)
-differs (Some y) x e = (y, refl, λ h. (let clash : true ≡ false = sym (is_eq y x (sym h)) ∙ e in cc clash))
+differs (Some y) x e = (y, refl, λ h. (let clash : true ≡ false = sym (eq-eqb y x (sym h)) ∙ e in cc clash))
 
 two_ends : (o p : Option ℕ) → ends_agree o p ≡ false → (m n : ℕ) × (o ≡ Some m) × (p ≡ Some n) × (m ≢ n)
 two_ends None p e = absurd (cc)
@@ -45,7 +46,7 @@ past (Some n) c e = (n, refl, e)
 
 not_before : (o : Option ℕ) (n : ℕ) → is_before o n ≡ false → (r : ℕ) × (o ≡ Some r) × (n ≤ r)
 not_before None n e = absurd (cc)
-not_before (Some r) n e = (r, refl, not_lt r n e)
+not_before (Some r) n e = (r, refl, ltb-false r n e)
 
 -- g covers a place at or past an end of f
 pub past_from : (f g : Core) (n i x : ℕ) → EndsAt f n → Covers g i x → n ≤ i → PastEnd f g
@@ -59,7 +60,7 @@ past_place f g p = found (bytes_lie_below p.end (cover_of g).bytes) refl
     found true e = absurd (p.past ((bytes_below_decides p.end (cover_of g).bytes).0 e))
     found false e =
         let w = entry_fails nat_cmp_total nat_cmp-IsAntisymmetric (λ i _. nat_lt i p.end) (cover_of g).bytes e in
-        (p.end, w.key, w.value, p.ends, covers g w.key w.value w.found, not_lt w.key p.end w.fails)
+        (p.end, w.key, w.value, p.ends, covers g w.key w.value w.found, ltb-false w.key p.end w.fails)
 
 pub past_end_exactly : (f g : Core) → PastEnd f g ↔ ((n i x : ℕ) × EndsAt f n × Covers g i x × (n ≤ i))
 past_end_exactly f g = (past_place f g, λ w. past_from f g w.0 w.1 w.2 w.3 w.4 w.5)

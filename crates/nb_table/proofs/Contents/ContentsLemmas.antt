@@ -15,13 +15,13 @@ use Rattle.nb_table.specs.Entry.{EntryFacts, EntryValue, facts_agree, facts_toge
 use Rattle.nb_table.specs.ConflictTests.{conflicts, some_conflict, with_key}
 use Rattle.nb_table.specs.Contents.{first_byte, all_placed, cover_in, facts_in, entry_in, entry_at, table_of}
 use Rattle.nb_table.specs.Join.{join, IsTable}
-use Rattle.nb_table.specs.Lemmas.MapsLemmas.{at-assoc}
-use Rattle.nb_table.specs.Lemmas.SlotLemmas.{agree_union}
-use Rattle.nb_table.specs.Lemmas.CoverLemmas.{same_cover, in_union}
+use Rattle.nb_table.specs.Shared.MapsLemmas.{at-assoc}
+use Rattle.nb_table.specs.Shared.SlotLemmas.{agree_union}
+use Rattle.nb_table.specs.Shared.CoverLemmas.{same_cover, in_union}
 use Rattle.nb_table.proofs.Covers.PlacedLemmas.{find-placed, find-append, cover_of_formed}
-use Rattle.nb_table.specs.Lemmas.EntryLemmas.{facts_unite, join_entry-assoc}
-use Rattle.nb_table.specs.Lemmas.TableLemmas.{same_table, get-join, at_formed}
-use Rattle.nb_table.specs.Lemmas.FragmentLemmas.{facts_in-one, or_left, or_right, get-table_of}
+use Rattle.nb_table.specs.Shared.EntryLemmas.{facts_unite, join_entry-assoc}
+use Rattle.nb_table.specs.Shared.TableLemmas.{same_table, get-join, at_formed}
+use Rattle.nb_table.specs.Shared.FragmentLemmas.{facts_in-one, or_left, or_right, get-table_of}
 
 -- ---- the cover of fragments
 

@@ -4,8 +4,8 @@ use Rattle.nb_datagram.specs.Fragment.{Core, Covers, EndsAt, byte_of, end_of_one
 use Rattle.nb_table.specs.Maps.{first_of}
 use Rattle.nb_table.specs.Promise.{Promises, promise_of_one}
 use Rattle.nb_table.specs.Contents.{first_byte, first_end, greatest_promise}
-use Rattle.nb_table.specs.Lemmas.CoverLemmas.{first_either}
-use Rattle.nb_table.specs.Lemmas.PromiseLemmas.{promise_of_decides, greater_either, greater_left, greater_right}
+use Rattle.nb_table.specs.Shared.CoverLemmas.{first_either}
+use Rattle.nb_table.specs.Shared.PromiseLemmas.{promise_of_decides, greater_either, greater_left, greater_right}
 use Rattle.nb_table.proofs.Covers.PlacedLemmas.{byte_of_decides, end_of_decides}
 use Rattle.nb_table.proofs.Contents.OrderFreeLemmas.{in_none, in_first, in_rest, in_cons}
 

@@ -10,10 +10,10 @@ use Rattle.nb_table.specs.Entry.{EntryFacts, EntryValue}
 use Rattle.nb_table.specs.Conflict.{Conflict, overlap, ends, IsSpoilt}
 use Rattle.nb_table.specs.ConflictTests.{some_conflict, with_key}
 use Rattle.nb_table.specs.Contents.{Contents, facts_in, entry_in, table_of, Says, IsEntryOf, IsTableOf, HasByte, HasEnd, HasPromise}
-use Rattle.nb_table.specs.Lemmas.CoverLemmas.{same_cover}
-use Rattle.nb_table.specs.Lemmas.TableLemmas.{same_table}
+use Rattle.nb_table.specs.Shared.CoverLemmas.{same_cover}
+use Rattle.nb_table.specs.Shared.TableLemmas.{same_table}
 use Rattle.nb_table.proofs.Contents.ContentsLemmas.{get-cover_in}
-use Rattle.nb_table.specs.Lemmas.FragmentLemmas.{get-table_of}
+use Rattle.nb_table.specs.Shared.FragmentLemmas.{get-table_of}
 use Rattle.nb_table.proofs.Conflict.ConflictLemmas.{is_spoilt_decides, with_key_in, in_with_key}
 use Rattle.nb_table.proofs.Contents.OrderFreeLemmas.{in_first, in_none}
 use Rattle.nb_table.proofs.Contents.FirstLemmas.{first_byte_from, first_end_from, first_byte_there, first_end_there, greatest_promise_from, greatest_promise_there}

@@ -1,5 +1,6 @@
 -- The bytes of a fragment with their places, and what a look-up finds among them.
 use Rattle.std.proofs.Common.{◌≡◌, ◌≢◌, ◌<◌, ◌≤◌, ◌+◌, ◌-◌, ◌==◌, ◌++◌, ℕ, suc, Bool, true, false, cond, List, [], ◌∷◌, slice_get, nat_le, Option, Some, None, refl, sym, ◌∙◌, ap, arith}
+use Rattle.std.proofs.lemmas.Bool.{eqb-true, eq-eqb, leb-true, le-leb, leb-false, lt-leb}
 use Rattle.std.proofs.lemmas.Option.{slice_get_within}
 use Rattle.std.specs.declared.cmp.Ordering.{Ordering}
 use Rattle.std.specs.Ordering.{nat_cmp, eq_by_cmp}
@@ -8,8 +9,7 @@ use Rattle.std.specs.FinMap as map
 use Rattle.nb_datagram.specs.Fragment.{Core, Covers, EndsAt, reach, byte_of, end_of_one}
 use Rattle.nb_table.specs.Maps.{first_of}
 use Rattle.nb_table.specs.Cover.{placed, cover_of, AreCoverFacts}
-use Rattle.nb_table.specs.Lemmas.PromiseLemmas.{promise_of_decides}
-use Rattle.nb_table.specs.Lemmas.SameLemmas.{eq_is, is_eq, le_is, is_le, not_le, le_not}
+use Rattle.nb_table.specs.Shared.PromiseLemmas.{promise_of_decides}
 
 -- ---- one fragment
 
@@ -19,22 +19,22 @@ cond_same false x = refl
 
 placed_step : (i x q : ℕ) (xs : List ℕ) (rest : Option ℕ) → rest ≡ cond (nat_le (i + 1) q) (slice_get xs (q - (i + 1))) None → (b : Bool) → (q == i) ≡ b → (c : Bool) → nat_le i q ≡ c → cond b (Some x) rest ≡ cond c (slice_get (x ∷ xs) (q - i)) None
 placed_step i x q xs rest r true e true f =
-    let here : q ≡ i = eq_is q i e in
+    let here : q ≡ i = eqb-true q i e in
     let zero : q - i ≡ 0 = omega arith in
     sym (ap (slice_get (x ∷ xs)) zero)
 placed_step i x q xs rest r true e false f =
-    let here : q ≡ i = eq_is q i e in
-    let below : q < i = not_le i q f in
+    let here : q ≡ i = eqb-true q i e in
+    let below : q < i = leb-false i q f in
     absurd (omega arith)
 placed_step i x q xs rest r false e true f =
-    let from : i ≤ q = le_is i q f in
-    let other : q ≢ i = λ h. (let clash : true ≡ false = sym (is_eq q i h) ∙ e in cc clash) in
+    let from : i ≤ q = leb-true i q f in
+    let other : q ≢ i = λ h. (let clash : true ≡ false = sym (eq-eqb q i h) ∙ e in cc clash) in
     let past : i + 1 ≤ q = omega (arith, from, other) in
     let next : q - i ≡ suc (q - (i + 1)) = omega arith in
-    r ∙ ap (λ b. cond b (slice_get xs (q - (i + 1))) None) (is_le (i + 1) q past) ∙ sym (ap (slice_get (x ∷ xs)) next)
+    r ∙ ap (λ b. cond b (slice_get xs (q - (i + 1))) None) (le-leb (i + 1) q past) ∙ sym (ap (slice_get (x ∷ xs)) next)
 placed_step i x q xs rest r false e false f =
-    let below : q < i = not_le i q f in
-    r ∙ ap (λ b. cond b (slice_get xs (q - (i + 1))) None) (le_not (i + 1) q (omega arith))
+    let below : q < i = leb-false i q f in
+    r ∙ ap (λ b. cond b (slice_get xs (q - (i + 1))) None) (lt-leb (i + 1) q (omega arith))
 
 pub find-placed : (i : ℕ) (xs : List ℕ) (q : ℕ) → map.find nat_cmp q (placed i xs) ≡ cond (nat_le i q) (slice_get xs (q - i)) None
 find-placed i [] q = cond_same (nat_le i q) None
@@ -53,8 +53,8 @@ taken false o x e = absurd (cc)
 
 pub byte_of_decides : (f : Core) (i x : ℕ) → (byte_of f i ≡ Some x → Covers f i x) × (Covers f i x → byte_of f i ≡ Some x)
 byte_of_decides f i x = (
-  λ e. let both = taken (nat_le f.offset i) (slice_get f.bytes (i - f.offset)) x e in (le_is f.offset i both.0, both.1),
-  λ c. ap (λ b. cond b (slice_get f.bytes (i - f.offset)) None) (is_le f.offset i c.0) ∙ c.1,
+  λ e. let both = taken (nat_le f.offset i) (slice_get f.bytes (i - f.offset)) x e in (leb-true f.offset i both.0, both.1),
+  λ c. ap (λ b. cond b (slice_get f.bytes (i - f.offset)) None) (le-leb f.offset i c.0) ∙ c.1,
 )
 
 ended : (b : Bool) (m n : ℕ) → cond b None (Some m) ≡ Some n → (b ≡ false) × (m ≡ n)

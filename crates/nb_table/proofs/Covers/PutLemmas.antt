@@ -1,18 +1,18 @@
 -- Bytes put into a map from a place on, and the bytes that a fragment has.
 use Rattle.std.proofs.Common.{◌≡◌, ◌<◌, ℕ, ◌+◌, ◌-◌, slice_get, List, [], ◌∷◌, Bool, true, false, cond, Option, Some, None, refl, sym, ◌∙◌, ap, arith}
+use Rattle.std.proofs.lemmas.Bool.{lt-leb}
 use Rattle.std.specs.Ordering.{nat_cmp, eq_by_cmp}
 use Rattle.std.specs.Cmp.{nat_cmp_total}
 use Rattle.std.specs.FinMap as maps
 use Rattle.std.specs.FinMap.{nat_cmp-IsAntisymmetric}
 use Rattle.nb_table.specs.Maps.{first_of}
 use Rattle.nb_table.specs.Cover.{placed}
-use Rattle.nb_table.specs.Code.Places.{with_bytes}
-use Rattle.nb_table.specs.Lemmas.MapsLemmas.{one_key}
+use Rattle.nb_table.specs.Code.CoverFacts.{with_bytes}
+use Rattle.nb_table.specs.Shared.MapsLemmas.{one_key}
 use Rattle.nb_table.proofs.Covers.PlacedLemmas.{find-placed}
-use Rattle.nb_table.specs.Lemmas.SameLemmas.{le_not}
 
 find_before : (q i : ℕ) (xs : List ℕ) → q < i → maps.find nat_cmp q (placed i xs) ≡ None
-find_before q i xs h = find-placed i xs q ∙ ap (λ b. cond b (slice_get xs (q - i)) None) (le_not i q h)
+find_before q i xs h = find-placed i xs q ∙ ap (λ b. cond b (slice_get xs (q - i)) None) (lt-leb i q h)
 
 -- what a place has once the bytes are put
 pub get-with_bytes : (m : maps.FinMap nat_cmp ℕ) (i : ℕ) (xs : List ℕ) (q : ℕ) → maps.get (with_bytes m i xs) q ≡ first_of (maps.find nat_cmp q (placed i xs)) (maps.get m q)

@@ -1,6 +1,6 @@
 -- The map of the code's runs: what its tests and changes say of it.
 use Rattle.std.proofs.Common.{◌≡◌, ◌+◌, ◌-◌, ◌==◌, ℕ, zero, suc, inl, inr, Bool, true, false, List, [], ◌∷◌, length, get_or, slice_get, Option, Some, None, refl, sym, ap, ap₂, ◌∙◌, subst, arith}
-use Rattle.std.proofs.lemmas.Bool.{cases_lt}
+use Rattle.std.proofs.lemmas.Bool.{cases_lt, eqb-true, eq-eqb}
 use Rattle.std.proofs.lemmas.List.{take_all, length-map}
 use Rattle.std.proofs.lemmas.Option.{slice_get-get_or, slice_get_past}
 use Rattle.std.specs.List.{list_all}
@@ -11,13 +11,12 @@ use Rattle.std.specs.FinMap as maps
 use Rattle.std.specs.FinMap.{nat_cmp-IsAntisymmetric}
 use Rattle.nb_table.specs.Cover.{placed, same_where, bytes_agree}
 use Rattle.nb_table.specs.Maps.{first_of, union}
-use Rattle.nb_table.specs.Code.Places.{AreCovered, is_there, with_bytes}
+use Rattle.nb_table.specs.Code.CoverFacts.{AreCovered, is_there, with_bytes}
 use Rattle.nb_table.specs.Runs.{RunValue, AreApart, map_of_runs, runs_of_map}
 use Rattle.nb_table.specs.Whole.{bytes_below}
 use Rattle.nb_table.specs.Code.RunSteps.{values_of, run_at, byte_in, look_in, look_with, Agree, IsPut, AreBetween, Lacks, AreFirst, LacksOne, RowsAgree, IsUnion}
 use Rattle.nb_table.specs.declared.cover.runs.Run.{Run}
-use Rattle.nb_table.specs.Lemmas.MapsLemmas.{and_left, and_right, and_both, get-union, all_entries_found, all_entries_from}
-use Rattle.nb_table.specs.Lemmas.SameLemmas.{eq_is, is_eq}
+use Rattle.nb_table.specs.Shared.MapsLemmas.{and_left, and_right, and_both, get-union, all_entries_found, all_entries_from}
 use Rattle.nb_table.proofs.Covers.PlacedLemmas.{find-placed}
 use Rattle.nb_table.proofs.Covers.PutLemmas.{get-with_bytes}
 use Rattle.nb_table.proofs.Runs.RunsLemmas.{runs_back}
@@ -49,19 +48,19 @@ test_each P i xs h q x e = let has = has_of (run_at i xs) q x e in let from = ha
 
 same_value : (o : Option ℕ) (x y : ℕ) → same_where o x ≡ true → o ≡ Some y → y ≡ x
 same_value None x y h e = absurd (cc)
-same_value (Some z) x y h e = let one : z ≡ y = cc in sym one ∙ eq_is z x h
+same_value (Some z) x y h e = let one : z ≡ y = cc in sym one ∙ eqb-true z x h
 
 value_same : (o : Option ℕ) (x : ℕ) → ((y : ℕ) → o ≡ Some y → y ≡ x) → same_where o x ≡ true
 value_same None x h = refl
-value_same (Some z) x h = is_eq z x (h z refl)
+value_same (Some z) x h = eq-eqb z x (h z refl)
 
 there_is : (o : Option ℕ) (x : ℕ) → is_there o x ≡ true → o ≡ Some x
 there_is None x h = absurd (cc)
-there_is (Some z) x h = ap Some (eq_is z x h)
+there_is (Some z) x h = ap Some (eqb-true z x h)
 
 is_there_from : (o : Option ℕ) (x : ℕ) → o ≡ Some x → is_there o x ≡ true
 is_there_from None x h = absurd (cc)
-is_there_from (Some z) x h = let one : z ≡ x = cc in is_eq z x one
+is_there_from (Some z) x h = let one : z ≡ x = cc in eq-eqb z x one
 
 -- ---- bytes that agree
 

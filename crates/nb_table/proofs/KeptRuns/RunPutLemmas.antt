@@ -3,7 +3,7 @@ use Rattle.std.proofs.Common.{◌≡◌, ◌<◌, ◌≤◌, ◌++◌, ℕ, inl,
 use Rattle.nb_table.specs.Maps.{first_of}
 use Rattle.nb_table.specs.Runs.{RunValue, run_end, StartsPast, AreApart}
 use Rattle.nb_table.specs.Code.RunSteps.{byte_in, look_in, grown, Meet, EndBefore, Agree, IsPut}
-use Rattle.nb_table.specs.Lemmas.CoverLemmas.{first_either, first_of_three}
+use Rattle.nb_table.specs.Shared.CoverLemmas.{first_either, first_of_three}
 use Rattle.nb_table.proofs.KeptRuns.RunRowLemmas.{has_below, has_from, byte_within, look-append, none_from, look_before, look_past, apart_front, apart_back, apart_seam, apart_both, ends_min, past_max}
 use Rattle.nb_table.proofs.KeptRuns.RunGrownLemmas.{grown_size, grown_end, grown_look, meet_more}
 

@@ -1,5 +1,6 @@
 -- Rows of runs: what a look-up finds in them, and how rows that are apart are cut and put together.
 use Rattle.std.proofs.Common.{◌≡◌, ◌<◌, ◌≤◌, ◌+◌, ◌-◌, ◌++◌, ℕ, zero, suc, Bool, true, false, cond, nat_le, inl, inr, List, [], ◌∷◌, length, take, drop, min, max, get_or, map, slice_get, Option, Some, None, refl, sym, ap, ap₂, ◌∙◌, arith}
+use Rattle.std.proofs.lemmas.Bool.{leb-true, le-leb, lt-leb}
 use Rattle.std.proofs.lemmas.Option.{slice_get_within, slice_get-get_or, slice_get_past}
 use Rattle.std.specs.List.{AllByRecursion}
 use Rattle.std.specs.Ordering.{nat_cmp}
@@ -9,8 +10,7 @@ use Rattle.nb_table.specs.Cover.{placed}
 use Rattle.nb_table.specs.Maps.{first_of}
 use Rattle.nb_table.specs.Runs.{RunValue, run_end, StartsPast, AreApart, places_of, map_of_runs}
 use Rattle.nb_table.specs.Code.RunSteps.{byte_in, look_in, EndBefore, StartAfter}
-use Rattle.nb_table.specs.Lemmas.CoverLemmas.{first_either, first_of_three}
-use Rattle.nb_table.specs.Lemmas.SameLemmas.{le_is, is_le, le_not}
+use Rattle.nb_table.specs.Shared.CoverLemmas.{first_either, first_of_three}
 use Rattle.nb_table.proofs.Covers.PlacedLemmas.{find-placed, find-append}
 
 -- ---- the byte of a run at a place
@@ -24,7 +24,7 @@ pub has_of : (r : RunValue) (q x : ℕ) → byte_in r q ≡ Some x → Has r q x
 has_of r q x e = step (nat_le r.start q) refl e
   where
     step : (b : Bool) → nat_le r.start q ≡ b → cond b (slice_get r.bytes (q - r.start)) None ≡ Some x → Has r q x
-    step true h e = record { from = le_is r.start q h; is = e }
+    step true h e = record { from = leb-true r.start q h; is = e }
     step false h e = absurd (cc)
 
 pub has_below : (r : RunValue) (q x : ℕ) → byte_in r q ≡ Some x → q < run_end r
@@ -40,10 +40,10 @@ pub byte_on : (r : RunValue) (q k : ℕ) → q ≡ r.start + k → byte_in r q �
 byte_on r q k e =
     let from : r.start ≤ q = omega arith in
     let place : q - r.start ≡ k = omega arith in
-    ap (λ b. cond b (slice_get r.bytes (q - r.start)) None) (is_le r.start q from) ∙ ap (slice_get r.bytes) place
+    ap (λ b. cond b (slice_get r.bytes (q - r.start)) None) (le-leb r.start q from) ∙ ap (slice_get r.bytes) place
 
 pub byte_off : (r : RunValue) (q : ℕ) → q < r.start → byte_in r q ≡ None
-byte_off r q h = ap (λ b. cond b (slice_get r.bytes (q - r.start)) None) (le_not r.start q h)
+byte_off r q h = ap (λ b. cond b (slice_get r.bytes (q - r.start)) None) (lt-leb r.start q h)
 
 pub byte_past : (r : RunValue) (q : ℕ) → run_end r ≤ q → byte_in r q ≡ None
 byte_past r q h = byte_on r q (q - r.start) (omega arith) ∙ slice_get_past r.bytes (q - r.start) (omega arith)

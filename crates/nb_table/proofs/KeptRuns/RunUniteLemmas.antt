@@ -6,7 +6,7 @@ use Rattle.nb_table.specs.Maps.{first_of}
 use Rattle.nb_table.specs.Runs.{RunValue, AreApart}
 use Rattle.nb_table.specs.Code.RunSteps.{value_of, values_of, run_at, byte_in, look_in, Agree, IsPut, RowsAgree, IsUnion, IsMerged}
 use Rattle.nb_table.specs.declared.cover.runs.Run.{Run}
-use Rattle.nb_table.specs.Lemmas.CoverLemmas.{first_either, first_of_three}
+use Rattle.nb_table.specs.Shared.CoverLemmas.{first_either, first_of_three}
 use Rattle.nb_table.proofs.KeptRuns.RunRowLemmas.{look-append}
 use Rattle.nb_table.proofs.KeptRuns.RunPutLemmas.{swap}
 use Rattle.nb_table.proofs.KeptRuns.RunPlaceLemmas.{at_value}

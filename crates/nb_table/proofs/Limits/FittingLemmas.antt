@@ -1,5 +1,6 @@
 -- When one table takes in another, as tests of entries.
 use Rattle.std.proofs.Common.{◌≡◌, ◌≤◌, ℕ, true, Decides, nat_le, Option, Some, None, refl, sym, ◌∙◌, ap}
+use Rattle.std.proofs.lemmas.Bool.{leb-true, le-leb}
 use Rattle.std.proofs.lemmas.Option.{none-some, same_Some}
 use Rattle.std.specs.List.{list_all}
 use Rattle.std.specs.FinMap as maps
@@ -9,19 +10,19 @@ use Rattle.nb_table.specs.Contents.{Contents}
 use Rattle.nb_table.specs.Limits.{IsShort}
 use Rattle.nb_table.specs.Merging.{AllShort}
 use Rattle.nb_table.specs.Code.Fitting.{ends_by, is_short}
-use Rattle.nb_table.specs.Lemmas.MapsLemmas.{and_left, and_right, and_both, all_entries_found, all_entries_from}
-use Rattle.nb_table.specs.Lemmas.SameLemmas.{key_cmp_total, key_cmp_exact, le_is, is_le}
-use Rattle.nb_table.specs.Lemmas.CoverLemmas.{bytes_below_decides}
+use Rattle.nb_table.specs.Shared.MapsLemmas.{and_left, and_right, and_both, all_entries_found, all_entries_from}
+use Rattle.nb_table.specs.Shared.SameLemmas.{key_cmp_total, key_cmp_exact}
+use Rattle.nb_table.specs.Shared.CoverLemmas.{bytes_below_decides}
 
 -- ---- short entries
 
 ends_found : (n : ℕ) (o : Option ℕ) → ends_by n o ≡ true → (m : ℕ) → o ≡ Some m → m ≤ n
 ends_found n None h m e = absurd (none-some m e)
-ends_found n (Some k) h m e = let one = same_Some k m e in le_is m n (ap (λ j. nat_le j n) (sym one) ∙ h)
+ends_found n (Some k) h m e = let one = same_Some k m e in leb-true m n (ap (λ j. nat_le j n) (sym one) ∙ h)
 
 ends_from : (n : ℕ) (o : Option ℕ) → ((m : ℕ) → o ≡ Some m → m ≤ n) → ends_by n o ≡ true
 ends_from n None h = refl
-ends_from n (Some k) h = is_le k n (h k refl)
+ends_from n (Some k) h = le-leb k n (h k refl)
 
 short_decides : (n : ℕ) (e : EntryValue) → Decides (is_short n e) (IsShort n e)
 short_decides n Spoilt = (λ _. tt, λ _. refl)

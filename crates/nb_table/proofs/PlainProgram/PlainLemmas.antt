@@ -2,7 +2,7 @@
 use Rattle.std.proofs.Common.{◌≡◌, ◌<◌, ◌≤◌, ◌+◌, ◌-◌, ◌==◌, ◌↔◌, ◌&&◌, ◌||◌, inl, inr, ℕ, IsTrue, Bool, true, false, cond, not, nat_le, List, ◌∷◌, take, drop, length, slice_get, get_or, nat_lt, Option, Some, None, refl, sym, ◌∙◌, ap, ap₂, arith, drop-cons, length-drop, le_of_eq, add-one, drop_of_length-le}
 use Rattle.std.proofs.lemmas.List.{take_all}
 use Rattle.std.specs.List.{list_any}
-use Rattle.std.proofs.lemmas.Bool.{cases_lt}
+use Rattle.std.proofs.lemmas.Bool.{cases_lt, eqb-true, eq-eqb, leb-true, le-leb, ltb-true, lt-ltb}
 use Rattle.std.proofs.lemmas.Option.{slice_get-get_or, slice_get_within, none-some, same_Some}
 use Rattle.nb_datagram.specs.declared.key.Key.{Key}
 use Rattle.nb_datagram.specs.Key.{same_key}
@@ -12,9 +12,8 @@ use Rattle.nb_table.specs.Conflict.{Overlap, PastEnd, BreaksPromise, Conflict, k
 use Rattle.nb_table.specs.ConflictTests.{conflicts, some_conflict, with_key, is_spoilt}
 use Rattle.nb_table.specs.Code.Plain.{differ, SameHeader}
 use Rattle.nb_table.specs.Promise.{promise_of_one}
-use Rattle.nb_table.specs.Lemmas.PromiseLemmas.{promise_of_decides}
-use Rattle.nb_table.specs.Lemmas.SameLemmas.{eq_is, is_eq, le_is, is_le, lt_is, is_lt}
-use Rattle.nb_table.specs.Lemmas.EntryLemmas.{facts_fit_of}
+use Rattle.nb_table.specs.Shared.PromiseLemmas.{promise_of_decides}
+use Rattle.nb_table.specs.Shared.EntryLemmas.{facts_fit_of}
 use Rattle.nb_table.proofs.Conflict.ConflictLemmas.{conflicts_decides, past_from, covers}
 use Rattle.nb_table.proofs.Covers.PlacedLemmas.{byte_of_decides, end_of_decides, covers_below}
 
@@ -46,11 +45,11 @@ overlap_from f g i h =
       other_byte = w.other;
       covers = (byte_of_decides f i w.one).0 w.has_one;
       other_covers = (byte_of_decides g i w.other).0 w.has_other;
-      differs = λ e. (let clash : true ≡ false = sym (is_eq w.one w.other e) ∙ w.differs in cc clash);
+      differs = λ e. (let clash : true ≡ false = sym (eq-eqb w.one w.other e) ∙ w.differs in cc clash);
     }
 
 same_bytes : (x y : ℕ) → differ (Some x) (Some y) ≡ false → x ≡ y
-same_bytes x y h = eq_is x y (holds (x == y) h)
+same_bytes x y h = eqb-true x y (holds (x == y) h)
   where
     holds : (b : Bool) → not b ≡ false → b ≡ true
     holds true h = refl
@@ -66,12 +65,12 @@ overlap_refuted f g each o =
 
 pub past_end_decides : (f g : Core) (n r : ℕ) → end_of_one f ≡ Some n → 0 < length g.bytes → r ≡ reach g → IsTrue (nat_lt n r) ↔ PastEnd f g
 past_end_decides f g n r e some s = (
-  λ h. let over : n < r = lt_is n r h in
+  λ h. let over : n < r = ltb-true n r h in
       let last : Covers g (g.offset + (length g.bytes - 1)) (get_or g.bytes (length g.bytes - 1) 0) =
       (omega arith, ap (slice_get g.bytes) (omega arith) ∙ slice_get-get_or g.bytes (length g.bytes - 1) 0 (omega (arith, some))) in
       past_from f g n (g.offset + (length g.bytes - 1)) (get_or g.bytes (length g.bytes - 1) 0) ((end_of_decides f n).0 e) last (omega (arith, over, s, some)),
   λ p. elim (cases_lt n r) [
-    | inl over ↦ is_lt n r over
+    | inl over ↦ lt-ltb n r over
     | inr under ↦
         let same : p.end ≡ n = same_Some p.end n (sym ((end_of_decides f p.end).1 p.ends) ∙ e) in
         absurd (p.past (λ i x c. (let below = covers_below g i x (covers g i x c) in omega (arith, below, s, same, under))))
@@ -87,10 +86,10 @@ empty_never_past f g none p =
 
 pub breaks_decides : (f g : Core) (n r : ℕ) → end_of_one f ≡ Some n → promise_of_one g ≡ Some r → IsTrue (nat_le n r) ↔ BreaksPromise f g
 breaks_decides f g n r e s = (
-  λ h. record { end = n; promised = r; ends = (end_of_decides f n).0 e; promises = (promise_of_decides g r).0 s; broken = le_is n r h },
+  λ h. record { end = n; promised = r; ends = (end_of_decides f n).0 e; promises = (promise_of_decides g r).0 s; broken = leb-true n r h },
   λ b. (let end : b.end ≡ n = same_Some b.end n (sym ((end_of_decides f b.end).1 b.ends) ∙ e) in
       let promise : b.promised ≡ r = same_Some b.promised r (sym ((promise_of_decides g b.promised).1 b.promises) ∙ s) in
-      let broken = b.broken in is_le n r (omega (arith, end, promise, broken))),
+      let broken = b.broken in le-leb n r (omega (arith, end, promise, broken))),
 )
 
 pub no_end_keeps : (f g : Core) → end_of_one f ≡ None → BreaksPromise f g → ⊥
@@ -116,7 +115,7 @@ pub ends_conflict : (f g : Core) → differ (end_of_one f) (end_of_one g) ≡ tr
 ends_conflict f g h =
     let w = differing (end_of_one f) (end_of_one g) h in
     ends w.one w.other ((end_of_decides f w.one).0 w.has_one) ((end_of_decides g w.other).0 w.has_other)
-    (λ e. (let clash : true ≡ false = sym (is_eq w.one w.other e) ∙ w.differs in cc clash))
+    (λ e. (let clash : true ≡ false = sym (eq-eqb w.one w.other e) ∙ w.differs in cc clash))
 
 pub past_conflict : (f g : Core) → PastEnd f g → Conflict f g
 past_conflict f g p = past_end p

@@ -19,7 +19,7 @@ use Rattle.nb_table.specs.declared.plain.whole.PlainFault.{PlainFault}
 use Rattle.nb_table.specs.declared.plain.whole.PlainFault.TheVariants.{TooLong, NoMemory}
 use Rattle.nb_table.proofs.Conflict.ConflictLemmas.{is_spoilt_decides}
 use Rattle.nb_table.proofs.Contents.ContentsLemmas.{get-cover_in}
-use Rattle.nb_table.specs.Lemmas.FragmentLemmas.{get-table_of}
+use Rattle.nb_table.specs.Shared.FragmentLemmas.{get-table_of}
 use Rattle.nb_table.proofs.Contents.SayingLemmas.{spoilt_exactly, held_says}
 use Rattle.nb_table.proofs.Wholeness.WholeLemmas.{whole_exactly, with_found, below_found}
 

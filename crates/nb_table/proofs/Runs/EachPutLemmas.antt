@@ -9,8 +9,8 @@ use Rattle.std.specs.FinMap.{is_sorted}
 use Rattle.nb_table.specs.Code.Each.{with_each}
 use Rattle.nb_table.specs.Cover.{placed}
 use Rattle.nb_table.specs.Maps.{first_of}
-use Rattle.nb_table.specs.Code.Places.{with_bytes}
-use Rattle.nb_table.specs.Lemmas.MapsLemmas.{one_key, below_none, T_left, T_right}
+use Rattle.nb_table.specs.Code.CoverFacts.{with_bytes}
+use Rattle.nb_table.specs.Shared.MapsLemmas.{one_key, below_none, T_left, T_right}
 
 pub each_more : {K X : Type 0} {R : K → K → Ordering} (m : maps.FinMap R X) (es fs : List (K × X)) → with_each m (es ++ fs) ≡ with_each (with_each m es) fs
 each_more m [] fs = refl

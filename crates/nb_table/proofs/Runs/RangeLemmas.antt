@@ -8,7 +8,7 @@ use Rattle.nb_table.specs.Maps.{first_of}
 use Rattle.nb_table.specs.Ranges.{OneHas, StartPast, RangesApart, AreRangesOf, range_of, ranges_of_map}
 use Rattle.nb_table.specs.Runs.{RunValue, run_end, StartsPast, AreApart, runs_of_map}
 use Rattle.nb_table.specs.Code.RunSteps.{byte_in, look_in}
-use Rattle.nb_table.specs.Lemmas.CoverLemmas.{first_either}
+use Rattle.nb_table.specs.Shared.CoverLemmas.{first_either}
 use Rattle.nb_table.proofs.Runs.RunsLemmas.{given_back, runs_apart}
 use Rattle.nb_table.proofs.KeptRuns.RunRowLemmas.{get-runs, has_below, has_from, byte_within}
 

@@ -1,5 +1,6 @@
 -- A row of saved runs that was read: its runs by their bytes, its map, and how far it reaches.
 use Rattle.std.proofs.Common.{◌≡◌, ◌+◌, ◌<◌, ◌≤◌, ◌&&◌, ℕ, suc, zero, List, [], ◌∷◌, length, take, drop, Bool, true, false, Ok, refl, sym, ap, subst, ◌∙◌, arith, length-drop}
+use Rattle.std.proofs.lemmas.Bool.{le-leb, lt-leb}
 use Rattle.std.specs.Prelude.{nat_le, nat_lt}
 use Rattle.std.specs.Int.{w16, from_be_bytes}
 use Rattle.std.specs.List.{list_all, AllByRecursion}
@@ -16,8 +17,7 @@ use Rattle.nb_table.specs.Cover.{placed}
 use Rattle.nb_table.specs.Runs.{RunValue, run_end, AreApart, places_of, map_of_runs}
 use Rattle.nb_table.specs.SavedReading.{gives, goes_on, whole, good, number_at, bytes_at, run_at, row_at}
 use Rattle.nb_table.specs.Code.SavedRuns.{number_in, run_of, after_run, RunThere, row_of, RowThere}
-use Rattle.nb_table.specs.Lemmas.MapsLemmas.{and_both}
-use Rattle.nb_table.specs.Lemmas.SameLemmas.{is_le, le_not}
+use Rattle.nb_table.specs.Shared.MapsLemmas.{and_both}
 use Rattle.nb_table.proofs.Runs.EachPutLemmas.{sorted_entries}
 use Rattle.nb_table.proofs.SavedReading.FoundLemmas.{row_found}
 use Rattle.nb_table.proofs.Runs.RunsLemmas.{sorted_places}
@@ -144,7 +144,7 @@ map_below n rs a = ap (list_all (λ (e : ℕ × ℕ). nat_lt e.0 n)) (places_in_
 
 pub all_short : (n : ℕ) (rs : List RunValue) → AllByRecursion (λ (r : RunValue). run_end r ≤ n) rs → list_all (λ (r : RunValue). nat_le (run_end r) n) rs ≡ true
 all_short n [] h = refl
-all_short n (r ∷ rs) h = and_both _ _ (is_le (run_end r) n h.0) (all_short n rs h.1)
+all_short n (r ∷ rs) h = and_both _ _ (le-leb (run_end r) n h.0) (all_short n rs h.1)
 
 -- ---- rows, one run after the other
 
@@ -157,7 +157,7 @@ row_next n k bs behind e same h = subst (RowThere k) (sym same) (row_open n k bs
 -- a run reaches past the limit
 pub row_long : (limit n k : ℕ) (bs : List ℕ) (r : RunValue) (all : Bool) → n ≡ suc k → r ≡ run_of bs → limit < run_end r → list_all (λ (r : RunValue). nat_le (run_end r) limit) (row_of n bs) ≡ all → false ≡ all
 row_long limit n k bs r all e same more h =
-    let no : nat_le (run_end (run_of bs)) limit ≡ false = le_not (run_end (run_of bs)) limit (subst (λ (q : RunValue). limit < run_end q) same more) in
+    let no : nat_le (run_end (run_of bs)) limit ≡ false = lt-leb (run_end (run_of bs)) limit (subst (λ (q : RunValue). limit < run_end q) same more) in
     sym (ap (λ b. b && list_all (λ (r : RunValue). nat_le (run_end r) limit) (row_of k (after_run bs))) no)
     ∙ ap (λ (m : ℕ). list_all (λ (r : RunValue). nat_le (run_end r) limit) (row_of m bs)) (sym e)
     ∙ h
@@ -165,7 +165,7 @@ row_long limit n k bs r all e same more h =
 -- a run doesn't
 pub row_short : (limit n k : ℕ) (bs behind : List ℕ) (r : RunValue) (all : Bool) → n ≡ suc k → r ≡ run_of bs → behind ≡ after_run bs → run_end r ≤ limit → list_all (λ (r : RunValue). nat_le (run_end r) limit) (row_of n bs) ≡ all → list_all (λ (r : RunValue). nat_le (run_end r) limit) (row_of k behind) ≡ all
 row_short limit n k bs behind r all e same rest few h =
-    let yes : nat_le (run_end (run_of bs)) limit ≡ true = is_le (run_end (run_of bs)) limit (subst (λ (q : RunValue). run_end q ≤ limit) same few) in
+    let yes : nat_le (run_end (run_of bs)) limit ≡ true = le-leb (run_end (run_of bs)) limit (subst (λ (q : RunValue). run_end q ≤ limit) same few) in
     ap (λ (xs : List ℕ). list_all (λ (r : RunValue). nat_le (run_end r) limit) (row_of k xs)) rest
     ∙ sym (ap (λ b. b && list_all (λ (r : RunValue). nat_le (run_end r) limit) (row_of k (after_run bs))) yes)
     ∙ ap (λ (m : ℕ). list_all (λ (r : RunValue). nat_le (run_end r) limit) (row_of m bs)) (sym e)

@@ -7,12 +7,11 @@ use Rattle.std.specs.Cmp.{nat_cmp_total, nat_cmp_is}
 use Rattle.std.specs.FinMap as maps
 use Rattle.std.specs.FinMap.{nat_cmp-IsAntisymmetric, is_sorted}
 use Rattle.std.specs.FinMap.Entries.{below_all}
-use Rattle.std.proofs.lemmas.Bool.{cases_lt}
+use Rattle.std.proofs.lemmas.Bool.{cases_lt, eqb-true, eq-eqb}
 use Rattle.std.proofs.lemmas.Bool.Decides.{nat_tests}
 use Rattle.nb_table.specs.Cover.{placed}
 use Rattle.nb_table.specs.Runs.{RunValue, run_end, StartsPast, AreApart, places_of, map_of_runs, in_front, runs_in, runs_of_map}
-use Rattle.nb_table.specs.Lemmas.MapsLemmas.{T_left, T_right}
-use Rattle.nb_table.specs.Lemmas.SameLemmas.{eq_is, is_eq}
+use Rattle.nb_table.specs.Shared.MapsLemmas.{T_left, T_right}
 
 -- ---- the places of runs
 
@@ -21,7 +20,7 @@ places-in_front i x [] = refl
 places-in_front i x (r ∷ rs) = step (r.start == i + 1) refl
   where
     step : (b : Bool) → (r.start == i + 1) ≡ b → places_of (cond b (record { start = i; bytes = x ∷ r.bytes } ∷ rs) (record { start = i; bytes = x ∷ [] } ∷ r ∷ rs)) ≡ (i, x) ∷ places_of (r ∷ rs)
-    step true h = ap (λ n. (i, x) ∷ (placed n r.bytes ++ places_of rs)) (sym (eq_is r.start (i + 1) h))
+    step true h = ap (λ n. (i, x) ∷ (placed n r.bytes ++ places_of rs)) (sym (eqb-true r.start (i + 1) h))
     step false h = refl
 
 -- the places of the runs of a row of places are that row
@@ -61,7 +60,7 @@ alone i x [] h = refl
 alone i x (r ∷ rs) h = ap (λ b. cond b (record { start = i; bytes = x ∷ r.bytes } ∷ rs) (record { start = i; bytes = x ∷ [] } ∷ r ∷ rs)) h
 
 in_one : (i x : ℕ) (r : RunValue) (rs : List RunValue) → r.start ≡ i + 1 → in_front i x (r ∷ rs) ≡ record { start = i; bytes = x ∷ r.bytes } ∷ rs
-in_one i x r rs h = ap (λ b. cond b (record { start = i; bytes = x ∷ r.bytes } ∷ rs) (record { start = i; bytes = x ∷ [] } ∷ r ∷ rs)) (is_eq r.start (i + 1) h)
+in_one i x r rs h = ap (λ b. cond b (record { start = i; bytes = x ∷ r.bytes } ∷ rs) (record { start = i; bytes = x ∷ [] } ∷ r ∷ rs)) (eq-eqb r.start (i + 1) h)
 
 -- bytes in a row, before bytes that don't follow the last of them, are a run
 pub run_first : (xs : List ℕ) (i y : ℕ) (es : List (ℕ × ℕ)) → NotAt (i + suc (length xs)) (runs_in es) → runs_in (placed i (y ∷ xs) ++ es) ≡ record { start = i; bytes = y ∷ xs } ∷ runs_in es
@@ -156,7 +155,7 @@ apart_front i x (r ∷ rs) a p = step (r.start == i + 1) refl
   where
     step : (b : Bool) → (r.start == i + 1) ≡ b → AreApart (cond b (record { start = i; bytes = x ∷ r.bytes } ∷ rs) (record { start = i; bytes = x ∷ [] } ∷ r ∷ rs))
     step true h =
-        let same : r.start ≡ i + 1 = eq_is r.start (i + 1) h in
+        let same : r.start ≡ i + 1 = eqb-true r.start (i + 1) h in
         let on : r.start + length r.bytes ≡ i + suc (length r.bytes) = omega (arith, same) in
         (omega arith, (subst (λ n. StartsPast n rs) on a.1.0, a.1.1))
     step false h =

@@ -1,5 +1,6 @@
 -- Tables within the limits fit the fields of a saved table.
 use Rattle.std.proofs.Common.{◌≡◌, ◌<◌, ◌≤◌, ◌^◌, ◌+◌, ◌==◌, ℕ, Bool, true, false, cond, length, List, [], ◌∷◌, Some, None, refl, sym, subst, ◌∙◌, arith}
+use Rattle.std.proofs.lemmas.Bool.{eqb-true}
 use Rattle.std.proofs.lemmas.Option.{none-some, same_Some}
 use Rattle.std.specs.List.{AllByRecursion}
 use Rattle.std.specs.Ordering.{nat_cmp, eq_by_cmp}
@@ -23,8 +24,8 @@ use Rattle.nb_table.specs.SavedFits.{FitsRun, FitsCover, FitsFacts, FitsSaved, I
 use Rattle.nb_table.specs.Code.RangeSteps.{EndBy}
 use Rattle.nb_table.specs.Code.RunSteps.{held_in}
 use Rattle.nb_table.specs.Code.SavedTables.{HasNames}
-use Rattle.nb_table.specs.Lemmas.MapsLemmas.{one_key}
-use Rattle.nb_table.specs.Lemmas.SameLemmas.{eq_is, key_cmp_total, key_cmp_exact}
+use Rattle.nb_table.specs.Shared.MapsLemmas.{one_key}
+use Rattle.nb_table.specs.Shared.SameLemmas.{key_cmp_total, key_cmp_exact}
 use Rattle.nb_table.proofs.Changes.InsertLemmas.{short_more}
 use Rattle.nb_table.proofs.SavedReading.ReadBackLemmas.{read_back}
 use Rattle.nb_table.proofs.Runs.HeldLemmas.{held-map}
@@ -36,7 +37,7 @@ front_ends n i x [] below h = (omega (arith, below), tt)
 front_ends n i x (r ∷ rs) below h = step (r.start == i + 1) refl
   where
     step : (b : Bool) → (r.start == i + 1) ≡ b → EndBy n (cond b (record { start = i; bytes = x ∷ r.bytes } ∷ rs) (record { start = i; bytes = x ∷ [] } ∷ r ∷ rs))
-    step true e = (omega (arith, eq_is r.start (i + 1) e, h.0), h.1)
+    step true e = (omega (arith, eqb-true r.start (i + 1) e, h.0), h.1)
     step false e = (omega (arith, below), h)
 
 runs_end : (n : ℕ) (es : List (ℕ × ℕ)) → AllByRecursion (λ e. e.0 < n) es → EndBy n (runs_in es)

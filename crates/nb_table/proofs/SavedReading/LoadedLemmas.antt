@@ -25,9 +25,9 @@ use Rattle.nb_table.specs.Saved.{magic, entries_bytes, saved_as, IsSaved}
 use Rattle.nb_table.specs.SavedReading.{gives, goes_on, whole, good, is_0, is_1, IsAfter, most_of, facts_at, entry_at, entries_at, IsRead, after_magic}
 use Rattle.nb_table.specs.Slot.{Held, OnHeld}
 use Rattle.nb_names.specs.Labels.{StandsAt}
-use Rattle.nb_table.specs.Lemmas.CoverLemmas.{bytes_below_decides}
-use Rattle.nb_table.specs.Lemmas.MapsLemmas.{T_left, T_right}
-use Rattle.nb_table.specs.Lemmas.SameLemmas.{key_cmp_total, key_cmp_exact}
+use Rattle.nb_table.specs.Shared.CoverLemmas.{bytes_below_decides}
+use Rattle.nb_table.specs.Shared.MapsLemmas.{T_left, T_right}
+use Rattle.nb_table.specs.Shared.SameLemmas.{key_cmp_total, key_cmp_exact}
 use Rattle.nb_table.proofs.Runs.EachPutLemmas.{sorted_entries}
 use Rattle.nb_table.proofs.Limits.FittingLemmas.{all_short_decides}
 use Rattle.nb_table.proofs.SavedReading.FoundLemmas.{IsPromise, key_found, promise_found, runs_found, entries_found, read_found}

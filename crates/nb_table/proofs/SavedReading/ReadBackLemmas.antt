@@ -1,5 +1,6 @@
 -- The saved bytes of a table are read as that table.
 use Rattle.std.proofs.Common.{◌≡◌, ◌+◌, ◌<◌, ◌≤◌, ◌^◌, ℕ, List, [], ◌∷◌, ◌++◌, length, map, zero-add, true, Option, None, Some, Ok, refl, sym, ap, subst, ◌∙◌, arith, length-append}
+use Rattle.std.proofs.lemmas.Bool.{leb-true}
 use Rattle.std.specs.Prelude.{T, nat_le, nat_lt}
 use Rattle.std.proofs.lemmas.List.{take_all}
 use Rattle.std.specs.declared.cmp.Ordering.{Ordering}
@@ -38,9 +39,9 @@ use Rattle.nb_table.specs.Runs.{RunValue, run_end, StartsPast, AreApart, map_of_
 use Rattle.nb_table.specs.Saved.{magic, run_bytes, runs_bytes, end_bytes, promise_bytes, facts_bytes, entry_bytes, key_bytes, keyed_bytes, entries_bytes, saved_as, saved, saved_first, HasNoPromise}
 use Rattle.nb_table.specs.SavedFits.{FitsRun, FitsFacts, FitsKeyed, FitsSaved}
 use Rattle.nb_table.specs.SavedReading.{gives, goes_on, Field, whole, good, is_0, is_1, byte_at, number_at, bytes_at, IsAfter, key_at, known, kind_at, name_at, stands, end_at, PromisesBelow, promise_at, run_at, row_at, runs_at, most_of, facts_at, entry_at, entries_at, IsRead, after_magic}
-use Rattle.nb_table.specs.Lemmas.CoverLemmas.{bytes_below_decides}
-use Rattle.nb_table.specs.Lemmas.MapsLemmas.{and_left, and_right, T_left, T_right}
-use Rattle.nb_table.specs.Lemmas.SameLemmas.{key_cmp_total, key_cmp_exact, le_is}
+use Rattle.nb_table.specs.Shared.CoverLemmas.{bytes_below_decides}
+use Rattle.nb_table.specs.Shared.MapsLemmas.{and_left, and_right, T_left, T_right}
+use Rattle.nb_table.specs.Shared.SameLemmas.{key_cmp_total, key_cmp_exact}
 use Rattle.nb_table.proofs.SavedReading.FoundLemmas.{Spells, StartsFrom, magic_size}
 use Rattle.nb_table.proofs.Runs.RowLemmas.{map_below}
 use Rattle.nb_table.proofs.Runs.RunsLemmas.{given_back, runs_apart}
@@ -157,7 +158,7 @@ row_bytes_back input most at next rs few fits apart short s =
 
 all_at_most : (n : ℕ) (rs : List RunValue) → list_all (λ (r : RunValue). nat_le (run_end r) n) rs ≡ true → AllByRecursion (λ (r : RunValue). run_end r ≤ n) rs
 all_at_most n [] h = tt
-all_at_most n (r ∷ rs) h = (le_is (run_end r) n (and_left _ _ h), all_at_most n rs (and_right _ _ h))
+all_at_most n (r ∷ rs) h = (leb-true (run_end r) n (and_left _ _ h), all_at_most n rs (and_right _ _ h))
 
 -- what lies below n has runs that end at most there
 runs_below : (n : ℕ) (c : CoverFacts) → BytesBelow n c.bytes → AllByRecursion (λ (r : RunValue). run_end r ≤ n) (runs_of_map c.bytes)

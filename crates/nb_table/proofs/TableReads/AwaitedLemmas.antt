@@ -5,7 +5,7 @@ use Rattle.std.specs.Ordering.{nat_cmp}
 use Rattle.std.specs.FinMap as maps
 use Rattle.nb_table.specs.Cover.{CoverFacts, bytes_lie_below}
 use Rattle.nb_table.specs.Outline.{IsAwaited, awaited_of}
-use Rattle.nb_table.specs.Lemmas.CoverLemmas.{bytes_below_decides}
+use Rattle.nb_table.specs.Shared.CoverLemmas.{bytes_below_decides}
 
 kept : (m : maps.FinMap nat_cmp ℕ) (q r : ℕ) (b : Bool) → bytes_lie_below q m ≡ b → cond b (Some q) None ≡ Some r → (q ≡ r) × (bytes_lie_below q m ≡ true)
 kept m q r true h e = let one : q ≡ r = cc e in (one, h)

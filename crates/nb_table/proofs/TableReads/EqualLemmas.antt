@@ -4,9 +4,9 @@ use Rattle.std.specs.Cmp.Lexicographic.{pointwise, pointwise_decides}
 use Rattle.nb_datagram.specs.declared.key.Key.{Key}
 use Rattle.nb_table.specs.Entry.{EntryValue}
 use Rattle.nb_table.specs.Equal.{same_entry}
-use Rattle.nb_table.specs.Lemmas.MapsLemmas.{and_left, and_right, and_both}
-use Rattle.nb_table.specs.Lemmas.SameLemmas.{key_fields, same_key_decides}
-use Rattle.nb_table.specs.Lemmas.EqualLemmas.{entry_decides}
+use Rattle.nb_table.specs.Shared.MapsLemmas.{and_left, and_right, and_both}
+use Rattle.nb_table.specs.Shared.SameLemmas.{key_fields, same_key_decides}
+use Rattle.nb_table.specs.Shared.EqualLemmas.{entry_decides}
 
 same_fields : Key → Key → Bool
 same_fields a b = pointwise ◌==◌ a.ip b.ip && ((a.port == b.port) && (a.id == b.id))

@@ -14,8 +14,8 @@ use Rattle.nb_table.specs.Equal.{same_entry}
 use Rattle.nb_table.specs.Limits.{TableValue, KeepsLimits}
 use Rattle.nb_table.specs.State.{IsState}
 use Rattle.nb_table.specs.Code.State.{IsEntryState}
-use Rattle.nb_table.specs.Lemmas.EqualLemmas.{entry_decides}
-use Rattle.nb_table.specs.Lemmas.SameLemmas.{key_cmp_total}
+use Rattle.nb_table.specs.Shared.EqualLemmas.{entry_decides}
+use Rattle.nb_table.specs.Shared.SameLemmas.{key_cmp_total}
 use Rattle.nb_table.proofs.Limits.GroupLemmas.{few_remove}
 
 -- the state of an entry is that of its key

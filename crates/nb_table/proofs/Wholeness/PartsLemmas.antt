@@ -1,5 +1,6 @@
 -- Fragments that are parts of one datagram don't conflict, and what they say together is true of it.
 use Rattle.std.proofs.Common.{◌≡◌, ◌<◌, ◌≤◌, ℕ, Contains, List, length, slice_get, Some, sym, ◌∙◌, arith}
+use Rattle.std.proofs.lemmas.Bool.{ltb-true, ltb-false}
 use Rattle.std.proofs.lemmas.Option.{slice_get_within}
 use Rattle.nb_datagram.specs.Fragment.{Core, Covers, EndsAt, reach}
 use Rattle.nb_datagram.specs.Datagram.{DatagramParts}
@@ -8,7 +9,6 @@ use Rattle.nb_table.specs.Cover.{BytesBelow, cover_of}
 use Rattle.nb_table.specs.Conflict.{BreaksPromise, Conflict, kinds, sources, destinations, overlap, ends, past_end, past_other_end, breaks, breaks_other, IsSpoilt}
 use Rattle.nb_table.specs.Contents.{first_byte, first_end}
 use Rattle.nb_table.specs.Sender.{HasPartsAlone}
-use Rattle.nb_table.specs.Lemmas.SameLemmas.{lt_is, not_lt}
 use Rattle.nb_table.proofs.Contents.FirstLemmas.{first_byte_from, first_end_from}
 use Rattle.nb_table.proofs.Conflict.ConflictLemmas.{covers}
 
@@ -17,7 +17,7 @@ use Rattle.nb_table.proofs.Conflict.ConflictLemmas.{covers}
 -- a part that ends, ends where the datagram does
 part_ends : (f : Core) (d : DatagramParts) (n : ℕ) → IsPart f d → EndsAt f n → n ≡ length d.bytes
 part_ends f d n p e =
-    let past : length d.bytes ≤ reach f = not_lt (reach f) (length d.bytes) (sym p.more ∙ e.0) in
+    let past : length d.bytes ≤ reach f = ltb-false (reach f) (length d.bytes) (sym p.more ∙ e.0) in
     let within = p.within in
     let here = e.1 in
     omega arith
@@ -38,7 +38,7 @@ parts_kept : (f g : Core) (d : DatagramParts) → IsPart f d → IsPart g d → 
 parts_kept f g d p q b =
     let here = part_ends f d b.end p b.ends in
     let promises = b.promises in
-    let short : reach g < length d.bytes = lt_is (reach g) (length d.bytes) (sym q.more ∙ promises.0) in
+    let short : reach g < length d.bytes = ltb-true (reach g) (length d.bytes) (sym q.more ∙ promises.0) in
     let reached = promises.1 in
     let broken = b.broken in
     omega (arith, here, short, reached, broken)

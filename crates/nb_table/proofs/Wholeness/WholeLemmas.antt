@@ -9,7 +9,7 @@ use Rattle.nb_datagram.specs.declared.key.Key.{Key}
 use Rattle.nb_datagram.specs.Datagram.{DatagramParts}
 use Rattle.nb_table.specs.Slot.{Spoilt, Held}
 use Rattle.nb_table.specs.Cover.{CoverFacts}
-use Rattle.nb_table.specs.Code.Places.{AreCovered}
+use Rattle.nb_table.specs.Code.CoverFacts.{AreCovered}
 use Rattle.nb_table.specs.Entry.{EntryFacts, EntryValue}
 use Rattle.nb_table.specs.Contents.{Contents}
 use Rattle.nb_table.specs.Whole.{IsWholeCover, IsWhole, IsWholeAt, newly, newly_whole, datagram_at, with_last, bytes_below, bytes_to, datagram_with, datagram_of, IsDatagram}

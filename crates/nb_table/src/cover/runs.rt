@@ -5,7 +5,7 @@ ghost use Rattle.std.specs.List.{list_all};
 ghost use Rattle.std.specs.FinMap as maps;
 ghost use Rattle.nb_table.specs.Maps.{union};
 ghost use Rattle.nb_table.specs.Cover.{bytes_agree, placed, same_where};
-ghost use Rattle.nb_table.specs.Code.Places.{is_there, with_bytes, AreCovered};
+ghost use Rattle.nb_table.specs.Code.CoverFacts.{is_there, with_bytes, AreCovered};
 ghost use Rattle.nb_table.specs.Runs.{AreApart, run_end, map_of_runs, runs_of_map};
 ghost use Rattle.nb_table.specs.Saved.{runs_bytes};
 ghost use Rattle.nb_table.specs.Whole.{bytes_below as map_below};

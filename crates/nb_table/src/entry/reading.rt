@@ -1,23 +1,51 @@
 //! What an entry says besides the bytes.
 ghost use Rattle.std.specs.Prelude.{◌≡◌};
 ghost use Rattle.nb_datagram.specs.declared.limits.TheConstants.{MAX_LENGTH};
-ghost use Rattle.nb_table.specs.Limits.{IsShort};
-ghost use Rattle.nb_table.specs.Outline.{entry_outline};
-ghost use Rattle.nb_table.specs.Ranges.{entry_ranges};
+ghost use Rattle.nb_table.specs.Limits.{AreShort, IsShort};
+ghost use Rattle.nb_table.specs.Outline.{entry_outline, outline_of};
+ghost use Rattle.nb_table.specs.Ranges.{entry_ranges, ranges_of_map};
 
-use super::Entry;
+use super::EntryFacts;
 use crate::outline::Outline;
 use crate::ranges::Ranges;
+use crate::slot::Slot;
 
-impl Entry {
+impl EntryFacts {
+    /// All but the bytes themselves.
+    pub(crate) fn outline(&self) -> Outline
+        requires { AreShort MAX_LENGTH self.now }
+        ensures { result ≡ outline_of self.now }
+    {
+        Outline {
+            kind: self.kind,
+            source: self.parties.source().copied(),
+            destination: self.parties.destination().copied(),
+            held: self.cover.held() as u32,
+            runs: self.run_count(),
+            end: self.cover.end(),
+            promise: self.cover.promise(),
+            awaited: self.cover.awaited(),
+        }
+    }
+
+    /// The ranges of the places that are known.
+    pub(crate) fn ranges(&self) -> Ranges<'_>
+        requires { AreShort MAX_LENGTH self.now }
+        ensures { result ≡ ranges_of_map self.now.cover.bytes }
+    {
+        self.cover.ranges()
+    }
+}
+
+impl Slot<EntryFacts> {
     /// What is known but for the bytes, if it isn't spoilt.
     pub(crate) fn outline(&self) -> Option<Outline>
         requires { IsShort MAX_LENGTH self.now }
         ensures { result ≡ entry_outline self.now }
     {
-        match &self.facts {
-            Some(facts) => Some(facts.outline()),
-            None => None,
+        match self {
+            Slot::Held(facts) => Some(facts.outline()),
+            Slot::Spoilt => None,
         }
     }
 
@@ -26,9 +54,9 @@ impl Entry {
         requires { IsShort MAX_LENGTH self.now }
         ensures { result ≡ entry_ranges self.now }
     {
-        match &self.facts {
-            Some(facts) => facts.ranges(),
-            None => Ranges::none(),
+        match self {
+            Slot::Held(facts) => facts.ranges(),
+            Slot::Spoilt => Ranges::none(),
         }
     }
 }

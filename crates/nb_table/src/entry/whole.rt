@@ -5,19 +5,20 @@ ghost use Rattle.nb_table.specs.Limits.{IsShort};
 ghost use Rattle.nb_table.specs.Whole.{IsWhole};
 ghost use Rattle.nb_table.specs.Whole.{datagram_of as entry_datagram};
 
-use super::Entry;
+use super::EntryFacts;
+use crate::slot::Slot;
 use nb_datagram::{Datagram, Key};
 use nb_names::NoMemory;
 use std::alloc::Global;
 
-impl Entry {
+impl Slot<EntryFacts> {
     /// Whether it isn't spoilt, and its end and each byte before it are known.
     pub(crate) fn is_whole(&self) -> bool
         ensures { IsTrue result ↔ IsWhole self.now }
     {
-        match &self.facts {
-            Some(facts) => facts.is_whole(),
-            None => false,
+        match self {
+            Slot::Held(facts) => facts.is_whole(),
+            Slot::Spoilt => false,
         }
     }
 
@@ -27,9 +28,9 @@ impl Entry {
         ensures value { IfOk result (λ datagram. datagram ≡ entry_datagram key self.now) }
         ensures no_memory_needed { entry_datagram key self.now ≡ None → result ≡ Ok None }
     {
-        match &self.facts {
-            Some(facts) => facts.datagram_of(alloc, key),
-            None => Ok(None),
+        match self {
+            Slot::Held(facts) => facts.datagram_of(alloc, key),
+            Slot::Spoilt => Ok(None),
         }
     }
 }

@@ -12,10 +12,10 @@ ghost use Rattle.nb_table.specs.declared.saved.form.SavedForm.TheVariants.{Secon
 use super::fields::{read_byte, read_end, read_kind, read_plain_name, read_promise};
 use super::form::SavedForm;
 use super::runs::{SavedRuns, read_runs};
-use crate::cover::Places;
-use crate::entry::Entry;
-use crate::facts::Facts;
+use crate::cover::CoverFacts;
+use crate::entry::{Entry, EntryFacts};
 use crate::load_fault::LoadFault;
+use crate::slot::Slot;
 use nb_datagram::Kind;
 use nb_datagram::limits::MAX_LENGTH;
 use nb_names::{Name, NoMemory};
@@ -24,7 +24,7 @@ use std::marker::Model;
 
 /// What a saved entry holds.
 #[derive(Drop)]
-struct SavedFacts<'a> {
+pub(crate) struct SavedFacts<'a> {
     kind: Kind,
     source: Name,
     destination: Name,
@@ -108,15 +108,15 @@ impl<'a> SavedFacts<'a> {
     }
 
     /// The facts, kept.
-    fn load(&self, alloc: Global) -> Result<Facts, NoMemory>
+    fn load(&self, alloc: Global) -> Result<EntryFacts, NoMemory>
         ensures { IfOk result (λ facts. facts ≡ self.now) }
     {
-        let places = Places::load(alloc, &self.runs, self.end, self.promise)?;
-        Facts::new(alloc, self.kind, &self.source, &self.destination, places)
+        let cover = CoverFacts::load(alloc, &self.runs, self.end, self.promise)?;
+        EntryFacts::new(alloc, self.kind, &self.source, &self.destination, cover)
     }
 }
 
-impl Facts {
+impl EntryFacts {
     /// Adds the kind, both names and the cover after the bytes.
     pub(crate) fn save(&self, alloc: Global, saved: &mut Vec<u8>) -> Result<(), NoMemory>
         ensures value { OnOk result
@@ -129,26 +129,12 @@ impl Facts {
         saved.push(self.kind.message_type())?;
         saved.extend_from_slice(self.parties.source().to_domain().spelling())?;
         saved.extend_from_slice(self.parties.destination().to_domain().spelling())?;
-        self.places.save(saved)
+        self.cover.save(saved)
     }
 }
 
 /// A saved entry: spoilt, or what it holds.
-#[derive(Drop)]
-pub(crate) struct SavedEntry<'a> {
-    facts: Option<SavedFacts<'a>>,
-}
-
-impl<'a> Model for SavedEntry<'a> {
-    ghost use Rattle.nb_table.specs.Entry.{EntryValue};
-    ghost use Rattle.nb_table.specs.Codes.{slot_of, entry_code};
-
-    ghost Value = { EntryValue };
-
-    ghost coded = { entry_code };
-
-    ghost view = { λ e. slot_of e.facts };
-}
+pub(crate) type SavedEntry<'a> = Slot<SavedFacts<'a>>;
 
 /// The entry at an offset.
 pub(crate) fn read_entry<'a>(
@@ -160,23 +146,23 @@ pub(crate) fn read_entry<'a>(
 {
     let (state, next) = read_byte(input, at)?;
     match state {
-        0 => Ok((SavedEntry { facts: None }, next)),
+        0 => Ok((Slot::Spoilt, next)),
         1 => {
             let (facts, after) = read_facts(form, input, next)?;
-            Ok((SavedEntry { facts: Some(facts) }, after))
+            Ok((Slot::Held(facts), after))
         }
         _ => Err(LoadFault::NotCanonical(at)),
     }
 }
 
-impl<'a> SavedEntry<'a> {
+impl<'a> Slot<SavedFacts<'a>> {
     /// Whether the entry is spoilt, or no run, no end and no promise of it passes the limit.
     pub(crate) fn is_short(&self, limit: u16) -> bool
         ensures { result ≡ is_short_entry limit self.now }
     {
-        match &self.facts {
-            Some(facts) => facts.is_short(limit),
-            None => true,
+        match self {
+            Slot::Held(facts) => facts.is_short(limit),
+            Slot::Spoilt => true,
         }
     }
 
@@ -184,26 +170,26 @@ impl<'a> SavedEntry<'a> {
     pub(crate) fn load(&self, alloc: Global) -> Result<Entry, NoMemory>
         ensures { IfOk result (λ entry. entry ≡ self.now) }
     {
-        match &self.facts {
-            Some(facts) => Ok(Entry::held(facts.load(alloc)?)),
-            None => Ok(Entry::spoilt()),
+        match self {
+            Slot::Held(facts) => Ok(Slot::Held(facts.load(alloc)?)),
+            Slot::Spoilt => Ok(Slot::Spoilt),
         }
     }
 }
 
-impl Entry {
+impl Slot<EntryFacts> {
     /// Adds after the bytes whether the entry is held, and what is.
     pub(crate) fn save(&self, alloc: Global, saved: &mut Vec<u8>) -> Result<(), NoMemory>
         ensures value { OnOk result
             (saved.new.items ≡ saved.old.items ++ entry_bytes Second self.now) }
         ensures named { OnOk result (OnHeld IsNamed self.now) }
     {
-        match &self.facts {
-            Some(facts) => {
+        match self {
+            Slot::Held(facts) => {
                 saved.push(1)?;
                 facts.save(alloc, saved)?;
             }
-            None => saved.push(0)?,
+            Slot::Spoilt => saved.push(0)?,
         }
         Ok(())
     }

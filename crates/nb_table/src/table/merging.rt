@@ -4,13 +4,13 @@ ghost use Rattle.nb_table.specs.Join.{join};
 ghost use Rattle.nb_table.specs.Limits.{with_contents};
 ghost use Rattle.nb_table.specs.Merging.{Fits, IsRefused, newly_handed};
 
-mod joining;
+mod merging_entries;
 mod taking_back;
 
 use super::Table;
 use crate::fault::TableFault;
 use crate::join::Join;
-use joining::merge_entries;
+use merging_entries::merge_entries;
 use nb_datagram::Datagrams;
 
 impl Table {
@@ -44,7 +44,7 @@ impl Join for Table {
     ghost use Rattle.nb_table.specs.Limits.{Limits};
     ghost use Rattle.nb_table.specs.Join.{join, IsTable};
     ghost use Rattle.nb_table.specs.Merging.{Fits, IsRefused};
-    ghost use Rattle.nb_table.specs.Lemmas.TableLemmas.{join-comm, join-assoc, join-idem};
+    ghost use Rattle.nb_table.specs.Shared.TableLemmas.{join-comm, join-assoc, join-idem};
 
     ghost Content = { Contents };
 

@@ -30,6 +30,7 @@ impl Table {
     pub fn ranges(&self, key: &Key) -> Ranges<'_>
         ensures { result ≡ ranges_at self.now.contents key.now }
     {
+        // The entry's bytes lie below the limit, which is a number of its type.
         let _longest = self.longest;
         match self.entries.get(key) {
             Some(entry) => entry.ranges(),
@@ -48,6 +49,7 @@ impl Table {
         ensures no_memory_needed { datagram_at self.now.contents key.now ≡ None
             → result ≡ Ok None }
     {
+        // The entry's bytes lie below the limit, which is a number of its type.
         let _longest = self.longest;
         match self.entries.get(key) {
             Some(entry) => entry.datagram_of(self.alloc, *key),

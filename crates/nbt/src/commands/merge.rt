@@ -10,7 +10,7 @@ ghost use Rattle.nbt.specs.Settings.{IsCapacity};
 ghost use Rattle.nbt.specs.Tables.{MergeStops, MergesTables};
 
 use crate::fault::Fault;
-use crate::joining::joined_input;
+use crate::joining_input::joined_input;
 use crate::output::Output;
 use crate::saved::print_saved;
 use clap::ArgMatches;

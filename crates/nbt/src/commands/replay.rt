@@ -1,5 +1,5 @@
 //! `nbt replay`: the report of a capture, in a member with names.
-ghost use Rattle.std.specs.Prelude.{◌≡◌, ℕ, map, Err, OnOk, IfOk, IfErr};
+ghost use Rattle.std.specs.Prelude.{◌≡◌, ◌≢◌, ℕ, map, Err, OnOk, IfOk, IfErr};
 ghost use Rattle.nb_names.specs.NameText.{IsFaultOf};
 ghost use Rattle.nb_names.specs.Devices.{ShowsWriteFault};
 ghost use Rattle.nbt.specs.Replaying.{AddsEach, AddsName, AreTexts, EndsWith, IsNamesFault, IsRefusedName, IsReplay, ReplaysCapture};
@@ -53,6 +53,22 @@ pub fn run_replay<R: Read, W: Write>(
     let names = names_of(alloc, words)?;
     let member = Member::new(alloc, settings_with(capacity), names);
     output.replay(alloc, member, input, options_of(matches))
+}
+
+/// The member that a replay begins with: new, with the names of the words.
+///
+/// # Errors
+///
+/// Those of [`run_replay`] that come before any input is read.
+pub fn member_of(alloc: Global, matches: &ArgMatches<'_>) -> Result<Member, Fault>
+    ensures fault { IfErr result (λ fault. fault ≢ Fault.Write) }
+{
+    let capacity = capacity_of(matches)?;
+    let Some(words) = matches.get_strs("NAME") else {
+        return Err(Fault::Arguments);
+    };
+    let names = names_of(alloc, words)?;
+    Ok(Member::new(alloc, settings_with(capacity), names))
 }
 
 /// What the program answers where a replay answers this.

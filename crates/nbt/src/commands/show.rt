@@ -8,11 +8,11 @@ ghost use Rattle.nb_member.specs.declared.capture_options.CaptureOptions.{Captur
 ghost use Rattle.nbt.specs.Showing.{IsUnshown, Shows, ShowsLine, ShowsSaid, ShowsValue};
 
 use crate::fault::Fault;
-use crate::lines::said_by;
 use crate::output::Output;
 use crate::settings::options_of;
+use crate::telling::{Teller, print_capture};
 use clap::ArgMatches;
-use nb_member::{Comments, Line, LineReadFault, LineRoom, next_from, push_comment};
+use nb_member::{Comments, Line, push_comment};
 use nb_names::{Counted, NoMemory};
 use nb_text::push_packet;
 use std::alloc::Global;
@@ -38,50 +38,22 @@ pub fn run_show<R: Read, W: Write>(
         Consumes (R.remaining input.old.inner) (R.remaining input.new.inner) bytes ×
         ((result ≡ Err Fault.Read →
         ShowsUnread options.most bytes input.old.counts input.new.counts) ×
-        Shows options.comments options.most bytes (R.remaining input.new.inner)
+        Shows (ShowsLine options.comments) options.most bytes (R.remaining input.new.inner)
         (W.contents output.old.inner) (W.contents output.new.inner) result)) }
     ensures why { IfErr result (λ fault. fault ≡ Fault.Write →
         ShowsWriteFault output.old.counts output.new.counts) }
 {
     let options = options_of(matches);
-    let mut room = LineRoom::within(alloc, options.most);
-    let mut number = 0;
-    'lines: loop {
-        match next_from(&mut room, input) {
-            Ok(Some(line)) => {
-                number += 1;
-                show_line(alloc, number, line, options.comments, output)?;
-            }
-            Ok(None) => return Ok(()),
-            Err(LineReadFault::TooLong) => return Err(Fault::Line(number + 1)),
-            Err(LineReadFault::Read) => return Err(Fault::Read),
-            Err(LineReadFault::NoMemory) => return Err(Fault::Memory),
-        }
-    }
-}
-
-/// Shows what one line says, whole or not at all.
-fn show_line<W: Write>(
-    alloc: Global,
-    number: usize,
-    line: &[u8],
-    comments: Comments,
-    output: &mut Output<W>,
-) -> Result<(), Fault>
-    ensures shown { OnOk result ((text : List ℕ) × ShowsLine comments number line.now text ×
-        Appends (W.contents output.old.inner) (W.contents output.new.inner) text) }
-    ensures fault { IfErr result (IsUnshown comments number line.now
-        (W.contents output.old.inner) (W.contents output.new.inner)) }
-    ensures grow { GrowTo output.old.counts output.new.counts }
-    ensures why { IfErr result (λ fault. fault ≡ Fault.Write →
-        ShowsWriteFault output.old.counts output.new.counts) }
-{
-    let said = said_by(alloc, number, line)?;
-    show_said(alloc, number, line, &said, comments, output)
+    let mut teller = Teller::Text(options.comments);
+    print_capture(alloc, options.most, &mut teller, input, output)
 }
 
 /// Shows what a line says, or its comment, whole or not at all.
-fn show_said<W: Write>(
+///
+/// # Errors
+///
+/// [`Fault::Write`] where it can't be written, [`Fault::Memory`] where memory ran out.
+pub fn show_said<W: Write>(
     alloc: Global,
     number: usize,
     line: &[u8],
@@ -93,7 +65,7 @@ fn show_said<W: Write>(
         ShowsSaid comments number line.now said.now text ×
         Appends (W.contents output.old.inner) (W.contents output.new.inner) text) }
     ensures fault { IfErr result (λ fault. Reads line.now (Ok said.now) →
-        IsUnshown comments number line.now
+        IsUnshown (ShowsLine comments) number line.now
         (W.contents output.old.inner) (W.contents output.new.inner) fault) }
     ensures grow { GrowTo output.old.counts output.new.counts }
     ensures why { IfErr result (λ fault. fault ≡ Fault.Write →

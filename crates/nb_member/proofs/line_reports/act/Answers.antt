@@ -9,8 +9,8 @@ use Rattle.nb_member.specs.Member.{StandsOver}
 pub returns-in-Tick-clause-fault : goal.returns-in-Tick-clause-fault
 returns-in-Tick-clause-fault c =
     let m = c.args.member.now in
-    subst (λ (said : Line). OnErr c.look.result ((L : List Timed) → StandsOver m L → MayReportValue m L c.args.number said c.look.new.member))
-    (sym c.in-Tick.is) c.look.ensures.fault
+    subst (λ (said : Line). OnErr c.tick.result ((L : List Timed) → StandsOver m L → MayReportValue m L c.args.number said c.tick.new.member))
+    (sym c.in-Tick.is) c.tick.ensures.fault
 
 pub returns-in-Packet-clause-fault : goal.returns-in-Packet-clause-fault
 returns-in-Packet-clause-fault c =

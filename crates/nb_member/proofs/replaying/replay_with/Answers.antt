@@ -2,7 +2,7 @@ use Rattle.std.proofs.Common.{arith}
 use Rattle.std.proofs.lemmas.List.{length-append}
 use Rattle.std.proofs.lemmas.Result.{err_from_is_err_and}
 use Rattle.nb_names.specs.DeviceFacts.{fails_from}
-use Rattle.nb_member.specs.LinesSoFar.{of_line, of_end, of_fault, bytes_less}
+use Rattle.nb_member.specs.Shared.LinesSoFar.{of_line, of_end, of_fault, bytes_less}
 use Rattle.nb_member.proofs.ReplayLemmas.ReplaySoFar.{first_turn, next_turn}
 use Rattle.nb_member.proofs.ReplayLemmas.ReplayEnds.{ends_at_line, ends_too_long, ends_unread, ends_unheld, ends_at_end}
 use Rattle.nb_member.proofs.replaying.replay_with.Goals as goal

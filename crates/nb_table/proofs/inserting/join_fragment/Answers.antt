@@ -12,10 +12,10 @@ use Rattle.nb_table.specs.Limits.{Limits, IsFull, IsFullSource}
 use Rattle.nb_table.specs.KeyCounts.{held_keys, of_source}
 use Rattle.nb_table.specs.Code.Change.{KeyChange, change_of}
 use Rattle.nb_table.specs.Insert.{Lacks}
-use Rattle.nb_table.specs.Lemmas.SameLemmas.{key_cmp_total, key_cmp_exact}
-use Rattle.nb_table.specs.Lemmas.TreeLemmas.{get_is, len_is, changed_is, kept_is, insert_is}
+use Rattle.nb_table.specs.Shared.SameLemmas.{key_cmp_total, key_cmp_exact}
+use Rattle.nb_table.specs.Shared.TreeLemmas.{get_is, len_is, changed_is, kept_is, insert_is}
 use Rattle.nb_table.proofs.Changes.InsertLemmas.{needs_more, memory_alone, on_any_err}
-use Rattle.nb_table.specs.Lemmas.FragmentLemmas.{needs_new}
+use Rattle.nb_table.specs.Shared.FragmentLemmas.{needs_new}
 use Rattle.nb_table.proofs.inserting.join_fragment.Goals as goal
 
 held_not_full : (l : Limits) (t : Contents) (k : Key) (e : EntryValue) → maps.get t k ≡ Some e → IsFull l t k → ⊥

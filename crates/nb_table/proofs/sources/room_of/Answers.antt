@@ -3,10 +3,10 @@ use Rattle.std.specs.BTreeMap.Range.{entries_between}
 use Rattle.std.specs.declared.ops.Bound.TheVariants.{Included, Unbounded}
 use Rattle.nb_datagram.specs.declared.key.Key.{Key}
 use Rattle.nb_datagram.specs.Key.{key_cmp}
-use Rattle.nb_table.specs.declared.entry.Entry.{Entry}
+use Rattle.nb_table.specs.Entry.{EntryValue}
 use Rattle.nb_table.specs.KeyCounts.{of_source}
-use Rattle.nb_table.specs.Lemmas.SameLemmas.{key_cmp_total, key_cmp_exact}
-use Rattle.nb_table.specs.Lemmas.TreeLemmas.{entries_are, sorted_is}
+use Rattle.nb_table.specs.Shared.SameLemmas.{key_cmp_total, key_cmp_exact}
+use Rattle.nb_table.specs.Shared.TreeLemmas.{entries_are, sorted_is}
 use Rattle.nb_table.proofs.Limits.SourceLemmas.{Left, onward, onward_all, left_begun, left_next, none_counts, one_counts, not_true, not_false}
 use Rattle.nb_table.proofs.sources.room_of.Goals as goal
 
@@ -25,7 +25,7 @@ returns-then-ne c =
     let held = entries_are key_cmp_total key_cmp_exact c.args.entries.now c.range-key-items.ensures.ordered in
     let same = ap (λ fs. length (filter (of_source ip) (map (λ e. e.0) fs))) held in
     let is = c.in-Some.ensures.steps in
-    let e : Key × Entry = (c.in-Some.key.now, c.in-Some._entry.now) in
+    let e : Key × EntryValue = (c.in-Some.key.now, c.in-Some._entry.now) in
     let left = subst (Left ip) is c.loop-key.invariant.1 in
     let none = ap (λ fs. length (filter (of_source ip) (map (λ f. f.0) fs))) is ∙ none_counts ip e c.next.new.self left (not_true _ (sym c.ne.ensures ∙ c.if-ne.true)) in
     let now = c.loop-key.invariant.0 in
@@ -51,7 +51,7 @@ pub loop-key-preserved : goal.loop-key-preserved
 loop-key-preserved c =
     let ip = c.args.ip in
     let is = c.in-Some.ensures.steps in
-    let e : Key × Entry = (c.in-Some.key.now, c.in-Some._entry.now) in
+    let e : Key × EntryValue = (c.in-Some.key.now, c.in-Some._entry.now) in
     let one = ap (λ fs. length (filter (of_source ip) (map (λ f. f.0) fs))) is ∙ one_counts (of_source ip) e c.next.new.self (not_false _ (sym c.ne.ensures ∙ c.if-ne.false)) in
     let now = c.loop-key.invariant.0 in
     (omega (arith, now, one), left_next ip e c.next.new.self (subst (Left ip) is c.loop-key.invariant.1))

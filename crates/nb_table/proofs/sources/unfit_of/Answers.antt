@@ -4,11 +4,10 @@ use Rattle.std.specs.declared.ops.Bound.TheVariants.{Included, Unbounded}
 use Rattle.std.specs.FinMap as maps
 use Rattle.nb_datagram.specs.declared.key.Key.{Key}
 use Rattle.nb_datagram.specs.Key.{key_cmp}
-use Rattle.nb_table.specs.declared.entry.Entry.{Entry}
 use Rattle.nb_table.specs.Entry.{EntryValue}
 use Rattle.nb_table.specs.KeyCounts.{of_source}
-use Rattle.nb_table.specs.Lemmas.SameLemmas.{key_cmp_total, key_cmp_exact}
-use Rattle.nb_table.specs.Lemmas.TreeLemmas.{entries_are, get_is, sorted_is}
+use Rattle.nb_table.specs.Shared.SameLemmas.{key_cmp_total, key_cmp_exact}
+use Rattle.nb_table.specs.Shared.TreeLemmas.{entries_are, get_is, sorted_is}
 use Rattle.nb_table.proofs.Limits.SourceLemmas.{Left, onward, onward_new, left_begun, left_next, none_unfit, one_out, one_in, first_in, not_true, not_false}
 use Rattle.nb_table.proofs.sources.unfit_of.Goals as goal
 
@@ -30,7 +29,7 @@ returns-then-ne c =
     let s = maps.from_entries {R = key_cmp} c.args.entries.now.entries in
     let p = λ (k : Key). of_source ip k && is_none (maps.get s k) in
     let is = c.in-Some.ensures.steps in
-    let e : Key × Entry = (c.in-Some.key.now, c.in-Some._entry.now) in
+    let e : Key × EntryValue = (c.in-Some.key.now, c.in-Some._entry.now) in
     let left = subst (Left ip) is c.loop-key.invariant.1 in
     sym (none_unfit ip (λ k. is_none (maps.get s k)) e c.next.new.self c.loop-key.room left (not_true _ (sym c.ne.ensures ∙ c.if-ne.true)))
     ∙ sym (ap (λ fs. slice_get (filter p (map (λ f. f.0) fs)) c.loop-key.room) is)
@@ -50,7 +49,7 @@ loop-key-preserved-then-contains_key c =
     let p = λ (k : Key). of_source ip k && is_none (maps.get s k) in
     let k = c.in-Some.key.now in
     let is = c.in-Some.ensures.steps in
-    let e : Key × Entry = (k, c.in-Some._entry.now) in
+    let e : Key × EntryValue = (k, c.in-Some._entry.now) in
     let left = subst (Left ip) is c.loop-key.invariant.1 in
     let held : is_none (maps.get s k) ≡ false = lacked (maps.get s k) true (ap is_some (get_is key_cmp_total c.args.entries.now k) ∙ sym c.contains_key.ensures ∙ c.if-contains_key.true) in
     let out : p k ≡ false = ap (λ b. of_source ip k && b) held ∙ ap (λ b. b && false) (not_false _ (sym c.ne.ensures ∙ c.if-ne.false)) in (
@@ -65,7 +64,7 @@ returns-then-room-eq0 c =
     let p = λ (k : Key). of_source ip k && is_none (maps.get s k) in
     let k = c.in-Some.key.now in
     let is = c.in-Some.ensures.steps in
-    let e : Key × Entry = (k, c.in-Some._entry.now) in
+    let e : Key × EntryValue = (k, c.in-Some._entry.now) in
     let new : is_none (maps.get s k) ≡ true = lacked (maps.get s k) false (ap is_some (get_is key_cmp_total c.args.entries.now k) ∙ sym c.contains_key.ensures ∙ c.if-contains_key.false) in
     let passes : p k ≡ true = ap₂ ◌&&◌ (not_false _ (sym c.ne.ensures ∙ c.if-ne.false)) new in
     sym (first_in p e c.next.new.self passes)
@@ -80,7 +79,7 @@ loop-key-preserved c =
     let p = λ (k : Key). of_source ip k && is_none (maps.get s k) in
     let k = c.in-Some.key.now in
     let is = c.in-Some.ensures.steps in
-    let e : Key × Entry = (k, c.in-Some._entry.now) in
+    let e : Key × EntryValue = (k, c.in-Some._entry.now) in
     let left = subst (Left ip) is c.loop-key.invariant.1 in
     let new : is_none (maps.get s k) ≡ true = lacked (maps.get s k) false (ap is_some (get_is key_cmp_total c.args.entries.now k) ∙ sym c.contains_key.ensures ∙ c.if-contains_key.false) in
     let passes : p k ≡ true = ap₂ ◌&&◌ (not_false _ (sym c.ne.ensures ∙ c.if-ne.false)) new in (

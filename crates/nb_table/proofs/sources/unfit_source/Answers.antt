@@ -3,9 +3,9 @@ use Rattle.std.specs.Prelude.{[], Some, None}
 use Rattle.std.specs.FinMap as maps
 use Rattle.nb_datagram.specs.declared.key.Key.{Key}
 use Rattle.nb_datagram.specs.Key.{key_cmp}
-use Rattle.nb_table.specs.declared.entry.Entry.{Entry}
-use Rattle.nb_table.specs.Lemmas.SameLemmas.{key_cmp_total, key_cmp_exact}
-use Rattle.nb_table.specs.Lemmas.TreeLemmas.{entries_are, len_is, sorted_is}
+use Rattle.nb_table.specs.Entry.{EntryValue}
+use Rattle.nb_table.specs.Shared.SameLemmas.{key_cmp_total, key_cmp_exact}
+use Rattle.nb_table.specs.Shared.TreeLemmas.{entries_are, len_is, sorted_is}
 use Rattle.nb_table.proofs.Limits.UnfitLemmas.{Gone, few_fit, gone_begun, gone_turn, gone_same, gone_all, unfit_found}
 use Rattle.nb_table.proofs.sources.unfit_source.Goals as goal
 
@@ -34,7 +34,7 @@ loop-key-preserved-then-is_of_one c =
     let s = maps.from_entries {R = key_cmp} c.args.entries.now.entries in
     let t = maps.from_entries {R = key_cmp} c.args.others.now.entries in
     let es = c.args.others.now.entries in
-    let e : Key × Entry = (c.in-Some.key.now, c.in-Some._entry.now) in
+    let e : Key × EntryValue = (c.in-Some.key.now, c.in-Some._entry.now) in
     gone_same c.args.most s t c.loop-key.before es e c.next.new.self (subst (Gone c.args.most s t c.loop-key.before es) c.in-Some.ensures.steps c.loop-key.invariant) (c.is_of_one.ensures.0 c.if-is_of_one.true)
 
 pub returns-in-Some-unfit_of-clause-unfit : goal.returns-in-Some-unfit_of-clause-unfit
@@ -42,7 +42,7 @@ returns-in-Some-unfit_of-clause-unfit c =
     let s = maps.from_entries {R = key_cmp} c.args.entries.now.entries in
     let t = maps.from_entries {R = key_cmp} c.args.others.now.entries in
     let es = c.args.others.now.entries in
-    let e : Key × Entry = (c.in-Some.key.now, c.in-Some._entry.now) in
+    let e : Key × EntryValue = (c.in-Some.key.now, c.in-Some._entry.now) in
     let gone = subst (Gone c.args.most s t c.loop-key.before es) c.in-Some.ensures.steps c.loop-key.invariant in
     let all = entries_are key_cmp_total key_cmp_exact c.args.others.now c.len-2.ensures.ordered in
     unfit_found c.args.most s t gone.done e c.next.new.self c.in-Some-unfit_of.unfit (all ∙ gone.is) gone.sorted gone.none (sym c.unfit_of.ensures ∙ c.in-Some-unfit_of.is)
@@ -52,7 +52,7 @@ loop-key-preserved c =
     let s = maps.from_entries {R = key_cmp} c.args.entries.now.entries in
     let t = maps.from_entries {R = key_cmp} c.args.others.now.entries in
     let es = c.args.others.now.entries in
-    let e : Key × Entry = (c.in-Some.key.now, c.in-Some._entry.now) in
+    let e : Key × EntryValue = (c.in-Some.key.now, c.in-Some._entry.now) in
     let none = sym c.unfit_of.ensures ∙ c.in_default.is in
     gone_turn c.args.most s t c.loop-key.before (Some c.in-Some.key.now) es e c.next.new.self (subst (Gone c.args.most s t c.loop-key.before es) c.in-Some.ensures.steps c.loop-key.invariant) none none
 

@@ -1,7 +1,7 @@
 use Rattle.std.proofs.Common.{◌++◌, List, ap, map, sym, ◌∙◌, codes, string_bytes}
 use Rattle.nb_datagram.specs.declared.key.Key.{Key}
 use Rattle.nb_datagram.specs.KeyOrder.{key_cmp_total, key_cmp_exact}
-use Rattle.nb_table.specs.Lemmas.TreeLemmas.{entries_are}
+use Rattle.nb_table.specs.Shared.TreeLemmas.{entries_are}
 use Rattle.nbt.specs.Differences.{differences, lines_of_keys}
 use Rattle.nbt.specs.Printing.{line}
 use Rattle.nbt.proofs.differences.differences_of.Goals as goal

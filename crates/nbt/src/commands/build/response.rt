@@ -15,7 +15,7 @@ use crate::commands::build::arguments::{data, long_number, word};
 use crate::commands::build::build_fault::BuildFault;
 use nb_names::{Bytes, DomainName, Name, Pointers, name_from_text, read_domain};
 use nb_service::classes::IN;
-use nb_service::{Packet, Record, RecordFault, Section, encode};
+use nb_service::{Record, RecordFault, encode, response};
 use std::alloc::Global;
 
 /// The flag B of NM_FLAGS, by its place in the flag word.
@@ -109,9 +109,6 @@ fn encoded(alloc: Global, id: u16, word: u16, answer: Record<'_>) -> Result<Byte
     ensures { IfOk result (λ bytes.
         bytes ≡ packet_bytes (packet_of id word [] (answer.entry ∷ []) [] [])) }
 {
-    let mut packet = Packet::new(alloc, id, word);
-    match packet.push(Section::Answer, answer) {
-        Ok(()) => Ok(encode(alloc, &packet)?),
-        Err(_) => Err(BuildFault::Memory),
-    }
+    let packet = response(alloc, id, word, answer)?;
+    Ok(encode(alloc, &packet)?)
 }

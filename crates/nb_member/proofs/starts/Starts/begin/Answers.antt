@@ -2,7 +2,7 @@ use Rattle.std.proofs.Common.{Bool, cond, is_some, sym, ap, ◌∙◌}
 use Rattle.std.specs.FinMap as maps
 use Rattle.std.proofs.lemmas.Result.{err_from_is_err_and}
 use Rattle.nb_datagram.specs.KeyOrder.{key_cmp_total, key_cmp_exact}
-use Rattle.nb_table.specs.Lemmas.TreeLemmas.{get_is, insert_is}
+use Rattle.nb_table.specs.Shared.TreeLemmas.{get_is, insert_is}
 use Rattle.nb_member.proofs.starts.Starts.begin.Goals as goal
 
 pub returns-then-contains_key : goal.returns-then-contains_key

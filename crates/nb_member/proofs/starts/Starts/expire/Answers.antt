@@ -5,7 +5,7 @@ use Rattle.std.specs.FinMap.{is_sorted}
 use Rattle.nb_datagram.specs.declared.key.Key.{Key}
 use Rattle.nb_datagram.specs.Key.{key_cmp}
 use Rattle.nb_datagram.specs.KeyOrder.{key_cmp_total, key_cmp_exact}
-use Rattle.nb_table.specs.Lemmas.TreeLemmas.{entries_are}
+use Rattle.nb_table.specs.Shared.TreeLemmas.{entries_are}
 use Rattle.nb_member.proofs.MemberLemmas.DroppedKeys.{running_is}
 use Rattle.nb_member.proofs.starts.Starts.expire.Goals as goal
 

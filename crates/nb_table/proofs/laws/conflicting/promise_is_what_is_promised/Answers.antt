@@ -1,4 +1,4 @@
-use Rattle.nb_table.specs.Lemmas.PromiseLemmas.{promise_of_decides}
+use Rattle.nb_table.specs.Shared.PromiseLemmas.{promise_of_decides}
 use Rattle.nb_table.proofs.laws.conflicting.promise_is_what_is_promised.Goals as goal
 
 pub returns : goal.returns

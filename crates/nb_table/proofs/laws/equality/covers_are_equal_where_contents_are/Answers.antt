@@ -1,4 +1,4 @@
-use Rattle.nb_table.specs.Lemmas.EqualLemmas.{cover_decides}
+use Rattle.nb_table.specs.Shared.EqualLemmas.{cover_decides}
 use Rattle.nb_table.proofs.laws.equality.covers_are_equal_where_contents_are.Goals as goal
 
 pub returns : goal.returns

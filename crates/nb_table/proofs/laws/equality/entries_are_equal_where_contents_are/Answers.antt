@@ -1,4 +1,4 @@
-use Rattle.nb_table.specs.Lemmas.EqualLemmas.{entry_decides}
+use Rattle.nb_table.specs.Shared.EqualLemmas.{entry_decides}
 use Rattle.nb_table.proofs.laws.equality.entries_are_equal_where_contents_are.Goals as goal
 
 pub returns : goal.returns

@@ -1,6 +1,6 @@
 use Rattle.std.proofs.Common.{refl, sym, ◌∙◌}
 use Rattle.nb_datagram.specs.Fragment.{core_of}
-use Rattle.nb_table.specs.Lemmas.SameLemmas.{refutes}
+use Rattle.nb_table.specs.Shared.SameLemmas.{refutes}
 use Rattle.nb_table.proofs.PlainProgram.PlainLemmas.{header_conflict, overlap_conflict, ends_conflict, past_conflict, past_other_conflict, breaks_conflict, breaks_other_conflict, last_conflict}
 use Rattle.nb_table.proofs.plain.conflicting.conflict.Goals as goal
 

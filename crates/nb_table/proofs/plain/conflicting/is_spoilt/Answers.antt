@@ -1,7 +1,7 @@
 use Rattle.std.proofs.Common.{◌≡◌, true, refl, sym, ◌∙◌}
 use Rattle.nb_datagram.specs.Fragment.{cores_of}
 use Rattle.nb_table.specs.ConflictTests.{is_spoilt}
-use Rattle.nb_table.specs.Lemmas.SameLemmas.{refutes}
+use Rattle.nb_table.specs.Shared.SameLemmas.{refutes}
 use Rattle.nb_table.proofs.Conflict.ConflictLemmas.{is_spoilt_decides, or_first}
 use Rattle.nb_table.proofs.PlainProgram.PlainLemmas.{spoilt_turn, spoilt_end}
 use Rattle.nb_table.proofs.plain.conflicting.is_spoilt.Goals as goal

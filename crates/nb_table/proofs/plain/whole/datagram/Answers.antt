@@ -2,7 +2,7 @@ use Rattle.std.proofs.Common.{◌≡◌, refl, sym, ◌∙◌, None}
 use Rattle.nb_datagram.specs.Fragment.{core_of, cores_of}
 use Rattle.nb_table.specs.Contents.{table_of}
 use Rattle.nb_table.specs.Whole.{datagram_at}
-use Rattle.nb_table.specs.Lemmas.SameLemmas.{refutes}
+use Rattle.nb_table.specs.Shared.SameLemmas.{refutes}
 use Rattle.nb_table.proofs.PlainProgram.PlainWholeLemmas.{not_whole, none_long, whole_ending, whole_starting, whole_is, whole_long, whole_short, not_this}
 use Rattle.nb_table.proofs.Wholeness.WholeLemmas.{none_whole}
 use Rattle.nb_table.proofs.plain.whole.datagram.Goals as goal

@@ -1,7 +1,7 @@
 use Rattle.std.proofs.Common.{◌≡◌, Some, None, sym, ◌∙◌, subst}
 use Rattle.nb_datagram.specs.Fragment.{cores_of}
 use Rattle.nb_table.specs.Code.Plain.{CoversBelow}
-use Rattle.nb_table.specs.Lemmas.SameLemmas.{refutes}
+use Rattle.nb_table.specs.Shared.SameLemmas.{refutes}
 use Rattle.nb_table.proofs.PlainProgram.PlainWholeLemmas.{whole_from, whole_free, whole_ends}
 use Rattle.nb_table.proofs.plain.whole.is_whole.Goals as goal
 

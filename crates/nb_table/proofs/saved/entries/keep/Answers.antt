@@ -1,5 +1,5 @@
-use Rattle.nb_table.specs.Lemmas.SameLemmas.{key_cmp_total, key_cmp_exact}
-use Rattle.nb_table.specs.Lemmas.TreeLemmas.{insert_is}
+use Rattle.nb_table.specs.Shared.SameLemmas.{key_cmp_total, key_cmp_exact}
+use Rattle.nb_table.specs.Shared.TreeLemmas.{insert_is}
 use Rattle.nb_table.proofs.saved.entries.keep.Goals as goal
 
 pub returns : goal.returns

@@ -1,6 +1,6 @@
 use Rattle.std.proofs.lemmas.Result.{err_from_is_err_and}
 use Rattle.nb_table.specs.SavedReading.{stops, goes_on, good, bad}
-use Rattle.nb_table.specs.Lemmas.SameLemmas.{refutes}
+use Rattle.nb_table.specs.Shared.SameLemmas.{refutes}
 use Rattle.nb_table.proofs.saved.fields.read_promised.Goals as goal
 
 pub returns-in_err-number : goal.returns-in_err-number

@@ -1,7 +1,7 @@
 use Rattle.std.proofs.Common.{◌+◌, ◌-◌, arith}
 use Rattle.nb_table.specs.Code.RunSteps.{values_of}
 use Rattle.nb_table.proofs.Runs.RowLemmas.{row_next}
-use Rattle.nb_table.proofs.KeptRuns.RunPlacesLemmas.{row_kept}
+use Rattle.nb_table.proofs.KeptRuns.RunFactsLemmas.{row_kept}
 use Rattle.nb_table.proofs.saved.runs.kept_runs.Goals as goal
 
 pub loop-preserved : goal.loop-preserved

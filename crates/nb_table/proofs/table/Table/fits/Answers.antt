@@ -1,4 +1,4 @@
-use Rattle.nb_table.specs.Lemmas.SameLemmas.{refutes}
+use Rattle.nb_table.specs.Shared.SameLemmas.{refutes}
 use Rattle.nb_table.proofs.table.Table.fits.Goals as goal
 
 pub returns-then-not-is_short-clause-fault : goal.returns-then-not-is_short-clause-fault

@@ -10,7 +10,7 @@ use Rattle.nb_table.specs.Limits.{TableValue, KeepsLimits}
 use Rattle.nb_table.specs.Change.{IsChange}
 use Rattle.nb_table.specs.Code.Change.{change_of}
 use Rattle.nb_table.specs.Insert.{Passes, Refuses}
-use Rattle.nb_table.specs.Lemmas.FragmentLemmas.{join_one}
+use Rattle.nb_table.specs.Shared.FragmentLemmas.{join_one}
 use Rattle.nb_table.proofs.Changes.InsertLemmas.{short_more, same_test, refused_from, spared, insert_keeps, change_at}
 use Rattle.nb_table.proofs.table.Table.insert.Goals.{After-from_residual, After-into_change}
 use Rattle.nb_table.proofs.table.Table.insert.Goals as goal

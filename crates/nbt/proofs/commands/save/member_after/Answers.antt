@@ -1,7 +1,7 @@
-use Rattle.std.proofs.Common.{refl, inr, arith}
+use Rattle.std.proofs.Common.{inr, arith}
 use Rattle.std.proofs.lemmas.List.{length-append}
 use Rattle.std.proofs.lemmas.Result.{err_from_is_err_and}
-use Rattle.nb_member.specs.LinesSoFar.{of_line, of_end, of_fault, bytes_less}
+use Rattle.nb_member.specs.Shared.LinesSoFar.{of_line, of_end, of_fault, bytes_less}
 use Rattle.nbt.proofs.SavingTurns.{first_taking, taking_more, stops_at_line, stops_too_long, stops_unread, takes_all}
 use Rattle.nbt.proofs.commands.save.member_after.Goals as goal
 

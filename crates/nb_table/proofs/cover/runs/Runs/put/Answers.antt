@@ -3,7 +3,7 @@ use Rattle.std.proofs.lemmas.Result.{on_ok_weaker}
 use Rattle.std.specs.List.{list_all}
 use Rattle.std.specs.FinMap as maps
 use Rattle.nb_table.specs.Cover.{placed, same_where}
-use Rattle.nb_table.specs.Code.Places.{with_bytes}
+use Rattle.nb_table.specs.Code.CoverFacts.{with_bytes}
 use Rattle.nb_table.specs.Code.RunSteps.{values_of}
 use Rattle.nb_table.proofs.KeptRuns.RunMapLemmas.{agree_from, map_put}
 use Rattle.nb_table.proofs.cover.runs.Runs.put.Goals as goal

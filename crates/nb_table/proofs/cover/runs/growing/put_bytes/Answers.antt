@@ -1,15 +1,15 @@
 use Rattle.std.proofs.Common.{◌<◌, length, sym, subst, arith, refl, ◌∙◌}
+use Rattle.std.proofs.lemmas.Bool.{eqb-true}
 use Rattle.std.proofs.lemmas.Result.{on_ok_weaker}
 use Rattle.nb_table.specs.Code.RunSteps.{values_of, run_at, IsPut}
-use Rattle.nb_table.specs.Lemmas.SameLemmas.{eq_is}
-use Rattle.nb_table.proofs.Covers.PlacesLemmas.{not_empty}
+use Rattle.nb_table.proofs.Covers.CoverFactsLemmas.{not_empty}
 use Rattle.nb_table.proofs.KeptRuns.RunPutLemmas.{put_empty}
 use Rattle.nb_table.proofs.KeptRuns.RunPlaceLemmas.{Lies, lies_of, some_run, meet_at, touch_at, order_at, none_there, one_there, more_there}
 use Rattle.nb_table.proofs.cover.runs.growing.put_bytes.Goals as goal
 
 pub returns-then-is_empty-clause-ok : goal.returns-then-is_empty-clause-ok
 returns-then-is_empty-clause-ok c =
-    put_empty (values_of c.args.runs.now.items) (run_at c.args.start c.args.bytes.now) c.requires.apart (eq_is _ 0 (sym c.is_empty.ensures ∙ c.if-is_empty.true))
+    put_empty (values_of c.args.runs.now.items) (run_at c.args.start c.args.bytes.now) c.requires.apart (eqb-true _ 0 (sym c.is_empty.ensures ∙ c.if-is_empty.true))
 
 pub returns-then-past-first-clause-ok : goal.returns-then-past-first-clause-ok
 returns-then-past-first-clause-ok c =

@@ -1,5 +1,5 @@
 use Rattle.std.proofs.Common.{arith}
-use Rattle.nb_table.specs.Lemmas.SameLemmas.{le_is, is_le}
+use Rattle.std.proofs.lemmas.Bool.{leb-true, le-leb}
 use Rattle.nb_table.proofs.KeptRuns.RunReadLemmas.{last_ends, ends_last, last_read}
 use Rattle.nb_table.proofs.cover.runs.reading.end_by.Goals as goal
 
@@ -9,6 +9,6 @@ returns-in-Some c =
     let r = c.in-Some.run'.now in
     let last = last_read xs r c.in-Some.ensures.value in
     let end = c.end.ensures in (
-      λ h. (let below = le_is _ _ h in ends_last xs r c.args.end c.requires last.0 last.1 (omega (arith, below, end))),
-      λ h. is_le _ _ (let below = last_ends xs r c.args.end c.requires last.0 last.1 h in omega (arith, below, end)),
+      λ h. (let below = leb-true _ _ h in ends_last xs r c.args.end c.requires last.0 last.1 (omega (arith, below, end))),
+      λ h. le-leb _ _ (let below = last_ends xs r c.args.end c.requires last.0 last.1 h in omega (arith, below, end)),
     )

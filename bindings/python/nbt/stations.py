@@ -1,0 +1,162 @@
+"""Stations: the payloads of port 138, put together to datagrams. RFC 1002 section 5.3."""
+from __future__ import annotations
+
+import ctypes
+import enum
+import ipaddress
+from dataclasses import dataclass
+from types import TracebackType
+from typing import Iterable, Optional, Type
+
+from . import names as spelled
+from .datagrams import DatagramType
+from .library import ADDRESS, BYTES, LIBRARY, Buffer, call, given, words_of, writer
+from .numbers import Address, address_number, number
+from .statuses import Status
+from .tables import KEYS, PER_SOURCE
+
+# NBT_TAKE_ROOM: no call of nbt_station_take writes more.
+TAKE_ROOM = 66_045
+
+
+class Outcome(enum.IntEnum):
+    """What became of a payload: the numbers of enum nbt_outcome."""
+
+    KEPT = 0
+    SPOILT = 1
+    DELIVERED = 2
+    UNHEARD = 3
+    OTHER = 4
+    REFUSED = 5
+
+
+class Handle(ctypes.Structure):
+    """struct nbt_station."""
+
+    _fields_ = [('at', ctypes.c_void_p)]
+
+
+class Numbers(ctypes.Structure):
+    """struct nbt_taken."""
+
+    _fields_ = [('outcome', ctypes.c_uint32), ('address', ctypes.c_uint32), ('port', ctypes.c_uint16),
+                ('identifier', ctypes.c_uint16), ('type', ctypes.c_uint8), ('source_length', ctypes.c_size_t),
+                ('destination_length', ctypes.c_size_t), ('data_length', ctypes.c_size_t), ('error_length', ctypes.c_size_t),
+                ('refusal', ctypes.c_uint32), ('refused_at', ctypes.c_size_t)]
+
+
+@dataclass(frozen=True)
+class Delivery:
+    """A datagram that is handed over."""
+
+    type: DatagramType              # UNIQUE, GROUP or BROADCAST
+    address: ipaddress.IPv4Address  # SOURCE_IP
+    port: int                       # SOURCE_PORT
+    identifier: int                 # DGM_ID
+    source: str                     # SOURCE_NAME, as a text
+    destination: str                # DESTINATION_NAME, as a text
+    data: bytes
+
+
+@dataclass(frozen=True)
+class Taken:
+    """What became of a payload."""
+
+    outcome: Outcome
+    address: Optional[ipaddress.IPv4Address]  # the key of a fragment's datagram: SOURCE_IP, None of another packet
+    port: int
+    identifier: int
+    delivery: Optional[Delivery]              # at DELIVERED
+    error: bytes                              # the packet to send to where the payload came from, or b''
+    refusal: Optional[Exception]              # at REFUSED: what Datagram.read raises of the payload
+
+
+CREATE = call('nbt_station_create', *BYTES, ctypes.c_uint32, ctypes.c_uint16, ctypes.c_uint32, ctypes.c_uint32, ADDRESS,
+              ADDRESS)
+TAKE = call('nbt_station_take', ADDRESS, ctypes.c_uint64, *BYTES, ADDRESS, *BYTES, ADDRESS)
+TICK = call('nbt_station_tick', ADDRESS, ctypes.c_uint64, ADDRESS)
+SAVE = writer('nbt_station_save', ADDRESS, places=False)
+
+
+class Station:
+    """A station with these names, address and port, and an empty table that has room for so many keys, and for so many of one
+    address. It is given back at the end of a `with`, by `close`, or with the object. One call at a time.
+
+    NbtError: BAD_TEXT, LONG_TEXT, NAME_PRESENT, TOO_MANY_NAMES; `at` counts in the names with a space between two.
+    """
+
+    def __init__(self, names: Iterable[str], address: Address, port: int = 138, keys: int = KEYS,
+                 per_source: int = PER_SOURCE) -> None:
+        self.handle = Handle()
+        texts = ' '.join(names).encode()
+        at, place = ctypes.c_void_p(), ctypes.c_size_t()
+        status = CREATE(texts, len(texts), address_number(address), number(port, 16, 'port'), number(keys, 32, 'keys'),
+                        number(per_source, 32, 'per source'), ctypes.byref(at), ctypes.byref(place))
+        if status != Status.DONE:
+            raise words_of(status, place.value)
+        self.handle.at = at.value
+        self.into, self.used = ctypes.create_string_buffer(TAKE_ROOM), ctypes.c_size_t()
+
+    def __enter__(self) -> Station:
+        return self
+
+    def __exit__(self, kind: Optional[Type[BaseException]], fault: Optional[BaseException],
+                 trace: Optional[TracebackType]) -> None:
+        self.close()
+
+    def __del__(self) -> None:
+        self.close()
+
+    def close(self) -> None:
+        """Gives the station back. No other call may follow; a second close does nothing."""
+        if self.handle.at:
+            free = LIBRARY.nbt_station_free
+            free.argtypes, free.restype = (Handle,), None
+            free(Handle(self.handle.at))
+            self.handle.at = None
+
+    def open(self) -> ctypes._Pointer[Handle]:
+        """The handle; ValueError where the station is closed."""
+        if not self.handle.at:
+            raise ValueError('the station is closed')
+        return ctypes.pointer(self.handle)
+
+    def take(self, moment: int, payload: Buffer) -> Taken:
+        """Takes a payload of port 138 that came at this moment, in milliseconds since any moment.
+
+        NbtError: MISPLACED_FIRST, LONG, FULL_SOURCE, FULL. The station is then as it was.
+        """
+        data, told = given(payload), Numbers()
+        status = TAKE(self.open(), number(moment, 64, 'moment'), data, len(data), ctypes.byref(told), self.into, TAKE_ROOM,
+                      ctypes.byref(self.used))
+        if status != Status.DONE:
+            raise words_of(status, 0)
+        return taken(told, ctypes.string_at(self.into, self.used.value))
+
+    def tick(self, now: int) -> int:
+        """Looks at the clock: drops each key that came at least 2,000 milliseconds before, and answers how many."""
+        dropped = ctypes.c_uint32()
+        status = TICK(self.open(), number(now, 64, 'now'), ctypes.byref(dropped))
+        if status != Status.DONE:
+            raise words_of(status, 0)
+        return dropped.value
+
+    def save(self) -> bytes:
+        """The station's table, saved."""
+        return SAVE(self.open())
+
+
+def taken(told: Numbers, written: bytes) -> Taken:
+    """What became of a payload, of which this was told and written."""
+    outcome = Outcome(told.outcome)
+    fragment = outcome not in (Outcome.OTHER, Outcome.REFUSED)
+    return Taken(outcome, ipaddress.IPv4Address(told.address) if fragment else None, told.port, told.identifier,
+                 delivery(told, written) if outcome == Outcome.DELIVERED else None, written[:told.error_length],
+                 words_of(told.refusal, told.refused_at) if outcome == Outcome.REFUSED else None)
+
+
+def delivery(told: Numbers, written: bytes) -> Delivery:
+    """The datagram that is handed over."""
+    source, behind = written[:told.source_length], written[told.source_length:]
+    return Delivery(DatagramType(told.type), ipaddress.IPv4Address(told.address), told.port, told.identifier,
+                    spelled.text(source), spelled.text(behind[:told.destination_length]), behind[told.destination_length:])

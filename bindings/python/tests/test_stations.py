@@ -1,0 +1,101 @@
+"""Stations, and saved tables."""
+import unittest
+
+import nbt
+from nbt import Outcome, Status
+
+EMPTY, OLD_EMPTY = b'NBT2\0\0\0\0', b'NBT1\0\0\0\0'
+
+
+def pieces(destination='FRED<20>', type=nbt.DatagramType.UNIQUE, identifier=7):
+    return nbt.Datagram.write(type, identifier, '10.0.0.5', 138, 'JOE<00>', destination, b'hello, FRED', 6)
+
+
+def spoilt(*identifiers):
+    """A table in which these keys of 10.0.0.5:138 are spoilt."""
+    keys = b''.join(bytes.fromhex('0a000005008a') + it.to_bytes(2, 'big') + b'\0' for it in identifiers)
+    return b'NBT2' + len(identifiers).to_bytes(4, 'big') + keys
+
+
+class Refusing(unittest.TestCase):
+    def refused(self, call, *arguments, **limits):
+        with self.assertRaises(nbt.NbtError) as caught:
+            call(*arguments, **limits)
+        return caught.exception.status, caught.exception.at
+
+
+class Stations(Refusing):
+    def test_delivered(self):
+        first, second = pieces()
+        with nbt.Station(['FRED<20>', 'OFFICE<1e>'], '10.0.0.9') as station:
+            self.assertEqual(station.take(0, second).outcome, Outcome.KEPT)
+            taken = station.take(0, first)
+            self.assertEqual(taken.outcome, Outcome.DELIVERED)
+            self.assertEqual((taken.delivery.source, taken.delivery.destination, taken.delivery.data),
+                             ('JOE<00>', 'FRED<20>', b'hello, FRED'))
+            self.assertEqual((str(taken.delivery.address), taken.delivery.port, taken.delivery.identifier), ('10.0.0.5', 138, 7))
+            self.assertEqual(station.take(0, first).outcome, Outcome.KEPT)
+            self.assertEqual(station.save()[:8], b'NBT2\0\0\0\1')
+            self.assertEqual((station.tick(1_999), station.tick(2_000), station.tick(9_999)), (0, 1, 0))
+            self.assertEqual(station.save(), EMPTY)
+
+    def test_unheard(self):
+        with nbt.Station([], '10.0.0.9', 1138) as station:
+            outcomes = [station.take(0, each) for each in pieces('ANN<20>')]
+        self.assertEqual(outcomes[1].outcome, Outcome.UNHEARD)
+        self.assertEqual(outcomes[1].error.hex(), '130200070a000009047282')
+
+    def test_refused_payload(self):
+        with nbt.Station(['FRED<20>'], '10.0.0.9') as station:
+            taken = station.take(0, pieces()[0][:40])
+            self.assertEqual((taken.outcome, taken.refusal.status, taken.refusal.at), (Outcome.REFUSED, Status.TRUNCATED, 40))
+            bad = bytearray(pieces()[0])
+            bad[14] = 64
+            taken = station.take(0, bad)
+            self.assertEqual((taken.refusal.status, taken.error.hex()),
+                             (Status.SOURCE_RESERVED_LABEL, '130200070a000009008a83'))
+
+    def test_spoilt_and_other(self):
+        with nbt.Station(['FRED<20>'], '10.0.0.9') as station:
+            station.take(0, pieces()[0])
+            self.assertEqual(station.take(0, pieces()[0][:-1] + b'?').outcome, Outcome.SPOILT)
+            self.assertEqual(station.take(0, bytes.fromhex('130200070a000009008a82')).outcome, Outcome.OTHER)
+
+    def test_limits(self):
+        with nbt.Station(['FRED<20>'], '10.0.0.9', keys=1) as station:
+            station.take(0, pieces()[0])
+            self.assertEqual(self.refused(station.take, 0, pieces(identifier=8)[0]), (Status.FULL, None))
+            misplaced = bytearray(pieces()[0])
+            misplaced[1] = 1
+            self.assertEqual(self.refused(station.take, 0, misplaced), (Status.MISPLACED_FIRST, None))
+
+    def test_names(self):
+        names = ['N%d<20>' % i for i in range(255)]
+        self.assertEqual(self.refused(nbt.Station, ['FRED<20>', 'JOE'], '10.0.0.9'), (Status.BAD_TEXT, 12))
+        self.assertEqual(self.refused(nbt.Station, ['FRED<20>'] * 2, '10.0.0.9'), (Status.NAME_PRESENT, 9))
+        self.assertEqual(self.refused(nbt.Station, names, '10.0.0.9'), (Status.TOO_MANY_NAMES, len(' '.join(names[:254])) + 1))
+        self.assertEqual(self.refused(nbt.Station, [''] * 2, '10.0.0.9'), (Status.BAD_TEXT, 0))
+
+    def test_closed(self):
+        station = nbt.Station(['FRED<20>'], '10.0.0.9')
+        station.close()
+        station.close()
+        self.assertRaises(ValueError, station.save)
+
+
+class Tables(Refusing):
+    def test_merge(self):
+        self.assertEqual(nbt.merge(EMPTY, OLD_EMPTY), EMPTY)
+        self.assertEqual(nbt.merge(spoilt(2), spoilt(1, 2)), spoilt(1, 2))
+
+    def test_refused(self):
+        self.assertEqual(self.refused(nbt.merge, b'NBT3', EMPTY), (Status.TABLE_BAD_MAGIC, None))
+        self.assertEqual(self.refused(nbt.merge, EMPTY, b'NBT2\0'), (Status.SECOND_TRUNCATED, None))
+        self.assertEqual(self.refused(nbt.merge, spoilt(2, 1), EMPTY), (Status.TABLE_NOT_CANONICAL, 17))
+        self.assertEqual(self.refused(nbt.merge, spoilt(1, 2), EMPTY, keys=1), (Status.TABLE_FULL, None))
+        self.assertEqual(self.refused(nbt.merge, EMPTY, spoilt(1, 2), per_source=1), (Status.SECOND_FULL_SOURCE, None))
+        self.assertEqual(self.refused(nbt.merge, spoilt(1), spoilt(2), keys=1), (Status.FULL, None))
+
+
+if __name__ == '__main__':
+    unittest.main()

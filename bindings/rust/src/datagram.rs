@@ -1,0 +1,247 @@
+//! Packets of the datagram service, port 138: RFC 1002 section 4.4.
+//!
+//! ```
+//! use nbt::datagram::{read, Body, Datagram, Kind};
+//!
+//! let datagram = Datagram {
+//!     kind: Kind::Group,
+//!     identifier: 10,
+//!     sender: "10.0.0.5:138".parse()?,
+//!     source: "JOE<00>",
+//!     destination: "FRED<20>",
+//!     data: b"hello, FRED",
+//! };
+//! for payload in &datagram.cut(4)? {
+//!     let packet = read(payload)?;
+//!     if let Body::Fragment(fragment) = packet.body {
+//!         assert_eq!(fragment.destination.text()?, "FRED<20>");
+//!         assert_eq!(packet.has_more(), fragment.offset < 8);
+//!     }
+//! }
+//! # Ok::<(), Box<dyn std::error::Error>>(())
+//! ```
+
+use std::net::{Ipv4Addr, SocketAddrV4};
+
+use crate::calls::{nbt_datagram_read, nbt_datagram_write, FoundDatagram, DONE};
+use crate::room::written;
+use crate::{Error, Result, Spelling, Status};
+
+/// What MSG_TYPE says of a fragment's datagram.
+#[derive(Clone, Copy, Debug, PartialEq, Eq, Hash)]
+#[repr(u8)]
+pub enum Kind {
+    /// For one name.
+    Unique = 0x10,
+    /// For the members of a group.
+    Group = 0x11,
+    /// For all.
+    Broadcast = 0x12,
+}
+
+impl Kind {
+    /// The kind with this number.
+    pub(crate) fn from_number(number: u8) -> Option<Kind> {
+        let all = [Kind::Unique, Kind::Group, Kind::Broadcast];
+        all.into_iter().find(|it| *it as u8 == number)
+    }
+}
+
+/// What MSG_TYPE says of a query packet.
+#[derive(Clone, Copy, Debug, PartialEq, Eq, Hash)]
+#[repr(u8)]
+pub enum Query {
+    /// A question: who has the name?
+    Find = 0x14,
+    /// The answer that somebody has it.
+    Found = 0x15,
+    /// The answer that nobody has it.
+    Missing = 0x16,
+}
+
+/// A packet of port 138, whose names and data are lent from the payload.
+#[derive(Clone, Copy, Debug, PartialEq, Eq, Hash)]
+pub struct Packet<'a> {
+    /// FLAGS, all eight bits.
+    pub flags: u8,
+    /// DGM_ID.
+    pub identifier: u16,
+    /// SOURCE_IP and SOURCE_PORT.
+    pub sender: SocketAddrV4,
+    /// What it says.
+    pub body: Body<'a>,
+    /// The bytes of the packet; what follows it isn't looked at.
+    pub used: usize,
+}
+
+/// What a packet says.
+#[derive(Clone, Copy, Debug, PartialEq, Eq, Hash)]
+pub enum Body<'a> {
+    /// A piece of a datagram, or the whole of it.
+    Fragment(Fragment<'a>),
+    /// Why a datagram wasn't taken: 0x82 the destination isn't there, 0x83 and 0x84 the source's and the destination's
+    /// names have a bad form; others come through.
+    Error(u8),
+    /// A question for a name, or its answer.
+    Query(Query, Spelling<'a>),
+}
+
+/// A piece of a datagram (RFC 1002 section 4.4.2). That each carries both names is our choice.
+#[derive(Clone, Copy, Debug, PartialEq, Eq, Hash)]
+pub struct Fragment<'a> {
+    /// For whom the datagram is.
+    pub kind: Kind,
+    /// PACKET_OFFSET: where the data begins in the datagram's, in bytes.
+    pub offset: u16,
+    /// SOURCE_NAME.
+    pub source: Spelling<'a>,
+    /// DESTINATION_NAME.
+    pub destination: Spelling<'a>,
+    /// The piece's data.
+    pub data: &'a [u8],
+}
+
+impl Packet<'_> {
+    /// Whether more fragments follow.
+    pub fn has_more(&self) -> bool {
+        self.flags & 0x01 != 0
+    }
+
+    /// Whether it is the first fragment.
+    pub fn is_first(&self) -> bool {
+        self.flags & 0x02 != 0
+    }
+}
+
+/// Reads the packet at the front of a payload of port 138. No memory is taken.
+///
+/// # Errors
+///
+/// `Truncated` for less than the ten bytes of a header, `UnknownType`, `Truncated`, `SourceTruncated` to
+/// `SourceNotNetbios`, `DestinationTruncated` to `DestinationNotNetbios`, judged in this order.
+pub fn read(payload: &[u8]) -> Result<Packet<'_>> {
+    let (mut found, mut at) = (FoundDatagram::default(), 0);
+    // SAFETY: the payload is a slice, and what is written lies apart from it.
+    let status = unsafe { nbt_datagram_read(payload.as_ptr(), payload.len(), &mut found, &mut at) };
+    if status != DONE {
+        return Err(Error::new(status, at));
+    }
+    Ok(Packet {
+        flags: found.flags,
+        identifier: found.identifier,
+        sender: SocketAddrV4::new(Ipv4Addr::from(found.address), found.port),
+        body: body_of(payload, &found)?,
+        used: found.used,
+    })
+}
+
+/// What the packet says that was found in this payload.
+fn body_of<'a>(payload: &'a [u8], found: &FoundDatagram) -> Result<Body<'a>> {
+    let part = |start: usize, length: usize| &payload[start..start + length];
+    let destination = Spelling(part(found.destination, found.destination_length));
+    let data = part(found.data, found.data_length);
+    if let Some(kind) = Kind::from_number(found.kind) {
+        return Ok(Body::Fragment(Fragment {
+            kind,
+            offset: found.offset,
+            source: Spelling(part(found.source, found.source_length)),
+            destination,
+            data,
+        }));
+    }
+    Ok(match (found.kind, data) {
+        (0x13, &[code]) => Body::Error(code),
+        (0x14, _) => Body::Query(Query::Find, destination),
+        (0x15, _) => Body::Query(Query::Found, destination),
+        (0x16, _) => Body::Query(Query::Missing, destination),
+        // The library answers no other.
+        _ => return Err(Error::new(Status::UnknownType.number(), 0)),
+    })
+}
+
+/// A datagram that is to be sent.
+#[derive(Clone, Copy, Debug, PartialEq, Eq, Hash)]
+pub struct Datagram<'a> {
+    /// For whom it is.
+    pub kind: Kind,
+    /// DGM_ID: no two datagrams that a sender sends within some seconds should have the same.
+    pub identifier: u16,
+    /// SOURCE_IP and SOURCE_PORT.
+    pub sender: SocketAddrV4,
+    /// The text of the source's name.
+    pub source: &'a str,
+    /// The text of the destination's name.
+    pub destination: &'a str,
+    /// Its data, at most 65,535 bytes.
+    pub data: &'a [u8],
+}
+
+impl Datagram<'_> {
+    /// Its packets, each with at most `most` bytes of data, in order.
+    ///
+    /// # Errors
+    ///
+    /// `SourceBadText` to `DestinationLongText`, `LongData` for data over 65,535 bytes, `ZeroPiece`, `LongData` where
+    /// the longest packet would pass 65,535 bytes, `NoMemory`.
+    pub fn cut(&self, most: u16) -> Result<Packets> {
+        // SAFETY: texts and data are slices, and the room's parts lie apart from them.
+        let bytes = unsafe {
+            written(|room| {
+                nbt_datagram_write(
+                    self.kind as u8,
+                    self.identifier,
+                    u32::from(*self.sender.ip()),
+                    self.sender.port(),
+                    self.source.as_ptr(),
+                    self.source.len(),
+                    self.destination.as_ptr(),
+                    self.destination.len(),
+                    self.data.as_ptr(),
+                    self.data.len(),
+                    most,
+                    room.into,
+                    room.length,
+                    room.used,
+                    room.at,
+                )
+            })
+        };
+        Ok(Packets(bytes?))
+    }
+}
+
+/// The packets of a datagram, in order: what goes to the network, one payload each.
+#[derive(Clone, Debug, PartialEq, Eq, Hash)]
+pub struct Packets(Vec<u8>);
+
+impl Packets {
+    /// The payloads, in order.
+    pub fn iter(&self) -> Iter<'_> {
+        Iter(&self.0)
+    }
+}
+
+impl<'a> IntoIterator for &'a Packets {
+    type Item = &'a [u8];
+    type IntoIter = Iter<'a>;
+
+    fn into_iter(self) -> Iter<'a> {
+        self.iter()
+    }
+}
+
+/// The payloads of a datagram that haven't been handed out yet, each after its length in two bytes.
+#[derive(Clone, Debug)]
+pub struct Iter<'a>(&'a [u8]);
+
+impl<'a> Iterator for Iter<'a> {
+    type Item = &'a [u8];
+
+    fn next(&mut self) -> Option<&'a [u8]> {
+        let length = self.0.get(..2)?;
+        let end = 2 + usize::from(u16::from_be_bytes([length[0], length[1]]));
+        let payload = self.0.get(2..end)?;
+        self.0 = &self.0[end..];
+        Some(payload)
+    }
+}

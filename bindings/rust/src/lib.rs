@@ -1,0 +1,54 @@
+//! NetBIOS packets over TCP and UDP (RFC 1001, RFC 1002), read and written by the library libnbt, whose calls are
+//! proved to do what they say.
+//!
+//! - [`spell`] and [`text`]: names as texts, and as packets spell them
+//! - [`show`]: what the command `nbt show` prints of a payload
+//! - [`service`]: requests of port 137
+//! - [`datagram`]: packets of port 138
+//! - [`session`]: packets of port 139
+//! - [`station`]: stations, which put datagrams together
+//! - [`merge`]: saved tables, joined
+//!
+//! ```
+//! let payload = [0x83, 0, 0, 1, 0x82];
+//! assert_eq!(nbt::show(139, &payload)?, "negative code=82 used=5\n");
+//!
+//! let refused = nbt::spell("FRED").unwrap_err();
+//! assert_eq!((refused.status(), refused.at()), (nbt::Status::BadText, Some(4)));
+//! assert_eq!(refused.to_string(), "bad text 4");
+//! # Ok::<(), nbt::Error>(())
+//! ```
+//!
+//! Names as texts are written as in `FRED<20>` or `FRED<20>.NETBIOS.COM` (our choice): the characters of the name, its
+//! sixteenth byte as two hexadecimal digits between `<` and `>`, and the labels of its scope, each after a full stop. A
+//! byte that isn't one of the plain ones is a backslash and two hexadecimal digits.
+//!
+//! Each call may be made from any thread, those on one station one at a time. One that needs memory may answer
+//! [`Status::NoMemory`], and then nothing has changed.
+//!
+//! The build script finds the library by `pkg-config`: `make install-lib` installs it, and `PKG_CONFIG_PATH` may name
+//! the folder of `nbt.pc`. With `NBT_STATIC=1` it is linked into the program.
+#![deny(missing_docs, unsafe_op_in_unsafe_fn)]
+
+mod calls;
+mod error;
+mod names;
+mod packets;
+mod room;
+mod status;
+mod tables;
+
+pub mod datagram;
+pub mod service;
+pub mod session;
+pub mod station;
+
+pub use error::Error;
+pub use names::{spell, text, Spelling};
+pub use packets::{show, show_into};
+pub use station::Station;
+pub use status::Status;
+pub use tables::{merge, Limits};
+
+/// What a call answers: a value, or why it did nothing.
+pub type Result<T> = std::result::Result<T, Error>;

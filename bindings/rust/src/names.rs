@@ -1,0 +1,84 @@
+//! Names as texts, and as packets spell them: RFC 1001 section 14, RFC 1002 section 4.1.
+
+use std::fmt;
+
+use crate::calls::{nbt_name_spell, nbt_name_text};
+use crate::room::{text_of, written};
+use crate::Result;
+
+/// The spelling of the name with this text: its labels, each after its length, then a zero byte; at most 255 bytes.
+///
+/// ```
+/// let spelling = nbt::spell("FRED<20>.NETBIOS.COM")?;
+/// assert_eq!(&spelling[..], b"\x20EGFCEFEECACACACACACACACACACACACA\x07NETBIOS\x03COM\0");
+/// assert_eq!(nbt::text(&spelling)?, "FRED<20>.NETBIOS.COM");
+/// # Ok::<(), nbt::Error>(())
+/// ```
+///
+/// # Errors
+///
+/// `BadText`, `LongText`, `NoMemory`, judged in this order.
+pub fn spell(text: &str) -> Result<Vec<u8>> {
+    // SAFETY: the text is a slice, and the room's parts lie apart from it.
+    unsafe {
+        written(|room| {
+            nbt_name_spell(
+                text.as_ptr(),
+                text.len(),
+                room.into,
+                room.length,
+                room.used,
+                room.at,
+            )
+        })
+    }
+}
+
+/// The text of the name with this spelling, which is without pointers and has no byte after it.
+///
+/// # Errors
+///
+/// `NameTruncated` to `NameNotNetbios`, `NameTrailingBytes`, `NoMemory`.
+pub fn text(spelling: &[u8]) -> Result<String> {
+    // SAFETY: the spelling is a slice, and the room's parts lie apart from it.
+    let bytes = unsafe {
+        written(|room| {
+            nbt_name_text(
+                spelling.as_ptr(),
+                spelling.len(),
+                room.into,
+                room.length,
+                room.used,
+                room.at,
+            )
+        })
+    };
+    Ok(text_of(bytes?))
+}
+
+/// The spelling of a name, lent from the packet that it was read in. Equality is by bytes, so upper and lower case of
+/// a scope differ.
+#[derive(Clone, Copy, PartialEq, Eq, Hash)]
+pub struct Spelling<'a>(pub(crate) &'a [u8]);
+
+impl<'a> Spelling<'a> {
+    /// Its bytes: labels, each after its length, then a zero byte.
+    pub fn as_bytes(self) -> &'a [u8] {
+        self.0
+    }
+
+    /// The name as a text, as in `FRED<20>`.
+    ///
+    /// # Errors
+    ///
+    /// `NoMemory`.
+    pub fn text(self) -> Result<String> {
+        text(self.0)
+    }
+}
+
+impl fmt::Debug for Spelling<'_> {
+    fn fmt(&self, out: &mut fmt::Formatter<'_>) -> fmt::Result {
+        write!(out, "Spelling({})", self.0.escape_ascii())
+    }
+}

@@ -1,0 +1,85 @@
+//! Requests of the name service, port 137: RFC 1002 sections 4.2.12, 4.2.17, 4.2.2, 4.2.4 and 4.2.9.
+//!
+//! ```
+//! use nbt::service::Request;
+//!
+//! let packet = Request::Query.write(3, "FRED<20>", true)?;
+//! assert_eq!(packet.len(), 50);
+//! assert!(nbt::show(137, &packet)?.starts_with("id=0003 word=0110 op=query"));
+//! # Ok::<(), nbt::Error>(())
+//! ```
+
+use std::net::Ipv4Addr;
+
+use crate::calls::nbt_service_request;
+use crate::room::written;
+use crate::Result;
+
+/// What is said of a name: an entry of RDATA.
+#[derive(Clone, Copy, Debug, PartialEq, Eq, Hash)]
+pub struct Entry {
+    /// NB_FLAGS: 0x8000 a group's name, 0x6000 the type of node.
+    pub nb_flags: u16,
+    /// Who has the name, or wants it.
+    pub address: Ipv4Addr,
+}
+
+/// What is asked about a name.
+#[derive(Clone, Copy, Debug, PartialEq, Eq, Hash)]
+pub enum Request {
+    /// Who has it?
+    Query,
+    /// Which names has its node?
+    NodeStatus,
+    /// It is claimed, for so many seconds.
+    Registration(Entry, u32),
+    /// It is claimed anew, for so many seconds. The opcode is 8, and RD is clear (our choice).
+    Refresh(Entry, u32),
+    /// It is given up.
+    Release(Entry),
+}
+
+impl Request {
+    /// Its packet, about the name with this text. `broadcast` sets B.
+    ///
+    /// # Errors
+    ///
+    /// `BadText`, `LongText`, `NoMemory`, judged in this order.
+    pub fn write(self, identifier: u16, name: &str, broadcast: bool) -> Result<Vec<u8>> {
+        let (number, seconds, entry) = self.parts();
+        // SAFETY: the name is a slice, and the room's parts lie apart from it.
+        unsafe {
+            written(|room| {
+                nbt_service_request(
+                    number,
+                    identifier,
+                    broadcast,
+                    name.as_ptr(),
+                    name.len(),
+                    seconds,
+                    entry.nb_flags,
+                    u32::from(entry.address),
+                    room.into,
+                    room.length,
+                    room.used,
+                    room.at,
+                )
+            })
+        }
+    }
+
+    /// Its number of `enum nbt_request`, its time to live, and what it says of the name.
+    fn parts(self) -> (u32, u32, Entry) {
+        let none = Entry {
+            nb_flags: 0,
+            address: Ipv4Addr::UNSPECIFIED,
+        };
+        match self {
+            Request::Query => (0, 0, none),
+            Request::NodeStatus => (1, 0, none),
+            Request::Registration(entry, seconds) => (2, seconds, entry),
+            Request::Refresh(entry, seconds) => (3, seconds, entry),
+            Request::Release(entry) => (4, 0, entry),
+        }
+    }
+}

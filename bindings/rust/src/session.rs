@@ -1,0 +1,118 @@
+//! Packets of the session service, port 139: RFC 1002 section 4.3.
+//!
+//! ```
+//! use nbt::session::{read, write, Kind, Next};
+//!
+//! let mut stream: &[u8] = b"\0\0\0\x05hello\x85\0\0\0\0\0\0\x05he";
+//! let mut bodies = Vec::new();
+//! let missing = loop {
+//!     match read(stream)? {
+//!         Next::Packet(packet) => {
+//!             bodies.push((packet.kind, packet.body));
+//!             stream = &stream[packet.used..];
+//!         }
+//!         Next::More(missing) => break missing,
+//!     }
+//! };
+//! assert_eq!(bodies, [(Kind::Message, &b"hello"[..]), (Kind::KeepAlive, b"")]);
+//! assert_eq!(missing, 3);
+//! assert_eq!(write(Kind::Message, b"hello")?, b"\0\0\0\x05hello");
+//! # Ok::<(), nbt::Error>(())
+//! ```
+
+use crate::calls::{nbt_session_read, nbt_session_write, FoundSession, DONE, MORE};
+use crate::room::written;
+use crate::{Error, Result, Status};
+
+/// TYPE: what a packet is.
+#[derive(Clone, Copy, Debug, PartialEq, Eq, Hash)]
+#[repr(u8)]
+pub enum Kind {
+    /// Data of the session, at most 131,071 bytes.
+    Message = 0x00,
+    /// A request for a session. Its body is the spelling of the name that is called, then that of the one that calls.
+    Request = 0x81,
+    /// The answer that the session stands; without a body.
+    Positive = 0x82,
+    /// The answer that it doesn't. Its body is a code of one byte.
+    Negative = 0x83,
+    /// The answer that somebody else is to be called: an address in four bytes, and a port in two.
+    Retarget = 0x84,
+    /// A sign of life; without a body.
+    KeepAlive = 0x85,
+}
+
+impl Kind {
+    /// The kind with this number.
+    fn from_number(number: u8) -> Option<Kind> {
+        use Kind::*;
+        let all = [Message, Request, Positive, Negative, Retarget, KeepAlive];
+        all.into_iter().find(|it| *it as u8 == number)
+    }
+}
+
+/// A packet of port 139, whose body is lent from what was read.
+#[derive(Clone, Copy, Debug, PartialEq, Eq, Hash)]
+pub struct Packet<'a> {
+    /// What it is.
+    pub kind: Kind,
+    /// What follows the four bytes of its header.
+    pub body: &'a [u8],
+    /// The bytes of the packet; what follows it isn't looked at.
+    pub used: usize,
+}
+
+/// What stands at the front of what came over a connection.
+#[derive(Clone, Copy, Debug, PartialEq, Eq, Hash)]
+pub enum Next<'a> {
+    /// A packet.
+    Packet(Packet<'a>),
+    /// The front of a packet, of which so many bytes are missing, at least.
+    More(usize),
+}
+
+/// Reads the packet at the front of what came over a connection to port 139. No memory is taken.
+///
+/// # Errors
+///
+/// `UnknownType`, `ReservedFlags`, `BadLength`, and of a request `NameTruncated` to `NameNotNetbios`, `TrailingBytes`,
+/// judged in this order.
+pub fn read(bytes: &[u8]) -> Result<Next<'_>> {
+    let (mut found, mut at) = (FoundSession::default(), 0);
+    // SAFETY: the bytes are a slice, and what is written lies apart from it.
+    let status = unsafe { nbt_session_read(bytes.as_ptr(), bytes.len(), &mut found, &mut at) };
+    match (status, Kind::from_number(found.kind)) {
+        (DONE, Some(kind)) => Ok(Next::Packet(Packet {
+            kind,
+            body: &bytes[found.body..found.body + found.body_length],
+            used: found.used,
+        })),
+        // The library answers no other type.
+        (DONE, None) => Err(Error::new(Status::UnknownType.number(), 0)),
+        (MORE, _) => Ok(Next::More(at)),
+        _ => Err(Error::new(status, at)),
+    }
+}
+
+/// The packet of this kind with this body. What is written is what [`read`] reads.
+///
+/// # Errors
+///
+/// `BadLength`, and of a request `NameTruncated` to `NameNotNetbios`, `TrailingBytes`, whose places count from the front
+/// of the packet; `NoMemory`.
+pub fn write(kind: Kind, body: &[u8]) -> Result<Vec<u8>> {
+    // SAFETY: the body is a slice, and the room's parts lie apart from it.
+    unsafe {
+        written(|room| {
+            nbt_session_write(
+                kind as u8,
+                body.as_ptr(),
+                body.len(),
+                room.into,
+                room.length,
+                room.used,
+                room.at,
+            )
+        })
+    }
+}

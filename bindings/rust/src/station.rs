@@ -1,0 +1,248 @@
+//! Stations, which put the payloads of port 138 together to datagrams: RFC 1002 section 5.3.
+//!
+//! ```
+//! use nbt::datagram::{Datagram, Kind};
+//! use nbt::station::{Outcome, Station};
+//! use nbt::Limits;
+//!
+//! let datagram = Datagram {
+//!     kind: Kind::Unique,
+//!     identifier: 7,
+//!     sender: "10.0.0.5:138".parse()?,
+//!     source: "JOE<00>",
+//!     destination: "FRED<20>",
+//!     data: b"hello, FRED",
+//! };
+//! let mut station = Station::new(&["FRED<20>"], "10.0.0.9:138".parse()?, Limits::default())?;
+//! let mut heard = Vec::new();
+//! for payload in &datagram.cut(6)? {
+//!     match station.take(0, payload)? {
+//!         Outcome::Delivered(it) => heard.push((it.source.text()?, it.data.to_vec())),
+//!         Outcome::Unheard { answer: Some(packet), .. } => println!("to be sent: {packet:?}"),
+//!         _ => {}
+//!     }
+//! }
+//! assert_eq!(heard, [("JOE<00>".to_string(), b"hello, FRED".to_vec())]);
+//! assert_eq!(station.tick(2_000)?, 1);
+//! # Ok::<(), Box<dyn std::error::Error>>(())
+//! ```
+
+use std::net::{Ipv4Addr, SocketAddrV4};
+use std::{fmt, ptr};
+
+use crate::calls::{
+    nbt_station_create, nbt_station_free, nbt_station_save, nbt_station_take, nbt_station_tick,
+    Handle, Taken, DONE,
+};
+use crate::datagram::Kind;
+use crate::room::{write_into, written};
+use crate::{spell, Error, Limits, Result, Spelling, Status};
+
+/// A station: its names, and a table that the payloads of port 138 fill and the clock empties. A datagram is handed over
+/// once, by the payload that makes it whole, if one of the names hears it: the name that it is for or, of a broadcast, a
+/// name of that name's scope.
+pub struct Station {
+    handle: Handle,
+    /// What the last payload that was taken gave, to be lent.
+    given: Vec<u8>,
+}
+
+// SAFETY: the library's calls may be made from any thread, those on one station one at a time. What it keeps is this
+// value's alone, and each call takes the value as `&mut`.
+unsafe impl Send for Station {}
+
+/// By what the fragments of a datagram belong together.
+#[derive(Clone, Copy, Debug, PartialEq, Eq, PartialOrd, Ord, Hash)]
+pub struct Key {
+    /// SOURCE_IP and SOURCE_PORT.
+    pub sender: SocketAddrV4,
+    /// DGM_ID.
+    pub identifier: u16,
+}
+
+/// A datagram that is handed over, lent from the station until its next call.
+#[derive(Clone, Copy, Debug, PartialEq, Eq, Hash)]
+pub struct Delivery<'a> {
+    /// For whom it is.
+    pub kind: Kind,
+    /// Who sent it, and its identifier.
+    pub key: Key,
+    /// SOURCE_NAME.
+    pub source: Spelling<'a>,
+    /// DESTINATION_NAME.
+    pub destination: Spelling<'a>,
+    /// Its data, at most 65,535 bytes.
+    pub data: &'a [u8],
+}
+
+/// What became of a payload. An answer is an error packet, to be sent to where the payload came from; there is none where
+/// nothing is to be sent.
+#[derive(Clone, Copy, Debug, PartialEq, Eq, Hash)]
+pub enum Outcome<'a> {
+    /// A fragment, by which its datagram became neither whole nor spoilt.
+    Kept(Key),
+    /// A fragment that contradicts what was known of its datagram.
+    Spoilt(Key),
+    /// A fragment that made its datagram whole, and one of the names hears it.
+    Delivered(Delivery<'a>),
+    /// A fragment that made its datagram whole, and none of the names hears it.
+    Unheard {
+        /// The datagram's key.
+        key: Key,
+        /// The error packet, with code 0x82.
+        answer: Option<&'a [u8]>,
+    },
+    /// An error or a query packet; the station is as it was.
+    Other,
+    /// No packet stands at the front of the payload; the station is as it was.
+    Refused {
+        /// What [`crate::datagram::read`] answers to the payload.
+        error: Error,
+        /// The error packet, with code 0x83 or 0x84.
+        answer: Option<&'a [u8]>,
+    },
+}
+
+impl Station {
+    /// A station with the names that have these texts (a space in one stands between two names), an empty table, and
+    /// this much room. Error packets have this address. A key is kept from its first fragment on until the clock drops
+    /// it, some 200 bytes and the data each.
+    ///
+    /// # Errors
+    ///
+    /// The first fault of the names in order, whose place counts in the texts with one space between two: `BadText`,
+    /// `LongText`, `NamePresent`, `TooManyNames`; `NoMemory`, which may come before them.
+    pub fn new(names: &[&str], address: SocketAddrV4, limits: Limits) -> Result<Station> {
+        // Joined, one empty text would be no text at all.
+        if names == [""] {
+            spell("")?;
+        }
+        let (texts, mut at) = (names.join(" "), 0);
+        let mut handle = Handle {
+            at: ptr::null_mut(),
+        };
+        // SAFETY: the texts are a slice, and what is written lies apart from them.
+        let status = unsafe {
+            nbt_station_create(
+                texts.as_ptr(),
+                texts.len(),
+                u32::from(*address.ip()),
+                address.port(),
+                limits.keys,
+                limits.per_source,
+                &mut handle.at,
+                &mut at,
+            )
+        };
+        if status != DONE {
+            return Err(Error::new(status, at));
+        }
+        Ok(Station {
+            handle,
+            given: Vec::new(),
+        })
+    }
+
+    /// Takes a payload of port 138 that came at this moment, in milliseconds since any moment of the caller's choice.
+    ///
+    /// # Errors
+    ///
+    /// `MisplacedFirst`, `Long`, `FullSource`, `Full`, `NoMemory` (which may come before those that follow the first).
+    /// The station is then as it was.
+    pub fn take(&mut self, moment: u64, payload: &[u8]) -> Result<Outcome<'_>> {
+        let mut taken = Taken::default();
+        // SAFETY: the station is open, the payload is a slice, and what is written lies apart from both. Where the room
+        // is less than any outcome wants, the station is as it was, and takes the payload when there is more.
+        unsafe {
+            write_into(&mut self.given, |room| {
+                nbt_station_take(
+                    &mut self.handle,
+                    moment,
+                    payload.as_ptr(),
+                    payload.len(),
+                    &mut taken,
+                    room.into,
+                    room.length,
+                    room.used,
+                )
+            })
+        }?;
+        outcome_of(&taken, &self.given)
+    }
+
+    /// Looks at the clock, which shows `now`: drops each key that came at least 2,000 milliseconds before, whatever is
+    /// known of it, and answers how many. Nothing else drops a key (our choice).
+    ///
+    /// # Errors
+    ///
+    /// `NoMemory`.
+    pub fn tick(&mut self, now: u64) -> Result<u32> {
+        let mut dropped = 0;
+        // SAFETY: the station is open, and the number lies apart from it.
+        match unsafe { nbt_station_tick(&mut self.handle, now, &mut dropped) } {
+            DONE => Ok(dropped),
+            status => Err(Error::new(status, 0)),
+        }
+    }
+
+    /// The station's table, saved, for [`crate::merge`] or a file. The names, the limits and the moments aren't in it.
+    ///
+    /// # Errors
+    ///
+    /// `NoMemory`.
+    pub fn save(&mut self) -> Result<Vec<u8>> {
+        // SAFETY: the station is open, and the room's parts lie apart from it.
+        unsafe {
+            written(|room| nbt_station_save(&mut self.handle, room.into, room.length, room.used))
+        }
+    }
+}
+
+impl Drop for Station {
+    fn drop(&mut self) {
+        // SAFETY: the library made what the handle points to, and gets it back once: no call follows.
+        unsafe { nbt_station_free(Handle { at: self.handle.at }) }
+    }
+}
+
+impl fmt::Debug for Station {
+    fn fmt(&self, out: &mut fmt::Formatter<'_>) -> fmt::Result {
+        out.debug_struct("Station").finish_non_exhaustive()
+    }
+}
+
+/// What became of a payload, of which this was told and given.
+fn outcome_of<'a>(taken: &Taken, given: &'a [u8]) -> Result<Outcome<'a>> {
+    let key = Key {
+        sender: SocketAddrV4::new(Ipv4Addr::from(taken.address), taken.port),
+        identifier: taken.identifier,
+    };
+    let answer = given.get(..taken.error_length).filter(|it| !it.is_empty());
+    match taken.outcome {
+        0 => Ok(Outcome::Kept(key)),
+        1 => Ok(Outcome::Spoilt(key)),
+        2 => delivery(key, taken, given).map(Outcome::Delivered),
+        3 => Ok(Outcome::Unheard { key, answer }),
+        4 => Ok(Outcome::Other),
+        5 => Ok(Outcome::Refused {
+            error: Error::new(taken.refusal, taken.refused_at),
+            answer,
+        }),
+        // The library answers no other.
+        _ => Err(Error::new(Status::UnknownStatus.number(), 0)),
+    }
+}
+
+/// The datagram that is handed over: both spellings, then the data.
+fn delivery<'a>(key: Key, taken: &Taken, given: &'a [u8]) -> Result<Delivery<'a>> {
+    let (source, rest) = given.split_at(taken.source_length);
+    let (destination, data) = rest.split_at(taken.destination_length);
+    Ok(Delivery {
+        // The library answers no other kind.
+        kind: Kind::from_number(taken.kind).ok_or(Error::new(Status::UnknownType.number(), 0))?,
+        key,
+        source: Spelling(source),
+        destination: Spelling(destination),
+        data,
+    })
+}

@@ -1,0 +1,59 @@
+//! Saved tables: what is known of datagrams, as the command `nbt save` writes it, as bytes instead of digits (our
+//! choice). docs/FORMATS.md has both forms, NBT1 and NBT2.
+
+use crate::calls::nbt_table_merge;
+use crate::room::written;
+use crate::Result;
+
+/// How much a table has room for: 1,024 keys, and no limit on one address, where nothing else is said.
+#[derive(Clone, Copy, Debug, PartialEq, Eq, Hash)]
+pub struct Limits {
+    /// How many keys, in all. `u32::MAX` is no limit.
+    pub keys: u32,
+    /// How many keys of one address, whatever its ports. `u32::MAX` is no limit.
+    pub per_source: u32,
+}
+
+impl Default for Limits {
+    fn default() -> Limits {
+        Limits {
+            keys: 1_024,
+            per_source: u32::MAX,
+        }
+    }
+}
+
+/// Joins two saved tables, and answers the joined one, saved: all that either knows. Each of the three has this room.
+/// Both forms are read, and the second is written.
+///
+/// ```
+/// use nbt::Limits;
+///
+/// let (old, new) = (b"NBT1\0\0\0\0", b"NBT2\0\0\0\0");
+/// assert_eq!(nbt::merge(old, new, Limits::default())?, new);
+/// # Ok::<(), nbt::Error>(())
+/// ```
+///
+/// # Errors
+///
+/// `TableBadMagic` to `TableFull` of the first, `SecondBadMagic` to `SecondFull` of the second, `FullSource`, `Full`,
+/// `NoMemory` (which may come before those that follow the first).
+pub fn merge(first: &[u8], second: &[u8], limits: Limits) -> Result<Vec<u8>> {
+    // SAFETY: the tables are slices, and the room's parts lie apart from them.
+    unsafe {
+        written(|room| {
+            nbt_table_merge(
+                first.as_ptr(),
+                first.len(),
+                second.as_ptr(),
+                second.len(),
+                limits.keys,
+                limits.per_source,
+                room.into,
+                room.length,
+                room.used,
+                room.at,
+            )
+        })
+    }
+}

@@ -1,0 +1,88 @@
+//! Packets of port 139.
+
+use crate::{joined, refused, FRED, JOE};
+use nbt::session::{read, write, Kind, Next, Packet};
+use nbt::Status;
+
+#[test]
+fn packets_are_read() {
+    let request = joined(&[b"\x81\0\0\x44", FRED, JOE]);
+    for (bytes, kind, body) in [
+        (
+            &b"\0\0\0\x05hello and more"[..],
+            Kind::Message,
+            &b"hello"[..],
+        ),
+        (&request, Kind::Request, &request[4..]),
+        (b"\x82\0\0\0", Kind::Positive, b""),
+        (b"\x83\0\0\x01\x82", Kind::Negative, b"\x82"),
+        (
+            b"\x84\0\0\x06\x0a\0\0\x05\0\x8b",
+            Kind::Retarget,
+            b"\x0a\0\0\x05\0\x8b",
+        ),
+        (b"\x85\0\0\0", Kind::KeepAlive, b""),
+    ] {
+        let packet = Packet {
+            kind,
+            body,
+            used: 4 + body.len(),
+        };
+        assert_eq!(read(bytes), Ok(Next::Packet(packet)));
+    }
+}
+
+#[test]
+fn bytes_are_missing() {
+    for (bytes, missing) in [
+        (&b""[..], 4),
+        (b"\x85", 3),
+        (b"\0\0\0\x05he", 3),
+        (b"\0\x01\xff\xff", 131_071),
+    ] {
+        assert_eq!(read(bytes), Ok(Next::More(missing)));
+    }
+}
+
+#[test]
+fn bytes_of_no_packet() {
+    for (bytes, status, at) in [
+        (b"\x86\0\0\0".to_vec(), Status::UnknownType, None),
+        (b"\0\x02\0\0".to_vec(), Status::ReservedFlags, None),
+        (b"\x82\0\0\x01".to_vec(), Status::BadLength, None),
+        (
+            joined(&[b"\x81\0\0\x45", FRED, JOE, b"x"]),
+            Status::TrailingBytes,
+            Some(72),
+        ),
+        (
+            joined(&[b"\x81\0\0\x44", FRED, &JOE[..33], b"\xc0"]),
+            Status::NameTruncated,
+            Some(72),
+        ),
+    ] {
+        let (found, place) = refused(read(&bytes));
+        assert_eq!(found, status);
+        assert!(at.is_none() || place == at, "{place:?}");
+    }
+}
+
+#[test]
+fn packets_are_written() {
+    assert_eq!(write(Kind::KeepAlive, b"").unwrap(), b"\x85\0\0\0");
+    assert_eq!(write(Kind::Negative, b"\x82").unwrap(), b"\x83\0\0\x01\x82");
+    let names = joined(&[FRED, JOE]);
+    assert_eq!(
+        write(Kind::Request, &names).unwrap(),
+        joined(&[b"\x81\0\0\x44", &names])
+    );
+    let long = write(Kind::Message, &[0; 131_071]).unwrap();
+    assert_eq!((&long[..4], long.len()), (&b"\0\x01\xff\xff"[..], 131_075));
+    assert_eq!(
+        refused(write(Kind::Message, &[0; 131_072])).0,
+        Status::BadLength
+    );
+    assert_eq!(refused(write(Kind::KeepAlive, b"x")).0, Status::BadLength);
+    let cut = joined(&[FRED, &FRED[..33], b"\xc0"]);
+    assert_eq!(refused(write(Kind::Request, &cut)).0, Status::NameTruncated);
+}

@@ -1,0 +1,87 @@
+//! What `nbt show` prints of a payload, and what statuses say.
+
+use std::collections::BTreeSet;
+use std::{env, fs, thread};
+
+use nbt::{show, show_into, Status};
+
+#[test]
+fn payloads_are_shown() {
+    let query = nbt::service::Request::Query
+        .write(3, "FRED<20>", true)
+        .unwrap();
+    for (port, payload, text) in [
+        (
+            137,
+            &query[..],
+            "id=0003 word=0110 op=query flags=RD+B rcode=ok qd=1 an=0 ns=0 ar=0 used=50\n  \
+             question FRED<20> type=0020 class=0001\n",
+        ),
+        (139, b"\x85\0\0\0", "keepalive used=4\n"),
+        (7, b"\x85", "more 3\n"),
+        (138, b"\x85\0\0\0", "refused truncated 4\n"),
+        (137, b"", "refused truncated 0\n"),
+    ] {
+        assert_eq!(show(port, payload).unwrap(), text);
+    }
+}
+
+#[test]
+fn a_buffer_is_kept() {
+    let mut text = b"what stood there".to_vec();
+    show_into(139, b"\x82\0\0\0", &mut text).unwrap();
+    assert_eq!(text, b"positive used=4\n");
+    let long = [&b"\0\x01\xff\xff"[..], &[7; 131_071]].concat();
+    show_into(139, &long, &mut text).unwrap();
+    assert!(text.len() > 2 * 131_071 && text.ends_with(b" used=131075\n"));
+    let room = text.capacity();
+    show_into(139, b"\x82\0\0\0", &mut text).unwrap();
+    assert_eq!(
+        (&text[..], text.capacity()),
+        (&b"positive used=4\n"[..], room)
+    );
+}
+
+#[test]
+fn threads_show() {
+    let shown = |code: u8| show(139, &[0x83, 0, 0, 1, code]).unwrap();
+    thread::scope(|threads| {
+        for first in 0..4 {
+            threads.spawn(move || {
+                for code in (first..=255).step_by(4) {
+                    assert_eq!(shown(code), format!("negative code={code:02x} used=5\n"));
+                }
+            });
+        }
+    });
+}
+
+/// The names and numbers of `enum nbt_status`, as include/nbt.h has them.
+fn header_statuses() -> Vec<(String, u32)> {
+    let path = concat!(env!("CARGO_MANIFEST_DIR"), "/../../include/nbt.h");
+    let header = fs::read_to_string(env::var("NBT_HEADER").unwrap_or(path.into())).unwrap();
+    let (_, rest) = header.split_once("enum nbt_status {").unwrap();
+    let (inside, _) = rest.split_once("};").unwrap();
+    let numbered = inside
+        .lines()
+        .filter_map(|line| line.trim().strip_prefix("NBT_")?.split_once(" = "));
+    let number = |rest: &str| rest.split([',', ' ']).next().unwrap().parse().unwrap();
+    numbered
+        .map(|(name, rest)| (name.replace('_', "").to_lowercase(), number(rest)))
+        .collect()
+}
+
+/// Each is one of the header's, and the other way round, but for those that no call of this crate ends with.
+#[test]
+fn statuses_are_those_of_the_header() {
+    let mut known: Vec<_> = Status::ALL
+        .iter()
+        .map(|it| (format!("{it:?}").to_lowercase(), it.number()))
+        .collect();
+    known.splice(0..0, [("done".into(), 0), ("noroom".into(), 1)]);
+    assert_eq!(known, header_statuses());
+    let words: BTreeSet<_> = Status::ALL.iter().map(Status::to_string).collect();
+    assert_eq!(words.len(), Status::ALL.len());
+    assert!(words.iter().all(|it| !it.is_empty() && it.is_ascii()));
+    assert_eq!(format!("{:>12}", Status::BadText), "    bad text");
+}

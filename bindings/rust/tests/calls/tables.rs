@@ -1,0 +1,88 @@
+//! Saved tables.
+
+use crate::{joined, refused};
+use nbt::{merge, Limits, Status};
+
+/// A table of no keys.
+pub const EMPTY: &[u8] = b"NBT2\0\0\0\0";
+
+/// A table in which these keys of 10.0.0.5:138 are spoilt.
+fn spoilt(identifiers: &[u8]) -> Vec<u8> {
+    let keys: Vec<_> = identifiers
+        .iter()
+        .flat_map(|it| [0x0a, 0, 0, 5, 0, 0x8a, 0, *it, 0])
+        .collect();
+    joined(&[b"NBT2\0\0\0", &[identifiers.len() as u8], &keys])
+}
+
+#[test]
+fn tables_are_joined() {
+    let joined = |first: &[u8], second: &[u8]| merge(first, second, Limits::default()).unwrap();
+    assert_eq!(joined(EMPTY, b"NBT1\0\0\0\0"), EMPTY);
+    assert_eq!(joined(&spoilt(&[2]), &spoilt(&[1, 2])), spoilt(&[1, 2]));
+    let many: Vec<u8> = (0..200).collect();
+    assert_eq!(
+        joined(&spoilt(&many[..150]), &spoilt(&many[50..])),
+        spoilt(&many)
+    );
+}
+
+#[test]
+fn tables_that_are_refused() {
+    let limits = |keys, per_source| Limits { keys, per_source };
+    let none = Limits::default();
+    for (first, second, limits, status, at) in [
+        (
+            b"NBT3".to_vec(),
+            EMPTY.to_vec(),
+            none,
+            Status::TableBadMagic,
+            None,
+        ),
+        (
+            EMPTY.to_vec(),
+            b"NBT2\0".to_vec(),
+            none,
+            Status::SecondTruncated,
+            None,
+        ),
+        (
+            spoilt(&[2, 1]),
+            EMPTY.to_vec(),
+            none,
+            Status::TableNotCanonical,
+            Some(17),
+        ),
+        (
+            EMPTY.to_vec(),
+            spoilt(&[2, 1]),
+            none,
+            Status::SecondNotCanonical,
+            Some(17),
+        ),
+        (
+            spoilt(&[1, 2]),
+            EMPTY.to_vec(),
+            limits(1, 9),
+            Status::TableFull,
+            None,
+        ),
+        (
+            EMPTY.to_vec(),
+            spoilt(&[1, 2]),
+            limits(9, 1),
+            Status::SecondFullSource,
+            None,
+        ),
+        (spoilt(&[1]), spoilt(&[2]), limits(1, 9), Status::Full, None),
+        (
+            spoilt(&[1]),
+            spoilt(&[2]),
+            limits(9, 1),
+            Status::FullSource,
+            None,
+        ),
+    ] {
+        assert_eq!(refused(merge(&first, &second, limits)), (status, at));
+    }
+}

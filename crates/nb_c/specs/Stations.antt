@@ -1,0 +1,212 @@
+-- What the calls on a station do (RFC 1002 section 5.3; the form of what is written is our choice).
+use Rattle.std.specs.Prelude.{◌≡◌, ◌<◌, ◌≤◌, ◌+◌, ℕ, List, [], ◌∷◌, ◌++◌, length, drop, Contains, Option, Some, None, Result, Ok, Err}
+use Rattle.std.specs.Int.{w32, from_be_bytes}
+use Rattle.nb_names.specs.declared.text_fault.TextFault.{TextFault}
+use Rattle.nb_names.specs.declared.text_fault.TextFault.TheVariants as texts
+use Rattle.nb_names.specs.Name.{NetbiosName}
+use Rattle.nb_datagram.specs.declared.fault.DatagramFault.{DatagramFault}
+use Rattle.nb_datagram.specs.declared.key.Key.{Key}
+use Rattle.nb_datagram.specs.declared.packet.ErrorPacket.{ErrorPacket}
+use Rattle.nb_datagram.specs.declared.packet.Packet.TheVariants.{Error}
+use Rattle.nb_datagram.specs.Datagram.{DatagramParts}
+use Rattle.nb_datagram.specs.Kind.{type_of}
+use Rattle.nb_datagram.specs.Packet.{name_bytes, packet_bytes}
+use Rattle.nb_table.specs.declared.fault.TableFault.{TableFault}
+use Rattle.nb_table.specs.declared.fault.TableFault.TheVariants as tables
+use Rattle.nb_member.specs.declared.limits.TheConstants.{MAX_NAMES}
+use Rattle.nb_member.specs.declared.member_fault.MemberFault.{MemberFault}
+use Rattle.nb_member.specs.declared.member_fault.MemberFault.TheVariants.{Packet, Table}
+use Rattle.nb_member.specs.declared.outcome.Outcome.{Outcome}
+use Rattle.nb_member.specs.declared.outcome.Outcome.TheVariants.{Delivered, Unheard, Kept, Spoilt, Other}
+use Rattle.std.specs.FinMap as maps
+use Rattle.nb_member.specs.Member.{MemberValue, contents, with_timed, after_clock}
+use Rattle.nb_member.specs.Taking.{Takes}
+use Rattle.nb_c.specs.declared.refusal.Refusal.{Refusal}
+use Rattle.nb_c.specs.declared.refusal.Refusal.TheVariants.{Memory, Fault, FaultAt}
+use Rattle.nb_c.specs.declared.statuses.TheConstants as statuses
+use Rattle.nb_c.specs.declared.taken.NbtTaken.{NbtTaken}
+use Rattle.nb_c.specs.declared.taken.TheConstants as outcomes
+use Rattle.nb_c.specs.Names.{IsRead}
+use Rattle.nb_c.specs.Outputs.{refused_status, at_refused}
+use Rattle.nb_c.specs.Statuses.{datagram_refusal}
+
+-- ---- the names of a new station
+
+-- bad_name place fault: why the text that begins there is of no name
+abbrev pub bad_name : ℕ → TextFault → Refusal
+bad_name place (texts.BadText at) = FaultAt statuses.BAD_TEXT (place + at)
+bad_name place texts.TooLong = Fault statuses.LONG_TEXT
+
+-- AreNames place held words answer: the names with these texts, of which the first begins at the place and each other
+-- one byte behind the one before, are added to those that are held, in order; or the first fault
+pub data AreNames : ℕ → List NetbiosName → List (List ℕ) → Result (List NetbiosName) Refusal → Type 0 where
+  all : {place : ℕ} {held : List NetbiosName} → AreNames place held [] (Ok held)
+  bad : {place : ℕ} {held : List NetbiosName} {word : List ℕ} {words : List (List ℕ)} (fault : TextFault)
+      → IsRead word (Err fault) → AreNames place held (word ∷ words) (Err (bad_name place fault))
+  present : {place : ℕ} {held : List NetbiosName} {word : List ℕ} {words : List (List ℕ)} (name : NetbiosName)
+      → IsRead word (Ok name) → Contains held name
+      → AreNames place held (word ∷ words) (Err (FaultAt statuses.NAME_PRESENT place))
+  too_many : {place : ℕ} {held : List NetbiosName} {word : List ℕ} {words : List (List ℕ)} (name : NetbiosName)
+      → IsRead word (Ok name) → ¬ Contains held name → MAX_NAMES ≤ length held
+      → AreNames place held (word ∷ words) (Err (FaultAt statuses.TOO_MANY_NAMES place))
+  more : {place : ℕ} {held : List NetbiosName} {word : List ℕ} {words : List (List ℕ)} {answer : Result (List NetbiosName) Refusal}
+      (name : NetbiosName) → IsRead word (Ok name) → ¬ Contains held name → length held < MAX_NAMES
+      → AreNames (place + length word + 1) (held ++ name ∷ []) words answer → AreNames place held (word ∷ words) answer
+
+-- ---- what became of a payload
+
+-- of_key outcome k: this became of a fragment of the key k
+abbrev pub of_key : ℕ → Key → NbtTaken
+of_key outcome k = record {
+  outcome = outcome;
+  address = from_be_bytes w32 k.ip;
+  port = k.port;
+  identifier = k.id;
+  packet_type = 0;
+  source_length = 0;
+  destination_length = 0;
+  contents_length = 0;
+  error_length = 0;
+  refusal = 0;
+  refused_at = 0;
+}
+
+-- another packet came
+abbrev pub of_other : NbtTaken
+of_other = record {
+  outcome = outcomes.OTHER;
+  address = 0;
+  port = 0;
+  identifier = 0;
+  packet_type = 0;
+  source_length = 0;
+  destination_length = 0;
+  contents_length = 0;
+  error_length = 0;
+  refusal = 0;
+  refused_at = 0;
+}
+
+-- the datagram is handed over
+abbrev pub of_delivered : DatagramParts → NbtTaken
+of_delivered d = record {
+  outcome = outcomes.DELIVERED;
+  address = from_be_bytes w32 d.key.ip;
+  port = d.key.port;
+  identifier = d.key.id;
+  packet_type = type_of d.kind;
+  source_length = length (name_bytes d.source);
+  destination_length = length (name_bytes d.destination);
+  contents_length = length d.bytes;
+  error_length = 0;
+  refusal = 0;
+  refused_at = 0;
+}
+
+-- of_unheard k error: a datagram of the key k isn't heard; the packet to send has so many bytes
+abbrev pub of_unheard : Key → ℕ → NbtTaken
+of_unheard k size = record {
+  outcome = outcomes.UNHEARD;
+  address = from_be_bytes w32 k.ip;
+  port = k.port;
+  identifier = k.id;
+  packet_type = 0;
+  source_length = 0;
+  destination_length = 0;
+  contents_length = 0;
+  error_length = size;
+  refusal = 0;
+  refused_at = 0;
+}
+
+-- the place of a refusal, or 0
+abbrev pub place_in : Refusal → ℕ
+place_in refusal = at_refused refusal 0
+
+-- of_refused refusal size: the payload is refused so; the packet to send has so many bytes
+abbrev pub of_refused : Refusal → ℕ → NbtTaken
+of_refused refusal size = record {
+  outcome = outcomes.REFUSED;
+  address = 0;
+  port = 0;
+  identifier = 0;
+  packet_type = 0;
+  source_length = 0;
+  destination_length = 0;
+  contents_length = 0;
+  error_length = size;
+  refusal = refused_status refusal;
+  refused_at = place_in refusal;
+}
+
+-- the spellings of both names of a datagram, and its data
+abbrev pub delivered_bytes : DatagramParts → List ℕ
+delivered_bytes d = name_bytes d.source ++ (name_bytes d.destination ++ d.bytes)
+
+-- the bytes of the packet to send, if there is one
+abbrev pub error_bytes : Option ErrorPacket → List ℕ
+error_bytes None = []
+error_bytes (Some error) = packet_bytes (Error error)
+
+-- what is told of a payload: numbers, and bytes
+pub record Told : Type 0 where
+  pub numbers : NbtTaken
+  pub bytes : List ℕ
+
+-- what is told of each outcome
+abbrev pub told_of : Outcome → Told
+told_of (Kept k) = record { numbers = of_key outcomes.KEPT k; bytes = [] }
+told_of (Spoilt k) = record { numbers = of_key outcomes.SPOILT k; bytes = [] }
+told_of (Delivered d) = record { numbers = of_delivered d; bytes = delivered_bytes d }
+told_of (Unheard k error) = record { numbers = of_unheard k (length (error_bytes error)); bytes = error_bytes error }
+told_of Other = record { numbers = of_other; bytes = [] }
+
+-- told_refused fault error: what is told of a payload that begins with no packet
+abbrev pub told_refused : DatagramFault → Option ErrorPacket → Told
+told_refused fault error =
+    record { numbers = of_refused (datagram_refusal fault) (length (error_bytes error)); bytes = error_bytes error }
+
+-- why a table doesn't take in a fragment, or another table
+abbrev pub table_refusal : TableFault → Refusal
+table_refusal tables.MisplacedFirst = Fault statuses.MISPLACED_FIRST
+table_refusal tables.TooLong = Fault statuses.LONG
+table_refusal (tables.FullSource key) = Fault statuses.FULL_SOURCE
+table_refusal (tables.Full key) = Fault statuses.FULL
+table_refusal tables.NoMemory = Memory
+
+-- what is told of each answer of a member: of a payload that is no packet too; else why the fragment isn't taken in
+abbrev pub answer_told : Result Outcome MemberFault → Result Told Refusal
+answer_told (Ok outcome) = Ok (told_of outcome)
+answer_told (Err (Packet fault error)) = Ok (told_refused fault error)
+answer_told (Err (Table fault)) = Err (table_refusal fault)
+
+-- Tells answer taken taken' old new used used' status: a call with this answer leaves the numbers, the buffer and the
+-- count so, and has this status
+abbrev pub Tells : Result Told Refusal → NbtTaken → NbtTaken → List ℕ → List ℕ → ℕ → ℕ → ℕ → Type 0
+Tells (Ok told) taken taken' old new used used' status =
+    (taken' ≡ told.numbers) × (new ≡ told.bytes ++ drop (length told.bytes) old)
+    × (used' ≡ length told.bytes) × (status ≡ statuses.DONE)
+Tells (Err refusal) taken taken' old new used used' status =
+    (taken' ≡ taken) × (new ≡ old) × (used' ≡ used) × (status ≡ refused_status refusal)
+
+-- Took m moment payload after taken taken' old new used used' status: what the call that takes a payload does to the
+-- member m and to what its caller lends. The room is judged first: where there is too little, whatever the payload, or
+-- where memory runs out, nothing changes
+pub data Took (m : MemberValue) (moment : ℕ) (payload : List ℕ) (after : MemberValue) (taken taken' : NbtTaken)
+    (old new : List ℕ) (used used' status : ℕ) : Type 0 where
+  no_room : length old < outcomes.TAKE_ROOM → after ≡ m → taken' ≡ taken → new ≡ old → used' ≡ outcomes.TAKE_ROOM
+      → status ≡ statuses.NO_ROOM → Took m moment payload after taken taken' old new used used' status
+  no_memory : outcomes.TAKE_ROOM ≤ length old → after ≡ m → taken' ≡ taken → new ≡ old → used' ≡ used
+      → status ≡ statuses.NO_MEMORY → Took m moment payload after taken taken' old new used used' status
+  answered : (result : Result Outcome MemberFault) → outcomes.TAKE_ROOM ≤ length old → Takes m moment payload after result
+      → Tells (answer_told result) taken taken' old new used used' status
+      → Took m moment payload after taken taken' old new used used' status
+
+-- ---- the clock
+
+-- Ticks m now after dropped dropped' status: what the call that shows a station the clock does to the member m: its
+-- keys whose timers have run out are dropped, and it answers how many those are; or memory ran out, and nothing changes
+pub data Ticks (m : MemberValue) (now : ℕ) (after : MemberValue) (dropped dropped' status : ℕ) : Type 0 where
+  done : after ≡ with_timed m (after_clock m.timed now) → dropped' + maps.len (contents after) ≡ maps.len (contents m)
+      → status ≡ statuses.DONE → Ticks m now after dropped dropped' status
+  no_memory : after ≡ m → dropped' ≡ dropped → status ≡ statuses.NO_MEMORY → Ticks m now after dropped dropped' status

@@ -1,0 +1,59 @@
+-- What the call that joins saved tables answers (our choice).
+use Rattle.std.specs.Prelude.{◌≡◌, ◌⊎◌, ℕ, List, Result, Ok, Err}
+use Rattle.nb_table.specs.declared.load_fault.LoadFault.{LoadFault}
+use Rattle.nb_table.specs.declared.load_fault.LoadFault.TheVariants as loads
+use Rattle.nb_table.specs.declared.fault.TableFault.{TableFault}
+use Rattle.nb_table.specs.Contents.{Contents}
+use Rattle.nb_table.specs.Join.{join}
+use Rattle.nb_table.specs.Limits.{Limits}
+use Rattle.nb_table.specs.LoadFaults.{IsReadAs, LoadFails}
+use Rattle.nb_table.specs.Merging.{Fits, IsRefused}
+use Rattle.nb_table.specs.Saved.{saved}
+use Rattle.nb_c.specs.declared.refusal.Refusal.{Refusal}
+use Rattle.nb_c.specs.declared.refusal.Refusal.TheVariants.{Memory, Fault, FaultAt}
+use Rattle.nb_c.specs.declared.statuses.TheConstants as statuses
+use Rattle.nb_c.specs.Outputs.{Answers}
+use Rattle.nb_c.specs.Stations.{table_refusal}
+
+-- why the first of two saved tables isn't read
+abbrev pub first_refusal : LoadFault → Refusal
+first_refusal loads.BadMagic = Fault statuses.TABLE_BAD_MAGIC
+first_refusal loads.Truncated = Fault statuses.TABLE_TRUNCATED
+first_refusal (loads.NotCanonical at) = FaultAt statuses.TABLE_NOT_CANONICAL at
+first_refusal loads.TooLong = Fault statuses.TABLE_LONG
+first_refusal loads.FullSource = Fault statuses.TABLE_FULL_SOURCE
+first_refusal loads.Full = Fault statuses.TABLE_FULL
+first_refusal loads.NoMemory = Memory
+
+-- why the second isn't
+abbrev pub second_refusal : LoadFault → Refusal
+second_refusal loads.BadMagic = Fault statuses.SECOND_BAD_MAGIC
+second_refusal loads.Truncated = Fault statuses.SECOND_TRUNCATED
+second_refusal (loads.NotCanonical at) = FaultAt statuses.SECOND_NOT_CANONICAL at
+second_refusal loads.TooLong = Fault statuses.SECOND_LONG
+second_refusal loads.FullSource = Fault statuses.SECOND_FULL_SOURCE
+second_refusal loads.Full = Fault statuses.SECOND_FULL
+second_refusal loads.NoMemory = Memory
+
+-- Joins l s t answer: the join of the tables s and t, saved, if it is taken in under the limits l, else why not
+abbrev pub Joins : Limits → Contents → Contents → Result (List ℕ) Refusal → Type 0
+Joins l s t (Ok bytes) = Fits l s t × (bytes ≡ saved (join s t))
+Joins l s t (Err refusal) = (fault : TableFault) × IsRefused l s t fault × (refusal ≡ table_refusal fault)
+
+-- Merges first second limits answer: this is answered of two saved tables: the first is read, then the second, then
+-- they are joined
+pub data Merges (first second : List ℕ) (limits : Limits) : Result (List ℕ) Refusal → Type 0 where
+  first_fails : (fault : LoadFault) → LoadFails first limits fault → Merges first second limits (Err (first_refusal fault))
+  second_fails : (one : Contents) (fault : LoadFault) → IsReadAs first one → LoadFails second limits fault
+      → Merges first second limits (Err (second_refusal fault))
+  joined : (one other : Contents) (answer : Result (List ℕ) Refusal) → IsReadAs first one → IsReadAs second other
+      → Joins limits one other answer → Merges first second limits answer
+
+-- OrNoMemory Says answer: this is said, or memory ran out
+abbrev pub OrNoMemory : (Result (List ℕ) Refusal → Type 0) → Result (List ℕ) Refusal → Type 0
+OrNoMemory Says answer = (answer ≡ Err Memory) ⊎ Says answer
+
+-- Gives Says old new used used' at at' status: a call does what is said, unless memory runs out
+abbrev pub Gives : (Result (List ℕ) Refusal → Type 0) → List ℕ → List ℕ → ℕ → ℕ → ℕ → ℕ → ℕ → Type 0
+Gives Says old new used used' at at' status =
+    (answer : Result (List ℕ) Refusal) × OrNoMemory Says answer × Answers answer old new used used' at at' status

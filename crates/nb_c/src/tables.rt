@@ -1,0 +1,72 @@
+//! Saved tables, joined.
+ghost use Rattle.std.specs.Prelude.{◌≡◌};
+ghost use Rattle.nb_c.specs.Tables.{Gives, Joins, Merges, OrNoMemory};
+
+use crate::output::{answer_of, write_answer};
+use crate::refusal::{Refusal, first_refusal, second_refusal, table_refusal};
+use crate::stations::LONGEST;
+use nb_names::Bytes;
+use nb_table::{Table, load};
+use std::alloc::Global;
+
+/// Writes the join of two saved tables, saved, where each of the three has room for so many keys,
+/// and for so many of one address.
+///
+/// The form is our choice.
+#[unsafe(no_mangle)]
+pub extern "C" fn nbt_table_merge(
+    alloc: Global,
+    first: &[u8],
+    second: &[u8],
+    keys: u32,
+    per_source: u32,
+    into: &mut [u8],
+    used: &mut usize,
+    at: &mut usize,
+) -> u32
+    ensures { Gives (Merges first.now second.now (record {
+      keys = keys;
+      per_source = per_source;
+      longest = 65535;
+    })) into.old into.new used.old used.new at.old at.new result }
+{
+    write_answer(
+        merged(alloc, first, second, keys, per_source),
+        into,
+        used,
+        at,
+    )
+}
+
+/// The join of two saved tables, saved.
+fn merged(
+    alloc: Global,
+    first: &[u8],
+    second: &[u8],
+    keys: u32,
+    per_source: u32,
+) -> Result<Bytes, Refusal>
+    ensures { OrNoMemory (Merges first.now second.now (record {
+      keys = keys;
+      per_source = per_source;
+      longest = 65535;
+    })) result }
+{
+    match load(alloc, first, keys, per_source, LONGEST) {
+        Err(fault) => Err(first_refusal(fault)),
+        Ok(mut table) => match load(alloc, second, keys, per_source, LONGEST) {
+            Err(fault) => Err(second_refusal(fault)),
+            Ok(other) => joined(&mut table, &other),
+        },
+    }
+}
+
+/// The join of a table and another, saved.
+fn joined(table: &mut Table, other: &Table) -> Result<Bytes, Refusal>
+    ensures { OrNoMemory (Joins table.old.limits table.old.contents other.now.contents) result }
+{
+    match table.merge(other) {
+        Err(fault) => Err(table_refusal(fault)),
+        Ok(_) => answer_of(table.save()),
+    }
+}

@@ -1,0 +1,50 @@
+use Rattle.std.proofs.Common.{◌≡◌, ◌∙◌, sym, ap, subst, Some}
+use Rattle.nb_datagram.specs.Fragment.{core_of}
+use Rattle.nb_table.specs.declared.change.Change.{Change}
+use Rattle.nb_table.specs.Slot.{Held}
+use Rattle.nb_table.specs.Cover.{AreCoverFacts, covers_together}
+use Rattle.nb_table.specs.Entry.{EntryFacts, FactsFit, facts_of, facts_together}
+use Rattle.nb_table.specs.Whole.{bytes_to, datagram_of, datagram_with, newly}
+use Rattle.nb_table.specs.Code.Change.{KeyChange, change_of, grown_to}
+use Rattle.nb_table.proofs.Changes.ChangeLemmas.{facts_held, key_grown, with_together}
+use Rattle.nb_table.proofs.Covers.PlacedLemmas.{cover_of_formed}
+use Rattle.nb_table.proofs.Covers.CoverFactsLemmas.{together_formed}
+use Rattle.nb_table.specs.Shared.SameLemmas.{refutes}
+use Rattle.nb_table.proofs.entry.EntryFacts.grow.Goals as goal
+
+pub returns-then-holds-clause-joined : goal.returns-then-holds-clause-joined
+returns-then-holds-clause-joined c =
+    let b = facts_of (core_of c.args.fragment.now) in
+    let old : EntryFacts = record { kind = c.self.inside.kind; source = c.self.inside.parties.source; destination = c.self.inside.parties.destination; cover = c.self.inside.cover } in
+    sym c.self.view_is ∙ facts_held old b (c.holds.ensures.0 c.if-holds.true) ∙ ap (λ (x : EntryFacts). facts_together x b) c.self.view_is
+
+pub invariant_of-self-2 : goal.invariant_of-self-2
+invariant_of-self-2 c =
+    let b = facts_of (core_of c.args.fragment.now) in
+    let fit = subst (λ (x : EntryFacts). FactsFit x b) (sym c.self.view_is) c.requires.fits in
+    subst AreCoverFacts (sym c.in_ok-add.ensures.ok) (together_formed c.self.inside.cover b.cover fit.cover c.self.invariant (cover_of_formed (core_of c.args.fragment.now)))
+
+pub returns-clause-formed : goal.returns-clause-formed
+returns-clause-formed c =
+    let b = facts_of (core_of c.args.fragment.now) in
+    let fit = subst (λ (x : EntryFacts). FactsFit x b) (sym c.self.view_is) c.requires.fits in
+    subst AreCoverFacts (sym c.in_ok-add.ensures.ok) (together_formed c.self.inside.cover b.cover fit.cover c.self.invariant (cover_of_formed (core_of c.args.fragment.now)))
+
+pub returns-clause-change : goal.returns-clause-change
+returns-clause-change c =
+    let b = facts_of (core_of c.args.fragment.now) in
+    let k = c.args.fragment.now.key in
+    let old : EntryFacts = record { kind = c.self.inside.kind; source = c.self.inside.parties.source; destination = c.self.inside.parties.destination; cover = c.self.inside.cover } in
+    let fit = subst (λ (x : EntryFacts). FactsFit x b) (sym c.self.view_is) c.requires.fits in
+    let made = c.in_ok-add.ensures.ok in
+    let new : ◌≡◌ {A = EntryFacts} (record { kind = c.self.inside.kind; source = c.self.inside.parties.source; destination = c.self.inside.parties.destination; cover = c.add.new.self }) (facts_together old b) =
+    λ i. record { kind = c.self.inside.kind; source = c.self.inside.parties.source; destination = c.self.inside.parties.destination; cover = made i } in
+    let datagram =
+    c.in_ok-datagram.ensures
+    ∙ ap (λ (x : EntryFacts). newly (datagram_of k (Held x)) (datagram_with k x (bytes_to (covers_together x.cover b.cover).bytes (covers_together x.cover b.cover).end))) (sym c.self.view_is)
+    ∙ ap (newly (datagram_of k (Held old))) (with_together k old b (bytes_to (facts_together old b).cover.bytes (facts_together old b).cover.end)) in
+    let grown = key_grown k old b fit (refutes c.holds.result c.holds.ensures c.if-holds.false) in
+    let told = c.in_ok-change.ensures ∙ ap grown_to datagram in
+    subst (λ (x : EntryFacts). KeyChange k (Some (Held x)) (Some (Held (record { kind = c.self.inside.kind; source = c.self.inside.parties.source; destination = c.self.inside.parties.destination; cover = c.add.new.self }))) (change_of c.in_ok-change.change)) c.self.view_is
+    (subst (λ (x : EntryFacts). KeyChange k (Some (Held old)) (Some (Held x)) (change_of c.in_ok-change.change)) (sym new)
+    (subst (λ (x : Change). KeyChange k (Some (Held old)) (Some (Held (facts_together old b))) x) (sym told) grown))

@@ -1,0 +1,120 @@
+//! Facts that grow by one fragment.
+ghost use Rattle.std.specs.Prelude.{◌≡◌, ◌≤◌, ℕ, IfOk, OnOk, OnErr, Some, None};
+ghost use Rattle.nb_datagram.specs.Fragment.{core_of};
+ghost use Rattle.nb_datagram.specs.declared.limits.TheConstants.{MAX_LENGTH};
+ghost use Rattle.nb_table.specs.Slot.{Held};
+ghost use Rattle.nb_table.specs.Entry.{AreEntryFacts, FactsFit, facts_of, facts_together};
+ghost use Rattle.nb_table.specs.Cover.{CoversFit, cover_of, covers_together};
+ghost use Rattle.nb_table.specs.Code.CoverFacts.{Holds};
+ghost use Rattle.nb_table.specs.Whole.{bytes_to, datagram_with, newly};
+ghost use Rattle.nb_table.specs.Whole.{datagram_of as entry_datagram};
+ghost use Rattle.nb_table.specs.Code.Change.{KeyChange, change_of};
+ghost use Rattle.nb_table.specs.Code.Change.{grown_to as grown};
+
+use super::EntryFacts;
+use crate::change::BoxedChange;
+use nb_datagram::{Datagram, Fragment};
+use nb_names::NoMemory;
+use std::alloc::Global;
+
+/// What facts that grow come to: the datagram, if they are whole.
+fn grown_to(alloc: Global, datagram: Option<Datagram>) -> Result<BoxedChange, NoMemory>
+    ensures { IfOk result (λ change. change_of change ≡ grown datagram) }
+{
+    match datagram {
+        Some(datagram) => Ok(BoxedChange::Whole(Box::new(alloc, datagram)?)),
+        None => Ok(BoxedChange::Grown),
+    }
+}
+
+impl EntryFacts {
+    /// The datagram of a fragment's key, if the facts are whole with it. No memory is taken where
+    /// they aren't.
+    fn datagram_with(
+        &self,
+        alloc: Global,
+        fragment: &Fragment<'_>,
+    ) -> Result<Option<Datagram>, NoMemory>
+        requires fits { CoversFit self.now.cover (cover_of (core_of fragment.now)) }
+        requires short { (n : ℕ)
+            → (covers_together self.now.cover (cover_of (core_of fragment.now))).end ≡ Some n
+            → n ≤ MAX_LENGTH }
+        ensures { IfOk result (λ datagram. datagram ≡ datagram_with fragment.now.key self.now
+            (bytes_to (covers_together self.now.cover (cover_of (core_of fragment.now))).bytes
+            (covers_together self.now.cover (cover_of (core_of fragment.now))).end)) }
+    {
+        match self.cover.whole_with(alloc, fragment)? {
+            Some(bytes) => Ok(Some(self.datagram_from(fragment.key(), bytes))),
+            None => Ok(None),
+        }
+    }
+
+    /// The datagram of a fragment's key, if the facts become whole with it. No memory is taken
+    /// where they don't.
+    fn newly_whole_with(
+        &self,
+        alloc: Global,
+        fragment: &Fragment<'_>,
+    ) -> Result<Option<Datagram>, NoMemory>
+        requires fits { CoversFit self.now.cover (cover_of (core_of fragment.now)) }
+        requires short { (n : ℕ)
+            → (covers_together self.now.cover (cover_of (core_of fragment.now))).end ≡ Some n
+            → n ≤ MAX_LENGTH }
+        ensures { IfOk result (λ datagram. datagram
+            ≡ newly (entry_datagram fragment.now.key (Held self.now))
+            (datagram_with fragment.now.key self.now
+            (bytes_to (covers_together self.now.cover (cover_of (core_of fragment.now))).bytes
+            (covers_together self.now.cover (cover_of (core_of fragment.now))).end))) }
+    {
+        if self.is_whole() {
+            return Ok(None);
+        }
+        self.datagram_with(alloc, fragment)
+    }
+
+    /// Joins a fragment, which doesn't contradict what is known. All memory is taken before
+    /// anything changes.
+    pub(crate) fn grow(
+        &mut self,
+        alloc: Global,
+        fragment: &Fragment<'_>,
+    ) -> Result<BoxedChange, NoMemory>
+        requires fits { FactsFit self.old (facts_of (core_of fragment.now)) }
+        requires short { (n : ℕ)
+            → (facts_together self.old (facts_of (core_of fragment.now))).cover.end ≡ Some n
+            → n ≤ MAX_LENGTH }
+        ensures joined { OnOk result
+            (self.new ≡ facts_together self.old (facts_of (core_of fragment.now))) }
+        ensures change { IfOk result (λ change.
+            KeyChange fragment.now.key (Some (Held self.old)) (Some (Held self.new))
+            (change_of change)) }
+        ensures formed { AreEntryFacts self.new }
+        ensures kept { OnErr result (self.new ≡ self.old) }
+        ensures more { OnErr result
+            (Holds self.old.cover (facts_of (core_of fragment.now)).cover → ⊥) }
+    {
+        if self.cover.holds(fragment) {
+            return Ok(BoxedChange::Same);
+        }
+        let datagram = self.newly_whole_with(alloc, fragment)?;
+        let change = grown_to(alloc, datagram)?;
+        self.cover.add(alloc, fragment)?;
+        Ok(change)
+    }
+
+    /// What one fragment says, and what that changes at its key, which was new.
+    pub(crate) fn first(
+        alloc: Global,
+        fragment: &Fragment<'_>,
+    ) -> Result<(EntryFacts, BoxedChange), NoMemory>
+        requires { (n : ℕ) → (facts_of (core_of fragment.now)).cover.end ≡ Some n → n ≤ MAX_LENGTH }
+        ensures facts { IfOk result (λ made. made.0 ≡ facts_of (core_of fragment.now)) }
+        ensures change { IfOk result (λ made.
+            KeyChange fragment.now.key None (Some (Held made.0)) (change_of made.1)) }
+    {
+        let facts = EntryFacts::of(alloc, fragment)?;
+        let datagram = facts.datagram(alloc, fragment.key(), &facts.cover)?;
+        let change = grown_to(alloc, datagram)?;
+        Ok((facts, change))
+    }
+}

@@ -1,0 +1,151 @@
+"""Captures for tests/bench.py and tests/bench_library.py, always the same: what an office's stations send, and datagrams in
+pieces."""
+import random
+import struct
+
+MOST_IN_A_CAPTURE = 16_777_216
+IN, NB, NBSTAT = 1, 0x0020, 0x0021
+TO_FIRST_QUESTION = b'\xc0\x0c'
+# The kinds of packet of each port, as often as they come.
+SERVICE = ('query',) * 8 + ('registration', 'registration', 'refresh', 'release', 'positive', 'positive', 'positive', 'negative',
+                            'node status request', 'node status', 'node status', 'wack')
+DATAGRAMS = (0x10,) * 4 + (0x11,) * 8 + (0x12,) * 4 + (0x13, 0x14, 0x15, 0x16)
+SESSIONS = ('message',) * 15 + ('request', 'positive', 'negative', 'retarget', 'keepalive')
+
+
+def first_level(text, suffix):
+    """A name as it stands in a packet, without a scope."""
+    data = text.ljust(15).encode() + bytes([suffix])
+    letters = bytes(ord('A') + half for byte in data for half in (byte >> 4, byte & 15))
+    return bytes([len(letters)]) + letters + b'\0'
+
+
+JOE, FRED = first_level('JOE', 0x00), first_level('FRED', 0x20)
+
+
+def packet(address, identifier, flags, offset, data):
+    """A group datagram's packet from JOE<00> to FRED<20>."""
+    return datagram(0x11, address, identifier, flags, offset, JOE + FRED + data)
+
+
+def datagram(kind, address, identifier, flags, offset, names_and_data):
+    """A fragment of a datagram of this kind."""
+    return struct.pack('>BBH4sHHH', kind, flags, identifier, address, 138, len(names_and_data), offset) + names_and_data
+
+
+def pieces(address, identifier, data, most):
+    """The packets of a datagram, cut into pieces of at most this many bytes."""
+    starts = range(0, max(len(data), 1), most)
+    return [packet(address, identifier, 2 * (start == 0) + (start != starts[-1]), start, data[start:start + most])
+            for start in starts]
+
+
+def line(moment, payload, port=138):
+    return b'%d %d %s\n' % (port, moment, payload.hex().encode())
+
+
+# ---- what an office's stations send
+
+class Office:
+    """Stations with some names each, and the packets that they send."""
+
+    def __init__(self, rng):
+        self.rng = rng
+        self.names = [first_level('STATION%02d' % number, suffix) for number in range(60) for suffix in (0x00, 0x03, 0x20)]
+        self.names += [first_level('OFFICE', suffix) for suffix in (0x00, 0x1b, 0x1c, 0x1d, 0x1e)]
+
+    def name(self):
+        return self.rng.choice(self.names)
+
+    def address(self):
+        return bytes([10, 0, self.rng.randrange(4), self.rng.randrange(1, 255)])
+
+    def entry(self):
+        """An entry of RDATA of kind NB."""
+        return struct.pack('>H', self.rng.choice((0x0000, 0x2000, 0x6000, 0x8000))) + self.address()
+
+    def record(self, name, kind, seconds, rdata):
+        return name + struct.pack('>HHLH', kind, IN, seconds, len(rdata)) + rdata
+
+    def service(self):
+        """A packet of port 137: a request, a response with records, or the answer to a node status request."""
+        what, name = self.rng.choice(SERVICE), self.name()
+        question = name + struct.pack('>HH', NB, IN)
+        claim = self.record(TO_FIRST_QUESTION, NB, 300_000, self.entry())
+        word, counts, body = {
+            'query': (0x0110, (1, 0, 0, 0), question),
+            'registration': (0x2910, (1, 0, 0, 1), question + claim),
+            'refresh': (0x4000, (1, 0, 0, 1), question + claim),
+            'release': (0x3000, (1, 0, 0, 1), question + claim),
+            'positive': (0x8500, (0, 1, 0, 0), self.record(name, NB, 300_000, self.entry() + self.entry() * self.rng.randrange(4))),
+            'negative': (0x8583, (0, 1, 0, 0), self.record(name, 0x000a, 0, b'')),
+            'node status request': (0x0000, (1, 0, 0, 0), name + struct.pack('>HH', NBSTAT, IN)),
+            'node status': (0x8400, (0, 1, 0, 0), self.record(name, NBSTAT, 0, self.statistics())),
+            'wack': (0xbc00, (0, 1, 0, 0), self.record(name, NB, 15, b'\x29\x00')),
+        }[what]
+        return struct.pack('>6H', self.rng.randrange(65_536), word, *counts) + body
+
+    def statistics(self):
+        """What a node status answer says of a station: its names, and its numbers."""
+        count = self.rng.randrange(3, 12)
+        names = b''.join(b'STATION%02d      ' % number + bytes([self.rng.choice((0x00, 0x03, 0x20))])
+                         + struct.pack('>H', self.rng.choice((0x0400, 0x8400, 0x6400))) for number in range(count))
+        return bytes([count]) + names + self.rng.randbytes(6) + bytes(40)
+
+    def datagram(self):
+        """A packet of port 138 of any kind, whole in one."""
+        kind, identifier, address = self.rng.choice(DATAGRAMS), self.rng.randrange(65_536), self.address()
+        if kind >= 0x13:
+            body = b'\x82' if kind == 0x13 else self.name()
+            return struct.pack('>BBH4sH', kind, 2, identifier, address, 138) + body
+        return datagram(kind, address, identifier, 2, 0, self.name() + self.name() + self.rng.randbytes(self.rng.randrange(20, 250)))
+
+    def session(self):
+        """A small packet of port 139."""
+        what = self.rng.choice(SESSIONS)
+        body = {'message': self.rng.randbytes(self.rng.randrange(35, 260)), 'request': self.name() + self.name(), 'positive': b'',
+                'negative': b'\x82', 'retarget': self.address() + b'\0\x8b', 'keepalive': b''}[what]
+        kind = {'message': 0x00, 'request': 0x81, 'positive': 0x82, 'negative': 0x83, 'retarget': 0x84, 'keepalive': 0x85}[what]
+        return struct.pack('>BBH', kind, 0, len(body)) + body
+
+
+def office(port, count):
+    """So many packets of an office to this port, and no more than a capture may have."""
+    stations = Office(random.Random(port))
+    made = {137: stations.service, 138: stations.datagram, 139: stations.session}[port]
+    size = 0
+    for moment in range(count):
+        each = line(moment, made(), port)
+        size += len(each)
+        if size > MOST_IN_A_CAPTURE:
+            return
+        yield each
+
+
+# ---- datagrams to put together
+
+def unfragmented(rng, count):
+    """Datagrams of up to 299 bytes in one packet each, and a tick each second."""
+    for i in range(count):
+        if i % 250 == 0:
+            yield b'tick %d\n' % (i * 4)
+        address = bytes([10, 0, i % 5, 1 + i % 200])
+        yield line(i * 4, packet(address, i % 65_536, 2, 0, rng.randbytes(rng.randrange(300))))
+
+
+def shuffled(rng, datagrams, size, most):
+    """Datagrams of this size, cut, with all their pieces shuffled together."""
+    lines = [line(0, piece) for i in range(datagrams) for piece in pieces(bytes([10, 0, 0, 5]), i, rng.randbytes(size), most)]
+    rng.shuffle(lines)
+    return lines
+
+
+def descending(rng, size):
+    """One datagram in pieces of a byte, the last one first."""
+    return [line(0, piece) for piece in reversed(pieces(bytes([10, 0, 0, 5]), 1, rng.randbytes(size), 1))]
+
+
+def one_address(count):
+    """First fragments of one address, each of another datagram: as many keys, of which none is whole."""
+    for i in range(count):
+        yield line(0, packet(bytes([10, 0, 0, 5]), i % 65_536, 3, 0, b'x'))

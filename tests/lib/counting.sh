@@ -1,0 +1,130 @@
+# Read by the scripts of tests/: a room for their files, a limit on the time of what they start, the count of their cases,
+# which tests/counts.txt has the least of, and the last line, 'N passed, M failed, K skipped'. $here is the folder tests/.
+here=$(cd "$(dirname "${BASH_SOURCE[0]}")/.." && pwd)
+script=$(basename "$0")
+room=$(mktemp -d)
+trap 'rm -rf "$room"' EXIT
+passed=0
+failed=0
+skipped=0
+
+# count STATUS NAME: one case more, which went well if the status is 0.
+count() {
+    if [ "$1" -eq 0 ]; then
+        passed=$((passed + 1))
+    else
+        failed=$((failed + 1))
+        echo "failed: $2"
+    fi
+}
+
+# ended COMMAND..: runs a command, whose status is 124 or 137 where it doesn't end within two minutes.
+timeout=$(command -v timeout)
+ended() { "$timeout" -k 5 120 "$@"; }
+
+# least SCRIPT PART: how many cases a part of a script has at least, or `all` of it; 0 where tests/counts.txt doesn't say it.
+least() {
+    awk -v script="$1" -v part="$2" '
+        $1 == script && (part == "all" || $2 == part) { sum += $3 }
+        END { print sum + 0 }' "$here/counts.txt"
+}
+
+# enough NUMBER LEAST NAME: fails where there are fewer cases than stated, or nothing is stated.
+enough() {
+    [ "$2" -gt 0 ] && [ "$1" -ge "$2" ] || count 1 "$3: $1 cases, of $2 at least (tests/counts.txt)"
+}
+
+# part NAME COMMAND..: runs the cases of a part, and prints how many there are.
+part() {
+    local before=$((passed + failed + skipped)) number
+    "${@:2}"
+    number=$((passed + failed + skipped - before))
+    echo "$number cases: $1"
+    enough $number "$(least "$script" "$1")" "$1"
+}
+
+# skip PART WHY: leaves out the cases of a part.
+skip() {
+    local number
+    number=$(least "$script" "$1")
+    skipped=$((skipped + number))
+    echo "skipped: $1, $number cases ($2)"
+}
+
+# lacks PART TOOL: leaves out a part for want of a tool. In CI, which installs it, that is a failure too.
+lacks() {
+    skip "$1" "$2 isn't installed"
+    [ "${CI:-}" != true ] || count 1 "$1: CI has to install $2"
+}
+
+# compile SHIM..: what stands before the C library in some cases, $room/SHIM.so.
+compile() {
+    local shim
+    for shim; do
+        ${CC:-cc} -shared -fPIC -O1 -o "$room/$shim.so" "$here/lib/$shim.c" -ldl
+        count $? "tests/lib/$shim.c is compiled"
+    done
+}
+
+# refusing NAME=VALUE.. COMMAND: runs a command over tests/lib/refuse_memory.c.
+refusing() { ended env LD_PRELOAD="$room/refuse_memory.so" "$@"; }
+
+# requests COMMAND..: runs a command with ample memory; $number is how many requests for it were counted.
+requests() {
+    local status
+    : >"$room/requests"
+    refusing NBT_REQUESTS="$room/requests" "$@"
+    status=$?
+    number=$(cat "$room/requests")
+    [[ $number =~ ^[0-9]{1,9}$ ]] || number=0
+    return $status
+}
+
+# with_tools PROGRAM: $room/bin has the program and the tools that lead from a pcap and back, by the names that they have once
+# installed. tshark has no user's settings.
+with_tools() {
+    local tool
+    mkdir "$room/bin" && ln -s "$(realpath "$1")" "$room/bin/nbt"
+    for tool in pcap2cap cap2pcap; do ln -s "$(realpath "$here/../tools/$tool")" "$room/bin/nbt-$tool"; done
+    export WIRESHARK_CONFIG_DIR=$room/settings
+}
+
+# page FILE: the console samples of a page, where each command prints the lines after it. They run in a folder of their
+# own, which has the folder examples too, with the commands of $room/bin.
+page() {
+    local line command='' wanted=''
+    mkdir "$room/page"
+    ln -s "$(realpath "$here/../examples")" "$room/page/examples"
+    while IFS= read -r line; do
+        case $line in
+        '$ '*)
+            page_sample "$1" "$command" "$wanted"
+            command=${line#'$ '} wanted=''
+            ;;
+        *) wanted+=$line$'\n' ;;
+        esac
+    done < <(awk '/^```$/ { shown = 0 } shown; /^```console$/ { shown = 1 }' "$here/../$1")
+    page_sample "$1" "$command" "$wanted"
+    rm -r "$room/page"
+}
+
+# page_sample FILE COMMAND WANTED: one of them; none, where there is no command. It is left out where it reads a pcap and
+# tshark isn't installed.
+page_sample() {
+    [ -n "$2" ] || return
+    if [[ $2 == *nbt-pcap2cap* ]] && ! command -v tshark >/dev/null; then
+        skipped=$((skipped + 1))
+        echo "skipped: $1: $2 (tshark isn't installed)"
+        return
+    fi
+    (cd "$room/page" && PATH=$room/bin:$PATH ended bash -c "$2" </dev/null) >"$room/output" 2>&1
+    printf '%s' "$3" | diff - "$room/output"
+    count $? "$1: $2"
+}
+
+# Ends the script with its last line.
+finish() {
+    enough $((passed + failed + skipped)) "$(least "$script" all)" all
+    echo "$passed passed, $failed failed, $skipped skipped"
+    [ "$failed" -eq 0 ]
+}

@@ -1,0 +1,299 @@
+/* The calls of the library for C with a caller's worst: buffers that end where the next page can't be touched, at any
+ * address, with each room from none to what is wanted, and memory that runs out. Usage: library [ROOMS] <LINES. Each line
+ * is a port and the digits of a payload, or `empty`; the answer is what `nbt show` prints of a capture with these lines.
+ * ROOMS is how many smaller rooms are tried of each text, 64 without it. The status is 1, with the line and the call on
+ * standard error, where a call does what the header doesn't say. The last line of standard error counts payloads, calls
+ * and refusals of memory. */
+#define _GNU_SOURCE
+#include <nbt.h>
+#include <stdio.h>
+#include <stdlib.h>
+#include <string.h>
+#include <sys/mman.h>
+
+#define SPACE ((size_t)1 << 20)
+#define PAGE 4096
+#define FILL 0xa5
+
+/* Some space that ends where a page that can't be touched begins. */
+struct edge {
+    uint8_t *end;
+};
+
+static char line[2 * 131100 + 64];
+static char input[1 << 16], output[1 << 16];
+static struct edge payloads, texts, names, packets, tables;
+static struct nbt_station station;
+static unsigned long number, calls, refusals;
+
+static void expect(int holds, const char *what)
+{
+    if (holds)
+        return;
+    fflush(stdout);
+    fprintf(stderr, "line %lu: %s\n", number, what);
+    exit(1);
+}
+
+static struct edge edge(void)
+{
+    struct edge made;
+    uint8_t *start = mmap(NULL, SPACE + PAGE, PROT_READ | PROT_WRITE, MAP_PRIVATE | MAP_ANONYMOUS, -1, 0);
+    expect(start != MAP_FAILED, "mmap");
+    made.end = start + SPACE;
+    expect(mprotect(made.end, PAGE, PROT_NONE) == 0, "mprotect");
+    return made;
+}
+
+/* So many bytes at the edge, each of them FILL. */
+static uint8_t *room(struct edge at, size_t length)
+{
+    expect(length <= SPACE, "room");
+    return memset(at.end - length, FILL, length);
+}
+
+static int is_filled(const uint8_t *bytes, size_t length)
+{
+    size_t i;
+    for (i = 0; i < length; i++)
+        if (bytes[i] != FILL)
+            return 0;
+    return 1;
+}
+
+/* The text of a payload in a room of so many bytes. */
+static uint32_t show(uint16_t port, const uint8_t *payload, size_t length, size_t into_length, uint8_t **into, size_t *used)
+{
+    uint32_t status;
+    for (;;) {
+        *into = room(texts, into_length);
+        *used = 77;
+        status = nbt_show(port, payload, length, *into, into_length, used);
+        calls += 1;
+        if (status == NBT_DONE)
+            return status;
+        expect(is_filled(*into, into_length), "nbt_show: a buffer is changed though nothing is done");
+        if (status != NBT_NO_MEMORY)
+            return status;
+        expect(*used == 77, "nbt_show: used is changed where memory runs out");
+        refusals += 1;
+    }
+}
+
+static void shown(uint16_t port, const uint8_t *payload, size_t length, size_t rooms)
+{
+    uint8_t *into;
+    size_t wanted, used, less, step;
+    expect(show(port, payload, length, 0, &into, &wanted) == NBT_NO_ROOM, "nbt_show: a text of no byte");
+    step = wanted / (rooms + 1) + 1;
+    for (less = 1; less < wanted; less += step) {
+        expect(show(port, payload, length, less, &into, &used) == NBT_NO_ROOM, "nbt_show: a text in too small a room");
+        expect(used == wanted, "nbt_show: the room that is wanted changes");
+    }
+    expect(show(port, payload, length, wanted - 1, &into, &used) == NBT_NO_ROOM, "nbt_show: a byte too few is enough");
+    expect(show(port, payload, length, wanted + 3, &into, &used) == NBT_DONE && used == wanted, "nbt_show: more room");
+    expect(is_filled(into + wanted, 3), "nbt_show: bytes after the text are changed");
+    expect(show(port, payload, length, wanted, &into, &used) == NBT_DONE && used == wanted, "nbt_show: the room that is wanted");
+    printf("%lu %u ", number, port);
+    fwrite(into, 1, used, stdout);
+}
+
+/* Counts a call, and says whether it is to be made again: memory ran out. */
+static int again(uint32_t status)
+{
+    calls += 1;
+    refusals += status == NBT_NO_MEMORY;
+    return status == NBT_NO_MEMORY;
+}
+
+/* The text of a spelling, and its spelling again. */
+static void named(const uint8_t *spelling, size_t length, uint8_t **text, size_t *used)
+{
+    uint8_t *spelt;
+    size_t at = 88, back = 0;
+    uint32_t status;
+    do
+        status = nbt_name_text(spelling, length, room(names, 0), 0, used, &at);
+    while (again(status));
+    expect(status == NBT_NO_ROOM, "nbt_name_text: no room");
+    *text = room(names, *used);
+    do
+        status = nbt_name_text(spelling, length, *text, *used, used, &at);
+    while (again(status));
+    expect(status == NBT_DONE && at == 88, "nbt_name_text: a name of a packet");
+    spelt = room(texts, length);
+    do
+        status = nbt_name_spell(*text, *used, spelt, length, &back, &at);
+    while (again(status));
+    expect(status == NBT_DONE && at == 88 && back == length && memcmp(spelt, spelling, length) == 0, "nbt_name_spell: the name again");
+}
+
+/* A datagram that is whole in one packet is written as this packet. */
+static void written(const uint8_t *payload, const struct nbt_datagram *read)
+{
+    uint8_t source[1024], *text, *into;
+    size_t source_length, length, used, at = 88;
+    uint32_t status;
+    named(payload + read->source, read->source_length, &text, &source_length);
+    expect(source_length <= sizeof source, "nbt_name_text: a text of more bytes than any");
+    memcpy(source, text, source_length);
+    named(payload + read->destination, read->destination_length, &text, &length);
+    if (read->flags != 2 || read->offset != 0 || read->used > 65535)
+        return;
+    into = room(packets, 2 + read->used);
+    do
+        status = nbt_datagram_write(read->type, read->identifier, read->address, read->port, source, source_length, text, length,
+                                    payload + read->data, read->data_length, 65535, into, 2 + read->used, &used, &at);
+    while (again(status));
+    expect(status == NBT_DONE && at == 88 && used == 2 + read->used, "nbt_datagram_write: the datagram of a packet");
+    expect((size_t)into[0] * 256 + into[1] == read->used, "nbt_datagram_write: the length of a packet");
+    expect(memcmp(into + 2, payload, read->used) == 0, "nbt_datagram_write: the packet again");
+}
+
+static void datagram(const uint8_t *payload, size_t length)
+{
+    struct nbt_datagram read;
+    size_t at = 88;
+    uint32_t status;
+    memset(&read, FILL, sizeof read);
+    status = nbt_datagram_read(payload, length, &read, &at);
+    calls += 1;
+    if (status != NBT_DONE) {
+        expect(is_filled((const uint8_t *)&read, sizeof read), "nbt_datagram_read: a packet is filled in though nothing is done");
+        expect(status == NBT_UNKNOWN_TYPE ? at == 88 : at <= length, "nbt_datagram_read: the place of a fault");
+        return;
+    }
+    expect(at == 88 && read.used <= length, "nbt_datagram_read: the bytes of the packet");
+    if (read.source_length > 0) {
+        expect(read.source == 14 && read.destination == read.source + read.source_length
+               && read.data == read.destination + read.destination_length && read.data + read.data_length == read.used,
+               "nbt_datagram_read: the places of a fragment");
+        written(payload, &read);
+    } else {
+        expect(read.destination + read.destination_length <= read.used && read.data + read.data_length <= read.used,
+               "nbt_datagram_read: the places of another packet");
+    }
+}
+
+static void session(const uint8_t *payload, size_t length)
+{
+    struct nbt_session read;
+    uint8_t *into;
+    size_t at = 88, used = 77;
+    uint32_t status;
+    memset(&read, FILL, sizeof read);
+    status = nbt_session_read(payload, length, &read, &at);
+    calls += 1;
+    if (status != NBT_DONE) {
+        expect(is_filled((const uint8_t *)&read, sizeof read), "nbt_session_read: a packet is filled in though nothing is done");
+        return;
+    }
+    expect(at == 88 && read.body == 4 && read.body + read.body_length == read.used && read.used <= length, "nbt_session_read: the places");
+    into = room(packets, read.used);
+    do
+        status = nbt_session_write(read.type, payload + read.body, read.body_length, into, read.used, &used, &at);
+    while (again(status));
+    expect(status == NBT_DONE && at == 88 && used == read.used && memcmp(into, payload, used) == 0, "nbt_session_write: the packet again");
+}
+
+/* The station's table, saved at the edge of a page. */
+static uint8_t *saved(size_t *used)
+{
+    uint8_t *table;
+    uint32_t status;
+    do
+        status = nbt_station_save(&station, room(tables, 0), 0, used);
+    while (again(status));
+    expect(status == NBT_NO_ROOM, "nbt_station_save: no room");
+    table = room(tables, *used);
+    do
+        status = nbt_station_save(&station, table, *used, used);
+    while (again(status));
+    expect(status == NBT_DONE, "nbt_station_save: the room that is wanted");
+    return table;
+}
+
+/* A payload, taken by a station: with too little room first, which changes nothing. */
+static void stationed(const uint8_t *payload, size_t length)
+{
+    static uint8_t before[1 << 16];
+    struct nbt_taken taken;
+    size_t wanted, used, i;
+    uint32_t status, dropped;
+    const size_t rooms[] = {0, 1, NBT_TAKE_ROOM - 1};
+    uint8_t *table = saved(&wanted);
+    memcpy(before, table, wanted < sizeof before ? wanted : sizeof before);
+    memset(&taken, FILL, sizeof taken);
+    for (i = 0; i < 3; i++) {
+        uint8_t *into = room(texts, rooms[i]);
+        used = 77;
+        status = nbt_station_take(&station, number, payload, length, &taken, into, rooms[i], &used);
+        calls += 1;
+        expect(status == NBT_NO_ROOM && used == NBT_TAKE_ROOM, "nbt_station_take: too little room");
+        expect(is_filled(into, rooms[i]) && is_filled((const uint8_t *)&taken, sizeof taken),
+               "nbt_station_take: something is written without room");
+    }
+    table = saved(&used);
+    expect(used == wanted && memcmp(before, table, used < sizeof before ? used : sizeof before) == 0,
+           "nbt_station_take: a station is changed without room");
+    for (;;) {
+        uint8_t *into = room(texts, NBT_TAKE_ROOM);
+        used = 77;
+        status = nbt_station_take(&station, number, payload, length, &taken, into, NBT_TAKE_ROOM, &used);
+        calls += 1;
+        if (status == NBT_DONE) {
+            expect(used <= NBT_TAKE_ROOM && is_filled(into + used, NBT_TAKE_ROOM - used), "nbt_station_take: bytes after the last are changed");
+            expect(used == taken.source_length + taken.destination_length + taken.data_length + taken.error_length, "nbt_station_take: the lengths");
+            break;
+        }
+        expect(used == 77 && is_filled(into, NBT_TAKE_ROOM), "nbt_station_take: something is written though nothing is done");
+        if (status != NBT_NO_MEMORY)
+            break;
+        refusals += 1;
+    }
+    do
+        status = nbt_station_tick(&station, number, &dropped);
+    while (again(status));
+    expect(status == NBT_DONE, "nbt_station_tick");
+}
+
+static int value(char digit)
+{
+    return digit <= '9' ? digit - '0' : (digit | 32) - 'a' + 10;
+}
+
+int main(int count, char **words)
+{
+    size_t rooms = count > 1 ? strtoul(words[1], NULL, 10) : 64, place = 88;
+    uint32_t status;
+    setvbuf(stdin, input, _IOFBF, sizeof input);
+    setvbuf(stdout, output, _IOFBF, sizeof output);
+    payloads = edge();
+    texts = edge();
+    names = edge();
+    packets = edge();
+    tables = edge();
+    do
+        status = nbt_station_create((const uint8_t *)"FRED<20> JOE<00>", 16, 0x0a000009, 138, 4, 4, &station.at, &place);
+    while (again(status));
+    expect(status == NBT_DONE && place == 88, "nbt_station_create");
+    while (fgets(line, sizeof line, stdin) != NULL) {
+        char *digits;
+        uint16_t port = (uint16_t)strtoul(line, &digits, 10);
+        size_t length, i;
+        uint8_t *payload;
+        digits += 1;
+        length = strncmp(digits, "empty", 5) == 0 ? 0 : strcspn(digits, "\n") / 2;
+        payload = room(payloads, length);
+        for (i = 0; i < length; i++)
+            payload[i] = (uint8_t)(value(digits[2 * i]) * 16 + value(digits[2 * i + 1]));
+        number += 1;
+        shown(port, payload, length, rooms);
+        datagram(payload, length);
+        session(payload, length);
+        stationed(payload, length);
+    }
+    nbt_station_free(station);
+    fprintf(stderr, "%lu payloads, %lu calls, %lu refusals\n", number, calls, refusals);
+    return 0;
+}

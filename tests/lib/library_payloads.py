@@ -1,0 +1,22 @@
+#!/usr/bin/env python3
+"""Payloads for tests/lib/library.c, good and changed, a line each: a port and digits, or `empty`.
+
+Usage: tests/lib/library_payloads.py [--seed N] COUNT. They are made as those of tests/fuzz.py are.
+"""
+import argparse
+import random
+
+from fuzz_inputs import Maker, capture_lines, example_bytes, likely_port
+
+LONGEST = 131_000
+
+parser = argparse.ArgumentParser()
+parser.add_argument('--seed', type=int, default=1)
+parser.add_argument('count', type=int)
+words = parser.parse_args()
+rng = random.Random(words.seed)
+maker = Maker(rng, list(example_bytes()), list(capture_lines()))
+for _ in range(words.count):
+    payload = maker.payload()[:LONGEST]
+    port = rng.choice((137, 138, 139)) if rng.random() < 0.2 else likely_port(payload)
+    print(port, payload.hex() or 'empty')

@@ -1,0 +1,42 @@
+#!/usr/bin/env python3
+"""What `nbt replay` prints of a capture on standard input, by a station of the package for Python, but for why a payload is
+refused. Usage: library_replay.py NAME.. <CAPTURE."""
+import sys
+
+import nbt
+
+
+def key(taken):
+    return f'{taken.address}:{taken.port}/{taken.identifier:04x}'
+
+
+def report(taken):
+    """The words of a payload's outcome."""
+    words = [taken.outcome.name.lower()]
+    if taken.address is not None:
+        words.append(key(taken))
+    if taken.delivery is not None:
+        it = taken.delivery
+        words += [it.type.name.lower(), it.source, it.destination, it.data.hex() or 'empty']
+    if taken.error:
+        words += ['error', taken.error.hex()]
+    return ' '.join(words)
+
+
+def replay(station, line):
+    """The report of a capture's line."""
+    words = line.split()
+    if words[0] == 'tick':
+        return f'dropped {station.tick(int(words[1]))}'
+    if words[0] != '138':
+        return 'passed'
+    try:
+        return report(station.take(int(words[1]), bytes.fromhex(words[2].replace('empty', ''))))
+    except nbt.NbtError:
+        return 'refused'
+
+
+with nbt.Station(sys.argv[1:], '0.0.0.0') as station:
+    for number, line in enumerate(sys.stdin, 1):
+        if line.strip() and not line.startswith('#'):
+            print(number, replay(station, line))

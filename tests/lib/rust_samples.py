@@ -1,0 +1,34 @@
+#!/usr/bin/env python3
+"""Whether the Rust samples of README.md and docs/CALLING.md stand in the sources, indented as they may be.
+
+Each paragraph of a sample, its lines up to an empty one, has to be lines of one file of crates/*/src, or of an example of
+bindings/rust. Prints those that aren't; status 1 where there is one, or no sample at all.
+"""
+import pathlib
+import re
+import sys
+
+TOP = pathlib.Path(__file__).resolve().parents[2]
+PAGES = ("README.md", "docs/CALLING.md")
+
+
+def flat(text):
+    """The lines of a text without their indentation, each ended by a line feed."""
+    return "".join(line.strip() + "\n" for line in text.splitlines())
+
+
+def paragraphs():
+    """(page, paragraph) of each Rust sample of the pages."""
+    for page in PAGES:
+        for sample in re.findall(r"^```rust\n(.*?)^```$", (TOP / page).read_text(), re.M | re.S):
+            for paragraph in flat(sample).split("\n\n"):
+                yield page, paragraph.strip("\n") + "\n"
+
+
+FILES = ("crates/*/src/**/*.rt", "bindings/rust/examples/*.rs")
+sources = ["\n" + flat(path.read_text()) for files in FILES for path in sorted(TOP.glob(files))]
+found = list(paragraphs())
+missing = [(page, text) for page, text in found if not any("\n" + text in source for source in sources)]
+for page, text in missing:
+    print(f"{page}: in no source:\n{text}")
+sys.exit(1 if missing or not found else 0)

@@ -1,0 +1,312 @@
+#!/usr/bin/env python3
+"""tools/nbt-station on sockets of the loopback interface, beside the program.  Usage: tests/lib/station.py TOOL PROGRAM
+
+Prints `ok: CASE`, or `failed: CASE: why`, for each case.
+"""
+import contextlib
+import json
+import os
+import random
+import signal
+import socket
+import subprocess
+import sys
+import tempfile
+import time
+
+sys.dont_write_bytecode = True
+from fuzz_inputs import Maker, capture_lines, example_bytes
+from wire import FRED, JOE, first_level
+
+TOOL, PROGRAM = map(os.path.abspath, sys.argv[1:])
+PATIENCE = 20
+ANN, NOBODY = first_level('ANN', 0x20), first_level('NOBODY', 0x20)
+SENDER = bytes([10, 0, 0, 5, 0, 138])
+UNIQUE, GROUP = 0x10, 0x11
+FIRST, MORE = 2, 1
+EMPTY = '4e42543200000000\n'
+# How often a case is tried whose keys may be dropped before it is done, where the machine is busy.
+TRIES = 5
+
+
+class Wrong(Exception):
+    """A case that didn't go as it has to."""
+
+
+class TooSlow(Exception):
+    """Keys were dropped before the case was done: it is tried again."""
+
+
+def expect(wanted, found):
+    if wanted != found:
+        raise Wrong(f'{str(found)[:300]!r}, not {str(wanted)[:300]!r}')
+
+
+def packet(kind, identifier, destination, data, offset=0, flags=FIRST, source=JOE):
+    """A packet of a datagram."""
+    length = len(source) + len(destination) + len(data)
+    head = bytes([kind, flags]) + identifier.to_bytes(2, 'big') + SENDER
+    return head + length.to_bytes(2, 'big') + offset.to_bytes(2, 'big') + source + destination + data
+
+
+def pieces(identifier, data, most=7):
+    """The packets of a group datagram to FRED<20>, with at most so many bytes of data each."""
+    starts = range(0, len(data), most)
+    return [packet(GROUP, identifier, FRED, data[it:it + most], it, FIRST * (it == 0) | MORE * (it != starts[-1]))
+            for it in starts]
+
+
+class Station:
+    """A tool that runs, and a socket that sends to it."""
+
+    def __init__(self, folder, *words, names=('FRED<20>',), bind='127.0.0.1:0', out=None):
+        self.folder, self.out = folder, os.path.join(folder, 'out') if out is None else out
+        with open(self.out, 'wb') as out:
+            self.process = subprocess.Popen([TOOL, '--bind', bind, *words, *names], cwd=folder, stdin=subprocess.DEVNULL,
+                                            stdout=out, stderr=subprocess.PIPE)
+        first = self.process.stderr.readline().decode()
+        if 'listens at' not in first:
+            self.process.kill()
+            raise Wrong(f'it said {first!r}')
+        self.last = 0x10000
+        host, port = first.split()[-1].split(':')
+        self.socket = socket.socket(socket.AF_INET, socket.SOCK_DGRAM)
+        self.socket.settimeout(PATIENCE)
+        self.socket.connect((host, int(port)))
+
+    def send(self, *payloads):
+        for payload in payloads:
+            self.socket.send(payload)
+
+    def answer(self):
+        return self.socket.recv(100)
+
+    def reached(self):
+        """Waits until all that was sent before was taken: a datagram for nobody, each time another, is answered after it."""
+        self.last -= 1
+        self.send(packet(UNIQUE, self.last, NOBODY, b''))
+        while self.answer()[2:4] != self.last.to_bytes(2, 'big'):
+            pass
+
+    def lines(self):
+        with open(self.out, encoding='ascii') as lines:
+            return lines.read().splitlines()
+
+    def saved(self, name='table'):
+        """What stands in the file of a saved table, once it is there."""
+        path, until = os.path.join(self.folder, name), time.monotonic() + PATIENCE
+        while not os.path.exists(path):
+            if time.monotonic() > until:
+                raise Wrong('no table was saved')
+            time.sleep(0.01)
+        with open(path, encoding='ascii') as line:
+            return line.read()
+
+    def ended(self, number=signal.SIGTERM):
+        """The status with which it ends at a signal, and what it says then."""
+        self.process.send_signal(number)
+        said = self.process.communicate(timeout=PATIENCE)[1]
+        return self.process.returncode, said.decode()
+
+
+@contextlib.contextmanager
+def station(*words, **named):
+    """A station in a folder of its own, which ends with the case."""
+    with tempfile.TemporaryDirectory() as folder:
+        each = Station(folder, *words, **named)
+        try:
+            yield each
+        finally:
+            each.process.kill()
+            each.process.communicate()
+            each.socket.close()
+
+
+def nbt(*words, text=''):
+    return subprocess.run([PROGRAM, *words], input=text, capture_output=True, text=True, timeout=PATIENCE).stdout
+
+
+def replayed(payloads, *names):
+    """The deliveries of `nbt replay` of these payloads."""
+    capture = ''.join(f'138 0 {it.hex() or "empty"}\n' for it in payloads)
+    lines = nbt('replay', '--keys', '65535', *names, text=capture).splitlines()
+    return [line.split(' ', 1)[1] for line in lines if ' delivered ' in line]
+
+
+def begun(folder, *words):
+    """The status and the words of a tool that ends by itself."""
+    done = subprocess.run([TOOL, *words], cwd=folder, capture_output=True, text=True, timeout=PATIENCE)
+    return done.returncode, done.stderr.strip().splitlines()[-1]
+
+
+def whole_tables(table, count):
+    """The table, if no key of it was dropped yet."""
+    found = len(nbt('list', text=table).splitlines())
+    if found < count:
+        raise TooSlow(f'{found} keys of {count}')
+    return table
+
+
+# ---- the cases
+
+def any_order_and_repeats():
+    """Two stations that get the same pieces in other orders, with repeats, deliver the same and save equal tables."""
+    rng = random.Random(138)
+    payloads = [it for number in range(12) for it in pieces(number, rng.randbytes(40))][:-1]
+    others = [*payloads, *rng.choices(payloads, k=40)]
+    rng.shuffle(others)
+    with station('--save', 'table') as one, station('--save', 'table') as other:
+        one.send(*payloads)
+        other.send(*others)
+        for each in one, other:
+            each.reached()
+            each.process.send_signal(signal.SIGUSR1)
+        tables = [whole_tables(each.saved(), 13) for each in (one, other)]
+        expect('equal\n', nbt('agree', text=''.join(tables)))
+        expect(sorted(replayed(payloads, 'FRED<20>')), sorted(one.lines()))
+        expect(sorted(one.lines()), sorted(other.lines()))
+        expect(11, len(one.lines()))
+
+
+def saved_at_its_end():
+    for number in signal.SIGTERM, signal.SIGINT:
+        with station('--save', 'table') as each:
+            each.send(*pieces(1, b'hello')[:1])
+            each.reached()
+            expect((0, ''), each.ended(number))
+            lines = nbt('list', text=whole_tables(each.saved(), 2)).splitlines()
+            expect('10.0.0.5:138/0001 whole group JOE<00> FRED<20> 68656c6c6f', lines[0])
+            expect(['out', 'table'], sorted(os.listdir(each.folder)))
+
+
+def saved_again():
+    """What was saved before is replaced, and the station goes on."""
+    with station('--save', 'table') as each:
+        each.process.send_signal(signal.SIGUSR1)
+        expect(EMPTY, each.saved())
+        os.unlink(os.path.join(each.folder, 'table'))
+        each.send(*pieces(1, b'hello'))
+        each.reached()
+        each.process.send_signal(signal.SIGUSR1)
+        whole_tables(each.saved(), 2)
+        expect(1, len(each.lines()))
+
+
+def no_file():
+    """Without --save nothing is saved, and SIGUSR1 does nothing."""
+    with station() as each:
+        each.process.send_signal(signal.SIGUSR1)
+        each.send(*pieces(1, b'hello'))
+        each.reached()
+        expect((0, ''), each.ended())
+        expect(['out'], os.listdir(each.folder))
+        expect(['delivered 10.0.0.5:138/0001 group JOE<00> FRED<20> 68656c6c6f'], each.lines())
+
+
+def dropped_by_the_clock():
+    with station('--save', 'table') as each:
+        each.send(*pieces(1, b'hello, FRED')[:1])
+        time.sleep(3.3)
+        each.process.send_signal(signal.SIGUSR1)
+        expect(EMPTY, each.saved())
+
+
+def error_packets():
+    """A datagram for a single name is answered where the name isn't there, or a name can't be read; no other is."""
+    with station('--address', '10.1.2.3') as each:
+        error = lambda number, code: b'\x13\x02' + number.to_bytes(2, 'big') + bytes([10, 1, 2, 3]) + own + bytes([code])
+        own = each.socket.getpeername()[1].to_bytes(2, 'big')
+        each.send(packet(GROUP, 1, ANN, b'hi'), packet(UNIQUE, 2, ANN, b'hi'))
+        expect(error(2, 0x82), each.answer())
+        each.send(packet(UNIQUE, 3, FRED, b'hi', source=b'\xc0' + JOE[1:]), packet(UNIQUE, 4, b'\x40' + FRED[1:], b'hi'))
+        expect([error(3, 0x83), error(4, 0x84)], [each.answer(), each.answer()])
+        each.send(packet(UNIQUE, 5, FRED, b'hi'), packet(UNIQUE, 6, FRED, b'hi')[:-1], packet(UNIQUE, 7, ANN, b'hi'))
+        expect(error(7, 0x82), each.answer())
+    with station() as each:
+        each.send(packet(UNIQUE, 1, ANN, b''))
+        expect(bytes([127, 0, 0, 1]), each.answer()[4:8])
+
+
+def json_lines():
+    with station('--json', names=('FRED<20>', 'ANN<20>')) as each:
+        each.send(packet(UNIQUE, 1, ANN, b''), packet(GROUP, 0xabcd, FRED, b'hi'))
+        each.reached()
+        lines = [json.loads(it) for it in each.lines()]
+        expect(replayed([packet(UNIQUE, 1, ANN, b''), packet(GROUP, 0xabcd, FRED, b'hi')], 'FRED<20>', 'ANN<20>'),
+               [' '.join(it or 'empty' for it in line.values()) for line in lines])
+        expect(['outcome', 'key', 'kind', 'source', 'destination', 'data'], list(lines[0]))
+
+
+def any_payloads():
+    """Payloads of all kinds, of which the station delivers what `nbt replay` does."""
+    rng = random.Random(39)
+    maker = Maker(rng, list(example_bytes()), list(capture_lines()))
+    payloads = [maker.payload()[:60_000] for _ in range(300)]
+    names = ['FRED<20>', 'JOE<00>']
+    with station(names=names) as each:
+        began = time.monotonic()
+        for payload in payloads:
+            each.send(payload)
+            each.reached()
+        if time.monotonic() - began > 1.9:
+            raise TooSlow('2 s passed')
+        expect(replayed(payloads, *names), each.lines())
+
+
+def limits():
+    with station('--save', 'table', '--keys', '2', '--per-source', '1') as each:
+        each.send(*pieces(1, b'hello'), *pieces(2, b'no room'))
+        each.send(packet(UNIQUE, 3, ANN, b'hi').replace(SENDER, bytes([10, 0, 0, 6, 0, 138])))
+        expect(b'\0\x03', each.answer()[2:4])
+        expect(0, each.ended()[0])
+        expect(['10.0.0.5:138/0001', '10.0.0.6:138/0003'],
+               [it.split()[0] for it in nbt('list', text=whole_tables(each.saved(), 2)).splitlines()])
+
+
+def refused_beginnings():
+    with tempfile.TemporaryDirectory() as folder, socket.socket(socket.AF_INET, socket.SOCK_DGRAM) as taken:
+        taken.bind(('127.0.0.1', 0))
+        busy = '127.0.0.1:%d' % taken.getsockname()[1]
+        own = ('--bind', '127.0.0.1:0')
+        expect((1, 'nbt-station: bad text 4'), begun(folder, *own, 'FRED'))
+        expect((1, 'nbt-station: bad text 8'), begun(folder, *own, 'FRED<20> JOE<00>'))
+        expect((1, 'nbt-station: bad text 0'), begun(folder, *own, ''))
+        expect((1, 'nbt-station: name: present 9'), begun(folder, *own, 'FRED<20>', 'FRED<20>'))
+        expect((3, f'nbt-station: {busy}: Address already in use'), begun(folder, '--bind', busy, 'FRED<20>'))
+        for words in ['--bind', 'localhost'], ['--keys', '0'], ['--per-source', '65536'], ['--port', 'x'], ['--bind', '::1']:
+            expect(2, begun(folder, *words, 'FRED<20>')[0])
+        expect(2, begun(folder, '--bind', '127.0.0.1:138', '--port', '139', 'FRED<20>')[0])
+        expect([], os.listdir(folder))
+
+
+def failing_devices():
+    """Standard output that takes nothing ends the station, and its table is saved; a folder that isn't there is said."""
+    with station('--save', 'table', out='/dev/full') as each:
+        each.send(*pieces(1, b'hello'))
+        each.process.wait(PATIENCE)
+        expect((3, 'nbt-station: standard output: No space left on device\n'), (each.process.returncode, each.process.stderr.read().decode()))
+        whole_tables(each.saved(), 1)
+    with station('--save', 'none/table') as each:
+        expect((3, 'nbt-station: none/table: No such file or directory\n'), each.ended())
+
+
+CASES = (any_order_and_repeats, saved_at_its_end, saved_again, no_file, dropped_by_the_clock, error_packets, json_lines,
+         any_payloads, limits, refused_beginnings, failing_devices)
+
+
+def result_of(case):
+    """What a case comes to: it is tried again where the machine was too slow."""
+    why = ''
+    for _ in range(TRIES):
+        try:
+            case()
+            return f'ok: {case.__name__}'
+        except TooSlow as slow:
+            why = f'{slow}, {TRIES} times'
+        except (Wrong, OSError, ValueError, subprocess.SubprocessError) as error:
+            return f'failed: {case.__name__}: {error!r}'
+    return f'failed: {case.__name__}: {why}'
+
+
+for each in CASES:
+    print(result_of(each), flush=True)

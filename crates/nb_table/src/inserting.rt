@@ -1,5 +1,5 @@
 //! Inserting fragments into a table.
-ghost use Rattle.std.specs.Prelude.{◌≡◌, ◌↔◌, IsTrue, ◌≤◌, IfOk, IfErr, OnOk, OnErr, Some};
+ghost use Rattle.std.specs.Prelude.{◌≡◌, ◌↔◌, IsTrue, ◌≤◌, IfOk, OnOk, OnErr, Some};
 ghost use Rattle.std.specs.FinMap as maps;
 ghost use Rattle.nb_datagram.specs.Key.{key_cmp};
 ghost use Rattle.nb_datagram.specs.Fragment.{core_of, reach};
@@ -7,36 +7,28 @@ ghost use Rattle.nb_datagram.specs.declared.limits.TheConstants.{MAX_LENGTH};
 ghost use Rattle.nb_table.specs.Maps.{joined_onto};
 ghost use Rattle.nb_table.specs.Slot.{Held};
 ghost use Rattle.nb_table.specs.Entry.{EntryValue, facts_of, join_entry};
-ghost use Rattle.nb_table.specs.Limits.{Limits, IsShort, IsFull, IsFullSource};
-ghost use Rattle.nb_table.specs.Change.{IsChange};
+ghost use Rattle.nb_table.specs.Limits.{IsShort};
 ghost use Rattle.nb_table.specs.Code.Change.{KeyChange, change_of};
-ghost use Rattle.nb_table.specs.Insert.{Lacks, Refuses, Takes, with_fragment};
+ghost use Rattle.nb_table.specs.Insert.{NeedsNoMemory};
 
 use crate::change::BoxedChange;
 use crate::entry::Entry;
-use crate::fault::TableFault;
-use crate::sources::is_full_of;
-use crate::table::Table;
 use nb_datagram::{Fragment, Key};
+use nb_names::NoMemory;
 use std::alloc::Global;
 use std::collections::BTreeMap;
 
-/// Joins a fragment to the entry of its key, in place where the key is held, if there is room.
+/// Joins a fragment to the entry of its key, in place where the key is held. The limits are not
+/// looked at.
 pub(crate) fn join_fragment(
     entries: &mut BTreeMap<Key, Entry>,
     alloc: Global,
-    keys: u32,
-    per_source: u32,
     fragment: &Fragment<'_>,
-) -> Result<BoxedChange, TableFault>
+) -> Result<BoxedChange, NoMemory>
     requires fragment { reach (core_of fragment.now) ≤ MAX_LENGTH }
     requires entry { (e : EntryValue)
         → maps.get (maps.from_entries {R = key_cmp} entries.old.entries) fragment.now.key ≡ Some e
         → IsShort MAX_LENGTH e }
-    ensures source_room { (l : Limits) → l.per_source ≡ per_source → OnOk result (IsFullSource l
-        (maps.from_entries {R = key_cmp} entries.old.entries) fragment.now.key → ⊥) }
-    ensures room { (l : Limits) → l.keys ≡ keys → OnOk result
-        (IsFull l (maps.from_entries {R = key_cmp} entries.old.entries) fragment.now.key → ⊥) }
     ensures joined { OnOk result (maps.from_entries {R = key_cmp} entries.new.entries
         ≡ maps.insert (maps.from_entries {R = key_cmp} entries.old.entries) fragment.now.key
         (joined_onto join_entry
@@ -47,25 +39,19 @@ pub(crate) fn join_fragment(
         (Some (joined_onto join_entry
         (maps.get (maps.from_entries {R = key_cmp} entries.old.entries) fragment.now.key)
         (Held (facts_of (core_of fragment.now))))) (change_of change)) }
-    ensures refused { (l : Limits) → l.keys ≡ keys → l.per_source ≡ per_source → IfErr result
-        (Lacks l (maps.from_entries {R = key_cmp} entries.old.entries) fragment.now) }
+    ensures needed { OnErr result (¬ NeedsNoMemory
+        (maps.from_entries {R = key_cmp} entries.old.entries) (core_of fragment.now)) }
     ensures kept { OnErr result (maps.from_entries {R = key_cmp} entries.new.entries
         ≡ maps.from_entries {R = key_cmp} entries.old.entries) }
 {
     let key = fragment.key();
     match entries.get_mut(&key) {
-        Some(entry) => Ok(entry.add(alloc, fragment)?),
+        Some(entry) => entry.add(alloc, fragment),
         None => {
-            if is_full_of(entries, key.ip, per_source) {
-                return Err(TableFault::FullSource(key));
-            }
-            if entries.len() >= keys as usize {
-                return Err(TableFault::Full(key));
-            }
             let (entry, change) = Entry::first(alloc, fragment)?;
             match entries.insert(key, entry) {
                 Ok(_) => Ok(change),
-                Err(_) => Err(TableFault::NoMemory),
+                Err(_) => Err(NoMemory),
             }
         }
     }

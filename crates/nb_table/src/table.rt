@@ -12,6 +12,7 @@ mod fitting;
 mod loading;
 mod merging;
 mod reading;
+mod refusing;
 mod saving;
 
 use crate::change::Change;
@@ -102,12 +103,8 @@ impl Table {
     ///
     /// # Errors
     ///
-    /// In this order: `MisplacedFirst` where the fragment says that it is the first one (F) at an
-    /// offset other than 0, or doesn't say so at offset 0; `TooLong` where the fragment reaches
-    /// past the longest datagram, whatever is known of its key; `FullSource` with the fragment's
-    /// key where that is new and as many keys of its address are held as may be; `Full` with it
-    /// where it is new and as many keys are held as may be in all; `NoMemory` where memory ran
-    /// out. RFC 1002 section 5.3; the rules on fragments are our choice.
+    /// As [`Table::refusal_of`] answers, then `NoMemory` where memory ran out. RFC 1002 section 5.3;
+    /// the rules on fragments are our choice.
     pub fn insert(&mut self, fragment: &Fragment<'_>) -> Result<Change, TableFault>
         ensures taken { OnOk result (Takes self.old fragment.now) }
         ensures joined { OnOk result (self.new ≡ with_fragment self.old fragment.now) }
@@ -118,19 +115,10 @@ impl Table {
         ensures without_memory { Passes self.old.limits fragment.now
             → NeedsNoMemory self.old.contents (core_of fragment.now) → IsOk result }
     {
-        if fragment.is_first() != (fragment.offset() == 0) {
-            return Err(TableFault::MisplacedFirst);
+        if let Some(fault) = self.refusal_of(fragment) {
+            return Err(fault);
         }
-        if fragment.reach() > u32::from(self.longest) {
-            return Err(TableFault::TooLong);
-        }
-        let change = join_fragment(
-            &mut self.entries,
-            self.alloc,
-            self.keys,
-            self.per_source,
-            fragment,
-        )?;
+        let change = join_fragment(&mut self.entries, self.alloc, fragment)?;
         Ok(change.into_change())
     }
 

@@ -114,6 +114,10 @@ pub on_any_err : {X E : Type 0} (r : Result X E) (P : Type 0) → P → OnErr r 
 on_any_err (Ok x) P p = tt
 on_any_err (Err e) P p = p
 
+pub on_err_both : {X E P Q R : Type 0} (r : Result X E) → (P → Q → R) → OnErr r P → OnErr r Q → OnErr r R
+on_err_both (Ok x) f p q = tt
+on_err_both (Err e) f p q = f p q
+
 -- ---- the table that takes a fragment
 
 -- with one more entry, for which there is room, the table keeps to its limits
@@ -163,29 +167,6 @@ not_false false h = absurd (cc)
 -- tests that don't differ are the same
 pub same_test : (a b : Bool) → not (beq a b) ≡ false → a ≡ b
 same_test a b h = (booleans_Decides a b).0 (not_false (beq a b) h)
-
--- what holds at either end holds
-pub settled : {X : Type 0} (r : Result X TableFault) (P : Type 0) → OnOk r P → OnErr r P → P
-settled (Ok x) P p q = p
-settled (Err e) P p q = q
-
-pub ok_both : {X : Type 0} (r : Result X TableFault) (P Q : Type 0) → OnOk r P → OnOk r Q → OnOk r (P × Q)
-ok_both (Ok x) P Q p q = (p, q)
-ok_both (Err e) P Q p q = tt
-
--- what the limits refuse is refused, of a fragment that passes
-pub refused_from : {X : Type 0} (r : Result X TableFault) (t : TableValue) (f : FragmentParts) → Passes t.limits f → IfErr r (Lacks t.limits t.contents f) → IfErr r (Refuses t f)
-refused_from (Ok x) t f p h = tt
-refused_from (Err MisplacedFirst) t f p h = absurd h
-refused_from (Err TooLong) t f p h = absurd h
-refused_from (Err (FullSource k)) t f p h = (p, h)
-refused_from (Err (Full k)) t f p h = (p, h)
-refused_from (Err NoMemory) t f p h = (p, h)
-
--- what changed at the key is what changed in the table
-pub change_settled : (r : Result Change TableFault) (t u : Contents) (k : Key) (e : EntryValue) → OnOk r (u ≡ maps.insert t k e) → IfOk r (KeyChange k (maps.get t k) (Some e)) → IfOk r (IsChange t u k)
-change_settled (Ok c) t u k e same p = subst (λ v. IsChange t v k c) (sym same) (change_at t k e c p)
-change_settled (Err x) t u k e same p = tt
 
 -- tests that differ aren't the same
 pub not_same : (a b : Bool) → not (beq a b) ≡ true → a ≡ b → ⊥

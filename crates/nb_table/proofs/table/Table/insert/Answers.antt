@@ -1,19 +1,28 @@
-use Rattle.std.proofs.Common.{◌≤◌, ◌==◌, ◌∙◌, sym, ap, subst, arith, refl, rules}
-use Rattle.std.proofs.lemmas.Result.{err_from_is_err_and, IfErr-at_err}
+use Rattle.std.proofs.Common.{◌≤◌, ◌∙◌, sym, ap, subst, arith, rules, Err}
+use Rattle.std.proofs.lemmas.Option.{MatchOption-at_none}
 use Rattle.std.specs.Result.{IfErr}
 use Rattle.std.specs.FinMap as maps
 use Rattle.nb_datagram.specs.Key.{key_cmp}
-use Rattle.nb_datagram.specs.Fragment.{core_of, reach}
+use Rattle.nb_datagram.specs.Fragment.{core_of}
 use Rattle.nb_datagram.specs.declared.limits.TheConstants.{MAX_LENGTH}
+use Rattle.nb_table.specs.declared.change.Change.{Change}
 use Rattle.nb_table.specs.Contents.{Contents}
 use Rattle.nb_table.specs.Limits.{TableValue, KeepsLimits}
 use Rattle.nb_table.specs.Change.{IsChange}
 use Rattle.nb_table.specs.Code.Change.{change_of}
-use Rattle.nb_table.specs.Insert.{Passes, Refuses}
+use Rattle.nb_table.specs.Insert.{Refuses, Takes}
 use Rattle.nb_table.specs.Shared.FragmentLemmas.{join_one}
-use Rattle.nb_table.proofs.Changes.InsertLemmas.{short_more, same_test, refused_from, spared, insert_keeps, change_at}
-use Rattle.nb_table.proofs.table.Table.insert.Goals.{After-from_residual, After-into_change}
+use Rattle.nb_table.proofs.Changes.InsertLemmas.{short_more, memory_alone, spared, insert_keeps, change_at}
+use Rattle.nb_table.proofs.table.Table.insert.Goals.{After-from_residual}
 use Rattle.nb_table.proofs.table.Table.insert.Goals as goal
+
+pub join_fragment-requires-clause-fragment : goal.join_fragment-requires-clause-fragment
+join_fragment-requires-clause-fragment c =
+    let most : c.self.inside.longest ≤ MAX_LENGTH = search rules in
+    let takes = MatchOption-at_none (Takes c.args.self.now c.args.fragment.now) (Refuses c.args.self.now c.args.fragment.now) c.in_default.is c.refusal_of.ensures.refusal in
+    let short = takes.passes.short in
+    let limit = ap (λ (t : TableValue). t.limits.longest) c.self.view_is in
+    omega (arith, short, most, limit)
 
 pub join_fragment-requires-clause-entry : goal.join_fragment-requires-clause-entry
 join_fragment-requires-clause-entry c e g =
@@ -22,16 +31,16 @@ join_fragment-requires-clause-entry c e g =
 
 -- ---- refused
 
+pub returns-in-Some-clause-without_memory : goal.returns-in-Some-clause-without_memory
+returns-in-Some-clause-without_memory c passes spares =
+    spared {X = Change} (Err c.in-Some.fault) c.args.self.now c.args.fragment.now c.in-Some.ensures.refusal passes spares
+
 refuses : (c : After-from_residual) → IfErr c.from_residual.result (Refuses c.args.self.now c.args.fragment.now)
 refuses c =
-    let old : TableValue = record { contents = maps.from_entries {R = key_cmp} c.self.inside.entries.entries; limits = record { keys = c.self.inside.keys; per_source = c.self.inside.per_source; longest = c.self.inside.longest } } in
-    let passes : Passes old.limits c.args.fragment.now = record {
-      placed = sym c.is_first.ensures ∙ same_test _ _ c.if-is_first-offset.false ∙ ap (λ n. n == 0) c.offset.ensures;
-      short = (let reach = c.reach.ensures in let longest = c.from.ensures in let most = c.if-reach-from.false in omega (arith, reach, longest, most));
-    } in
-    let p = err_from_is_err_and c.from_residual.result c.from_residual.ensures.1 in
-    let why = IfErr-at_err (Refuses old c.args.fragment.now) c.in_err-change.was (refused_from c.join_fragment.result old c.args.fragment.now passes (c.join_fragment.ensures.refused old.limits refl refl)) in
-    rw (p.1, p.2, ← c.self.view_is) why
+    let t = c.args.self.now in
+    let takes = MatchOption-at_none (Takes t c.args.fragment.now) (Refuses t c.args.fragment.now) c.in_default.is c.refusal_of.ensures.refusal in
+    memory_alone c.from_residual.result (Refuses t c.args.fragment.now) c.from_residual.ensures.1
+    (takes.passes, (takes.room, rw (← c.self.view_is) c.in_err-change.ensures.needed, takes.source_room))
 
 pub returns-in_err-change-clause-refused : goal.returns-in_err-change-clause-refused
 returns-in_err-change-clause-refused c = refuses c
@@ -45,9 +54,10 @@ returns-in_err-change-clause-without_memory c passes spares =
 pub invariant_of-self-2 : goal.invariant_of-self-2
 invariant_of-self-2 c =
     let old : TableValue = record { contents = maps.from_entries {R = key_cmp} c.self.inside.entries.entries; limits = record { keys = c.self.inside.keys; per_source = c.self.inside.per_source; longest = c.self.inside.longest } } in
-    let short : reach (core_of c.args.fragment.now) ≤ c.self.inside.longest = (let upto = c.reach.ensures in let longest = c.from.ensures in let most = c.if-reach-from.false in omega (arith, upto, longest, most)) in
+    let f = c.args.fragment.now in
+    let takes : Takes old f = rw c.self.view_is (MatchOption-at_none (Takes c.args.self.now f) (Refuses c.args.self.now f) c.in_default.is c.refusal_of.ensures.refusal) in
     subst (λ t. KeepsLimits (record { contents = t; limits = old.limits })) (sym c.in_ok-change.ensures.joined)
-    (insert_keeps old (core_of c.args.fragment.now) c.self.invariant short (c.in_ok-change.ensures.source_room old.limits refl) (c.in_ok-change.ensures.room old.limits refl))
+    (insert_keeps old (core_of f) c.self.invariant takes.passes.short takes.source_room takes.room)
 
 pub returns-clause-joined : goal.returns-clause-joined
 returns-clause-joined c =

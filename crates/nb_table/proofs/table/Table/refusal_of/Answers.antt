@@ -1,0 +1,87 @@
+use Rattle.std.proofs.Common.{◌≡◌, ◌≤◌, ◌<◌, ◌==◌, ◌∙◌, ℕ, Bool, true, false, not, refl, sym, ap, subst, arith, is_some, Option, Some, None}
+use Rattle.std.proofs.lemmas.Bool.{true≢false}
+use Rattle.std.specs.Bool.{beq}
+use Rattle.std.specs.FinMap as maps
+use Rattle.nb_datagram.specs.declared.key.Key.{Key}
+use Rattle.nb_datagram.specs.Key.{key_cmp}
+use Rattle.nb_datagram.specs.Fragment.{FragmentParts, core_of, reach, is_first}
+use Rattle.nb_table.specs.Limits.{Limits, TableValue, IsFull, IsFullSource}
+use Rattle.nb_table.specs.Contents.{Contents}
+use Rattle.nb_table.specs.KeyCounts.{held_keys, of_source}
+use Rattle.nb_table.specs.Insert.{Passes}
+use Rattle.nb_table.specs.Shared.SameLemmas.{key_cmp_total, key_cmp_exact}
+use Rattle.nb_table.specs.Shared.TreeLemmas.{get_is, len_is}
+use Rattle.nb_table.proofs.Changes.InsertLemmas.{same_test}
+use Rattle.nb_table.proofs.table.Table.refusal_of.Goals as goal
+
+-- what the first two tests say of a fragment that they pass over
+passes_by : (l : Limits) (f : FragmentParts) (first : Bool) (offset far longest : ℕ) → first ≡ is_first f.flags → offset ≡ f.offset → far ≡ reach (core_of f) → longest ≡ l.longest
+    → not (beq first (offset == 0)) ≡ false → far ≤ longest → Passes l f
+passes_by l f first offset far longest first_is offset_is far_is longest_is same most = record {
+  placed = sym first_is ∙ same_test _ _ same ∙ ap (λ n. n == 0) offset_is;
+  short = omega (arith, far_is, longest_is, most);
+}
+
+none_at : {X : Type 0} (o : Option X) → is_some o ≡ false → o ≡ None
+none_at None h = refl
+none_at (Some x) h = absurd (true≢false h)
+
+-- what the count of an address says of the key's
+source_full : (l : Limits) (t : Contents) (k q : Key) → maps.get t q ≡ None → k ≡ q → l.per_source ≤ held_keys (of_source k.ip) t → IsFullSource l t q
+source_full l t k q none same most = record {
+  is_new = none;
+  no_room = subst (λ (x : Key). l.per_source ≤ held_keys (of_source x.ip) t) same most;
+}
+
+source_free : (l : Limits) (t : Contents) (k q : Key) → k ≡ q → (l.per_source ≤ held_keys (of_source k.ip) t → ⊥) → IsFullSource l t q → ⊥
+source_free l t k q same fewer full = fewer (subst (λ (x : Key). l.per_source ≤ held_keys (of_source x.ip) t) (sym same) full.no_room)
+
+pub returns-then-contains_key-clause-refusal : goal.returns-then-contains_key-clause-refusal
+returns-then-contains_key-clause-refusal c =
+    let m = c.self.inside.entries in
+    let f = c.args.fragment.now in
+    let t : Contents = maps.from_entries {R = key_cmp} m.entries in
+    let l : Limits = record { keys = c.self.inside.keys; per_source = c.self.inside.per_source; longest = c.self.inside.longest } in
+    let passes = passes_by l f _ _ _ _ c.is_first.ensures c.offset.ensures c.reach.ensures c.from.ensures c.if-is_first-offset.false c.if-reach-from.false in
+    let held : is_some (maps.get t f.key) ≡ true = ap (λ k. is_some (maps.get t k)) (sym c.key-key.ensures) ∙ ap is_some (get_is key_cmp_total m c.key-key.result) ∙ sym c.contains_key.ensures ∙ c.if-contains_key.true in
+    let old : maps.get t f.key ≡ None → ⊥ = (λ none. true≢false (sym held ∙ ap is_some none)) in
+    rw (← c.self.view_is) (record { passes = passes; source_room = λ full. old full.is_new; room = λ full. old full.is_new })
+
+pub returns-then-is_full_of-clause-refusal : goal.returns-then-is_full_of-clause-refusal
+returns-then-is_full_of-clause-refusal c =
+    let m = c.self.inside.entries in
+    let f = c.args.fragment.now in
+    let t : Contents = maps.from_entries {R = key_cmp} m.entries in
+    let l : Limits = record { keys = c.self.inside.keys; per_source = c.self.inside.per_source; longest = c.self.inside.longest } in
+    let passes = passes_by l f _ _ _ _ c.is_first.ensures c.offset.ensures c.reach.ensures c.from.ensures c.if-is_first-offset.false c.if-reach-from.false in
+    let none = none_at (maps.get t f.key) (ap (λ k. is_some (maps.get t k)) (sym c.key-key.ensures) ∙ ap is_some (get_is key_cmp_total m c.key-key.result) ∙ sym c.contains_key.ensures ∙ c.if-contains_key.false) in
+    rw (← c.self.view_is) (passes, (c.key-key.ensures, source_full l t c.key-key.result f.key none c.key-key.ensures (c.is_full_of.ensures.0 c.if-is_full_of.true)))
+
+pub returns-then-len-self-clause-refusal : goal.returns-then-len-self-clause-refusal
+returns-then-len-self-clause-refusal c =
+    let m = c.self.inside.entries in
+    let f = c.args.fragment.now in
+    let t : Contents = maps.from_entries {R = key_cmp} m.entries in
+    let l : Limits = record { keys = c.self.inside.keys; per_source = c.self.inside.per_source; longest = c.self.inside.longest } in
+    let passes = passes_by l f _ _ _ _ c.is_first.ensures c.offset.ensures c.reach.ensures c.from.ensures c.if-is_first-offset.false c.if-reach-from.false in
+    let none = none_at (maps.get t f.key) (ap (λ k. is_some (maps.get t k)) (sym c.key-key.ensures) ∙ ap is_some (get_is key_cmp_total m c.key-key.result) ∙ sym c.contains_key.ensures ∙ c.if-contains_key.false) in
+    let size = len_is key_cmp_total key_cmp_exact m c.len.ensures.ordered in
+    let count = c.len.ensures.len in
+    let most = c.if-len-self.true in
+    rw (← c.self.view_is) (passes, (c.key-key.ensures, record { is_new = none; no_room = omega (arith, count, size, most) }, source_free l t c.key-key.result f.key c.key-key.ensures (λ h. true≢false (sym (c.is_full_of.ensures.1 h) ∙ c.if-is_full_of.false))))
+
+pub returns-clause-refusal : goal.returns-clause-refusal
+returns-clause-refusal c =
+    let m = c.self.inside.entries in
+    let f = c.args.fragment.now in
+    let t : Contents = maps.from_entries {R = key_cmp} m.entries in
+    let l : Limits = record { keys = c.self.inside.keys; per_source = c.self.inside.per_source; longest = c.self.inside.longest } in
+    let passes = passes_by l f _ _ _ _ c.is_first.ensures c.offset.ensures c.reach.ensures c.from.ensures c.if-is_first-offset.false c.if-reach-from.false in
+    let size = len_is key_cmp_total key_cmp_exact m c.len.ensures.ordered in
+    let count = c.len.ensures.len in
+    let fewer = c.if-len-self.false in
+    rw (← c.self.view_is) (record {
+      passes = passes;
+      source_room = source_free l t c.key-key.result f.key c.key-key.ensures (λ h. true≢false (sym (c.is_full_of.ensures.1 h) ∙ c.if-is_full_of.false));
+      room = λ full. (let least = full.no_room in omega (arith, count, size, fewer, least));
+    })

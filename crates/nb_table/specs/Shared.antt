@@ -1,7 +1,6 @@
 -- What the laws of joins rest on, and what crates above cite. No clause cites a lemma of these files: they
 -- stand beside the definitions because the laws of a trait, and other crates, can cite nothing of `proofs/`.
 pub mod MapsLemmas
-pub mod SameLemmas
 pub mod SlotLemmas
 pub mod PromiseLemmas
 pub mod CoverLemmas

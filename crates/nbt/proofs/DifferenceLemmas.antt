@@ -17,7 +17,7 @@ use Rattle.nb_table.specs.Join.{join}
 use Rattle.nb_table.specs.Shared.EqualLemmas.{options_decide, entry_decides}
 use Rattle.nb_table.specs.Shared.KeyCountLemmas.{entries_kept, keys_kept, get_kept}
 use Rattle.nb_table.specs.Shared.MapsLemmas.{one_key}
-use Rattle.nb_table.specs.Shared.SameLemmas.{key_cmp_total, key_cmp_exact}
+use Rattle.nb_datagram.specs.KeyOrder.{key_cmp_total, key_cmp_exact}
 use Rattle.nb_table.specs.Shared.TableLemmas.{get-join}
 use Rattle.nbt.specs.Differences.{differ_at, differing}
 use Rattle.nbt.specs.Code.Marks.{Marks, with_mark, marked}

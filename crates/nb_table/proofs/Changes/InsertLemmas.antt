@@ -1,5 +1,6 @@
 -- A fragment joined to a table that keeps to its limits.
-use Rattle.std.proofs.Common.{◌≡◌, ◌≢◌, ◌<◌, ◌≤◌, ℕ, ◌+◌, Bool, true, false, cond, [], ◌∷◌, Option, Some, None, refl, sym, ◌∙◌, ap, subst, arith, is_some, inl, inr, Result, Ok, Err, IfErr, OnOk, OnErr, IfOk, IsOk, not}
+use Rattle.std.proofs.Common.{◌≡◌, ◌≢◌, ◌<◌, ◌≤◌, ℕ, ◌+◌, Bool, true, false, cond, [], ◌∷◌, Option, Some, None, refl, sym, ◌∙◌, ap, subst, arith, is_some, inl, inr, Result, Ok, Err, IfErr, OnErr, IsOk, not}
+use Rattle.std.proofs.lemmas.Option.{same_Some}
 use Rattle.std.specs.Bool.{beq}
 use Rattle.std.specs.Cmp.{booleans_Decides}
 use Rattle.std.specs.Result.{IsErrAnd}
@@ -22,8 +23,8 @@ use Rattle.nb_table.specs.KeyCounts.{held_keys, of_source}
 use Rattle.nb_table.proofs.Limits.GroupLemmas.{few_insert}
 use Rattle.nb_table.specs.Change.{IsChange}
 use Rattle.nb_table.specs.Code.Change.{KeyChange}
-use Rattle.nb_table.specs.Insert.{NeedsNoMemory, spoilt, contradicts, held, Passes, Lacks, Refuses}
-use Rattle.nb_table.specs.Shared.SameLemmas.{key_cmp_total, key_cmp_exact, same_key_decides}
+use Rattle.nb_table.specs.Insert.{NeedsNoMemory, spoilt, contradicts, held, Passes, Refuses}
+use Rattle.nb_datagram.specs.KeyOrder.{key_cmp_total, key_cmp_exact, same_key_decides}
 use Rattle.nb_table.specs.Shared.CoverLemmas.{bytes_below_both, first_either}
 use Rattle.nb_table.specs.Shared.PromiseLemmas.{greater_either, promise_of_decides}
 use Rattle.nb_table.specs.Shared.EntryLemmas.{facts_fit_of}
@@ -36,22 +37,19 @@ use Rattle.std.proofs.lemmas.Bool.{cases_lt}
 
 -- ---- no memory is needed
 
-some_entry : (a b : EntryValue) → ◌≡◌ {A = Option EntryValue} (Some a) (Some b) → a ≡ b
-some_entry a b e = cc
-
 disagrees : (a b : EntryFacts) (t : Bool) → facts_agree a b ≡ t → (FactsFit a b → ⊥) → ◌≡◌ {A = EntryValue} (cond t (Held (facts_together a b)) Spoilt) Spoilt
 disagrees a b true e h = absurd (h (facts_fit_of a b e))
 disagrees a b false e h = refl
 
 pub needs_more : (t : Contents) (f : Core) (e : EntryValue) → maps.get t f.key ≡ Some e → (join_entry e (Held (facts_of f)) ≢ Spoilt) → (join_entry e (Held (facts_of f)) ≢ e) → NeedsNoMemory t f → ⊥
 needs_more t f e at clean more (spoilt s) =
-    let one = some_entry e Spoilt (sym at ∙ s) in
+    let one = same_Some e Spoilt (sym at ∙ s) in
     clean (ap (λ x. join_entry x (Held (facts_of f))) one)
 needs_more t f e at clean more (contradicts a h never) =
-    let one = some_entry e (Held a) (sym at ∙ h) in
+    let one = same_Some e (Held a) (sym at ∙ h) in
     clean (ap (λ x. join_entry x (Held (facts_of f))) one ∙ disagrees a (facts_of f) (facts_agree a (facts_of f)) refl never)
 needs_more t f e at clean more (held same) =
-    more (some_entry _ _ (
+    more (same_Some _ _ (
     ap (λ o. Some (joined_onto join_entry o (Held (facts_of f)))) (sym at)
     ∙ sym (insert_at t f.key (joined_onto join_entry (maps.get t f.key) (Held (facts_of f))))
     ∙ ap (λ u. maps.get u f.key) (sym (join_one t f) ∙ same)
@@ -146,7 +144,7 @@ insert_keeps t f keeps short source_room room =
         omega (arith, same, fewer)
 
     shorts : (q : Key) (d : EntryValue) (b : Bool) → same_key q f.key ≡ b → cond b (Some (joined_onto join_entry (maps.get t.contents f.key) (Held (facts_of f)))) (maps.get t.contents q) ≡ Some d → IsShort t.limits.longest d
-    shorts q d true s h = subst (IsShort t.limits.longest) (some_entry _ d h) (short_onto t.limits.longest (maps.get t.contents f.key) (Held (facts_of f)) (keeps.short f.key) (short_of t.limits.longest f short))
+    shorts q d true s h = subst (IsShort t.limits.longest) (same_Some _ d h) (short_onto t.limits.longest (maps.get t.contents f.key) (Held (facts_of f)) (keeps.short f.key) (short_of t.limits.longest f short))
     shorts q d false s h = keeps.short q d h
 
 -- what is short for a table is short for a datagram

@@ -1,6 +1,6 @@
 -- The tests of conflict and spoiling are the relations.
 use Rattle.std.proofs.Common.{◌≡◌, ◌≢◌, ◌≤◌, ◌↔◌, ◌||◌, ◌⊎◌, inl, inr, ℕ, Bool, true, false, cond, not, List, [], ◌∷◌, Contains, filter, Option, Some, None, refl, sym, ◌∙◌, ap, subst, arith, nat_lt, Decides}
-use Rattle.std.proofs.lemmas.Bool.{eq-eqb, ltb-false}
+use Rattle.std.proofs.lemmas.Bool.{eq-eqb, ltb-false, and_cases}
 use Rattle.std.specs.Cmp.{nat_cmp_total}
 use Rattle.std.specs.List.{list_any}
 use Rattle.std.specs.FinMap as map
@@ -16,8 +16,10 @@ use Rattle.nb_table.specs.Conflict.{PastEnd, BreaksPromise, Conflict, kinds, sou
 use Rattle.nb_table.specs.ConflictTests.{conflicts, some_conflict, with_key, is_spoilt}
 use Rattle.nb_names.specs.Name.{name_eq}
 use Rattle.nb_names.specs.NameFacts.{name_eq_decides}
-use Rattle.nb_table.specs.Shared.MapsLemmas.{and_fails, entry_fails}
-use Rattle.nb_table.specs.Shared.SameLemmas.{refutes, same_kind_decides, same_key_decides}
+use Rattle.nb_table.specs.Shared.MapsLemmas.{entry_fails}
+use Rattle.nb_datagram.specs.KeyOrder.{same_key_decides}
+use Rattle.nb_datagram.specs.EqualityFacts.{same_kind_decides}
+use Rattle.std.proofs.lemmas.Bool.Decides.{not_from_Decides}
 use Rattle.nb_table.proofs.Covers.PlacedLemmas.{get-cover_of, byte_of_decides, end_of_decides, cover_of_formed}
 use Rattle.nb_table.specs.Shared.CoverLemmas.{bytes_below_decides}
 use Rattle.nb_table.specs.Shared.PromiseLemmas.{promise_of_decides}
@@ -88,19 +90,19 @@ past_of : (f g : Core) → is_below_end (end_of_one f) (cover_of g) ≡ false �
 past_of f g e =
     let d = past (end_of_one f) (cover_of g) e in
     let ends = (end_of_decides f d.0).0 d.1 in
-    elim (and_fails (bytes_lie_below d.0 (cover_of g).bytes) _ d.2) [
-      | inl h ↦ inl (record { end = d.0; ends = ends; past = refutes _ (bytes_below_decides d.0 (cover_of g).bytes) h })
+    elim (and_cases (bytes_lie_below d.0 (cover_of g).bytes) _ d.2) [
+      | inl h ↦ inl (record { end = d.0; ends = ends; past = not_from_Decides _ (bytes_below_decides d.0 (cover_of g).bytes) h })
       | inr h ↦
           let p = not_before (promise_of_one g) d.0 h in
           inr (record { end = d.0; promised = p.0; ends = ends; promises = (promise_of_decides g p.0).0 p.1; broken = p.2 })
     ]
 
 clash_of_covers : (f g : Core) → covers_agree (cover_of f) (cover_of g) ≡ false → Conflict f g
-clash_of_covers f g e = elim (and_fails (bytes_agree (cover_of f).bytes (cover_of g).bytes) _ e) [
+clash_of_covers f g e = elim (and_cases (bytes_agree (cover_of f).bytes (cover_of g).bytes) _ e) [
   | inl h ↦ clash_of_bytes f g h
-  | inr e ↦ elim (and_fails (ends_agree (end_of_one f) (end_of_one g)) _ e) [
+  | inr e ↦ elim (and_cases (ends_agree (end_of_one f) (end_of_one g)) _ e) [
     | inl h ↦ clash_of_ends f g h
-    | inr e ↦ elim (and_fails (is_below_end (end_of_one g) (cover_of f)) _ e) [
+    | inr e ↦ elim (and_cases (is_below_end (end_of_one g) (cover_of f)) _ e) [
       | inl h ↦ elim (past_of g f h) [ inl p ↦ past_other_end p | inr p ↦ breaks_other p ]
       | inr h ↦ elim (past_of f g h) [ inl p ↦ past_end p | inr p ↦ breaks p ]
     ]
@@ -108,12 +110,12 @@ clash_of_covers f g e = elim (and_fails (bytes_agree (cover_of f).bytes (cover_o
 ]
 
 conflict_from : (f g : Core) → facts_agree (facts_of f) (facts_of g) ≡ false → Conflict f g
-conflict_from f g e = elim (and_fails (same_kind f.kind g.kind) _ e) [
-  | inl h ↦ kinds (refutes (same_kind f.kind g.kind) (same_kind_decides f.kind g.kind) h)
-  | inr e ↦ elim (and_fails (name_eq f.source g.source) _ e) [
-    | inl h ↦ sources (refutes (name_eq f.source g.source) (name_eq_decides f.source g.source) h)
-    | inr e ↦ elim (and_fails (name_eq f.destination g.destination) _ e) [
-      | inl h ↦ destinations (refutes (name_eq f.destination g.destination) (name_eq_decides f.destination g.destination) h)
+conflict_from f g e = elim (and_cases (same_kind f.kind g.kind) _ e) [
+  | inl h ↦ kinds (not_from_Decides (same_kind f.kind g.kind) (same_kind_decides f.kind g.kind) h)
+  | inr e ↦ elim (and_cases (name_eq f.source g.source) _ e) [
+    | inl h ↦ sources (not_from_Decides (name_eq f.source g.source) (name_eq_decides f.source g.source) h)
+    | inr e ↦ elim (and_cases (name_eq f.destination g.destination) _ e) [
+      | inl h ↦ destinations (not_from_Decides (name_eq f.destination g.destination) (name_eq_decides f.destination g.destination) h)
       | inr h ↦ clash_of_covers f g h
     ]
   ]

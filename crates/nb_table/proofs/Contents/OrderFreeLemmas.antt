@@ -12,7 +12,7 @@ use Rattle.nb_table.specs.ConflictTests.{with_key, keyed}
 use Rattle.nb_table.specs.Contents.{Contents, entry_in, table_of}
 use Rattle.nb_table.specs.Join.{join, SameCores, without_key}
 use Rattle.nb_table.specs.Shared.MapsLemmas.{joined-empty}
-use Rattle.nb_table.specs.Shared.SameLemmas.{key_cmp_total, key_cmp_exact, same_key_decides}
+use Rattle.nb_datagram.specs.KeyOrder.{key_cmp_total, key_cmp_exact, same_key_decides}
 use Rattle.nb_table.specs.Shared.TableLemmas.{same_table, join-comm, join-assoc, join-idem}
 use Rattle.nb_table.proofs.Contents.ContentsLemmas.{table_of-append, table_of_formed}
 use Rattle.nb_table.specs.Shared.FragmentLemmas.{get-table_of}

@@ -1,7 +1,7 @@
 -- What the bytes of a fragment, one place after the other, say of the cover that they make; and what a
 -- cover holds of another.
 use Rattle.std.proofs.Common.{◌≡◌, ◌<◌, ◌≤◌, ℕ, zero, suc, ◌+◌, ◌-◌, slice_get, length, List, [], ◌∷◌, Bool, true, false, cond, Option, Some, None, refl, sym, ◌∙◌, ap, ap₂, subst, arith, ◌==◌}
-use Rattle.std.proofs.lemmas.Bool.{eqb-true, eq-eqb}
+use Rattle.std.proofs.lemmas.Bool.{eqb-true, eq-eqb, and_from}
 use Rattle.std.specs.Ordering.{nat_cmp}
 use Rattle.std.specs.List.{list_all}
 use Rattle.std.specs.FinMap as maps
@@ -13,7 +13,7 @@ use Rattle.nb_table.specs.Cover.{CoverFacts, CoversFit, BytesBelow, AreCoverFact
 use Rattle.nb_table.specs.Code.CoverFacts.{Holds, is_there, with_bytes}
 use Rattle.nb_table.specs.Promise.{greater, promise_of_one}
 use Rattle.nb_table.specs.Shared.PromiseLemmas.{adds_promised}
-use Rattle.nb_table.specs.Shared.MapsLemmas.{and_left, and_right, and_both, all_entries_found, all_entries_from}
+use Rattle.nb_table.specs.Shared.MapsLemmas.{and_left, and_right, all_entries_found, all_entries_from}
 use Rattle.nb_table.specs.Shared.CoverLemmas.{in_union, same_cover, agree_of}
 use Rattle.nb_table.specs.Shared.EntryLemmas.{join_cover_formed}
 use Rattle.nb_table.specs.Slot.{Spoilt, Held}
@@ -27,7 +27,7 @@ all_from_each : (P : ℕ → ℕ → Bool) (i : ℕ) (xs : List ℕ) → ((k x :
 all_from_each P i [] h = refl
 all_from_each P i (x ∷ xs) h =
     let here : i + 0 ≡ i = omega arith in
-    and_both _ _ (subst (λ j. P j x ≡ true) here (h 0 x refl))
+    and_from _ _ (subst (λ j. P j x ≡ true) here (h 0 x refl))
     (all_from_each P (i + 1) xs (λ k y e. (let on : i + suc k ≡ i + 1 + k = omega arith in subst (λ j. P j y ≡ true) on (h (suc k) y e))))
 
 each_from_all : (P : ℕ → ℕ → Bool) (i : ℕ) (xs : List ℕ) → list_all (λ e. P e.0 e.1) (placed i xs) ≡ true → (k x : ℕ) → slice_get xs k ≡ Some x → P (i + k) x ≡ true

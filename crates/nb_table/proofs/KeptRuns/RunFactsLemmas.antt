@@ -13,14 +13,15 @@ use Rattle.nb_table.specs.Runs.{RunValue}
 use Rattle.nb_table.specs.Code.RunSteps.{run_at}
 use Rattle.nb_table.specs.Code.SavedRuns.{run_of, after_run, row_of}
 use Rattle.nb_table.specs.Whole.{bytes_below, bytes_to}
-use Rattle.nb_table.specs.Shared.MapsLemmas.{and_left, and_both}
+use Rattle.std.proofs.lemmas.Bool.{and_from}
+use Rattle.nb_table.specs.Shared.MapsLemmas.{and_left}
 use Rattle.nb_table.specs.Shared.CoverLemmas.{agree_of}
 use Rattle.nb_table.proofs.Covers.CoverFactsLemmas.{bytes_agree_is, with_is}
 
 -- no bytes contradict none
 pub empty_agrees : (m : maps.FinMap nat_cmp ℕ) (s : ℕ) (xs : List ℕ) → m ≡ maps.empty → list_all (λ (e : ℕ × ℕ). same_where (maps.get m e.0) e.1) (placed s xs) ≡ true
 empty_agrees m s [] h = refl
-empty_agrees m s (x ∷ xs) h = and_both _ _ (ap (λ o. same_where o x) (ap (λ n. maps.get n s) h ∙ maps.get-empty nat_cmp s)) (empty_agrees m (s + 1) xs h)
+empty_agrees m s (x ∷ xs) h = and_from _ _ (ap (λ o. same_where o x) (ap (λ n. maps.get n s) h ∙ maps.get-empty nat_cmp s)) (empty_agrees m (s + 1) xs h)
 
 -- what fits agrees byte by byte
 pub fit_agrees : (a : CoverFacts) (f : Core) (s : ℕ) (xs : List ℕ) → CoversFit a (cover_of f) → s ≡ f.offset → xs ≡ f.bytes → list_all (λ (e : ℕ × ℕ). same_where (maps.get a.bytes e.0) e.1) (placed s xs) ≡ true

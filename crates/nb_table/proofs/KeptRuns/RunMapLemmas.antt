@@ -1,11 +1,11 @@
 -- The map of the code's runs: what its tests and changes say of it.
 use Rattle.std.proofs.Common.{◌≡◌, ◌+◌, ◌-◌, ◌==◌, ℕ, zero, suc, inl, inr, Bool, true, false, List, [], ◌∷◌, length, get_or, slice_get, Option, Some, None, refl, sym, ap, ap₂, ◌∙◌, subst, arith}
-use Rattle.std.proofs.lemmas.Bool.{cases_lt, eqb-true, eq-eqb}
+use Rattle.std.proofs.lemmas.Bool.{cases_lt, eqb-true, eq-eqb, and_from}
 use Rattle.std.proofs.lemmas.List.{take_all, length-map}
 use Rattle.std.proofs.lemmas.Option.{slice_get-get_or, slice_get_past}
 use Rattle.std.specs.List.{list_all}
 use Rattle.std.specs.Ordering.{nat_cmp}
-use Rattle.std.specs.Cmp.{both_ways, nat_cmp_total}
+use Rattle.std.specs.Cmp.{both_ways, nat_cmp_total, unsigned_Decides}
 use Rattle.std.specs.Cmp.Lexicographic.{pointwise, pointwise_decides}
 use Rattle.std.specs.FinMap as maps
 use Rattle.std.specs.FinMap.{nat_cmp-IsAntisymmetric}
@@ -16,20 +16,20 @@ use Rattle.nb_table.specs.Runs.{RunValue, AreApart, map_of_runs, runs_of_map}
 use Rattle.nb_table.specs.Whole.{bytes_below}
 use Rattle.nb_table.specs.Code.RunSteps.{values_of, run_at, byte_in, look_in, look_with, Agree, IsPut, AreBetween, Lacks, AreFirst, LacksOne, RowsAgree, IsUnion}
 use Rattle.nb_table.specs.declared.cover.runs.Run.{Run}
-use Rattle.nb_table.specs.Shared.MapsLemmas.{and_left, and_right, and_both, get-union, all_entries_found, all_entries_from}
+use Rattle.nb_table.specs.Shared.MapsLemmas.{and_left, and_right, get-union, all_entries_found, all_entries_from}
 use Rattle.nb_table.proofs.Covers.PlacedLemmas.{find-placed}
 use Rattle.nb_table.proofs.Covers.PutLemmas.{get-with_bytes}
 use Rattle.nb_table.proofs.Runs.RunsLemmas.{runs_back}
 use Rattle.nb_table.proofs.Wholeness.WholeLemmas.{below_from, below_none}
 use Rattle.nb_table.proofs.KeptRuns.RunRowLemmas.{has_of, has_from, has_below, byte_on, byte_within, get-runs}
-use Rattle.nb_table.proofs.KeptRuns.RunReadLemmas.{same_by_get, num_decides}
+use Rattle.nb_table.proofs.KeptRuns.RunReadLemmas.{same_by_get}
 
 -- ---- a test of each byte
 
 all_from_each : (P : ℕ → ℕ → Bool) (i : ℕ) (xs : List ℕ) → ((q x : ℕ) → byte_in (run_at i xs) q ≡ Some x → P q x ≡ true) → list_all (λ (e : ℕ × ℕ). P e.0 e.1) (placed i xs) ≡ true
 all_from_each P i [] h = refl
 all_from_each P i (x ∷ xs) h =
-    and_both _ _ (h i x (byte_on (run_at i (x ∷ xs)) i 0 (omega arith)))
+    and_from _ _ (h i x (byte_on (run_at i (x ∷ xs)) i 0 (omega arith)))
     (all_from_each P (i + 1) xs (λ q y e.
     (let from = has_from (run_at (i + 1) xs) q y e in
     let k : ℕ = q - (i + 1) in
@@ -88,7 +88,7 @@ pub held_test : (rs ss : List RunValue) (s : ℕ) (xs held : List ℕ) (b : Bool
 held_test rs ss s xs held b same between test =
     let h : AreBetween rs s (s + length xs) held = subst (λ us. AreBetween us s (s + length xs) held) same between in
     let size = h.sized in
-    let decides = pointwise_decides num_decides held xs in both_ways _ _
+    let decides = pointwise_decides unsigned_Decides held xs in both_ways _ _
     (λ t. all_from_each (λ i v. is_there (maps.get (map_of_runs rs) i) v) s xs (λ q x e.
     (let has = has_of (run_at s xs) q x e in
     let from = has.from in

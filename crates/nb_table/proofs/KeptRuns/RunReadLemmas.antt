@@ -1,13 +1,14 @@
 -- What the code reads of its runs.
 use Rattle.std.proofs.Common.{◌≡◌, ◌<◌, ◌≤◌, ◌+◌, ◌-◌, ◌++◌, ℕ, suc, inl, inr, List, [], ◌∷◌, length, take, drop, min, max, slice_get, Some, None, refl, sym, ap, ap₂, ◌∙◌, subst, arith, slice_index_or, length-take, length-drop, length-append, ◌==◌, ◌&&◌, Bool, true, Decides}
-use Rattle.std.proofs.lemmas.Bool.{cases_lt, eqb-true, eq-eqb}
+use Rattle.std.proofs.lemmas.Bool.{cases_lt, eqb-true, eq-eqb, and_from}
 use Rattle.std.proofs.lemmas.List.{take_all, drop_all, length-map, get_or-take, get_or-drop}
 use Rattle.std.proofs.lemmas.Option.{same_Some, slice_get_past, slice_get_within, get_or_from_slice_get}
 use Rattle.nb_table.specs.Runs.{RunValue, run_end, AreApart}
 use Rattle.nb_table.specs.Code.RunSteps.{value_of, values_of, byte_in, look_in, Meet, EndBefore, EndFrom, look_with, Agree, AgreeOne, AreBetween, Lacks, AreFirst, LacksOne}
 use Rattle.nb_table.specs.declared.cover.runs.Run.{Run}
+use Rattle.std.specs.Cmp.{unsigned_Decides}
 use Rattle.std.specs.Cmp.Lexicographic.{pointwise, pointwise_decides}
-use Rattle.nb_table.specs.Shared.MapsLemmas.{and_left, and_right, and_both}
+use Rattle.nb_table.specs.Shared.MapsLemmas.{and_left, and_right}
 use Rattle.nb_table.specs.Shared.CoverLemmas.{first_either}
 use Rattle.nb_table.proofs.KeptRuns.RunRowLemmas.{byte_on, byte_off, byte_past, has_below, has_from, byte_within, look-append, none_from, look_before, look_past, apart_back, apart_seam, split_at, all_at, all_from_at}
 use Rattle.nb_table.proofs.KeptRuns.RunGrownLemmas.{slice_get-take, slice_get-drop, slice_get-back}
@@ -224,9 +225,6 @@ ends_last xs r end a some e h q x g =
 
 -- ---- tests
 
-pub num_decides : (x y : ℕ) → Decides (x == y) (x ≡ y)
-num_decides x y = (eqb-true x y, eq-eqb x y)
-
 -- the test of the parts in common
 pub agrees_is : (r f : RunValue) (from to : ℕ) (bytes : List ℕ) (b : Bool) → bytes ≡ r.bytes → from ≡ max r.start f.start → to ≡ min (run_end r) (run_end f) →
     b ≡ pointwise ◌==◌ (take (to - r.start - (from - r.start)) (drop (from - r.start) bytes)) (take (to - f.start - (from - f.start)) (drop (from - f.start) f.bytes)) →
@@ -237,7 +235,7 @@ agrees_is r f from to bytes b same e d t =
     let test : b ≡ pointwise ◌==◌ (take (to - from) (drop (from - r.start) r.bytes)) (take (to - from) (drop (from - f.start) f.bytes)) =
     t ∙ ap₂ (λ m n. pointwise ◌==◌ (take m (drop (from - r.start) bytes)) (take n (drop (from - f.start) f.bytes))) own other
     ∙ ap (λ xs. pointwise ◌==◌ (take (to - from) (drop (from - r.start) xs)) (take (to - from) (drop (from - f.start) f.bytes))) same in
-    let decides = pointwise_decides num_decides (take (to - from) (drop (from - r.start) r.bytes)) (take (to - from) (drop (from - f.start) f.bytes)) in (
+    let decides = pointwise_decides unsigned_Decides (take (to - from) (drop (from - r.start) r.bytes)) (take (to - from) (drop (from - f.start) f.bytes)) in (
       λ h. same_agree r f from to e d (decides.0 (sym test ∙ h)),
       λ h. test ∙ decides.1 (agree_same r f from to e d h),
     )
@@ -245,11 +243,11 @@ agrees_is r f from to bytes b same e d t =
 -- the derived test of two runs
 pub run_decides : (a b : Run) → Decides (((value_of a).start == (value_of b).start) && pointwise ◌==◌ (value_of a).bytes (value_of b).bytes) (value_of a ≡ value_of b)
 run_decides a b =
-    let bytes = pointwise_decides num_decides (value_of a).bytes (value_of b).bytes in (
+    let bytes = pointwise_decides unsigned_Decides (value_of a).bytes (value_of b).bytes in (
       λ h. (let start = eqb-true (value_of a).start (value_of b).start (and_left _ _ h) in
           let same = bytes.0 (and_right _ _ h) in
           λ i. record { start = start i; bytes = same i }),
-      λ e. and_both _ _ (eq-eqb (value_of a).start (value_of b).start (ap (λ (r : RunValue). r.start) e)) (bytes.1 (ap (λ (r : RunValue). r.bytes) e)),
+      λ e. and_from _ _ (eq-eqb (value_of a).start (value_of b).start (ap (λ (r : RunValue). r.start) e)) (bytes.1 (ap (λ (r : RunValue). r.bytes) e)),
     )
 
 pub rows_decide : (same : Run → Run → Bool) → ((a b : Run) → Decides (same a b) (value_of a ≡ value_of b)) → (xs ys : List Run) → Decides (pointwise same xs ys) (values_of xs ≡ values_of ys)
@@ -258,7 +256,7 @@ rows_decide same d [] (y ∷ ys) = (λ h. absurd (cc), λ e. absurd (cc))
 rows_decide same d (x ∷ xs) [] = (λ h. absurd (cc), λ e. absurd (cc))
 rows_decide same d (x ∷ xs) (y ∷ ys) = (
   λ h. ap₂ (λ r rs. r ∷ rs) ((d x y).0 (and_left _ _ h)) ((rows_decide same d xs ys).0 (and_right _ _ h)),
-  λ e. and_both _ _ ((d x y).1 (cc)) ((rows_decide same d xs ys).1 (cc)),
+  λ e. and_from _ _ ((d x y).1 (cc)) ((rows_decide same d xs ys).1 (cc)),
 )
 
 -- the last run, as it is read

@@ -1,6 +1,6 @@
 -- When one table takes in another, as tests of entries.
 use Rattle.std.proofs.Common.{◌≡◌, ◌≤◌, ℕ, true, Decides, nat_le, Option, Some, None, refl, sym, ◌∙◌, ap}
-use Rattle.std.proofs.lemmas.Bool.{leb-true, le-leb}
+use Rattle.std.proofs.lemmas.Bool.{leb-true, le-leb, and_from}
 use Rattle.std.proofs.lemmas.Option.{none-some, same_Some}
 use Rattle.std.specs.List.{list_all}
 use Rattle.std.specs.FinMap as maps
@@ -10,8 +10,8 @@ use Rattle.nb_table.specs.Contents.{Contents}
 use Rattle.nb_table.specs.Limits.{IsShort}
 use Rattle.nb_table.specs.Merging.{AllShort}
 use Rattle.nb_table.specs.Code.Fitting.{ends_by, is_short}
-use Rattle.nb_table.specs.Shared.MapsLemmas.{and_left, and_right, and_both, all_entries_found, all_entries_from}
-use Rattle.nb_table.specs.Shared.SameLemmas.{key_cmp_total, key_cmp_exact}
+use Rattle.nb_table.specs.Shared.MapsLemmas.{and_left, and_right, all_entries_found, all_entries_from}
+use Rattle.nb_datagram.specs.KeyOrder.{key_cmp_total, key_cmp_exact}
 use Rattle.nb_table.specs.Shared.CoverLemmas.{bytes_below_decides}
 
 -- ---- short entries
@@ -32,7 +32,7 @@ short_decides n (Held e) = (
     ends = ends_found n e.cover.end (and_left _ _ t1);
     promises = ends_found n e.cover.promise (and_right _ _ t1);
   }),
-  λ h. and_both _ _ ((bytes_below_decides n e.cover.bytes).1 h.below) (and_both _ _ (ends_from n e.cover.end h.ends) (ends_from n e.cover.promise h.promises)),
+  λ h. and_from _ _ ((bytes_below_decides n e.cover.bytes).1 h.below) (and_from _ _ (ends_from n e.cover.end h.ends) (ends_from n e.cover.promise h.promises)),
 )
 
 pub all_short_decides : (n : ℕ) (t : Contents) → Decides (list_all (λ e. is_short n e.1) (maps.entries t)) (AllShort n t)

@@ -15,7 +15,7 @@ use Rattle.nb_table.specs.Contents.{Contents}
 use Rattle.nb_table.specs.Join.{join}
 use Rattle.nb_table.specs.KeyCounts.{every_key, of_source, held_keys, FewOfEach}
 use Rattle.nb_table.specs.Merging.{new_keys, first_unfit, SourcesFit}
-use Rattle.nb_table.specs.Shared.SameLemmas.{key_cmp_total, key_cmp_exact, same_key_decides}
+use Rattle.nb_datagram.specs.KeyOrder.{key_cmp_total, key_cmp_exact, same_key_decides}
 use Rattle.nb_table.specs.Shared.TableLemmas.{get-join}
 use Rattle.nb_table.specs.Shared.KeyCountLemmas.{keys_kept, entries_kept, held_is, get_kept}
 use Rattle.nb_table.proofs.Joins.EachLemmas.{lacking, len-joined}

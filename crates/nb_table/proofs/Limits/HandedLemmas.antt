@@ -17,7 +17,7 @@ use Rattle.nb_table.specs.Merging.{newly_handed}
 use Rattle.nb_table.specs.Whole.{IsWhole, datagram_at, datagram_of, newly, newly_whole}
 use Rattle.nb_table.specs.Code.Each.{joined_each}
 use Rattle.nb_table.specs.Code.Handed.{handed_at, with_entry, handed}
-use Rattle.nb_table.specs.Shared.SameLemmas.{key_cmp_total, key_cmp_exact}
+use Rattle.nb_datagram.specs.KeyOrder.{key_cmp_total, key_cmp_exact}
 use Rattle.nb_table.specs.Shared.MapsLemmas.{below_none, lt_not_eq, tied_self, T_left, T_right}
 use Rattle.nb_table.specs.Shared.TableLemmas.{get-join}
 use Rattle.nb_table.proofs.Joins.EachLemmas.{joined_each_is, get-joined_each}

@@ -15,7 +15,7 @@ use Rattle.nb_table.specs.Join.{join, IsTable}
 use Rattle.nb_table.specs.KeyCounts.{every_key}
 use Rattle.nb_table.specs.Limits.{TableValue, KeepsLimits, IsShort, with_contents}
 use Rattle.nb_table.specs.Merging.{AllShort, Fits}
-use Rattle.nb_table.specs.Shared.SameLemmas.{key_cmp_total, key_cmp_exact}
+use Rattle.nb_datagram.specs.KeyOrder.{key_cmp_total, key_cmp_exact}
 use Rattle.nb_table.specs.Shared.MapsLemmas.{one_key, tied_self, below_none, T_left, T_right}
 use Rattle.nb_table.specs.Shared.TableLemmas.{get-join, join_formed}
 use Rattle.nb_table.proofs.Changes.InsertLemmas.{short_join, short_onto}

@@ -30,7 +30,7 @@ use Rattle.nb_table.specs.Refusals.{IsNew, below, is_lesser}
 use Rattle.nb_table.specs.Shared.FragmentLemmas.{join_one}
 use Rattle.nb_table.specs.Shared.KeyCountLemmas.{entries_kept, keys_kept}
 use Rattle.nb_table.specs.Shared.MapsLemmas.{T_left, T_right, and_left, and_right, tied_self}
-use Rattle.nb_table.specs.Shared.SameLemmas.{key_cmp_total, key_cmp_exact}
+use Rattle.nb_datagram.specs.KeyOrder.{key_cmp_total, key_cmp_exact}
 use Rattle.nb_table.proofs.Limits.GroupLemmas.{few_insert, few_join, filter_at_most, fit_held, held_every, held_join, source_decides}
 use Rattle.nb_table.proofs.Limits.SourceLemmas.{is_less}
 use Rattle.nb_table.proofs.Limits.UnfitLemmas.{found_kept}

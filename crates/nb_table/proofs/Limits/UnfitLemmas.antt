@@ -17,7 +17,7 @@ use Rattle.nb_table.specs.Contents.{Contents}
 use Rattle.nb_table.specs.KeyCounts.{of_source, held_keys}
 use Rattle.nb_table.specs.Merging.{first_unfit, new_keys, SourcesFit, IsUnfitSource}
 use Rattle.nb_table.specs.Shared.MapsLemmas.{T_left, T_right}
-use Rattle.nb_table.specs.Shared.SameLemmas.{key_cmp_total}
+use Rattle.nb_datagram.specs.KeyOrder.{key_cmp_total}
 use Rattle.nb_table.proofs.Limits.GroupLemmas.{held_at_most, filter_at_most, source_decides}
 use Rattle.nb_table.proofs.Limits.SourceLemmas.{ip_cmp, is_less, lower_ip, lower_key, strictly}
 

@@ -1,6 +1,6 @@
 -- A row of saved runs that was read: its runs by their bytes, its map, and how far it reaches.
 use Rattle.std.proofs.Common.{◌≡◌, ◌+◌, ◌<◌, ◌≤◌, ◌&&◌, ℕ, suc, zero, List, [], ◌∷◌, length, take, drop, Bool, true, false, Ok, refl, sym, ap, subst, ◌∙◌, arith, length-drop}
-use Rattle.std.proofs.lemmas.Bool.{le-leb, lt-leb}
+use Rattle.std.proofs.lemmas.Bool.{le-leb, lt-leb, and_from}
 use Rattle.std.specs.Prelude.{nat_le, nat_lt}
 use Rattle.std.specs.Int.{w16, from_be_bytes}
 use Rattle.std.specs.List.{list_all, AllByRecursion}
@@ -17,7 +17,6 @@ use Rattle.nb_table.specs.Cover.{placed}
 use Rattle.nb_table.specs.Runs.{RunValue, run_end, AreApart, places_of, map_of_runs}
 use Rattle.nb_table.specs.SavedReading.{gives, goes_on, whole, good, number_at, bytes_at, run_at, row_at}
 use Rattle.nb_table.specs.Code.SavedRuns.{number_in, run_of, after_run, RunThere, row_of, RowThere}
-use Rattle.nb_table.specs.Shared.MapsLemmas.{and_both}
 use Rattle.nb_table.proofs.Runs.EachPutLemmas.{sorted_entries}
 use Rattle.nb_table.proofs.SavedReading.FoundLemmas.{row_found}
 use Rattle.nb_table.proofs.Runs.RunsLemmas.{sorted_places}
@@ -144,7 +143,7 @@ map_below n rs a = ap (list_all (λ (e : ℕ × ℕ). nat_lt e.0 n)) (places_in_
 
 pub all_short : (n : ℕ) (rs : List RunValue) → AllByRecursion (λ (r : RunValue). run_end r ≤ n) rs → list_all (λ (r : RunValue). nat_le (run_end r) n) rs ≡ true
 all_short n [] h = refl
-all_short n (r ∷ rs) h = and_both _ _ (le-leb (run_end r) n h.0) (all_short n rs h.1)
+all_short n (r ∷ rs) h = and_from _ _ (le-leb (run_end r) n h.0) (all_short n rs h.1)
 
 -- ---- rows, one run after the other
 

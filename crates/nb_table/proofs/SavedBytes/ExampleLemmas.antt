@@ -14,7 +14,7 @@ use Rattle.nb_table.specs.Entry.{EntryValue}
 use Rattle.nb_table.specs.Runs.{RunValue, map_of_runs, runs_of_map}
 use Rattle.nb_table.specs.Saved.{end_bytes, entries_bytes, key_bytes, magic, promise_bytes, runs_bytes, saved, saved_as, saved_first}
 use Rattle.nb_table.specs.SavedExample.{example_facts, example_key, example_runs, example_saved, example_saved_first, example_table}
-use Rattle.nb_table.specs.Shared.SameLemmas.{key_cmp_total}
+use Rattle.nb_datagram.specs.KeyOrder.{key_cmp_total}
 use Rattle.nb_table.proofs.Runs.RunsLemmas.{runs_back}
 
 nothing_of : {X : Type 0} (xs : List X) → length xs ≡ 0 → xs ≡ []

@@ -26,7 +26,7 @@ use Rattle.nb_table.specs.Runs.{RunValue, map_of_runs, runs_of_map}
 use Rattle.nb_table.specs.Saved.{run_bytes, runs_bytes, end_bytes, cover_bytes, facts_bytes, entry_bytes, key_bytes, keyed_bytes, entries_bytes, saved}
 use Rattle.nb_table.specs.SavedFits.{FitsRun, FitsCover, FitsFacts, FitsKeyed, FitsSaved}
 use Rattle.nb_table.specs.Shared.MapsLemmas.{one_key, tied_self, below_none, T_left, T_right}
-use Rattle.nb_table.specs.Shared.SameLemmas.{key_cmp_total, key_cmp_exact}
+use Rattle.nb_datagram.specs.KeyOrder.{key_cmp_total, key_cmp_exact}
 use Rattle.nb_table.proofs.Runs.RunsLemmas.{given_back}
 
 -- what the laws of nb_names say of names

@@ -25,7 +25,7 @@ use Rattle.nb_table.specs.Code.RangeSteps.{EndBy}
 use Rattle.nb_table.specs.Code.RunSteps.{held_in}
 use Rattle.nb_table.specs.Code.SavedTables.{HasNames}
 use Rattle.nb_table.specs.Shared.MapsLemmas.{one_key}
-use Rattle.nb_table.specs.Shared.SameLemmas.{key_cmp_total, key_cmp_exact}
+use Rattle.nb_datagram.specs.KeyOrder.{key_cmp_total, key_cmp_exact}
 use Rattle.nb_table.proofs.Changes.InsertLemmas.{short_more}
 use Rattle.nb_table.proofs.SavedReading.ReadBackLemmas.{read_back}
 use Rattle.nb_table.proofs.Runs.HeldLemmas.{held-map}

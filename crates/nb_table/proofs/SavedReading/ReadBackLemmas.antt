@@ -41,7 +41,7 @@ use Rattle.nb_table.specs.SavedFits.{FitsRun, FitsFacts, FitsKeyed, FitsSaved}
 use Rattle.nb_table.specs.SavedReading.{gives, goes_on, Field, whole, good, is_0, is_1, byte_at, number_at, bytes_at, IsAfter, key_at, known, kind_at, name_at, stands, end_at, PromisesBelow, promise_at, run_at, row_at, runs_at, most_of, facts_at, entry_at, entries_at, IsRead, after_magic}
 use Rattle.nb_table.specs.Shared.CoverLemmas.{bytes_below_decides}
 use Rattle.nb_table.specs.Shared.MapsLemmas.{and_left, and_right, T_left, T_right}
-use Rattle.nb_table.specs.Shared.SameLemmas.{key_cmp_total, key_cmp_exact}
+use Rattle.nb_datagram.specs.KeyOrder.{key_cmp_total, key_cmp_exact}
 use Rattle.nb_table.proofs.SavedReading.FoundLemmas.{Spells, StartsFrom, magic_size}
 use Rattle.nb_table.proofs.Runs.RowLemmas.{map_below}
 use Rattle.nb_table.proofs.Runs.RunsLemmas.{given_back, runs_apart}

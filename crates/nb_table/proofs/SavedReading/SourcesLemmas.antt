@@ -1,6 +1,6 @@
 -- The keys of one address, counted while a saved table is judged.
 use Rattle.std.proofs.Common.{◌≡◌, ◌≢◌, ◌<◌, ◌≤◌, ◌+◌, ◌-◌, ◌&&◌, ◌++◌, ℕ, nat_lt, cond, Bool, true, false, List, [], ◌∷◌, filter, length, Option, Some, None, refl, sym, ◌∙◌, ap, subst, arith}
-use Rattle.std.proofs.lemmas.Bool.{true≢false, ltb-true, lt-ltb}
+use Rattle.std.proofs.lemmas.Bool.{true≢false, ltb-true, lt-ltb, and_from}
 use Rattle.std.specs.Prelude.{IsTrue}
 use Rattle.std.specs.Option.{IfSome, MatchOption}
 use Rattle.std.specs.declared.cmp.Ordering.{Ordering}
@@ -14,7 +14,7 @@ use Rattle.nb_table.specs.declared.saved.sources.Sources.{Sources}
 use Rattle.nb_table.specs.KeyCounts.{of_source}
 use Rattle.nb_table.specs.SavedReading.{IsAfter}
 use Rattle.nb_table.specs.Code.SavedTables.{AreFew, SourcesSoFar}
-use Rattle.nb_table.specs.Shared.MapsLemmas.{and_left, and_right, and_both}
+use Rattle.nb_table.specs.Shared.MapsLemmas.{and_left, and_right}
 use Rattle.nb_table.proofs.Limits.GroupLemmas.{source_decides}
 use Rattle.nb_table.proofs.Limits.SourceLemmas.{ip_cmp, lower_ip, same_ip, strictly, le_both, itself_le}
 
@@ -124,7 +124,7 @@ sources_turn n ks before k s r room so after is few left = record {
         let more = count_more k.ip ks k in
         let own = ap {B = ℕ} (λ b. cond b 1 0) ((source_decides k.ip k).1 refl) in
         let most = h k.ip in
-        few ∙ and_both s.are_few (nat_lt 0 room) (so.few.1 (before_few h)) (lt-ltb 0 room (omega (arith, more, own, most, is)))
+        few ∙ and_from s.are_few (nat_lt 0 room) (so.few.1 (before_few h)) (lt-ltb 0 room (omega (arith, more, own, most, is)))
 
     lower : (o : Option Key) → IsAfter o k → IfSome o (λ b. AllByRecursion (λ q. is_le (ip_cmp q.ip b.ip) ≡ true) ks) → (o ≡ None → ks ≡ []) → AllByRecursion (λ q. is_le (ip_cmp q.ip k.ip) ≡ true) (ks ++ k ∷ [])
     lower None a h none = subst (λ (qs : List Key). AllByRecursion (λ q. is_le (ip_cmp q.ip k.ip) ≡ true) (qs ++ k ∷ [])) (sym (none refl)) (itself_le k.ip, tt)

@@ -15,7 +15,7 @@ use Rattle.nb_table.specs.Limits.{TableValue, KeepsLimits}
 use Rattle.nb_table.specs.State.{IsState}
 use Rattle.nb_table.specs.Code.State.{IsEntryState}
 use Rattle.nb_table.specs.Shared.EqualLemmas.{entry_decides}
-use Rattle.nb_table.specs.Shared.SameLemmas.{key_cmp_total}
+use Rattle.nb_datagram.specs.KeyOrder.{key_cmp_total}
 use Rattle.nb_table.proofs.Limits.GroupLemmas.{few_remove}
 
 -- the state of an entry is that of its key

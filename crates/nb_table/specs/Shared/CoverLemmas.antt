@@ -1,6 +1,6 @@
 -- Covers agree by what look-ups find, and their union is one in the sense of SlotLemmas.
 use Rattle.std.proofs.Common.{◌≡◌, ◌⊎◌, inl, inr, ℕ, arith, true, Option, Some, None, refl, sym, ◌∙◌, ap, subst, nat_lt, Decides}
-use Rattle.std.proofs.lemmas.Bool.{eqb-true, eq-eqb, ltb-true, lt-ltb}
+use Rattle.std.proofs.lemmas.Bool.{eqb-true, eq-eqb, ltb-true, lt-ltb, and_from}
 use Rattle.std.specs.Cmp.{nat_cmp_total}
 use Rattle.std.specs.Ordering.{nat_cmp}
 use Rattle.std.proofs.lemmas.Option.{none-some, same_Some}
@@ -8,7 +8,7 @@ use Rattle.std.specs.FinMap as map
 use Rattle.std.specs.FinMap.{nat_cmp-IsAntisymmetric}
 use Rattle.nb_table.specs.Maps.{first_of}
 use Rattle.nb_table.specs.Cover.{CoverFacts, CoversFit, BytesBelow, LiesBelow, bytes_lie_below, lies_below, is_below_end, same_where, ends_agree, covers_agree, covers_together, AreCoverFacts}
-use Rattle.nb_table.specs.Shared.MapsLemmas.{and_left, and_right, and_both, get-union, all_entries_found, all_entries_from}
+use Rattle.nb_table.specs.Shared.MapsLemmas.{and_left, and_right, get-union, all_entries_found, all_entries_from}
 use Rattle.nb_table.specs.Code.CoverFacts.{Holds}
 use Rattle.nb_table.specs.Shared.PromiseLemmas.{greater-comm, greater-assoc, greater-itself, greater_either, greater_left, greater_right, promised_adds, before_is, before_from}
 use Rattle.nb_table.specs.Shared.SlotLemmas.{Unites}
@@ -39,7 +39,7 @@ below_is : (n : ℕ) (c : CoverFacts) → lies_below n c ≡ true → LiesBelow 
 below_is n c h = record { bytes = (bytes_below_decides n c.bytes).0 (and_left _ _ h); promise = before_is c.promise n (and_right _ _ h) }
 
 is_below : (n : ℕ) (c : CoverFacts) → LiesBelow n c → lies_below n c ≡ true
-is_below n c h = and_both _ _ ((bytes_below_decides n c.bytes).1 h.bytes) (before_from c.promise n h.promise)
+is_below n c h = and_from _ _ ((bytes_below_decides n c.bytes).1 h.bytes) (before_from c.promise n h.promise)
 
 pub lies_below_decides : (n : ℕ) (c : CoverFacts) → Decides (lies_below n c) (LiesBelow n c)
 lies_below_decides n c = (below_is n c, is_below n c)
@@ -64,9 +64,9 @@ fit_of a b h =
 
 pub agree_of : (a b : CoverFacts) → CoversFit a b → covers_agree a b ≡ true
 agree_of a b f =
-    and_both _ _
+    and_from _ _
     (all_entries_from nat_cmp_total nat_cmp-IsAntisymmetric (λ i v. same_where (map.get b.bytes i) v) a.bytes (λ q x e. at_same (map.get b.bytes q) x (λ y g. f.bytes q x y e g)))
-    (and_both _ _ (are_ends a.end b.end f.ends) (and_both _ _ (below_end_from b.end a f.own_below) (below_end_from a.end b f.other_below)))
+    (and_from _ _ (are_ends a.end b.end f.ends) (and_from _ _ (below_end_from b.end a f.own_below) (below_end_from a.end b f.other_below)))
 
 -- ---- what fits with the union of two
 

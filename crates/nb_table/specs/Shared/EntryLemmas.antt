@@ -7,8 +7,9 @@ use Rattle.nb_table.specs.Cover.{CoverValue, covers_agree, join_cover, IsCover}
 use Rattle.nb_table.specs.Code.CoverFacts.{Holds}
 use Rattle.nb_table.specs.Entry.{EntryFacts, FactsFit, EntryValue, facts_agree, facts_together, join_entry, AreEntryFacts, IsEntry}
 use Rattle.nb_names.specs.NameFacts.{name_eq_decides}
-use Rattle.nb_table.specs.Shared.MapsLemmas.{and_left, and_right, and_both}
-use Rattle.nb_table.specs.Shared.SameLemmas.{same_kind_decides}
+use Rattle.std.proofs.lemmas.Bool.{and_from}
+use Rattle.nb_table.specs.Shared.MapsLemmas.{and_left, and_right}
+use Rattle.nb_datagram.specs.EqualityFacts.{same_kind_decides}
 use Rattle.nb_table.specs.Shared.SlotLemmas.{Unites, join-comm, join-assoc, join-idem, join_formed}
 use Rattle.nb_table.specs.Shared.CoverLemmas.{covers_unite, fit_of, agree_of, fit_left, fit_right, fit_both, fit_turned, formed_agrees, agrees_formed, together_held, one_value}
 
@@ -24,9 +25,9 @@ facts_fit_of a b h =
 
 pub facts_agree_of : (a b : EntryFacts) → FactsFit a b → facts_agree a b ≡ true
 facts_agree_of a b f =
-    and_both _ _ ((same_kind_decides a.kind b.kind).1 f.kind)
-    (and_both _ _ ((name_eq_decides a.source b.source).1 f.source)
-    (and_both _ _ ((name_eq_decides a.destination b.destination).1 f.destination) (agree_of a.cover b.cover f.cover)))
+    and_from _ _ ((same_kind_decides a.kind b.kind).1 f.kind)
+    (and_from _ _ ((name_eq_decides a.source b.source).1 f.source)
+    (and_from _ _ ((name_eq_decides a.destination b.destination).1 f.destination) (agree_of a.cover b.cover f.cover)))
 
 turned : (a b : EntryFacts) → FactsFit a b → FactsFit b a
 turned a b f = record {

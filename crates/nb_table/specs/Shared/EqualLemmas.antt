@@ -1,9 +1,9 @@
 -- The tests of equality decide equality.
 use Rattle.std.proofs.Common.{◌≡◌, ◌==◌, ◌&&◌, ℕ, List, Bool, true, Option, Some, None, refl, sym, ◌∙◌, ap, Decides}
-use Rattle.std.proofs.lemmas.Bool.{true≢false, eqb-true, eq-eqb}
+use Rattle.std.proofs.lemmas.Bool.{true≢false, eqb-true, eq-eqb, and_from}
 use Rattle.std.proofs.lemmas.Option.{none-some, same_Some}
 use Rattle.std.specs.Option.{option_eq}
-use Rattle.std.specs.Cmp.{IsEquivalence, IsPartialEquivalence, decided, equiv, partial_equiv_from_equiv}
+use Rattle.std.specs.Cmp.{IsEquivalence, IsPartialEquivalence, decided, equiv, partial_equiv_from_equiv, unsigned_Decides}
 use Rattle.std.specs.Cmp.Lexicographic.{pointwise, pointwise_decides}
 use Rattle.std.specs.Ordering.{nat_cmp}
 use Rattle.std.specs.FinMap as maps
@@ -13,8 +13,8 @@ use Rattle.nb_table.specs.Cover.{CoverFacts, CoverValue}
 use Rattle.nb_table.specs.Entry.{EntryFacts, EntryValue}
 use Rattle.nb_table.specs.Codes.{held, slot_of, slot_back}
 use Rattle.nb_table.specs.Equal.{same_slot, same_bytes, same_cover_facts, same_cover, same_entry_facts, same_entry}
-use Rattle.nb_table.specs.Shared.MapsLemmas.{and_left, and_right, and_both}
-use Rattle.nb_table.specs.Shared.SameLemmas.{same_kind_decides}
+use Rattle.nb_table.specs.Shared.MapsLemmas.{and_left, and_right}
+use Rattle.nb_datagram.specs.EqualityFacts.{same_kind_decides}
 
 -- two options are the same where their values are
 pub options_decide : {X : Type 0} (E : X → X → Bool) → ((x y : X) → Decides (E x y) (x ≡ y)) → (o p : Option X) → Decides (option_eq E o p) (o ≡ p)
@@ -23,13 +23,10 @@ options_decide E d None (Some y) = (λ h. absurd (true≢false (sym h)), λ e. a
 options_decide E d (Some x) None = (λ h. absurd (true≢false (sym h)), λ e. absurd (none-some x (sym e)))
 options_decide E d (Some x) (Some y) = (λ h. ap Some ((d x y).0 h), λ e. (d x y).1 (same_Some x y e))
 
-numbers_decide : (x y : ℕ) → Decides (x == y) (x ≡ y)
-numbers_decide x y = (eqb-true x y, eq-eqb x y)
-
 pair_decides : (p q : ℕ × ℕ) → Decides ((p.0 == q.0) && (p.1 == q.1)) (p ≡ q)
 pair_decides p q = (
   λ h. (let place = eqb-true p.0 q.0 (and_left _ _ h) in let byte = eqb-true p.1 q.1 (and_right _ _ h) in λ i. (place i, byte i)),
-  λ e. and_both _ _ (eq-eqb p.0 q.0 (ap (λ (x : ℕ × ℕ). x.0) e)) (eq-eqb p.1 q.1 (ap (λ (x : ℕ × ℕ). x.1) e)),
+  λ e. and_from _ _ (eq-eqb p.0 q.0 (ap (λ (x : ℕ × ℕ). x.0) e)) (eq-eqb p.1 q.1 (ap (λ (x : ℕ × ℕ). x.1) e)),
 )
 
 -- two lists of places with their bytes are the same where their items are
@@ -45,12 +42,12 @@ bytes_decide m n = (
 pub cover_facts_decide : (a b : CoverFacts) → Decides (same_cover_facts a b) (a ≡ b)
 cover_facts_decide a b = (
   λ h. (let bytes = (bytes_decide a.bytes b.bytes).0 (and_left _ _ h) in let t1 = and_right _ _ h in
-      let end = (options_decide ◌==◌ numbers_decide a.end b.end).0 (and_left _ _ t1) in
-      let promise = (options_decide ◌==◌ numbers_decide a.promise b.promise).0 (and_right _ _ t1) in
+      let end = (options_decide ◌==◌ unsigned_Decides a.end b.end).0 (and_left _ _ t1) in
+      let promise = (options_decide ◌==◌ unsigned_Decides a.promise b.promise).0 (and_right _ _ t1) in
       λ i. record { bytes = bytes i; end = end i; promise = promise i }),
-  λ e. and_both _ _ ((bytes_decide a.bytes b.bytes).1 (ap (λ (c : CoverFacts). c.bytes) e))
-      (and_both _ _ ((options_decide ◌==◌ numbers_decide a.end b.end).1 (ap (λ (c : CoverFacts). c.end) e))
-      ((options_decide ◌==◌ numbers_decide a.promise b.promise).1 (ap (λ (c : CoverFacts). c.promise) e))),
+  λ e. and_from _ _ ((bytes_decide a.bytes b.bytes).1 (ap (λ (c : CoverFacts). c.bytes) e))
+      (and_from _ _ ((options_decide ◌==◌ unsigned_Decides a.end b.end).1 (ap (λ (c : CoverFacts). c.end) e))
+      ((options_decide ◌==◌ unsigned_Decides a.promise b.promise).1 (ap (λ (c : CoverFacts). c.promise) e))),
 )
 
 pub entry_facts_decide : (a b : EntryFacts) → Decides (same_entry_facts a b) (a ≡ b)
@@ -61,9 +58,9 @@ entry_facts_decide a b = (
       let destination = (name_eq_decides a.destination b.destination).0 (and_left _ _ t2) in
       let cover = (cover_facts_decide a.cover b.cover).0 (and_right _ _ t2) in
       λ i. record { kind = kind i; source = source i; destination = destination i; cover = cover i }),
-  λ e. and_both _ _ ((same_kind_decides a.kind b.kind).1 (ap (λ (x : EntryFacts). x.kind) e))
-      (and_both _ _ ((name_eq_decides a.source b.source).1 (ap (λ (x : EntryFacts). x.source) e))
-      (and_both _ _ ((name_eq_decides a.destination b.destination).1 (ap (λ (x : EntryFacts). x.destination) e))
+  λ e. and_from _ _ ((same_kind_decides a.kind b.kind).1 (ap (λ (x : EntryFacts). x.kind) e))
+      (and_from _ _ ((name_eq_decides a.source b.source).1 (ap (λ (x : EntryFacts). x.source) e))
+      (and_from _ _ ((name_eq_decides a.destination b.destination).1 (ap (λ (x : EntryFacts). x.destination) e))
       ((cover_facts_decide a.cover b.cover).1 (ap (λ (x : EntryFacts). x.cover) e)))),
 )
 

@@ -18,7 +18,7 @@ use Rattle.nb_table.specs.Insert.{NeedsNoMemory, spoilt, contradicts, held}
 use Rattle.nb_table.specs.Shared.MapsLemmas.{get-at_keys, tied_self}
 use Rattle.nb_table.specs.Promise.{promise_of_one}
 use Rattle.nb_table.specs.Shared.PromiseLemmas.{greater-alone}
-use Rattle.nb_table.specs.Shared.SameLemmas.{key_cmp_total, key_cmp_exact, same_key_decides}
+use Rattle.nb_datagram.specs.KeyOrder.{key_cmp_total, key_cmp_exact, same_key_decides}
 use Rattle.nb_table.specs.Shared.TableLemmas.{same_table, get-join}
 
 -- ---- the facts of one fragment

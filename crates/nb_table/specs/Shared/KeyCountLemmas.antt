@@ -9,7 +9,7 @@ use Rattle.nb_datagram.specs.Key.{key_cmp}
 use Rattle.nb_table.specs.Entry.{EntryValue}
 use Rattle.nb_table.specs.Contents.{Contents}
 use Rattle.nb_table.specs.KeyCounts.{held_keys}
-use Rattle.nb_table.specs.Shared.SameLemmas.{key_cmp_total, key_cmp_exact}
+use Rattle.nb_datagram.specs.KeyOrder.{key_cmp_total, key_cmp_exact}
 
 pub keys_kept : {X : Type 0} (p : Key → Bool) (es : List (Key × X)) → map (λ e. e.0) (filter (λ e. p e.0) es) ≡ filter p (map (λ e. e.0) es)
 keys_kept p [] = refl

@@ -1,5 +1,5 @@
 -- Finite maps by their look-ups: joins, maps made of keys, and tests of every entry.
-use Rattle.std.proofs.Common.{◌≡◌, ◌⊎◌, inl, inr, List, [], ◌∷◌, Bool, true, false, cond, Option, Some, None, refl, sym, ◌∙◌, ap, subst, ◌&&◌, ◌||◌}
+use Rattle.std.proofs.Common.{◌≡◌, inl, inr, List, [], ◌∷◌, Bool, true, false, cond, Option, Some, None, refl, sym, ◌∙◌, ap, subst, ◌&&◌, ◌||◌}
 use Rattle.std.specs.declared.cmp.Ordering.{Ordering}
 use Rattle.std.specs.declared.cmp.Ordering.TheVariants.{Less, Equal, Greater}
 use Rattle.std.specs.Ordering.{eq_by_cmp, is_eq, is_lt, ordering_reverse}
@@ -8,7 +8,7 @@ use Rattle.std.specs.List.{list_all, list_any}
 use Rattle.std.specs.Prelude.{T}
 use Rattle.std.specs.FinMap.{is_sorted}
 use Rattle.std.specs.FinMap.Entries.{below_all}
-use Rattle.std.proofs.lemmas.Bool.{true≢false}
+use Rattle.std.proofs.lemmas.Bool.{true≢false, and_from, and_cases}
 use Rattle.std.proofs.lemmas.Option.{none-some, same_Some}
 use Rattle.std.specs.FinMap as map
 use Rattle.nb_table.specs.Maps.{first_of, joined_at, joined_onto, joined_with, joined, union, with_some, at_keys}
@@ -22,16 +22,6 @@ and_left false b h = absurd (true≢false (sym h))
 pub and_right : (a b : Bool) → (a && b) ≡ true → b ≡ true
 and_right true b h = h
 and_right false b h = absurd (true≢false (sym h))
-
-pub and_both : (a b : Bool) → a ≡ true → b ≡ true → (a && b) ≡ true
-and_both true true p q = refl
-and_both false b p q = absurd (true≢false (sym p))
-and_both true false p q = absurd (true≢false (sym q))
-
--- one of two tests fails
-pub and_fails : (a b : Bool) → (a && b) ≡ false → (a ≡ false) ⊎ (b ≡ false)
-and_fails true b h = inr h
-and_fails false b h = inl refl
 
 -- ---- keys
 
@@ -187,7 +177,7 @@ found_first R o e es = ap (λ b. cond b (Some e.1) (map.find R e.0 es)) (tied_se
 all_from : {K X : Type 0} (R : K → K → Ordering) → IsTotalOrder R → map.IsAntisymmetric R → (P : K → X → Bool) (es : List (K × X)) → T (is_sorted R es) → ((q : K) (x : X) → map.find R q es ≡ Some x → P q x ≡ true) → list_all (λ e. P e.0 e.1) es ≡ true
 all_from R o exact P [] s h = refl
 all_from R o exact P (e ∷ es) s h =
-    and_both _ _ (h e.0 e.1 (found_first R o e es))
+    and_from _ _ (h e.0 e.1 (found_first R o e es))
     (all_from R o exact P es (T_right _ _ s) (λ q x f. h q x (found_later R exact q e.0 e.1 x es (eq_by_cmp R q e.0) refl (below_none R e.0 es (T_left _ _ s)) f)))
 
 -- an entry at which a test fails
@@ -199,7 +189,7 @@ pub record Fails {K X : Type 0} (P : K → X → Bool) (look : K → Option X) :
 
 fails_from : {K X : Type 0} (R : K → K → Ordering) → IsTotalOrder R → map.IsAntisymmetric R → (P : K → X → Bool) (es : List (K × X)) → T (is_sorted R es) → list_all (λ e. P e.0 e.1) es ≡ false → Fails P (λ q. map.find R q es)
 fails_from R o exact P [] s h = absurd (true≢false h)
-fails_from R o exact P (e ∷ es) s h = elim (and_fails (P e.0 e.1) _ h) [
+fails_from R o exact P (e ∷ es) s h = elim (and_cases (P e.0 e.1) _ h) [
   | inl here ↦ record { key = e.0; value = e.1; found = found_first R o e es; fails = here }
   | inr there ↦ let w = fails_from R o exact P es (T_right _ _ s) there in
       record { key = w.key; value = w.value; found = found_later R exact w.key e.0 e.1 w.value es (eq_by_cmp R w.key e.0) refl (below_none R e.0 es (T_left _ _ s)) w.found; fails = w.fails }

@@ -8,7 +8,7 @@ use Rattle.nb_table.specs.Entry.{EntryValue, join_entry, IsEntry}
 use Rattle.nb_table.specs.Contents.{Contents}
 use Rattle.nb_table.specs.Join.{join, IsTable}
 use Rattle.nb_table.specs.Shared.MapsLemmas.{get-joined, joined-comm, joined-assoc, joined-idem}
-use Rattle.nb_table.specs.Shared.SameLemmas.{key_cmp_total, key_cmp_exact}
+use Rattle.nb_datagram.specs.KeyOrder.{key_cmp_total, key_cmp_exact}
 use Rattle.nb_table.specs.Shared.EntryLemmas.{join_entry-comm, join_entry-assoc, join_entry-idem, join_entry_formed}
 
 -- tables with the same look-ups are one

@@ -10,7 +10,7 @@ use Rattle.nb_table.specs.Slot.{Held}
 use Rattle.nb_table.specs.Entry.{EntryValue, facts_of, join_entry}
 use Rattle.nb_table.specs.declared.change.BoxedChange.{BoxedChange}
 use Rattle.nb_table.specs.Code.Change.{KeyChange, change_of}
-use Rattle.nb_table.specs.Shared.SameLemmas.{key_cmp_total, key_cmp_exact}
+use Rattle.nb_datagram.specs.KeyOrder.{key_cmp_total, key_cmp_exact}
 use Rattle.nb_table.specs.Shared.TreeLemmas.{get_is, changed_is, kept_is, insert_is}
 use Rattle.nb_table.proofs.Changes.InsertLemmas.{needs_more, on_err_both, on_any_err}
 use Rattle.nb_table.specs.Shared.FragmentLemmas.{needs_new}

@@ -6,7 +6,7 @@ use Rattle.nb_datagram.specs.declared.key.Key.{Key}
 use Rattle.nb_datagram.specs.Key.{key_cmp}
 use Rattle.nb_table.specs.Entry.{EntryValue}
 use Rattle.nb_table.specs.KeyCounts.{of_source}
-use Rattle.nb_table.specs.Shared.SameLemmas.{key_cmp_total, key_cmp_exact}
+use Rattle.nb_datagram.specs.KeyOrder.{key_cmp_total, key_cmp_exact}
 use Rattle.nb_table.specs.Shared.TreeLemmas.{entries_are, get_is, sorted_is}
 use Rattle.nb_table.proofs.Limits.SourceLemmas.{Left, onward, onward_new, left_begun, left_next, none_unfit, one_out, one_in, first_in, not_true, not_false}
 use Rattle.nb_table.proofs.sources.unfit_of.Goals as goal

@@ -4,7 +4,7 @@ use Rattle.std.specs.FinMap as maps
 use Rattle.nb_datagram.specs.declared.key.Key.{Key}
 use Rattle.nb_datagram.specs.Key.{key_cmp}
 use Rattle.nb_table.specs.Entry.{EntryValue}
-use Rattle.nb_table.specs.Shared.SameLemmas.{key_cmp_total, key_cmp_exact}
+use Rattle.nb_datagram.specs.KeyOrder.{key_cmp_total, key_cmp_exact}
 use Rattle.nb_table.specs.Shared.TreeLemmas.{entries_are, len_is, sorted_is}
 use Rattle.nb_table.proofs.Limits.UnfitLemmas.{Gone, few_fit, gone_begun, gone_turn, gone_same, gone_all, unfit_found}
 use Rattle.nb_table.proofs.sources.unfit_source.Goals as goal

@@ -9,7 +9,7 @@ use Rattle.nb_table.specs.Code.Change.{KeyChange, change_of, grown_to}
 use Rattle.nb_table.proofs.Changes.ChangeLemmas.{facts_held, key_grown, with_together}
 use Rattle.nb_table.proofs.Covers.PlacedLemmas.{cover_of_formed}
 use Rattle.nb_table.proofs.Covers.CoverFactsLemmas.{together_formed}
-use Rattle.nb_table.specs.Shared.SameLemmas.{refutes}
+use Rattle.std.proofs.lemmas.Bool.Decides.{not_from_Decides}
 use Rattle.nb_table.proofs.entry.EntryFacts.grow.Goals as goal
 
 pub returns-then-holds-clause-joined : goal.returns-then-holds-clause-joined
@@ -43,7 +43,7 @@ returns-clause-change c =
     c.in_ok-datagram.ensures
     ∙ ap (λ (x : EntryFacts). newly (datagram_of k (Held x)) (datagram_with k x (bytes_to (covers_together x.cover b.cover).bytes (covers_together x.cover b.cover).end))) (sym c.self.view_is)
     ∙ ap (newly (datagram_of k (Held old))) (with_together k old b (bytes_to (facts_together old b).cover.bytes (facts_together old b).cover.end)) in
-    let grown = key_grown k old b fit (refutes c.holds.result c.holds.ensures c.if-holds.false) in
+    let grown = key_grown k old b fit (not_from_Decides c.holds.result c.holds.ensures c.if-holds.false) in
     let told = c.in_ok-change.ensures ∙ ap grown_to datagram in
     subst (λ (x : EntryFacts). KeyChange k (Some (Held x)) (Some (Held (record { kind = c.self.inside.kind; source = c.self.inside.parties.source; destination = c.self.inside.parties.destination; cover = c.add.new.self }))) (change_of c.in_ok-change.change)) c.self.view_is
     (subst (λ (x : EntryFacts). KeyChange k (Some (Held old)) (Some (Held x)) (change_of c.in_ok-change.change)) (sym new)

@@ -1,12 +1,12 @@
 use Rattle.std.proofs.Common.{refl, sym, ◌∙◌}
 use Rattle.nb_datagram.specs.Fragment.{core_of}
-use Rattle.nb_table.specs.Shared.SameLemmas.{refutes}
+use Rattle.std.proofs.lemmas.Bool.Decides.{not_from_Decides}
 use Rattle.nb_table.proofs.PlainProgram.PlainLemmas.{header_conflict, overlap_conflict, ends_conflict, past_conflict, past_other_conflict, breaks_conflict, breaks_other_conflict, last_conflict}
 use Rattle.nb_table.proofs.plain.conflicting.conflict.Goals as goal
 
 pub returns-then-not-same_header : goal.returns-then-not-same_header
 returns-then-not-same_header c =
-    (λ _. header_conflict (core_of c.args.one.now) (core_of c.args.other.now) (refutes c.same_header.result c.same_header.ensures c.if-not-same_header.true), λ _. refl)
+    (λ _. header_conflict (core_of c.args.one.now) (core_of c.args.other.now) (not_from_Decides c.same_header.result c.same_header.ensures c.if-not-same_header.true), λ _. refl)
 
 pub returns-then-bytes_differ : goal.returns-then-bytes_differ
 returns-then-bytes_differ c =
@@ -33,10 +33,10 @@ returns c = (
   λ h. breaks_other_conflict (core_of c.args.one.now) (core_of c.args.other.now) (c.breaks_promise-2.ensures.0 h),
   λ h. c.breaks_promise-2.ensures.1 (last_conflict (core_of c.args.one.now) (core_of c.args.other.now)
       (c.same_header.ensures.0 c.if-not-same_header.false)
-      (refutes c.bytes_differ.result c.bytes_differ.ensures c.if-bytes_differ.false)
+      (not_from_Decides c.bytes_differ.result c.bytes_differ.ensures c.if-bytes_differ.false)
       (sym c.ends_differ.ensures ∙ c.if-ends_differ.false)
-      (refutes c.passes_end.result c.passes_end.ensures c.if-passes_end.false)
-      (refutes c.passes_end-2.result c.passes_end-2.ensures c.if-passes_end-2.false)
-      (refutes c.breaks_promise.result c.breaks_promise.ensures c.if-breaks_promise.false)
+      (not_from_Decides c.passes_end.result c.passes_end.ensures c.if-passes_end.false)
+      (not_from_Decides c.passes_end-2.result c.passes_end-2.ensures c.if-passes_end-2.false)
+      (not_from_Decides c.breaks_promise.result c.breaks_promise.ensures c.if-breaks_promise.false)
       h),
 )

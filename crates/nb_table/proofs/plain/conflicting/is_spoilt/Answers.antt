@@ -1,7 +1,7 @@
 use Rattle.std.proofs.Common.{◌≡◌, true, refl, sym, ◌∙◌}
 use Rattle.nb_datagram.specs.Fragment.{cores_of}
 use Rattle.nb_table.specs.ConflictTests.{is_spoilt}
-use Rattle.nb_table.specs.Shared.SameLemmas.{refutes}
+use Rattle.std.proofs.lemmas.Bool.Decides.{not_from_Decides}
 use Rattle.nb_table.proofs.Conflict.ConflictLemmas.{is_spoilt_decides, or_first}
 use Rattle.nb_table.proofs.PlainProgram.PlainLemmas.{spoilt_turn, spoilt_end}
 use Rattle.nb_table.proofs.plain.conflicting.is_spoilt.Goals as goal
@@ -15,4 +15,4 @@ returns-then-spoils c =
 pub returns : goal.returns
 returns c =
     let free = spoilt_end c.args.key.now c.args.fragments.now c.loop-index.index c.loop-index-test.false c.loop-index.invariant in
-    (λ h. absurd (cc h), λ s. absurd (refutes (is_spoilt (cores_of c.args.fragments.now) c.args.key.now) (is_spoilt_decides (cores_of c.args.fragments.now) c.args.key.now) free s))
+    (λ h. absurd (cc h), λ s. absurd (not_from_Decides (is_spoilt (cores_of c.args.fragments.now) c.args.key.now) (is_spoilt_decides (cores_of c.args.fragments.now) c.args.key.now) free s))

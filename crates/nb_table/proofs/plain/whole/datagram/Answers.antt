@@ -2,13 +2,13 @@ use Rattle.std.proofs.Common.{◌≡◌, refl, sym, ◌∙◌, None}
 use Rattle.nb_datagram.specs.Fragment.{core_of, cores_of}
 use Rattle.nb_table.specs.Contents.{table_of}
 use Rattle.nb_table.specs.Whole.{datagram_at}
-use Rattle.nb_table.specs.Shared.SameLemmas.{refutes}
+use Rattle.std.proofs.lemmas.Bool.Decides.{not_from_Decides}
 use Rattle.nb_table.proofs.PlainProgram.PlainWholeLemmas.{not_whole, none_long, whole_ending, whole_starting, whole_is, whole_long, whole_short, not_this}
 use Rattle.nb_table.proofs.Wholeness.WholeLemmas.{none_whole}
 use Rattle.nb_table.proofs.plain.whole.datagram.Goals as goal
 
 none : (c : goal.Then-not-is_whole) → datagram_at (table_of (cores_of c.args.fragments.now)) c.args.key.now ≡ None
-none c = not_whole (cores_of c.args.fragments.now) c.args.key.now (refutes c.is_whole.result c.is_whole.ensures c.if-not-is_whole.true)
+none c = not_whole (cores_of c.args.fragments.now) c.args.key.now (not_from_Decides c.is_whole.result c.is_whole.ensures c.if-not-is_whole.true)
 
 pub returns-then-not-is_whole-clause-found : goal.returns-then-not-is_whole-clause-found
 returns-then-not-is_whole-clause-found c = sym (none c)

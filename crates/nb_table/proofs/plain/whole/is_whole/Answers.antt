@@ -1,7 +1,7 @@
 use Rattle.std.proofs.Common.{◌≡◌, Some, None, sym, ◌∙◌, subst}
 use Rattle.nb_datagram.specs.Fragment.{cores_of}
 use Rattle.nb_table.specs.Code.Plain.{CoversBelow}
-use Rattle.nb_table.specs.Shared.SameLemmas.{refutes}
+use Rattle.std.proofs.lemmas.Bool.Decides.{not_from_Decides}
 use Rattle.nb_table.proofs.PlainProgram.PlainWholeLemmas.{whole_from, whole_free, whole_ends}
 use Rattle.nb_table.proofs.plain.whole.is_whole.Goals as goal
 
@@ -13,7 +13,7 @@ pub returns-in-Some : goal.returns-in-Some
 returns-in-Some c =
     let L = cores_of c.args.fragments.now in
     let ends = sym c.end_of.ensures ∙ c.in-Some.is in (
-      λ h. whole_from L c.args.key.now c.in-Some.end (refutes c.is_spoilt.result c.is_spoilt.ensures c.if-is_spoilt.false) ends (c.covers_below.ensures.0 h),
+      λ h. whole_from L c.args.key.now c.in-Some.end (not_from_Decides c.is_spoilt.result c.is_spoilt.ensures c.if-is_spoilt.false) ends (c.covers_below.ensures.0 h),
       λ w. c.covers_below.ensures.1 (let t = whole_ends L c.args.key.now w in
           let both : Some t.0 ≡ Some c.in-Some.end = sym t.1 ∙ ends in
           let one : t.0 ≡ c.in-Some.end = cc in

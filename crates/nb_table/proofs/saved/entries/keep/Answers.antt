@@ -1,4 +1,4 @@
-use Rattle.nb_table.specs.Shared.SameLemmas.{key_cmp_total, key_cmp_exact}
+use Rattle.nb_datagram.specs.KeyOrder.{key_cmp_total, key_cmp_exact}
 use Rattle.nb_table.specs.Shared.TreeLemmas.{insert_is}
 use Rattle.nb_table.proofs.saved.entries.keep.Goals as goal
 

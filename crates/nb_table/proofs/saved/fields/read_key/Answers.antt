@@ -1,5 +1,5 @@
 use Rattle.std.proofs.lemmas.Result.{err_from_is_err_and}
-use Rattle.nb_table.specs.Shared.SameLemmas.{refutes}
+use Rattle.std.proofs.lemmas.Bool.Decides.{not_from_Decides}
 use Rattle.nb_table.specs.SavedReading.{stops, goes_on, good, bad}
 use Rattle.nb_table.proofs.saved.fields.read_key.Goals as goal
 
@@ -9,7 +9,7 @@ returns-in_err-key c =
 
 pub returns-then-not-is_after : goal.returns-then-not-is_after
 returns-then-not-is_after c =
-    goes_on _ _ c.in_ok-key.ensures (bad (refutes c.is_after.result c.is_after.ensures c.if-not-is_after.true))
+    goes_on _ _ c.in_ok-key.ensures (bad (not_from_Decides c.is_after.result c.is_after.ensures c.if-not-is_after.true))
 
 pub returns : goal.returns
 returns c = goes_on _ _ c.in_ok-key.ensures (good (c.is_after.ensures.0 c.if-not-is_after.false))

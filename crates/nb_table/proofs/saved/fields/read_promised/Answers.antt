@@ -1,6 +1,6 @@
 use Rattle.std.proofs.lemmas.Result.{err_from_is_err_and}
 use Rattle.nb_table.specs.SavedReading.{stops, goes_on, good, bad}
-use Rattle.nb_table.specs.Shared.SameLemmas.{refutes}
+use Rattle.std.proofs.lemmas.Bool.Decides.{not_from_Decides}
 use Rattle.nb_table.proofs.saved.fields.read_promised.Goals as goal
 
 pub returns-in_err-number : goal.returns-in_err-number
@@ -9,7 +9,7 @@ returns-in_err-number c =
 
 pub returns-then-not-is_below_end : goal.returns-then-not-is_below_end
 returns-then-not-is_below_end c =
-    goes_on _ _ c.in_ok-number.ensures (bad (rw (← c.from-promise.ensures) (refutes c.is_below_end.result c.is_below_end.ensures c.if-not-is_below_end.true)))
+    goes_on _ _ c.in_ok-number.ensures (bad (rw (← c.from-promise.ensures) (not_from_Decides c.is_below_end.result c.is_below_end.ensures c.if-not-is_below_end.true)))
 
 pub returns : goal.returns
 returns c = rw c.from-promise.ensures (goes_on _ _ c.in_ok-number.ensures (good (rw (← c.from-promise.ensures) (c.is_below_end.ensures.0 c.if-not-is_below_end.false))))

@@ -2,7 +2,7 @@ use Rattle.std.proofs.Common.{ap, sym, subst, ◌∙◌, is_some}
 use Rattle.std.specs.FinMap as maps
 use Rattle.nb_datagram.specs.Key.{key_cmp}
 use Rattle.nb_table.specs.Limits.{TableValue, KeepsLimits}
-use Rattle.nb_table.specs.Shared.SameLemmas.{key_cmp_total, key_cmp_exact}
+use Rattle.nb_datagram.specs.KeyOrder.{key_cmp_total, key_cmp_exact}
 use Rattle.nb_table.specs.Shared.TreeLemmas.{get_is, remove_is}
 use Rattle.nb_table.proofs.TableReads.ReadingLemmas.{remove_keeps}
 use Rattle.nb_table.proofs.table.Table.drop_key.Goals as goal

@@ -4,7 +4,7 @@ use Rattle.std.specs.FinMap as maps
 use Rattle.nb_datagram.specs.Key.{key_cmp}
 use Rattle.nb_table.specs.Limits.{TableValue}
 use Rattle.nb_table.specs.KeyCounts.{every_key, held_keys}
-use Rattle.nb_table.specs.Shared.SameLemmas.{key_cmp_total, key_cmp_exact}
+use Rattle.nb_datagram.specs.KeyOrder.{key_cmp_total, key_cmp_exact}
 use Rattle.nb_table.specs.Shared.TreeLemmas.{get_is, entries_are}
 use Rattle.nb_table.proofs.Limits.GroupLemmas.{held_every}
 use Rattle.nb_table.proofs.table.Table.first_unfit.Goals as goal

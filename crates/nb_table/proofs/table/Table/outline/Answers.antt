@@ -5,7 +5,7 @@ use Rattle.nb_datagram.specs.Key.{key_cmp}
 use Rattle.nb_datagram.specs.declared.limits.TheConstants.{MAX_LENGTH}
 use Rattle.nb_table.specs.Outline.{entry_outline}
 use Rattle.nb_table.specs.Limits.{TableValue}
-use Rattle.nb_table.specs.Shared.SameLemmas.{key_cmp_total}
+use Rattle.nb_datagram.specs.KeyOrder.{key_cmp_total}
 use Rattle.nb_table.specs.Shared.TreeLemmas.{get_is}
 use Rattle.nb_table.proofs.SavedBytes.ShortLemmas.{all_short}
 use Rattle.nb_table.proofs.table.Table.outline.Goals as goal

@@ -1,15 +1,15 @@
-use Rattle.std.proofs.Common.{◌≡◌, ◌≤◌, ◌<◌, ◌==◌, ◌∙◌, ℕ, Bool, true, false, not, refl, sym, ap, subst, arith, is_some, Option, Some, None}
+use Rattle.std.proofs.Common.{◌≡◌, ◌≤◌, ◌==◌, ◌∙◌, ℕ, Bool, true, false, not, refl, sym, ap, subst, arith, is_some, Option, Some, None}
 use Rattle.std.proofs.lemmas.Bool.{true≢false}
 use Rattle.std.specs.Bool.{beq}
 use Rattle.std.specs.FinMap as maps
 use Rattle.nb_datagram.specs.declared.key.Key.{Key}
 use Rattle.nb_datagram.specs.Key.{key_cmp}
 use Rattle.nb_datagram.specs.Fragment.{FragmentParts, core_of, reach, is_first}
-use Rattle.nb_table.specs.Limits.{Limits, TableValue, IsFull, IsFullSource}
+use Rattle.nb_table.specs.Limits.{Limits, IsFullSource}
 use Rattle.nb_table.specs.Contents.{Contents}
 use Rattle.nb_table.specs.KeyCounts.{held_keys, of_source}
 use Rattle.nb_table.specs.Insert.{Passes}
-use Rattle.nb_table.specs.Shared.SameLemmas.{key_cmp_total, key_cmp_exact}
+use Rattle.nb_datagram.specs.KeyOrder.{key_cmp_total, key_cmp_exact}
 use Rattle.nb_table.specs.Shared.TreeLemmas.{get_is, len_is}
 use Rattle.nb_table.proofs.Changes.InsertLemmas.{same_test}
 use Rattle.nb_table.proofs.table.Table.refusal_of.Goals as goal

@@ -2,7 +2,7 @@ use Rattle.std.proofs.Common.{sym, ◌∙◌, ap}
 use Rattle.std.specs.Prelude.{is_some}
 use Rattle.std.specs.FinMap as maps
 use Rattle.nb_datagram.specs.Key.{key_cmp}
-use Rattle.nb_table.specs.Shared.SameLemmas.{key_cmp_total}
+use Rattle.nb_datagram.specs.KeyOrder.{key_cmp_total}
 use Rattle.nb_table.specs.Shared.TreeLemmas.{get_is}
 use Rattle.nb_table.proofs.TableReads.ReadingLemmas.{both_held, one_held, none_held}
 use Rattle.nb_table.proofs.table.Table.same_at.Goals as goal

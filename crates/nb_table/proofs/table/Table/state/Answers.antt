@@ -1,7 +1,7 @@
 use Rattle.std.proofs.Common.{sym, ◌∙◌}
 use Rattle.std.specs.FinMap as maps
 use Rattle.nb_datagram.specs.Key.{key_cmp}
-use Rattle.nb_table.specs.Shared.SameLemmas.{key_cmp_total}
+use Rattle.nb_datagram.specs.KeyOrder.{key_cmp_total}
 use Rattle.nb_table.specs.Shared.TreeLemmas.{get_is}
 use Rattle.nb_table.proofs.TableReads.ReadingLemmas.{state_at}
 use Rattle.nb_table.proofs.table.Table.state.Goals as goal

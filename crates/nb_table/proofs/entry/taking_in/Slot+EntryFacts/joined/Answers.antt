@@ -1,6 +1,6 @@
 use Rattle.nb_table.specs.Entry.{join_entry}
 use Rattle.nb_table.specs.Whole.{datagram_of}
-use Rattle.nb_table.specs.Shared.SameLemmas.{refutes}
+use Rattle.std.proofs.lemmas.Bool.Decides.{not_from_Decides}
 use Rattle.nb_table.proofs.Limits.HandedLemmas.{newly_never, newly_always}
 use Rattle.std.proofs.Common.{◌∙◌, ap}
 use Rattle.nb_table.proofs.entry.taking_in.Slot+EntryFacts.joined.Goals as goal
@@ -11,5 +11,5 @@ returns-then-is_whole-clause-datagram c = newly_never c.args.key c.args.self.now
 pub returns-clause-datagram : goal.returns-clause-datagram
 returns-clause-datagram c =
     newly_always c.args.key c.args.self.now c.in_ok-datagram.datagram (datagram_of c.args.key (join_entry c.args.self.now c.args.other.now))
-    (refutes c.is_whole.result c.is_whole.ensures c.if-is_whole.false)
+    (not_from_Decides c.is_whole.result c.is_whole.ensures c.if-is_whole.false)
     (c.in_ok-datagram.ensures.value ∙ ap (datagram_of c.args.key) c.in_ok-joined.ensures.value)

@@ -1,7 +1,7 @@
 use Rattle.std.proofs.Common.{◌∙◌, sym, ap}
 use Rattle.std.specs.FinMap as maps
 use Rattle.nb_datagram.specs.Key.{key_cmp}
-use Rattle.nb_table.specs.Shared.SameLemmas.{key_cmp_total, key_cmp_exact}
+use Rattle.nb_datagram.specs.KeyOrder.{key_cmp_total, key_cmp_exact}
 use Rattle.nb_table.specs.Shared.TreeLemmas.{get_is, insert_is}
 use Rattle.nb_table.proofs.table.merging.merging_entries.join_at.Goals as goal
 

@@ -8,7 +8,7 @@ use Rattle.nb_table.specs.Limits.{IsShort}
 use Rattle.nb_table.specs.Code.Each.{joined_each}
 use Rattle.nb_table.specs.Code.Handed.{handed, handed_at, with_entry}
 use Rattle.nb_table.specs.Code.TakenBack.{taken_back}
-use Rattle.nb_table.specs.Shared.SameLemmas.{key_cmp_total, key_cmp_exact}
+use Rattle.nb_datagram.specs.KeyOrder.{key_cmp_total, key_cmp_exact}
 use Rattle.nb_table.specs.Shared.TreeLemmas.{entries_are}
 use Rattle.nb_table.proofs.Changes.InsertLemmas.{on_any_err}
 use Rattle.nb_table.proofs.Joins.EachLemmas.{joined_each-more, joined_each_is}

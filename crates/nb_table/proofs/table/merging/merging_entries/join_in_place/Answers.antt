@@ -5,7 +5,7 @@ use Rattle.nb_datagram.specs.Key.{key_cmp}
 use Rattle.nb_datagram.specs.declared.limits.TheConstants.{MAX_LENGTH}
 use Rattle.nb_table.specs.Maps.{joined_onto}
 use Rattle.nb_table.specs.Entry.{join_entry}
-use Rattle.nb_table.specs.Shared.SameLemmas.{key_cmp_total, key_cmp_exact}
+use Rattle.nb_datagram.specs.KeyOrder.{key_cmp_total, key_cmp_exact}
 use Rattle.nb_table.specs.Shared.TreeLemmas.{get_is, changed_is, kept_is}
 use Rattle.nb_table.proofs.Changes.InsertLemmas.{short_join}
 use Rattle.nb_table.proofs.Limits.HandedLemmas.{handed_held}

@@ -3,7 +3,7 @@ use Rattle.std.specs.FinMap as maps
 use Rattle.nb_datagram.specs.Key.{key_cmp}
 use Rattle.nb_table.specs.Maps.{joined_onto}
 use Rattle.nb_table.specs.Entry.{join_entry}
-use Rattle.nb_table.specs.Shared.SameLemmas.{key_cmp_total, key_cmp_exact}
+use Rattle.nb_datagram.specs.KeyOrder.{key_cmp_total, key_cmp_exact}
 use Rattle.nb_table.proofs.Joins.TakenBackLemmas.{noted}
 use Rattle.nb_table.proofs.table.merging.merging_entries.join_noted.Goals as goal
 

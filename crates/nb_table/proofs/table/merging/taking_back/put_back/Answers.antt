@@ -4,7 +4,7 @@ use Rattle.nb_datagram.specs.declared.key.Key.{Key}
 use Rattle.nb_datagram.specs.Key.{key_cmp}
 use Rattle.nb_table.specs.Entry.{EntryValue}
 use Rattle.nb_table.specs.Code.TakenBack.{put_back}
-use Rattle.nb_table.specs.Shared.SameLemmas.{key_cmp_total, key_cmp_exact}
+use Rattle.nb_datagram.specs.KeyOrder.{key_cmp_total, key_cmp_exact}
 use Rattle.nb_table.specs.Shared.TreeLemmas.{get_is, changed_is, remove_is}
 use Rattle.nb_table.proofs.Joins.TakenBackLemmas.{put_held, put_missing}
 use Rattle.nb_table.proofs.table.merging.taking_back.put_back.Goals as goal

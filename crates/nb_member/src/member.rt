@@ -1,13 +1,11 @@
 //! Members.
-ghost use Rattle.std.specs.Prelude.{◌≡◌, ◌≤◌, ◌+◌, ◌↔◌, IsTrue, None, MatchOption};
+ghost use Rattle.std.specs.Prelude.{◌≡◌, ◌+◌, MatchOption};
 ghost use Rattle.std.specs.FinMap as maps;
-ghost use Rattle.nb_datagram.specs.declared.key.Key.{Key};
 ghost use Rattle.nb_member.specs.Events.{limits_of};
 ghost use Rattle.nb_member.specs.Member.{contents, new_member, with_timed, after_clock};
 ghost use Rattle.nb_member.specs.Taking.{Takes, TakesFragment, handed, outcome_of};
-ghost use Rattle.nb_member.specs.Code.Members.{IsFullAs, MeetsFull, BeginsFull};
+ghost use Rattle.nb_member.specs.Code.Members.{MeetsFull, BeginsFull, limit_of};
 ghost use Rattle.nb_member.specs.declared.run_report.RunStop.{RunStop};
-ghost use Rattle.nb_table.specs.KeyCounts.{held_keys, of_source};
 
 mod absorbing;
 
@@ -18,7 +16,7 @@ use crate::run_report::RunStop;
 use crate::settings::Settings;
 use crate::timed_table::TimedTable;
 use nb_datagram::{Datagram, Fragment, Key, Packet, decode};
-use nb_table::{Change, State, Table};
+use nb_table::{Change, Table, TableFault};
 use std::alloc::Global;
 use std::marker::Model;
 
@@ -122,42 +120,7 @@ impl Member {
         ensures { MatchOption result ((stop : RunStop) → ¬ MeetsFull self.now fragment.now stop)
             (MeetsFull self.now fragment.now) }
     {
-        if fragment.is_first() != (fragment.offset() == 0) {
-            return None;
-        }
-        if fragment.reach() > u32::from(self.settings.longest) {
-            return None;
-        }
-        self.limit_met_at(fragment.key())
-    }
-
-    /// Which limit on keys a key meets, if it is new and meets one.
-    fn limit_met_at(&self, key: Key) -> Option<RunStop>
-        ensures { MatchOption result ((stop : RunStop) → ¬ IsFullAs self.now key stop)
-            (IsFullAs self.now key) }
-    {
-        match self.timed.table().state(&key) {
-            State::Absent => self.limit_met_by_new(key),
-            State::Partial => None,
-            State::Whole => None,
-            State::Spoilt => None,
-        }
-    }
-
-    /// Which limit a key meets that is new.
-    fn limit_met_by_new(&self, key: Key) -> Option<RunStop>
-        requires { maps.get (contents self.now) key ≡ None }
-        ensures { MatchOption result ((stop : RunStop) → ¬ IsFullAs self.now key stop)
-            (IsFullAs self.now key) }
-    {
-        let table = self.timed.table();
-        if has_many(table, key.ip, self.settings.per_source) {
-            return Some(RunStop::FullSource(key));
-        }
-        if table.len() >= self.settings.keys as usize {
-            return Some(RunStop::Full(key));
-        }
-        None
+        limit_of(self.timed.table().refusal_of(fragment))
     }
 
     /// Looks at the clock, which shows `now`: drops each key, whatever is known of it, that came at
@@ -175,18 +138,16 @@ impl Member {
     }
 }
 
-/// Whether the table holds so many keys of this address. All of its keys are looked at, since it is
-/// asked only where memory ran out.
-fn has_many(table: &Table, ip: [u8; 4], most: u32) -> bool
-    ensures { IsTrue result ↔ (most ≤ held_keys (of_source ip) table.now.contents) }
+/// The limit on keys for which a table refuses a fragment, if it refuses it for one.
+fn limit_of(refusal: Option<TableFault>) -> Option<RunStop>
+    ensures { result ≡ limit_of refusal }
 {
-    let mut room = most;
-    for key in table.keys() {
-        if key.ip == ip {
-            room = room.saturating_sub(1);
-        }
+    match refusal {
+        Some(TableFault::FullSource(key)) => Some(RunStop::FullSource(key)),
+        Some(TableFault::Full(key)) => Some(RunStop::Full(key)),
+        Some(TableFault::MisplacedFirst | TableFault::TooLong | TableFault::NoMemory) => None,
+        None => None,
     }
-    room == 0
 }
 
 /// What is answered where this changed at the key.

@@ -1,5 +1,6 @@
 -- What members hand over that are given the same fragments.
 use Rattle.std.proofs.Common.{◌≡◌, ◌↔◌, Bool, cond, List, [], ◌∷◌, Option, Some, None, refl, sym, ap, ◌∙◌, inl, inr}
+use Rattle.std.proofs.lemmas.Bool.{cases_Bool}
 use Rattle.std.specs.Option.{option_to_list}
 use Rattle.std.specs.FinMap as maps
 use Rattle.nb_names.specs.Name.{NetbiosName}
@@ -12,7 +13,6 @@ use Rattle.nb_table.specs.Contents.{Contents, table_of}
 use Rattle.nb_table.specs.Whole.{IsWholeAt, datagram_at}
 use Rattle.nb_table.specs.Sender.{HasPartsAlone, HasAll, Gives}
 use Rattle.nb_member.specs.declared.settings.Settings.{Settings}
-use Rattle.nb_member.proofs.LiveLemmas.KeyCounts.{cases_bool}
 use Rattle.nb_member.proofs.HearingLemmas.{Hears-from_test, test-from_Hears}
 use Rattle.nb_member.proofs.LiveLemmas.LiveTables.{TablesKnown, live_is_valid, rooms, same_live}
 use Rattle.nb_member.proofs.DeliveryLemmas.WholeKeys.{DatagramsKnown}
@@ -69,7 +69,7 @@ heard_is names d h = ap (λ (b : Bool). cond b (d ∷ []) []) (test-from_Hears n
 
 pub unheard_is : (names : List NetbiosName) (d : DatagramParts) → (Hears names d → ⊥) → heard names (d ∷ []) ≡ []
 unheard_is names d h =
-    elim (cases_bool (hears names d)) [
+    elim (cases_Bool (hears names d)) [
       | inl hearing ↦ absurd (h (Hears-from_test names d.kind d.destination hearing))
       | inr deaf ↦ ap (λ (b : Bool). cond b (d ∷ []) []) deaf
     ]

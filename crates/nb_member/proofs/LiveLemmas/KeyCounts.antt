@@ -13,11 +13,7 @@ use Rattle.std.specs.Cmp.Lexicographic.{pointwise_decides}
 use Rattle.nb_table.specs.Contents.{Contents}
 use Rattle.nb_table.specs.KeyCounts.{held_keys, of_source}
 use Rattle.nb_table.specs.Shared.KeyCountLemmas.{held_is, get_kept}
-use Rattle.std.proofs.lemmas.Bool.{false≢true, cases_lt}
-
-pub cases_bool : (b : Bool) → (b ≡ true) ⊎ (b ≡ false)
-cases_bool true = inl refl
-cases_bool false = inr refl
+use Rattle.std.proofs.lemmas.Bool.{false≢true, cases_lt, cases_Bool}
 
 -- every key of a is one of b
 abbrev pub HasKeysOf : Contents → Contents → Type 0
@@ -86,7 +82,7 @@ fewer_keys a b has = fewer_within (maps.len a) a b (omega arith) has
 -- a key that a table has isn't one that it lacks
 not_that : (a : Contents) (k q : Key) → maps.contains_key a k ≡ false → maps.contains_key a q ≡ true → same_key q k ≡ false
 not_that a k q lacks has =
-    elim (cases_bool (same_key q k)) [
+    elim (cases_Bool (same_key q k)) [
       | inr differ ↦ differ
       | inl same ↦ absurd (false≢true (sym lacks ∙ (ap (λ (j : Key). maps.contains_key a j) (sym ((same_key_decides q k).0 same)) ∙ has)))
     ]

@@ -2,7 +2,7 @@
 use Rattle.std.proofs.Common.{◌≡◌, ℕ, Bool, true, false, not, ◌&&◌, ◌||◌, ◌⊎◌, subst, cond, List, [], ◌∷◌, ◌++◌, refl, sym, ap, ◌∙◌, arith, Option, Some, None, inl, inr}
 use Rattle.std.specs.Prelude.{filter, nat_le, is_some}
 use Rattle.std.specs.FinMap as maps
-use Rattle.std.proofs.lemmas.Bool.{false≢true, leb-true}
+use Rattle.std.proofs.lemmas.Bool.{cases_Bool, false≢true, leb-true}
 use Rattle.std.proofs.lemmas.List.{append_assoc, append-nil}
 use Rattle.nb_datagram.specs.declared.key.Key.{Key}
 use Rattle.nb_datagram.specs.Key.{same_key}
@@ -15,7 +15,7 @@ use Rattle.nb_table.specs.ConflictTests.{keyed, with_key}
 use Rattle.nb_table.specs.Shared.TableLemmas.{get-join}
 use Rattle.nb_table.specs.Join.{join, SameCores}
 use Rattle.nb_member.specs.declared.settings.Settings.{Settings}
-use Rattle.nb_member.proofs.LiveLemmas.KeyCounts.{cases_bool, HasKeysOf, fewer_keys_without, fewer_of_group, own_source}
+use Rattle.nb_member.proofs.LiveLemmas.KeyCounts.{HasKeysOf, fewer_keys_without, fewer_of_group, own_source}
 use Rattle.std.specs.Prelude.{nat_le}
 use Rattle.nb_table.specs.KeyCounts.{held_keys, of_source}
 use Rattle.nb_member.specs.Events.{Saying, came, refused, another, clock}
@@ -121,7 +121,7 @@ full_parts false false b h = (refl, inr h)
 room_for : TablesKnown → (settings : Settings) (L : List Timed) (f : FragmentParts) (V : List Core)
     → HasRoomFor settings (table_of (cores L ++ core_of f ∷ V)) → is_full settings L f.key ≡ false
 room_for known settings L f V within =
-    elim (cases_bool (is_full settings L f.key)) [
+    elim (cases_Bool (is_full settings L f.key)) [
       | inr room ↦ room
       | inl full ↦
           let has = keys_of_first known (cores L) (core_of f ∷ V) in

@@ -2,7 +2,7 @@
 use Rattle.std.proofs.Common.{◌≡◌, ℕ, ◌≤◌, Bool, true, false, not, ◌&&◌, ◌||◌, inl, inr, cond, List, [], ◌∷◌, ◌++◌, refl, sym, ap, ◌∙◌, arith, Option, Some, None}
 use Rattle.std.specs.Prelude.{filter, nat_le, is_some}
 use Rattle.std.specs.FinMap as maps
-use Rattle.std.proofs.lemmas.Bool.{false≢true, leb-true, le-leb}
+use Rattle.std.proofs.lemmas.Bool.{cases_Bool, false≢true, leb-true, le-leb}
 use Rattle.nb_datagram.specs.declared.key.Key.{Key}
 use Rattle.nb_datagram.specs.Key.{same_key}
 use Rattle.nb_datagram.specs.KeyOrder.{key_cmp_total, same_key_decides}
@@ -15,7 +15,6 @@ use Rattle.nb_table.specs.KeyCounts.{held_keys, of_source}
 use Rattle.nb_table.specs.Limits.{Limits, IsFull, IsFullSource}
 use Rattle.nb_member.specs.declared.settings.Settings.{Settings}
 use Rattle.nb_member.proofs.MemberLemmas.DroppedKeys.{get-lasting}
-use Rattle.nb_member.proofs.LiveLemmas.KeyCounts.{cases_bool}
 use Rattle.nb_member.proofs.LiveLemmas.LiveTables.{cores-append, cores-filter}
 use Rattle.nb_member.specs.Events.{clock, limits_of}
 use Rattle.nb_member.specs.Live.{Timed, cores, table_from, start_at, is_over, outlives, is_full, is_source_full, live_after}
@@ -109,7 +108,7 @@ source_room_is t l settings L k table limits none full =
 
 pub is_source_room : (t : Contents) (l : Limits) (settings : Settings) (L : List Timed) (k : Key) → t ≡ table_from L
     → l ≡ limits_of settings → maps.get t k ≡ None → (IsFullSource l t k → ⊥) → is_source_full settings L k ≡ false
-is_source_room t l settings L k table limits new room = elim (cases_bool (is_source_full settings L k)) [
+is_source_room t l settings L k table limits new room = elim (cases_Bool (is_source_full settings L k)) [
   | inr none ↦ none
   | inl full ↦ absurd (room (record { is_new = new; no_room = is_source_is t l settings L k table limits full }))
 ]

@@ -1,26 +1,27 @@
 -- Payloads for which a member's table has no room.
-use Rattle.std.proofs.Common.{◌≡◌, ℕ, inl, inr, true, List, refl, sym, ap, subst, ◌∙◌, Option, Some, None}
-use Rattle.std.specs.Prelude.{MatchOption}
-use Rattle.std.proofs.lemmas.Bool.{false≢true}
+use Rattle.std.proofs.Common.{◌≡◌, ◌≢◌, ℕ, inl, inr, true, List, refl, sym, ap, subst, arith, ◌∙◌, Option, Some, None}
+use Rattle.std.specs.Prelude.{MatchOption, IfSome}
+use Rattle.std.proofs.lemmas.Bool.{cases_Bool, false≢true}
 use Rattle.nb_datagram.specs.declared.key.Key.{Key}
 use Rattle.nb_datagram.specs.declared.packet.Packet.TheVariants.{Direct}
 use Rattle.nb_datagram.specs.Fragment.{FragmentParts}
 use Rattle.nb_datagram.specs.Packet.{IsPacket}
-use Rattle.nb_table.specs.Insert.{Passes}
+use Rattle.nb_table.specs.declared.fault.TableFault.{TableFault}
+use Rattle.nb_table.specs.declared.fault.TableFault.TheVariants as table_fault
+use Rattle.nb_table.specs.Insert.{Passes, Takes as TableTakes, Refuses}
 use Rattle.nb_table.specs.Limits.{Limits}
 use Rattle.nb_member.specs.declared.event.Event.TheVariants.{Packet}
 use Rattle.nb_member.specs.declared.settings.Settings.{Settings}
 use Rattle.nb_member.specs.Events as saying
 use Rattle.nb_member.proofs.EventLemmas.OneSaying.{SaysOf, of_fragment, of_invalid, of_fault, of_error, of_query, says_by}
 use Rattle.nb_member.proofs.MemberLemmas.LiveAfter.{full_is, source_full_is, is_full_is, is_source_full_is, source_room_is, is_source_room}
-use Rattle.nb_member.proofs.LiveLemmas.KeyCounts.{cases_bool}
 use Rattle.nb_member.proofs.TakingLemmas.Payloads.{valid_is}
 use Rattle.nb_member.specs.Events.{Saying, came, limits_of, Says}
 use Rattle.nb_member.specs.Live.{Timed, HasRoom, is_full, is_source_full}
 use Rattle.nb_member.specs.Member.{MemberValue, contents, StandsOver}
 use Rattle.nb_member.specs.Code.RunEvents.{stop_of}
 use Rattle.nb_member.specs.Running.{MeetsLimit, StopsAt}
-use Rattle.nb_member.specs.Code.Members.{IsFullAs, MeetsFull, BeginsFull}
+use Rattle.nb_member.specs.Code.Members.{IsFullAs, MeetsFull, BeginsFull, limit_of}
 use Rattle.nb_member.specs.declared.run_report.RunStop.{RunStop}
 use Rattle.nb_member.specs.declared.run_report.RunStop.TheVariants.{Full, FullSource, NoMemory}
 
@@ -52,7 +53,7 @@ meets_limit m L moment payload stop s b =
 
 -- and the other way round
 as_full : (m : MemberValue) (L : List Timed) (k : Key) → StandsOver m L → is_full m.settings L k ≡ true → (stop : RunStop) × IsFullAs m k stop
-as_full m L k s full = elim (cases_bool (is_source_full m.settings L k)) [
+as_full m L k s full = elim (cases_Bool (is_source_full m.settings L k)) [
   | inl source ↦ (FullSource k, (refl, is_source_full_is (contents m) m.timed.table.limits m.settings L k s.table_is s.limits_are full source))
   | inr none ↦ (
     Full k,
@@ -83,6 +84,26 @@ begins_full : (m : MemberValue) (L : List Timed) (moment : ℕ) (payload : List 
     → MeetsLimit m.settings L (Packet moment payload) k → (stop : RunStop) × BeginsFull m payload stop
 begins_full m L moment payload k s h =
     begins_of m L moment h.moment payload h.f k s (says_by m.settings (Packet moment payload) (came h.moment h.f) h.says) h.key h.full
+
+-- a fragment meets the limit for which the table refuses it
+met_none : (m : MemberValue) (f : FragmentParts) → TableTakes m.timed.table f → (stop : RunStop) → ¬ MeetsFull m f stop
+met_none m f takes (FullSource k) h = let full = h.full in takes.source_room full.1
+met_none m f takes (Full k) h = let full = h.full in takes.room full.1
+met_none m f takes NoMemory h = h.full
+
+pub met_by : (m : MemberValue) (f : FragmentParts) (refusal : Option TableFault)
+    → MatchOption refusal (TableTakes m.timed.table f) (Refuses m.timed.table f)
+    → IfSome refusal (λ why. why ≢ table_fault.NoMemory)
+    → MatchOption (limit_of refusal) ((stop : RunStop) → ¬ MeetsFull m f stop) (MeetsFull m f)
+met_by m f None takes some = met_none m f takes
+met_by m f (Some table_fault.MisplacedFirst) refuses some = λ stop h. refuses h.passes.placed
+met_by m f (Some table_fault.TooLong) refuses some = λ stop h.
+    let past = refuses.1 in
+    let short = h.passes.short in
+    absurd (omega (arith, past, short))
+met_by m f (Some (table_fault.FullSource k)) refuses some = record { passes = refuses.0; full = refuses.1 }
+met_by m f (Some (table_fault.Full k)) refuses some = record { passes = refuses.0; full = refuses.1 }
+met_by m f (Some table_fault.NoMemory) refuses some = absurd (some refl)
 
 -- a payload begins with one fragment
 pub begins_by : (m : MemberValue) (payload : List ℕ) (f : FragmentParts) (used : ℕ) (met : Option RunStop)

@@ -1,5 +1,6 @@
 -- A member that stands for fragments does what its events say.
 use Rattle.std.proofs.Common.{◌≡◌, ◌∙◌, ℕ, Bool, true, false, cond, List, [], ◌∷◌, ◌++◌, refl, sym, ap, arith, subst, inl, inr, Result, Ok, Err}
+use Rattle.std.proofs.lemmas.Bool.{cases_Bool}
 use Rattle.nb_datagram.specs.declared.key.Key.{Key}
 use Rattle.nb_datagram.specs.declared.packet.Packet.TheVariants.{Direct}
 use Rattle.nb_datagram.specs.Fragment.{FragmentParts, Core}
@@ -17,7 +18,6 @@ use Rattle.nb_member.specs.declared.outcome.Outcome.{Outcome}
 use Rattle.nb_member.specs.declared.settings.Settings.{Settings}
 use Rattle.nb_member.specs.Events as saying
 use Rattle.nb_member.specs.Taking as taking
-use Rattle.nb_member.proofs.LiveLemmas.KeyCounts.{cases_bool}
 use Rattle.nb_member.proofs.EventLemmas.OneSaying.{PacketsKnown, one_saying}
 use Rattle.nb_member.proofs.MemberLemmas.LiveAfter.{full_is, source_full_is, is_full_is, is_source_full_is, is_source_room, stands_more}
 use Rattle.nb_member.specs.Taking.{Answers, Does, IsTaken, TakesFragment, Takes}
@@ -58,9 +58,9 @@ live_same settings L moment f full =
 has_room : (m : MemberValue) (L : List Timed) (f : FragmentParts) → StandsOver m L → (IsFullSource m.timed.table.limits (contents m) f.key → ⊥)
     → (IsFull m.timed.table.limits (contents m) f.key → ⊥) → is_full m.settings L f.key ≡ false
 has_room m L f s not_source not_full =
-    elim (cases_bool (is_full m.settings L f.key)) [
+    elim (cases_Bool (is_full m.settings L f.key)) [
       | inr room ↦ room
-      | inl full ↦ elim (cases_bool (is_source_full m.settings L f.key)) [
+      | inl full ↦ elim (cases_Bool (is_source_full m.settings L f.key)) [
         | inl source ↦ absurd (not_source (is_source_full_is (contents m) m.timed.table.limits m.settings L f.key s.table_is s.limits_are full source))
         | inr none ↦ absurd (not_full (is_full_is (contents m) m.timed.table.limits m.settings L f.key s.table_is s.limits_are full none))
       ]

@@ -1,12 +1,14 @@
 -- How a member is kept, what no call changes of it, and how it finds a payload for whose key there is no room
 -- (our choice).
-use Rattle.std.specs.Prelude.{ℕ, List, refl, ◌≡◌}
+use Rattle.std.specs.Prelude.{ℕ, List, refl, ◌≡◌, Option, Some, None}
 use Rattle.std.specs.Coded.{Coded, code_by, coded×, coded_ℕ, coded_list}
 use Rattle.nb_names.specs.Name.{NetbiosName, name_code}
 use Rattle.nb_datagram.specs.declared.key.Key.{Key}
 use Rattle.nb_datagram.specs.declared.packet.Packet.TheVariants.{Direct}
 use Rattle.nb_datagram.specs.Fragment.{FragmentParts}
 use Rattle.nb_datagram.specs.Packet.{IsPacket}
+use Rattle.nb_table.specs.declared.fault.TableFault.{TableFault}
+use Rattle.nb_table.specs.declared.fault.TableFault.TheVariants as table_fault
 use Rattle.nb_table.specs.Limits.{IsFull, IsFullSource}
 use Rattle.nb_table.specs.Insert.{Passes}
 use Rattle.nb_member.specs.declared.run_report.RunStop.{RunStop}
@@ -55,3 +57,12 @@ pub record BeginsFull (m : MemberValue) (payload : List ℕ) (stop : RunStop) : 
   pub used : ℕ
   pub found : IsPacket payload (Direct f) used
   pub meets : MeetsFull m f stop
+
+-- limit_of refusal: the limit on keys for which a table refuses a fragment, if it refuses it for one
+abbrev pub limit_of : Option TableFault → Option RunStop
+limit_of None = None
+limit_of (Some table_fault.MisplacedFirst) = None
+limit_of (Some table_fault.TooLong) = None
+limit_of (Some (table_fault.FullSource k)) = Some (FullSource k)
+limit_of (Some (table_fault.Full k)) = Some (Full k)
+limit_of (Some table_fault.NoMemory) = None

@@ -31,6 +31,7 @@ use std::alloc::Global;
 pub fn answer(alloc: Global, call: &str, words: &mut Words<'_>) -> Result<String, ExampleFault> {
     match call {
         "insert" => inserting::inserts(alloc, words),
+        "refusals" => inserting::refusals(alloc, words),
         "known" => reading::known(alloc, words),
         "states" => reading::compared_states(alloc, words),
         "ranges" => reading::ranges(alloc, words),

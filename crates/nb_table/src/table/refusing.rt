@@ -15,7 +15,8 @@ impl Table {
     /// offset other than 0, or doesn't say so at offset 0; `TooLong` where it reaches past the
     /// longest datagram, whatever is known of its key; `FullSource` with its key where that is new
     /// and as many keys of its address are held as may be; `Full` with it where it is new and as
-    /// many keys are held as may be in all. There is no other (our choice).
+    /// many keys are held as may be in all. There is no other (our choice). Where a key of any
+    /// address has room, none is looked for.
     pub fn refusal_of(&self, fragment: &Fragment<'_>) -> Option<TableFault>
         ensures refusal { MatchOption result (Takes self.now fragment.now)
             (Refuses self.now fragment.now) }
@@ -26,6 +27,9 @@ impl Table {
         }
         if fragment.reach() > u32::from(self.longest) {
             return Some(TableFault::TooLong);
+        }
+        if self.entries.len() < self.keys.min(self.per_source) as usize {
+            return None;
         }
         let key = fragment.key();
         if self.entries.contains_key(&key) {

@@ -11,6 +11,7 @@ use Rattle.nb_table.specs.KeyCounts.{held_keys, of_source}
 use Rattle.nb_table.specs.Insert.{Passes}
 use Rattle.nb_datagram.specs.KeyOrder.{key_cmp_total, key_cmp_exact}
 use Rattle.nb_table.specs.Shared.TreeLemmas.{get_is, len_is}
+use Rattle.nb_table.proofs.Limits.GroupLemmas.{held_at_most}
 use Rattle.nb_table.proofs.Changes.InsertLemmas.{same_test}
 use Rattle.nb_table.proofs.table.Table.refusal_of.Goals as goal
 
@@ -35,6 +36,24 @@ source_full l t k q none same most = record {
 
 source_free : (l : Limits) (t : Contents) (k q : Key) → k ≡ q → (l.per_source ≤ held_keys (of_source k.ip) t → ⊥) → IsFullSource l t q → ⊥
 source_free l t k q same fewer full = fewer (subst (λ (x : Key). l.per_source ≤ held_keys (of_source x.ip) t) (sym same) full.no_room)
+
+pub returns-then-len-min-clause-refusal : goal.returns-then-len-min-clause-refusal
+returns-then-len-min-clause-refusal c =
+    let m = c.self.inside.entries in
+    let f = c.args.fragment.now in
+    let t : Contents = maps.from_entries {R = key_cmp} m.entries in
+    let l : Limits = record { keys = c.self.inside.keys; per_source = c.self.inside.per_source; longest = c.self.inside.longest } in
+    let passes = passes_by l f _ _ _ _ c.is_first.ensures c.offset.ensures c.reach.ensures c.from.ensures c.if-is_first-offset.false c.if-reach-from.false in
+    let size = len_is key_cmp_total key_cmp_exact m c.len.ensures.ordered in
+    let count = c.len.ensures.len in
+    let least = c.min.ensures in
+    let fewer = c.if-len-min.true in
+    let few = held_at_most (of_source f.key.ip) t in
+    rw (← c.self.view_is) (record {
+      passes = passes;
+      source_room = λ full. (let many = full.no_room in omega (arith, count, size, least, fewer, few, many));
+      room = λ full. (let many = full.no_room in omega (arith, count, size, least, fewer, many));
+    })
 
 pub returns-then-contains_key-clause-refusal : goal.returns-then-contains_key-clause-refusal
 returns-then-contains_key-clause-refusal c =

@@ -149,7 +149,8 @@ impl Table {
     pub fn run_count(&self, key: &Key) -> Option<u32>
         ensures { result ≡ run_count_at self.now.contents key.now }
     {
-        // The entry's bytes lie below the limit, which is a number of its type.
+        // For the proof alone: a limit that is read is a number of its type, and the entry's bytes
+        // lie below it.
         let _longest = self.longest;
         match self.entries.get(key) {
             Some(entry) => entry.run_count(),

@@ -16,7 +16,8 @@ impl Table {
     pub fn outline(&self, key: &Key) -> Option<Outline>
         ensures { result ≡ outline_at self.now.contents key.now }
     {
-        // The entry's bytes lie below the limit, which is a number of its type.
+        // For the proof alone: a limit that is read is a number of its type, and the entry's bytes
+        // lie below it.
         let _longest = self.longest;
         match self.entries.get(key) {
             Some(entry) => entry.outline(),
@@ -30,7 +31,8 @@ impl Table {
     pub fn ranges(&self, key: &Key) -> Ranges<'_>
         ensures { result ≡ ranges_at self.now.contents key.now }
     {
-        // The entry's bytes lie below the limit, which is a number of its type.
+        // For the proof alone: a limit that is read is a number of its type, and the entry's bytes
+        // lie below it.
         let _longest = self.longest;
         match self.entries.get(key) {
             Some(entry) => entry.ranges(),
@@ -49,7 +51,8 @@ impl Table {
         ensures no_memory_needed { datagram_at self.now.contents key.now ≡ None
             → result ≡ Ok None }
     {
-        // The entry's bytes lie below the limit, which is a number of its type.
+        // For the proof alone: a limit that is read is a number of its type, and the entry's bytes
+        // lie below it.
         let _longest = self.longest;
         match self.entries.get(key) {
             Some(entry) => entry.datagram_of(self.alloc, *key),

@@ -28,7 +28,8 @@ impl Table {
         // The bytes are read as this table, and so as no other.
         ensures read_again { IfOk result (λ bytes. IsReadAs bytes self.now.contents) }
     {
-        // For the clauses `fits` and `read_again`: the limits are numbers of their types.
+        // For the proof of `fits` and `read_again` alone: limits that are read are numbers of their
+        // types.
         let _keys = self.keys;
         let _longest = self.longest;
         let saved = save_entries(self.alloc, &self.entries)?;

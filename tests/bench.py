@@ -9,81 +9,42 @@ import os
 import random
 import re
 import shutil
-import struct
 import subprocess
 import sys
 import tempfile
 import time
 
+sys.dont_write_bytecode = True
+sys.path.insert(1, f'{sys.path[0]}/lib')
+from bench_captures import MOST_IN_A_CAPTURE, descending, office, one_address, shuffled, unfragmented
+
 HERE = os.path.dirname(os.path.abspath(__file__))
 PROGRAM = os.path.join(HERE, '..', 'crates', 'nbt', 'out', 'nbt')
-MOST_IN_A_CAPTURE = 16_777_216
+REPLAY, SHOW, SAVE, MERGE = ['replay', 'FRED<20>'], ['show'], ['save', '--keys', '65535'], ['merge', '--keys', '65535']
+# How many keys one address may have in a table of 65,535, in the last rows.
+LIMITS = (64, 1_000, 10_000)
 
 
-def first_level(text, suffix):
-    """A name as it stands in a packet, without a scope."""
-    data = text.ljust(15).encode() + bytes([suffix])
-    letters = bytes(ord('A') + half for byte in data for half in (byte >> 4, byte & 15))
-    return bytes([len(letters)]) + letters + b'\0'
-
-
-JOE, FRED = first_level('JOE', 0x00), first_level('FRED', 0x20)
-
-
-def packet(address, identifier, flags, offset, data):
-    """A group datagram's packet from JOE<00> to FRED<20>."""
-    length = len(JOE) + len(FRED) + len(data)
-    header = struct.pack('>BBH4sHHH', 0x11, flags, identifier, address, 138, length, offset)
-    return header + JOE + FRED + data
-
-
-def pieces(address, identifier, data, most):
-    """The packets of a datagram, cut into pieces of at most this many bytes."""
-    starts = range(0, max(len(data), 1), most)
-    return [packet(address, identifier, 2 * (start == 0) + (start != starts[-1]), start, data[start:start + most])
-            for start in starts]
-
-
-def line(moment, payload):
-    return b'138 %d %s\n' % (moment, payload.hex().encode())
-
-
-def unfragmented(rng):
-    """25,000 datagrams of up to 299 bytes in one packet each, and a tick each second."""
-    for i in range(25_000):
-        if i % 250 == 0:
-            yield b'tick %d\n' % (i * 4)
-        address = bytes([10, 0, i % 5, 1 + i % 200])
-        yield line(i * 4, packet(address, i % 65_536, 2, 0, rng.randbytes(rng.randrange(300))))
-
-
-def shuffled(rng, datagrams, size, most):
-    """Datagrams of this size, cut, with all their pieces shuffled together."""
-    lines = [line(0, piece) for i in range(datagrams) for piece in pieces(bytes([10, 0, 0, 5]), i, rng.randbytes(size), most)]
-    rng.shuffle(lines)
-    return lines
-
-
-def descending(rng, size):
-    """One datagram in pieces of a byte, the last one first."""
-    return [line(0, piece) for piece in reversed(pieces(bytes([10, 0, 0, 5]), 1, rng.randbytes(size), 1))]
+def written(folder, title, lines):
+    """The file of a capture, and its number of packets."""
+    lines = list(lines)
+    path = os.path.join(folder, title)
+    with open(path, 'wb') as capture:
+        capture.writelines(lines)
+    assert os.path.getsize(path) <= MOST_IN_A_CAPTURE
+    return path, sum(each.startswith(b'13') for each in lines)
 
 
 def workloads(folder):
-    """Writes the captures, and yields each one's title, file and number of packets."""
+    """Writes captures of fragments, and yields each one's title, file and number of packets."""
     rng = random.Random(139)
-    made = (('25,000 unfragmented', unfragmented(rng)),
+    made = (('25,000 unfragmented', unfragmented(rng, 25_000)),
             ('1,000 of 64 pieces, shuffled', shuffled(rng, 1_000, 2_048, 32)),
             ('65,467 pieces of a byte, shuffled', shuffled(rng, 1, 65_467, 1)),
             ('65,467 pieces of a byte, descending', descending(rng, 65_467)),
             ('100 of 163 pieces, shuffled', shuffled(rng, 100, 65_000, 400)))
-    for number, (title, lines) in enumerate(made):
-        lines = list(lines)
-        path = os.path.join(folder, 'capture%d' % number)
-        with open(path, 'wb') as capture:
-            capture.writelines(lines)
-        assert os.path.getsize(path) <= MOST_IN_A_CAPTURE
-        yield title, path, sum(each.startswith(b'138') for each in lines)
+    for title, lines in made:
+        yield title, *written(folder, title, lines)
 
 
 def saved_parts(program, folder, path):
@@ -150,17 +111,37 @@ def growth(program, folder):
     print('a piece of one byte among 1,000, 4,000, 16,000 and 64,000: %s instructions' % ', '.join(costs))
 
 
+def fragments(program, folder):
+    """The rows of captures of fragments, for each command."""
+    for title, path, packets in workloads(folder):
+        for words in (REPLAY, SHOW, SAVE):
+            measure([program] + words, title, path, packets)
+        saved = saved_parts(program, folder, path)
+        if os.path.getsize(saved) <= MOST_IN_A_CAPTURE:
+            measure([program] + MERGE, title, saved, packets)
+
+
+def stations(program, folder):
+    """The rows of what an office's stations send to each port."""
+    for port, count in ((137, 50_000), (138, 40_000), (139, 40_000)):
+        title = f'an office, port {port}'
+        measure([program] + SHOW, title, *written(folder, title, office(port, count)))
+
+
+def flood(program, folder):
+    """The rows of one address's keys, which are limited to fewer than all."""
+    path, packets = written(folder, 'one address', one_address(60_000))
+    for most in LIMITS:
+        words = ['replay', '--keys', '65535', '--per-source', str(most), 'FRED<20>']
+        measure([program] + words, f'one address, {most:,} keys of it', path, packets)
+
+
 def main():
     program = sys.argv[1] if len(sys.argv) > 1 else PROGRAM
     print('%-7s %-36s %8s %12s %9s' % ('command', 'workload', 'a packet', 'packets a s', 'peak kB'))
     with tempfile.TemporaryDirectory() as folder:
-        for title, path, packets in workloads(folder):
-            for words in (['replay', 'FRED<20>'], ['show'], ['save', '--keys', '65535']):
-                measure([program] + words, title, path, packets)
-            saved = saved_parts(program, folder, path)
-            if os.path.getsize(saved) <= MOST_IN_A_CAPTURE:
-                measure([program, 'merge', '--keys', '65535'], title, saved, packets)
-        growth(program, folder)
+        for rows in (fragments, stations, flood, growth):
+            rows(program, folder)
 
 
 if __name__ == '__main__':

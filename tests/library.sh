@@ -84,9 +84,9 @@ worst() {
     count $? "tests/lib/library.c, $1, prints what nbt show prints: $(diff "$2.wanted" "$room/output" | head -c 300)"
 }
 
-# lines COUNT SEED: payloads, and what `nbt show` prints of them.
+# lines COUNT SEED [LONGEST]: payloads, of so many bytes at most, and what `nbt show` prints of them.
 lines() {
-    "$here/lib/library_payloads.py" --seed "$2" "$1" >"$room/lines$2"
+    "$here/lib/library_payloads.py" --seed "$2" ${3:+--longest "$3"} "$1" >"$room/lines$2"
     sed 's/ / 0 /' "$room/lines$2" | ended "$program" show --input-limit 4294967296 >"$room/lines$2.wanted"
     [ $? -eq 0 ] && [ "$(grep -cE '^[0-9]+ 13[789] ' "$room/lines$2.wanted")" -eq "$1" ]
     count $? "$1 payloads of tests/lib/library_payloads.py, and nbt show of each"
@@ -101,10 +101,11 @@ callers() {
 }
 
 # Each request of the library for memory refused in turn: the call says so, changes nothing, and then does what it should.
+# Every one is a run over all the payloads, so none is long.
 refused() {
     local each
     [ -f "$room/plain" ] || compiled plain
-    lines 30 2
+    lines 30 2 1000
     requests "$room/plain" 2 <"$room/lines2" >"$room/output" 2>"$room/errors"
     count $? "requests for memory are counted: $number"
     for ((each = 1; each <= number; each++)); do

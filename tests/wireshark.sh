@@ -265,7 +265,7 @@ EOF
     count $? 'cap2pcap, its reader ends'
 
     # An hour of datagrams, one each second, through a pipe at once: each is delivered, and a tick drops its key.
-    nbt build group 10.0.0.5:138/0001 'JOE<00>' 'FRED<20>' 6869 | awk '{ for (i = 0; i < 3600; i++)
+    nbt build group 10.0.0.5:138/0001 'JOE<00>' 'FRED<20>' 6869 2 | awk '{ for (i = 0; i < 3600; i++)
         printf "138 %d %s%04x%s\n", 1000 * i, substr($3, 1, 4), i, substr($3, 9) }' | cap2pcap >"$room/hour.pcap"
     cat "$room/hour.pcap" | pcap2cap --quiet - | nbt replay 'FRED<20>' >"$room/output" 2>"$room/errors"
     [ "${PIPESTATUS[*]}" = '0 0 0' ] && [ "$(awk '{ said[$2]++ } $2 == "dropped" { keys += $3 } END { print said["delivered"], keys }' \

@@ -1,7 +1,8 @@
 #!/usr/bin/env python3
 """Payloads for tests/lib/library.c, good and changed, a line each: a port and digits, or `empty`.
 
-Usage: tests/lib/library_payloads.py [--seed N] COUNT. They are made as those of tests/fuzz.py are.
+Usage: tests/lib/library_payloads.py [--seed N] [--longest BYTES] COUNT. They are made as those of tests/fuzz.py are;
+longer ones than --longest are left out.
 """
 import argparse
 import random
@@ -12,11 +13,16 @@ LONGEST = 131_000
 
 parser = argparse.ArgumentParser()
 parser.add_argument('--seed', type=int, default=1)
+parser.add_argument('--longest', type=int, default=LONGEST)
 parser.add_argument('count', type=int)
 words = parser.parse_args()
 rng = random.Random(words.seed)
 maker = Maker(rng, list(example_bytes()), list(capture_lines()))
-for _ in range(words.count):
+printed = 0
+while printed < words.count:
     payload = maker.payload()[:LONGEST]
+    if len(payload) > words.longest:
+        continue
+    printed += 1
     port = rng.choice((137, 138, 139)) if rng.random() < 0.2 else likely_port(payload)
     print(port, payload.hex() or 'empty')

@@ -10,8 +10,8 @@ use nb_names::NoMemory;
 use nb_table::{Cover, Entry, Join};
 use std::alloc::Global;
 
-/// Values that are made of a fragment. What else is asked of them stands at each function, since the
-/// kit takes no supertrait here that [`nb_table::Slot`] has for any facts.
+/// Values that are made of a fragment. What else is asked of them stands at each function: the kit
+/// takes no supertrait here that [`nb_table::Slot`] has for any facts.
 pub trait Said {
     /// What a fragment says.
     fn of_fragment(alloc: Global, fragment: &Fragment<'_>) -> Result<Self, NoMemory>;

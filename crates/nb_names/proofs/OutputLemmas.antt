@@ -2,14 +2,14 @@
 use Rattle.std.proofs.Common.{◌≡◌, ◌≤◌, ◌+◌, ◌-◌, ◌++◌, ℕ, List, [], length, take, drop, Option, refl, sym, subst, arith, ap}
 use Rattle.std.specs.Io.KnownBytes.{Appends, Keeps}
 use Rattle.std.proofs.lemmas.Grind.{flat_map-append}
-use Rattle.std.proofs.lemmas.List.{append_assoc, length-append, take_all, take-append-drop, take-append-le, length-drop}
-use Rattle.std.proofs.Math.Seq.{take-add, take-append-add}
+use Rattle.std.proofs.lemmas.List.{append_assoc, take_all, take-append-drop, length-drop}
+use Rattle.std.proofs.Math.Seq.{take-add}
 use Rattle.nb_names.specs.declared.limits.TheConstants.{MAX_INTERRUPTS}
 use Rattle.nb_names.specs.Counted.{Counts}
 use Rattle.nb_names.specs.Devices.{AppendsFront, GrowTo}
 use Rattle.nb_names.specs.Hexadecimal.{digits_text}
 use Rattle.nb_names.specs.NameText.{digits_of}
-pub use Rattle.nb_names.specs.DeviceFacts.{Keeps-same, Keeps-kept, Keeps-appends, Appends-nil, Appends-more, Appends-kept, fails_from, fails_still, grows_on}
+pub use Rattle.nb_names.specs.DeviceFacts.{Keeps-same, Keeps-kept, Keeps-appends, Appends-nil, Appends-more, Appends-kept, front_wider, front_after, fails_from, fails_still, grows_on}
 
 -- so many calls were interrupted, and nothing else came of them
 pub record IsWaiting (before now : Option (List ℕ)) (old new : Counts) (interrupts : ℕ) : Type 0 where
@@ -38,17 +38,6 @@ wrote_more before mid_known now old mid new bytes written n w m took g =
       appends = rw (take-add written n bytes, ← part) (Appends-more before mid_known now _ _ w.appends took);
       grow = grows_on old mid new w.grow g;
     }
-
--- a front of some bytes is one of those bytes and more
-pub front_wider : (before now : Option (List ℕ)) (xs ys : List ℕ) → AppendsFront before now xs → AppendsFront before now (xs ++ ys)
-front_wider before now xs ys (count, within, appends) =
-    (count, omega (arith, within, length-append xs ys), subst (Appends before now) (sym (take-append-le count xs ys within)) appends)
-
--- bytes, and then a front of others
-pub front_after : (before mid now : Option (List ℕ)) (xs ys : List ℕ) → Appends before mid xs → AppendsFront mid now ys → AppendsFront before now (xs ++ ys)
-front_after before mid now xs ys whole (count, within, appends) =
-    (length xs + count, omega (arith, within, length-append xs ys),
-      subst (Appends before now) (sym (take-append-add xs ys count)) (Appends-more before mid now xs (take count ys) whole appends))
 
 -- the digits of all but the rest of the bytes are written
 pub record IsWritingDigits (before now : Option (List ℕ)) (old new : Counts) (bytes rest : List ℕ) : Type 0 where

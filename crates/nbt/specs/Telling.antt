@@ -9,7 +9,7 @@ use Rattle.nbt.specs.Showing.{ShowsLine}
 
 -- told_text teller: with which comments the text is told, or nothing, where JSON is
 abbrev pub told_text : Teller → Option Comments
-told_text (Text comments) = Some comments
+told_text (Text comments text) = Some comments
 told_text (Json json) = None
 
 -- TellsLine told n l text: the text is told of l, which is line n of a capture: that of `nbt show` with these comments, or

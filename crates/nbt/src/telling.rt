@@ -19,13 +19,13 @@ use std::io::{Read, Write};
 /// Who tells of the lines of a capture, one after the other.
 #[derive(Drop)]
 pub enum Teller {
-    /// In the text of `nbt show`.
-    Text(Comments),
+    /// In the text of `nbt show`, with these comments. Each line is made in the same string.
+    Text(Comments, String),
     /// In JSON.
     Json(JsonTeller),
 }
 
-/// Prints what is told of an input of so many bytes at most, each line as it comes.
+/// Prints the lines of an input of so many bytes at most, each as it comes.
 ///
 /// # Errors
 ///
@@ -64,7 +64,7 @@ pub fn print_capture<R: Read, W: Write>(
     }
 }
 
-/// Prints what is told of one line, whole or not at all.
+/// Prints one line, whole or not at all.
 fn print_line<W: Write>(
     alloc: Global,
     number: usize,
@@ -86,7 +86,7 @@ fn print_line<W: Write>(
     print_said(alloc, number, line, &said, teller, output)
 }
 
-/// Prints what is told of a line that says this, whole or not at all.
+/// Prints a line that says this, whole or not at all.
 fn print_said<W: Write>(
     alloc: Global,
     number: usize,
@@ -107,7 +107,9 @@ fn print_said<W: Write>(
         ShowsWriteFault output.old.counts output.new.counts) }
 {
     match teller {
-        Teller::Text(comments) => show_said(alloc, number, line, said, *comments, output),
+        Teller::Text(comments, text) => {
+            show_said(alloc, number, line, said, *comments, text, output)
+        }
         Teller::Json(json) => print_object(alloc, number, line, said, json, output),
     }
 }

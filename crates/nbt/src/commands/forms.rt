@@ -95,7 +95,7 @@ fn replay_in_json<R: Read, W: Write>(
     tell_in_json(alloc, matches, told, input, output)
 }
 
-/// Prints an object for each line of the input of which something is told.
+/// Prints an object for each line of the input that says something.
 fn tell_in_json<R: Read, W: Write>(
     alloc: Global,
     matches: &ArgMatches<'_>,

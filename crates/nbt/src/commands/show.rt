@@ -44,11 +44,12 @@ pub fn run_show<R: Read, W: Write>(
         ShowsWriteFault output.old.counts output.new.counts) }
 {
     let options = options_of(matches);
-    let mut teller = Teller::Text(options.comments);
+    let mut teller = Teller::Text(options.comments, String::new(alloc));
     print_capture(alloc, options.most, &mut teller, input, output)
 }
 
-/// Shows what a line says, or its comment, whole or not at all.
+/// Shows what a line says, or its comment, whole or not at all. Its text takes the place of what
+/// `text` held.
 ///
 /// # Errors
 ///
@@ -59,11 +60,12 @@ pub fn show_said<W: Write>(
     line: &[u8],
     said: &Option<Line>,
     comments: Comments,
+    text: &mut String,
     output: &mut Output<W>,
 ) -> Result<(), Fault>
-    ensures shown { OnOk result ((text : List ℕ) ×
-        ShowsSaid comments number line.now said.now text ×
-        Appends (W.contents output.old.inner) (W.contents output.new.inner) text) }
+    ensures shown { OnOk result ((shown : List ℕ) ×
+        ShowsSaid comments number line.now said.now shown ×
+        Appends (W.contents output.old.inner) (W.contents output.new.inner) shown) }
     ensures fault { IfErr result (λ fault. Reads line.now (Ok said.now) →
         IsUnshown (ShowsLine comments) number line.now
         (W.contents output.old.inner) (W.contents output.new.inner) fault) }
@@ -71,8 +73,8 @@ pub fn show_said<W: Write>(
     ensures why { IfErr result (λ fault. fault ≡ Fault.Write →
         ShowsWriteFault output.old.counts output.new.counts) }
 {
-    let mut text = String::new(alloc);
-    push_said(alloc, number, line, said, comments, &mut text)?;
+    text.clear();
+    push_said(alloc, number, line, said, comments, text)?;
     output.print(text.as_bytes())
 }
 

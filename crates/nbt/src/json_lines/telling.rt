@@ -1,4 +1,4 @@
-//! What is told of a line of a capture, as JSON.
+//! The object of a line of a capture, as JSON.
 
 use crate::json_lines::told::{Told, push_told};
 use crate::json_lines::writing::JsonLine;
@@ -25,7 +25,7 @@ impl JsonTeller {
         }
     }
 
-    /// The object of a line that says this, or nothing where none is told of it.
+    /// The object of a line that says this, or nothing where none is printed of it.
     ///
     /// # Errors
     ///

@@ -1,4 +1,4 @@
-//! What is told of what a line of a capture says.
+//! The objects that `--json` prints of the lines of a capture: their kinds and fields.
 
 use crate::json_lines::reported::push_reported;
 use crate::json_lines::shown::push_shown;
@@ -10,7 +10,7 @@ use nb_table::TableFault;
 use nb_text::push_packet;
 use std::alloc::Global;
 
-/// What is told of the lines of a capture.
+/// Which objects are printed of the lines of a capture.
 #[derive(Drop)]
 pub enum Told {
     /// The packets.
@@ -19,7 +19,7 @@ pub enum Told {
     Report(Member),
 }
 
-/// Adds what is told of what a line says.
+/// Adds the object of what a line says.
 ///
 /// # Errors
 ///

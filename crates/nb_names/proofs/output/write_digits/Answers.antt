@@ -1,5 +1,4 @@
-use Rattle.std.proofs.Common.{Result, Ok, Err, OnErr}
-use Rattle.std.proofs.lemmas.Result.{err_from_is_err_and}
+use Rattle.std.proofs.lemmas.Result.{err_from_is_err_and, on_err_weaker}
 use Rattle.nb_names.proofs.OutputLemmas.{wrote_front, wrote_part, wrote_last_front}
 use Rattle.nb_names.proofs.output.write_digits.Goals as goal
 
@@ -13,11 +12,6 @@ parts-preserved g c =
     wrote_part _ _ _ _ _ _ _ _ _ _ 256 c.parts.invariant c.split_at.ensures.front c.split_at.ensures.back
     c.in_ok-write_part.ensures.written c.in_ok-write_part.ensures.grow
 
--- what follows of what an error leaves
-on_err : {T E A B : Type 0} (r : Result T E) → (A → B) → OnErr r A → OnErr r B
-on_err (Ok x) f h = tt
-on_err (Err e) f h = f h
-
 pub returns-clause-err : goal.returns-clause-err
 returns-clause-err g c =
-    on_err c.write_part-2.result (wrote_last_front _ _ _ _ _ _ _ c.parts.invariant) c.write_part-2.ensures.err
+    on_err_weaker c.write_part-2.result (wrote_last_front _ _ _ _ _ _ _ c.parts.invariant) c.write_part-2.ensures.err

@@ -1,12 +1,15 @@
 -- What writing some bytes, and all of them, keeps from turn to turn.
-use Rattle.std.proofs.Common.{◌≡◌, ◌≤◌, ◌+◌, ◌-◌, ℕ, List, length, take, drop, Option, arith, ap}
+use Rattle.std.proofs.Common.{◌≡◌, ◌≤◌, ◌+◌, ◌-◌, ◌++◌, ℕ, List, [], length, take, drop, Option, refl, sym, subst, arith, ap}
 use Rattle.std.specs.Io.KnownBytes.{Appends, Keeps}
-use Rattle.std.proofs.lemmas.List.{take_all, length-drop}
+use Rattle.std.proofs.lemmas.Grind.{flat_map-append}
+use Rattle.std.proofs.lemmas.List.{append_assoc, take_all, take-append-drop, length-drop}
 use Rattle.std.proofs.Math.Seq.{take-add}
 use Rattle.nb_names.specs.declared.limits.TheConstants.{MAX_INTERRUPTS}
 use Rattle.nb_names.specs.Counted.{Counts}
-use Rattle.nb_names.specs.Devices.{GrowTo}
-pub use Rattle.nb_names.specs.DeviceFacts.{Keeps-same, Keeps-kept, Keeps-appends, Appends-nil, Appends-more, Appends-kept, fails_from, fails_still, grows_on}
+use Rattle.nb_names.specs.Devices.{AppendsFront, GrowTo}
+use Rattle.nb_names.specs.Hexadecimal.{digits_text}
+use Rattle.nb_names.specs.NameText.{digits_of}
+pub use Rattle.nb_names.specs.DeviceFacts.{Keeps-same, Keeps-kept, Keeps-appends, Appends-nil, Appends-more, Appends-kept, front_wider, front_after, fails_from, fails_still, grows_on}
 
 -- so many calls were interrupted, and nothing else came of them
 pub record IsWaiting (before now : Option (List ℕ)) (old new : Counts) (interrupts : ℕ) : Type 0 where
@@ -35,3 +38,54 @@ wrote_more before mid_known now old mid new bytes written n w m took g =
       appends = rw (take-add written n bytes, ← part) (Appends-more before mid_known now _ _ w.appends took);
       grow = grows_on old mid new w.grow g;
     }
+
+-- the digits of all but the rest of the bytes are written
+pub record IsWritingDigits (before now : Option (List ℕ)) (old new : Counts) (bytes rest : List ℕ) : Type 0 where
+  pub written : List ℕ
+  pub whole : written ++ digits_text rest ≡ digits_text bytes
+  pub appends : Appends before now written
+  pub grow : GrowTo old new
+
+pub begun_digits : (known : Option (List ℕ)) (old : Counts) (bytes : List ℕ) → IsWritingDigits known known old old bytes bytes
+begun_digits known old bytes = record {
+  written = [];
+  whole = refl;
+  appends = Appends-nil known;
+  grow = record { empty = omega arith; interrupted = omega arith; failed = omega arith };
+}
+
+digits_split : (n : ℕ) (rest part behind : List ℕ) → part ≡ take n rest → behind ≡ drop n rest → digits_text part ++ digits_text behind ≡ digits_text rest
+digits_split n rest part behind front back =
+    rw (front, back, sym (flat_map-append digits_of (take n rest) (drop n rest))) (ap digits_text (take-append-drop n rest))
+
+-- a turn that wrote a part's digits
+pub wrote_part : (before mid_known now : Option (List ℕ)) (old mid new : Counts) (bytes rest part behind : List ℕ) (n : ℕ) →
+    IsWritingDigits before mid_known old mid bytes rest → part ≡ take n rest → behind ≡ drop n rest →
+    Appends mid_known now (digits_text part) → GrowTo mid new → IsWritingDigits before now old new bytes behind
+wrote_part before mid_known now old mid new bytes rest part behind n w front back took g = record {
+  written = w.written ++ digits_text part;
+  whole = rw (append_assoc w.written (digits_text part) (digits_text behind), digits_split n rest part behind front back) w.whole;
+  appends = Appends-more before mid_known now w.written (digits_text part) w.appends took;
+  grow = grows_on old mid new w.grow g;
+}
+
+-- a turn that wrote a front of a part's digits
+pub wrote_front : (before mid_known now : Option (List ℕ)) (old mid : Counts) (bytes rest part behind : List ℕ) (n : ℕ) →
+    IsWritingDigits before mid_known old mid bytes rest → part ≡ take n rest → behind ≡ drop n rest →
+    AppendsFront mid_known now (digits_text part) → AppendsFront before now (digits_text bytes)
+wrote_front before mid_known now old mid bytes rest part behind n w front back took =
+    let some = front_after before mid_known now w.written (digits_text part ++ digits_text behind) w.appends
+          (front_wider mid_known now (digits_text part) (digits_text behind) took) in
+    subst (AppendsFront before now) w.whole (subst (λ digits. AppendsFront before now (w.written ++ digits)) (digits_split n rest part behind front back) some)
+
+-- the last digits
+pub wrote_last : (before mid_known now : Option (List ℕ)) (old mid : Counts) (bytes rest : List ℕ) → IsWritingDigits before mid_known old mid bytes rest →
+    Appends mid_known now (digits_text rest) → Appends before now (digits_text bytes)
+wrote_last before mid_known now old mid bytes rest w took =
+    subst (Appends before now) w.whole (Appends-more before mid_known now w.written (digits_text rest) w.appends took)
+
+-- a front of the last digits
+pub wrote_last_front : (before mid_known now : Option (List ℕ)) (old mid : Counts) (bytes rest : List ℕ) → IsWritingDigits before mid_known old mid bytes rest →
+    AppendsFront mid_known now (digits_text rest) → AppendsFront before now (digits_text bytes)
+wrote_last_front before mid_known now old mid bytes rest w took =
+    subst (AppendsFront before now) w.whole (front_after before mid_known now w.written (digits_text rest) w.appends took)

@@ -1,10 +1,11 @@
 -- Lemmas on what calls of a reader or a writer, made one after another, do together, for proofs here and in the
 -- crates above.
-use Rattle.std.proofs.Common.{◌++◌, inl, inr, ℕ, List, [], Option, Some, None, refl, sym, ◌∙◌, ap, append_assoc, arith}
+use Rattle.std.proofs.Common.{◌+◌, ◌++◌, inl, inr, ℕ, List, [], Option, Some, None, length, take, refl, sym, subst, ◌∙◌, ap, append_assoc, arith}
 use Rattle.std.specs.Io.KnownBytes.{Appends, Consumes, Keeps}
-use Rattle.std.proofs.lemmas.List.{append-nil}
+use Rattle.std.proofs.Math.Seq.{take-append-add}
+use Rattle.std.proofs.lemmas.List.{append-nil, length-append, take-append-le}
 use Rattle.nb_names.specs.Counted.{Counts}
-use Rattle.nb_names.specs.Devices.{GrowTo, ShowsReadFault, ShowsWriteFault}
+use Rattle.nb_names.specs.Devices.{AppendsFront, GrowTo, ShowsReadFault, ShowsWriteFault}
 
 -- ---- bytes
 
@@ -61,6 +62,17 @@ Consumes-kept None b c xs p q = tt
 Consumes-kept (Some a) None c xs p q = absurd p
 Consumes-kept (Some a) (Some b) None xs p q = absurd q
 Consumes-kept (Some a) (Some b) (Some c) xs p q = p ∙ ap (λ r. xs ++ r) (sym q)
+
+-- a front of some bytes is one of those bytes and more
+pub front_wider : (before now : Option (List ℕ)) (xs ys : List ℕ) → AppendsFront before now xs → AppendsFront before now (xs ++ ys)
+front_wider before now xs ys (count, within, appends) =
+    (count, omega (arith, within, length-append xs ys), subst (Appends before now) (sym (take-append-le count xs ys within)) appends)
+
+-- bytes, and then a front of others
+pub front_after : (before mid now : Option (List ℕ)) (xs ys : List ℕ) → Appends before mid xs → AppendsFront mid now ys → AppendsFront before now (xs ++ ys)
+front_after before mid now xs ys whole (count, within, appends) =
+    (length xs + count, omega (arith, within, length-append xs ys),
+      subst (Appends before now) (sym (take-append-add xs ys count)) (Appends-more before mid now xs (take count ys) whole appends))
 
 -- ---- counts
 

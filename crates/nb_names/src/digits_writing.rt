@@ -52,7 +52,8 @@ pub fn push_data(bytes: &[u8], text: &mut String) -> Result<(), NoMemory>
 pub fn push_word(number: u16, text: &mut String) -> Result<(), NoMemory>
     ensures { OnOk result (string_bytes text.new ≡ string_bytes text.old ++ word_text number) }
 {
-    push_digits(&number.to_be_bytes(), text)
+    let mut room = [0; 4];
+    push_by(&number.to_be_bytes(), &mut room, text)
 }
 
 /// Adds the digits of a few bytes.
@@ -62,7 +63,16 @@ fn push_part(part: &[u8], text: &mut String) -> Result<(), NoMemory>
         (string_bytes text.new ≡ string_bytes text.old ++ digits_text part.now) }
 {
     let mut room = [0; 2 * PART];
-    put_digits(part, &mut room);
+    push_by(part, &mut room, text)
+}
+
+/// Adds the digits of a few bytes, which are made in this room.
+fn push_by(part: &[u8], room: &mut [u8], text: &mut String) -> Result<(), NoMemory>
+    requires { 2 * length part.now ≤ length room.old }
+    ensures { OnOk result
+        (string_bytes text.new ≡ string_bytes text.old ++ digits_text part.now) }
+{
+    put_digits(part, room);
     match str::from_utf8(&room[..2 * part.len()]) {
         Ok(digits) => text.push_str(digits)?,
         Err(_) => {}
@@ -71,7 +81,7 @@ fn push_part(part: &[u8], text: &mut String) -> Result<(), NoMemory>
 }
 
 /// Puts the digits of a few bytes into the front of the room.
-fn put_digits(part: &[u8], room: &mut [u8])
+pub(crate) fn put_digits(part: &[u8], room: &mut [u8])
     requires { 2 * length part.now ≤ length room.old }
     ensures digits { take (2 * length part.now) room.new ≡ digits_text part.now }
     ensures same { length room.new ≡ length room.old }

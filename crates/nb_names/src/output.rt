@@ -2,11 +2,16 @@
 ghost use Rattle.std.specs.Prelude.{◌<◌, ◌≤◌, length, take, OnOk, OnErr, IfOk};
 ghost use Rattle.std.specs.Io.KnownBytes.{Appends, Keeps};
 ghost use Rattle.nb_names.specs.Devices.{AppendsFront, GrowTo, ShowsWriteFault};
+ghost use Rattle.nb_names.specs.Hexadecimal.{digits_text};
 
 use crate::counted::{Counted, Told};
 use crate::device_fault::DeviceFault;
+use crate::digits_writing::put_digits;
 use crate::limits::MAX_INTERRUPTS;
 use std::io::Write;
+
+/// How many bytes' digits are written at a time.
+const PART: usize = 256;
 
 /// Writes all the bytes.
 ///
@@ -30,6 +35,43 @@ pub fn write_whole<W: Write>(writer: &mut Counted<W>, bytes: &[u8]) -> Result<()
         }
     }
     Ok(())
+}
+
+/// Writes the hexadecimal digits of bytes, two for each, in lower case. No memory is taken.
+///
+/// # Errors
+///
+/// [`DeviceFault`] where [`write_whole`] has it. A front of the digits is written then.
+pub fn write_digits<W: Write>(writer: &mut Counted<W>, bytes: &[u8]) -> Result<(), DeviceFault>
+    ensures written { OnOk result (Appends (W.contents writer.old.inner)
+        (W.contents writer.new.inner) (digits_text bytes.now)) }
+    ensures grow { GrowTo writer.old.counts writer.new.counts }
+    ensures err { OnErr result (AppendsFront (W.contents writer.old.inner)
+        (W.contents writer.new.inner) (digits_text bytes.now)) }
+    ensures why { OnErr result (ShowsWriteFault writer.old.counts writer.new.counts) }
+{
+    let mut rest = bytes;
+    'parts: while rest.len() > PART {
+        let (part, behind) = rest.split_at(PART);
+        write_part(writer, part)?;
+        rest = behind;
+    }
+    write_part(writer, rest)
+}
+
+/// Writes the digits of a few bytes.
+fn write_part<W: Write>(writer: &mut Counted<W>, part: &[u8]) -> Result<(), DeviceFault>
+    requires { length part.now ≤ PART }
+    ensures written { OnOk result (Appends (W.contents writer.old.inner)
+        (W.contents writer.new.inner) (digits_text part.now)) }
+    ensures grow { GrowTo writer.old.counts writer.new.counts }
+    ensures err { OnErr result (AppendsFront (W.contents writer.old.inner)
+        (W.contents writer.new.inner) (digits_text part.now)) }
+    ensures why { OnErr result (ShowsWriteFault writer.old.counts writer.new.counts) }
+{
+    let mut room = [0; 2 * PART];
+    put_digits(part, &mut room);
+    write_whole(writer, &room[..2 * part.len()])
 }
 
 /// Writes some of the bytes, of which there is one at least, from their front on, and answers how

@@ -1,6 +1,6 @@
 //! How many keys of one address a table holds, and still takes in. Keys ascend by address first, so
 //! those of one address stand together, and only they are looked at.
-ghost use Rattle.std.specs.Prelude.{◌≡◌, ◌≤◌, ◌-◌, ◌↔◌, ℕ, List, IsTrue, IfSome, None, MatchOption};
+ghost use Rattle.std.specs.Prelude.{◌≡◌, ◌≤◌, ◌-◌, ◌↔◌, ℕ, List, IsTrue, IfSome, None, MatchOption, unwrap_or};
 ghost use Rattle.std.specs.FinMap as maps;
 ghost use Rattle.nb_datagram.specs.Key.{key_cmp};
 ghost use Rattle.nb_table.specs.KeyCounts.{held_keys, of_source};
@@ -47,8 +47,24 @@ pub(crate) fn is_full_of(entries: &BTreeMap<Key, Entry>, ip: [u8; 4], most: u32)
     room_of(entries, ip, most) == 0
 }
 
+/// How many keys of this address may still be added: as known, or counted.
+fn known_room(
+    known: Option<u32>,
+    entries: &BTreeMap<Key, Entry>,
+    ip: [u8; 4],
+    most: u32,
+) -> u32
+    ensures { result ≡ unwrap_or known (most
+        - held_keys (of_source ip) (maps.from_entries {R = key_cmp} entries.now.entries)) }
+{
+    match known {
+        Some(room) => room,
+        None => room_of(entries, ip, most),
+    }
+}
+
 /// The least key of this address that doesn't fit when those of the others are added, ascending,
-/// where `most` may be held.
+/// where `most` may be held. What is held is counted at the first key that is new.
 fn unfit_of(
     entries: &BTreeMap<Key, Entry>,
     others: &BTreeMap<Key, Entry>,
@@ -59,7 +75,7 @@ fn unfit_of(
         (maps.from_entries {R = key_cmp} entries.now.entries)
         (maps.from_entries {R = key_cmp} others.now.entries) }
 {
-    let mut room = room_of(entries, ip, most);
+    let mut known = None;
     for (key, _entry) in others.range(first_of(ip)..) {
         if key.ip != ip {
             return None;
@@ -67,10 +83,11 @@ fn unfit_of(
         if entries.contains_key(key) {
             continue;
         }
+        let room = known_room(known, entries, ip, most);
         if room == 0 {
             return Some(*key);
         }
-        room -= 1;
+        known = Some(room - 1);
     }
     None
 }

@@ -11,7 +11,7 @@ ghost use Rattle.nbt.specs.Input.{WasCut};
 use crate::commands::replay::outcome_of;
 use crate::fault::Fault;
 use nb_member::{CaptureOptions, Member, replay_with};
-use nb_names::output::{write_some, write_whole};
+use nb_names::output::{write_digits, write_some, write_whole};
 use nb_names::{Counted, NoMemory, push_digits};
 use std::alloc::Global;
 use std::io;
@@ -71,6 +71,28 @@ impl<W> Output<W> {
         ensures why { OnErr result (ShowsWriteFault self.old.counts self.new.counts) }
     {
         match write_whole(&mut self.device, bytes) {
+            Ok(()) => Ok(()),
+            Err(_) => Err(Fault::Write),
+        }
+    }
+
+    /// Writes the hexadecimal digits of bytes. No memory is taken.
+    ///
+    /// # Errors
+    ///
+    /// [`Fault::Write`], as [`Output::print`] has it. A front of the digits is written then.
+    pub fn print_digits(&mut self, bytes: &[u8]) -> Result<(), Fault>
+    where
+        W: Write,
+        ensures printed { OnOk result (Appends (W.contents self.old.inner)
+            (W.contents self.new.inner) (digits_text bytes.now)) }
+        ensures fault { IfErr result (λ fault. fault ≡ Fault.Write) }
+        ensures err { OnErr result (AppendsFront (W.contents self.old.inner)
+            (W.contents self.new.inner) (digits_text bytes.now)) }
+        ensures grow { GrowTo self.old.counts self.new.counts }
+        ensures why { OnErr result (ShowsWriteFault self.old.counts self.new.counts) }
+    {
+        match write_digits(&mut self.device, bytes) {
             Ok(()) => Ok(()),
             Err(_) => Err(Fault::Write),
         }

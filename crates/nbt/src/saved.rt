@@ -1,13 +1,13 @@
 //! Tables in hexadecimal.
-ghost use Rattle.std.specs.Prelude.{◌≡◌, ◌⊎◌, OnOk, IfOk, IfErr, string_bytes};
+ghost use Rattle.std.specs.Prelude.{◌≡◌, ◌⊎◌, OnOk, OnErr, IfErr};
 ghost use Rattle.nb_names.specs.Devices.{ShowsWriteFault};
-ghost use Rattle.nbt.specs.Printing.{Leaves, PrintsLine, line};
+ghost use Rattle.nb_names.specs.Hexadecimal.{digits_text};
+ghost use Rattle.nbt.specs.Printing.{Leaves, PrintsFront, PrintsLine};
 ghost use Rattle.nbt.specs.Saved.{saved_digits, IsSavedOf};
 
 use crate::fault::Fault;
-use crate::output::{Output, digits_of, with_line_feed};
+use crate::output::Output;
 use nb_table::Table;
-use std::alloc::Global;
 use std::io::Write;
 
 /// Prints a table as it is saved, in hexadecimal, as a line.
@@ -16,11 +16,7 @@ use std::io::Write;
 ///
 /// [`Fault::Memory`] where memory ran out; nothing is printed then. [`Fault::Write`] where the
 /// output failed.
-pub fn print_saved<W: Write>(
-    alloc: Global,
-    table: &Table,
-    output: &mut Output<W>,
-) -> Result<(), Fault>
+pub fn print_saved<W: Write>(table: &Table, output: &mut Output<W>) -> Result<(), Fault>
     ensures printed { OnOk result (PrintsLine (W.contents output.old.inner)
         (W.contents output.new.inner) (saved_digits table.now.contents)) }
     ensures fault { IfErr result (λ fault. (fault ≡ Fault.Memory) ⊎ (fault ≡ Fault.Write)) }
@@ -29,17 +25,19 @@ pub fn print_saved<W: Write>(
     ensures why { IfErr result (λ fault. fault ≡ Fault.Write →
         ShowsWriteFault output.old.counts output.new.counts) }
 {
-    let line = saved_line(alloc, table)?;
-    output.print(line.as_bytes())
+    let saved = table.save()?;
+    print_line(saved.as_slice(), output)
 }
 
-/// The line of a table as it is saved, in hexadecimal.
-fn saved_line(alloc: Global, table: &Table) -> Result<String, Fault>
-    ensures value { IfOk result (λ text. string_bytes text
-        ≡ line (saved_digits table.now.contents)) }
-    ensures fault { IfErr result (λ fault. fault ≡ Fault.Memory) }
+/// Prints the hexadecimal digits of bytes, as a line.
+fn print_line<W: Write>(bytes: &[u8], output: &mut Output<W>) -> Result<(), Fault>
+    ensures printed { OnOk result (PrintsLine (W.contents output.old.inner)
+        (W.contents output.new.inner) (digits_text bytes.now)) }
+    ensures fault { IfErr result (λ fault. fault ≡ Fault.Write) }
+    ensures err { OnErr result (PrintsFront (W.contents output.old.inner)
+        (W.contents output.new.inner) (digits_text bytes.now)) }
+    ensures why { OnErr result (ShowsWriteFault output.old.counts output.new.counts) }
 {
-    let saved = table.save()?;
-    let digits = digits_of(alloc, saved.as_slice())?;
-    with_line_feed(digits)
+    output.print_digits(bytes)?;
+    output.print(&[b'\n'])
 }

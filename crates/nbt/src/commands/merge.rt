@@ -51,5 +51,5 @@ pub fn run_merge<R: Read, W: Write>(
         ShowsWriteFault output.old.counts output.new.counts) }
 {
     let table = joined_input(alloc, matches, input)?;
-    print_saved(alloc, &table, output)
+    print_saved(&table, output)
 }

@@ -60,7 +60,7 @@ pub fn run_save<R: Read, W: Write>(
 {
     let capacity = capacity_of(matches)?;
     let member = member_after(alloc, capacity, input_limit_of(matches), input)?;
-    print_saved(alloc, member.table(), output)
+    print_saved(member.table(), output)
 }
 
 /// A member without names that may hold so much, after the lines of an input of so many bytes at

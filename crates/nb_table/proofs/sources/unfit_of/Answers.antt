@@ -1,11 +1,11 @@
-use Rattle.std.proofs.Common.{◌≡◌, ◌∙◌, ◌&&◌, Bool, true, false, not, Option, Some, None, refl, sym, ap, ap₂, subst, filter, map, slice_get, is_none, is_some}
+use Rattle.std.proofs.Common.{◌≡◌, ◌-◌, ◌∙◌, ◌∷◌, ◌&&◌, Bool, true, false, not, Option, Some, None, refl, sym, ap, ap₂, subst, filter, map, slice_get, is_none, is_some, unwrap_or}
 use Rattle.std.specs.BTreeMap.Range.{entries_between}
 use Rattle.std.specs.declared.ops.Bound.TheVariants.{Included, Unbounded}
 use Rattle.std.specs.FinMap as maps
 use Rattle.nb_datagram.specs.declared.key.Key.{Key}
 use Rattle.nb_datagram.specs.Key.{key_cmp}
 use Rattle.nb_table.specs.Entry.{EntryValue}
-use Rattle.nb_table.specs.KeyCounts.{of_source}
+use Rattle.nb_table.specs.KeyCounts.{held_keys, of_source}
 use Rattle.nb_datagram.specs.KeyOrder.{key_cmp_total, key_cmp_exact}
 use Rattle.nb_table.specs.Shared.TreeLemmas.{entries_are, get_is, sorted_is}
 use Rattle.nb_table.proofs.Limits.SourceLemmas.{Left, onward, onward_new, left_begun, left_next, none_unfit, one_out, one_in, first_in, not_true, not_false}
@@ -19,7 +19,7 @@ loop-key-init c =
     let p = λ (k : Key). of_source ip k && is_none (maps.get s k) in
     let is : c.into_iter-key-iterator.result ≡ onward ip es = c.into_iter-key-iterator.ensures.into_iter_gives ∙ c.range-key-items.ensures.between tt ∙ ap (λ k. entries_between key_cmp (Included k) Unbounded es) c.first_of.ensures in
     let held = entries_are key_cmp_total key_cmp_exact c.args.others.now c.range-key-items.ensures.ordered in (
-      ap₂ (slice_get {X = Key}) (ap (λ fs. filter p (map (λ e. e.0) fs)) is ∙ onward_new ip (λ k. is_none (maps.get s k)) es ∙ ap (λ fs. filter p (map (λ e. e.0) fs)) (sym held)) c.room_of-room.ensures,
+      ap₂ (slice_get {X = Key}) (ap (λ fs. filter p (map (λ e. e.0) fs)) is ∙ onward_new ip (λ k. is_none (maps.get s k)) es ∙ ap (λ fs. filter p (map (λ e. e.0) fs)) (sym held)) refl,
       subst (Left ip) (sym is) (left_begun ip es (sorted_is key_cmp es c.range-key-items.ensures.ordered)),
     )
 
@@ -27,12 +27,13 @@ pub returns-then-ne : goal.returns-then-ne
 returns-then-ne c =
     let ip = c.args.ip in
     let s = maps.from_entries {R = key_cmp} c.args.entries.now.entries in
+    let room = unwrap_or c.loop-key.known (c.args.most - held_keys (of_source ip) s) in
     let p = λ (k : Key). of_source ip k && is_none (maps.get s k) in
     let is = c.in-Some.ensures.steps in
     let e : Key × EntryValue = (c.in-Some.key.now, c.in-Some._entry.now) in
     let left = subst (Left ip) is c.loop-key.invariant.1 in
-    sym (none_unfit ip (λ k. is_none (maps.get s k)) e c.next.new.self c.loop-key.room left (not_true _ (sym c.ne.ensures ∙ c.if-ne.true)))
-    ∙ sym (ap (λ fs. slice_get (filter p (map (λ f. f.0) fs)) c.loop-key.room) is)
+    sym (none_unfit ip (λ k. is_none (maps.get s k)) e c.next.new.self room left (not_true _ (sym c.ne.ensures ∙ c.if-ne.true)))
+    ∙ sym (ap (λ fs. slice_get (filter p (map (λ f. f.0) fs)) room) is)
     ∙ c.loop-key.invariant.0
 
 -- whether the tree has a key is whether the table lacks it
@@ -46,6 +47,7 @@ pub loop-key-preserved-then-contains_key : goal.loop-key-preserved-then-contains
 loop-key-preserved-then-contains_key c =
     let ip = c.args.ip in
     let s = maps.from_entries {R = key_cmp} c.args.entries.now.entries in
+    let room = unwrap_or c.loop-key.known (c.args.most - held_keys (of_source ip) s) in
     let p = λ (k : Key). of_source ip k && is_none (maps.get s k) in
     let k = c.in-Some.key.now in
     let is = c.in-Some.ensures.steps in
@@ -53,7 +55,7 @@ loop-key-preserved-then-contains_key c =
     let left = subst (Left ip) is c.loop-key.invariant.1 in
     let held : is_none (maps.get s k) ≡ false = lacked (maps.get s k) true (ap is_some (get_is key_cmp_total c.args.entries.now k) ∙ sym c.contains_key.ensures ∙ c.if-contains_key.true) in
     let out : p k ≡ false = ap (λ b. of_source ip k && b) held ∙ ap (λ b. b && false) (not_false _ (sym c.ne.ensures ∙ c.if-ne.false)) in (
-      sym (ap (λ fs. slice_get (filter p (map (λ f. f.0) fs)) c.loop-key.room) is ∙ one_out p e c.next.new.self c.loop-key.room out) ∙ c.loop-key.invariant.0,
+      sym (ap (λ fs. slice_get (filter p (map (λ f. f.0) fs)) room) is ∙ one_out p e c.next.new.self room out) ∙ c.loop-key.invariant.0,
       left_next ip e c.next.new.self left,
     )
 
@@ -69,13 +71,14 @@ returns-then-room-eq0 c =
     let passes : p k ≡ true = ap₂ ◌&&◌ (not_false _ (sym c.ne.ensures ∙ c.if-ne.false)) new in
     sym (first_in p e c.next.new.self passes)
     ∙ sym (ap (λ fs. slice_get (filter p (map (λ f. f.0) fs)) 0) is)
-    ∙ ap (slice_get (filter p (map (λ f. f.0) c.loop-key.key-iterator))) (sym c.if-room-eq0.true)
+    ∙ ap (slice_get (filter p (map (λ f. f.0) c.loop-key.key-iterator))) (sym (sym c.known_room-room.ensures ∙ c.if-room-eq0.true))
     ∙ c.loop-key.invariant.0
 
 pub loop-key-preserved : goal.loop-key-preserved
 loop-key-preserved c =
     let ip = c.args.ip in
     let s = maps.from_entries {R = key_cmp} c.args.entries.now.entries in
+    let room = unwrap_or c.loop-key.known (c.args.most - held_keys (of_source ip) s) in
     let p = λ (k : Key). of_source ip k && is_none (maps.get s k) in
     let k = c.in-Some.key.now in
     let is = c.in-Some.ensures.steps in
@@ -83,6 +86,8 @@ loop-key-preserved c =
     let left = subst (Left ip) is c.loop-key.invariant.1 in
     let new : is_none (maps.get s k) ≡ true = lacked (maps.get s k) false (ap is_some (get_is key_cmp_total c.args.entries.now k) ∙ sym c.contains_key.ensures ∙ c.if-contains_key.false) in
     let passes : p k ≡ true = ap₂ ◌&&◌ (not_false _ (sym c.ne.ensures ∙ c.if-ne.false)) new in (
-      sym (ap (λ fs. slice_get (filter p (map (λ f. f.0) fs)) c.loop-key.room) is ∙ one_in p e c.next.new.self c.loop-key.room passes c.if-room-eq0.false) ∙ c.loop-key.invariant.0,
+      sym (ap (λ fs. slice_get (filter p (map (λ f. f.0) fs)) room) is
+      ∙ ap (slice_get (filter p (map (λ f. f.0) (e ∷ c.next.new.self)))) (sym c.known_room-room.ensures)
+      ∙ one_in p e c.next.new.self c.known_room-room.result passes c.if-room-eq0.false) ∙ c.loop-key.invariant.0,
       left_next ip e c.next.new.self left,
     )

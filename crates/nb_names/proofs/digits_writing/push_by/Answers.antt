@@ -1,6 +1,6 @@
 use Rattle.std.proofs.Common.{arith}
 use Rattle.nb_names.proofs.DigitLemmas.{digits_are_text}
-use Rattle.nb_names.proofs.digits_writing.push_part.Goals as goal
+use Rattle.nb_names.proofs.digits_writing.push_by.Goals as goal
 
 pub returns-in-Err : goal.returns-in-Err
 returns-in-Err c =

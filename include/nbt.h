@@ -223,6 +223,12 @@ uint32_t nbt_table_merge(const uint8_t *first, size_t first_length, const uint8_
                          uint32_t keys, uint32_t per_source,
                          uint8_t *into, size_t into_length, size_t *used, size_t *at);
 
+/* What the command `nbt list` prints of a table: a line for each key, ascending, line feeds included (our choice). However
+ * many keys it has, of however many addresses, none is too many.
+ * 70 to 72, NBT_NO_MEMORY, NBT_NO_ROOM. */
+uint32_t nbt_table_list(const uint8_t *table, size_t table_length,
+                        uint8_t *into, size_t into_length, size_t *used, size_t *at);
+
 /* A station: its names, and a table that the payloads of port 138 fill and the clock empties (RFC 1002 section 5.3).
  * A datagram is handed over once, by the payload that makes it whole, if one of the names hears it: the name that it is
  * for or, of a broadcast, a name of that name's scope. -------------------------------------------------------------- */

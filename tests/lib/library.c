@@ -213,6 +213,24 @@ static uint8_t *saved(size_t *used)
     return table;
 }
 
+/* The lines of a saved table: in no room first, and then in as much as that wants. */
+static void listed(const uint8_t *table, size_t length)
+{
+    uint8_t *text;
+    size_t wanted = 77, used = 77, at = 88;
+    uint32_t status;
+    do
+        status = nbt_table_list(table, length, room(texts, 0), 0, &wanted, &at);
+    while (again(status));
+    expect(status == (wanted == 0 ? NBT_DONE : NBT_NO_ROOM) && at == 88, "nbt_table_list: no room");
+    text = room(texts, wanted);
+    do
+        status = nbt_table_list(table, length, text, wanted, &used, &at);
+    while (again(status));
+    expect(status == NBT_DONE && used == wanted && at == 88, "nbt_table_list: the room that is wanted");
+    expect(wanted == 0 || text[wanted - 1] == '\n', "nbt_table_list: the last line");
+}
+
 /* A payload, taken by a station: with too little room first, which changes nothing. */
 static void stationed(const uint8_t *payload, size_t length)
 {
@@ -223,6 +241,7 @@ static void stationed(const uint8_t *payload, size_t length)
     const size_t rooms[] = {0, 1, NBT_TAKE_ROOM - 1};
     uint8_t *table = saved(&wanted);
     memcpy(before, table, wanted < sizeof before ? wanted : sizeof before);
+    listed(table, wanted);
     memset(&taken, FILL, sizeof taken);
     for (i = 0; i < 3; i++) {
         uint8_t *into = room(texts, rooms[i]);

@@ -96,6 +96,26 @@ class Tables(Refusing):
         self.assertEqual(self.refused(nbt.merge, EMPTY, spoilt(1, 2), per_source=1), (Status.SECOND_FULL_SOURCE, None))
         self.assertEqual(self.refused(nbt.merge, spoilt(1), spoilt(2), keys=1), (Status.FULL, None))
 
+    def test_list(self):
+        first, second = pieces()
+        with nbt.Station([], '10.0.0.9') as station:
+            self.assertEqual(nbt.list_table(station.save()), '')
+            station.take(0, second)
+            self.assertEqual(nbt.list_table(station.save()), '10.0.0.5:138/0007 partial unique JOE<00> FRED<20> 5/11 1 6-11\n')
+            station.take(0, first)
+            table = nbt.merge(station.save(), spoilt(1))
+        self.assertEqual(nbt.list_table(table), '10.0.0.5:138/0001 spoilt\n'
+                         '10.0.0.5:138/0007 whole unique JOE<00> FRED<20> 68656c6c6f2c2046524544\n')
+        many = nbt.list_table(spoilt(*range(2_000)))
+        self.assertEqual(many.splitlines()[-1], '10.0.0.5:138/07cf spoilt')
+        self.assertEqual(many.count('\n'), 2_000)
+
+    def test_list_refused(self):
+        self.assertEqual(self.refused(nbt.list_table, b''), (Status.TABLE_BAD_MAGIC, None))
+        self.assertEqual(self.refused(nbt.list_table, EMPTY[:7]), (Status.TABLE_TRUNCATED, None))
+        self.assertEqual(self.refused(nbt.list_table, spoilt(2, 1)), (Status.TABLE_NOT_CANONICAL, 17))
+        self.assertEqual(self.refused(nbt.list_table, EMPTY + b'!'), (Status.TABLE_NOT_CANONICAL, 8))
+
 
 if __name__ == '__main__':
     unittest.main()

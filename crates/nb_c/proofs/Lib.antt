@@ -1,6 +1,7 @@
 pub mod AnswerLemmas
 pub mod FrameLemmas
 pub mod HandleValues
+pub mod ListLemmas
 pub mod MergeLemmas
 pub mod NameLemmas
 pub mod PlaceLemmas

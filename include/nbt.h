@@ -295,6 +295,16 @@ uint32_t nbt_station_tick(struct nbt_station *station, uint64_t now, uint32_t *d
  * NBT_NO_MEMORY, NBT_NO_ROOM. */
 uint32_t nbt_station_save(struct nbt_station *station, uint8_t *into, size_t into_length, size_t *used);
 
+/* Joins the saved table of another station to this one's, at this moment: the keys that are new came then. Writes the
+ * datagrams that become whole by this, of those that one of the names hears, by ascending key. Each is its key, as in
+ * saved tables (SOURCE_IP in four bytes, SOURCE_PORT and DGM_ID in two), MSG_TYPE in one, the spellings of the source
+ * and of the destination, the length of the data in two, and the data; the higher byte of a number first (our choice).
+ * Nothing is lost at NBT_NO_ROOM: the station is then as it was. The call takes memory for a copy of the table.
+ * 70 to 75, NBT_FULL_SOURCE, NBT_FULL, NBT_NO_MEMORY (which may come before those that follow 75), NBT_NO_ROOM. At each
+ * of these the station and the buffer are as they were. */
+uint32_t nbt_station_absorb(struct nbt_station *station, uint64_t moment, const uint8_t *table, size_t table_length,
+                            uint8_t *into, size_t into_length, size_t *used, size_t *at);
+
 /* Gives a station back, with all that it kept. */
 void nbt_station_free(struct nbt_station station);
 

@@ -205,5 +205,16 @@ extern "C" {
         used: *mut usize,
     ) -> u32;
 
+    pub fn nbt_station_absorb(
+        station: *mut Handle,
+        moment: u64,
+        table: *const u8,
+        table_length: usize,
+        into: *mut u8,
+        into_length: usize,
+        used: *mut usize,
+        at: *mut usize,
+    ) -> u32;
+
     pub fn nbt_station_free(station: Handle);
 }

@@ -1,3 +1,4 @@
+pub mod AbsorbLemmas
 pub mod AnswerLemmas
 pub mod FrameLemmas
 pub mod HandleValues

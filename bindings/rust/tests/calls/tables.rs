@@ -7,7 +7,7 @@ use nbt::{list_table, merge, Limits, Status};
 pub const EMPTY: &[u8] = b"NBT2\0\0\0\0";
 
 /// A table in which these keys of 10.0.0.5:138 are spoilt.
-fn spoilt(identifiers: &[u8]) -> Vec<u8> {
+pub fn spoilt(identifiers: &[u8]) -> Vec<u8> {
     let keys: Vec<_> = identifiers
         .iter()
         .flat_map(|it| [0x0a, 0, 0, 5, 0, 0x8a, 0, *it, 0])
@@ -96,10 +96,7 @@ fn tables_are_listed() {
         "10.0.0.5:138/0001 spoilt\n10.0.0.5:138/00a0 spoilt\n"
     );
     let many: Vec<u8> = (0..=255).collect();
-    let text = list_table(&joined(&[
-        b"NBT1\0\0\x01\0",
-        &spoilt(&many)[8..],
-    ]));
+    let text = list_table(&joined(&[b"NBT1\0\0\x01\0", &spoilt(&many)[8..]]));
     assert_eq!(text.unwrap().lines().count(), 256);
 }
 

@@ -31,7 +31,7 @@ _nbt_tool() {
     nbt-cap2pcap) words='--help' ;;
     nbt-parallel) words='--program --shard-bytes --by-source --tables --quiet --jobs --sshlogin --retries --help --list' ;;
     nbt-dask) words='--program --shard-bytes --by-source --tables --quiet --scheduler --workers --send --help' ;;
-    nbt-station) words='--bind --port --address --keys --per-source --json --save --help' ;;
+    nbt-station) words='--bind --port --address --keys --per-source --json --save --join --help' ;;
     esac
     COMPREPLY=()
     [[ $2 != -* ]] || COMPREPLY=($(compgen -W "$words" -- "$2"))

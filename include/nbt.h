@@ -223,6 +223,12 @@ uint32_t nbt_table_merge(const uint8_t *first, size_t first_length, const uint8_
                          uint32_t keys, uint32_t per_source,
                          uint8_t *into, size_t into_length, size_t *used, size_t *at);
 
+/* What the command `nbt list` prints of a table: a line for each key, ascending, line feeds included (our choice). However
+ * many keys it has, of however many addresses, none is too many.
+ * 70 to 72, NBT_NO_MEMORY, NBT_NO_ROOM. */
+uint32_t nbt_table_list(const uint8_t *table, size_t table_length,
+                        uint8_t *into, size_t into_length, size_t *used, size_t *at);
+
 /* A station: its names, and a table that the payloads of port 138 fill and the clock empties (RFC 1002 section 5.3).
  * A datagram is handed over once, by the payload that makes it whole, if one of the names hears it: the name that it is
  * for or, of a broadcast, a name of that name's scope. -------------------------------------------------------------- */
@@ -288,6 +294,16 @@ uint32_t nbt_station_tick(struct nbt_station *station, uint64_t now, uint32_t *d
 /* Writes the station's table, saved. The names, the limits and the moments aren't in it.
  * NBT_NO_MEMORY, NBT_NO_ROOM. */
 uint32_t nbt_station_save(struct nbt_station *station, uint8_t *into, size_t into_length, size_t *used);
+
+/* Joins the saved table of another station to this one's, at this moment: the keys that are new came then. Writes the
+ * datagrams that become whole by this, of those that one of the names hears, by ascending key. Each is its key, as in
+ * saved tables (SOURCE_IP in four bytes, SOURCE_PORT and DGM_ID in two), MSG_TYPE in one, the spellings of the source
+ * and of the destination, the length of the data in two, and the data; the higher byte of a number first (our choice).
+ * Nothing is lost at NBT_NO_ROOM: the station is then as it was. The call takes memory for a copy of the table.
+ * 70 to 75, NBT_FULL_SOURCE, NBT_FULL, NBT_NO_MEMORY (which may come before those that follow 75), NBT_NO_ROOM. At each
+ * of these the station and the buffer are as they were. */
+uint32_t nbt_station_absorb(struct nbt_station *station, uint64_t moment, const uint8_t *table, size_t table_length,
+                            uint8_t *into, size_t into_length, size_t *used, size_t *at);
 
 /* Gives a station back, with all that it kept. */
 void nbt_station_free(struct nbt_station station);

@@ -132,6 +132,14 @@ for number, line in enumerate(sys.stdin, 1):
     cmp -s "$room/lines3.wanted" "$room/output"
     count $? "nbt.show prints what nbt show prints: $(tail -n 1 "$room/errors")"
     { cat "$top/examples/capture.txt"; sed 's/ / 2500 /' "$room/lines3"; echo tick 4000; } >"$room/capture"
+    grep -v '^tick' "$room/capture" | ended "$program" save --keys 65535 >"$room/table"
+    ended "$program" list --keys 65535 <"$room/table" >"$room/listed"
+    NBT_LIBRARY=$built/libnbt.so.0 PYTHONDONTWRITEBYTECODE=1 PYTHONPATH=$top/bindings/python ended python3 -c '
+import sys, nbt
+sys.stdout.write(nbt.list_table(bytes.fromhex(sys.stdin.read())))
+' <"$room/table" >"$room/output" 2>"$room/errors"
+    grep -q ' whole ' "$room/listed" && grep -q ' partial ' "$room/listed" && cmp -s "$room/listed" "$room/output"
+    count $? "nbt.list_table prints what nbt list prints: $(tail -n 1 "$room/errors") $(diff "$room/listed" "$room/output" | head -c 300)"
     ended "$program" replay 'FRED<20>' 'JOE<00>' <"$room/capture" | awk '
         $2 == "refused" { print $1, $2 ($(NF - 1) == "error" ? " error " $NF : ""); next }
         { print }' >"$room/replayed"

@@ -23,7 +23,7 @@ struct edge {
 static char line[2 * 131100 + 64];
 static char input[1 << 16], output[1 << 16];
 static struct edge payloads, texts, names, packets, tables;
-static struct nbt_station station;
+static struct nbt_station station, joiner;
 static unsigned long number, calls, refusals;
 
 static void expect(int holds, const char *what)
@@ -213,6 +213,56 @@ static uint8_t *saved(size_t *used)
     return table;
 }
 
+/* The lines of a saved table: in no room first, and then in as much as that wants. */
+static void listed(const uint8_t *table, size_t length)
+{
+    uint8_t *text;
+    size_t wanted = 77, used = 77, at = 88;
+    uint32_t status;
+    do
+        status = nbt_table_list(table, length, room(texts, 0), 0, &wanted, &at);
+    while (again(status));
+    expect(status == (wanted == 0 ? NBT_DONE : NBT_NO_ROOM) && at == 88, "nbt_table_list: no room");
+    text = room(texts, wanted);
+    do
+        status = nbt_table_list(table, length, text, wanted, &used, &at);
+    while (again(status));
+    expect(status == NBT_DONE && used == wanted && at == 88, "nbt_table_list: the room that is wanted");
+    expect(wanted == 0 || text[wanted - 1] == '\n', "nbt_table_list: the last line");
+}
+
+/* The station's table, taken in by another station, and dropped there: with too little room first, which changes nothing. */
+static void absorbed(const uint8_t *table, size_t length)
+{
+    uint8_t *into;
+    size_t wanted = 77, used = 77, at = 88;
+    uint32_t status, dropped;
+    do
+        status = nbt_station_absorb(&joiner, number, table, length, room(texts, 0), 0, &wanted, &at);
+    while (again(status));
+    expect(status == (wanted == 0 ? NBT_DONE : NBT_NO_ROOM) && at == 88, "nbt_station_absorb: no room");
+    if (wanted > 0) {
+        into = room(texts, wanted - 1);
+        do
+            status = nbt_station_absorb(&joiner, number, table, length, into, wanted - 1, &used, &at);
+        while (again(status));
+        expect(status == NBT_NO_ROOM && used == wanted && is_filled(into, wanted - 1), "nbt_station_absorb: a byte too few");
+        into = room(texts, wanted + 3);
+        do
+            status = nbt_station_absorb(&joiner, number, table, length, into, wanted + 3, &used, &at);
+        while (again(status));
+        expect(status == NBT_DONE && used == wanted && is_filled(into + wanted, 3), "nbt_station_absorb: the room that is wanted");
+    }
+    do
+        status = nbt_station_absorb(&joiner, number, table, length, room(texts, 0), 0, &used, &at);
+    while (again(status));
+    expect(status == NBT_DONE && used == 0 && at == 88, "nbt_station_absorb: a table once more");
+    do
+        status = nbt_station_tick(&joiner, UINT64_MAX, &dropped);
+    while (again(status));
+    expect(status == NBT_DONE, "nbt_station_tick: the end of time");
+}
+
 /* A payload, taken by a station: with too little room first, which changes nothing. */
 static void stationed(const uint8_t *payload, size_t length)
 {
@@ -223,6 +273,8 @@ static void stationed(const uint8_t *payload, size_t length)
     const size_t rooms[] = {0, 1, NBT_TAKE_ROOM - 1};
     uint8_t *table = saved(&wanted);
     memcpy(before, table, wanted < sizeof before ? wanted : sizeof before);
+    listed(table, wanted);
+    absorbed(table, wanted);
     memset(&taken, FILL, sizeof taken);
     for (i = 0; i < 3; i++) {
         uint8_t *into = room(texts, rooms[i]);
@@ -277,6 +329,10 @@ int main(int count, char **words)
         status = nbt_station_create((const uint8_t *)"FRED<20> JOE<00>", 16, 0x0a000009, 138, 4, 4, &station.at, &place);
     while (again(status));
     expect(status == NBT_DONE && place == 88, "nbt_station_create");
+    do
+        status = nbt_station_create((const uint8_t *)"FRED<20>", 8, 0x0a000009, 138, 4, 4, &joiner.at, &place);
+    while (again(status));
+    expect(status == NBT_DONE && place == 88, "nbt_station_create: another");
     while (fgets(line, sizeof line, stdin) != NULL) {
         char *digits;
         uint16_t port = (uint16_t)strtoul(line, &digits, 10);
@@ -294,6 +350,7 @@ int main(int count, char **words)
         stationed(payload, length);
     }
     nbt_station_free(station);
+    nbt_station_free(joiner);
     fprintf(stderr, "%lu payloads, %lu calls, %lu refusals\n", number, calls, refusals);
     return 0;
 }

@@ -263,6 +263,31 @@ def limits():
                [it.split()[0] for it in nbt('list', text=whole_tables(each.saved(), 2)).splitlines()])
 
 
+def joined_tables():
+    """The tables of files are taken in first: what is whole by them is printed, and what is missing of the rest may come."""
+    sent = pieces(1, b'hello, FRED')
+    table = lambda *payloads: nbt('save', text=''.join(f'138 0 {it.hex()}\n' for it in payloads))
+    with tempfile.TemporaryDirectory() as folder:
+        paths = [os.path.join(folder, name) for name in ('one', 'other', 'bad')]
+        for path, text in zip(paths, (table(sent[0], *pieces(2, b'whole')), table(*pieces(3, b'hi'), packet(UNIQUE, 4, ANN, b'no')) * 2,
+                                      table(sent[1]) + 'x\n')):
+            with open(path, 'w', encoding='ascii') as file:
+                file.write(text)
+        line = 'delivered 10.0.0.5:138/%04x group JOE<00> FRED<20> %s'
+        with station('--join', paths[0], '--join', paths[1], '--save', 'table') as each:
+            expect([line % (2, b'whole'.hex()), line % (3, b'hi'.hex())], each.lines())
+            each.send(*sent[1:])
+            each.reached()
+            expect([line % (1, b'hello, FRED'.hex())], each.lines()[2:])
+            expect(0, each.ended()[0])
+            whole_tables(each.saved(), 5)
+        own = ('--bind', '127.0.0.1:0', '--save', os.path.join(folder, 'table'))
+        expect((1, f'nbt-station: {paths[2]}: line 2: bad hex'), begun(folder, *own, '--join', paths[2], 'FRED<20>'))
+        expect((1, f'nbt-station: {paths[0]}: line 1: table: full'), begun(folder, *own, '--keys', '1', '--join', paths[0], 'FRED<20>'))
+        expect((3, 'nbt-station: none: No such file or directory'), begun(folder, *own, '--join', 'none', 'FRED<20>'))
+        expect(['bad', 'one', 'other'], sorted(os.listdir(folder)))
+
+
 def refused_beginnings():
     with tempfile.TemporaryDirectory() as folder, socket.socket(socket.AF_INET, socket.SOCK_DGRAM) as taken:
         taken.bind(('127.0.0.1', 0))
@@ -291,7 +316,7 @@ def failing_devices():
 
 
 CASES = (any_order_and_repeats, saved_at_its_end, saved_again, no_file, dropped_by_the_clock, error_packets, json_lines,
-         any_payloads, limits, refused_beginnings, failing_devices)
+         any_payloads, limits, joined_tables, refused_beginnings, failing_devices)
 
 
 def result_of(case):

@@ -20,7 +20,8 @@ from .service import node_status, query, refresh, registration, release
 from .sessions import SessionPacket, SessionType
 from .stations import Delivery, Outcome, Station, Taken
 from .statuses import MoreNeeded, NbtError, Status
-from .tables import merge
+from .tables import list_table, merge
 
 __all__ = ['Datagram', 'DatagramType', 'Delivery', 'MoreNeeded', 'NbtError', 'Outcome', 'SessionPacket', 'SessionType', 'Station',
-           'Status', 'Taken', 'merge', 'node_status', 'query', 'refresh', 'registration', 'release', 'show', 'spell', 'text']
+           'Status', 'Taken', 'list_table', 'merge', 'node_status', 'query', 'refresh', 'registration', 'release', 'show', 'spell',
+           'text']

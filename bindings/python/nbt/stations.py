@@ -6,7 +6,7 @@ import enum
 import ipaddress
 from dataclasses import dataclass
 from types import TracebackType
-from typing import Iterable, Optional, Type
+from typing import Iterable, List, Optional, Type
 
 from . import names as spelled
 from .datagrams import DatagramType
@@ -76,6 +76,7 @@ CREATE = call('nbt_station_create', *BYTES, ctypes.c_uint32, ctypes.c_uint16, ct
 TAKE = call('nbt_station_take', ADDRESS, ctypes.c_uint64, *BYTES, ADDRESS, *BYTES, ADDRESS)
 TICK = call('nbt_station_tick', ADDRESS, ctypes.c_uint64, ADDRESS)
 SAVE = writer('nbt_station_save', ADDRESS, places=False)
+ABSORB = writer('nbt_station_absorb', ADDRESS, ctypes.c_uint64, *BYTES)
 
 
 class Station:
@@ -145,6 +146,15 @@ class Station:
         """The station's table, saved."""
         return SAVE(self.open())
 
+    def absorb(self, moment: int, table: Buffer) -> List[Delivery]:
+        """Joins the saved table of another station to this one's, at this moment: the keys that are new came then. The datagrams
+        that become whole by this and are heard, by ascending key.
+
+        NbtError: TABLE_BAD_MAGIC to TABLE_FULL, FULL_SOURCE, FULL. The station is then as it was.
+        """
+        data = given(table)
+        return deliveries(ABSORB(self.open(), number(moment, 64, 'moment'), data, len(data)))
+
 
 def taken(told: Numbers, written: bytes) -> Taken:
     """What became of a payload, of which this was told and written."""
@@ -160,3 +170,25 @@ def delivery(told: Numbers, written: bytes) -> Delivery:
     source, behind = written[:told.source_length], written[told.source_length:]
     return Delivery(DatagramType(told.type), ipaddress.IPv4Address(told.address), told.port, told.identifier,
                     spelled.text(source), spelled.text(behind[:told.destination_length]), behind[told.destination_length:])
+
+
+def deliveries(written: bytes) -> List[Delivery]:
+    """The datagrams that are handed over of a table: of each its key, its type, both spellings, and its data after its length."""
+    found, at = [], 0
+    while at < len(written):
+        address, port, identifier = (int.from_bytes(written[at + start:at + end], 'big') for start, end in ((0, 4), (4, 6), (6, 8)))
+        source = spelled_end(written, at + 9)
+        destination = spelled_end(written, source)
+        data = destination + 2
+        end = data + int.from_bytes(written[destination:data], 'big')
+        found.append(Delivery(DatagramType(written[at + 8]), ipaddress.IPv4Address(address), port, identifier,
+                              spelled.text(written[at + 9:source]), spelled.text(written[source:destination]), written[data:end]))
+        at = end
+    return found
+
+
+def spelled_end(written: bytes, at: int) -> int:
+    """Where the spelling ends that begins there: after its zero byte."""
+    while written[at]:
+        at += 1 + written[at]
+    return at + 1

@@ -76,6 +76,45 @@ class Stations(Refusing):
         self.assertEqual(self.refused(nbt.Station, names, '10.0.0.9'), (Status.TOO_MANY_NAMES, len(' '.join(names[:254])) + 1))
         self.assertEqual(self.refused(nbt.Station, [''] * 2, '10.0.0.9'), (Status.BAD_TEXT, 0))
 
+    def test_absorb(self):
+        first, second = pieces()
+        with nbt.Station(['FRED<20>'], '10.0.0.9') as one, nbt.Station([], '10.0.0.8') as other:
+            one.take(1_000, first)
+            other.take(0, second)
+            for identifier, data in ((3, b''), (2, bytes(range(256)) * 255)):
+                for each in nbt.Datagram.write(nbt.DatagramType.GROUP, identifier, '10.0.0.6', 1138, 'ANN<00>.LAB', 'FRED<20>', data,
+                                               40_000):
+                    other.take(0, each)
+            for each in pieces('ANN<20>', identifier=9):
+                other.take(0, each)
+            table = other.save()
+            found = one.absorb(2_000, table)
+            self.assertEqual([(str(it.address), it.port, it.identifier, it.type, it.source, it.destination) for it in found],
+                             [('10.0.0.5', 138, 7, nbt.DatagramType.UNIQUE, 'JOE<00>', 'FRED<20>'),
+                              ('10.0.0.6', 1138, 2, nbt.DatagramType.GROUP, 'ANN<00>.LAB', 'FRED<20>'),
+                              ('10.0.0.6', 1138, 3, nbt.DatagramType.GROUP, 'ANN<00>.LAB', 'FRED<20>')])
+            self.assertEqual([it.data for it in found], [b'hello, FRED', bytes(range(256)) * 255, b''])
+            self.assertEqual(one.save(), nbt.merge(table, one.save()))
+            self.assertEqual(one.absorb(2_500, table), [])
+            self.assertEqual((one.tick(3_000), one.tick(3_999), one.tick(4_000)), (1, 0, 3))
+            self.assertEqual(one.save(), EMPTY)
+
+    def test_absorb_refused(self):
+        with nbt.Station(['FRED<20>'], '10.0.0.9', keys=2, per_source=2) as station:
+            station.take(0, pieces()[0])
+            table = station.save()
+            self.assertEqual(self.refused(station.absorb, 0, b'NBT3'), (Status.TABLE_BAD_MAGIC, None))
+            self.assertEqual(self.refused(station.absorb, 0, EMPTY[:7]), (Status.TABLE_TRUNCATED, None))
+            self.assertEqual(self.refused(station.absorb, 0, spoilt(2, 1)), (Status.TABLE_NOT_CANONICAL, 17))
+            self.assertEqual(self.refused(station.absorb, 0, spoilt(1, 2, 3)), (Status.TABLE_FULL_SOURCE, None))
+            self.assertEqual(self.refused(station.absorb, 0, spoilt(1, 2)), (Status.FULL_SOURCE, None))
+            self.assertEqual(station.save(), table)
+        with nbt.Station(['FRED<20>'], '10.0.0.9', keys=1) as station:
+            station.take(0, pieces()[0])
+            self.assertEqual(self.refused(station.absorb, 0, spoilt(1, 2)), (Status.TABLE_FULL, None))
+            self.assertEqual(self.refused(station.absorb, 0, spoilt(1)), (Status.FULL, None))
+            self.assertEqual((station.absorb(0, spoilt(7)), station.save()), ([], spoilt(7)))
+
     def test_closed(self):
         station = nbt.Station(['FRED<20>'], '10.0.0.9')
         station.close()
@@ -95,6 +134,26 @@ class Tables(Refusing):
         self.assertEqual(self.refused(nbt.merge, spoilt(1, 2), EMPTY, keys=1), (Status.TABLE_FULL, None))
         self.assertEqual(self.refused(nbt.merge, EMPTY, spoilt(1, 2), per_source=1), (Status.SECOND_FULL_SOURCE, None))
         self.assertEqual(self.refused(nbt.merge, spoilt(1), spoilt(2), keys=1), (Status.FULL, None))
+
+    def test_list(self):
+        first, second = pieces()
+        with nbt.Station([], '10.0.0.9') as station:
+            self.assertEqual(nbt.list_table(station.save()), '')
+            station.take(0, second)
+            self.assertEqual(nbt.list_table(station.save()), '10.0.0.5:138/0007 partial unique JOE<00> FRED<20> 5/11 1 6-11\n')
+            station.take(0, first)
+            table = nbt.merge(station.save(), spoilt(1))
+        self.assertEqual(nbt.list_table(table), '10.0.0.5:138/0001 spoilt\n'
+                         '10.0.0.5:138/0007 whole unique JOE<00> FRED<20> 68656c6c6f2c2046524544\n')
+        many = nbt.list_table(spoilt(*range(2_000)))
+        self.assertEqual(many.splitlines()[-1], '10.0.0.5:138/07cf spoilt')
+        self.assertEqual(many.count('\n'), 2_000)
+
+    def test_list_refused(self):
+        self.assertEqual(self.refused(nbt.list_table, b''), (Status.TABLE_BAD_MAGIC, None))
+        self.assertEqual(self.refused(nbt.list_table, EMPTY[:7]), (Status.TABLE_TRUNCATED, None))
+        self.assertEqual(self.refused(nbt.list_table, spoilt(2, 1)), (Status.TABLE_NOT_CANONICAL, 17))
+        self.assertEqual(self.refused(nbt.list_table, EMPTY + b'!'), (Status.TABLE_NOT_CANONICAL, 8))
 
 
 if __name__ == '__main__':

@@ -165,6 +165,15 @@ extern "C" {
         at: *mut usize,
     ) -> u32;
 
+    pub fn nbt_table_list(
+        table: *const u8,
+        table_length: usize,
+        into: *mut u8,
+        into_length: usize,
+        used: *mut usize,
+        at: *mut usize,
+    ) -> u32;
+
     pub fn nbt_station_create(
         names: *const u8,
         names_length: usize,
@@ -194,6 +203,17 @@ extern "C" {
         into: *mut u8,
         into_length: usize,
         used: *mut usize,
+    ) -> u32;
+
+    pub fn nbt_station_absorb(
+        station: *mut Handle,
+        moment: u64,
+        table: *const u8,
+        table_length: usize,
+        into: *mut u8,
+        into_length: usize,
+        used: *mut usize,
+        at: *mut usize,
     ) -> u32;
 
     pub fn nbt_station_free(station: Handle);

@@ -7,7 +7,7 @@
 //! - [`datagram`]: packets of port 138
 //! - [`session`]: packets of port 139
 //! - [`station`]: stations, which put datagrams together
-//! - [`merge`]: saved tables, joined
+//! - [`merge`], [`list_table`]: saved tables, joined and listed
 //!
 //! ```
 //! let payload = [0x83, 0, 0, 1, 0x82];
@@ -48,7 +48,7 @@ pub use names::{spell, text, Spelling};
 pub use packets::{show, show_into};
 pub use station::Station;
 pub use status::Status;
-pub use tables::{merge, Limits};
+pub use tables::{list_table, merge, Limits};
 
 /// What a call answers: a value, or why it did nothing.
 pub type Result<T> = std::result::Result<T, Error>;

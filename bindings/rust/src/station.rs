@@ -31,8 +31,8 @@ use std::net::{Ipv4Addr, SocketAddrV4};
 use std::{fmt, ptr};
 
 use crate::calls::{
-    nbt_station_create, nbt_station_free, nbt_station_save, nbt_station_take, nbt_station_tick,
-    Handle, Taken, DONE,
+    nbt_station_absorb, nbt_station_create, nbt_station_free, nbt_station_save, nbt_station_take,
+    nbt_station_tick, Handle, Taken, DONE,
 };
 use crate::datagram::Kind;
 use crate::room::{write_into, written};
@@ -43,7 +43,7 @@ use crate::{spell, Error, Limits, Result, Spelling, Status};
 /// name of that name's scope.
 pub struct Station {
     handle: Handle,
-    /// What the last payload that was taken gave, to be lent.
+    /// What the last payload or table that was taken in gave, to be lent.
     given: Vec<u8>,
 }
 
@@ -194,6 +194,75 @@ impl Station {
         // SAFETY: the station is open, and the room's parts lie apart from it.
         unsafe {
             written(|room| nbt_station_save(&mut self.handle, room.into, room.length, room.used))
+        }
+    }
+
+    /// Joins the saved table of another station to this one's, at this moment: the keys that are new came then. Hands over
+    /// the datagrams that become whole by this, of those that one of the names hears, by ascending key.
+    ///
+    /// # Errors
+    ///
+    /// `TableBadMagic` to `TableFull`, `FullSource`, `Full`, `NoMemory` (which may come before those that follow
+    /// `TableFull`). The station is then as it was.
+    pub fn absorb(&mut self, moment: u64, table: &[u8]) -> Result<Deliveries<'_>> {
+        // SAFETY: the station is open, the table is a slice, and what is written lies apart from both. Where the room is
+        // too little the station is as it was, and joins the table when there is more.
+        unsafe {
+            write_into(&mut self.given, |room| {
+                nbt_station_absorb(
+                    &mut self.handle,
+                    moment,
+                    table.as_ptr(),
+                    table.len(),
+                    room.into,
+                    room.length,
+                    room.used,
+                    room.at,
+                )
+            })
+        }?;
+        Ok(Deliveries(&self.given))
+    }
+}
+
+/// The datagrams that are handed over of a table, by ascending key, lent from the station until its next call.
+#[derive(Clone, Debug)]
+pub struct Deliveries<'a>(&'a [u8]);
+
+impl<'a> Iterator for Deliveries<'a> {
+    type Item = Delivery<'a>;
+
+    fn next(&mut self) -> Option<Delivery<'a>> {
+        let (head, rest) = (self.0.get(..9)?, &self.0[9..]);
+        let source = rest.get(..spelled_length(rest)?)?;
+        let rest = &rest[source.len()..];
+        let destination = rest.get(..spelled_length(rest)?)?;
+        let rest = &rest[destination.len()..];
+        let length = rest.get(..2)?;
+        let data = rest.get(2..2 + usize::from(u16::from_be_bytes([length[0], length[1]])))?;
+        let address = Ipv4Addr::new(head[0], head[1], head[2], head[3]);
+        self.0 = &rest[2 + data.len()..];
+        Some(Delivery {
+            // The library writes no other kind.
+            kind: Kind::from_number(head[8])?,
+            key: Key {
+                sender: SocketAddrV4::new(address, u16::from_be_bytes([head[4], head[5]])),
+                identifier: u16::from_be_bytes([head[6], head[7]]),
+            },
+            source: Spelling(source),
+            destination: Spelling(destination),
+            data,
+        })
+    }
+}
+
+/// How many bytes the spelling at the front has, its zero byte among them.
+fn spelled_length(bytes: &[u8]) -> Option<usize> {
+    let mut length = 0;
+    loop {
+        match usize::from(*bytes.get(length)?) {
+            0 => return Some(length + 1),
+            size => length += 1 + size,
         }
     }
 }

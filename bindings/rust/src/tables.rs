@@ -1,8 +1,8 @@
 //! Saved tables: what is known of datagrams, as the command `nbt save` writes it, as bytes instead of digits (our
 //! choice). docs/FORMATS.md has both forms, NBT1 and NBT2.
 
-use crate::calls::nbt_table_merge;
-use crate::room::written;
+use crate::calls::{nbt_table_list, nbt_table_merge};
+use crate::room::{text_of, written};
 use crate::Result;
 
 /// How much a table has room for: 1,024 keys, and no limit on one address, where nothing else is said.
@@ -56,4 +56,33 @@ pub fn merge(first: &[u8], second: &[u8], limits: Limits) -> Result<Vec<u8>> {
             )
         })
     }
+}
+
+/// What the command `nbt list` prints of a saved table: a line for each key, ascending, line feeds included (our choice).
+/// However many keys it has, none is too many.
+///
+/// ```
+/// let table = b"NBT2\0\0\0\x01\x0a\0\0\x05\0\x8a\0\x07\0";
+/// assert_eq!(nbt::list_table(table)?, "10.0.0.5:138/0007 spoilt\n");
+/// # Ok::<(), nbt::Error>(())
+/// ```
+///
+/// # Errors
+///
+/// `TableBadMagic`, `TableTruncated`, `TableNotCanonical`, `NoMemory`.
+pub fn list_table(table: &[u8]) -> Result<String> {
+    // SAFETY: the table is a slice, and the room's parts lie apart from it.
+    let lines = unsafe {
+        written(|room| {
+            nbt_table_list(
+                table.as_ptr(),
+                table.len(),
+                room.into,
+                room.length,
+                room.used,
+                room.at,
+            )
+        })
+    }?;
+    Ok(text_of(lines))
 }

@@ -1,6 +1,8 @@
+pub mod AbsorbLemmas
 pub mod AnswerLemmas
 pub mod FrameLemmas
 pub mod HandleValues
+pub mod ListLemmas
 pub mod MergeLemmas
 pub mod NameLemmas
 pub mod PlaceLemmas

@@ -1,3 +1,4 @@
+pub mod Absorbing
 pub mod Cutting
 pub mod Datagrams
 pub mod Framing

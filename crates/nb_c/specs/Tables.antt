@@ -1,4 +1,4 @@
--- What the call that joins saved tables answers (our choice).
+-- What the calls on saved tables answer (our choice).
 use Rattle.std.specs.Prelude.{◌≡◌, ◌⊎◌, ℕ, List, Result, Ok, Err}
 use Rattle.nb_table.specs.declared.load_fault.LoadFault.{LoadFault}
 use Rattle.nb_table.specs.declared.load_fault.LoadFault.TheVariants as loads
@@ -9,6 +9,7 @@ use Rattle.nb_table.specs.Limits.{Limits}
 use Rattle.nb_table.specs.LoadFaults.{IsReadAs, LoadFails}
 use Rattle.nb_table.specs.Merging.{Fits, IsRefused}
 use Rattle.nb_table.specs.Saved.{saved}
+use Rattle.nb_member.specs.Listing.{listing}
 use Rattle.nb_c.specs.declared.refusal.Refusal.{Refusal}
 use Rattle.nb_c.specs.declared.refusal.Refusal.TheVariants.{Memory, Fault, FaultAt}
 use Rattle.nb_c.specs.declared.statuses.TheConstants as statuses
@@ -48,6 +49,15 @@ pub data Merges (first second : List ℕ) (limits : Limits) : Result (List ℕ) 
       → Merges first second limits (Err (second_refusal fault))
   joined : (one other : Contents) (answer : Result (List ℕ) Refusal) → IsReadAs first one → IsReadAs second other
       → Joins limits one other answer → Merges first second limits answer
+
+-- the limits of a table that is only listed: as many keys as a saved one can have, and the longest datagrams
+abbrev pub widest : Limits
+widest = record { keys = 4294967295; per_source = 4294967295; longest = 65535 }
+
+-- Lists table answer: this is answered of a saved table: it is read, then the lines of its keys are made
+pub data Lists (table : List ℕ) : Result (List ℕ) Refusal → Type 0 where
+  not_read : (fault : LoadFault) → LoadFails table widest fault → Lists table (Err (first_refusal fault))
+  listed : (contents : Contents) → IsReadAs table contents → Lists table (Ok (listing contents))
 
 -- OrNoMemory Says answer: this is said, or memory ran out
 abbrev pub OrNoMemory : (Result (List ℕ) Refusal → Type 0) → Result (List ℕ) Refusal → Type 0

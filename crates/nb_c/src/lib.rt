@@ -1,6 +1,7 @@
 //! NetBIOS packets for callers in C: the calls of include/nbt.h.
 #![tactic(auto)]
 
+pub mod absorbing;
 pub mod cutting;
 pub mod datagrams;
 pub mod framing;

@@ -1,11 +1,13 @@
-//! Saved tables, joined.
-ghost use Rattle.std.specs.Prelude.{◌≡◌};
-ghost use Rattle.nb_c.specs.Tables.{Gives, Joins, Merges, OrNoMemory};
+//! Saved tables, joined and listed.
+ghost use Rattle.std.specs.Prelude.{◌≡◌, IfOk};
+ghost use Rattle.nb_c.specs.Tables.{Gives, Joins, Lists, Merges, OrNoMemory};
+ghost use Rattle.nb_member.specs.Listing.{listing};
 
 use crate::output::{answer_of, write_answer};
 use crate::refusal::{Refusal, first_refusal, second_refusal, table_refusal};
 use crate::stations::LONGEST;
-use nb_names::Bytes;
+use nb_member::list_keys;
+use nb_names::{Bytes, NoMemory};
 use nb_table::{Table, load};
 use std::alloc::Global;
 
@@ -69,4 +71,38 @@ fn joined(table: &mut Table, other: &Table) -> Result<Bytes, Refusal>
         Err(fault) => Err(table_refusal(fault)),
         Ok(_) => answer_of(table.save()),
     }
+}
+
+/// Writes the lines of a saved table's keys, as `nbt list` prints them.
+///
+/// The form is our choice.
+#[unsafe(no_mangle)]
+pub extern "C" fn nbt_table_list(
+    alloc: Global,
+    table: &[u8],
+    into: &mut [u8],
+    used: &mut usize,
+    at: &mut usize,
+) -> u32
+    ensures { Gives (Lists table.now) into.old into.new used.old used.new at.old at.new result }
+{
+    write_answer(listed(alloc, table), into, used, at)
+}
+
+/// The lines of a saved table's keys.
+fn listed(alloc: Global, table: &[u8]) -> Result<Bytes, Refusal>
+    ensures { OrNoMemory (Lists table.now) result }
+{
+    match load(alloc, table, u32::MAX, u32::MAX, LONGEST) {
+        Err(fault) => Err(first_refusal(fault)),
+        Ok(table) => answer_of(lines_of(alloc, &table)),
+    }
+}
+
+/// The lines of a table's keys.
+fn lines_of(alloc: Global, table: &Table) -> Result<Bytes, NoMemory>
+    ensures { IfOk result (λ bytes. bytes ≡ listing table.now.contents) }
+{
+    let lines = list_keys(alloc, table)?;
+    Ok(Bytes::from_vec(lines.into_bytes()))
 }

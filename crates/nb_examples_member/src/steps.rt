@@ -6,17 +6,18 @@ use crate::stations::member_of;
 use nb_datagram::Datagrams;
 use nb_examples_table::reads::{not_memory, reads};
 use nb_examples_words::fault::ExampleFault;
-use nb_examples_words::marks::{asked, begin, end};
+use nb_examples_words::marks::{alone, asked, begin, end, made};
 use nb_examples_words::words::{Words, split};
-use nb_member::{Member, MemberFault};
+use nb_member::{Member, MemberFault, list_keys};
 use nb_table::{Table, TableFault};
 use std::alloc::Global;
 
 /// `take STATION STEP, STEP ..`: what a new member answers to each step.
 ///
 /// `take MOMENT PAYLOAD` is a payload that comes, `took MOMENT PAYLOAD` one whose call stands
-/// between no marks, `tick NOW` a look at the clock, which answers how many keys it dropped, and
-/// `keys` asks how many keys are held.
+/// between no marks, `tick NOW` a look at the clock, which answers how many keys it dropped, `keys`
+/// asks how many keys are held, `list` for the lines of the keys, and `settings` what the member was
+/// set up with.
 pub fn taken(alloc: Global, words: &mut Words<'_>) -> Result<String, ExampleFault> {
     let mut member = member_of(alloc, words.word()?)?;
     let none = Table::new(alloc, 0, 0, 0);
@@ -40,7 +41,8 @@ fn steps_text(
 /// `both STATION STATION STEP, STEP ..`: what two new members answer, `a` and `b`.
 ///
 /// A step is `a` or `b` and what that one does, as `take` has it, or `absorb MOMENT`: it takes in
-/// the other's table, and hands over datagrams; or `same`: whether the tables are equal.
+/// the other's table, and hands over datagrams; `preview`: what it would hand over; or `same`:
+/// whether the tables are equal.
 pub fn taken_by_both(alloc: Global, words: &mut Words<'_>) -> Result<String, ExampleFault> {
     let mut a = member_of(alloc, words.word()?)?;
     let mut b = member_of(alloc, words.word()?)?;
@@ -103,7 +105,10 @@ fn answer_step(
         "took" => take_unmarked(alloc, words, member),
         "tick" => tick(alloc, words, member),
         "absorb" => absorb(alloc, words, member, other),
+        "preview" => preview(alloc, member, other),
         "keys" => keys(alloc, member),
+        "list" => list(alloc, member.table()),
+        "settings" => made(alloc, || member.settings()),
         "same" => Ok(format!(in alloc; "{}", member.table().same(other))?),
         _ => Err(ExampleFault::BadWords),
     }
@@ -173,19 +178,43 @@ fn absorb(
         |member| not_memory(member.absorb(other, moment)),
         |member| reads(alloc, member.table()),
     )?;
-    say_absorbed(alloc, &answer, &mut said)?;
+    say_handed_over(alloc, "absorbed", &answer, &mut said)?;
     Ok(said)
 }
 
-/// Says what came of taking in a table.
-fn say_absorbed(
+/// `preview`.
+fn preview(alloc: Global, member: &mut Member, other: &Table) -> Result<String, ExampleFault> {
+    let (mut said, answer) = asked(
+        alloc,
+        member,
+        |member| not_memory(member.preview(alloc, other)),
+        |member| reads(alloc, member.table()),
+    )?;
+    say_handed_over(alloc, "previewed", &answer, &mut said)?;
+    Ok(said)
+}
+
+/// `list`: the lines of a table's keys, each after a stroke.
+fn list(alloc: Global, table: &Table) -> Result<String, ExampleFault> {
+    let (mut said, lines) = alone(alloc, || list_keys(alloc, table).ok())?;
+    said.push_str("listed")?;
+    for line in lines.lines() {
+        said.push_str(" / ")?;
+        said.push_str(line)?;
+    }
+    Ok(said)
+}
+
+/// Says what came of taking in a table, or would come of it.
+fn say_handed_over(
     alloc: Global,
-    absorbed: &Result<Datagrams, TableFault>,
+    word: &str,
+    handed: &Result<Datagrams, TableFault>,
     said: &mut String,
 ) -> Result<(), ExampleFault> {
-    match absorbed {
+    match handed {
         Ok(datagrams) => {
-            said.push_str("absorbed")?;
+            said.push_str(word)?;
             say_all_delivered(alloc, datagrams, said)
         }
         Err(fault) => say_refused(alloc, MemberFault::Table(*fault), said),

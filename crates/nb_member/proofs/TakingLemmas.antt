@@ -2,3 +2,4 @@
 pub mod Payloads
 pub mod FullKeys
 pub mod MergedMoments
+pub mod Previews

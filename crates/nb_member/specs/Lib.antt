@@ -10,6 +10,7 @@ pub mod Running
 pub mod Agreement
 pub mod Comments
 pub mod Report
+pub mod Listing
 pub mod LineRoom
 pub mod LineReading
 pub mod Replaying

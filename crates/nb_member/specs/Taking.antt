@@ -129,3 +129,9 @@ pub record Absorbs (m : MemberValue) (other : Contents) (moment : ℕ) (new : Me
   pub stays : new ≡ with_timed m new.timed
   pub merged : IsMerged m.timed other moment new.timed
   pub heard : datagrams ≡ filter (hears m.names) (newly_handed (contents m) (contents new))
+
+-- Previews m other datagrams: the member m takes in the other table, and would hand over these datagrams: of those that
+-- would become whole, by ascending key, the ones that it hears
+pub record Previews (m : MemberValue) (other : Contents) (datagrams : List DatagramParts) : Type 0 where
+  pub fits : Fits m.timed.table.limits (contents m) other
+  pub heard : datagrams ≡ filter (hears m.names) (newly_handed (contents m) (join (contents m) other))

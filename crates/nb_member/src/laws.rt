@@ -30,7 +30,10 @@ pub use deliveries::{
     once_is_one_or_none,
 };
 pub use events::each_event_says_something;
-pub use merging::{a_new_member_stands_for_no_event, merging_gives_the_table_of_both};
+pub use merging::{
+    a_new_member_stands_for_no_event, a_preview_is_what_is_handed_over,
+    merging_gives_the_table_of_both,
+};
 use nb_datagram::laws::{one_datagram_fault, one_packet};
 use nb_table::laws::{
     keeping_keys_keeps_their_fragments, same_cores_make_the_same_table,

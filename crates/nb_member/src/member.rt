@@ -64,6 +64,13 @@ impl Member {
         self.timed.table()
     }
 
+    /// What the member was set up with.
+    pub fn settings(&self) -> Settings
+        ensures { result ≡ self.now.settings }
+    {
+        self.settings
+    }
+
     /// Takes a payload that came at this moment, in milliseconds, and says what became of it.
     ///
     /// A fragment is joined to the table; a key that is new starts its timer at this moment. Bytes

@@ -8,7 +8,7 @@ use Rattle.nb_table.specs.Contents.{Contents}
 use Rattle.nb_table.specs.Entry.{EntryValue}
 use Rattle.nb_table.specs.Equal.{same_entry}
 use Rattle.nb_table.specs.Join.{join}
-use Rattle.nbt.specs.Listing.{key_line}
+use Rattle.nb_member.specs.Listing.{key_line}
 use Rattle.nbt.specs.Printing.{line}
 
 -- differ_at t u k: the tables t and u differ at the key k, as a test: one of them alone holds it, or their entries aren't

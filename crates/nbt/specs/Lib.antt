@@ -15,7 +15,6 @@ pub mod SaveFaults
 pub mod Replaying
 pub mod Differences
 pub mod Tables
-pub mod Listing
 pub mod Code
 pub mod Showing
 pub mod Telling

@@ -9,9 +9,9 @@ ghost use Rattle.nbt.specs.Tables.{difference_text};
 ghost use Rattle.nbt.specs.Code.Marks.{marked, with_mark};
 
 use crate::fault::Fault;
-use crate::listing::push_line;
 use crate::output::Output;
 use nb_datagram::Key;
+use nb_member::push_key_line;
 use nb_names::NoMemory;
 use nb_table::{State, Table};
 use std::alloc::Global;
@@ -123,6 +123,6 @@ fn push_held(table: &Table, key: Key, text: &mut String) -> Result<(), NoMemory>
             text.push_str("absent\n")?;
             Ok(())
         }
-        _ => push_line(table, key, text),
+        _ => push_key_line(table, key, text),
     }
 }

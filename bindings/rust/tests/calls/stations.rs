@@ -281,3 +281,83 @@ fn a_station_goes_to_another_thread() {
         thread::spawn(move || matches!(station.take(0, &second), Ok(Outcome::Delivered(_))));
     assert!(heard.join().unwrap());
 }
+
+/// What one station missed another knows: each datagram is handed over once, by ascending key.
+#[test]
+fn a_table_is_taken_in() {
+    let ([a, b], [c, d], [e, f]) = (
+        pieces(7, "FRED<20>"),
+        pieces(2, "FRED<20>"),
+        pieces(9, "ANN<20>"),
+    );
+    let (mut one, mut other) = (station(&["FRED<20>"]), station(&[]));
+    one.take(1_000, &a).unwrap();
+    delivered(&mut other, &[&b, &c, &d, &e, &f]);
+    let table = other.save().unwrap();
+    let found: Vec<_> = one.absorb(2_000, &table).unwrap().collect();
+    let keys: Vec<_> = found.iter().map(|it| (it.kind, it.key)).collect();
+    assert_eq!(keys, [(Kind::Unique, key(2)), (Kind::Unique, key(7))]);
+    for it in found {
+        assert_eq!(it.source.text().unwrap(), "JOE<00>");
+        assert_eq!(it.destination.text().unwrap(), "FRED<20>");
+        assert_eq!(it.data, b"hello, FRED");
+    }
+    assert_eq!(one.absorb(2_500, &table).unwrap().count(), 0);
+    let dropped = [3_000, 3_999, 4_000].map(|now| one.tick(now).unwrap());
+    assert_eq!(dropped, [1, 0, 2]);
+}
+
+/// More than the first room has is handed over whole.
+#[test]
+fn long_datagrams_of_a_table() {
+    let data = vec![7; 60_000];
+    let mut other = station(&[]);
+    for identifier in 1..4 {
+        let long = Datagram {
+            data: &data,
+            ..datagram(identifier, "FRED<20>")
+        };
+        for payload in &long.cut(50_000).unwrap() {
+            other.take(0, payload).unwrap();
+        }
+    }
+    let table = other.save().unwrap();
+    let mut one = station(&["FRED<20>"]);
+    let found = one.absorb(0, &table).unwrap();
+    assert_eq!(found.filter(|it| it.data == &data[..]).count(), 3);
+    assert_eq!(one.save().unwrap(), table);
+}
+
+#[test]
+fn tables_that_are_not_taken_in() {
+    let limits = |keys, per_source| Limits { keys, per_source };
+    let [first, _] = pieces(7, "FRED<20>");
+    let table = |identifiers: &[u8]| crate::tables::spoilt(identifiers);
+    for (limits, table, status, at) in [
+        (limits(9, 9), b"NBT3".to_vec(), Status::TableBadMagic, None),
+        (
+            limits(9, 9),
+            table(&[2, 1]),
+            Status::TableNotCanonical,
+            Some(17),
+        ),
+        (limits(2, 9), table(&[1, 2, 3]), Status::TableFull, None),
+        (
+            limits(9, 2),
+            table(&[1, 2, 3]),
+            Status::TableFullSource,
+            None,
+        ),
+        (limits(2, 9), table(&[1, 2]), Status::Full, None),
+        (limits(9, 2), table(&[1, 2]), Status::FullSource, None),
+    ] {
+        let mut station = limited(&["FRED<20>"], limits);
+        station.take(0, &first).unwrap();
+        let before = station.save().unwrap();
+        assert_eq!(
+            refused(station.absorb(0, &table).map(Iterator::count)),
+            (status, at)
+        );
+        assert_eq!(station.save().unwrap(), before);
+    }
+}

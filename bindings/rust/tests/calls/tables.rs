@@ -1,13 +1,13 @@
 //! Saved tables.
 
 use crate::{joined, refused};
-use nbt::{merge, Limits, Status};
+use nbt::{list_table, merge, Limits, Status};
 
 /// A table of no keys.
 pub const EMPTY: &[u8] = b"NBT2\0\0\0\0";
 
 /// A table in which these keys of 10.0.0.5:138 are spoilt.
-fn spoilt(identifiers: &[u8]) -> Vec<u8> {
+pub fn spoilt(identifiers: &[u8]) -> Vec<u8> {
     let keys: Vec<_> = identifiers
         .iter()
         .flat_map(|it| [0x0a, 0, 0, 5, 0, 0x8a, 0, *it, 0])
@@ -84,5 +84,30 @@ fn tables_that_are_refused() {
         ),
     ] {
         assert_eq!(refused(merge(&first, &second, limits)), (status, at));
+    }
+}
+
+#[test]
+fn tables_are_listed() {
+    assert_eq!(list_table(EMPTY).unwrap(), "");
+    let lines = list_table(&spoilt(&[1, 0xa0])).unwrap();
+    assert_eq!(
+        lines,
+        "10.0.0.5:138/0001 spoilt\n10.0.0.5:138/00a0 spoilt\n"
+    );
+    let many: Vec<u8> = (0..=255).collect();
+    let text = list_table(&joined(&[b"NBT1\0\0\x01\0", &spoilt(&many)[8..]]));
+    assert_eq!(text.unwrap().lines().count(), 256);
+}
+
+#[test]
+fn tables_that_are_not_listed() {
+    for (table, status, at) in [
+        (b"".to_vec(), Status::TableBadMagic, None),
+        (EMPTY[..7].to_vec(), Status::TableTruncated, None),
+        (spoilt(&[2, 1]), Status::TableNotCanonical, Some(17)),
+        (joined(&[EMPTY, b"!"]), Status::TableNotCanonical, Some(8)),
+    ] {
+        assert_eq!(refused(list_table(&table)), (status, at));
     }
 }

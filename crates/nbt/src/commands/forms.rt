@@ -3,7 +3,7 @@ ghost use Rattle.std.specs.Prelude.{◌≡◌, ◌≢◌, ℕ, List, Err, OnOk, 
 ghost use Rattle.std.specs.Io.KnownBytes.{Appends, Consumes};
 ghost use Rattle.nb_names.specs.Devices.{ShowsUnread, ShowsWriteFault};
 ghost use Rattle.nb_member.specs.declared.capture_options.CaptureOptions.{CaptureOptions};
-ghost use Rattle.nbt.specs.Listing.{listing};
+ghost use Rattle.nb_member.specs.Listing.{listing};
 ghost use Rattle.nbt.specs.Replaying.{IsReplay, ReplaysCapture, AreTexts};
 ghost use Rattle.nbt.specs.Settings.{AreOptions, IsCapacity, IsText};
 ghost use Rattle.nbt.specs.Showing.{Shows, ShowsLine};

@@ -4,7 +4,7 @@ ghost use Rattle.std.specs.Io.KnownBytes.{Appends, Keeps};
 ghost use Rattle.nb_names.specs.declared.limits.TheConstants.{MAX_INPUT};
 ghost use Rattle.nbt.specs.Input.{WasCut};
 ghost use Rattle.nb_names.specs.Devices.{AppendsFront, ShowsWriteFault};
-ghost use Rattle.nbt.specs.Listing.{listing};
+ghost use Rattle.nb_member.specs.Listing.{listing};
 ghost use Rattle.nbt.specs.Settings.{IsCapacity};
 ghost use Rattle.nbt.specs.Tables.{MergeStops, MergesTables};
 

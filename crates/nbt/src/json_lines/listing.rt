@@ -2,7 +2,7 @@
 
 use crate::json_lines::listed::push_listed;
 use crate::json_lines::writing::JsonLine;
-use crate::listing::lines_of;
+use nb_member::list_keys;
 use nb_names::NoMemory;
 use nb_table::Table;
 use std::alloc::Global;
@@ -13,7 +13,7 @@ use std::alloc::Global;
 ///
 /// [`NoMemory`] where memory ran out.
 pub fn objects_of(alloc: Global, table: &Table) -> Result<Vec<u8>, NoMemory> {
-    let lines = lines_of(alloc, table)?;
+    let lines = list_keys(alloc, table)?;
     let mut objects = Vec::new(alloc);
     for line in lines.lines() {
         push_object(alloc, line, &mut objects)?;

@@ -1,6 +1,6 @@
 use Rattle.std.proofs.Common.{◌≡◌, ◌++◌, string_bytes}
-use Rattle.nbt.specs.Listing.{key_lines, listing}
-use Rattle.nbt.proofs.listing.lines_of.Given as goal
+use Rattle.nb_member.specs.Listing.{key_lines, listing}
+use Rattle.nb_member.proofs.listing.list_keys.Given as goal
 
 abbrev pub invariant-loop-key : goal.invariant-loop-key
 invariant-loop-key l =

@@ -1,5 +1,5 @@
--- What `nbt list` prints of a table (our choice). Keys, kinds, names and data are as the report of a replay has them;
--- numbers are decimal.
+-- The lines of a table's keys, as `nbt list` prints them (our choice). Keys, kinds, names and data are as the report of a
+-- replay has them; numbers are decimal.
 use Rattle.std.specs.Prelude.{ℕ, List, [], ◌∷◌, ◌++◌, codes, Option, None, Some}
 use Rattle.std.specs.Fmt.{decimal}
 use Rattle.std.specs.FinMap as maps
@@ -14,7 +14,7 @@ use Rattle.nb_table.specs.Ranges.{ranges_at}
 use Rattle.nb_table.specs.Whole.{datagram_at}
 use Rattle.nb_datagram.specs.Texts.{key_text, kind_text}
 use Rattle.nb_member.specs.Report.{parts_text}
-use Rattle.nbt.specs.Printing.{line}
+use Rattle.nb_member.specs.Capture.{line_feed}
 
 -- how many bytes the data has, or `?`
 abbrev pub end_text : Option ℕ → List ℕ
@@ -59,7 +59,7 @@ known_text None None rs = codes " spoilt"
 
 -- key_line t k: the line of a key k that the table t holds
 abbrev pub key_line : Contents → Key → List ℕ
-key_line t k = line (key_text k ++ known_text (datagram_at t k) (outline_at t k) (ranges_at t k))
+key_line t k = (key_text k ++ known_text (datagram_at t k) (outline_at t k) (ranges_at t k)) ++ line_feed ∷ []
 
 -- key_lines t ks: the lines of such keys, in order
 abbrev pub key_lines : Contents → List Key → List ℕ

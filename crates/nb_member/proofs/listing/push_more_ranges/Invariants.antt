@@ -1,6 +1,6 @@
 use Rattle.std.proofs.Common.{◌≡◌, ◌++◌, string_bytes}
-use Rattle.nbt.specs.Listing.{more_ranges_text}
-use Rattle.nbt.proofs.listing.push_more_ranges.Given as goal
+use Rattle.nb_member.specs.Listing.{more_ranges_text}
+use Rattle.nb_member.proofs.listing.push_more_ranges.Given as goal
 
 abbrev pub invariant-loop-range : goal.invariant-loop-range
 invariant-loop-range l =

@@ -1,0 +1,14 @@
+use Rattle.std.proofs.Common.{refl, subst}
+use Rattle.nb_member.specs.declared.settings.Settings.{Settings}
+use Rattle.nb_member.specs.Events.{limits_of}
+use Rattle.nb_table.specs.LoadFaults.{LoadFails}
+use Rattle.nb_c.specs.Absorbing.{not_read, read}
+use Rattle.nb_c.proofs.absorbing.absorb_saved.Goals as goal
+
+pub returns-in-Err : goal.returns-in-Err
+returns-in-Err c =
+    rw c.first_refusal.ensures (not_read _ (subst (λ (s : Settings). LoadFails c.args.table.now (limits_of s) c.in-Err.fault)
+    c.settings-settings.ensures c.in-Err.ensures.fault) refl)
+
+pub returns-in-Ok : goal.returns-in-Ok
+returns-in-Ok c = read _ _ c.in-Ok.ensures.found c.join.ensures

@@ -1,0 +1,154 @@
+//! What a table knows of its keys, a line for each.
+ghost use Rattle.std.specs.Prelude.{◌≡◌, ◌++◌, IfOk, OnOk, string_bytes};
+ghost use Rattle.nb_table.specs.Outline.{outline_at};
+ghost use Rattle.nb_table.specs.Ranges.{ranges_at};
+ghost use Rattle.nb_table.specs.Whole.{datagram_at};
+ghost use Rattle.nb_member.specs.Listing.{end_text, key_line, known_text, listing, more_ranges_text, more_text, outline_text, partial_text, range_text, ranges_text};
+
+use crate::report::texts::push_parts;
+use nb_datagram::{Key, kind_name, push_key};
+use nb_names::{NoMemory, push_name};
+use nb_table::{Outline, PlaceRange, Ranges, Table};
+use std::alloc::Global;
+
+/// The lines of a table's keys, ascending, as `nbt list` prints them (our choice): the key, and
+/// `whole` with its datagram, `partial` with what is known of it, or `spoilt`.
+///
+/// # Errors
+///
+/// `NoMemory` where memory ran out.
+pub fn list_keys(alloc: Global, table: &Table) -> Result<String, NoMemory>
+    ensures { IfOk result (λ lines. string_bytes lines ≡ listing table.now.contents) }
+{
+    let mut lines = String::new(alloc);
+    for key in table.keys() {
+        push_key_line(table, key, &mut lines)?;
+    }
+    Ok(lines)
+}
+
+/// Adds the line of a key that is held, as [`list_keys`] has it.
+///
+/// # Errors
+///
+/// `NoMemory` where memory ran out; some of the line may then be added.
+pub fn push_key_line(table: &Table, key: Key, text: &mut String) -> Result<(), NoMemory>
+    ensures { OnOk result
+        (string_bytes text.new ≡ string_bytes text.old ++ key_line table.now.contents key) }
+{
+    push_key(key, text)?;
+    push_known(table, &key, text)?;
+    text.push('\n')?;
+    Ok(())
+}
+
+/// Adds what is known of a key that is held.
+fn push_known(table: &Table, key: &Key, text: &mut String) -> Result<(), NoMemory>
+    ensures { OnOk result (string_bytes text.new ≡ string_bytes text.old
+        ++ known_text (datagram_at table.now.contents key.now)
+        (outline_at table.now.contents key.now) (ranges_at table.now.contents key.now)) }
+{
+    if let Some(datagram) = table.datagram(key)? {
+        text.push_str(" whole")?;
+        return push_parts(&datagram, text);
+    }
+    match table.outline(key) {
+        Some(outline) => {
+            text.push_str(" partial ")?;
+            push_partial(&outline, table.ranges(key), text)
+        }
+        None => {
+            text.push_str(" spoilt")?;
+            Ok(())
+        }
+    }
+}
+
+/// Adds what is known of a datagram that isn't whole, the ranges of its known places among it.
+fn push_partial(outline: &Outline, ranges: Ranges<'_>, text: &mut String) -> Result<(), NoMemory>
+    ensures { OnOk result (string_bytes text.new
+        ≡ string_bytes text.old ++ partial_text outline.now ranges.entry) }
+{
+    push_outline(outline, text)?;
+    text.push_str(" ")?;
+    push_ranges(ranges, text)?;
+    push_more(outline.awaited, text)
+}
+
+/// Adds ranges of places, with a comma between two, or `-` where there is none.
+fn push_ranges(mut ranges: Ranges<'_>, text: &mut String) -> Result<(), NoMemory>
+    ensures { OnOk result
+        (string_bytes text.new ≡ string_bytes text.old ++ ranges_text ranges.entry) }
+{
+    match ranges.next() {
+        Some(range) => {
+            push_range(range, text)?;
+            push_more_ranges(ranges, text)
+        }
+        None => {
+            text.push_str("-")?;
+            Ok(())
+        }
+    }
+}
+
+/// Adds further ranges of places, with a comma before each.
+fn push_more_ranges(ranges: Ranges<'_>, text: &mut String) -> Result<(), NoMemory>
+    ensures { OnOk result
+        (string_bytes text.new ≡ string_bytes text.old ++ more_ranges_text ranges.entry) }
+{
+    for range in ranges {
+        text.push_str(",")?;
+        push_range(range, text)?;
+    }
+    Ok(())
+}
+
+/// Adds a range: its first place, and the one after its last.
+fn push_range(range: PlaceRange, text: &mut String) -> Result<(), NoMemory>
+    ensures { OnOk result (string_bytes text.new ≡ string_bytes text.old ++ range_text range) }
+{
+    let from = range.from;
+    let to = range.to;
+    write!(text, "{from}-{to}")?;
+    Ok(())
+}
+
+/// Adds the place of a promise that reaches past all that is known, where there is one.
+fn push_more(awaited: Option<u32>, text: &mut String) -> Result<(), NoMemory>
+    ensures { OnOk result (string_bytes text.new ≡ string_bytes text.old ++ more_text awaited) }
+{
+    if let Some(place) = awaited {
+        write!(text, " more {place}")?;
+    }
+    Ok(())
+}
+
+/// Adds what is known of a datagram that isn't whole but for its places.
+fn push_outline(outline: &Outline, text: &mut String) -> Result<(), NoMemory>
+    ensures { OnOk result
+        (string_bytes text.new ≡ string_bytes text.old ++ outline_text outline.now) }
+{
+    text.push_str(kind_name(outline.kind))?;
+    text.push_str(" ")?;
+    push_name(text, &outline.source)?;
+    text.push_str(" ")?;
+    push_name(text, &outline.destination)?;
+    let held = outline.held;
+    write!(text, " {held}/")?;
+    push_end(outline.end, text)?;
+    let runs = outline.runs;
+    write!(text, " {runs}")?;
+    Ok(())
+}
+
+/// Adds how many bytes a datagram has, or `?`.
+fn push_end(end: Option<u32>, text: &mut String) -> Result<(), NoMemory>
+    ensures { OnOk result (string_bytes text.new ≡ string_bytes text.old ++ end_text end) }
+{
+    match end {
+        Some(end) => write!(text, "{end}")?,
+        None => text.push_str("?")?,
+    }
+    Ok(())
+}

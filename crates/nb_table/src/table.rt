@@ -103,8 +103,8 @@ impl Table {
     ///
     /// # Errors
     ///
-    /// As [`Table::refusal_of`] answers, then `NoMemory` where memory ran out. RFC 1002 section 5.3;
-    /// the rules on fragments are our choice.
+    /// As [`Table::refusal_of`] answers, then `NoMemory` where memory ran out. RFC 1002 section
+    /// 5.3; the rules on fragments are our choice.
     pub fn insert(&mut self, fragment: &Fragment<'_>) -> Result<Change, TableFault>
         ensures taken { OnOk result (Takes self.old fragment.now) }
         ensures joined { OnOk result (self.new ≡ with_fragment self.old fragment.now) }

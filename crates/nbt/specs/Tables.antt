@@ -1,7 +1,7 @@
 -- The tables that `nbt merge` and `nbt agree` read: a line for each, which is the saved table in hexadecimal
 -- (our choice). Lines are numbered from 1.
-use Rattle.std.specs.Prelude.{◌≡◌, ◌≢◌, ◌⊎◌, ◌+◌, ◌<◌, ◌≤◌, ℕ, Bool, true, false, List, [], ◌∷◌, ◌++◌, length, map, take, slice_get, Option, Some, codes}
-use Rattle.std.specs.Io.KnownBytes.{Appends, Consumes, IsAtEnd}
+use Rattle.std.specs.Prelude.{◌≡◌, ◌≢◌, ◌⊎◌, ◌+◌, ◌<◌, ◌≤◌, ℕ, Bool, true, false, List, [], ◌∷◌, ◌++◌, length, map, take, slice_get, Option, Some, Result, Ok, Err, codes}
+use Rattle.std.specs.Io.KnownBytes.{Appends, Consumes, IsAtEnd, Keeps}
 use Rattle.std.specs.List.{AllZip}
 use Rattle.nb_names.specs.declared.limits.TheConstants.{MAX_INPUT}
 use Rattle.nb_names.specs.Devices.{AppendsFront}
@@ -131,6 +131,15 @@ pub record MergesTables (IsGiven : Capacity → Type 0) (IsPrinted : Contents �
   pub tables : AreTables capacity text (first ∷ others)
   pub taken : AreTaken join (Fits first.limits) first.contents (contents_of others)
   pub printed : IsPrinted (joined_all join first.contents (contents_of others))
+
+-- PrintsJoin IsGiven text_of old_in new_in old new result: what a command answers that prints a text of the join of
+-- the input's tables, and what that leaves on the output: the text, a front of it where the output failed, or nothing
+abbrev pub PrintsJoin : (Capacity → Type 0) → (Contents → List ℕ) → Option (List ℕ) → Option (List ℕ) → Option (List ℕ) → Option (List ℕ) → Result (Unit {0}) Fault → Type 0
+PrintsJoin IsGiven text_of old_in new_in old new (Ok done) = MergesTables IsGiven (λ contents. Appends old new (text_of contents)) old_in new_in
+PrintsJoin IsGiven text_of old_in new_in old new (Err fault) =
+    MergeStops IsGiven old_in new_in fault
+    × (fault ≢ Write → Keeps old new)
+    × (fault ≡ Write → MergesTables IsGiven (λ contents. AppendsFront old new (text_of contents)) old_in new_in)
 
 -- CompareFails text fault: why the lines of the text aren't compared: they aren't two, or the first that is
 -- no table

@@ -1,12 +1,11 @@
 //! `nbt list`: what saved tables know together of each key.
-ghost use Rattle.std.specs.Prelude.{◌≡◌, ◌≢◌, OnOk, IfErr};
-ghost use Rattle.std.specs.Io.KnownBytes.{Appends, Keeps};
+ghost use Rattle.std.specs.Prelude.{◌≡◌, IfErr};
 ghost use Rattle.nb_names.specs.declared.limits.TheConstants.{MAX_INPUT};
 ghost use Rattle.nbt.specs.Input.{WasCut};
-ghost use Rattle.nb_names.specs.Devices.{AppendsFront, ShowsWriteFault};
+ghost use Rattle.nb_names.specs.Devices.{ShowsWriteFault};
 ghost use Rattle.nb_member.specs.Listing.{listing};
 ghost use Rattle.nbt.specs.Settings.{IsCapacity};
-ghost use Rattle.nbt.specs.Tables.{MergeStops, MergesTables};
+ghost use Rattle.nbt.specs.Tables.{PrintsJoin};
 
 use crate::fault::Fault;
 use crate::joining_input::joined_input;
@@ -32,19 +31,9 @@ pub fn run_list<R: Read, W: Write>(
     input: &mut Counted<R>,
     output: &mut Output<W>,
 ) -> Result<(), Fault>
-    ensures printed { OnOk result (MergesTables (IsCapacity matches.now)
-        (λ contents. Appends (W.contents output.old.inner) (W.contents output.new.inner)
-        (listing contents))
-        (R.remaining input.old.inner) (R.remaining input.new.inner)) }
-    ensures err { IfErr result (λ fault. fault ≢ Fault.Write →
-        Keeps (W.contents output.old.inner) (W.contents output.new.inner)) }
-    ensures write { IfErr result (λ fault. fault ≡ Fault.Write →
-        MergesTables (IsCapacity matches.now)
-        (λ contents. AppendsFront (W.contents output.old.inner) (W.contents output.new.inner)
-        (listing contents))
-        (R.remaining input.old.inner) (R.remaining input.new.inner)) }
-    ensures fault { IfErr result (MergeStops (IsCapacity matches.now)
-        (R.remaining input.old.inner) (R.remaining input.new.inner)) }
+    ensures prints { PrintsJoin (IsCapacity matches.now) listing
+        (R.remaining input.old.inner) (R.remaining input.new.inner)
+        (W.contents output.old.inner) (W.contents output.new.inner) result }
     ensures cut { IfErr result (λ fault. fault ≡ Fault.Read →
         WasCut MAX_INPUT (R.remaining input.old.inner) (R.remaining input.new.inner)
         input.old.counts input.new.counts) }

@@ -1,13 +1,11 @@
 //! `nbt merge`: saved tables, joined.
-ghost use Rattle.std.specs.Prelude.{◌≡◌, ◌≢◌, OnOk, IfErr};
-ghost use Rattle.std.specs.Io.KnownBytes.{Keeps};
+ghost use Rattle.std.specs.Prelude.{◌≡◌, IfErr};
 ghost use Rattle.nb_names.specs.declared.limits.TheConstants.{MAX_INPUT};
 ghost use Rattle.nbt.specs.Input.{WasCut};
 ghost use Rattle.nb_names.specs.Devices.{ShowsWriteFault};
-ghost use Rattle.nbt.specs.Printing.{PrintsFront, PrintsLine};
-ghost use Rattle.nbt.specs.Saved.{saved_digits};
+ghost use Rattle.nbt.specs.Saved.{saved_line};
 ghost use Rattle.nbt.specs.Settings.{IsCapacity};
-ghost use Rattle.nbt.specs.Tables.{MergeStops, MergesTables};
+ghost use Rattle.nbt.specs.Tables.{PrintsJoin};
 
 use crate::fault::Fault;
 use crate::joining_input::joined_input;
@@ -31,19 +29,9 @@ pub fn run_merge<R: Read, W: Write>(
     input: &mut Counted<R>,
     output: &mut Output<W>,
 ) -> Result<(), Fault>
-    ensures printed { OnOk result (MergesTables (IsCapacity matches.now)
-        (λ contents. PrintsLine (W.contents output.old.inner) (W.contents output.new.inner)
-        (saved_digits contents))
-        (R.remaining input.old.inner) (R.remaining input.new.inner)) }
-    ensures err { IfErr result (λ fault. fault ≢ Fault.Write →
-        Keeps (W.contents output.old.inner) (W.contents output.new.inner)) }
-    ensures write { IfErr result (λ fault. fault ≡ Fault.Write →
-        MergesTables (IsCapacity matches.now)
-        (λ contents. PrintsFront (W.contents output.old.inner) (W.contents output.new.inner)
-        (saved_digits contents))
-        (R.remaining input.old.inner) (R.remaining input.new.inner)) }
-    ensures fault { IfErr result (MergeStops (IsCapacity matches.now)
-        (R.remaining input.old.inner) (R.remaining input.new.inner)) }
+    ensures prints { PrintsJoin (IsCapacity matches.now) saved_line
+        (R.remaining input.old.inner) (R.remaining input.new.inner)
+        (W.contents output.old.inner) (W.contents output.new.inner) result }
     ensures cut { IfErr result (λ fault. fault ≡ Fault.Read →
         WasCut MAX_INPUT (R.remaining input.old.inner) (R.remaining input.new.inner)
         input.old.counts input.new.counts) }

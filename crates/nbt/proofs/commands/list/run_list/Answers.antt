@@ -1,19 +1,15 @@
-use Rattle.std.proofs.lemmas.Result.{IfErr-weaker, on_ok_weaker}
+use Rattle.nb_names.specs.DeviceFacts.{Keeps-same}
 use Rattle.nbt.specs.Settings.{IsCapacity}
-use Rattle.nbt.specs.Tables.{MergeFails, input_fails}
-use Rattle.nbt.proofs.JoinedLemmas.{join_printed, printing_fails}
+use Rattle.nbt.specs.Listing.{listing}
+use Rattle.nbt.proofs.JoinedLemmas.{join_prints, join_stops}
 use Rattle.nbt.proofs.commands.list.run_list.Goals as goal
 
-pub returns-clause-printed : goal.returns-clause-printed
-returns-clause-printed g c =
-    on_ok_weaker c.print_listing.result (λ printed. join_printed _ _ _ _ _ c.in_ok-table.ensures.joined printed) c.print_listing.ensures.printed
+pub returns-clause-prints : goal.returns-clause-prints
+returns-clause-prints g c =
+    let done = c.print_listing.ensures in
+    join_prints (IsCapacity c.args.matches.now) listing _ _ _ _ _ c.print_listing.result c.in_ok-table.ensures.joined done.printed done.fault done.err done.write
 
-pub returns-clause-write : goal.returns-clause-write
-returns-clause-write g c =
-    IfErr-weaker c.print_listing.result _ _
-    (λ fault front write. join_printed _ _ _ _ _ c.in_ok-table.ensures.joined (front write))
-    c.print_listing.ensures.write
-
-pub returns-clause-fault : goal.returns-clause-fault
-returns-clause-fault g c =
-    IfErr-weaker c.print_listing.result _ _ (λ fault is. input_fails (printing_fails (MergeFails (IsCapacity c.args.matches.now)) _ _ fault is)) c.print_listing.ensures.fault
+pub returns-in_err-table-clause-prints : goal.returns-in_err-table-clause-prints
+returns-in_err-table-clause-prints g c =
+    let why = c.in_err-table.ensures in
+    join_stops (IsCapacity c.args.matches.now) listing _ _ _ _ _ c.from_residual.result c.from_residual.ensures.1 why.fault why.no_write (Keeps-same _)

@@ -1,4 +1,4 @@
-use Rattle.nbt.specs.Listing.{listing}
+use Rattle.nb_member.specs.Listing.{listing}
 use Rattle.nbt.specs.Settings.{IsCapacity}
 use Rattle.nbt.proofs.JoinedLemmas.{printed_join}
 use Rattle.nbt.proofs.commands.forms.list_in_form.Goals as goal

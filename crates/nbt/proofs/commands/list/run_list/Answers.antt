@@ -1,6 +1,6 @@
 use Rattle.nb_names.specs.DeviceFacts.{Keeps-same}
 use Rattle.nbt.specs.Settings.{IsCapacity}
-use Rattle.nbt.specs.Listing.{listing}
+use Rattle.nb_member.specs.Listing.{listing}
 use Rattle.nbt.proofs.JoinedLemmas.{join_prints, join_stops}
 use Rattle.nbt.proofs.commands.list.run_list.Goals as goal
 

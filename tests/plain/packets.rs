@@ -1,0 +1,111 @@
+//! The packets of port 138.
+
+use crate::names::{read_name, NameFault};
+
+/// The sender's address and port and the datagram's identifier, in this order in one number.
+#[derive(Clone, Copy, PartialEq, Eq, Hash)]
+pub struct Key(u64);
+
+impl Key {
+    pub fn address(self) -> u32 {
+        (self.0 >> 32) as u32
+    }
+
+    pub fn port(self) -> u16 {
+        (self.0 >> 16) as u16
+    }
+
+    pub fn identifier(self) -> u16 {
+        self.0 as u16
+    }
+}
+
+pub const UNIQUE: u8 = 0x10;
+pub const BROADCAST: u8 = 0x12;
+const MORE: u8 = 1;
+pub const FIRST: u8 = 2;
+pub const NOT_PRESENT: u8 = 0x82;
+const BAD_SOURCE: u8 = 0x83;
+const BAD_DESTINATION: u8 = 0x84;
+
+pub struct Fragment<'a> {
+    pub kind: u8,
+    pub flags: u8,
+    pub key: Key,
+    pub offset: u32,
+    /// The spellings of the source's name and the destination's, and the length of the first one.
+    pub names: &'a [u8],
+    source_length: usize,
+    pub data: &'a [u8],
+}
+
+impl Fragment<'_> {
+    pub fn more(&self) -> bool {
+        self.flags & MORE != 0
+    }
+
+    pub fn reach(&self) -> u32 {
+        self.offset + self.data.len() as u32
+    }
+
+    /// The spelling of the source's name, and the destination's.
+    pub fn both_names(&self) -> (&[u8], &[u8]) {
+        self.names.split_at(self.source_length)
+    }
+}
+
+pub enum Refusal {
+    Truncated(usize),
+    UnknownType,
+    /// Whose name is bad, and why; the error packet's key and code.
+    Name(&'static str, NameFault, Option<(Key, u8)>),
+    Misplaced,
+    TooLong,
+    FullSource,
+    Full,
+}
+
+fn two_bytes(bytes: &[u8], at: usize) -> u16 {
+    u16::from_be_bytes([bytes[at], bytes[at + 1]])
+}
+
+fn first_bytes(packet: &[u8], count: usize) -> Result<&[u8], Refusal> {
+    packet.get(..count).ok_or(Refusal::Truncated(packet.len()))
+}
+
+/// The fragment of a datagram that the packet has, if it has one.
+pub fn decode(packet: &[u8]) -> Result<Option<Fragment<'_>>, Refusal> {
+    match first_bytes(packet, 10)?[0] {
+        0x10..=0x12 => fragment(packet).map(Some),
+        0x13 => first_bytes(packet, 11).map(|_| None),
+        0x14..=0x16 => match read_name(packet, 10) {
+            Ok(_) => Ok(None),
+            Err(fault) => Err(Refusal::Name("destination", fault, None)),
+        },
+        _ => Err(Refusal::UnknownType),
+    }
+}
+
+fn fragment(packet: &[u8]) -> Result<Fragment<'_>, Refusal> {
+    let header = first_bytes(packet, 14)?;
+    let whole = first_bytes(packet, 14 + two_bytes(header, 10) as usize)?;
+    let address_and_port = whole[4..10]
+        .iter()
+        .fold(0, |number, byte| number << 8 | *byte as u64);
+    let key = Key(address_and_port << 16 | two_bytes(header, 2) as u64);
+    let kind = header[0];
+    let bad =
+        |whose, fault, code| Refusal::Name(whose, fault, (kind == UNIQUE).then_some((key, code)));
+    let middle = read_name(whole, 14).map_err(|fault| bad("source", fault, BAD_SOURCE))?;
+    let end =
+        read_name(whole, middle).map_err(|fault| bad("destination", fault, BAD_DESTINATION))?;
+    Ok(Fragment {
+        kind,
+        flags: header[1],
+        key,
+        offset: two_bytes(header, 12) as u32,
+        names: &whole[14..end],
+        source_length: middle - 14,
+        data: &whole[end..],
+    })
+}

@@ -17,8 +17,8 @@ pub whole_in_copy : (s other : Contents) (none one both : TableValue) (datagrams
     → datagrams ≡ newly_handed s (join s other)
 whole_in_copy s other none one both datagrams empty first second handed =
     let copied : one.contents ≡ s =
-        ap (λ (t : TableValue). t.contents) first ∙ ap (λ (t : Contents). join t s) empty
-        ∙ joined-empty key_cmp_total key_cmp_exact join_entry s in
+    ap (λ (t : TableValue). t.contents) first ∙ ap (λ (t : Contents). join t s) empty
+    ∙ joined-empty key_cmp_total key_cmp_exact join_entry s in
     let merged : both.contents ≡ join s other =
-        ap (λ (t : TableValue). t.contents) second ∙ ap (λ (t : Contents). join t other) copied in
+    ap (λ (t : TableValue). t.contents) second ∙ ap (λ (t : Contents). join t other) copied in
     handed ∙ ap (λ (t : Contents). newly_handed t both.contents) copied ∙ ap (newly_handed s) merged

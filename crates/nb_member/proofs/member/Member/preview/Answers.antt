@@ -17,5 +17,5 @@ returns-clause-previewed c =
     rw (← c.self.view_is) (record {
       fits = subst (λ (t : TableValue). Fits t.limits t.contents c.args.other.now.contents) c.table.ensures c.in_ok-datagrams.ensures.fits;
       heard = c.heard_of.ensures ∙ ap (filter (hears c.self.inside.names)) (c.in_ok-datagrams.ensures.handed
-      ∙ ap (λ (t : TableValue). newly_handed t.contents (join t.contents c.args.other.now.contents)) c.table.ensures);
+          ∙ ap (λ (t : TableValue). newly_handed t.contents (join t.contents c.args.other.now.contents)) c.table.ensures);
     })

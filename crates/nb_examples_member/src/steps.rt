@@ -16,8 +16,8 @@ use std::alloc::Global;
 ///
 /// `take MOMENT PAYLOAD` is a payload that comes, `took MOMENT PAYLOAD` one whose call stands
 /// between no marks, `tick NOW` a look at the clock, which answers how many keys it dropped, `keys`
-/// asks how many keys are held, `list` for the lines of the keys, and `settings` what the member was
-/// set up with.
+/// asks how many keys are held, `list` for the lines of the keys, and `settings` what the member
+/// was set up with.
 pub fn taken(alloc: Global, words: &mut Words<'_>) -> Result<String, ExampleFault> {
     let mut member = member_of(alloc, words.word()?)?;
     let none = Table::new(alloc, 0, 0, 0);

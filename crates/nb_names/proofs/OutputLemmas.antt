@@ -75,7 +75,7 @@ pub wrote_front : (before mid_known now : Option (List ℕ)) (old mid : Counts) 
     AppendsFront mid_known now (digits_text part) → AppendsFront before now (digits_text bytes)
 wrote_front before mid_known now old mid bytes rest part behind n w front back took =
     let some = front_after before mid_known now w.written (digits_text part ++ digits_text behind) w.appends
-          (front_wider mid_known now (digits_text part) (digits_text behind) took) in
+    (front_wider mid_known now (digits_text part) (digits_text behind) took) in
     subst (AppendsFront before now) w.whole (subst (λ digits. AppendsFront before now (w.written ++ digits)) (digits_split n rest part behind front back) some)
 
 -- the last digits

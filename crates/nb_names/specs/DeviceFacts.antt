@@ -70,9 +70,11 @@ front_wider before now xs ys (count, within, appends) =
 
 -- bytes, and then a front of others
 pub front_after : (before mid now : Option (List ℕ)) (xs ys : List ℕ) → Appends before mid xs → AppendsFront mid now ys → AppendsFront before now (xs ++ ys)
-front_after before mid now xs ys whole (count, within, appends) =
-    (length xs + count, omega (arith, within, length-append xs ys),
-      subst (Appends before now) (sym (take-append-add xs ys count)) (Appends-more before mid now xs (take count ys) whole appends))
+front_after before mid now xs ys whole (count, within, appends) = (
+  length xs + count,
+  omega (arith, within, length-append xs ys),
+  subst (Appends before now) (sym (take-append-add xs ys count)) (Appends-more before mid now xs (take count ys) whole appends),
+)
 
 -- ---- counts
 

@@ -48,12 +48,7 @@ pub(crate) fn is_full_of(entries: &BTreeMap<Key, Entry>, ip: [u8; 4], most: u32)
 }
 
 /// How many keys of this address may still be added: as known, or counted.
-fn known_room(
-    known: Option<u32>,
-    entries: &BTreeMap<Key, Entry>,
-    ip: [u8; 4],
-    most: u32,
-) -> u32
+fn known_room(known: Option<u32>, entries: &BTreeMap<Key, Entry>, ip: [u8; 4], most: u32) -> u32
     ensures { result ≡ unwrap_or known (most
         - held_keys (of_source ip) (maps.from_entries {R = key_cmp} entries.now.entries)) }
 {

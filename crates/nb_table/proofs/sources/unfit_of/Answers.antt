@@ -87,7 +87,7 @@ loop-key-preserved c =
     let new : is_none (maps.get s k) ≡ true = lacked (maps.get s k) false (ap is_some (get_is key_cmp_total c.args.entries.now k) ∙ sym c.contains_key.ensures ∙ c.if-contains_key.false) in
     let passes : p k ≡ true = ap₂ ◌&&◌ (not_false _ (sym c.ne.ensures ∙ c.if-ne.false)) new in (
       sym (ap (λ fs. slice_get (filter p (map (λ f. f.0) fs)) room) is
-      ∙ ap (slice_get (filter p (map (λ f. f.0) (e ∷ c.next.new.self)))) (sym c.known_room-room.ensures)
-      ∙ one_in p e c.next.new.self c.known_room-room.result passes c.if-room-eq0.false) ∙ c.loop-key.invariant.0,
+          ∙ ap (slice_get (filter p (map (λ f. f.0) (e ∷ c.next.new.self)))) (sym c.known_room-room.ensures)
+          ∙ one_in p e c.next.new.self c.known_room-room.result passes c.if-room-eq0.false) ∙ c.loop-key.invariant.0,
       left_next ip e c.next.new.self left,
     )

@@ -6,8 +6,7 @@ use Rattle.nb_table.specs.Contents.{Contents}
 use Rattle.nb_member.specs.Member.{MemberValue}
 use Rattle.nb_member.specs.Taking.{Absorbs, Previews}
 use Rattle.nb_c.specs.declared.refusal.Refusal.{Refusal}
-use Rattle.nb_c.specs.declared.refusal.Refusal.TheVariants.{Memory}
-use Rattle.nb_c.specs.Absorbing.{Hears, hears, takes_not, Joined, done, no_room, refused, no_memory, all_heard}
+use Rattle.nb_c.specs.Absorbing.{Hears, hears, Joined, done, refused, no_memory, all_heard}
 use Rattle.nb_c.specs.Outputs.{of_memory}
 use Rattle.nb_c.specs.Tables.{OrNoMemory}
 

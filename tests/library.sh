@@ -115,6 +115,26 @@ refused() {
     done
 }
 
+# replays_alike WHERE: a station in this language reported what `nbt replay` does.
+replays_alike() {
+    grep -q ' delivered ' "$room/output" && cmp -s "$room/replayed" "$room/output"
+    count $? "a station does what nbt replay does, $1: $(tail -n 1 "$room/errors") $(diff "$room/replayed" "$room/output" | head -c 300)"
+}
+
+# A capture, what `nbt replay` reports of it, but for why a payload is refused, and the same by a station in C.
+replayed() {
+    lines 1000 5
+    { cat "$top/examples/capture.txt"; sed 's/ / 2500 /' "$room/lines5"; echo tick 4000; } >"$room/capture"
+    ended "$program" replay 'FRED<20>' 'JOE<00>' <"$room/capture" | awk '
+        $2 == "refused" { print $1, $2 ($(NF - 1) == "error" ? " error " $NF : ""); next }
+        { print }' >"$room/replayed"
+    $CC "${strict[@]}" -fsanitize=address,undefined -fno-sanitize-recover=all -o "$room/replay" \
+        "$here/lib/library_replay.c" "$built/libnbt.a" >"$room/log" 2>&1
+    count $? "tests/lib/library_replay.c: $(head -n 1 "$room/log")"
+    ended "$room/replay" 'FRED<20>' 'JOE<00>' <"$room/capture" >"$room/output" 2>"$room/errors"
+    replays_alike 'in C'
+}
+
 # The package for Python, over the shared object, and beside `nbt show`.
 python() {
     (cd "$top/bindings/python" && NBT_LIBRARY=$built/libnbt.so.0 PYTHONDONTWRITEBYTECODE=1 PYTHONPATH=. \
@@ -122,7 +142,7 @@ python() {
     count $? "python3 -m unittest: $(tail -n 3 "$room/log" | head -c 300)"
     grep -cE '\.\.\. ok$' "$room/log" >"$room/tests"
     passed=$((passed + $(cat "$room/tests")))
-    lines 1000 3
+    lines "$payloads" 3
     NBT_LIBRARY=$built/libnbt.so.0 PYTHONDONTWRITEBYTECODE=1 PYTHONPATH=$top/bindings/python ended python3 -c '
 import sys, nbt
 for number, line in enumerate(sys.stdin, 1):
@@ -131,22 +151,9 @@ for number, line in enumerate(sys.stdin, 1):
 ' <"$room/lines3" >"$room/output" 2>"$room/errors"
     cmp -s "$room/lines3.wanted" "$room/output"
     count $? "nbt.show prints what nbt show prints: $(tail -n 1 "$room/errors")"
-    { cat "$top/examples/capture.txt"; sed 's/ / 2500 /' "$room/lines3"; echo tick 4000; } >"$room/capture"
-    grep -v '^tick' "$room/capture" | ended "$program" save --keys 65535 >"$room/table"
-    ended "$program" list --keys 65535 <"$room/table" >"$room/listed"
-    NBT_LIBRARY=$built/libnbt.so.0 PYTHONDONTWRITEBYTECODE=1 PYTHONPATH=$top/bindings/python ended python3 -c '
-import sys, nbt
-sys.stdout.write(nbt.list_table(bytes.fromhex(sys.stdin.read())))
-' <"$room/table" >"$room/output" 2>"$room/errors"
-    grep -q ' whole ' "$room/listed" && grep -q ' partial ' "$room/listed" && cmp -s "$room/listed" "$room/output"
-    count $? "nbt.list_table prints what nbt list prints: $(tail -n 1 "$room/errors") $(diff "$room/listed" "$room/output" | head -c 300)"
-    ended "$program" replay 'FRED<20>' 'JOE<00>' <"$room/capture" | awk '
-        $2 == "refused" { print $1, $2 ($(NF - 1) == "error" ? " error " $NF : ""); next }
-        { print }' >"$room/replayed"
     NBT_LIBRARY=$built/libnbt.so.0 PYTHONDONTWRITEBYTECODE=1 PYTHONPATH=$top/bindings/python \
         ended "$here/lib/library_replay.py" 'FRED<20>' 'JOE<00>' <"$room/capture" >"$room/output" 2>"$room/errors"
-    grep -q ' delivered ' "$room/output" && cmp -s "$room/replayed" "$room/output"
-    count $? "a station does what nbt replay does: $(tail -n 1 "$room/errors") $(diff "$room/replayed" "$room/output" | head -c 300)"
+    replays_alike 'in Python'
 }
 
 # tools/nbt-station on sockets of the loopback interface.
@@ -211,7 +218,7 @@ rust() {
     in_rust_too clippy --offline --locked --all-targets -- -D warnings
     RUSTDOCFLAGS='-D warnings' in_rust doc --offline --locked --no-deps
     in_rust build --offline --locked --release --examples
-    lines 1000 4
+    lines "$payloads" 4
     LD_LIBRARY_PATH=$room/root/lib ended "$room/target/release/examples/show_lines" <"$room/lines4" >"$room/output" 2>"$room/errors"
     cmp -s "$room/lines4.wanted" "$room/output"
     count $? "nbt::show_into prints what nbt show prints: $(tail -n 1 "$room/errors")"
@@ -238,6 +245,7 @@ part examples examples
 if command -v valgrind >/dev/null; then part valgrind under_valgrind; else lacks valgrind valgrind; fi
 part callers callers
 part memory refused
+part replay replayed
 part python python
 part station station
 if command -v pkg-config >/dev/null; then part installed installed; else lacks installed pkg-config; fi

@@ -22,7 +22,7 @@ HERE = os.path.dirname(os.path.abspath(__file__))
 PROGRAM = os.path.join(HERE, '..', 'crates', 'nbt', 'out', 'nbt')
 REPLAY, SHOW, SAVE, MERGE = ['replay', 'FRED<20>'], ['show'], ['save', '--keys', '65535'], ['merge', '--keys', '65535']
 # How many keys one address may have in a table of 65,535, in the last rows.
-LIMITS = (64, 1_000, 10_000)
+LIMITS = (64, 1_000)
 
 
 def written(folder, title, lines):

@@ -85,8 +85,7 @@ step rt 170 $((proofs > stated && stated > 0 ? proofs : stated)) env RT_JOBS="$c
 for each in program.sh process.py examples.sh wireshark.sh manual.sh; do
     step $each 20 "$(least $each all)" "tests/$each"
 done
-# `rt ci` leaves no library for C, so this one proves the crates below it once more.
-step library.sh 60 "$(least library.sh all)" tests/library.sh
+step library.sh 40 "$(least library.sh all)" env AFTER_RT_CI=1 tests/library.sh
 step scale.sh 20 "$(least scale.sh all)" tests/scale.sh
 cat "$room/skips" "$room/failures"
 echo "$passed passed, $failed failed, $skipped skipped"

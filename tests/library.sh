@@ -1,7 +1,8 @@
 #!/usr/bin/env bash
 # The library for C: what it is made of, the examples of bindings/c, a caller's worst (tests/lib/library.c) beside `nbt
 # show`, sanitizers, memory that runs out, the package for Python, nbt-station, and the crate for Rust. Usage:
-# [AFTER_RT_CI=1] tests/library.sh [PROGRAM]; its last line is 'N passed, M failed, K skipped'.
+# [AFTER_RT_CI=1] tests/library.sh [PROGRAM]; its last line is 'N passed, M failed, K skipped'. The library is built over what
+# `rt ci` has just left, where AFTER_RT_CI says so, and else by `rt lib`.
 set -uo pipefail
 # What stands last in a pipe counts its cases here.
 shopt -s lastpipe

@@ -6,7 +6,7 @@
 use crate::answers::answer;
 use nb_examples_words::fault::ExampleFault;
 use nb_examples_words::vocabulary::Vocabulary;
-use nb_examples_words::words::{Words, split};
+use nb_examples_words::words::{number, split};
 use std::alloc::Global;
 use std::io::Write;
 
@@ -121,29 +121,19 @@ impl Examples {
 /// An example and what its call answers, where that isn't what the example says.
 fn difference_text(alloc: Global, example: &str) -> Result<Option<String>, ExampleFault> {
     let (asked, wanted) = example.split_once(" = ").ok_or(ExampleFault::NoExample)?;
-    let said = answer_of(alloc, asked)?;
+    let (call, words) = asked.split_once(" ").unwrap_or((asked, ""));
+    let said = answer(alloc, call, words)?;
     if said.as_str() == wanted {
         return Ok(None);
     }
     Ok(Some(format!(in alloc; "{example}\n    answered: {said}")?))
 }
 
-/// What a call with its words answers.
-fn answer_of(alloc: Global, asked: &str) -> Result<String, ExampleFault> {
-    let (call, words) = asked.split_once(" ").unwrap_or((asked, ""));
-    let mut words = Words::new(words);
-    let said = answer(alloc, call, &mut words)?;
-    match words.is_empty() {
-        true => Ok(said),
-        false => Err(ExampleFault::BadWords),
-    }
-}
-
 /// The range and the line of `0..82 LINE`.
 fn range_and_line(repeated: &str) -> Result<(u64, u64, &str), ExampleFault> {
     let (range, line) = split(repeated, " ")?;
     let (first, end) = split(range, "..")?;
-    let first = Words::new(first).number()?;
-    let end = Words::new(end).number()?;
+    let first = number(first)?;
+    let end = number(end)?;
     Ok((first, end, line))
 }

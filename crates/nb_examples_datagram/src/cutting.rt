@@ -1,85 +1,64 @@
 //! Datagrams, cut into pieces.
 
-use crate::texts::fault_text;
+use crate::packets::say_encoded;
 use crate::values::{datagram_of, relisted};
-use nb_datagram::{CutFault, Fragment, Packet, Pieces, cut, encode};
-use nb_examples_words::byte_text::text_of_bytes;
-use nb_examples_words::fault::ExampleFault;
-use nb_examples_words::marks::{alone, told};
-use nb_examples_words::words::Words;
-use std::alloc::Global;
+use nb_datagram::{CutFault, Fragment, Packet, cut};
+use nb_examples_words::alone;
+use nb_examples_words::line::Line;
 
 /// `cut MOST DATAGRAM`: the pieces of at most this many bytes, each as `FLAGS OFFSET BYTES`, or why
 /// there are none. A datagram is `KIND KEY SOURCE DESTINATION BYTES`.
-pub fn cut_up(alloc: Global, words: &mut Words<'_>) -> Result<String, ExampleFault> {
-    let most = words.number_16()?;
-    let datagram = datagram_of(alloc, words)?;
-    let (said, answer) = alone(alloc, || match cut(alloc, &datagram, most) {
-        Err(CutFault::NoMemory) => None,
-        answer => Some(answer),
-    })?;
-    cut_text(alloc, said, answer)
-}
-
-/// Pieces, or why there are none, as text.
-fn cut_text(
-    alloc: Global,
-    said: String,
-    answer: Result<Pieces<'_>, CutFault>,
-) -> Result<String, ExampleFault> {
+pub fn cut_up(line: &mut Line<'_>) {
+    let most = line.number_16();
+    let Some(datagram) = datagram_of(line) else {
+        return;
+    };
+    let answer = alone!(
+        line,
+        Err(CutFault::NoMemory),
+        cut(line.alloc(), &datagram, most)
+    );
     match answer {
-        Ok(pieces) => pieces_text(alloc, said, &pieces),
-        Err(fault) => told(said, fault_text(alloc, &fault)?),
+        Ok(pieces) => say_pieces(line, pieces.as_slice()),
+        Err(CutFault::NoMemory) => line.no_memory(),
+        Err(fault) => write!(line, "{fault}"),
     }
 }
 
-/// Pieces as text, after what was said before.
-fn pieces_text(
-    alloc: Global,
-    mut said: String,
-    pieces: &Pieces<'_>,
-) -> Result<String, ExampleFault> {
-    for piece in pieces.as_slice() {
-        push_piece(alloc, &mut said, piece)?;
+/// Says pieces, one after another.
+fn say_pieces(line: &mut Line<'_>, pieces: &[Fragment<'_>]) {
+    for piece in pieces {
+        say_piece(line, piece);
     }
-    Ok(said)
 }
 
-/// Writes a piece, after those before it.
-fn push_piece(alloc: Global, text: &mut String, piece: &Fragment<'_>) -> Result<(), ExampleFault> {
-    let flags = piece.flags();
-    let offset = piece.offset();
-    let between = match offset {
+/// Says a piece, after those before it.
+fn say_piece(line: &mut Line<'_>, piece: &Fragment<'_>) {
+    let between = match piece.offset() {
         0 => "",
         _ => "; ",
     };
-    let bytes = text_of_bytes(alloc, piece.bytes())?;
-    Ok(write!(text, "{between}{flags:02x} {offset} {bytes}")?)
+    write!(line, "{between}{:02x} {} ", piece.flags(), piece.offset());
+    line.say_bytes(piece.bytes());
 }
 
 /// `packets MOST DATAGRAM`: how many pieces a list has that is made of the pieces, and the packets
 /// of those that it gives back, encoded.
-pub fn packets(alloc: Global, words: &mut Words<'_>) -> Result<String, ExampleFault> {
-    let most = words.number_16()?;
-    let datagram = datagram_of(alloc, words)?;
-    match cut(alloc, &datagram, most) {
-        Ok(pieces) => packets_text(alloc, pieces.into_vec()),
-        Err(fault) => fault_text(alloc, &fault),
+pub fn packets(line: &mut Line<'_>) {
+    let most = line.number_16();
+    let Some(datagram) = datagram_of(line) else {
+        return;
+    };
+    match cut(line.alloc(), &datagram, most) {
+        Ok(pieces) => say_packets(line, pieces.into_vec()),
+        Err(fault) => write!(line, "{fault}"),
     }
 }
 
-/// How many pieces there are, and their packets, as text.
-fn packets_text(alloc: Global, pieces: Vec<Fragment<'_>>) -> Result<String, ExampleFault> {
-    let (mut text, pieces) = relisted(alloc, pieces)?;
-    for piece in pieces {
-        push_packet(alloc, &mut text, Packet::Direct(piece))?;
+/// Says how many pieces there are, and their packets.
+fn say_packets(line: &mut Line<'_>, pieces: Vec<Fragment<'_>>) {
+    for piece in relisted(line, pieces) {
+        line.say(" ");
+        say_encoded(line, &Packet::Direct(piece));
     }
-    Ok(text)
-}
-
-/// Writes a packet's bytes.
-fn push_packet(alloc: Global, text: &mut String, packet: Packet<'_>) -> Result<(), ExampleFault> {
-    let bytes = encode(alloc, &packet)?;
-    let bytes = text_of_bytes(alloc, bytes.as_slice())?;
-    Ok(write!(text, " {bytes}")?)
 }

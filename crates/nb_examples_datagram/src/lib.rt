@@ -8,29 +8,28 @@ pub mod texts;
 pub mod values;
 
 use nb_examples_words::fault::ExampleFault;
-use nb_examples_words::words::Words;
-use std::alloc::Global;
+use nb_examples_words::line::Line;
 
-/// What a call answers, as text.
-pub fn answer(alloc: Global, call: &str, words: &mut Words<'_>) -> Result<String, ExampleFault> {
+/// Says what a call answers.
+pub fn answer(line: &mut Line<'_>, call: &str) {
     match call {
-        "decode" => packets::decoded(alloc, words),
-        "again" => packets::encoded_again(alloc, words),
-        "encode" => packets::encoded(alloc, words),
-        "parts" => packets::parts(alloc, words),
-        "cut" => cutting::cut_up(alloc, words),
-        "packets" => cutting::packets(alloc, words),
-        "datagram" => values::datagram(alloc, words),
-        "datagrams" => values::listed_datagrams(alloc, words),
-        "errors" => values::listed_errors(alloc, words),
-        "key" => texts::key(alloc, words),
-        "kind" => texts::kind(alloc, words),
-        "type" => values::message_type(alloc, words),
-        "code" => values::error_code(alloc, words),
-        "order" => values::order(alloc, words),
-        "compare" => values::compared(alloc, words),
-        "faults" => values::compared_faults(alloc, words),
-        "cut_faults" => values::cut_faults(alloc, words),
-        _ => Err(ExampleFault::NoSuchCall),
+        "decode" => packets::decoded(line),
+        "again" => packets::encoded_again(line),
+        "encode" => packets::encoded(line),
+        "parts" => packets::parts(line),
+        "cut" => cutting::cut_up(line),
+        "packets" => cutting::packets(line),
+        "datagram" => values::datagram(line),
+        "datagrams" => values::listed_datagrams(line),
+        "errors" => values::listed_errors(line),
+        "key" => texts::key(line),
+        "kind" => texts::kind(line),
+        "type" => values::message_type(line),
+        "code" => values::error_code(line),
+        "order" => values::order(line),
+        "compare" => values::compared(line),
+        "faults" => values::compared_faults(line),
+        "cut_faults" => values::cut_faults(line),
+        _ => line.note(ExampleFault::NoSuchCall),
     }
 }

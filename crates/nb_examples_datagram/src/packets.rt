@@ -1,130 +1,116 @@
 //! Packets, decoded and encoded.
 
 use crate::owned::OwnedFragment;
-use crate::texts::{fault_text, fragment_text, kind_of, next_key, packet_text, query_of};
-use nb_datagram::{
-    DatagramFault, ErrorPacket, Fragment, Kind, Packet, QueryKind, QueryPacket, decode, encode,
-};
-use nb_examples_words::byte_text::text_of_bytes;
-use nb_examples_words::fault::ExampleFault;
-use nb_examples_words::marks::{alone, begin, end, told};
-use nb_examples_words::words::Words;
-use std::alloc::Global;
+use crate::texts::{kind_of, next_key, next_kind, query_of, say_fragment, say_packet};
+use nb_datagram::{ErrorPacket, Fragment, Packet, QueryKind, QueryPacket, decode, encode};
+use nb_examples_words::alone;
+use nb_examples_words::line::Line;
 
 /// `decode BYTES`: the packet at the front, and how many bytes it takes up.
 ///
 /// A packet is `KIND FLAGS KEY OFFSET SOURCE DESTINATION BYTES`, where the kind is `unique`,
 /// `group` or `broadcast`; `error FLAGS KEY CODE`; or `find FLAGS KEY DESTINATION`, `found ..` or
 /// `missing ..`.
-pub fn decoded(alloc: Global, words: &mut Words<'_>) -> Result<String, ExampleFault> {
-    let bytes = words.bytes(alloc)?;
-    let mut mark = begin(alloc)?;
+pub fn decoded(line: &mut Line<'_>) {
+    let bytes = line.bytes();
+    line.begin();
     let answer = decode(bytes.as_slice());
-    end(&mut mark)?;
-    decoded_text(alloc, answer)
-}
-
-/// What is decoded, as text.
-fn decoded_text(
-    alloc: Global,
-    answer: Result<(Packet<'_>, usize), DatagramFault>,
-) -> Result<String, ExampleFault> {
+    line.end();
     match answer {
         Ok((packet, used)) => {
-            let text = packet_text(alloc, &packet)?;
-            Ok(format!(in alloc; "{text}, used {used}")?)
+            say_packet(line, &packet);
+            write!(line, ", used {used}");
         }
-        Err(fault) => fault_text(alloc, &fault),
+        Err(fault) => write!(line, "{fault}"),
     }
 }
 
 /// `again BYTES`: the packet at the front, encoded.
-pub fn encoded_again(alloc: Global, words: &mut Words<'_>) -> Result<String, ExampleFault> {
-    let bytes = words.bytes(alloc)?;
+pub fn encoded_again(line: &mut Line<'_>) {
+    let bytes = line.bytes();
     match decode(bytes.as_slice()) {
-        Ok((packet, _)) => packet_bytes(alloc, &packet),
-        Err(_) => Err(ExampleFault::BadWords),
+        Ok((packet, _)) => say_encoded_alone(line, &packet),
+        Err(_) => line.bad_words(),
     }
 }
 
-/// A packet's bytes.
-fn packet_bytes(alloc: Global, packet: &Packet<'_>) -> Result<String, ExampleFault> {
-    let (said, bytes) = alone(alloc, || encode(alloc, packet).ok())?;
-    told(said, text_of_bytes(alloc, bytes.as_slice())?)
+/// Says a packet's bytes.
+pub fn say_encoded(line: &mut Line<'_>, packet: &Packet<'_>) {
+    match encode(line.alloc(), packet) {
+        Ok(bytes) => line.say_bytes(bytes.as_slice()),
+        Err(_) => line.no_memory(),
+    }
+}
+
+/// Says a packet's bytes, which are made between marks.
+fn say_encoded_alone(line: &mut Line<'_>, packet: &Packet<'_>) {
+    match alone!(line, Err(_), encode(line.alloc(), packet)) {
+        Ok(bytes) => line.say_bytes(bytes.as_slice()),
+        Err(_) => line.no_memory(),
+    }
 }
 
 /// `encode PACKET`: the bytes of a packet, said as `decode` says it.
-pub fn encoded(alloc: Global, words: &mut Words<'_>) -> Result<String, ExampleFault> {
-    let word = words.word()?;
+pub fn encoded(line: &mut Line<'_>) {
+    let word = line.word();
     if word == "error" {
-        return packet_bytes(alloc, &Packet::Error(error_of(words)?));
+        let error = error_of(line);
+        return say_encoded_alone(line, &Packet::Error(error));
     }
-    match query_of(word) {
-        Ok(kind) => encoded_query(alloc, kind, words),
-        Err(_) => encoded_fragment(alloc, kind_of(word)?, words),
+    if let Some(kind) = query_of(word) {
+        let query = query_packet_of(line, kind);
+        return say_encoded_alone(line, &Packet::Query(query));
+    }
+    let kind = kind_of(line, word);
+    let given = OwnedFragment::of(line, kind);
+    match given.fragment() {
+        Ok(fragment) => say_encoded_alone(line, &Packet::Direct(fragment)),
+        Err(fault) => write!(line, "{fault}"),
     }
 }
 
 /// The error packet with the words after `error`.
-pub fn error_of(words: &mut Words<'_>) -> Result<ErrorPacket, ExampleFault> {
-    let flags = words.hex_8()?;
-    let key = next_key(words)?;
-    let code = words.hex_8()?;
-    Ok(ErrorPacket { flags, key, code })
+pub fn error_of(line: &mut Line<'_>) -> ErrorPacket {
+    let flags = line.hex_8();
+    let key = next_key(line);
+    let code = line.hex_8();
+    ErrorPacket { flags, key, code }
 }
 
-/// The bytes of a query packet.
-fn encoded_query(
-    alloc: Global,
-    kind: QueryKind,
-    words: &mut Words<'_>,
-) -> Result<String, ExampleFault> {
-    let flags = words.hex_8()?;
-    let key = next_key(words)?;
-    let destination = words.name()?;
-    let query = QueryPacket {
+/// The query packet with the words after the one for its kind.
+fn query_packet_of(line: &mut Line<'_>, kind: QueryKind) -> QueryPacket {
+    let flags = line.hex_8();
+    let key = next_key(line);
+    let destination = line.name();
+    QueryPacket {
         kind,
         flags,
         key,
         destination,
-    };
-    packet_bytes(alloc, &Packet::Query(query))
-}
-
-/// The bytes of a fragment's packet, or why there is no such fragment.
-fn encoded_fragment(
-    alloc: Global,
-    kind: Kind,
-    words: &mut Words<'_>,
-) -> Result<String, ExampleFault> {
-    let given = OwnedFragment::of(alloc, kind, words)?;
-    match given.fragment() {
-        Ok(fragment) => packet_bytes(alloc, &Packet::Direct(fragment)),
-        Err(fault) => fault_text(alloc, &fault),
     }
 }
 
 /// `parts FRAGMENT`: the parts of a fragment, whether it is the first one, whether more follow, and
 /// the place after its last byte; or why there is no such fragment.
-pub fn parts(alloc: Global, words: &mut Words<'_>) -> Result<String, ExampleFault> {
-    let kind = kind_of(words.word()?)?;
-    let given = OwnedFragment::of(alloc, kind, words)?;
-    let mut mark = begin(alloc)?;
+pub fn parts(line: &mut Line<'_>) {
+    let kind = next_kind(line);
+    let given = OwnedFragment::of(line, kind);
+    line.begin();
     let answer = given.fragment();
-    end(&mut mark)?;
+    line.end();
     match answer {
-        Ok(fragment) => parts_text(alloc, &fragment),
-        Err(fault) => fault_text(alloc, &fault),
+        Ok(fragment) => say_parts(line, &fragment),
+        Err(fault) => write!(line, "{fault}"),
     }
 }
 
-/// The parts of a fragment and what follows from them, as text.
-fn parts_text(alloc: Global, fragment: &Fragment<'_>) -> Result<String, ExampleFault> {
-    let mut mark = begin(alloc)?;
+/// Says the parts of a fragment and what follows from them.
+fn say_parts(line: &mut Line<'_>, fragment: &Fragment<'_>) {
+    line.begin();
     let is_first = fragment.is_first();
     let has_more = fragment.has_more();
     let reach = fragment.reach();
-    end(&mut mark)?;
-    let text = fragment_text(alloc, fragment)?;
-    Ok(format!(in alloc; "{text}; first {is_first}, more {has_more}, reach {reach}")?)
+    line.end();
+    say_fragment(line, fragment);
+    write!(line, "; first {is_first}, more {has_more}, reach {reach}");
 }

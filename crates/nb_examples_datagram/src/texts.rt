@@ -1,22 +1,19 @@
-//! Keys, kinds, fragments, datagrams and packets as text, and kinds from their words.
+//! Keys, kinds, fragments, datagrams and packets, as they are said, and keys and kinds of words.
 
 use nb_datagram::{
     Datagram, ErrorPacket, Fragment, Key, Kind, Packet, QueryKind, QueryPacket, kind_name, push_key,
 };
-use nb_examples_words::byte_text::text_of_bytes;
-use nb_examples_words::fault::ExampleFault;
-use nb_examples_words::marks::{alone, begin, end, told};
-use nb_examples_words::words::Words;
+use nb_examples_words::alone;
+use nb_examples_words::line::Line;
 use nb_names::{Name, name_text};
 use std::alloc::Global;
-use std::fmt::Display;
 
 /// `key TEXT KEY`: the text with a key's after it.
-pub fn key(alloc: Global, words: &mut Words<'_>) -> Result<String, ExampleFault> {
-    let front = words.word()?;
-    let key = next_key(words)?;
-    let (said, text) = alone(alloc, || with_key(alloc, front, key))?;
-    told(said, text)
+pub fn key(line: &mut Line<'_>) {
+    let front = line.word();
+    let key = next_key(line);
+    let text = alone!(line, None, with_key(line.alloc(), front, key));
+    line.say_made(text);
 }
 
 /// The text with a key's after it, or nothing where memory ran out.
@@ -31,27 +28,45 @@ fn with_key(alloc: Global, front: &str, key: Key) -> Option<String> {
 }
 
 /// `kind KIND`: the word for a kind.
-pub fn kind(alloc: Global, words: &mut Words<'_>) -> Result<String, ExampleFault> {
-    let kind = kind_of(words.word()?)?;
-    let mut said = begin(alloc)?;
+pub fn kind(line: &mut Line<'_>) {
+    let kind = next_kind(line);
+    line.begin();
     let word = kind_name(kind);
-    end(&mut said)?;
-    said.push_str(word)?;
-    Ok(said)
-}
-
-/// A key as text: `10.0.0.5:138/0001`.
-pub fn key_text(alloc: Global, key: Key) -> Result<String, ExampleFault> {
-    let [a, b, c, d] = key.ip;
-    let port = key.port;
-    let id = key.id;
-    Ok(format!(in alloc; "{a}.{b}.{c}.{d}:{port}/{id:04x}")?)
+    line.end();
+    line.say(word);
 }
 
 /// The next word, as a key: `10.0.0.5:138/0001`.
-pub fn next_key(words: &mut Words<'_>) -> Result<Key, ExampleFault> {
-    let (ip, port, id) = words.key_parts()?;
-    Ok(Key { ip, port, id })
+pub fn next_key(line: &mut Line<'_>) -> Key {
+    let (ip, port, id) = line.key_parts();
+    Key { ip, port, id }
+}
+
+/// The next word, as a kind.
+pub fn next_kind(line: &mut Line<'_>) -> Kind {
+    let word = line.word();
+    kind_of(line, word)
+}
+
+/// The kind that a word says.
+pub fn kind_of(line: &mut Line<'_>, word: &str) -> Kind {
+    match word {
+        "unique" => return Kind::Unique,
+        "group" => return Kind::Group,
+        "broadcast" => {}
+        _ => line.bad_words(),
+    }
+    Kind::Broadcast
+}
+
+/// What a query packet says that has this word.
+pub fn query_of(word: &str) -> Option<QueryKind> {
+    match word {
+        "find" => Some(QueryKind::Request),
+        "found" => Some(QueryKind::Positive),
+        "missing" => Some(QueryKind::Negative),
+        _ => None,
+    }
 }
 
 /// The word for a kind.
@@ -63,110 +78,81 @@ pub fn kind_word(kind: Kind) -> &'static str {
     }
 }
 
-/// The kind that a word says.
-pub fn kind_of(word: &str) -> Result<Kind, ExampleFault> {
-    match word {
-        "unique" => Ok(Kind::Unique),
-        "group" => Ok(Kind::Group),
-        "broadcast" => Ok(Kind::Broadcast),
-        _ => Err(ExampleFault::BadWords),
-    }
+/// Says a key: `10.0.0.5:138/0001`.
+pub fn say_key(line: &mut Line<'_>, key: Key) {
+    let [a, b, c, d] = key.ip;
+    write!(line, "{a}.{b}.{c}.{d}:{}/{:04x}", key.port, key.id);
 }
 
-/// What a query packet says that has this word.
-pub fn query_of(word: &str) -> Result<QueryKind, ExampleFault> {
-    match word {
-        "find" => Ok(QueryKind::Request),
-        "found" => Ok(QueryKind::Positive),
-        "missing" => Ok(QueryKind::Negative),
-        _ => Err(ExampleFault::BadWords),
-    }
+/// Says the sender's name and the receiver's.
+pub fn say_names(line: &mut Line<'_>, source: &Name, target: &Name) {
+    line.say_made(name_text(line.alloc(), source).ok());
+    line.say(" ");
+    line.say_made(name_text(line.alloc(), target).ok());
 }
 
-/// The sender's name and the receiver's as text.
-pub fn names_text(alloc: Global, source: &Name, target: &Name) -> Result<String, ExampleFault> {
-    let source = name_text(alloc, source)?;
-    let target = name_text(alloc, target)?;
-    Ok(format!(in alloc; "{source} {target}")?)
-}
-
-/// A fault as text.
-pub fn fault_text<F: Display>(alloc: Global, fault: &F) -> Result<String, ExampleFault> {
-    Ok(format!(in alloc; "{fault}")?)
-}
-
-/// A fragment as text: `KIND FLAGS KEY OFFSET SOURCE DESTINATION BYTES`. Its parts are read between
+/// Says a fragment: `KIND FLAGS KEY OFFSET SOURCE DESTINATION BYTES`. Its parts are read between
 /// marks.
-pub fn fragment_text(alloc: Global, fragment: &Fragment<'_>) -> Result<String, ExampleFault> {
-    let mut said = begin(alloc)?;
-    let kind = kind_word(fragment.kind());
+pub fn say_fragment(line: &mut Line<'_>, fragment: &Fragment<'_>) {
+    line.begin();
+    let kind = fragment.kind();
     let flags = fragment.flags();
     let key = fragment.key();
     let offset = fragment.offset();
     let source = fragment.source();
     let destination = fragment.destination();
     let bytes = fragment.bytes();
-    end(&mut said)?;
-    let key = key_text(alloc, key)?;
-    write!(said, "{kind} {flags:02x} {key} {offset}")?;
-    push_parts(alloc, &mut said, source, destination, bytes)?;
-    Ok(said)
+    line.end();
+    write!(line, "{} {flags:02x} ", kind_word(kind));
+    say_key(line, key);
+    write!(line, " {offset} ");
+    say_names(line, source, destination);
+    line.say(" ");
+    line.say_bytes(bytes);
 }
 
-/// Writes names and bytes after what was said before.
-fn push_parts(
-    alloc: Global,
-    said: &mut String,
-    source: &Name,
-    destination: &Name,
-    bytes: &[u8],
-) -> Result<(), ExampleFault> {
-    let names = names_text(alloc, source, destination)?;
-    let bytes = text_of_bytes(alloc, bytes)?;
-    Ok(write!(said, " {names} {bytes}")?)
-}
-
-/// A datagram as text: `KIND KEY SOURCE DESTINATION BYTES`. Its parts are read between marks.
-pub fn datagram_text(alloc: Global, datagram: &Datagram) -> Result<String, ExampleFault> {
-    let mut said = begin(alloc)?;
-    let kind = kind_word(datagram.kind());
+/// Says a datagram: `KIND KEY SOURCE DESTINATION BYTES`. Its parts are read between marks.
+pub fn say_datagram(line: &mut Line<'_>, datagram: &Datagram) {
+    line.begin();
+    let kind = datagram.kind();
     let key = datagram.key();
     let source = datagram.source();
     let destination = datagram.destination();
     let bytes = datagram.bytes();
-    end(&mut said)?;
-    let key = key_text(alloc, key)?;
-    write!(said, "{kind} {key}")?;
-    push_parts(alloc, &mut said, source, destination, bytes)?;
-    Ok(said)
+    line.end();
+    write!(line, "{} ", kind_word(kind));
+    say_key(line, key);
+    line.say(" ");
+    say_names(line, source, destination);
+    line.say(" ");
+    line.say_bytes(bytes);
 }
 
-/// An error packet as text: `error FLAGS KEY CODE`.
-fn error_text(alloc: Global, error: &ErrorPacket) -> Result<String, ExampleFault> {
-    let flags = error.flags;
-    let key = key_text(alloc, error.key)?;
-    let code = error.code;
-    Ok(format!(in alloc; "error {flags:02x} {key} {code:02x}")?)
+/// Says an error packet: `error FLAGS KEY CODE`.
+fn say_error(line: &mut Line<'_>, error: &ErrorPacket) {
+    write!(line, "error {:02x} ", error.flags);
+    say_key(line, error.key);
+    write!(line, " {:02x}", error.code);
 }
 
-/// A query packet as text: `find FLAGS KEY DESTINATION`, `found ..` or `missing ..`.
-fn query_text(alloc: Global, query: &QueryPacket) -> Result<String, ExampleFault> {
+/// Says a query packet: `find FLAGS KEY DESTINATION`, `found ..` or `missing ..`.
+fn say_query(line: &mut Line<'_>, query: &QueryPacket) {
     let word = match query.kind {
         QueryKind::Request => "find",
         QueryKind::Positive => "found",
         QueryKind::Negative => "missing",
     };
-    let flags = query.flags;
-    let key = key_text(alloc, query.key)?;
-    let name = name_text(alloc, &query.destination)?;
-    Ok(format!(in alloc; "{word} {flags:02x} {key} {name}")?)
+    write!(line, "{word} {:02x} ", query.flags);
+    say_key(line, query.key);
+    line.say(" ");
+    line.say_made(name_text(line.alloc(), &query.destination).ok());
 }
 
-/// A packet as text.
-pub fn packet_text(alloc: Global, packet: &Packet<'_>) -> Result<String, ExampleFault> {
+/// Says a packet.
+pub fn say_packet(line: &mut Line<'_>, packet: &Packet<'_>) {
     match packet {
-        Packet::Direct(fragment) => fragment_text(alloc, fragment),
-        Packet::Error(error) => error_text(alloc, error),
-        Packet::Query(query) => query_text(alloc, query),
+        Packet::Direct(fragment) => say_fragment(line, fragment),
+        Packet::Error(error) => say_error(line, error),
+        Packet::Query(query) => say_query(line, query),
     }
 }

@@ -1,6 +1,6 @@
 //! The calls of nb_member.
 //!
-//! A call of the library stands between marks (nb_examples_words::marks). Where one that wants
+//! A call of the library stands between marks (nb_examples_words::line). Where one that wants
 //! memory is refused it, the line's answer tells that, and what the same call answers then.
 #![tactic(auto)]
 
@@ -16,35 +16,26 @@ mod texts;
 mod values;
 
 use nb_examples_words::fault::ExampleFault;
-use nb_examples_words::words::Words;
-use std::alloc::Global;
+use nb_examples_words::line::Line;
 
-/// What a call answers, as text.
-pub fn answer(alloc: Global, call: &str, words: &mut Words<'_>) -> Result<String, ExampleFault> {
+/// Says what a call answers.
+pub fn answer(line: &mut Line<'_>, call: &str) {
     match call {
-        "line" => lines::read(alloc, words),
-        "names" => stations::held(alloc, words),
-        "hears" => stations::heard(alloc, words),
-        "take" => steps::taken(alloc, words),
-        "both" => steps::taken_by_both(alloc, words),
-        "run" => running::run_by_one(alloc, words),
-        "two" => running::run_by_two(alloc, words),
-        "many" => many::taken(alloc, words),
-        "next" => reading::each_line(alloc, words),
-        "next_within" => reading::each_line_within(alloc, words),
-        "datagram" => texts::parts(alloc, words),
-        "comment" => texts::comment(alloc, words),
-        "report" | "replay" | "written" | "commented" => replays::replayed(alloc, call, words),
-        "compare" => values::compared(alloc, words),
-        "memory" => values::memory(alloc),
-        _ => Err(ExampleFault::NoSuchCall),
+        "line" => lines::read(line),
+        "names" => stations::held(line),
+        "hears" => stations::heard(line),
+        "take" => steps::taken(line),
+        "both" => steps::taken_by_both(line),
+        "run" => running::run_by_one(line),
+        "two" => running::run_by_two(line),
+        "many" => many::taken(line),
+        "next" => reading::each_line(line),
+        "next_within" => reading::each_line_within(line),
+        "datagram" => texts::parts(line),
+        "comment" => texts::comment(line),
+        "report" | "replay" | "written" | "commented" => replays::replayed(line, call),
+        "compare" => values::compared(line),
+        "memory" => values::memory(line),
+        _ => line.note(ExampleFault::NoSuchCall),
     }
-}
-
-/// Answers an error where words are left.
-fn all_taken(words: &Words<'_>) -> Result<(), ExampleFault> {
-    if words.is_empty() {
-        return Ok(());
-    }
-    Err(ExampleFault::BadWords)
 }

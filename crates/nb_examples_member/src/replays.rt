@@ -4,11 +4,8 @@
 //! stands for a line feed: a line without it is the unfinished last one.
 
 use crate::stations::member_of;
-use nb_examples_words::byte_text::{bytes_of, text_of_bytes};
 use nb_examples_words::devices::{Conduct, Sink, Source, WILLING};
-use nb_examples_words::fault::ExampleFault;
-use nb_examples_words::marks::{as_before, begin, end};
-use nb_examples_words::words::Words;
+use nb_examples_words::line::Line;
 use nb_member::{CaptureOptions, Comments, Member, ReplayFault, replay, replay_with};
 use nb_names::Counted;
 use std::alloc::Global;
@@ -30,11 +27,18 @@ const WITH_COMMENTS: CaptureOptions = CaptureOptions {
 ///
 /// Where memory runs out, another new member replays the capture, and what was written before has
 /// to be a front of its report.
-pub fn replayed(alloc: Global, call: &str, words: &mut Words<'_>) -> Result<String, ExampleFault> {
-    let replaying = Replaying::of(alloc, call, words)?;
-    let mut sink = replaying.sink(alloc)?;
-    let mut member = member_of(alloc, replaying.station)?;
-    replaying.text(alloc, &mut sink, &mut member)
+pub fn replayed(line: &mut Line<'_>, call: &str) {
+    let replaying = Replaying::of(line, call);
+    let mut sink = replaying.sink(line);
+    let mut member = member_of(line, replaying.station);
+    line.begin();
+    let answer = replaying.replay(line.alloc(), &mut sink, &mut member);
+    line.end();
+    if let Err(ReplayFault::NoMemory) = answer {
+        replaying.go_again(line, sink.taken());
+    } else {
+        replaying.say(line, answer, sink.taken());
+    }
 }
 
 /// A capture that is replayed, and over what.
@@ -50,29 +54,30 @@ struct Replaying<'a> {
 
 impl<'a> Replaying<'a> {
     /// What a call with these words replays.
-    fn of(alloc: Global, call: &str, words: &mut Words<'a>) -> Result<Replaying<'a>, ExampleFault> {
-        let station = words.word()?;
+    fn of(line: &mut Line<'a>, call: &str) -> Replaying<'a> {
+        let station = line.word();
         let (mut reading, mut writing) = (WILLING, WILLING);
         if call == "replay" || call == "written" {
-            reading = words.conduct()?;
-            writing = words.conduct()?;
+            reading = line.conduct();
+            writing = line.conduct();
         }
-        let capture = capture_of(alloc, words.rest())?;
-        Ok(Replaying {
+        Replaying {
             station,
             reading,
             writing,
-            capture,
+            capture: rest_capture(line),
             has_bytes: call == "written",
             has_comments: call == "commented",
-        })
+        }
     }
 
     /// A writer.
-    fn sink(&self, alloc: Global) -> Result<Sink, ExampleFault> {
-        let mut sink = Sink::new(alloc, self.writing);
-        sink.make_room(REPORT_ROOM)?;
-        Ok(sink)
+    fn sink(&self, line: &mut Line<'_>) -> Sink {
+        let mut sink = Sink::new(line.alloc(), self.writing);
+        if sink.make_room(REPORT_ROOM).is_err() {
+            line.no_memory();
+        }
+        sink
     }
 
     /// What a replay answers.
@@ -91,99 +96,53 @@ impl<'a> Replaying<'a> {
         replay(alloc, reader, writer, member)
     }
 
-    /// What a replay answers and writes.
-    fn text(
-        &self,
-        alloc: Global,
-        sink: &mut Sink,
-        member: &mut Member,
-    ) -> Result<String, ExampleFault> {
-        let mut said = begin(alloc)?;
-        let answer = self.replay(alloc, sink, member);
-        end(&mut said)?;
-        if matches!(answer, Err(ReplayFault::NoMemory)) {
-            self.go_again(alloc, sink.taken(), &mut said)?;
-        } else {
-            self.say(alloc, answer, sink.taken(), &mut said)?;
-        }
-        Ok(said)
-    }
-
-    /// Replays the capture in another member.
-    fn go_again(
-        &self,
-        alloc: Global,
-        before: &[u8],
-        said: &mut String,
-    ) -> Result<(), ExampleFault> {
-        let mut sink = self.sink(alloc)?;
-        let mut member = member_of(alloc, self.station)?;
-        let answer = self.replay(alloc, &mut sink, &mut member);
-        self.say_again(alloc, answer, before, sink.taken(), said)
-    }
-
-    /// Says whether what was written before is a front of what is written now, and then the same
-    /// as of the first replay.
-    fn say_again(
-        &self,
-        alloc: Global,
-        answer: Result<u64, ReplayFault>,
-        before: &[u8],
-        written: &[u8],
-        said: &mut String,
-    ) -> Result<(), ExampleFault> {
-        said.push_str(as_before(written.starts_with(before)))?;
-        self.say(alloc, answer, written, said)
+    /// Replays the capture in another member, and says whether what was written before is a front
+    /// of what is written now, and then the same as of the first replay.
+    fn go_again(&self, line: &mut Line<'a>, before: &[u8]) {
+        let mut sink = self.sink(line);
+        let mut member = member_of(line, self.station);
+        let answer = self.replay(line.alloc(), &mut sink, &mut member);
+        line.again(sink.taken().starts_with(before));
+        self.say(line, answer, sink.taken());
     }
 
     /// Says what a replay answered, and what was written.
-    fn say(
-        &self,
-        alloc: Global,
-        answer: Result<u64, ReplayFault>,
-        written: &[u8],
-        said: &mut String,
-    ) -> Result<(), ExampleFault> {
-        say_answer(answer, said)?;
-        if self.has_bytes {
-            return Ok(said.push_str(text_of_bytes(alloc, written)?.as_str())?);
+    fn say(&self, line: &mut Line<'_>, answer: Result<u64, ReplayFault>, written: &[u8]) {
+        match answer {
+            Ok(count) => write!(line, "{count} lines: "),
+            Err(fault) => write!(line, "{fault}: "),
         }
-        say_report(written, said)
+        match self.has_bytes {
+            true => line.say_bytes(written),
+            false => say_report(line, written),
+        }
     }
 }
 
-/// The bytes of a capture.
-pub fn capture_of(alloc: Global, word: &str) -> Result<Vec<u8>, ExampleFault> {
-    let mut bytes = bytes_of(alloc, word)?;
+/// The bytes of the capture that is all that is left.
+pub fn rest_capture(line: &mut Line<'_>) -> Vec<u8> {
+    let capture = line.rest();
+    let mut bytes = line.bytes_of(capture);
     for byte in &mut bytes {
         if *byte == b';' {
             *byte = b'\n';
         }
     }
-    Ok(bytes)
-}
-
-/// Says what a replay answers.
-fn say_answer(answer: Result<u64, ReplayFault>, said: &mut String) -> Result<(), ExampleFault> {
-    match answer {
-        Ok(count) => Ok(write!(said, "{count} lines: ")?),
-        Err(fault) => Ok(write!(said, "{fault}: ")?),
-    }
+    bytes
 }
 
 /// Says a report on one line.
-fn say_report(report: &[u8], said: &mut String) -> Result<(), ExampleFault> {
+fn say_report(line: &mut Line<'_>, report: &[u8]) {
     let Ok(text) = str::from_utf8(report) else {
-        return Err(ExampleFault::BadWords);
+        return line.bad_words();
     };
     if text.is_empty() {
-        return Ok(said.push_str("nothing")?);
+        return line.say("nothing");
     }
-    let mut lines = text.split("\n");
-    said.push_str(lines.next().unwrap_or(""))?;
-    for line in lines {
-        said.push_str(if line.is_empty() { ";" } else { "; " })?;
-        said.push_str(line)?;
+    for (place, reported) in text.split("\n").enumerate() {
+        if place > 0 {
+            line.say(if reported.is_empty() { ";" } else { "; " });
+        }
+        line.say(reported);
     }
-    Ok(())
 }

@@ -1,165 +1,125 @@
 //! Runs of events.
 
-use crate::all_taken;
-use crate::outcomes::{say_all_delivered, say_error, say_key};
+use crate::outcomes::{say_all_delivered, say_error, say_of_key};
 use crate::stations::{member_of, names_of, settings_of};
 use nb_datagram::ErrorPackets;
-use nb_examples_words::fault::ExampleFault;
-use nb_examples_words::marks::{begin, end};
-use nb_examples_words::words::{Words, split};
-use nb_member::{Event, Member, Pair, RunReport, RunStop, run, two_members};
+use nb_examples_words::line::Line;
+use nb_member::{Event, Member, RunReport, RunStop, run, two_members};
 use nb_names::Bytes;
-use std::alloc::Global;
 
 /// `run STATION EVENT, EVENT ..`: what comes of a run of a new member. An event is
 /// `take MOMENT PAYLOAD` or `tick NOW`.
-pub fn run_by_one(alloc: Global, words: &mut Words<'_>) -> Result<String, ExampleFault> {
-    let mut member = member_of(alloc, words.word()?)?;
-    let events = events_of(alloc, words.rest())?;
-    run_text(alloc, &mut member, events.as_slice())
-}
-
-/// What comes of a run.
-fn run_text(alloc: Global, member: &mut Member, events: &[Event]) -> Result<String, ExampleFault> {
-    let mut said = begin(alloc)?;
-    let report = run(alloc, member, events);
-    end(&mut said)?;
-    say_run(alloc, &report, member, events, &mut said)?;
-    Ok(said)
+pub fn run_by_one(line: &mut Line<'_>) {
+    let station = line.word();
+    let events = line.rest();
+    let mut member = member_of(line, station);
+    let events = events_of(line, events);
+    line.begin();
+    let report = run(line.alloc(), &mut member, events.as_slice());
+    line.end();
+    say_run(line, &report, &mut member, events.as_slice());
 }
 
 /// `two STATION NAMES EVENTS | EVENTS`: what comes of the runs of two new members, the second of
 /// which has these names, and whether their tables are equal.
-pub fn run_by_two(alloc: Global, words: &mut Words<'_>) -> Result<String, ExampleFault> {
-    let station = words.word()?;
-    let other = words.word()?;
-    let (a, b) = split(words.rest(), " | ")?;
-    let a = events_of(alloc, a)?;
-    let b = events_of(alloc, b)?;
-    two_text(alloc, station, other, a.as_slice(), b.as_slice())
-}
-
-/// What comes of the runs of two members.
-fn two_text(
-    alloc: Global,
-    station: &str,
-    other: &str,
-    events_a: &[Event],
-    events_b: &[Event],
-) -> Result<String, ExampleFault> {
-    let settings = settings_of(station)?;
-    let names_a = names_of(alloc, station)?;
-    let names_b = names_of(alloc, other)?;
-    let said = begin(alloc)?;
-    let mut pair = two_members(alloc, settings, names_a, names_b, events_a, events_b);
-    pair_text(alloc, said, &mut pair, events_a, events_b)
-}
-
-/// What came of two runs, after the mark, and whether the tables are equal.
-fn pair_text(
-    alloc: Global,
-    mut said: String,
-    pair: &mut Pair,
-    events_a: &[Event],
-    events_b: &[Event],
-) -> Result<String, ExampleFault> {
-    end(&mut said)?;
-    say_run(alloc, &pair.report_a, &mut pair.a, events_a, &mut said)?;
-    said.push_str(" | ")?;
-    say_run(alloc, &pair.report_b, &mut pair.b, events_b, &mut said)?;
+pub fn run_by_two(line: &mut Line<'_>) {
+    let (station, other) = (line.word(), line.word());
+    let (a, b) = line.halves(" | ");
+    let a = events_of(line, a);
+    let b = events_of(line, b);
+    let settings = settings_of(line, station);
+    let names_a = names_of(line, station);
+    let names_b = names_of(line, other);
+    let (a, b) = (a.as_slice(), b.as_slice());
+    line.begin();
+    let mut pair = two_members(line.alloc(), settings, names_a, names_b, a, b);
+    line.end();
+    say_run(line, &pair.report_a, &mut pair.a, a);
+    line.say(" | ");
+    say_run(line, &pair.report_b, &mut pair.b, b);
     let is_same = pair.a.table().same(pair.b.table());
-    write!(said, " | {is_same}")?;
-    Ok(said)
+    write!(line, " | {is_same}");
 }
 
 /// The events of a text.
-fn events_of(alloc: Global, text: &str) -> Result<Vec<Event>, ExampleFault> {
-    let mut events = Vec::new(alloc);
+fn events_of<'a>(line: &mut Line<'a>, text: &'a str) -> Vec<Event> {
+    let mut events = Vec::new(line.alloc());
     for step in text.split(", ") {
-        events.push(event_of(alloc, step)?)?;
+        let event = event_of(line, step);
+        if events.push(event).is_err() {
+            line.no_memory();
+        }
     }
-    Ok(events)
+    events
 }
 
 /// An event.
-pub fn event_of(alloc: Global, text: &str) -> Result<Event, ExampleFault> {
-    let mut words = Words::new(text);
-    let event = next_event(alloc, &mut words)?;
-    all_taken(&words)?;
-    Ok(event)
+pub fn event_of<'a>(line: &mut Line<'a>, text: &'a str) -> Event {
+    let before = line.enter(text, " ");
+    let event = next_event(line);
+    line.leave(before);
+    event
 }
 
 /// The event that the next words say.
-fn next_event(alloc: Global, words: &mut Words<'_>) -> Result<Event, ExampleFault> {
-    let word = words.word()?;
-    let moment = words.number()?;
+fn next_event(line: &mut Line<'_>) -> Event {
+    let word = line.word();
+    let moment = line.number();
     match word {
-        "take" => Ok(Event::Packet {
-            moment,
-            payload: Bytes::from_vec(words.bytes(alloc)?),
-        }),
-        "tick" => Ok(Event::Tick { now: moment }),
-        _ => Err(ExampleFault::BadWords),
+        "take" => {
+            let payload = Bytes::from_vec(line.bytes());
+            return Event::Packet { moment, payload };
+        }
+        "tick" => {}
+        _ => line.bad_words(),
     }
+    Event::Tick { now: moment }
 }
 
 /// Says how many events a run took and refused, why it stopped if it did, the datagrams that it
 /// handed over, the error packets, and how many keys the table holds. Where memory ran out, another
 /// run goes on after the events that were taken.
-fn say_run(
-    alloc: Global,
-    report: &RunReport,
-    member: &mut Member,
-    events: &[Event],
-    said: &mut String,
-) -> Result<(), ExampleFault> {
+fn say_run(line: &mut Line<'_>, report: &RunReport, member: &mut Member, events: &[Event]) {
     let rest = match report.stop {
         Some(RunStop::NoMemory) => events.get(report.taken..).unwrap_or(events),
         _ => &[],
     };
-    let after = run(alloc, member, rest);
-    say_reports(alloc, report, &after, member.table().len(), said)
+    let after = run(line.alloc(), member, rest);
+    say_reports(line, report, &after);
+    write!(line, "; keys {}", member.table().len());
 }
 
 /// Says what two runs report, the second of which went on where memory ran out.
-fn say_reports(
-    alloc: Global,
-    report: &RunReport,
-    after: &RunReport,
-    keys: usize,
-    said: &mut String,
-) -> Result<(), ExampleFault> {
+fn say_reports(line: &mut Line<'_>, report: &RunReport, after: &RunReport) {
     let taken = report.taken.saturating_add(after.taken);
     let refused = report.refused.saturating_add(after.refused);
     let mut stop = report.stop;
-    if matches!(stop, Some(RunStop::NoMemory)) {
-        said.push_str("memory, ")?;
+    if let Some(RunStop::NoMemory) = stop {
+        line.say("memory, ");
         stop = after.stop;
     }
-    write!(said, "taken {taken}, refused {refused}")?;
-    say_stop(alloc, stop, said)?;
-    say_all_delivered(alloc, &report.deliveries, said)?;
-    say_all_delivered(alloc, &after.deliveries, said)?;
-    say_errors(alloc, &report.errors, said)?;
-    say_errors(alloc, &after.errors, said)?;
-    Ok(write!(said, "; keys {keys}")?)
+    write!(line, "taken {taken}, refused {refused}");
+    say_stop(line, stop);
+    say_all_delivered(line, &report.deliveries);
+    say_all_delivered(line, &after.deliveries);
+    say_errors(line, &report.errors);
+    say_errors(line, &after.errors);
 }
 
 /// Says why a run stopped, if it did.
-fn say_stop(alloc: Global, stop: Option<RunStop>, said: &mut String) -> Result<(), ExampleFault> {
+fn say_stop(line: &mut Line<'_>, stop: Option<RunStop>) {
     match stop {
-        Some(RunStop::Full(key)) => say_key(alloc, ", stopped full", key, None, said),
-        Some(RunStop::FullSource(key)) => say_key(alloc, ", stopped full source", key, None, said),
-        Some(RunStop::NoMemory) => Err(ExampleFault::NoMemory),
-        None => Ok(()),
+        Some(RunStop::Full(key)) => say_of_key(line, ", stopped full ", key),
+        Some(RunStop::FullSource(key)) => say_of_key(line, ", stopped full source ", key),
+        Some(RunStop::NoMemory) => line.no_memory(),
+        None => {}
     }
 }
 
 /// Says error packets.
-fn say_errors(alloc: Global, errors: &ErrorPackets, said: &mut String) -> Result<(), ExampleFault> {
+fn say_errors(line: &mut Line<'_>, errors: &ErrorPackets) {
     for error in errors.as_slice() {
-        said.push_str(",")?;
-        say_error(alloc, Some(*error), said)?;
+        line.say(",");
+        say_error(line, Some(*error));
     }
-    Ok(())
 }

@@ -5,72 +5,80 @@
 //! may have, and its address and port, as `10.0.0.9:138`. What is left out from the right on is 16
 //! keys, 65,535 bytes, and 10.0.0.9:138.
 
-use crate::outcomes::say;
 use nb_datagram::{Datagram, Key};
-use nb_examples_datagram::texts::kind_of;
-use nb_examples_words::fault::ExampleFault;
-use nb_examples_words::marks::{asked, begin, end, made};
-use nb_examples_words::words::{Words, split};
+use nb_examples_datagram::texts::next_kind;
+use nb_examples_words::asked;
+use nb_examples_words::line::Line;
 use nb_member::{AddFault, LocalNames, Member, Settings};
-use nb_names::{Bytes, Name, Scope};
-use std::alloc::Global;
+use nb_names::{Bytes, Name, Scope, name_from_text};
 
 /// A new member, from its word.
-pub fn member_of(alloc: Global, station: &str) -> Result<Member, ExampleFault> {
-    let settings = settings_of(station)?;
-    let names = names_of(alloc, station)?;
-    let mut mark = begin(alloc)?;
-    let member = Member::new(alloc, settings, names);
-    end(&mut mark)?;
-    Ok(member)
+pub fn member_of<'a>(line: &mut Line<'a>, station: &'a str) -> Member {
+    let settings = settings_of(line, station);
+    let names = names_of(line, station);
+    line.begin();
+    let member = Member::new(line.alloc(), settings, names);
+    line.end();
+    member
 }
 
 /// The settings of a station.
-pub fn settings_of(station: &str) -> Result<Settings, ExampleFault> {
-    let mut parts = station.split("/").skip(1);
-    let (keys, per_source) = Words::new(parts.next().unwrap_or("16")).capacity()?;
-    let longest = Words::new(parts.next().unwrap_or("65535")).number_16()?;
-    let (ip, port) = split(parts.next().unwrap_or("10.0.0.9:138"), ":")?;
-    let ip = Words::new(ip).address()?;
-    let port = Words::new(port).number_16()?;
-    if parts.next().is_some() {
-        return Err(ExampleFault::BadWords);
+pub fn settings_of<'a>(line: &mut Line<'a>, station: &'a str) -> Settings {
+    let mut settings = Settings {
+        ip: [10, 0, 0, 9],
+        port: 138,
+        keys: 16,
+        per_source: u32::MAX,
+        longest: u16::MAX,
+    };
+    let before = line.enter(station, "/");
+    line.word();
+    if !line.is_empty() {
+        (settings.keys, settings.per_source) = line.capacity();
     }
-    Ok(Settings {
-        ip,
-        port,
-        keys,
-        per_source,
-        longest,
-    })
+    if !line.is_empty() {
+        settings.longest = line.number_16();
+    }
+    if !line.is_empty() {
+        (settings.ip, settings.port) = next_endpoint(line);
+    }
+    line.leave(before);
+    settings
+}
+
+/// The next word, as an address and a port.
+fn next_endpoint(line: &mut Line<'_>) -> ([u8; 4], u16) {
+    let word = line.word();
+    let before = line.enter(word, ":");
+    let ip = line.address();
+    let port = line.number_16();
+    line.leave(before);
+    (ip, port)
 }
 
 /// The names of a station.
-pub fn names_of(alloc: Global, station: &str) -> Result<LocalNames, ExampleFault> {
+pub fn names_of(line: &mut Line<'_>, station: &str) -> LocalNames {
     let (listed, _) = station.split_once("/").unwrap_or((station, ""));
-    let mut mark = begin(alloc)?;
-    let mut names = LocalNames::new(alloc);
-    end(&mut mark)?;
+    line.begin();
+    let mut names = LocalNames::new(line.alloc());
+    line.end();
     if listed != "none" {
-        add_listed(&mut names, listed)?;
+        for text in listed.split(",") {
+            add_unmarked(line, &mut names, text);
+        }
     }
-    Ok(names)
+    names
 }
 
-/// Adds names to others.
-fn add_listed(names: &mut LocalNames, listed: &str) -> Result<(), ExampleFault> {
-    for text in listed.split(",") {
-        add_unmarked(names, Words::new(text).name()?)?;
-    }
-    Ok(())
-}
-
-/// Adds a name to others.
-fn add_unmarked(names: &mut LocalNames, name: Name) -> Result<(), ExampleFault> {
+/// Adds the name of a text to others.
+fn add_unmarked(line: &mut Line<'_>, names: &mut LocalNames, text: &str) {
+    let Ok(name) = name_from_text(text) else {
+        return line.bad_words();
+    };
     match names.add(name) {
-        Ok(()) => Ok(()),
-        Err(AddFault::NoMemory) => Err(ExampleFault::NoMemory),
-        Err(_) => Err(ExampleFault::BadWords),
+        Ok(()) => {}
+        Err(AddFault::NoMemory) => line.no_memory(),
+        Err(_) => line.bad_words(),
     }
 }
 
@@ -79,52 +87,54 @@ fn add_unmarked(names: &mut LocalNames, name: Name) -> Result<(), ExampleFault> 
 ///
 /// `add NAME` adds a name, `fill LAST` those with no letters whose byte 16 is below LAST, and
 /// `holds NAME` asks for a name, and for one of its scope.
-pub fn held(alloc: Global, words: &mut Words<'_>) -> Result<String, ExampleFault> {
-    let mut names = names_of(alloc, words.word()?)?;
-    steps_text(alloc, words.rest(), &mut names)
-}
-
-/// What is answered to steps.
-fn steps_text(alloc: Global, steps: &str, names: &mut LocalNames) -> Result<String, ExampleFault> {
-    let mut said = String::new(alloc);
-    for step in steps.split(", ") {
-        let answer = answer_step(alloc, step, names)?;
-        say(&mut said, &answer)?;
-    }
-    Ok(said)
-}
-
-/// Makes a step: what is answered.
-fn answer_step(alloc: Global, step: &str, names: &mut LocalNames) -> Result<String, ExampleFault> {
-    let (call, word) = split(step, " ")?;
-    match call {
-        "add" => add(alloc, names, &Words::new(word).name()?),
-        "fill" => added_text(alloc, fill(names, Words::new(word).hex_8()?)),
-        "holds" => held_text(alloc, names, &Words::new(word).name()?),
-        _ => Err(ExampleFault::BadWords),
+pub fn held(line: &mut Line<'_>) {
+    let station = line.word();
+    let mut names = names_of(line, station);
+    for (place, step) in line.rest().split(", ").enumerate() {
+        if place > 0 {
+            line.say("; ");
+        }
+        say_step(line, step, &mut names);
     }
 }
 
-/// Adds a name.
-fn add(alloc: Global, names: &mut LocalNames, name: &Name) -> Result<String, ExampleFault> {
-    let (mut said, answer) = asked(
-        alloc,
-        names,
-        |names| match names.add(name.copied()) {
-            Err(AddFault::NoMemory) => None,
-            answer => Some(answer),
-        },
-        |names| held_text(alloc, names, name),
-    )?;
-    said.push_str(added_text(alloc, answer)?.as_str())?;
-    Ok(said)
+/// Makes a step, and says what is answered.
+fn say_step<'a>(line: &mut Line<'a>, step: &'a str, names: &mut LocalNames) {
+    let before = line.enter(step, " ");
+    match line.word() {
+        "add" => add(line, names),
+        "fill" => {
+            let end = line.hex_8();
+            say_added(line, fill(names, end));
+        }
+        "holds" => {
+            let name = line.name();
+            let answers = holds(line, names, &name);
+            write!(line, "{answers:?}");
+        }
+        _ => line.bad_words(),
+    }
+    line.leave(before);
 }
 
-/// Whether a name was added.
-fn added_text(alloc: Global, answer: Result<(), AddFault>) -> Result<String, ExampleFault> {
+/// `add NAME`.
+fn add(line: &mut Line<'_>, names: &mut LocalNames) {
+    let name = line.name();
+    let answer = asked!(
+        line,
+        Err(AddFault::NoMemory),
+        names.add(name.copied()),
+        holds(line, names, &name)
+    );
+    say_added(line, answer);
+}
+
+/// Says whether a name was added.
+fn say_added(line: &mut Line<'_>, answer: Result<(), AddFault>) {
     match answer {
-        Ok(()) => Ok(String::from_str(alloc, "added")?),
-        Err(fault) => Ok(format!(in alloc; "{fault}")?),
+        Ok(()) => line.say("added"),
+        Err(AddFault::NoMemory) => line.no_memory(),
+        Err(fault) => write!(line, "{fault}"),
     }
 }
 
@@ -139,34 +149,41 @@ fn fill(names: &mut LocalNames, end: u8) -> Result<(), AddFault> {
 }
 
 /// Whether names hold one, and one of its scope.
-fn held_text(alloc: Global, names: &LocalNames, name: &Name) -> Result<String, ExampleFault> {
-    made(
-        alloc,
-        || (names.holds(name), names.holds_scope(name.scope())),
-    )
+fn holds(line: &mut Line<'_>, names: &LocalNames, name: &Name) -> (bool, bool) {
+    line.begin();
+    let answers = (names.holds(name), names.holds_scope(name.scope()));
+    line.end();
+    answers
 }
 
 /// `hears STATION KIND SOURCE DESTINATION`: whether a station hears a datagram of this kind, from
 /// one name to another.
-pub fn heard(alloc: Global, words: &mut Words<'_>) -> Result<String, ExampleFault> {
-    let names = names_of(alloc, words.word()?)?;
-    let datagram = datagram_of(alloc, words)?;
-    made(alloc, || names.hears(&datagram))
+pub fn heard(line: &mut Line<'_>) {
+    let station = line.word();
+    let names = names_of(line, station);
+    let Some(datagram) = datagram_of(line) else {
+        return;
+    };
+    line.begin();
+    let is_heard = names.hears(&datagram);
+    line.end();
+    write!(line, "{is_heard}");
 }
 
 /// A datagram without data.
-fn datagram_of(alloc: Global, words: &mut Words<'_>) -> Result<Datagram, ExampleFault> {
+fn datagram_of(line: &mut Line<'_>) -> Option<Datagram> {
     let key = Key {
         ip: [10, 0, 0, 5],
         port: 138,
         id: 1,
     };
-    let kind = kind_of(words.word()?)?;
-    let source = words.name()?;
-    let destination = words.name()?;
-    let none = Bytes::from_vec(Vec::new(alloc));
-    match Datagram::new(key, kind, source, destination, none) {
-        Ok(datagram) => Ok(datagram),
-        Err(_) => Err(ExampleFault::BadWords),
+    let kind = next_kind(line);
+    let source = line.name();
+    let destination = line.name();
+    let none = Bytes::from_vec(Vec::new(line.alloc()));
+    let datagram = Datagram::new(key, kind, source, destination, none);
+    if datagram.is_err() {
+        line.bad_words();
     }
+    datagram.ok()
 }

@@ -1,16 +1,13 @@
 //! What members answer, step after step.
 
-use crate::all_taken;
-use crate::outcomes::{say, say_all_delivered, say_refused, say_taken};
+use crate::outcomes::{say_all_delivered, say_refused, say_taken};
 use crate::stations::member_of;
 use nb_datagram::Datagrams;
-use nb_examples_table::reads::{not_memory, reads};
-use nb_examples_words::fault::ExampleFault;
-use nb_examples_words::marks::{alone, asked, begin, end, made};
-use nb_examples_words::words::{Words, split};
+use nb_examples_table::reads::reads;
+use nb_examples_words::line::Line;
+use nb_examples_words::{alone, asked};
 use nb_member::{Member, MemberFault, list_keys};
 use nb_table::{Table, TableFault};
-use std::alloc::Global;
 
 /// `take STATION STEP, STEP ..`: what a new member answers to each step.
 ///
@@ -18,24 +15,16 @@ use std::alloc::Global;
 /// between no marks, `tick NOW` a look at the clock, which answers how many keys it dropped, `keys`
 /// asks how many keys are held, `list` for the lines of the keys, and `settings` what the member
 /// was set up with.
-pub fn taken(alloc: Global, words: &mut Words<'_>) -> Result<String, ExampleFault> {
-    let mut member = member_of(alloc, words.word()?)?;
-    let none = Table::new(alloc, 0, 0, 0);
-    steps_text(alloc, words.rest(), &mut member, &none)
-}
-
-/// What a member answers to steps, beside a table.
-fn steps_text(
-    alloc: Global,
-    steps: &str,
-    member: &mut Member,
-    other: &Table,
-) -> Result<String, ExampleFault> {
-    let mut said = String::new(alloc);
-    for step in steps.split(", ") {
-        say_step(alloc, step, member, other, &mut said)?;
+pub fn taken(line: &mut Line<'_>) {
+    let station = line.word();
+    let mut member = member_of(line, station);
+    let none = Table::new(line.alloc(), 0, 0, 0);
+    for (place, step) in line.rest().split(", ").enumerate() {
+        if place > 0 {
+            line.say("; ");
+        }
+        say_step(line, step, &mut member, &none);
     }
-    Ok(said)
 }
 
 /// `both STATION STATION STEP, STEP ..`: what two new members answer, `a` and `b`.
@@ -43,180 +32,134 @@ fn steps_text(
 /// A step is `a` or `b` and what that one does, as `take` has it, or `absorb MOMENT`: it takes in
 /// the other's table, and hands over datagrams; `preview`: what it would hand over; or `same`:
 /// whether the tables are equal.
-pub fn taken_by_both(alloc: Global, words: &mut Words<'_>) -> Result<String, ExampleFault> {
-    let mut a = member_of(alloc, words.word()?)?;
-    let mut b = member_of(alloc, words.word()?)?;
-    steps_of_both(alloc, words.rest(), &mut a, &mut b)
-}
-
-/// What two members answer to steps.
-fn steps_of_both(
-    alloc: Global,
-    steps: &str,
-    a: &mut Member,
-    b: &mut Member,
-) -> Result<String, ExampleFault> {
-    let mut said = String::new(alloc);
-    for step in steps.split(", ") {
-        say_step_of(alloc, step, a, b, &mut said)?;
+pub fn taken_by_both(line: &mut Line<'_>) {
+    let (a, b) = (line.word(), line.word());
+    let mut a = member_of(line, a);
+    let mut b = member_of(line, b);
+    for (place, step) in line.rest().split(", ").enumerate() {
+        if place > 0 {
+            line.say("; ");
+        }
+        say_step_of(line, step, &mut a, &mut b);
     }
-    Ok(said)
 }
 
-/// Makes a step of one of two members.
-fn say_step_of(
-    alloc: Global,
-    step: &str,
-    a: &mut Member,
-    b: &mut Member,
-    said: &mut String,
-) -> Result<(), ExampleFault> {
-    let (who, step) = split(step, " ")?;
+/// Makes a step of one of two members, and says what is answered.
+fn say_step_of<'a>(line: &mut Line<'a>, step: &'a str, a: &mut Member, b: &mut Member) {
+    let (who, step) = step.split_once(" ").unwrap_or(("", step));
     match who {
-        "a" => say_step(alloc, step, a, b.table(), said),
-        "b" => say_step(alloc, step, b, a.table(), said),
-        _ => Err(ExampleFault::BadWords),
+        "a" => say_step(line, step, a, b.table()),
+        "b" => say_step(line, step, b, a.table()),
+        _ => line.bad_words(),
     }
 }
 
 /// Makes a step, and says what is answered.
-fn say_step(
-    alloc: Global,
-    step: &str,
-    member: &mut Member,
-    other: &Table,
-    said: &mut String,
-) -> Result<(), ExampleFault> {
-    let mut words = Words::new(step);
-    let answer = answer_step(alloc, &mut words, member, other)?;
-    all_taken(&words)?;
-    say(said, &answer)
-}
-
-/// Makes a step: what is answered.
-fn answer_step(
-    alloc: Global,
-    words: &mut Words<'_>,
-    member: &mut Member,
-    other: &Table,
-) -> Result<String, ExampleFault> {
-    match words.word()? {
-        "take" => take(alloc, words, member),
-        "took" => take_unmarked(alloc, words, member),
-        "tick" => tick(alloc, words, member),
-        "absorb" => absorb(alloc, words, member, other),
-        "preview" => preview(alloc, member, other),
-        "keys" => keys(alloc, member),
-        "list" => list(alloc, member.table()),
-        "settings" => made(alloc, || member.settings()),
-        "same" => Ok(format!(in alloc; "{}", member.table().same(other))?),
-        _ => Err(ExampleFault::BadWords),
+fn say_step<'a>(line: &mut Line<'a>, step: &'a str, member: &mut Member, other: &Table) {
+    let before = line.enter(step, " ");
+    match line.word() {
+        "take" => take(line, member),
+        "took" => take_unmarked(line, member),
+        "tick" => tick(line, member),
+        "absorb" => absorb(line, member, other),
+        "preview" => preview(line, member, other),
+        "keys" => keys(line, member),
+        "list" => list(line, member.table()),
+        "settings" => settings(line, member),
+        "same" => write!(line, "{}", member.table().same(other)),
+        _ => line.bad_words(),
     }
+    line.leave(before);
 }
 
 /// `take MOMENT PAYLOAD`.
-fn take(alloc: Global, words: &mut Words<'_>, member: &mut Member) -> Result<String, ExampleFault> {
-    let moment = words.number()?;
-    let payload = words.bytes(alloc)?;
-    let (mut said, answer) = asked(
-        alloc,
-        member,
-        |member| match member.take(moment, payload.as_slice()) {
-            Err(MemberFault::Table(TableFault::NoMemory)) => None,
-            answer => Some(answer),
-        },
-        |member| reads(alloc, member.table()),
-    )?;
-    say_taken(alloc, &answer, &mut said)?;
-    Ok(said)
+fn take(line: &mut Line<'_>, member: &mut Member) {
+    let moment = line.number();
+    let payload = line.bytes();
+    let taken = asked!(
+        line,
+        Err(MemberFault::Table(TableFault::NoMemory)),
+        member.take(moment, payload.as_slice()),
+        reads(line, member.table())
+    );
+    say_taken(line, &taken);
 }
 
 /// `took MOMENT PAYLOAD`.
-fn take_unmarked(
-    alloc: Global,
-    words: &mut Words<'_>,
-    member: &mut Member,
-) -> Result<String, ExampleFault> {
-    let moment = words.number()?;
-    let payload = words.bytes(alloc)?;
-    let answer = member.take(moment, payload.as_slice());
-    let mut said = String::new(alloc);
-    say_taken(alloc, &answer, &mut said)?;
-    Ok(said)
+fn take_unmarked(line: &mut Line<'_>, member: &mut Member) {
+    let moment = line.number();
+    let payload = line.bytes();
+    let taken = member.take(moment, payload.as_slice());
+    say_taken(line, &taken);
 }
 
 /// `tick NOW`.
-fn tick(alloc: Global, words: &mut Words<'_>, member: &mut Member) -> Result<String, ExampleFault> {
-    let now = words.number()?;
-    let mut said = begin(alloc)?;
+fn tick(line: &mut Line<'_>, member: &mut Member) {
+    let now = line.number();
+    line.begin();
     let dropped = member.tick(now);
-    end(&mut said)?;
-    write!(said, "dropped {}", dropped.keys)?;
-    Ok(said)
+    line.end();
+    write!(line, "dropped {}", dropped.keys);
 }
 
 /// `keys`.
-fn keys(alloc: Global, member: &Member) -> Result<String, ExampleFault> {
-    let mut said = begin(alloc)?;
+fn keys(line: &mut Line<'_>, member: &Member) {
+    line.begin();
     let keys = member.table().len();
-    end(&mut said)?;
-    write!(said, "keys {keys}")?;
-    Ok(said)
+    line.end();
+    write!(line, "keys {keys}");
+}
+
+/// `settings`.
+fn settings(line: &mut Line<'_>, member: &Member) {
+    line.begin();
+    let settings = member.settings();
+    line.end();
+    write!(line, "{settings:?}");
 }
 
 /// `absorb MOMENT`.
-fn absorb(
-    alloc: Global,
-    words: &mut Words<'_>,
-    member: &mut Member,
-    other: &Table,
-) -> Result<String, ExampleFault> {
-    let moment = words.number()?;
-    let (mut said, answer) = asked(
-        alloc,
-        member,
-        |member| not_memory(member.absorb(other, moment)),
-        |member| reads(alloc, member.table()),
-    )?;
-    say_handed_over(alloc, "absorbed", &answer, &mut said)?;
-    Ok(said)
+fn absorb(line: &mut Line<'_>, member: &mut Member, other: &Table) {
+    let moment = line.number();
+    let absorbed = asked!(
+        line,
+        Err(TableFault::NoMemory),
+        member.absorb(other, moment),
+        reads(line, member.table())
+    );
+    say_handed_over(line, "absorbed", &absorbed);
 }
 
 /// `preview`.
-fn preview(alloc: Global, member: &mut Member, other: &Table) -> Result<String, ExampleFault> {
-    let (mut said, answer) = asked(
-        alloc,
-        member,
-        |member| not_memory(member.preview(alloc, other)),
-        |member| reads(alloc, member.table()),
-    )?;
-    say_handed_over(alloc, "previewed", &answer, &mut said)?;
-    Ok(said)
-}
-
-/// `list`: the lines of a table's keys, each after a stroke.
-fn list(alloc: Global, table: &Table) -> Result<String, ExampleFault> {
-    let (mut said, lines) = alone(alloc, || list_keys(alloc, table).ok())?;
-    said.push_str("listed")?;
-    for line in lines.lines() {
-        said.push_str(" / ")?;
-        said.push_str(line)?;
-    }
-    Ok(said)
+fn preview(line: &mut Line<'_>, member: &Member, other: &Table) {
+    let previewed = asked!(
+        line,
+        Err(TableFault::NoMemory),
+        member.preview(line.alloc(), other),
+        reads(line, member.table())
+    );
+    say_handed_over(line, "previewed", &previewed);
 }
 
 /// Says what came of taking in a table, or would come of it.
-fn say_handed_over(
-    alloc: Global,
-    word: &str,
-    handed: &Result<Datagrams, TableFault>,
-    said: &mut String,
-) -> Result<(), ExampleFault> {
+fn say_handed_over(line: &mut Line<'_>, word: &str, handed: &Result<Datagrams, TableFault>) {
     match handed {
         Ok(datagrams) => {
-            said.push_str(word)?;
-            say_all_delivered(alloc, datagrams, said)
+            line.say(word);
+            say_all_delivered(line, datagrams);
         }
-        Err(fault) => say_refused(alloc, MemberFault::Table(*fault), said),
+        Err(fault) => say_refused(line, MemberFault::Table(*fault)),
+    }
+}
+
+/// `list`: the lines of a table's keys, each after a stroke.
+fn list(line: &mut Line<'_>, table: &Table) {
+    let Ok(lines) = alone!(line, Err(_), list_keys(line.alloc(), table)) else {
+        return line.no_memory();
+    };
+    line.say("listed");
+    for listed in lines.lines() {
+        line.say(" / ");
+        line.say(listed);
     }
 }

@@ -2,22 +2,22 @@
 
 use nb_datagram::{Datagram, kind_name};
 use nb_examples_datagram::values::datagram_of;
-use nb_examples_words::byte_text::{bytes_of, text_of_bytes};
-use nb_examples_words::fault::ExampleFault;
-use nb_examples_words::marks::{alone, begin, end};
-use nb_examples_words::words::Words;
+use nb_examples_words::alone;
+use nb_examples_words::line::Line;
 use nb_member::{Comments, push_comment, push_parts};
 use std::alloc::Global;
 
 /// `datagram PARTS`: the word for a datagram's kind, and then all its parts as a report has them.
-pub fn parts(alloc: Global, words: &mut Words<'_>) -> Result<String, ExampleFault> {
-    let datagram = datagram_of(alloc, words)?;
-    let mut mark = begin(alloc)?;
+pub fn parts(line: &mut Line<'_>) {
+    let Some(datagram) = datagram_of(line) else {
+        return;
+    };
+    line.begin();
     let kind = kind_name(datagram.kind());
-    end(&mut mark)?;
-    let (mut said, text) = alone(alloc, || parts_text(alloc, &datagram))?;
-    write!(said, "{kind}:{text}")?;
-    Ok(said)
+    line.end();
+    let text = alone!(line, None, parts_text(line.alloc(), &datagram));
+    write!(line, "{kind}:");
+    line.say_made(text);
 }
 
 /// A datagram's text, or nothing where memory ran out.
@@ -31,22 +31,28 @@ fn parts_text(alloc: Global, datagram: &Datagram) -> Option<String> {
 
 /// `comment printed LINE`, `comment left LINE`: what is printed of a comment or an empty line, as
 /// bytes, where comments are printed and where they are left out.
-pub fn comment(alloc: Global, words: &mut Words<'_>) -> Result<String, ExampleFault> {
-    let comments = match words.word()? {
+pub fn comment(line: &mut Line<'_>) {
+    let comments = match line.word() {
         "printed" => Comments::Printed,
         "left" => Comments::LeftOut,
-        _ => return Err(ExampleFault::BadWords),
+        _ => return line.bad_words(),
     };
-    let line = bytes_of(alloc, words.rest())?;
-    let (mut said, text) = alone(alloc, || comment_text(alloc, comments, line.as_slice()))?;
-    said.push_str(text_of_bytes(alloc, text.as_bytes())?.as_str())?;
-    Ok(said)
+    let comment = line.rest();
+    let comment = line.bytes_of(comment);
+    match alone!(
+        line,
+        None,
+        comment_text(line.alloc(), comments, comment.as_slice())
+    ) {
+        Some(text) => line.say_bytes(text.as_bytes()),
+        None => line.no_memory(),
+    }
 }
 
 /// What is printed of a comment, or nothing where memory ran out.
-fn comment_text(alloc: Global, comments: Comments, line: &[u8]) -> Option<String> {
+fn comment_text(alloc: Global, comments: Comments, comment: &[u8]) -> Option<String> {
     let mut text = String::new(alloc);
-    match push_comment(comments, line, &mut text) {
+    match push_comment(comments, comment, &mut text) {
         Ok(()) => Some(text),
         Err(_) => None,
     }

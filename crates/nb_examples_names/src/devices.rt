@@ -1,80 +1,78 @@
 //! Counted readers and writers, and what is read and written of them.
 
-use crate::values;
-use nb_examples_words::byte_text::text_of_bytes;
 use nb_examples_words::devices::{Sink, Source};
-use nb_examples_words::fault::ExampleFault;
-use nb_examples_words::marks::{begin, end};
-use nb_examples_words::words::Words;
-use nb_names::input::{read_input, read_some};
+use nb_examples_words::line::Line;
+use nb_names::input::{Input, read_input, read_some};
 use nb_names::output::{write_some, write_whole};
 use nb_names::{Counted, DeviceFault, Told};
-use std::alloc::Global;
-
-/// What a call answers, as text.
-pub fn answer(alloc: Global, call: &str, words: &mut Words<'_>) -> Result<String, ExampleFault> {
-    match call {
-        "counted_read" => read(alloc, call, words),
-        "read_some" => read(alloc, call, words),
-        "read_input" => input(alloc, words),
-        "counted_write" => written(alloc, call, words),
-        "write_some" => written(alloc, call, words),
-        "write_whole" => written(alloc, call, words),
-        _ => values::answer(alloc, call, words),
-    }
-}
 
 /// `counted_read TIMES SIZE MOST INTERRUPTS FAILING BYTES`: what each of some reads answers, the
 /// whole buffer after it, which has this size and zeros at first, and what is left in the device.
 /// `read_some` with the same words but TIMES: the same of what is read at once.
-fn read(alloc: Global, call: &str, words: &mut Words<'_>) -> Result<String, ExampleFault> {
-    let times = times(call, "counted_read", words)?;
-    let size = words.size()?;
-    let conduct = words.conduct()?;
-    let bytes = words.bytes(alloc)?;
-    let mut source = Source::new(bytes.as_slice(), conduct);
-    let mut buffer = vec![in alloc; 0; size]?;
-    let mut said = String::new(alloc);
-    let mut left = bytes.as_slice();
-    for _ in 0..times {
-        left = say_read(alloc, call, &mut source, buffer.as_mut_slice(), &mut said)?;
+pub fn read(line: &mut Line<'_>, call: &str) {
+    let times = times(line, call == "counted_read");
+    let size = line.size();
+    let conduct = line.conduct();
+    let bytes = line.bytes();
+    match vec![in line.alloc(); 0; size] {
+        Ok(mut buffer) => {
+            let mut source = Source::new(bytes.as_slice(), conduct);
+            say_reads(line, call, times, &mut source, buffer.as_mut_slice());
+        }
+        Err(_) => line.no_memory(),
     }
-    let left = text_of_bytes(alloc, left)?;
-    write!(said, "left {left}")?;
-    Ok(said)
 }
 
-/// How often a call is made: as often as the next word says of this one, else once.
-fn times(call: &str, often: &str, words: &mut Words<'_>) -> Result<u64, ExampleFault> {
-    if call == often {
-        return words.number();
-    }
-    Ok(1)
-}
-
-/// Says what a read answers, and the buffer after it; what is left in the device.
-fn say_read<'a>(
-    alloc: Global,
+/// Says what some reads answer, and what is left in the device.
+fn say_reads(
+    line: &mut Line<'_>,
     call: &str,
-    source: &mut Source<'a>,
+    times: u64,
+    source: &mut Source<'_>,
     buffer: &mut [u8],
-    said: &mut String,
-) -> Result<&'a [u8], ExampleFault> {
+) {
     if buffer.is_empty() {
-        return Err(ExampleFault::BadWords);
+        return line.bad_words();
     }
-    let mut mark = begin(alloc)?;
-    let mut reader = Counted::new(source);
-    let answer = match call {
-        "read_some" => told_some(read_some(&mut reader, buffer)),
+    for _ in 0..times {
+        say_read(line, call, source, buffer);
+    }
+    line.say("left ");
+    line.say_bytes(source.left());
+}
+
+/// How often a call is made: as often as the next word says, if there is one for it, else once.
+fn times(line: &mut Line<'_>, is_said: bool) -> u64 {
+    match is_said {
+        true => line.number(),
+        false => 1,
+    }
+}
+
+/// Says what a read answers, and the buffer after it.
+fn say_read(line: &mut Line<'_>, call: &str, source: &mut Source<'_>, buffer: &mut [u8]) {
+    line.begin();
+    let answer = read_by(call, &mut Counted::new(source), buffer);
+    line.end();
+    say_told(line, answer);
+    line.say(" ");
+    line.say_bytes(buffer);
+    line.say("; ");
+}
+
+/// What a read answers, of no empty buffer.
+fn read_by(
+    call: &str,
+    reader: &mut Counted<&mut Source<'_>>,
+    buffer: &mut [u8],
+) -> Result<Told, DeviceFault> {
+    if buffer.is_empty() {
+        return Err(DeviceFault);
+    }
+    match call {
+        "read_some" => told_some(read_some(reader, buffer)),
         _ => Ok(reader.read(buffer)),
-    };
-    let left = reader.into_inner().left();
-    end(&mut mark)?;
-    say_told(said, answer)?;
-    let held = text_of_bytes(alloc, buffer)?;
-    write!(said, " {held}; ")?;
-    Ok(left)
+    }
 }
 
 /// A number of bytes, as the answer of a device.
@@ -83,57 +81,66 @@ fn told_some(answer: Result<usize, DeviceFault>) -> Result<Told, DeviceFault> {
 }
 
 /// Says what a device answered, or that it was given up.
-fn say_told(said: &mut String, answer: Result<Told, DeviceFault>) -> Result<(), ExampleFault> {
+fn say_told(line: &mut Line<'_>, answer: Result<Told, DeviceFault>) {
     match answer {
-        Ok(told) => Ok(write!(said, "{told:?}")?),
-        Err(fault) => Ok(write!(said, "{fault}")?),
+        Ok(told) => write!(line, "{told:?}"),
+        Err(fault) => write!(line, "{fault}"),
     }
 }
 
 /// `read_input MOST INTERRUPTS FAILING BYTES`: what is read of an input, whether that is all of it,
 /// and how many bytes are looked at.
-fn input(alloc: Global, words: &mut Words<'_>) -> Result<String, ExampleFault> {
-    let conduct = words.conduct()?;
-    let bytes = words.bytes(alloc)?;
-    let mut reader = Counted::new(Source::new(bytes.as_slice(), conduct));
-    let input = read_input(alloc, &mut reader)?;
-    let said = if input.is_whole { "whole" } else { "cut" };
-    let front = input.front().len();
-    let read = text_of_bytes(alloc, input.bytes.as_slice())?;
-    Ok(format!(in alloc; "{said} {read}, looked at {front}")?)
+pub fn input(line: &mut Line<'_>) {
+    let conduct = line.conduct();
+    let bytes = line.bytes();
+    let mut source = Source::new(bytes.as_slice(), conduct);
+    match read_input(line.alloc(), &mut Counted::new(&mut source)) {
+        Ok(input) => say_input(line, &input),
+        Err(_) => line.no_memory(),
+    }
+}
+
+/// Says what was read of an input.
+fn say_input(line: &mut Line<'_>, input: &Input) {
+    let read = match input.is_whole {
+        true => "whole ",
+        false => "cut ",
+    };
+    line.say(read);
+    line.say_bytes(input.bytes.as_slice());
+    write!(line, ", looked at {}", input.front().len());
 }
 
 /// `counted_write TIMES MOST INTERRUPTS FAILING BYTES`: what each of some writes of the same bytes
 /// answers, and what the device has taken. `write_some` and `write_whole` with the same words but
 /// TIMES: the same of what is written at once, and of all bytes.
-fn written(alloc: Global, call: &str, words: &mut Words<'_>) -> Result<String, ExampleFault> {
-    let times = times(call, "counted_write", words)?;
-    let conduct = words.conduct()?;
-    let bytes = words.bytes(alloc)?;
-    let mut sink = Sink::new(alloc, conduct);
-    let mut said = String::new(alloc);
+pub fn written(line: &mut Line<'_>, call: &str) {
+    let times = times(line, call == "counted_write");
+    let conduct = line.conduct();
+    let bytes = line.bytes();
+    let mut sink = Sink::new(line.alloc(), conduct);
+    say_writes(line, call, times, bytes.as_slice(), &mut sink);
+}
+
+/// Says what some writes answer, and what the device has taken.
+fn say_writes(line: &mut Line<'_>, call: &str, times: u64, bytes: &[u8], sink: &mut Sink) {
     for _ in 0..times {
-        say_write(alloc, call, bytes.as_slice(), &mut sink, &mut said)?;
+        say_write(line, call, bytes, sink);
     }
-    let taken = text_of_bytes(alloc, sink.taken())?;
-    write!(said, "taken {taken}")?;
-    Ok(said)
+    line.say("taken ");
+    line.say_bytes(sink.taken());
 }
 
 /// Says what a write answers.
-fn say_write(
-    alloc: Global,
-    call: &str,
-    bytes: &[u8],
-    sink: &mut Sink,
-    said: &mut String,
-) -> Result<(), ExampleFault> {
-    sink.make_room(bytes.len())?;
-    let mut mark = begin(alloc)?;
+fn say_write(line: &mut Line<'_>, call: &str, bytes: &[u8], sink: &mut Sink) {
+    if sink.make_room(bytes.len()).is_err() {
+        line.no_memory();
+    }
+    line.begin();
     let answer = write_by(call, bytes, &mut Counted::new(sink));
-    end(&mut mark)?;
-    say_told(said, answer)?;
-    Ok(said.push_str("; ")?)
+    line.end();
+    say_told(line, answer);
+    line.say("; ");
 }
 
 /// What a write answers. No bytes are written whole alone.

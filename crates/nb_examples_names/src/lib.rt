@@ -8,19 +8,47 @@ mod texts;
 mod values;
 
 use nb_examples_words::fault::ExampleFault;
-use nb_examples_words::words::Words;
-use std::alloc::Global;
+use nb_examples_words::line::Line;
 
-/// What a call answers, as text.
-pub fn answer(alloc: Global, call: &str, words: &mut Words<'_>) -> Result<String, ExampleFault> {
+/// Says what a call answers.
+pub fn answer(line: &mut Line<'_>, call: &str) {
     match call {
-        "read_domain" => reading::domain_read(alloc, words),
-        "read_name" => reading::name_read(alloc, words),
-        "reader" => reading::read_by_reader(alloc, words),
-        "labels" => reading::labels(alloc, words),
-        "push" => reading::pushed(alloc, words, false),
-        "push_scope" => reading::pushed(alloc, words, true),
-        "from_domain" => reading::from_domain(alloc, words),
-        _ => texts::answer(alloc, call, words),
+        "read_domain" => reading::domain_read(line),
+        "read_name" => reading::name_read(line),
+        "reader" => reading::read_by_reader(line),
+        "labels" => reading::labels(line),
+        "push" => reading::pushed(line, false),
+        "push_scope" => reading::pushed(line, true),
+        "from_domain" => reading::from_domain(line),
+        "from_text" => texts::read(line),
+        "from_bytes" => texts::read_of_bytes(line),
+        "name_text" => texts::name_written(line),
+        "domain_text" => texts::domain_written(line),
+        "spelling" => texts::spelled(line),
+        "split_line" => texts::line_split(line),
+        _ => answer_more(line, call),
+    }
+}
+
+/// Says what another call answers.
+fn answer_more(line: &mut Line<'_>, call: &str) {
+    match call {
+        "digits" => pieces::read(line, false),
+        "data" => pieces::read(line, true),
+        "push_name" | "push_digits" | "push_data" | "push_word" | "push_address" | "push_domain" =>
+            pieces::added(line, call),
+        "counted_read" | "read_some" => devices::read(line, call),
+        "read_input" => devices::input(line),
+        "counted_write" | "write_some" | "write_whole" => devices::written(line, call),
+        "order" => values::ordered(line),
+        "same" => values::compared(line),
+        "copy" => values::copied(line),
+        "copy_bytes" => values::bytes_copied(line),
+        "bytes" => values::bytes_kept(line),
+        "items" => values::items_kept(line),
+        "no_memory" => values::no_memory(line),
+        "number_16" => values::number(line, false),
+        "number_32" => values::number(line, true),
+        _ => line.note(ExampleFault::NoSuchCall),
     }
 }

@@ -1,128 +1,92 @@
 //! Texts of names, of bytes and of lines.
 
 use crate::reading::domain_of;
-use crate::{devices, pieces};
-use nb_examples_words::byte_text::{bytes_of, text_of_bytes};
-use nb_examples_words::fault::ExampleFault;
-use nb_examples_words::marks::{alone, begin, end, told};
-use nb_examples_words::words::Words;
+use nb_examples_words::alone;
+use nb_examples_words::line::Line;
 use nb_names::lines::split_line;
-use nb_names::{Name, Scope, domain_text, name_from_text, name_text, push_name, write_domain};
-use std::alloc::Global;
-
-/// What a call answers, as text.
-pub fn answer(alloc: Global, call: &str, words: &mut Words<'_>) -> Result<String, ExampleFault> {
-    match call {
-        "from_text" => read(alloc, words.rest()),
-        "from_bytes" => read_of_bytes(alloc, words),
-        "name_text" => name_written(alloc, words),
-        "domain_text" => domain_written(alloc, words),
-        "push_name" => name_added(alloc, words),
-        "digits"
-        | "data"
-        | "push_digits"
-        | "push_data"
-        | "push_word"
-        | "push_address"
-        | "push_domain" => pieces::answer(alloc, call, words),
-        "spelling" => spelled(alloc, words),
-        "split_line" => line_split(alloc, words),
-        _ => devices::answer(alloc, call, words),
-    }
-}
+use nb_names::{Name, Scope, domain_text, name_from_text, name_text, write_domain};
 
 /// `from_text TEXT`: the sixteen bytes of the name that the text stands for, and the spelling of
 /// its scope. The text may have spaces.
-fn read(alloc: Global, text: &str) -> Result<String, ExampleFault> {
-    let mut mark = begin(alloc)?;
-    let name = name_from_text(text);
-    end(&mut mark)?;
-    match name {
-        Ok(name) => {
-            let bytes = text_of_bytes(alloc, name.bytes())?;
-            let scope = text_of_bytes(alloc, name.scope().as_domain().spelling())?;
-            Ok(format!(in alloc; "{bytes} {scope}")?)
-        }
-        Err(fault) => Ok(format!(in alloc; "{fault}")?),
-    }
+pub fn read(line: &mut Line<'_>) {
+    let text = line.rest();
+    say_name_of(line, text);
 }
 
 /// `from_bytes BYTES`: as `from_text`, of the text whose UTF-8 these bytes are.
-fn read_of_bytes(alloc: Global, words: &mut Words<'_>) -> Result<String, ExampleFault> {
-    let bytes = words.bytes(alloc)?;
+pub fn read_of_bytes(line: &mut Line<'_>) {
+    let bytes = line.bytes();
     match std::str::from_utf8(bytes.as_slice()) {
-        Ok(text) => read(alloc, text),
-        Err(_) => Err(ExampleFault::BadWords),
+        Ok(text) => say_name_of(line, text),
+        Err(_) => line.bad_words(),
+    }
+}
+
+/// Says the name of a text.
+fn say_name_of(line: &mut Line<'_>, text: &str) {
+    line.begin();
+    let name = name_from_text(text);
+    line.end();
+    match name {
+        Ok(name) => {
+            line.say_bytes(name.bytes());
+            line.say(" ");
+            line.say_bytes(name.scope().as_domain().spelling());
+        }
+        Err(fault) => write!(line, "{fault}"),
     }
 }
 
 /// `name_text BYTES LABEL ..`: the text of a name of sixteen bytes, in the scope of these labels.
-fn name_written(alloc: Global, words: &mut Words<'_>) -> Result<String, ExampleFault> {
-    let bytes = words.bytes(alloc)?;
+pub fn name_written(line: &mut Line<'_>) {
+    let bytes = line.bytes();
     let mut name = [0; 16];
     if bytes.len() != name.len() {
-        return Err(ExampleFault::BadWords);
+        return line.bad_words();
     }
     name.copy_from_slice(bytes.as_slice());
-    let name = Name::new(name, scope_of(alloc, words)?);
-    let (said, text) = alone(alloc, || name_text(alloc, &name).ok())?;
-    told(said, text)
+    let name = Name::new(name, scope_of(line));
+    let text = alone!(line, Err(_), name_text(line.alloc(), &name));
+    line.say_made(text.ok());
 }
 
 /// The scope of all labels that are left.
-fn scope_of(alloc: Global, words: &mut Words<'_>) -> Result<Scope, ExampleFault> {
+fn scope_of(line: &mut Line<'_>) -> Scope {
     let mut scope = Scope::empty();
-    for word in words.rest().split_whitespace() {
-        let label = bytes_of(alloc, word)?;
+    for word in line.rest().split_whitespace() {
+        let label = line.bytes_of(word);
         if scope.push(label.as_slice()).is_err() {
-            return Err(ExampleFault::BadWords);
+            line.bad_words();
         }
     }
-    Ok(scope)
+    scope
 }
 
 /// `domain_text LABEL ..`: the text of the domain name of these labels.
-fn domain_written(alloc: Global, words: &mut Words<'_>) -> Result<String, ExampleFault> {
-    let domain = domain_of(alloc, words)?;
-    let (said, text) = alone(alloc, || domain_text(alloc, &domain).ok())?;
-    told(said, text)
+pub fn domain_written(line: &mut Line<'_>) {
+    let domain = domain_of(line);
+    let text = alone!(line, Err(_), domain_text(line.alloc(), &domain));
+    line.say_made(text.ok());
 }
 
 /// `spelling NAME`: the spelling of a name's labels, as it is written in packets.
-fn spelled(alloc: Global, words: &mut Words<'_>) -> Result<String, ExampleFault> {
-    let domain = words.name()?.to_domain();
-    let (said, written) = alone(alloc, || write_domain(alloc, &domain).ok())?;
-    told(said, text_of_bytes(alloc, written.as_slice())?)
-}
-
-/// `push_name TEXT NAME`: the text with the name's after it.
-fn name_added(alloc: Global, words: &mut Words<'_>) -> Result<String, ExampleFault> {
-    let front = words.word()?;
-    let name = words.name()?;
-    let (said, text) = alone(alloc, || with_name(alloc, front, &name))?;
-    told(said, text)
-}
-
-/// The text with a name's after it, or nothing where memory ran out.
-fn with_name(alloc: Global, front: &str, name: &Name) -> Option<String> {
-    let Ok(mut text) = String::from_str(alloc, front) else {
-        return None;
-    };
-    match push_name(&mut text, name) {
-        Ok(()) => Some(text),
-        Err(_) => None,
+pub fn spelled(line: &mut Line<'_>) {
+    let domain = line.name().to_domain();
+    match alone!(line, Err(_), write_domain(line.alloc(), &domain)) {
+        Ok(bytes) => line.say_bytes(bytes.as_slice()),
+        Err(_) => line.no_memory(),
     }
 }
 
 /// `split_line BYTES`: the first line, and what follows its line feed.
-fn line_split(alloc: Global, words: &mut Words<'_>) -> Result<String, ExampleFault> {
-    let text = words.bytes(alloc)?;
+pub fn line_split(line: &mut Line<'_>) {
+    let text = line.bytes();
     match split_line(text.as_slice()) {
-        Some((line, rest)) => {
-            let line = text_of_bytes(alloc, line)?;
-            let rest = text_of_bytes(alloc, rest)?;
-            Ok(format!(in alloc; "{line}, then {rest}")?)
+        Some((first, rest)) => {
+            line.say_bytes(first);
+            line.say(", then ");
+            line.say_bytes(rest);
         }
-        None => Ok(String::from_str(alloc, "none")?),
+        None => line.say("none"),
     }
 }

@@ -1,11 +1,9 @@
 //! Packets that are built of parts, and the usual requests.
 
 use crate::parts::{Part, parts_of, section};
-use nb_examples_words::byte_text::text_of_bytes;
-use nb_examples_words::fault::ExampleFault;
-use nb_examples_words::marks::{alone, asked, begin, end, told};
-use nb_examples_words::words::Words;
-use nb_names::{DomainName, Name, NoMemory};
+use nb_examples_words::alone;
+use nb_examples_words::line::Line;
+use nb_names::{Bytes, DomainName, Name, NoMemory};
 use nb_service::{
     AddressEntry, Packet, PushFault, Question, Record, Section, classes, encode, kinds,
     node_status_request, query, refresh, registration, release,
@@ -13,129 +11,109 @@ use nb_service::{
 use std::alloc::Global;
 
 /// A packet's bytes.
-fn packet_bytes(alloc: Global, packet: &Packet<'_>) -> Result<String, ExampleFault> {
-    let bytes = encode(alloc, packet)?;
-    Ok(text_of_bytes(alloc, bytes.as_slice())?)
+fn encoded(line: &mut Line<'_>, packet: &Packet<'_>) -> Bytes {
+    match encode(line.alloc(), packet) {
+        Ok(bytes) => bytes,
+        Err(_) => {
+            line.no_memory();
+            Bytes::from_vec(Vec::new(line.alloc()))
+        }
+    }
 }
 
 /// `build ID WORD PART ..`: the bytes of a packet to which the parts are added one after another,
 /// or the fault of the first that can't be.
-pub fn built(alloc: Global, words: &mut Words<'_>) -> Result<String, ExampleFault> {
-    let id = words.hex_16()?;
-    let word = words.hex_16()?;
-    let parts: Vec<Part> = parts_of(alloc, words)?;
-    let mut packet = Packet::new(alloc, id, word);
-    let mut said = String::new(alloc);
+pub fn built(line: &mut Line<'_>) {
+    let id = line.hex_16();
+    let word = line.hex_16();
+    let parts = parts_of(line);
+    let mut packet = Packet::new(line.alloc(), id, word);
     for part in &parts {
-        if !add(alloc, &mut packet, part, &mut said)? {
-            return Ok(said);
+        if !add(line, &mut packet, part) {
+            return;
         }
     }
-    told(said, packet_bytes(alloc, &packet)?)
+    let bytes = encoded(line, &packet);
+    line.say_bytes(bytes.as_slice());
 }
 
 /// Adds a part to a packet; where it can't be, false, and the fault is said.
-fn add<'a>(
-    alloc: Global,
-    packet: &mut Packet<'a>,
-    part: &'a Part,
-    said: &mut String,
-) -> Result<bool, ExampleFault> {
+fn add<'a>(line: &mut Line<'_>, packet: &mut Packet<'a>, part: &'a Part) -> bool {
     if let Some(fault) = part.fault() {
-        write!(said, "{fault}")?;
-        return Ok(false);
+        write!(line, "{fault}");
+        return false;
     }
-    let (note, pushed) = asked(
-        alloc,
-        packet,
-        |packet| part.push_to(packet),
-        |packet| packet_bytes(alloc, packet),
-    )?;
-    said.push_str(note.as_str())?;
+    let before = encoded(line, packet);
+    line.begin();
+    let mut pushed = part.push_to(packet);
+    line.end();
+    if matches!(pushed, Err(PushFault::NoMemory)) {
+        let after = encoded(line, packet);
+        line.again(after == before);
+        pushed = part.push_to(packet);
+    }
     match pushed {
-        Ok(()) => Ok(true),
-        Err(fault) => {
-            write!(said, "{fault}")?;
-            Ok(false)
-        }
+        Ok(()) => return true,
+        Err(PushFault::NoMemory) => line.no_memory(),
+        Err(fault) => write!(line, "{fault}"),
     }
+    false
 }
 
 /// `many PLACE COUNT`: a part is added so often to the questions of a packet or to a section, then
 /// one to each list: what was answered to the last of the many, and how many items the questions,
 /// the answers, the authorities and the additional records have in the end.
-pub fn pushed_often(alloc: Global, words: &mut Words<'_>) -> Result<String, ExampleFault> {
-    let section = section(words)?;
-    let count = words.number()?;
-    let mut packet = Packet::new(alloc, 0, 0);
-    push_many(alloc, &mut packet, section, count)
-}
-
-/// Makes the calls that `many` says, and says what they answer.
-fn push_many(
-    alloc: Global,
-    packet: &mut Packet<'_>,
-    section: Option<Section>,
-    count: u64,
-) -> Result<String, ExampleFault> {
-    push_times(packet, section, count.saturating_sub(1))?;
-    let mut said = begin(alloc)?;
-    let last = push_one(packet, section)?;
-    end(&mut said)?;
-    write!(said, "{last:?}")?;
-    push_to_each(packet)?;
-    say_counts(alloc, packet, &mut said)?;
-    Ok(said)
-}
-
-/// Adds a part so often.
-fn push_times(
-    packet: &mut Packet<'_>,
-    section: Option<Section>,
-    count: u64,
-) -> Result<(), ExampleFault> {
-    for _ in 0..count {
-        let _ = push_one(packet, section)?;
+pub fn pushed_often(line: &mut Line<'_>) {
+    let section = section(line);
+    let count = line.number();
+    let mut packet = Packet::new(line.alloc(), 0, 0);
+    for _ in 1..count {
+        let _ = push_one(line, &mut packet, section);
     }
-    Ok(())
+    line.begin();
+    let last = push_one(line, &mut packet, section);
+    line.end();
+    write!(line, "{last:?}");
+    push_to_each(line, &mut packet);
+    say_counts(line, &packet);
 }
 
 /// Adds a part to each list that takes it.
-fn push_to_each(packet: &mut Packet<'_>) -> Result<(), ExampleFault> {
+fn push_to_each(line: &mut Line<'_>, packet: &mut Packet<'_>) {
     let sections = [Section::Answer, Section::Authority, Section::Additional];
-    let _ = push_one(packet, None)?;
+    let _ = push_one(line, packet, None);
     for section in sections {
-        let _ = push_one(packet, Some(section))?;
+        let _ = push_one(line, packet, Some(section));
     }
-    Ok(())
 }
 
-/// What a packet answers to a question, or to a record for a section, unless memory ran out.
+/// What a packet answers to a question, or to a record for a section.
 fn push_one(
+    line: &mut Line<'_>,
     packet: &mut Packet<'_>,
     section: Option<Section>,
-) -> Result<Result<(), PushFault>, ExampleFault> {
+) -> Result<(), PushFault> {
     let name = DomainName::root();
     let (kind, class) = (kinds::NB, classes::IN);
     let answer = match section {
         Some(section) => packet.push(section, Record::ns(name, class, 0, DomainName::root())),
         None => packet.push_question(Question { name, kind, class }),
     };
-    match answer {
-        Err(PushFault::NoMemory) => Err(ExampleFault::NoMemory),
-        answer => Ok(answer),
+    if matches!(answer, Err(PushFault::NoMemory)) {
+        line.no_memory();
     }
+    answer
 }
 
 /// Says how many items the lists of a packet have.
-fn say_counts(alloc: Global, packet: &Packet<'_>, said: &mut String) -> Result<(), ExampleFault> {
-    let mut mark = begin(alloc)?;
+fn say_counts(line: &mut Line<'_>, packet: &Packet<'_>) {
+    line.begin();
     let questions = packet.questions().as_slice().len();
     let answers = packet.answers().as_slice().len();
     let authorities = packet.authorities().as_slice().len();
     let additional = packet.additional().as_slice().len();
-    end(&mut mark)?;
-    Ok(write!(said, " {questions} {answers} {authorities} {additional}")?)
+    line.end();
+    write!(line, " {questions} {answers} {authorities} {additional}");
 }
 
 /// What a request says besides its name: whether it is broadcast, for how long, and the entry.
@@ -149,35 +127,44 @@ struct Details {
 /// `query ID NAME MODE` and `node_status_request` with the same words, `registration ID NAME MODE
 /// TTL FLAGS ADDRESS` and `refresh` with the same words, and `release ID NAME MODE FLAGS ADDRESS`:
 /// the bytes of the request. MODE is `broadcast` or `alone`.
-pub fn requested(alloc: Global, call: &str, words: &mut Words<'_>) -> Result<String, ExampleFault> {
-    let id = words.hex_16()?;
-    let name = words.name()?;
-    let details = details_of(call, words)?;
-    let (said, packet) = alone(alloc, || request(alloc, call, id, &name, &details).ok())?;
-    told(said, packet_bytes(alloc, &packet)?)
+pub fn requested(line: &mut Line<'_>, call: &str) {
+    let id = line.hex_16();
+    let name = line.name();
+    let details = details_of(line, call);
+    match alone!(
+        line,
+        Err(_),
+        request(line.alloc(), call, id, &name, &details)
+    ) {
+        Ok(packet) => {
+            let bytes = encoded(line, &packet);
+            line.say_bytes(bytes.as_slice());
+        }
+        Err(_) => line.no_memory(),
+    }
 }
 
 /// The next words, as what such a request says besides its name.
-fn details_of(call: &str, words: &mut Words<'_>) -> Result<Details, ExampleFault> {
-    let is_broadcast = match words.word()? {
-        "broadcast" => true,
-        "alone" => false,
-        _ => return Err(ExampleFault::BadWords),
+fn details_of(line: &mut Line<'_>, call: &str) -> Details {
+    let mut details = Details {
+        is_broadcast: false,
+        ttl: 0,
+        entry: [0; 6],
     };
-    let (mut ttl, mut entry) = (0, [0; 6]);
+    match line.word() {
+        "broadcast" => details.is_broadcast = true,
+        "alone" => {}
+        _ => line.bad_words(),
+    }
     if call == "registration" || call == "refresh" {
-        ttl = words.number_32()?;
+        details.ttl = line.number_32();
     }
     if call != "query" && call != "node_status_request" {
-        let flags = words.hex_16()?;
-        let address = words.address()?;
-        entry = AddressEntry { flags, address }.to_bytes();
+        let flags = line.hex_16();
+        let address = line.address();
+        details.entry = AddressEntry { flags, address }.to_bytes();
     }
-    Ok(Details {
-        is_broadcast,
-        ttl,
-        entry,
-    })
+    details
 }
 
 /// The request that a call makes.

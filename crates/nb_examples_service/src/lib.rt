@@ -10,30 +10,28 @@ mod values;
 mod views;
 
 use nb_examples_words::fault::ExampleFault;
-use nb_examples_words::words::Words;
-use std::alloc::Global;
+use nb_examples_words::line::Line;
 
-/// What a call answers, as text.
-pub fn answer(alloc: Global, call: &str, words: &mut Words<'_>) -> Result<String, ExampleFault> {
+/// Says what a call answers.
+pub fn answer(line: &mut Line<'_>, call: &str) {
     match call {
-        "decode" => decoding::decoded(alloc, words),
-        "again" => decoding::encoded_again(alloc, words),
-        "same" => decoding::compared(alloc, words),
-        "debug" => decoding::debugged(alloc, words),
-        "build" => building::built(alloc, words),
-        "many" => building::pushed_often(alloc, words),
-        "query" | "node_status_request" | "registration" | "refresh" | "release" => {
-            building::requested(alloc, call, words)
-        }
-        "record" => views::record(alloc, words),
-        "entries" => views::entries(alloc, words),
-        "status" => views::status(alloc, words),
-        "word" => values::word(alloc, words),
-        "name_flags" => values::name_flags(alloc, words),
-        "lists" => values::lists(alloc, words),
-        "numbers" => values::numbers(alloc),
-        "no_memory" => values::no_memory(alloc),
-        "equal" => values::equal(alloc, words),
-        _ => Err(ExampleFault::NoSuchCall),
+        "decode" => decoding::decoded(line),
+        "again" => decoding::encoded_again(line),
+        "same" => decoding::compared(line),
+        "debug" => decoding::debugged(line),
+        "build" => building::built(line),
+        "many" => building::pushed_often(line),
+        "query" | "node_status_request" | "registration" | "refresh" | "release" =>
+            building::requested(line, call),
+        "record" => views::record(line),
+        "entries" => views::entries(line),
+        "status" => views::status(line),
+        "word" => values::word(line),
+        "name_flags" => values::name_flags(line),
+        "lists" => values::lists(line),
+        "numbers" => values::numbers(line),
+        "no_memory" => values::no_memory(line),
+        "equal" => values::equal(line),
+        _ => line.note(ExampleFault::NoSuchCall),
     }
 }

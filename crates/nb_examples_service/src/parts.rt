@@ -4,12 +4,9 @@
 //! record: `bytes NAME KIND CLASS TTL RDATA` or `ns NAME CLASS TTL NAME`. A name is the bytes of
 //! its spelling; a kind and a class are hexadecimal.
 
-use nb_examples_words::byte_text::bytes_of;
-use nb_examples_words::fault::ExampleFault;
-use nb_examples_words::words::Words;
+use nb_examples_words::line::Line;
 use nb_names::DomainName;
 use nb_service::{Packet, PushFault, Question, Record, RecordFault, Section, kinds};
-use std::alloc::Global;
 
 /// A part of a packet: a question, or a record for a section.
 #[derive(Drop)]
@@ -39,15 +36,11 @@ impl Part {
         }
     }
 
-    /// Adds the part to a packet; None where memory ran out.
-    pub fn push_to<'a>(&'a self, packet: &mut Packet<'a>) -> Option<Result<(), PushFault>> {
-        let pushed = match (self.section, self.row.record()) {
+    /// Adds the part to a packet.
+    pub fn push_to<'a>(&'a self, packet: &mut Packet<'a>) -> Result<(), PushFault> {
+        match (self.section, self.row.record()) {
             (Some(section), Ok(record)) => packet.push(section, record),
             _ => packet.push_question(self.row.question()),
-        };
-        match pushed {
-            Err(PushFault::NoMemory) => None,
-            pushed => Some(pushed),
         }
     }
 }
@@ -73,75 +66,76 @@ impl Row {
 }
 
 /// The parts that all words that are left say.
-pub fn parts_of(alloc: Global, words: &mut Words<'_>) -> Result<Vec<Part>, ExampleFault> {
-    let mut parts = Vec::new(alloc);
+pub fn parts_of(line: &mut Line<'_>) -> Vec<Part> {
+    let mut parts = Vec::new(line.alloc());
     for _ in 0..16 {
-        if words.is_empty() {
+        if line.is_empty() {
             break;
         }
-        parts.push(next_part(alloc, words)?)?;
+        if parts.push(next_part(line)).is_err() {
+            line.no_memory();
+        }
     }
-    Ok(parts)
+    parts
 }
 
 /// The next words, as a part.
-fn next_part(alloc: Global, words: &mut Words<'_>) -> Result<Part, ExampleFault> {
-    let section = section(words)?;
+fn next_part(line: &mut Line<'_>) -> Part {
+    let section = section(line);
     let row = match section {
-        Some(_) => record_row(alloc, words)?,
-        None => row_of(alloc, words, "question")?,
+        Some(_) => record_row(line),
+        None => row_of(line, "question"),
     };
-    Ok(Part { section, row })
+    Part { section, row }
 }
 
 /// The next word, as a section; None is the questions.
-pub fn section(words: &mut Words<'_>) -> Result<Option<Section>, ExampleFault> {
-    match words.word()? {
-        "question" => Ok(None),
-        "answer" => Ok(Some(Section::Answer)),
-        "authority" => Ok(Some(Section::Authority)),
-        "additional" => Ok(Some(Section::Additional)),
-        _ => Err(ExampleFault::BadWords),
+pub fn section(line: &mut Line<'_>) -> Option<Section> {
+    match line.word() {
+        "question" => None,
+        "answer" => Some(Section::Answer),
+        "authority" => Some(Section::Authority),
+        "additional" => Some(Section::Additional),
+        _ => {
+            line.bad_words();
+            None
+        }
     }
 }
 
 /// The next words, as a record.
-pub fn record_row(alloc: Global, words: &mut Words<'_>) -> Result<Row, ExampleFault> {
-    let form = words.word()?;
-    row_of(alloc, words, form)
+pub fn record_row(line: &mut Line<'_>) -> Row {
+    let form = line.word();
+    row_of(line, form)
 }
 
 /// The next words, as a question or a record of this form.
-fn row_of(alloc: Global, words: &mut Words<'_>, form: &str) -> Result<Row, ExampleFault> {
-    let spelling = words.word()?;
+fn row_of(line: &mut Line<'_>, form: &str) -> Row {
+    let name = line.domain();
     let kind = if form == "ns" {
         kinds::NS
     } else {
-        words.hex_16()?
+        line.hex_16()
     };
-    let class = words.hex_16()?;
+    let class = line.hex_16();
     let ttl = if form == "question" {
         0
     } else {
-        words.number_32()?
-    };
-    let last = if form == "question" {
-        "empty"
-    } else {
-        words.word()?
+        line.number_32()
     };
     let mut row = Row {
-        name: Words::new(spelling).domain(alloc)?,
+        name,
         kind,
         class,
         ttl,
-        rdata: Vec::new(alloc),
+        rdata: Vec::new(line.alloc()),
         target: None,
     };
     match form {
-        "ns" => row.target = Some(Words::new(last).domain(alloc)?),
-        "bytes" | "question" => row.rdata = bytes_of(alloc, last)?,
-        _ => return Err(ExampleFault::BadWords),
+        "question" => {}
+        "ns" => row.target = Some(line.domain()),
+        "bytes" => row.rdata = line.bytes(),
+        _ => line.bad_words(),
     }
-    Ok(row)
+    row
 }

@@ -1,20 +1,22 @@
 //! The call of nb_text: payloads of any port as text.
 
+use nb_examples_words::alone;
 use nb_examples_words::fault::ExampleFault;
-use nb_examples_words::marks::{alone, told};
-use nb_examples_words::words::Words;
+use nb_examples_words::line::Line;
 use nb_text::push_packet;
 use std::alloc::Global;
 
 /// `packet PORT BYTES`: the text of a payload that came to the port. Its lines end with `;` here.
-pub fn answer(alloc: Global, call: &str, words: &mut Words<'_>) -> Result<String, ExampleFault> {
+pub fn answer(line: &mut Line<'_>, call: &str) {
     if call != "packet" {
-        return Err(ExampleFault::NoSuchCall);
+        return line.note(ExampleFault::NoSuchCall);
     }
-    let port = words.number_16()?;
-    let payload = words.bytes(alloc)?;
-    let (said, text) = alone(alloc, || shown(alloc, port, payload.as_slice()))?;
-    told(said, in_one_line(alloc, text.as_str())?)
+    let port = line.number_16();
+    let payload = line.bytes();
+    match alone!(line, None, shown(line.alloc(), port, payload.as_slice())) {
+        Some(text) => line.say_made(text.replace(line.alloc(), "\n", ";").ok()),
+        None => line.no_memory(),
+    }
 }
 
 /// A payload's text, or nothing where memory ran out.
@@ -24,16 +26,4 @@ fn shown(alloc: Global, port: u16, payload: &[u8]) -> Option<String> {
         Ok(()) => Some(text),
         Err(_) => None,
     }
-}
-
-/// The text with `;` for each line feed.
-fn in_one_line(alloc: Global, text: &str) -> Result<String, ExampleFault> {
-    let mut line = String::new(alloc);
-    for character in text.chars() {
-        match character {
-            '\n' => line.push(';')?,
-            other => line.push(other)?,
-        }
-    }
-    Ok(line)
 }

@@ -6,24 +6,23 @@ mod reading;
 mod streams;
 
 use nb_examples_words::fault::ExampleFault;
-use nb_examples_words::words::Words;
-use std::alloc::Global;
+use nb_examples_words::line::Line;
 
-/// What a call answers, as text.
-pub fn answer(alloc: Global, call: &str, words: &mut Words<'_>) -> Result<String, ExampleFault> {
+/// Says what a call answers.
+pub fn answer(line: &mut Line<'_>, call: &str) {
     match call {
-        "parse" => packets::parsed(alloc, words),
-        "fronts" => packets::fronts(alloc, words),
-        "again" => packets::encoded_again(alloc, words),
-        "encode" => packets::encoded(alloc, words),
-        "new" => packets::made_new(alloc, words),
-        "stream" => streams::streamed(alloc, words),
-        "pieces" => streams::streamed_in_pieces(alloc, usize::MAX, words),
-        "halves" => streams::streamed_in_pieces(alloc, 1, words),
-        "read" => reading::read(alloc, words),
-        "kind" => packets::kind(alloc, words),
-        "same" => packets::compared(alloc, words),
-        "debug" => packets::debugged(alloc, words),
-        _ => Err(ExampleFault::NoSuchCall),
+        "parse" => packets::parsed(line),
+        "fronts" => packets::fronts(line),
+        "again" => packets::encoded_again(line),
+        "encode" => packets::encoded(line),
+        "new" => packets::made_new(line),
+        "stream" => streams::streamed(line),
+        "pieces" => streams::streamed_in_pieces(line, usize::MAX),
+        "halves" => streams::streamed_in_pieces(line, 1),
+        "read" => reading::read(line),
+        "kind" => packets::kind(line),
+        "same" => packets::compared(line),
+        "debug" => packets::debugged(line),
+        _ => line.note(ExampleFault::NoSuchCall),
     }
 }

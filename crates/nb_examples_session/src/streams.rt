@@ -1,159 +1,87 @@
 //! Streams, fed in pieces.
 
-use crate::packets::push_packet;
-use nb_examples_words::byte_text::{bytes_of, text_of_bytes};
-use nb_examples_words::fault::ExampleFault;
-use nb_examples_words::marks::{as_before, begin, end};
-use nb_examples_words::words::Words;
+use crate::packets::say_packet;
+use nb_examples_words::line::Line;
 use nb_session::{FeedFault, Next, SessionFault, Stream};
-use std::alloc::Global;
 
 /// `stream PIECE ..`: what a stream answers after each piece that it is fed, up to what it needs or
 /// to its fault. The first piece alone isn't fed between marks.
-pub fn streamed(alloc: Global, words: &mut Words<'_>) -> Result<String, ExampleFault> {
-    let mut stream = Stream::new(alloc);
-    let mut said = String::new(alloc);
-    for word in words.rest().split_whitespace() {
-        say_piece(alloc, &mut stream, word, &mut said)?;
+pub fn streamed(line: &mut Line<'_>) {
+    let mut stream = Stream::new(line.alloc());
+    for word in line.rest().split_whitespace() {
+        let piece = line.bytes_of(word);
+        match line.is_silent() {
+            true => say_fed(line, stream.feed(piece.as_slice())),
+            false => feed(line, &mut stream, piece.as_slice()),
+        }
+        say_next(line, &mut stream, piece.len());
     }
-    Ok(said)
-}
-
-/// Feeds the piece of a word, and says what comes next.
-fn say_piece(
-    alloc: Global,
-    stream: &mut Stream,
-    word: &str,
-    said: &mut String,
-) -> Result<(), ExampleFault> {
-    let piece = bytes_of(alloc, word)?;
-    feed_later(alloc, stream, piece.as_slice(), said)?;
-    say_next(alloc, stream, piece.len(), said)
-}
-
-/// Feeds a piece, between marks where something was said before.
-fn feed_later(
-    alloc: Global,
-    stream: &mut Stream,
-    piece: &[u8],
-    said: &mut String,
-) -> Result<(), ExampleFault> {
-    if said.is_empty() {
-        return say_fed(stream.feed(piece), said);
-    }
-    feed(alloc, stream, piece, said)
 }
 
 /// Says what comes next in a stream, up to the first answer that isn't a packet.
-fn say_next(
-    alloc: Global,
-    stream: &mut Stream,
-    most: usize,
-    said: &mut String,
-) -> Result<(), ExampleFault> {
+fn say_next(line: &mut Line<'_>, stream: &mut Stream, most: usize) {
     for _ in 0..=most {
-        if !is_packet(alloc, stream, said)? {
+        if !is_packet(line, stream) {
             break;
         }
     }
-    Ok(())
 }
 
 /// Says what comes next in a stream: whether it is a packet.
-fn is_packet(alloc: Global, stream: &mut Stream, said: &mut String) -> Result<bool, ExampleFault> {
+fn is_packet(line: &mut Line<'_>, stream: &mut Stream) -> bool {
     match stream.next() {
         Next::Packet(taken) => {
-            push_packet(alloc, said, &taken.packet())?;
-            said.push_str("; ")?;
-            Ok(true)
+            say_packet(line, &taken.packet());
+            line.say("; ");
+            return true;
         }
-        Next::More(needed) => {
-            write!(said, "more {needed}; ")?;
-            Ok(false)
-        }
-        Next::Failed(fault) => {
-            write!(said, "failed {fault}; ")?;
-            Ok(false)
-        }
+        Next::More(needed) => write!(line, "more {needed}; "),
+        Next::Failed(fault) => write!(line, "failed {fault}; "),
     }
+    false
 }
 
 /// `pieces SIZE BYTES`: the bytes of each packet of a stream that is fed the bytes in pieces of a
 /// size, and what the stream needs in the end. `halves PLACE BYTES`: so of two pieces that are
 /// parted at a place, where one piece at most is of the size, and the other has the rest.
-pub fn streamed_in_pieces(
-    alloc: Global,
-    most: usize,
-    words: &mut Words<'_>,
-) -> Result<String, ExampleFault> {
-    let size = words.size()?;
-    let bytes = words.bytes(alloc)?;
-    let mut stream = Stream::new(alloc);
-    let mut said = String::new(alloc);
-    let count = most.min(bytes.len());
-    feed_all(
-        alloc,
-        &mut stream,
-        (size, count),
-        bytes.as_slice(),
-        &mut said,
-    )?;
-    say_next(alloc, &mut stream, 0, &mut said)?;
-    Ok(said)
-}
-
-/// Feeds bytes in this many pieces of this size, as far as they go, and the rest.
-fn feed_all(
-    alloc: Global,
-    stream: &mut Stream,
-    (size, count): (usize, usize),
-    bytes: &[u8],
-    said: &mut String,
-) -> Result<(), ExampleFault> {
-    let mut rest = bytes;
-    for _ in 0..count {
+pub fn streamed_in_pieces(line: &mut Line<'_>, most: usize) {
+    let size = line.size();
+    let bytes = line.bytes();
+    let mut stream = Stream::new(line.alloc());
+    let mut rest = bytes.as_slice();
+    for _ in 0..most.min(bytes.len()) {
         let (piece, after) = rest.split_at(size.min(rest.len()));
         rest = after;
-        say_packets(alloc, stream, piece, said)?;
+        say_packets(line, &mut stream, piece);
     }
-    say_packets(alloc, stream, rest, said)
+    say_packets(line, &mut stream, rest);
+    say_next(line, &mut stream, 0);
 }
 
 /// Feeds a piece, and says the bytes of the packets that come then.
-fn say_packets(
-    alloc: Global,
-    stream: &mut Stream,
-    piece: &[u8],
-    said: &mut String,
-) -> Result<(), ExampleFault> {
-    feed(alloc, stream, piece, said)?;
+fn say_packets(line: &mut Line<'_>, stream: &mut Stream, piece: &[u8]) {
+    feed(line, stream, piece);
     for _ in 0..=piece.len() {
         let Next::Packet(taken) = stream.next() else {
             break;
         };
-        let text = text_of_bytes(alloc, taken.as_slice())?;
-        write!(said, "{text}; ")?;
+        line.say_bytes(taken.as_slice());
+        line.say("; ");
     }
-    Ok(())
 }
 
 /// Feeds a piece to a stream that has no whole packet, between marks, and once more where memory
 /// ran out: what comes next in the stream has to be the same then.
-fn feed(
-    alloc: Global,
-    stream: &mut Stream,
-    piece: &[u8],
-    said: &mut String,
-) -> Result<(), ExampleFault> {
+fn feed(line: &mut Line<'_>, stream: &mut Stream, piece: &[u8]) {
     let before = lacks(stream);
-    let mut mark = begin(alloc)?;
-    let answer = stream.feed(piece);
-    end(&mut mark)?;
-    if !matches!(answer, Err(FeedFault::NoMemory)) {
-        return say_fed(answer, said);
+    line.begin();
+    let mut answer = stream.feed(piece);
+    line.end();
+    if matches!(answer, Err(FeedFault::NoMemory)) {
+        line.again(lacks(stream) == before);
+        answer = stream.feed(piece);
     }
-    said.push_str(as_before(lacks(stream) == before))?;
-    say_fed(stream.feed(piece), said)
+    say_fed(line, answer);
 }
 
 /// How many bytes a stream lacks that has no whole packet, or how it failed.
@@ -166,9 +94,8 @@ pub fn lacks(stream: &mut Stream) -> Result<usize, SessionFault> {
 }
 
 /// Says why a piece wasn't taken, where it wasn't.
-fn say_fed(answer: Result<(), FeedFault>, said: &mut String) -> Result<(), ExampleFault> {
-    match answer {
-        Ok(()) => Ok(()),
-        Err(fault) => Ok(write!(said, "fed {fault}; ")?),
+fn say_fed(line: &mut Line<'_>, answer: Result<(), FeedFault>) {
+    if let Err(fault) = answer {
+        write!(line, "fed {fault}; ");
     }
 }

@@ -2,10 +2,8 @@
 //! datagram out.
 
 use nb_datagram::{Datagram, Packet, decode};
-use nb_examples_datagram::texts::datagram_text;
-use nb_examples_words::byte_text::bytes_of;
-use nb_examples_words::fault::ExampleFault;
-use nb_examples_words::words::Words;
+use nb_examples_datagram::texts::say_datagram;
+use nb_examples_words::line::Line;
 use nb_names::Bytes;
 use nb_table::{Change, Table};
 use std::alloc::Global;
@@ -28,13 +26,16 @@ fn reassembled(alloc: Global, payloads: &[Bytes]) -> Option<Datagram> {
 }
 
 /// `reassembled BYTES ..`: the first datagram that the payloads come to, or `none`.
-pub fn first_datagram(alloc: Global, words: &mut Words<'_>) -> Result<String, ExampleFault> {
-    let mut payloads = Vec::new(alloc);
-    for word in words.rest().split_whitespace() {
-        payloads.push(Bytes::from_vec(bytes_of(alloc, word)?))?;
+pub fn first_datagram(line: &mut Line<'_>) {
+    let mut payloads = Vec::new(line.alloc());
+    for word in line.rest().split_whitespace() {
+        let payload = Bytes::from_vec(line.bytes_of(word));
+        if payloads.push(payload).is_err() {
+            line.no_memory();
+        }
     }
-    match reassembled(alloc, payloads.as_slice()) {
-        Some(datagram) => datagram_text(alloc, &datagram),
-        None => Ok(String::from_str(alloc, "none")?),
+    match reassembled(line.alloc(), payloads.as_slice()) {
+        Some(datagram) => say_datagram(line, &datagram),
+        None => line.say("none"),
     }
 }

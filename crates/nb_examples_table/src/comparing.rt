@@ -1,13 +1,11 @@
 //! Covers and entries joined.
 
-use crate::reads::not_memory;
 use crate::steps::{lent, step_of};
 use nb_datagram::Fragment;
-use nb_examples_words::fault::ExampleFault;
-use nb_examples_words::marks::{alone, asked};
-use nb_examples_words::words::{Words, split};
+use nb_examples_words::line::Line;
+use nb_examples_words::{alone, asked};
 use nb_names::NoMemory;
-use nb_table::{Cover, Entry, Join};
+use nb_table::{Cover, Entry, Join, TableFault};
 use std::alloc::Global;
 
 /// Values that are made of a fragment. What else is asked of them stands at each function: the kit
@@ -29,63 +27,59 @@ impl Said for Entry {
     }
 }
 
-/// What a step says, after what a call between marks has to say of memory.
-fn made<J: Said + Drop>(alloc: Global, step: &str, said: &mut String) -> Result<J, ExampleFault> {
-    let parts = step_of(alloc, step)?;
-    let fragment = lent(&parts)?;
-    let (before, value) = alone(alloc, || J::of_fragment(alloc, &fragment).ok())?;
-    said.push_str(before.as_str())?;
-    Ok(value)
+/// What a step says, made between marks.
+fn made<'a, J: Said + Drop>(line: &mut Line<'a>, step: &'a str) -> Option<J> {
+    let parts = step_of(line, step);
+    let Some(fragment) = lent(line, &parts) else {
+        return None;
+    };
+    let value = alone!(line, Err(_), J::of_fragment(line.alloc(), &fragment));
+    if value.is_err() {
+        line.no_memory();
+    }
+    value.ok()
 }
 
-/// Joins another into a value between marks, and then into one that is equal to it.
-fn join_both<J: Join + PartialEq>(
-    alloc: Global,
+/// Joins what a step says into a value between marks, and then into one that is equal to it.
+fn join_step<'a, J: Said + Join + PartialEq + Drop>(
+    line: &mut Line<'a>,
     value: &mut J,
     equal: &mut J,
-    other: &J,
-    said: &mut String,
-) -> Result<(), ExampleFault> {
-    let (before, _) = asked(
-        alloc,
-        value,
-        |value| not_memory(value.join(other)),
-        |value| Ok(format!(in alloc; "{}", *value == *equal)?),
-    )?;
-    said.push_str(before.as_str())?;
-    match equal.join(other) {
-        Ok(()) => Ok(()),
-        Err(_) => Err(ExampleFault::NoMemory),
+    step: &'a str,
+) {
+    let Some(other) = made(line, step) else {
+        return;
+    };
+    let joined = asked!(
+        line,
+        Err(TableFault::NoMemory),
+        value.join(&other),
+        *value == *equal
+    );
+    if joined.is_err() || equal.join(&other).is_err() {
+        line.no_memory();
     }
 }
 
 /// The join of what steps say.
-fn joined<J: Said + Join + PartialEq + Drop>(
-    alloc: Global,
-    steps: &str,
-    said: &mut String,
-) -> Result<J, ExampleFault> {
+fn joined<'a, J: Said + Join + PartialEq + Drop>(line: &mut Line<'a>, steps: &'a str) -> Option<J> {
     let (first, others) = steps.split_once(" ").unwrap_or((steps, ""));
-    let mut value = made(alloc, first, said)?;
-    let mut equal = made(alloc, first, said)?;
+    let (Some(mut value), Some(mut equal)) = (made(line, first), made(line, first)) else {
+        return None;
+    };
     for step in others.split_whitespace() {
-        let other = made(alloc, step, said)?;
-        join_both(alloc, &mut value, &mut equal, &other, said)?;
+        join_step(line, &mut value, &mut equal, step);
     }
-    Ok(value)
+    Some(value)
 }
 
 /// `cover STEP .. | STEP ..`, `entry ..`: whether the joins of the covers, or of the entries, of
 /// both lists are equal.
-pub fn compared<J: Said + Join + PartialEq + Drop>(
-    alloc: Global,
-    words: &mut Words<'_>,
-) -> Result<String, ExampleFault> {
-    let (one, other) = split(words.rest(), " | ")?;
-    let mut said = String::new(alloc);
-    let one: J = joined(alloc, one, &mut said)?;
-    let other: J = joined(alloc, other, &mut said)?;
-    let is_same = one == other;
-    write!(said, "{is_same}")?;
-    Ok(said)
+pub fn compared<J: Said + Join + PartialEq + Drop>(line: &mut Line<'_>) {
+    let (one, other) = line.halves(" | ");
+    let one: Option<J> = joined(line, one);
+    let other: Option<J> = joined(line, other);
+    if let (Some(one), Some(other)) = (one, other) {
+        write!(line, "{}", one == other);
+    }
 }

@@ -2,8 +2,7 @@
 //! fragment that contradicts others.
 
 use nb_datagram::limits::{FIRST, MORE};
-use nb_examples_words::fault::ExampleFault;
-use std::alloc::Global;
+use nb_examples_words::line::Line;
 
 /// The most bytes of a datagram that is drawn.
 pub const LONGEST: u16 = 10;
@@ -37,18 +36,18 @@ impl Lots {
 }
 
 /// Up to eleven steps, of datagrams of two keys.
-pub fn draw_steps(alloc: Global, lots: &mut Lots) -> Result<String, ExampleFault> {
+pub fn draw_steps(line: &mut Line<'_>, lots: &mut Lots) -> String {
+    let before = line.aside();
     let size = lots.below(LONGEST);
-    let mut steps = String::new(alloc);
     for _ in 0..lots.below(12) {
-        draw_step(lots, size, &mut steps)?;
+        say_step(line, lots, size);
     }
-    Ok(steps)
+    line.back_to(before)
 }
 
-/// Writes a step with at most four bytes of a datagram of this many. One in eight has another part
+/// Says a step with at most four bytes of a datagram of this many. One in eight has another part
 /// than is due: M, its bytes, the kind or a name.
-fn draw_step(lots: &mut Lots, size: u16, steps: &mut String) -> Result<(), ExampleFault> {
+fn say_step(line: &mut Line<'_>, lots: &mut Lots, size: u16) {
     let offset = lots.below(size.saturating_add(1));
     let left = size.saturating_sub(offset);
     let length = lots.below(left.min(4).saturating_add(1));
@@ -66,7 +65,7 @@ fn draw_step(lots: &mut Lots, size: u16, steps: &mut String) -> Result<(), Examp
     let port = if lots.below(4) == 0 { 139 } else { 138 };
     let part = other_part(lot);
     let flags = first | more;
-    Ok(write!(steps, "1:{flags:02x}:{offset}:'{bytes}':port={port}{part} ")?)
+    write!(line, "1:{flags:02x}:{offset}:'{bytes}':port={port}{part} ");
 }
 
 /// The part of a step that contradicts others, for few lots.

@@ -1,15 +1,13 @@
 //! Tables held against the definitions' own program, over lists of fragments drawn by lot.
 
-use crate::definitions::{plain_datagram, plain_state};
+use crate::definitions::{plain_state, say_plain_datagram};
 use crate::drawing::{LONGEST, Lots, draw_steps};
-use crate::merging::datagrams_text;
-use crate::steps::{all_lent, change_text, push_part, put, steps_of};
+use crate::merging::say_datagrams;
+use crate::steps::{all_lent, all_steps, put_fragment, say_change, say_fault};
 use nb_datagram::{Fragment, Key};
-use nb_examples_words::fault::ExampleFault;
-use nb_examples_words::words::Words;
+use nb_examples_words::line::Line;
 use nb_table::plain::{byte_at, end_of, promise_of};
-use nb_table::{State, Table, TableFault};
-use std::alloc::Global;
+use nb_table::{State, Table};
 
 /// The keys that are drawn, ascending.
 const KEYS: [Key; 2] = [
@@ -28,90 +26,96 @@ const KEYS: [Key; 2] = [
 /// `against_plain SEED LISTS`: whether tables do with so many lists of fragments as the definitions
 /// say, whatever the order and the repeats, and also where parts of a list are merged; else the
 /// first list with which they don't.
-pub fn against_plain(alloc: Global, words: &mut Words<'_>) -> Result<String, ExampleFault> {
-    let mut lots = Lots::new(words.number_32()?);
-    let lists = words.number_32()?;
+pub fn against_plain(line: &mut Line<'_>) {
+    let mut lots = Lots::new(line.number_32());
+    let lists = line.number_32();
     for _ in 0..lists {
-        let steps = draw_steps(alloc, &mut lots)?;
-        if !steps_agree(alloc, steps.as_str())? {
-            return Ok(steps);
+        if !list_agrees(line, &mut lots) {
+            return;
         }
     }
-    Ok(format!(in alloc; "{lists} lists agree")?)
+    write!(line, "{lists} lists agree");
+}
+
+/// Draws a list: whether tables do with it as the definitions say, else it is said.
+fn list_agrees(line: &mut Line<'_>, lots: &mut Lots) -> bool {
+    let steps = draw_steps(line, lots);
+    let agrees = steps_agree(line, steps.as_str());
+    if !agrees {
+        line.say(steps.as_str());
+    }
+    agrees
 }
 
 /// Whether tables do with the fragments of steps as the definitions say.
-fn steps_agree(alloc: Global, steps: &str) -> Result<bool, ExampleFault> {
-    let parts = steps_of(alloc, steps)?;
-    let fragments = all_lent(alloc, parts.as_slice())?;
-    agrees(alloc, fragments.as_slice())
+fn steps_agree(line: &mut Line<'_>, steps: &str) -> bool {
+    let mut drawn = Line::new(line.alloc(), steps);
+    let parts = all_steps(&mut drawn);
+    let fragments = all_lent(&mut drawn, parts.as_slice());
+    let agrees = agrees(&mut drawn, fragments.as_slice());
+    match drawn.finish() {
+        Ok(_) => agrees,
+        Err(fault) => {
+            line.note(fault);
+            false
+        }
+    }
 }
 
 /// Whether tables do with these fragments as the definitions say.
-fn agrees(alloc: Global, fragments: &[Fragment<'_>]) -> Result<bool, ExampleFault> {
-    let mut table = Table::new(alloc, 2, u32::MAX, LONGEST);
-    Ok(
-        inserts_agree(alloc, &mut table, fragments)?
-            && turned_table(alloc, fragments)?.same(&table)
-            && merge_agrees(alloc, fragments, &table, 0)?
-            && merge_agrees(alloc, fragments, &table, 1)?,
-    )
+fn agrees(line: &mut Line<'_>, fragments: &[Fragment<'_>]) -> bool {
+    let mut table = Table::new(line.alloc(), 2, u32::MAX, LONGEST);
+    inserts_agree(line, &mut table, fragments)
+        && turned_table(line, fragments).same(&table)
+        && merge_agrees(line, fragments, &table, 0)
+        && merge_agrees(line, fragments, &table, 1)
 }
 
 /// Whether the inserts of fragments into an empty table answer as the definitions say.
-fn inserts_agree(
-    alloc: Global,
-    table: &mut Table,
-    fragments: &[Fragment<'_>],
-) -> Result<bool, ExampleFault> {
+fn inserts_agree(line: &mut Line<'_>, table: &mut Table, fragments: &[Fragment<'_>]) -> bool {
     for place in 0..fragments.len() {
-        if !insert_agrees(alloc, table, fragments, place)? {
-            return Ok(false);
+        if !insert_agrees(line, table, fragments, place) {
+            return false;
         }
     }
-    Ok(true)
+    true
 }
 
 /// Whether the insert of the fragment at a place answers as the definitions say.
 fn insert_agrees(
-    alloc: Global,
+    line: &mut Line<'_>,
     table: &mut Table,
     fragments: &[Fragment<'_>],
     place: usize,
-) -> Result<bool, ExampleFault> {
+) -> bool {
     let before = fragments.get(..place).unwrap_or(&[]);
     let after = fragments.get(..=place).unwrap_or(&[]);
     let Some(fragment) = fragments.get(place) else {
-        return Ok(false);
+        return false;
     };
-    let change = match table.insert(fragment) {
-        Ok(change) => change,
-        Err(TableFault::NoMemory) => return Err(ExampleFault::NoMemory),
-        Err(_) => return Ok(false),
-    };
-    let text = change_text(alloc, &change)?;
-    let due = due_text(alloc, before, after, &fragment.key())?;
-    Ok(text.as_str() == due.as_str() && states_agree(table, after))
+    let said_before = line.aside();
+    match table.insert(fragment) {
+        Ok(change) => say_change(line, &change),
+        Err(fault) => say_fault(line, fault),
+    }
+    let said = line.aside();
+    say_due(line, before, after, &fragment.key());
+    let due = line.back_to(said_before);
+    said == due && states_agree(table, after)
 }
 
-/// The change that is due to a fragment of a key that comes after others.
-fn due_text(
-    alloc: Global,
-    before: &[Fragment<'_>],
-    after: &[Fragment<'_>],
-    key: &Key,
-) -> Result<String, ExampleFault> {
-    let word = match (plain_state(before, key), plain_state(after, key)) {
-        (State::Spoilt, _) => "same",
-        (_, State::Spoilt) => "spoilt",
+/// Says the change that is due to a fragment of a key that comes after others.
+fn say_due(line: &mut Line<'_>, before: &[Fragment<'_>], after: &[Fragment<'_>], key: &Key) {
+    match (plain_state(before, key), plain_state(after, key)) {
+        (State::Spoilt, _) => line.say("same"),
+        (_, State::Spoilt) => line.say("spoilt"),
         (State::Absent | State::Partial, State::Whole) => {
-            let text = plain_datagram(alloc, after, key)?;
-            return Ok(format!(in alloc; "whole {text}")?);
+            line.say("whole ");
+            say_plain_datagram(line, after, key);
         }
-        (old, new) if old == new && is_same(before, after, key) => "same",
-        _ => "grown",
-    };
-    Ok(String::from_str(alloc, word)?)
+        (old, new) if old == new && is_same(before, after, key) => line.say("same"),
+        _ => line.say("grown"),
+    }
 }
 
 /// Whether two lists say the same of a key's bytes, its end and its promise.
@@ -135,61 +139,59 @@ fn states_agree(table: &Table, fragments: &[Fragment<'_>]) -> bool {
 }
 
 /// The table of the fragments backwards, each twice.
-fn turned_table(alloc: Global, fragments: &[Fragment<'_>]) -> Result<Table, ExampleFault> {
-    let mut table = Table::new(alloc, 2, u32::MAX, LONGEST);
+fn turned_table(line: &mut Line<'_>, fragments: &[Fragment<'_>]) -> Table {
+    let mut table = Table::new(line.alloc(), 2, u32::MAX, LONGEST);
     for fragment in fragments.iter().rev() {
-        put(&mut table, fragment)?;
-        put(&mut table, fragment)?;
+        put_fragment(line, &mut table, fragment);
+        put_fragment(line, &mut table, fragment);
     }
-    Ok(table)
+    table
 }
 
 /// The table of two of each three fragments: all but the first or the second of them.
-fn part(alloc: Global, fragments: &[Fragment<'_>], other: usize) -> Result<Table, ExampleFault> {
-    let mut table = Table::new(alloc, 2, u32::MAX, LONGEST);
+fn part(line: &mut Line<'_>, fragments: &[Fragment<'_>], other: usize) -> Table {
+    let mut table = Table::new(line.alloc(), 2, u32::MAX, LONGEST);
     for (place, fragment) in fragments.iter().enumerate() {
         if place % 3 != other {
-            put(&mut table, fragment)?;
+            put_fragment(line, &mut table, fragment);
         }
     }
-    Ok(table)
+    table
 }
 
 /// Whether a table of a part, merged with that of another, hands over what is due and becomes the
 /// table of all.
 fn merge_agrees(
-    alloc: Global,
+    line: &mut Line<'_>,
     fragments: &[Fragment<'_>],
     all: &Table,
     other: usize,
-) -> Result<bool, ExampleFault> {
-    let mut table = part(alloc, fragments, other)?;
-    let others = part(alloc, fragments, 1_usize.saturating_sub(other))?;
-    let due = due_datagrams(alloc, &table, fragments)?;
-    let datagrams = match table.merge(&others) {
-        Ok(datagrams) => datagrams,
-        Err(TableFault::NoMemory) => return Err(ExampleFault::NoMemory),
-        Err(_) => return Ok(false),
-    };
-    let handed = datagrams_text(alloc, &datagrams)?;
-    Ok(handed.as_str() == due.as_str() && table.same(all))
+) -> bool {
+    let mut table = part(line, fragments, other);
+    let others = part(line, fragments, 1_usize.saturating_sub(other));
+    let said_before = line.aside();
+    say_due_datagrams(line, &table, fragments);
+    let due = line.aside();
+    match table.merge(&others) {
+        Ok(datagrams) => say_datagrams(line, &datagrams),
+        Err(fault) => say_fault(line, fault),
+    }
+    let handed = line.back_to(said_before);
+    handed == due && table.same(all)
 }
 
-/// The datagrams of the keys that are whole by the definitions and aren't in the table, ascending.
-fn due_datagrams(
-    alloc: Global,
-    table: &Table,
-    fragments: &[Fragment<'_>],
-) -> Result<String, ExampleFault> {
-    let mut text = String::new(alloc);
+/// Says the datagrams of the keys that are whole by the definitions and aren't in the table,
+/// ascending, after nothing.
+fn say_due_datagrams(line: &mut Line<'_>, table: &Table, fragments: &[Fragment<'_>]) {
     for key in KEYS {
         if table.state(&key) != State::Whole && plain_state(fragments, &key) == State::Whole {
-            let one = plain_datagram(alloc, fragments, &key)?;
-            push_part(&mut text, " and ", one.as_str())?;
+            if !line.is_silent() {
+                line.say(" and ");
+            }
+            say_plain_datagram(line, fragments, &key);
         }
     }
-    if text.is_empty() {
-        text.push_str("nothing")?;
+    if line.is_silent() {
+        line.say("nothing");
     }
-    Ok(text)
 }

@@ -1,67 +1,69 @@
 //! Fragments inserted into tables.
 
-use crate::reads::{not_memory, reads};
-use crate::steps::{change_text, fault_text, lent, push_part, step_of, table_of};
-use nb_examples_words::fault::ExampleFault;
-use nb_examples_words::marks::{asked, begin, end, told};
-use nb_examples_words::words::{Words, split};
-use nb_table::Table;
-use std::alloc::Global;
+use crate::reads::reads;
+use crate::steps::{lent, say_change, say_fault, step_of, table_of};
+use nb_examples_words::asked;
+use nb_examples_words::line::Line;
+use nb_table::{Table, TableFault};
 
 /// `insert TABLE | STEP ..`: what the inserts of the steps into the table answer.
-pub fn inserts(alloc: Global, words: &mut Words<'_>) -> Result<String, ExampleFault> {
-    let (table, steps) = split(words.rest(), " | ")?;
-    let mut table = table_of(alloc, table)?;
-    insert_texts(alloc, &mut table, steps)
+pub fn inserts(line: &mut Line<'_>) {
+    let (table, steps) = line.halves(" | ");
+    let mut table = table_of(line, table);
+    say_inserts(line, &mut table, steps);
 }
 
-/// What the inserts of steps into a table answer.
-pub fn insert_texts(alloc: Global, table: &mut Table, steps: &str) -> Result<String, ExampleFault> {
-    let mut said = String::new(alloc);
-    for step in steps.split_whitespace() {
-        let answer = insert_text(alloc, table, step)?;
-        push_part(&mut said, ", ", answer.as_str())?;
+/// Says what the inserts of steps into a table answer.
+pub fn say_inserts<'a>(line: &mut Line<'a>, table: &mut Table, steps: &'a str) {
+    for (place, step) in steps.split_whitespace().enumerate() {
+        if place > 0 {
+            line.say(", ");
+        }
+        say_insert(line, table, step);
     }
-    Ok(said)
 }
 
-/// What the insert of a step answers.
-fn insert_text(alloc: Global, table: &mut Table, step: &str) -> Result<String, ExampleFault> {
-    let parts = step_of(alloc, step)?;
-    let fragment = lent(&parts)?;
-    let (said, answer) = asked(
-        alloc,
-        table,
-        |table| not_memory(table.insert(&fragment)),
-        |table| reads(alloc, table),
-    )?;
+/// Says what the insert of a step answers.
+fn say_insert<'a>(line: &mut Line<'a>, table: &mut Table, step: &'a str) {
+    let parts = step_of(line, step);
+    let Some(fragment) = lent(line, &parts) else {
+        return;
+    };
+    let answer = asked!(
+        line,
+        Err(TableFault::NoMemory),
+        table.insert(&fragment),
+        reads(line, table)
+    );
     match answer {
-        Ok(change) => told(said, change_text(alloc, &change)?),
-        Err(fault) => told(said, fault_text(alloc, fault)?),
+        Ok(change) => say_change(line, &change),
+        Err(fault) => say_fault(line, fault),
     }
 }
 
 /// `refusals TABLE | STEP ..`: why the table would refuse each of the steps, or `none`.
-pub fn refusals(alloc: Global, words: &mut Words<'_>) -> Result<String, ExampleFault> {
-    let (table, steps) = split(words.rest(), " | ")?;
-    let table = table_of(alloc, table)?;
-    let mut said = String::new(alloc);
+pub fn refusals(line: &mut Line<'_>) {
+    let (table, steps) = line.halves(" | ");
+    let table = table_of(line, table);
     for step in steps.split_whitespace() {
-        let refusal = refusal_text(alloc, &table, step)?;
-        push_part(&mut said, ", ", refusal.as_str())?;
+        if !line.is_silent() {
+            line.say(", ");
+        }
+        say_refusal(line, &table, step);
     }
-    Ok(said)
 }
 
-/// Why the table would refuse a step, or `none`.
-fn refusal_text(alloc: Global, table: &Table, step: &str) -> Result<String, ExampleFault> {
-    let parts = step_of(alloc, step)?;
-    let fragment = lent(&parts)?;
-    let mut said = begin(alloc)?;
+/// Says why the table would refuse a step, or `none`.
+fn say_refusal<'a>(line: &mut Line<'a>, table: &Table, step: &'a str) {
+    let parts = step_of(line, step);
+    let Some(fragment) = lent(line, &parts) else {
+        return;
+    };
+    line.begin();
     let refusal = table.refusal_of(&fragment);
-    end(&mut said)?;
+    line.end();
     match refusal {
-        Some(fault) => told(said, fault_text(alloc, fault)?),
-        None => told(said, String::from_str(alloc, "none")?),
+        Some(fault) => say_fault(line, fault),
+        None => line.say("none"),
     }
 }

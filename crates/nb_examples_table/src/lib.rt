@@ -23,47 +23,46 @@ mod saving;
 mod steps;
 
 use nb_examples_words::fault::ExampleFault;
-use nb_examples_words::words::Words;
+use nb_examples_words::line::Line;
 use nb_table::{Cover, Entry};
-use std::alloc::Global;
 
-/// What a call answers, as text.
-pub fn answer(alloc: Global, call: &str, words: &mut Words<'_>) -> Result<String, ExampleFault> {
+/// Says what a call answers.
+pub fn answer(line: &mut Line<'_>, call: &str) {
     match call {
-        "insert" => inserting::inserts(alloc, words),
-        "refusals" => inserting::refusals(alloc, words),
-        "known" => reading::known(alloc, words),
-        "states" => reading::compared_states(alloc, words),
-        "ranges" => reading::ranges(alloc, words),
-        "same_at" => reading::same_at(alloc, words),
-        "datagram" => reading::datagram(alloc, words),
-        "keys" => reading::keys(alloc, words),
-        "drop" => reading::dropped(alloc, words),
-        "fits" => merging::fits(alloc, words),
-        "merge" => merging::merges(alloc, words),
-        "merged" => merging::merged(alloc, words),
-        "join" => merging::joined(alloc, words),
-        "join_all" => merging::joined_all(alloc, words),
-        _ => answer_more(alloc, call, words),
+        "insert" => inserting::inserts(line),
+        "refusals" => inserting::refusals(line),
+        "known" => reading::known(line),
+        "states" => reading::compared_states(line),
+        "ranges" => reading::ranges(line),
+        "same_at" => reading::same_at(line),
+        "datagram" => reading::datagram(line),
+        "keys" => reading::keys(line),
+        "drop" => reading::dropped(line),
+        "fits" => merging::fits(line),
+        "merge" => merging::merges(line),
+        "merged" => merging::merged(line),
+        "join" => merging::joined(line),
+        "join_all" => merging::joined_all(line),
+        _ => answer_more(line, call),
     }
 }
 
-/// What another call answers.
-fn answer_more(alloc: Global, call: &str, words: &mut Words<'_>) -> Result<String, ExampleFault> {
+/// Says what another call answers.
+fn answer_more(line: &mut Line<'_>, call: &str) {
     match call {
-        "cover" => comparing::compared::<Cover>(alloc, words),
-        "entry" => comparing::compared::<Entry>(alloc, words),
-        "save" => saving::saved(alloc, words),
-        "load" => saving::loaded(alloc, words),
-        "loaded" => saving::inserts_after_load(alloc, words),
-        "faults" => faults::table_faults(alloc, words),
-        "load_faults" => faults::load_faults(alloc, words),
-        "plain" => definitions::plain(alloc, words),
-        "byte" => definitions::byte(alloc, words),
-        "against_plain" => held_against::against_plain(alloc, words),
-        "one_by_one" => many::one_by_one(alloc, words),
-        "large" => many::large(alloc, words),
-        "reassembled" => caller::first_datagram(alloc, words),
-        _ => Err(ExampleFault::NoSuchCall),
+        "cover" => comparing::compared::<Cover>(line),
+        "entry" => comparing::compared::<Entry>(line),
+        "save" => saving::saved(line),
+        "load" => saving::loaded(line),
+        "loaded" => saving::inserts_after_load(line),
+        "faults" => faults::table_faults(line),
+        "load_faults" => faults::load_faults(line),
+        "plain" => definitions::plain(line),
+        "byte" => definitions::byte(line),
+        "against_plain" => held_against::against_plain(line),
+        "one_by_one" => many::one_by_one(line),
+        "large" => many::large(line),
+        "reassembled" => caller::first_datagram(line),
+        _ => line.note(ExampleFault::NoSuchCall),
     }
 }

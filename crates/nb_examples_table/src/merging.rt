@@ -1,151 +1,144 @@
 //! Tables merged and joined.
 
-use crate::reads::{not_memory, reads};
-use crate::steps::{fault_text, push_part, saved_text, table_of, two_tables};
+use crate::reads::reads;
+use crate::steps::{say_fault, say_saved, table_of, two_tables};
 use nb_datagram::Datagrams;
-use nb_examples_datagram::texts::datagram_text;
-use nb_examples_words::fault::ExampleFault;
-use nb_examples_words::marks::{as_before, asked, begin, end, told};
-use nb_examples_words::words::{Words, split};
+use nb_examples_datagram::texts::say_datagram;
+use nb_examples_words::asked;
+use nb_examples_words::line::Line;
 use nb_table::{Join, Table, TableFault, join_all};
-use std::alloc::Global;
 
 /// `fits TABLE | TABLE`: whether both tables have the same contents, and whether the first takes in
 /// the second, as `Debug` prints it.
-pub fn fits(alloc: Global, words: &mut Words<'_>) -> Result<String, ExampleFault> {
-    let (one, other) = two_tables(alloc, words.rest())?;
-    let mut said = begin(alloc)?;
+pub fn fits(line: &mut Line<'_>) {
+    let (one, other) = two_tables(line);
+    line.begin();
     let answer = (one.same(&other), one.fits(&other));
-    end(&mut said)?;
-    write!(said, "{answer:?}")?;
-    Ok(said)
+    line.end();
+    write!(line, "{answer:?}");
 }
 
 /// `merge TABLE | TABLE ..`: what the first table hands over as it merges each of the others, one
 /// after the other.
-pub fn merges(alloc: Global, words: &mut Words<'_>) -> Result<String, ExampleFault> {
-    let mut said = String::new(alloc);
-    merged_table(alloc, words.rest(), &mut said)?;
-    Ok(said)
+pub fn merges(line: &mut Line<'_>) {
+    merged_table(line);
 }
 
 /// `merged TABLE | TABLE ..`: what the first table is saved as after it merged the others, one
 /// after the other. Where it refuses one, it stays as it was.
-pub fn merged(alloc: Global, words: &mut Words<'_>) -> Result<String, ExampleFault> {
-    let mut said = String::new(alloc);
-    let table = merged_table(alloc, words.rest(), &mut said)?;
-    saved_text(alloc, &table)
+pub fn merged(line: &mut Line<'_>) {
+    let before = line.aside();
+    let table = merged_table(line);
+    line.back_to(before);
+    say_saved(line, &table);
 }
 
-/// The first table of `TABLE | TABLE ..` after it merged the others, and what that answered.
-fn merged_table(alloc: Global, text: &str, said: &mut String) -> Result<Table, ExampleFault> {
-    let (first, others) = split(text, " | ")?;
-    let mut table = table_of(alloc, first)?;
-    for other in others.split(" | ") {
-        let answer = merge_one(alloc, &mut table, &table_of(alloc, other)?)?;
-        push_part(said, "; ", answer.as_str())?;
+/// The first table of `TABLE | TABLE ..` after it merged the others, which says what it answered.
+fn merged_table(line: &mut Line<'_>) -> Table {
+    let (first, others) = line.halves(" | ");
+    let mut table = table_of(line, first);
+    for (place, other) in others.split(" | ").enumerate() {
+        if place > 0 {
+            line.say("; ");
+        }
+        say_merge(line, &mut table, other);
     }
-    Ok(table)
+    table
 }
 
-/// What a table answers that merges another.
-fn merge_one(alloc: Global, table: &mut Table, other: &Table) -> Result<String, ExampleFault> {
-    let (said, answer) = asked(
-        alloc,
-        table,
-        |table| not_memory(table.merge(other)),
-        |table| reads(alloc, table),
-    )?;
+/// Says what a table answers that merges that of a text.
+fn say_merge<'a>(line: &mut Line<'a>, table: &mut Table, other: &'a str) {
+    let other = table_of(line, other);
+    let answer = asked!(
+        line,
+        Err(TableFault::NoMemory),
+        table.merge(&other),
+        reads(line, table)
+    );
     match answer {
-        Ok(datagrams) => told(said, datagrams_text(alloc, &datagrams)?),
-        Err(fault) => told(said, fault_text(alloc, fault)?),
+        Ok(datagrams) => say_datagrams(line, &datagrams),
+        Err(fault) => say_fault(line, fault),
     }
 }
 
-/// Datagrams as text, `nothing` where there are none.
-pub fn datagrams_text(alloc: Global, datagrams: &Datagrams) -> Result<String, ExampleFault> {
-    let mut text = String::new(alloc);
-    for datagram in datagrams.as_slice() {
-        let one = datagram_text(alloc, datagram)?;
-        push_part(&mut text, " and ", one.as_str())?;
+/// Says datagrams, `nothing` where there are none.
+pub fn say_datagrams(line: &mut Line<'_>, datagrams: &Datagrams) {
+    let datagrams = datagrams.as_slice();
+    if datagrams.is_empty() {
+        line.say("nothing");
     }
-    if text.is_empty() {
-        text.push_str("nothing")?;
+    for (place, datagram) in datagrams.iter().enumerate() {
+        if place > 0 {
+            line.say(" and ");
+        }
+        say_datagram(line, datagram);
     }
-    Ok(text)
 }
 
 /// `join TABLE | TABLE`: what the first is saved as once it joined the second, or why it can't.
-pub fn joined(alloc: Global, words: &mut Words<'_>) -> Result<String, ExampleFault> {
-    let (mut table, other) = two_tables(alloc, words.rest())?;
-    let (said, answer) = asked(
-        alloc,
-        &mut table,
-        |table| not_memory(table.join(&other)),
-        |table| reads(alloc, table),
-    )?;
+pub fn joined(line: &mut Line<'_>) {
+    let (mut table, other) = two_tables(line);
+    let answer = asked!(
+        line,
+        Err(TableFault::NoMemory),
+        table.join(&other),
+        reads(line, &table)
+    );
     match answer {
-        Ok(()) => told(said, saved_text(alloc, &table)?),
-        Err(fault) => told(said, fault_text(alloc, fault)?),
+        Ok(()) => say_saved(line, &table),
+        Err(fault) => say_fault(line, fault),
     }
 }
 
 /// The tables of `TABLE | TABLE ..`.
-fn tables_of(alloc: Global, text: &str) -> Result<Vec<Table>, ExampleFault> {
-    let mut tables = Vec::new(alloc);
+fn tables_of<'a>(line: &mut Line<'a>, text: &'a str) -> Vec<Table> {
+    let mut tables = Vec::new(line.alloc());
     for part in text.split(" | ") {
-        tables.push(table_of(alloc, part)?)?;
+        let table = table_of(line, part);
+        if tables.push(table).is_err() {
+            line.no_memory();
+        }
     }
-    Ok(tables)
+    tables
 }
 
 /// `join_all TABLE | TABLE ..`: whether the others are joined into the first, else the place of the
 /// first one that isn't, and why; and then what the first is saved as. Where memory runs out it has
 /// to hold those in front of the place that was answered.
-pub fn joined_all(alloc: Global, words: &mut Words<'_>) -> Result<String, ExampleFault> {
-    let (first, others) = split(words.rest(), " | ")?;
-    let others = tables_of(alloc, others)?;
-    let mut table = table_of(alloc, first)?;
-    let mut said = begin(alloc)?;
-    say_joined(alloc, first, others.as_slice(), &mut table, &mut said)?;
-    told(said, saved_text(alloc, &table)?)
-}
-
-/// Joins all others into the table of a text, and writes what that answered.
-fn say_joined(
-    alloc: Global,
-    first: &str,
-    others: &[Table],
-    table: &mut Table,
-    said: &mut String,
-) -> Result<(), ExampleFault> {
-    let mut answer = join_all(table, others);
-    end(said)?;
+pub fn joined_all(line: &mut Line<'_>) {
+    let (first, others) = line.halves(" | ");
+    let others = tables_of(line, others);
+    let mut table = table_of(line, first);
+    line.begin();
+    let mut answer = join_all(&mut table, others.as_slice());
+    line.end();
     if let Err((place, TableFault::NoMemory)) = answer {
-        let is_same = has_front(alloc, first, others, place, table)?;
-        said.push_str(as_before(is_same))?;
-        answer = join_all(table, others);
+        let front = others.as_slice().get(..place).unwrap_or(&[]);
+        let is_same = has_front(line, first, front, &table);
+        line.again(is_same);
+        answer = join_all(&mut table, others.as_slice());
     }
-    let Err((place, fault)) = answer else {
-        return Ok(said.push_str("joined; ")?);
-    };
-    let text = fault_text(alloc, fault)?;
-    Ok(write!(said, "{place} {text}; ")?)
+    say_joined(line, answer);
+    say_saved(line, &table);
 }
 
-/// Whether a table is that of a text, joined with those in front of a place.
-fn has_front(
-    alloc: Global,
-    first: &str,
-    others: &[Table],
-    place: usize,
-    table: &Table,
-) -> Result<bool, ExampleFault> {
-    let mut expected = table_of(alloc, first)?;
-    let front = others.get(..place).unwrap_or(&[]);
-    if join_all(&mut expected, front).is_err() {
-        return Err(ExampleFault::NoMemory);
+/// Says whether all others were joined into a table, else the place of the first that wasn't.
+fn say_joined(line: &mut Line<'_>, answer: Result<(), (usize, TableFault)>) {
+    match answer {
+        Ok(()) => line.say("joined"),
+        Err((place, fault)) => {
+            write!(line, "{place} ");
+            say_fault(line, fault);
+        }
     }
-    let due = reads(alloc, &expected)?;
-    Ok(reads(alloc, table)?.as_str() == due.as_str())
+    line.say("; ");
+}
+
+/// Whether a table is that of a text, joined with those of the front.
+fn has_front<'a>(line: &mut Line<'a>, first: &'a str, front: &[Table], table: &Table) -> bool {
+    let mut expected = table_of(line, first);
+    if join_all(&mut expected, front).is_err() {
+        line.no_memory();
+    }
+    reads(line, table) == reads(line, &expected)
 }

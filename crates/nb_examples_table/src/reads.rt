@@ -1,34 +1,24 @@
 //! What a table answers before a call on it and after one that memory ran out in.
 
-use crate::steps::saved_text;
-use nb_examples_datagram::texts::key_text;
-use nb_examples_words::fault::ExampleFault;
-use nb_table::{Table, TableFault};
-use std::alloc::Global;
+use crate::steps::say_saved;
+use nb_examples_datagram::texts::say_key;
+use nb_examples_words::line::Line;
+use nb_table::Table;
 
-/// All that a table answers: the bytes that it is saved as, and of each key what is known.
-pub fn reads(alloc: Global, table: &Table) -> Result<String, ExampleFault> {
-    let mut said = saved_text(alloc, table)?;
-    write!(said, " {}", table.len())?;
-    say_keys(alloc, table, &mut said)?;
-    Ok(said)
+/// All that a table answers, as text: the bytes that it is saved as, and of each key what is known.
+pub fn reads(line: &mut Line<'_>, table: &Table) -> String {
+    let before = line.aside();
+    say_saved(line, table);
+    write!(line, " {}", table.len());
+    say_keys(line, table);
+    line.back_to(before)
 }
 
-/// Writes what is known of each key: `KEY STATE RUNS`.
-pub fn say_keys(alloc: Global, table: &Table, said: &mut String) -> Result<(), ExampleFault> {
+/// Says what is known of each key: `KEY STATE RUNS`.
+pub fn say_keys(line: &mut Line<'_>, table: &Table) {
     for key in table.keys() {
-        let text = key_text(alloc, key)?;
-        let state = table.state(&key);
-        let runs = table.run_count(&key);
-        write!(said, " {text} {state:?} {runs:?}")?;
-    }
-    Ok(())
-}
-
-/// What a call on tables answers, unless memory ran out.
-pub fn not_memory<T: Drop>(answer: Result<T, TableFault>) -> Option<Result<T, TableFault>> {
-    match answer {
-        Err(TableFault::NoMemory) => None,
-        answer => Some(answer),
+        line.say(" ");
+        say_key(line, key);
+        write!(line, " {:?} {:?}", table.state(&key), table.run_count(&key));
     }
 }

@@ -2,23 +2,23 @@
 
 use nb_datagram::{Fragment, Key, Kind};
 use nb_examples_datagram::owned::OwnedFragment;
-use nb_examples_datagram::texts::{datagram_text, key_text, kind_of};
-use nb_examples_words::byte_text::text_of_bytes;
-use nb_examples_words::fault::ExampleFault;
-use nb_examples_words::words::{Words, split};
+use nb_examples_datagram::texts::{next_kind, say_datagram, say_key};
+use nb_examples_words::line::Line;
 use nb_table::{Change, Table, TableFault};
-use std::alloc::Global;
 
 /// A fragment with the usual parts: a group fragment of 10.0.0.5:138 from JOE<00> to FRED<20>.
 pub fn usual(
+    line: &mut Line<'_>,
     id: u16,
     flags: u8,
     offset: u16,
     bytes: Vec<u8>,
-) -> Result<OwnedFragment, ExampleFault> {
-    let source = Words::new("JOE<00>").name()?;
-    let destination = Words::new("FRED<20>").name()?;
-    Ok(OwnedFragment {
+) -> OwnedFragment {
+    let before = line.enter("JOE<00> FRED<20>", " ");
+    let source = line.name();
+    let destination = line.name();
+    line.leave(before);
+    OwnedFragment {
         kind: Kind::Group,
         flags,
         key: Key {
@@ -30,144 +30,147 @@ pub fn usual(
         source,
         destination,
         bytes,
-    })
+    }
 }
 
 /// The fragment that a step says.
-pub fn step_of(alloc: Global, step: &str) -> Result<OwnedFragment, ExampleFault> {
-    let mut parts = step.split(":");
-    let id = Words::new(parts.next().unwrap_or("")).hex_16()?;
-    let flags = Words::new(parts.next().unwrap_or("")).hex_8()?;
-    let offset = Words::new(parts.next().unwrap_or("")).number_16()?;
-    let bytes = Words::new(parts.next().unwrap_or("")).bytes(alloc)?;
-    let mut fragment = usual(id, flags, offset, bytes)?;
-    for part in parts {
-        change(&mut fragment, part)?;
+pub fn step_of<'a>(line: &mut Line<'a>, step: &'a str) -> OwnedFragment {
+    let before = line.enter(step, ":");
+    let id = line.hex_16();
+    let flags = line.hex_8();
+    let offset = line.number_16();
+    let bytes = line.bytes();
+    let mut fragment = usual(line, id, flags, offset, bytes);
+    for part in line.rest().split_terminator(":") {
+        change(line, &mut fragment, part);
     }
-    Ok(fragment)
+    line.leave(before);
+    fragment
 }
 
 /// Gives a fragment a part that isn't the usual one, `WHAT=VALUE`.
-fn change(fragment: &mut OwnedFragment, part: &str) -> Result<(), ExampleFault> {
-    let (what, value) = split(part, "=")?;
-    let mut value = Words::new(value);
-    match what {
-        "kind" => fragment.kind = kind_of(value.word()?)?,
-        "ip" => fragment.key.ip = value.address()?,
-        "port" => fragment.key.port = value.number_16()?,
-        "from" => fragment.source = value.name()?,
-        "to" => fragment.destination = value.name()?,
-        _ => return Err(ExampleFault::BadWords),
+fn change<'a>(line: &mut Line<'a>, fragment: &mut OwnedFragment, part: &'a str) {
+    let before = line.enter(part, "=");
+    match line.word() {
+        "kind" => fragment.kind = next_kind(line),
+        "ip" => fragment.key.ip = line.address(),
+        "port" => fragment.key.port = line.number_16(),
+        "from" => fragment.source = line.name(),
+        "to" => fragment.destination = line.name(),
+        _ => line.bad_words(),
     }
-    Ok(())
+    line.leave(before);
 }
 
-/// The fragments that steps say.
-pub fn steps_of(alloc: Global, steps: &str) -> Result<Vec<OwnedFragment>, ExampleFault> {
-    let mut fragments = Vec::new(alloc);
-    for step in steps.split_whitespace() {
-        fragments.push(step_of(alloc, step)?)?;
+/// The fragments that all steps say which are left.
+pub fn all_steps(line: &mut Line<'_>) -> Vec<OwnedFragment> {
+    let mut fragments = Vec::new(line.alloc());
+    for step in line.rest().split_whitespace() {
+        let fragment = step_of(line, step);
+        if fragments.push(fragment).is_err() {
+            line.no_memory();
+        }
     }
-    Ok(fragments)
+    fragments
 }
 
 /// The fragment of these parts.
-pub fn lent(parts: &OwnedFragment) -> Result<Fragment<'_>, ExampleFault> {
-    match parts.fragment() {
-        Ok(fragment) => Ok(fragment),
-        Err(_) => Err(ExampleFault::BadWords),
+pub fn lent<'a>(line: &mut Line<'_>, parts: &'a OwnedFragment) -> Option<Fragment<'a>> {
+    let fragment = parts.fragment();
+    if fragment.is_err() {
+        line.bad_words();
     }
+    fragment.ok()
 }
 
 /// The fragments of these parts.
-pub fn all_lent<'a>(
-    alloc: Global,
-    parts: &'a [OwnedFragment],
-) -> Result<Vec<Fragment<'a>>, ExampleFault> {
-    let mut fragments = Vec::new(alloc);
+pub fn all_lent<'a>(line: &mut Line<'_>, parts: &'a [OwnedFragment]) -> Vec<Fragment<'a>> {
+    let mut fragments = Vec::new(line.alloc());
     for one in parts {
-        fragments.push(lent(one)?)?;
+        push_lent(line, &mut fragments, one);
     }
-    Ok(fragments)
+    fragments
 }
 
-/// The table of `CAPACITY LONGEST STEP ..`.
-pub fn table_of(alloc: Global, text: &str) -> Result<Table, ExampleFault> {
-    let mut words = Words::new(text);
-    let (keys, per_source) = words.capacity()?;
-    let longest = words.number_16()?;
-    let mut table = Table::new(alloc, keys, per_source, longest);
-    for step in words.rest().split_whitespace() {
-        put_step(alloc, &mut table, step)?;
+/// Adds the fragment of these parts to others.
+fn push_lent<'a>(line: &mut Line<'_>, fragments: &mut Vec<Fragment<'a>>, parts: &'a OwnedFragment) {
+    if let Some(fragment) = lent(line, parts) {
+        if fragments.push(fragment).is_err() {
+            line.no_memory();
+        }
     }
-    Ok(table)
 }
 
-/// Inserts the fragment that a step says, if it is taken in.
-fn put_step(alloc: Global, table: &mut Table, step: &str) -> Result<(), ExampleFault> {
-    let parts = step_of(alloc, step)?;
-    put(table, &lent(&parts)?)
+/// The table of all words that are left, `CAPACITY LONGEST STEP ..`.
+pub fn rest_table(line: &mut Line<'_>) -> Table {
+    let (keys, per_source) = line.capacity();
+    let longest = line.number_16();
+    let mut table = Table::new(line.alloc(), keys, per_source, longest);
+    for step in line.rest().split_whitespace() {
+        let parts = step_of(line, step);
+        put(line, &mut table, &parts);
+    }
+    table
 }
 
-/// Inserts a fragment, if it is taken in.
-pub fn put(table: &mut Table, fragment: &Fragment<'_>) -> Result<(), ExampleFault> {
-    match table.insert(fragment) {
-        Err(TableFault::NoMemory) => Err(ExampleFault::NoMemory),
-        _ => Ok(()),
-    }
+/// The table of a text.
+pub fn table_of<'a>(line: &mut Line<'a>, text: &'a str) -> Table {
+    let before = line.enter(text, " ");
+    let table = rest_table(line);
+    line.leave(before);
+    table
 }
 
 /// The two tables of `TABLE | TABLE`.
-pub fn two_tables(alloc: Global, text: &str) -> Result<(Table, Table), ExampleFault> {
-    let (one, other) = split(text, " | ")?;
-    let one = table_of(alloc, one)?;
-    match table_of(alloc, other) {
-        Ok(other) => Ok((one, other)),
-        Err(fault) => Err(fault),
+pub fn two_tables(line: &mut Line<'_>) -> (Table, Table) {
+    let (one, other) = line.halves(" | ");
+    let one = table_of(line, one);
+    (one, table_of(line, other))
+}
+
+/// Inserts the fragment of these parts, if it is taken in.
+pub fn put(line: &mut Line<'_>, table: &mut Table, parts: &OwnedFragment) {
+    if let Some(fragment) = lent(line, parts) {
+        put_fragment(line, table, &fragment);
     }
 }
 
-/// Writes a part after those before it, with this between them.
-pub fn push_part(text: &mut String, between: &str, part: &str) -> Result<(), ExampleFault> {
-    if !text.is_empty() {
-        text.push_str(between)?;
+/// Inserts a fragment, if it is taken in.
+pub fn put_fragment(line: &mut Line<'_>, table: &mut Table, fragment: &Fragment<'_>) {
+    if let Err(TableFault::NoMemory) = table.insert(fragment) {
+        line.no_memory();
     }
-    Ok(text.push_str(part)?)
 }
 
-/// The word for a change.
-fn change_word(change: &Change) -> &'static str {
+/// Says a change: its word, and the datagram where there is one.
+pub fn say_change(line: &mut Line<'_>, change: &Change) {
     match change {
-        Change::Spoilt => "spoilt",
-        Change::Whole(_) => "whole",
-        Change::Same => "same",
-        Change::Grown => "grown",
-    }
-}
-
-/// A change as text: its word, and the datagram where there is one.
-pub fn change_text(alloc: Global, change: &Change) -> Result<String, ExampleFault> {
-    let word = change_word(change);
-    let Change::Whole(datagram) = change else {
-        return Ok(String::from_str(alloc, word)?);
-    };
-    let text = datagram_text(alloc, datagram)?;
-    Ok(format!(in alloc; "{word} {text}")?)
-}
-
-/// A fault as text, with the key where there is one.
-pub fn fault_text(alloc: Global, fault: TableFault) -> Result<String, ExampleFault> {
-    match fault {
-        TableFault::FullSource(key) | TableFault::Full(key) => {
-            let key = key_text(alloc, key)?;
-            Ok(format!(in alloc; "{fault} {key}")?)
+        Change::Spoilt => line.say("spoilt"),
+        Change::Same => line.say("same"),
+        Change::Grown => line.say("grown"),
+        Change::Whole(datagram) => {
+            line.say("whole ");
+            say_datagram(line, datagram);
         }
-        _ => Ok(format!(in alloc; "{fault}")?),
     }
 }
 
-/// The bytes that a table is saved as.
-pub fn saved_text(alloc: Global, table: &Table) -> Result<String, ExampleFault> {
-    let bytes = table.save()?;
-    Ok(text_of_bytes(alloc, bytes.as_slice())?)
+/// Says a fault, with the key where there is one.
+pub fn say_fault(line: &mut Line<'_>, fault: TableFault) {
+    match fault {
+        TableFault::NoMemory => line.no_memory(),
+        TableFault::FullSource(key) | TableFault::Full(key) => {
+            write!(line, "{fault} ");
+            say_key(line, key);
+        }
+        _ => write!(line, "{fault}"),
+    }
+}
+
+/// Says the bytes that a table is saved as.
+pub fn say_saved(line: &mut Line<'_>, table: &Table) {
+    match table.save() {
+        Ok(bytes) => line.say_bytes(bytes.as_slice()),
+        Err(_) => line.no_memory(),
+    }
 }

@@ -17,7 +17,7 @@ pub fn bytes_of(alloc: Global, word: &str) -> Result<Vec<u8>, ExampleFault> {
     let mut bytes = Vec::new(alloc);
     for part in word.split("+") {
         let (once, times) = part.split_once("*").unwrap_or((part, "1"));
-        let times: u32 = times.parse().map_err(|_| ExampleFault::BadWords)?;
+        let times: u32 = times.parse().ok().ok_or(ExampleFault::BadWords)?;
         let piece = bytes_once(alloc, once)?;
         for _ in 0..times {
             bytes.extend_from_slice(&piece)?;

@@ -3,9 +3,9 @@
 #![tactic(auto)]
 
 pub mod byte_text;
-pub mod comparing;
+mod calls;
 pub mod devices;
 pub mod fault;
-pub mod marks;
+pub mod line;
 pub mod vocabulary;
 pub mod words;

@@ -8,7 +8,7 @@
 
 use crate::byte_text::bytes_of;
 use crate::fault::ExampleFault;
-use crate::words::{Words, split};
+use crate::words::split;
 use std::alloc::{AllocError, Global};
 
 /// What lines have defined, the latest last.
@@ -131,7 +131,9 @@ fn change_all(bytes: &mut [u8], changes: &str, n: Option<u64>) -> Result<(), Exa
 fn change_one(bytes: &mut [u8], change: &str, n: Option<u64>) -> Result<(), ExampleFault> {
     let (place, digits) = split(change, "=")?;
     let place = size(number(place, n)?)?;
-    let value = Words::new(digits).hex_8()?;
+    let value = u8::from_str_radix(digits, 16)
+        .ok()
+        .ok_or(ExampleFault::BadWords)?;
     match bytes.get_mut(place) {
         Some(byte) => {
             *byte = value;
@@ -159,7 +161,7 @@ fn number(text: &str, n: Option<u64>) -> Result<u64, ExampleFault> {
     };
     match made {
         Some(number) => Ok(number),
-        None => text.parse().map_err(|_| ExampleFault::BadWords),
+        None => text.parse().ok().ok_or(ExampleFault::BadWords),
     }
 }
 
@@ -177,7 +179,7 @@ fn from_n(text: &str, n: u64) -> Option<u64> {
 
 /// A length or a place.
 fn size(number: u64) -> Result<usize, ExampleFault> {
-    usize::try_from(number).map_err(|_| ExampleFault::BadWords)
+    usize::try_from(number).ok().ok_or(ExampleFault::BadWords)
 }
 
 /// Writes bytes in hexadecimal, or that there are none.

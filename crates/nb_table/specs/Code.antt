@@ -3,6 +3,7 @@
 pub mod Change
 pub mod State
 pub mod Fitting
+pub mod SourceCounts
 pub mod Parties
 pub mod CoverFacts
 pub mod Plain

@@ -1,5 +1,5 @@
 //! Inserting fragments into a table.
-ghost use Rattle.std.specs.Prelude.{◌≡◌, ◌↔◌, IsTrue, ◌≤◌, IfOk, OnOk, OnErr, Some};
+ghost use Rattle.std.specs.Prelude.{◌≡◌, ◌↔◌, IsTrue, ◌≤◌, ◌<◌, IfOk, OnOk, OnErr, None, Some};
 ghost use Rattle.std.specs.FinMap as maps;
 ghost use Rattle.nb_datagram.specs.Key.{key_cmp};
 ghost use Rattle.nb_datagram.specs.Fragment.{core_of, reach};
@@ -7,12 +7,15 @@ ghost use Rattle.nb_datagram.specs.declared.limits.TheConstants.{MAX_LENGTH};
 ghost use Rattle.nb_table.specs.Maps.{joined_onto};
 ghost use Rattle.nb_table.specs.Slot.{Held};
 ghost use Rattle.nb_table.specs.Entry.{EntryValue, facts_of, join_entry};
+ghost use Rattle.nb_table.specs.KeyCounts.{held_keys, of_source};
 ghost use Rattle.nb_table.specs.Limits.{IsShort};
 ghost use Rattle.nb_table.specs.Code.Change.{KeyChange, change_of};
+ghost use Rattle.nb_table.specs.Code.SourceCounts.{AreCounted, CountsKeys};
 ghost use Rattle.nb_table.specs.Insert.{NeedsNoMemory};
 
 use crate::change::BoxedChange;
 use crate::entry::Entry;
+use crate::sources::SourceCounts;
 use nb_datagram::{Fragment, Key};
 use nb_names::NoMemory;
 use std::alloc::Global;
@@ -20,7 +23,7 @@ use std::collections::BTreeMap;
 
 /// Joins a fragment to the entry of its key, in place where the key is held. The limits are not
 /// looked at.
-pub(crate) fn join_fragment(
+fn join_fragment(
     entries: &mut BTreeMap<Key, Entry>,
     alloc: Global,
     fragment: &Fragment<'_>,
@@ -54,6 +57,89 @@ pub(crate) fn join_fragment(
                 Err(_) => Err(NoMemory),
             }
         }
+    }
+}
+
+/// Joins a fragment to the entry of its key, and counts the key where it is new.
+fn join_and_count(
+    entries: &mut BTreeMap<Key, Entry>,
+    counts: &mut SourceCounts,
+    alloc: Global,
+    fragment: &Fragment<'_>,
+) -> Result<BoxedChange, NoMemory>
+    requires fragment { reach (core_of fragment.now) ≤ MAX_LENGTH }
+    requires entry { (e : EntryValue)
+        → maps.get (maps.from_entries {R = key_cmp} entries.old.entries) fragment.now.key ≡ Some e
+        → IsShort MAX_LENGTH e }
+    requires counted { CountsKeys counts.old (maps.from_entries {R = key_cmp} entries.old.entries) }
+    requires room { maps.get (maps.from_entries {R = key_cmp} entries.old.entries) fragment.now.key
+        ≡ None → held_keys (of_source fragment.now.key.ip)
+        (maps.from_entries {R = key_cmp} entries.old.entries) < 4294967295 }
+    ensures joined { OnOk result (maps.from_entries {R = key_cmp} entries.new.entries
+        ≡ maps.insert (maps.from_entries {R = key_cmp} entries.old.entries) fragment.now.key
+        (joined_onto join_entry
+        (maps.get (maps.from_entries {R = key_cmp} entries.old.entries) fragment.now.key)
+        (Held (facts_of (core_of fragment.now))))) }
+    ensures change { IfOk result (λ change. KeyChange fragment.now.key
+        (maps.get (maps.from_entries {R = key_cmp} entries.old.entries) fragment.now.key)
+        (Some (joined_onto join_entry
+        (maps.get (maps.from_entries {R = key_cmp} entries.old.entries) fragment.now.key)
+        (Held (facts_of (core_of fragment.now))))) (change_of change)) }
+    ensures needed { OnErr result (¬ NeedsNoMemory
+        (maps.from_entries {R = key_cmp} entries.old.entries) (core_of fragment.now)) }
+    ensures kept { OnErr result (maps.from_entries {R = key_cmp} entries.new.entries
+        ≡ maps.from_entries {R = key_cmp} entries.old.entries) }
+    ensures counted { CountsKeys counts.new (maps.from_entries {R = key_cmp} entries.new.entries) }
+{
+    let key = fragment.key();
+    if entries.contains_key(&key) {
+        return join_fragment(entries, alloc, fragment);
+    }
+    counts.add(key.ip)?;
+    match join_fragment(entries, alloc, fragment) {
+        Ok(change) => Ok(change),
+        Err(fault) => {
+            counts.take(key.ip);
+            Err(fault)
+        }
+    }
+}
+
+/// Joins a fragment to the entry of its key, and counts the key where it is new, if counts are
+/// kept.
+pub(crate) fn join_counted(
+    entries: &mut BTreeMap<Key, Entry>,
+    counts: &mut Option<SourceCounts>,
+    alloc: Global,
+    fragment: &Fragment<'_>,
+) -> Result<BoxedChange, NoMemory>
+    requires fragment { reach (core_of fragment.now) ≤ MAX_LENGTH }
+    requires entry { (e : EntryValue)
+        → maps.get (maps.from_entries {R = key_cmp} entries.old.entries) fragment.now.key ≡ Some e
+        → IsShort MAX_LENGTH e }
+    requires counted { AreCounted counts.old (maps.from_entries {R = key_cmp} entries.old.entries) }
+    requires room { maps.get (maps.from_entries {R = key_cmp} entries.old.entries) fragment.now.key
+        ≡ None → held_keys (of_source fragment.now.key.ip)
+        (maps.from_entries {R = key_cmp} entries.old.entries) < 4294967295 }
+    ensures joined { OnOk result (maps.from_entries {R = key_cmp} entries.new.entries
+        ≡ maps.insert (maps.from_entries {R = key_cmp} entries.old.entries) fragment.now.key
+        (joined_onto join_entry
+        (maps.get (maps.from_entries {R = key_cmp} entries.old.entries) fragment.now.key)
+        (Held (facts_of (core_of fragment.now))))) }
+    ensures change { IfOk result (λ change. KeyChange fragment.now.key
+        (maps.get (maps.from_entries {R = key_cmp} entries.old.entries) fragment.now.key)
+        (Some (joined_onto join_entry
+        (maps.get (maps.from_entries {R = key_cmp} entries.old.entries) fragment.now.key)
+        (Held (facts_of (core_of fragment.now))))) (change_of change)) }
+    ensures needed { OnErr result (¬ NeedsNoMemory
+        (maps.from_entries {R = key_cmp} entries.old.entries) (core_of fragment.now)) }
+    ensures kept { OnErr result (maps.from_entries {R = key_cmp} entries.new.entries
+        ≡ maps.from_entries {R = key_cmp} entries.old.entries) }
+    ensures counted { AreCounted counts.new (maps.from_entries {R = key_cmp} entries.new.entries) }
+{
+    match counts {
+        Some(counts) => join_and_count(entries, counts, alloc, fragment),
+        None => join_fragment(entries, alloc, fragment),
     }
 }
 

@@ -14,6 +14,7 @@ mod outline;
 mod parties;
 pub mod plain;
 mod ranges;
+mod removing;
 mod saved;
 mod slot;
 mod sources;

@@ -24,7 +24,7 @@ impl<F: PartialEq> PartialEq for Slot<F> {
 
     fn eq(&self, other: &Self) -> bool {
         match (self, other) {
-            (Slot::Held(own), Slot::Held(others)) => own == others,
+            (Slot::Held(facts), Slot::Held(others)) => facts == others,
             (Slot::Spoilt, Slot::Spoilt) => true,
             _ => false,
         }

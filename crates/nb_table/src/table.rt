@@ -18,8 +18,10 @@ mod saving;
 use crate::change::Change;
 use crate::entry::Entry;
 use crate::fault::TableFault;
-use crate::inserting::{are_equal, join_fragment};
+use crate::inserting::{are_equal, join_counted};
 use crate::keys::Keys;
+use crate::removing::remove_counted;
+use crate::sources::{SourceCounts, no_counts};
 use crate::state::State;
 pub use loading::load;
 use nb_datagram::{Fragment, Key};
@@ -38,6 +40,8 @@ use std::marker::Model;
 #[derive(Drop)]
 pub struct Table {
     entries: BTreeMap<Key, Entry>,
+    /// How many keys each address has, where the limit for one can be met before that for all.
+    counts: Option<SourceCounts>,
     keys: u32,
     per_source: u32,
     longest: u16,
@@ -48,6 +52,7 @@ impl Model for Table {
     ghost use Rattle.std.specs.FinMap as maps;
     ghost use Rattle.nb_table.specs.Limits.{TableValue, KeepsLimits};
     ghost use Rattle.nb_table.specs.Codes.{table_code};
+    ghost use Rattle.nb_table.specs.Code.SourceCounts.{AreCounted};
 
     ghost Value = { TableValue };
 
@@ -61,7 +66,7 @@ impl Model for Table {
     ghost invariant = { λ t. KeepsLimits (record {
       contents = maps.from_entries t.entries.entries;
       limits = record { keys = t.keys; per_source = t.per_source; longest = t.longest };
-    }) };
+    }) × AreCounted t.counts (maps.from_entries t.entries.entries) };
 }
 
 impl Table {
@@ -78,6 +83,7 @@ impl Table {
     {
         Table {
             entries: BTreeMap::new(alloc),
+            counts: no_counts(alloc, keys, per_source),
             keys,
             per_source,
             longest,
@@ -118,7 +124,7 @@ impl Table {
         if let Some(fault) = self.refusal_of(fragment) {
             return Err(fault);
         }
-        let change = join_fragment(&mut self.entries, self.alloc, fragment)?;
+        let change = join_counted(&mut self.entries, &mut self.counts, self.alloc, fragment)?;
         Ok(change.into_change())
     }
 
@@ -130,7 +136,7 @@ impl Table {
           limits = self.old.limits;
         } }
     {
-        self.entries.remove(key).is_some()
+        remove_counted(&mut self.entries, &mut self.counts, key)
     }
 
     /// What is known of a key's datagram. No memory is taken.

@@ -116,6 +116,18 @@ fewer : (b : Bool) (m n : ℕ) → m ≡ cond b (n - 1) n → m ≤ n
 fewer true m n e = omega (arith, e)
 fewer false m n e = omega (arith, e)
 
+-- a key of the group that is held and taken out makes one less
+pub held_without : (p : Key → Bool) (s : Contents) (k : Key) → held_keys p (maps.remove s k) ≡ cond (p k && is_some (maps.get s k)) (held_keys p s - 1) (held_keys p s)
+held_without p s k =
+    held_is p (maps.remove s k)
+    ∙ ap maps.len (kept_remove s p k)
+    ∙ maps.len-remove key_cmp_total (maps.retain_keys s p) k
+    ∙ ap₂ (λ b n. cond b (n - 1) n) (ap is_some (get_kept s p k) ∙ step (p k) (maps.get s k)) (sym (held_is p s))
+  where
+    step : (b : Bool) (o : Option EntryValue) → is_some (cond b o None) ≡ (b && is_some o)
+    step true o = refl
+    step false o = refl
+
 -- without a key no group has more
 pub held_remove : (p : Key → Bool) (s : Contents) (k : Key) → held_keys p (maps.remove s k) ≤ held_keys p s
 held_remove p s k =

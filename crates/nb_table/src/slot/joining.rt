@@ -16,16 +16,16 @@ impl<F: Facts> Slot<F> {
         ensures formed { IfOk result (OnHeld F.AreFormed) }
         ensures own { OnErr result (OnHeld F.AreFormed self.now) }
     {
-        let Slot::Held(own) = self else {
+        let Slot::Held(facts) = self else {
             return Ok(Slot::Spoilt);
         };
         let Slot::Held(others) = other else {
             return Ok(Slot::Spoilt);
         };
-        if !own.agree(others) {
+        if !facts.agree(others) {
             return Ok(Slot::Spoilt);
         }
-        Ok(Slot::Held(own.together(others)?))
+        Ok(Slot::Held(facts.together(others)?))
     }
 }
 

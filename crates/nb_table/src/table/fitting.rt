@@ -90,7 +90,8 @@ impl Table {
         if !other.is_short(self.longest) {
             return Err(TableFault::TooLong);
         }
-        if let Some(key) = unfit_source(&self.entries, &other.entries, self.per_source) {
+        let unfit = unfit_source(&self.counts, &self.entries, &other.entries, self.per_source);
+        if let Some(key) = unfit {
             return Err(TableFault::FullSource(key));
         }
         match self.first_unfit(other) {

@@ -9,6 +9,7 @@ use super::Table;
 use crate::load_fault::LoadFault;
 use crate::saved::entries::load_entries;
 use crate::saved::tables::{form_of, judge};
+use crate::sources::counts_of;
 use std::alloc::Global;
 
 /// The table whose saved bytes these are, with these limits: how many keys it may hold, how many of
@@ -57,8 +58,10 @@ pub fn load(
         return Err(LoadFault::Full);
     }
     let entries = load_entries(alloc, form, input, count, 8)?;
+    let counts = counts_of(alloc, &entries, keys, per_source)?;
     Ok(Table {
         entries,
+        counts,
         keys,
         per_source,
         longest,

@@ -4,13 +4,14 @@ ghost use Rattle.nb_table.specs.Join.{join};
 ghost use Rattle.nb_table.specs.Limits.{with_contents};
 ghost use Rattle.nb_table.specs.Merging.{Fits, IsRefused, newly_handed};
 
+mod merging_counted;
 mod merging_entries;
 mod taking_back;
 
 use super::Table;
 use crate::fault::TableFault;
 use crate::join::Join;
-use merging_entries::merge_entries;
+use merging_counted::merge_counted;
 use nb_datagram::Datagrams;
 
 impl Table {
@@ -34,7 +35,12 @@ impl Table {
         ensures err { OnErr result (self.new ≡ self.old) }
     {
         self.fits(other)?;
-        Ok(merge_entries(self.alloc, &mut self.entries, &other.entries)?)
+        Ok(merge_counted(
+            self.alloc,
+            &mut self.entries,
+            &mut self.counts,
+            &other.entries,
+        )?)
     }
 }
 
@@ -80,7 +86,12 @@ impl Join for Table {
         ensures err { OnErr result (self.new ≡ self.old) }
     {
         self.fits(other)?;
-        merge_entries(self.alloc, &mut self.entries, &other.entries)?;
+        merge_counted(
+            self.alloc,
+            &mut self.entries,
+            &mut self.counts,
+            &other.entries,
+        )?;
         Ok(())
     }
 }

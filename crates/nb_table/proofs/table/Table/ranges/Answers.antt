@@ -14,7 +14,7 @@ ranges-requires c =
     let m = c.self.inside.entries in
     let most : c.self.inside.longest ≤ MAX_LENGTH = search rules in
     let t : TableValue = record { contents = maps.from_entries {R = key_cmp} m.entries; limits = record { keys = c.self.inside.keys; per_source = c.self.inside.per_source; longest = c.self.inside.longest } } in
-    all_short t c.self.invariant most c.args.key.now c.in-Some.entry.now (get_is key_cmp_total m c.args.key.now ∙ sym c.in-Some.ensures.value)
+    all_short t c.self.invariant.0 most c.args.key.now c.in-Some.entry.now (get_is key_cmp_total m c.args.key.now ∙ sym c.in-Some.ensures.value)
 
 pub returns-in-Some : goal.returns-in-Some
 returns-in-Some c =

@@ -8,7 +8,7 @@ use Rattle.nb_table.specs.KeyCounts.{of_source}
 use Rattle.nb_datagram.specs.KeyOrder.{key_cmp_total, key_cmp_exact}
 use Rattle.nb_table.specs.Shared.TreeLemmas.{entries_are, sorted_is}
 use Rattle.nb_table.proofs.Limits.SourceLemmas.{Left, onward, onward_all, left_begun, left_next, none_counts, one_counts, not_true, not_false}
-use Rattle.nb_table.proofs.sources.room_of.Goals as goal
+use Rattle.nb_table.proofs.sources.room_by_keys.Goals as goal
 
 pub loop-key-init : goal.loop-key-init
 loop-key-init c =

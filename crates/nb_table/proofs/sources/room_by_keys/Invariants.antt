@@ -1,7 +1,7 @@
 use Rattle.std.proofs.Common.{◌≡◌, ◌-◌, filter, map, length}
 use Rattle.nb_table.specs.KeyCounts.{of_source}
 use Rattle.nb_table.proofs.Limits.SourceLemmas.{Left}
-use Rattle.nb_table.proofs.sources.room_of.Given as goal
+use Rattle.nb_table.proofs.sources.room_by_keys.Given as goal
 
 abbrev pub invariant-loop-key : goal.invariant-loop-key
 invariant-loop-key l =

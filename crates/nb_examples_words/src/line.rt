@@ -1,0 +1,380 @@
+//! A line: its words, taken from the left, what is said of them, and the first fault.
+//!
+//! What reads a line and says its answer has no way out but its end: a word that isn't what is
+//! asked for is noted as a fault, and another value stands in its place; so is a text for which
+//! memory ran out. [`Line::finish`] tells the first fault, whatever was said after it.
+
+use crate::byte_text::{bytes_of, text_of_bytes};
+use crate::devices::Conduct;
+use crate::fault::ExampleFault;
+use nb_names::{DomainName, Name, Pointers, Scope, name_from_text, read_domain};
+use std::alloc::Global;
+use std::fmt::{Debug, Display};
+use std::mem::replace;
+
+/// For how many bytes the text has room that is made right before a call (tests/refuse_memory.c).
+const MARK: usize = 50_021;
+
+/// Words that haven't been taken, and what stands between two of them.
+#[derive(Clone, Copy)]
+pub struct Rest<'a> {
+    text: &'a str,
+    between: &'a str,
+}
+
+/// The words of a line, and what is said of them.
+#[derive(Drop)]
+pub struct Line<'a> {
+    alloc: Global,
+    rest: Rest<'a>,
+    said: String,
+    mark: String,
+    fault: Option<ExampleFault>,
+}
+
+impl<'a> Line<'a> {
+    /// The words of a text, of which nothing is said.
+    pub fn new(alloc: Global, text: &'a str) -> Line<'a> {
+        Line {
+            alloc,
+            rest: Rest { text, between: " " },
+            said: String::new(alloc),
+            mark: String::new(alloc),
+            fault: None,
+        }
+    }
+
+    /// Where calls take memory.
+    pub fn alloc(&self) -> Global {
+        self.alloc
+    }
+
+    /// What was said, where all words have been taken.
+    ///
+    /// # Errors
+    ///
+    /// The first fault that was noted; else [`ExampleFault::BadWords`], where words are left.
+    pub fn finish(self) -> Result<String, ExampleFault> {
+        match self.fault {
+            Some(fault) => Err(fault),
+            None if self.rest.text.is_empty() => Ok(self.said),
+            None => Err(ExampleFault::BadWords),
+        }
+    }
+
+    // ---- Faults.
+
+    /// Notes a fault, if it is the first.
+    pub fn note(&mut self, fault: ExampleFault) {
+        if self.fault.is_none() {
+            self.fault = Some(fault);
+        }
+    }
+
+    /// Notes that a word isn't what it has to be.
+    pub fn bad_words(&mut self) {
+        self.note(ExampleFault::BadWords);
+    }
+
+    /// Notes that memory ran out.
+    pub fn no_memory(&mut self) {
+        self.note(ExampleFault::NoMemory);
+    }
+
+    // ---- Words.
+
+    /// Goes on with the words of another text, between which this stands; what was left before is
+    /// for [`Line::leave`].
+    pub fn enter(&mut self, text: &'a str, between: &'a str) -> Rest<'a> {
+        replace(&mut self.rest, Rest { text, between })
+    }
+
+    /// Goes back to the words that were left before. A word that is left now is a fault.
+    pub fn leave(&mut self, before: Rest<'a>) {
+        if !self.rest.text.is_empty() {
+            self.bad_words();
+        }
+        self.rest = before;
+    }
+
+    /// Whether all words have been taken.
+    pub fn is_empty(&self) -> bool {
+        self.rest.text.is_empty()
+    }
+
+    /// All that is left, which may have several words.
+    pub fn rest(&mut self) -> &'a str {
+        replace(&mut self.rest.text, "")
+    }
+
+    /// All that is left, in two parts with this between them.
+    pub fn halves(&mut self, between: &str) -> (&'a str, &'a str) {
+        let text = self.rest();
+        match text.split_once(between) {
+            Some(parts) => parts,
+            None => {
+                self.bad_words();
+                (text, "")
+            }
+        }
+    }
+
+    /// The next word. That there is none, or an empty one, is a fault.
+    pub fn word(&mut self) -> &'a str {
+        let text = self.rest.text;
+        let (word, rest) = text.split_once(self.rest.between).unwrap_or((text, ""));
+        self.rest.text = rest;
+        if word.is_empty() {
+            self.bad_words();
+        }
+        word
+    }
+
+    /// The next word, as a decimal number.
+    pub fn number(&mut self) -> u64 {
+        let Ok(number) = self.word().parse() else {
+            self.bad_words();
+            return 0;
+        };
+        number
+    }
+
+    /// The next word, as a decimal number of at most 32 bits.
+    pub fn number_32(&mut self) -> u32 {
+        let Ok(number) = self.word().parse() else {
+            self.bad_words();
+            return 0;
+        };
+        number
+    }
+
+    /// The next word, as a decimal number of at most 16 bits.
+    pub fn number_16(&mut self) -> u16 {
+        let Ok(number) = self.word().parse() else {
+            self.bad_words();
+            return 0;
+        };
+        number
+    }
+
+    /// The next word, as a decimal number of at most 8 bits.
+    pub fn number_8(&mut self) -> u8 {
+        let Ok(number) = self.word().parse() else {
+            self.bad_words();
+            return 0;
+        };
+        number
+    }
+
+    /// The next word, as a length or an offset.
+    pub fn size(&mut self) -> usize {
+        let Ok(number) = self.word().parse() else {
+            self.bad_words();
+            return 0;
+        };
+        number
+    }
+
+    /// The next word, as a number of 16 bits in hexadecimal.
+    pub fn hex_16(&mut self) -> u16 {
+        let Ok(number) = u16::from_str_radix(self.word(), 16) else {
+            self.bad_words();
+            return 0;
+        };
+        number
+    }
+
+    /// The next word, as a byte in hexadecimal.
+    pub fn hex_8(&mut self) -> u8 {
+        let Ok(number) = u8::from_str_radix(self.word(), 16) else {
+            self.bad_words();
+            return 0;
+        };
+        number
+    }
+
+    /// The next word, as the bytes that it stands for.
+    pub fn bytes(&mut self) -> Vec<u8> {
+        let word = self.word();
+        self.bytes_of(word)
+    }
+
+    /// The bytes that a word stands for.
+    pub fn bytes_of(&mut self, word: &str) -> Vec<u8> {
+        match bytes_of(self.alloc, word) {
+            Ok(bytes) => bytes,
+            Err(fault) => {
+                self.note(fault);
+                Vec::new(self.alloc)
+            }
+        }
+    }
+
+    /// The next word, as the text of a name.
+    pub fn name(&mut self) -> Name {
+        let Ok(name) = name_from_text(self.word()) else {
+            self.bad_words();
+            return Name::new([b' '; 16], Scope::empty());
+        };
+        name
+    }
+
+    /// The next word, as the domain name that it spells.
+    pub fn domain(&mut self) -> DomainName {
+        let spelling = self.bytes();
+        let Ok((name, _)) = read_domain(spelling.as_slice(), 0, Pointers::Refused) else {
+            self.bad_words();
+            return DomainName::root();
+        };
+        name
+    }
+
+    /// The next word, as an address: `10.0.0.5`.
+    pub fn address(&mut self) -> [u8; 4] {
+        let word = self.word();
+        let before = self.enter(word, ".");
+        let mut address = [0; 4];
+        for byte in &mut address {
+            *byte = self.number_8();
+        }
+        self.leave(before);
+        address
+    }
+
+    /// The next word, as the parts of a key, `10.0.0.5:138/0001`: address, port and identifier.
+    pub fn key_parts(&mut self) -> ([u8; 4], u16, u16) {
+        let word = self.word();
+        let before = self.enter(word, ":");
+        let ip = self.address();
+        self.rest.between = "/";
+        let port = self.number_16();
+        let id = self.hex_16();
+        self.leave(before);
+        (ip, port, id)
+    }
+
+    /// The next word, as how many keys a table may hold, and how many of one address: `8:2`, or `8`
+    /// for 4,294,967,295 of one address.
+    pub fn capacity(&mut self) -> (u32, u32) {
+        let word = self.word();
+        let before = self.enter(word, ":");
+        let keys = self.number_32();
+        let per_source = if self.is_empty() {
+            u32::MAX
+        } else {
+            self.number_32()
+        };
+        self.leave(before);
+        (keys, per_source)
+    }
+
+    /// The next three words, as what a device does: `MOST INTERRUPTS FAILING`, where `INTERRUPTS`
+    /// is `600/4` for 600 interrupts before the first, the fifth and each fourth call after it, and
+    /// `1023` for 1,023 before each.
+    pub fn conduct(&mut self) -> Conduct {
+        let most = self.size();
+        let word = self.word();
+        let before = self.enter(word, "/");
+        let interrupts = self.number_32();
+        let every = if self.is_empty() { 1 } else { self.number() };
+        self.leave(before);
+        let failing = self.number();
+        Conduct {
+            most,
+            interrupts,
+            every,
+            failing,
+        }
+    }
+
+    // ---- What is said.
+
+    /// Whether nothing was said.
+    pub fn is_silent(&self) -> bool {
+        self.said.is_empty()
+    }
+
+    /// Says a text.
+    pub fn say(&mut self, text: &str) {
+        if self.said.push_str(text).is_err() {
+            self.no_memory();
+        }
+    }
+
+    /// Says what `write!` makes of its arguments.
+    pub fn write_fmt<T: Display + Drop>(&mut self, value: T) {
+        if write!(self.said, "{value}").is_err() {
+            self.no_memory();
+        }
+    }
+
+    /// Says two values as `Debug` prints them, and whether they are equal.
+    pub fn say_both<T: Debug + PartialEq>(&mut self, first: &T, second: &T) {
+        let is_equal = first == second;
+        write!(self, "{first:?} {second:?} {is_equal}");
+    }
+
+    /// Says two values as `Debug` prints them, and whether they are equal, `ONE == OTHER is true`.
+    pub fn say_comparison<T: Debug + PartialEq>(&mut self, one: &T, other: &T) {
+        let is_same = one == other;
+        write!(self, "{one:?} == {other:?} is {is_same}");
+    }
+
+    /// Says two faults as text, and then as [`Line::say_comparison`] does.
+    pub fn say_fault_comparison<F: Debug + Display + PartialEq>(&mut self, one: &F, other: &F) {
+        write!(self, "{one}, {other}: ");
+        self.say_comparison(one, other);
+    }
+
+    /// Says bytes as a word.
+    pub fn say_bytes(&mut self, bytes: &[u8]) {
+        match text_of_bytes(self.alloc, bytes) {
+            Ok(text) => self.say(text.as_str()),
+            Err(_) => self.no_memory(),
+        }
+    }
+
+    /// Says a text that a call made; none is made where memory ran out.
+    pub fn say_made(&mut self, text: Option<String>) {
+        match text {
+            Some(text) => self.say(text.as_str()),
+            None => self.no_memory(),
+        }
+    }
+
+    /// Begins to say another text; what was said before is for [`Line::back_to`].
+    pub fn aside(&mut self) -> String {
+        replace(&mut self.said, String::new(self.alloc))
+    }
+
+    /// What was said aside, after which is said what comes after this.
+    pub fn back_to(&mut self, before: String) -> String {
+        replace(&mut self.said, before)
+    }
+
+    // ---- Marks, which stand round a call whose requests for memory are counted.
+
+    /// The mark before a call.
+    pub fn begin(&mut self) {
+        match String::with_capacity(self.alloc, MARK) {
+            Ok(mark) => self.mark = mark,
+            Err(_) => self.no_memory(),
+        }
+    }
+
+    /// The mark after a call.
+    pub fn end(&mut self) {
+        if self.mark.reserve(MARK + 1).is_err() {
+            self.no_memory();
+        }
+    }
+
+    /// Says that memory ran out in a call that is made again, and whether what has to be as before
+    /// is so.
+    pub fn again(&mut self, is_same: bool) {
+        self.say(match is_same {
+            true => "memory, as before, ",
+            false => "memory, changed, ",
+        });
+    }
+}

@@ -55,13 +55,12 @@ pub const REPLAY_HELP: &str =
      or more after it came drops it: a{n}capture of many keys needs ticks. A name that is \
      repeated is passed over. One address can fill the table, and then{n}all others are refused: \
      with `--per-source N` it is refused itself after N keys. Choose N above what one sender \
-     sends{n}while a key is held, and some hundreds at most: up to N keys are looked through for \
-     each new one. There is no such{n}limit by default: with one, it matters which packets of a \
-     sender come first.{n}{n}Example: nbt build group 10.0.0.5:138/0001 'JOE<00>' 'FRED<20>' \
-     616263 2 | nbt replay 'FRED<20>'{n}{n}Exit status: 0 all was done, 1 a name was \
-     refused or a line is malformed, 2 the command line was bad, 3 a device{n}failed or memory \
-     ran out. With 1 and 3 one line, `nbt: ` and the reason, goes to standard error.{n}{n}What \
-     it may say, and what to do then:";
+     sends{n}while a key is held: a new key costs alike, whatever N is. There is no such limit by \
+     default: with one, it matters{n}which packets of a sender come first.{n}{n}Example: nbt \
+     build group 10.0.0.5:138/0001 'JOE<00>' 'FRED<20>' 616263 2 | nbt replay \
+     'FRED<20>'{n}{n}Exit status: 0 all was done, 1 a name was refused or a line is malformed, \
+     2 the command line was bad, 3 a device{n}failed or memory ran out. With 1 and 3 one line, \
+     `nbt: ` and the reason, goes to standard error.{n}{n}What it may say, and what to do then:";
 
 /// What is saved of a capture, and how the program ends.
 pub const SAVE_HELP: &str =

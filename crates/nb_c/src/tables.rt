@@ -58,16 +58,16 @@ fn merged(
         Err(fault) => Err(first_refusal(fault)),
         Ok(mut table) => match load(alloc, second, keys, per_source, LONGEST) {
             Err(fault) => Err(second_refusal(fault)),
-            Ok(other) => joined(&mut table, &other),
+            Ok(other) => joined(&mut table, other),
         },
     }
 }
 
 /// The join of a table and another, saved.
-fn joined(table: &mut Table, other: &Table) -> Result<Bytes, Refusal>
-    ensures { OrNoMemory (Joins table.old.limits table.old.contents other.now.contents) result }
+fn joined(table: &mut Table, other: Table) -> Result<Bytes, Refusal>
+    ensures { OrNoMemory (Joins table.old.limits table.old.contents other.contents) result }
 {
-    match table.merge(other) {
+    match table.take_in(other) {
         Err(fault) => Err(table_refusal(fault)),
         Ok(_) => answer_of(table.save()),
     }

@@ -166,29 +166,17 @@ text_of_written name bytes scope text b s sixteen small is labels e =
 
 -- ---- a loop over labels
 
--- what stands at a place, before what is left after it
-pub dropped_label : (labels : List (List ℕ)) (place : ℕ) (label : List ℕ) → slice_get labels place ≡ Some label → drop place labels ≡ label ∷ drop (suc place) labels
-dropped_label [] zero label e = absurd (cc)
-dropped_label [] (suc place) label e = absurd (cc)
-dropped_label (first ∷ labels) zero label e = cc
-dropped_label (first ∷ labels) (suc place) label e = dropped_label labels place label e
-
 -- writing a label leaves what is left to write
-pub labels_turn : (labels : List (List ℕ)) (place : ℕ) (label before dotted after whole : List ℕ) → slice_get labels place ≡ Some label → dotted ≡ before ++ 46 ∷ [] → after ≡ dotted ++ items_of label → before ++ scope_text_of (drop place labels) ≡ whole → after ++ scope_text_of (drop (place + 1) labels) ≡ whole
-labels_turn labels place label before dotted after whole e d a w =
-    let rest : List ℕ = scope_text_of (drop (suc place) labels) in
-    let left : scope_text_of (drop place labels) ≡ (46 ∷ items_of label) ++ rest = ap scope_text_of (dropped_label labels place label e) in
+pub label_turn : (label : List ℕ) (labels : List (List ℕ)) (before dotted after whole : List ℕ) → dotted ≡ before ++ 46 ∷ [] → after ≡ dotted ++ items_of label → before ++ scope_text_of (label ∷ labels) ≡ whole → after ++ scope_text_of labels ≡ whole
+label_turn label labels before dotted after whole d a w =
+    let rest : List ℕ = scope_text_of labels in
     let now : after ≡ (before ++ 46 ∷ []) ++ items_of label = a ∙ ap (λ (front : List ℕ). front ++ items_of label) d in
-    rw (add-one, now)
-    (append_assoc (before ++ 46 ∷ []) (items_of label) rest ∙ append_assoc before (46 ∷ []) (items_of label ++ rest)
-    ∙ ap (λ (behind : List ℕ). before ++ behind) (sym left) ∙ w)
+    rw now
+    (append_assoc (before ++ 46 ∷ []) (items_of label) rest ∙ append_assoc before (46 ∷ []) (items_of label ++ rest) ∙ w)
 
 pub all_small : (bs : List ℕ) → ((i : ℕ) → get_or bs i 0 < 256) → AreBytes bs
 all_small [] h = tt
 all_small (b ∷ bs) h = (h 0, all_small bs (λ i. h (suc i)))
-
-pub bytes_turn : (labels : List (List ℕ)) (place : ℕ) (label : List ℕ) → slice_get labels place ≡ Some label → AreBytes label → AreByteLabels (drop (place + 1) labels) → AreByteLabels (drop place labels)
-bytes_turn labels place label e small rest = rw (dropped_label labels place label e) (small, rw add-one at rest)
 
 -- ---- what a text stands for
 

@@ -1,14 +1,16 @@
 //! Writing names as text.
-ghost use Rattle.std.specs.Prelude.{◌≡◌, ◌++◌, ◌<◌, [], ◌∷◌, IfOk, OnOk, length, drop, string_bytes};
+ghost use Rattle.std.specs.Prelude.{◌≡◌, ◌++◌, ◌<◌, ℕ, List, [], ◌∷◌, IfOk, OnOk, length, string_bytes};
 ghost use Rattle.std.specs.Char.{digit_char};
 ghost use Rattle.nb_names.specs.declared.limits.TheConstants.{NAME_LENGTH};
-ghost use Rattle.nb_names.specs.DomainName.{AreBytes, AreByteLabels};
+ghost use Rattle.std.specs.List.{AllByRecursion};
+ghost use Rattle.nb_names.specs.DomainName.{AreBytes, AreByteLabels, IsLabel, spelling};
 ghost use Rattle.nb_names.specs.NameText.{IsText, written, bytes_written, domain_written, trimmed, digits_of, item_of, items_of, scope_text_of, labels_written};
 
 use crate::bytes::NoMemory;
 use crate::domain_name::DomainName;
 use crate::limits::{FRONT_LENGTH, NAME_LENGTH};
 use crate::name::Name;
+use crate::spellings::split_label;
 use crate::text_steps::is_plain;
 use std::alloc::Global;
 
@@ -26,7 +28,7 @@ pub fn name_text(alloc: Global, name: &Name) -> Result<String, NoMemory>
 {
     let mut text = String::new(alloc);
     push_bytes(&mut text, name.bytes())?;
-    push_labels(&mut text, name.scope().as_domain(), 0)?;
+    push_labels(&mut text, name.scope().as_domain())?;
     Ok(text)
 }
 
@@ -41,7 +43,7 @@ pub fn push_name(text: &mut String, name: &Name) -> Result<(), NoMemory>
     ensures { OnOk result (string_bytes text.new ≡ string_bytes text.old ++ written name.now) }
 {
     push_bytes(text, name.bytes())?;
-    push_labels(text, name.scope().as_domain(), 0)
+    push_labels(text, name.scope().as_domain())
 }
 
 /// Adds the text of a domain name that stands in a packet: that of a NetBIOS name, as [`name_text`]
@@ -82,10 +84,10 @@ fn push_plain(text: &mut String, domain: &DomainName) -> Result<(), NoMemory>
     ensures { OnOk result
         (string_bytes text.new ≡ string_bytes text.old ++ domain_written domain.now) }
 {
-    match domain.label(0) {
-        Some(label) => {
+    match domain.split_first() {
+        Some((label, rest)) => {
             push_items(text, label)?;
-            push_labels(text, domain, 1)
+            push_spelled(text, rest)
         }
         None => {
             text.push_str(".")?;
@@ -122,16 +124,26 @@ fn without_last_spaces(bytes: &[u8]) -> &[u8]
     kept
 }
 
-/// Adds `.` and the items of each label, from a place on.
-fn push_labels(text: &mut String, domain: &DomainName, from: usize) -> Result<(), NoMemory>
+/// Adds `.` and the items of each label.
+fn push_labels(text: &mut String, domain: &DomainName) -> Result<(), NoMemory>
     ensures written { OnOk result
-        (string_bytes text.new ≡ string_bytes text.old ++ scope_text_of (drop from domain.now)) }
-    ensures bytes { OnOk result (AreByteLabels (drop from domain.now)) }
+        (string_bytes text.new ≡ string_bytes text.old ++ scope_text_of domain.now) }
+    ensures bytes { AreByteLabels domain.now }
 {
-    for place in from..domain.len() {
-        let label = domain.label(place).unwrap();
+    push_spelled(text, domain.spelling())
+}
+
+/// Adds `.` and the items of each label that is spelled, in one walk along the spelling.
+fn push_spelled(text: &mut String, spelled: &[u8]) -> Result<(), NoMemory>
+    ensures { (labels : List (List ℕ)) → AllByRecursion IsLabel labels →
+        spelled.now ≡ spelling labels →
+        OnOk result (string_bytes text.new ≡ string_bytes text.old ++ scope_text_of labels) }
+{
+    let mut rest = spelled;
+    'labels: while let Some((label, behind)) = split_label(rest) {
         text.push('.')?;
         push_items(text, label)?;
+        rest = behind;
     }
     Ok(())
 }

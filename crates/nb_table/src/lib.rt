@@ -32,4 +32,4 @@ pub use outline::Outline;
 pub use ranges::{PlaceRange, Ranges};
 pub use slot::Slot;
 pub use state::State;
-pub use table::{Table, load};
+pub use table::{Table, load, take_in_all};

@@ -24,6 +24,7 @@ use crate::removing::remove_counted;
 use crate::sources::{SourceCounts, no_counts};
 use crate::state::State;
 pub use loading::load;
+pub use merging::take_in_all;
 use nb_datagram::{Fragment, Key};
 use std::alloc::Global;
 use std::collections::BTreeMap;

@@ -12,7 +12,7 @@ use crate::settings::capacity_of;
 use crate::tables::{tables_of, whole_input};
 use clap::ArgMatches;
 use nb_names::Counted;
-use nb_table::{Table, TableFault, join_all};
+use nb_table::{Table, TableFault, take_in_all};
 use std::alloc::Global;
 use std::io::Read;
 
@@ -47,7 +47,7 @@ pub fn joined_input<R: Read>(
         return Err(Fault::NoTables);
     }
     let mut first = tables.remove(0);
-    join_tables(&mut first, tables.as_slice())?;
+    join_tables(&mut first, tables)?;
     Ok(first)
 }
 
@@ -59,16 +59,16 @@ pub fn joined_input<R: Read>(
 /// the first may, [`Fault::FullSource`] where they have more keys of one address together than the
 /// first may hold, [`Fault::Full`] where they have more keys, [`Fault::Memory`] where memory ran
 /// out.
-fn join_tables(first: &mut Table, others: &[Table]) -> Result<(), Fault>
+fn join_tables(first: &mut Table, others: Vec<Table>) -> Result<(), Fault>
     ensures joined { OnOk result (first.new.contents
-        ≡ joined_all join first.old.contents (contents_of others.now)) }
+        ≡ joined_all join first.old.contents (contents_of others.items)) }
     ensures taken { OnOk result (AreTaken join (Fits first.old.limits)
-        first.old.contents (contents_of others.now)) }
-    ensures fault { IfErr result (JoinFails first.old others.now) }
+        first.old.contents (contents_of others.items)) }
+    ensures fault { IfErr result (JoinFails first.old others.items) }
     ensures no_read { IfErr result (λ fault. fault ≢ Fault.Read) }
     ensures no_write { IfErr result (λ fault. fault ≢ Fault.Write) }
 {
-    match join_all(first, others) {
+    match take_in_all(first, others) {
         Ok(()) => Ok(()),
         Err((_, TableFault::FullSource(_))) => Err(Fault::FullSource),
         Err((_, TableFault::Full(_))) => Err(Fault::Full),

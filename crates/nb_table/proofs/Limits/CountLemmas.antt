@@ -236,3 +236,8 @@ room_of_one l t k none free = elim (cases_lt (held_keys (of_source k.ip) t) l.pe
   | inl below ↦ below
   | inr past ↦ absurd (free (record { is_new = none; no_room = past }))
 ]
+
+-- where no counts are kept, nothing is asked of them
+pub not_counted : (o : Option Counts) (s : Contents) → is_some o ≡ false → AreCounted o s
+not_counted None s h = tt
+not_counted (Some m) s h = absurd (true≢false h)

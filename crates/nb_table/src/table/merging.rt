@@ -6,12 +6,15 @@ ghost use Rattle.nb_table.specs.Merging.{Fits, IsRefused, newly_handed};
 
 mod merging_counted;
 mod merging_entries;
+mod moving;
 mod taking_back;
+mod taking_in;
 
 use super::Table;
 use crate::fault::TableFault;
 use crate::join::Join;
 use merging_counted::merge_counted;
+pub use taking_in::take_in_all;
 use nb_datagram::Datagrams;
 
 impl Table {

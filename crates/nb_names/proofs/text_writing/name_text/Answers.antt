@@ -10,5 +10,5 @@ returns-clause-read c =
     let is_scope = c.as_domain.ensures.value in
     let front = c.in_ok-push_bytes.ensures.written ∙ ap (λ (text : List ℕ). text ++ bytes_written bytes) c.new-text.ensures.bytes in
     text_of_written c.args.name.now bytes scope _ c.bytes.ensures.value (c.as_domain.ensures.value ∙ c.scope.ensures.value)
-    c.push_bytes.ensures.sixteen c.push_bytes.ensures.bytes (rw is_scope c.as_domain.ensures.scope) c.in_ok-push_labels.ensures.bytes
+    c.push_bytes.ensures.sixteen c.push_bytes.ensures.bytes (rw is_scope c.as_domain.ensures.scope) c.push_labels.ensures.bytes
     (c.in_ok-push_labels.ensures.written ∙ ap (λ (text : List ℕ). text ++ scope_text_of scope) front)

@@ -110,7 +110,7 @@ fn join_noted(
 
 /// Joins another entry to that of its key, in place where the key is held. The datagram, if the
 /// key becomes whole by this.
-fn join_in_place(
+pub(super) fn join_in_place(
     alloc: Global,
     entries: &mut BTreeMap<Key, Entry>,
     key: Key,

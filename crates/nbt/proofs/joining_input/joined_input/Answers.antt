@@ -35,8 +35,7 @@ returns-in_err-join_tables-clause-fault g c =
     let text = c.in_ok-text.ensures in
     let size : length c.in_ok-tables.tables.items ≡ length c.remove-first.new.self.items + 1 = search rules in
     let are = first_taken _ _ _ size c.remove-first.ensures.value c.remove-first.ensures.by_index.2 in
-    let others = c.as_slice-2.ensures.value in
-    let fails = subst (λ (us : List TableValue). JoinFails c.remove-first.result us c.in_err-join_tables.field-0.0) others c.in_err-join_tables.ensures.fault in
+    let fails = c.in_err-join_tables.ensures.fault in
     let p = err_from_is_err_and c.from_residual-in_err-join_tables.result c.from_residual-in_err-join_tables.ensures.1 in
     rw (p.1, p.2) (input_fails (merge_of_join _ _ _ _ _ c.in_ok-capacity.capacity _ c.remove-first.result c.remove-first.new.self.items _ c.as_slice.ensures.value text.read text.ended text.within c.in_ok-capacity.ensures.given
     c.in_ok-tables.ensures.found are fails))
@@ -46,9 +45,8 @@ returns-clause-joined g c =
     let text = c.in_ok-text.ensures in
     let size : length c.in_ok-tables.tables.items ≡ length c.remove-first.new.self.items + 1 = search rules in
     let are = first_taken _ _ _ size c.remove-first.ensures.value c.remove-first.ensures.by_index.2 in
-    let others = c.as_slice-2.ensures.value in
     let first = c.remove-first.result in
-    let taken = subst (λ (us : List TableValue). AreTaken join (Fits first.limits) first.contents (contents_of us)) others c.in_ok-join_tables.ensures.taken in
-    let joined = subst (λ (us : List TableValue). c.join_tables.new.first.contents ≡ joined_all join first.contents (contents_of us)) others c.in_ok-join_tables.ensures.joined in
+    let taken = c.in_ok-join_tables.ensures.taken in
+    let joined = c.in_ok-join_tables.ensures.joined in
     merges_tables _ _ _ _ _ c.in_ok-capacity.capacity _ first c.remove-first.new.self.items _ c.as_slice.ensures.value text.read text.ended text.within c.in_ok-capacity.ensures.given
     c.in_ok-tables.ensures.found are taken joined

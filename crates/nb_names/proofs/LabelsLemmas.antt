@@ -1,7 +1,9 @@
 -- What stands in a packet, and that a name has one reading.
 use Rattle.std.proofs.Common.{◌≡◌, ℕ, ◌+◌, ◌-◌, ◌*◌, ◌/◌, ◌%◌, ◌<◌, ◌≤◌, List, [], ◌∷◌, ◌++◌, length, take, drop, get_or, refl, ap, sym, subst, ◌∙◌, arith, append_assoc, length-append, length-drop}
+use Rattle.std.proofs.Math.Seq.{take-add}
 use Rattle.std.proofs.lemmas.List.{take-append-drop, length-take-le, drop_more, take-take, drop_at, drop-drop, take_at}
 use Rattle.nb_names.specs.declared.pointers.Pointers.{Pointers}
+use Rattle.nb_names.specs.declared.pointers.Pointers.TheVariants.{Refused}
 use Rattle.nb_names.specs.DomainName.{spelling, IsDomain}
 use Rattle.nb_names.specs.PacketFacts.{stands_same, stands_fits}
 use Rattle.nb_names.specs.Labels.{StandsAt, pointer_bytes, IsPointer, LabelsAt, ends, goes_on, leads_to}
@@ -126,3 +128,31 @@ spelled_stands packet q start at (l ∷ ls) d h =
     let next : at + 1 + length l + length (spelling ls) ≡ at + length (spelling (l ∷ ls)) = omega (arith, long) in
     goes_on l ls d.each.0 (stands_before packet at (length l ∷ l) (spelling ls) h) d.short
     (subst (λ (n : ℕ). LabelsAt packet q start (at + 1 + length l) ls n) next rest)
+
+-- ---- labels without pointers
+
+-- what stands after what stands at an offset
+pub stands_joined : (packet : List ℕ) (at : ℕ) (xs ys : List ℕ) → StandsAt packet at xs → StandsAt packet (at + length xs) ys → StandsAt packet at (xs ++ ys)
+stands_joined packet at xs ys h k =
+    let behind : take (length ys) (drop (length xs) (drop at packet)) ≡ ys = ap (λ (d : List ℕ). take (length ys) d) (drop-drop (length xs) at packet) ∙ k in
+    let whole = take-add (length xs) (length ys) (drop at packet) in
+    rw (length-append xs ys) (whole ∙ cc (h, behind))
+
+-- where pointers are refused, labels stand as they are spelled
+pub spelled_there : (packet : List ℕ) (start at : ℕ) (ls : List (List ℕ)) (n : ℕ) → LabelsAt packet Refused start at ls n → StandsAt packet at (spelling ls) × (n ≡ at + length (spelling ls))
+spelled_there packet start at ls n (ends a) = (a, refl)
+spelled_there packet start at ls n (goes_on l more f b s r) =
+    let rest = spelled_there packet start (at + 1 + length l) more n r in
+    let here : at + 1 + length l ≡ at + length (length l ∷ l) = omega arith in
+    (
+      stands_joined packet at (length l ∷ l) (spelling more) b (subst (λ (x : ℕ). StandsAt packet x (spelling more)) here rest.0),
+      omega (arith, rest.1, length-append l (spelling more)),
+    )
+spelled_there packet start at ls n (leads_to t behind f p low r) = absurd (cc f)
+
+-- the bytes from a name up to the offset after it spell its labels
+pub range_spelled : (packet : List ℕ) (at : ℕ) (ls : List (List ℕ)) (n : ℕ) → LabelsAt packet Refused at at ls n → take (n - at) (drop at packet) ≡ spelling ls
+range_spelled packet at ls n there =
+    let spelled = spelled_there packet at at ls n there in
+    let size : n - at ≡ length (spelling ls) = omega (arith, spelled.1) in
+    rw size spelled.0

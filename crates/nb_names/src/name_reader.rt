@@ -8,6 +8,7 @@ use crate::fault::NameFault;
 use crate::pointer_ends::find_ends;
 use crate::pointers::Pointers;
 use crate::reading::read_along;
+use crate::skipping::skip_along;
 use std::marker::Model;
 
 /// A packet of which many names are read, with the ends of its chains of pointers.
@@ -80,5 +81,25 @@ impl<'a, 'r> NameReader<'a, 'r> {
         ensures fault { IfErr result (FaultAt self.now pointers at) }
     {
         read_along(self.packet, self.ends, at, pointers)
+    }
+
+    /// The offset that follows the domain name at an offset of the packet. The name is judged as by
+    /// [`NameReader::read_domain`], and not made.
+    ///
+    /// # Errors
+    ///
+    /// Those of [`read_domain`](crate::read_domain).
+    ///
+    /// RFC 1002 section 4.1.
+    #[inline]
+    pub fn skip_domain(&self, at: usize, pointers: Pointers) -> Result<usize, NameFault>
+        ensures found { IfOk result (λ next.
+            (labels : List (List ℕ)) × NameAt self.now pointers at labels next) }
+        ensures only { (labels : List (List ℕ)) (next : ℕ) →
+            NameAt self.now pointers at labels next → IsOkAnd result (λ read. read ≡ next) }
+        ensures within { IfOk result (λ next. next ≤ length self.now) }
+        ensures fault { IfErr result (FaultAt self.now pointers at) }
+    {
+        skip_along(self.packet, self.ends, at, pointers)
     }
 }

@@ -1,0 +1,88 @@
+use Rattle.std.proofs.Common.{◌≡◌, ◌≤◌, ◌<◌, ◌+◌, ◌++◌, [], ◌∷◌, ℕ, List, length, take, drop, refl, arith, ◌∙◌}
+use Rattle.nb_names.specs.declared.fault.NameFault.TheVariants.{TooLong}
+use Rattle.nb_names.specs.declared.label_fault.LabelFault.TheVariants.{TooLong as PastLimit}
+use Rattle.nb_names.specs.DomainName.{spelling}
+use Rattle.nb_names.specs.NameFaults.{FaultAt, cut, reserved, not_allowed, not_below}
+use Rattle.nb_names.proofs.SpellingLemmas.{length-spelling-snoc}
+use Rattle.nb_names.proofs.LabelsLemmas.{one_reading, next_within}
+use Rattle.nb_names.proofs.FaultLemmas.{no_name}
+use Rattle.nb_names.proofs.ReadingLemmas.{reading_begun, reading_ended, reading_fails, way_short, label_there, label_turn, label_past, pointer_turn}
+use Rattle.nb_names.proofs.ChainLemmas.{chain_turns, ends_lower}
+use Rattle.nb_names.proofs.skipping.skip_along.Goals as goal
+
+pub way-init : goal.way-init
+way-init c = ([], reading_begun c.args.packet.now c.args.pointers c.args.at, refl)
+
+pub returns-in-Cut-clause-fault : goal.returns-in-Cut-clause-fault
+returns-in-Cut-clause-fault c = reading_fails _ _ _ _ _ _ _ _ c.way.invariant.1 (rw c.max.ensures (cut c.in-Cut.ensures))
+
+pub returns-in-Cut-clause-only : goal.returns-in-Cut-clause-only
+returns-in-Cut-clause-only c = no_name _ _ _ _ (reading_fails _ _ _ _ _ _ _ _ c.way.invariant.1 (cut c.in-Cut.ensures))
+
+pub returns-in-Reserved-clause-fault : goal.returns-in-Reserved-clause-fault
+returns-in-Reserved-clause-fault c = reading_fails _ _ _ _ _ _ _ _ c.way.invariant.1 (reserved c.in-Reserved.ensures)
+
+pub returns-in-Reserved-clause-only : goal.returns-in-Reserved-clause-only
+returns-in-Reserved-clause-only c = no_name _ _ _ _ (reading_fails _ _ _ _ _ _ _ _ c.way.invariant.1 (reserved c.in-Reserved.ensures))
+
+pub returns-in-End-clause-found : goal.returns-in-End-clause-found
+returns-in-End-clause-found c = (c.way.invariant.0, rw c.unwrap_or.ensures (reading_ended _ _ _ _ _ _ _ c.way.invariant.1 c.in-End.ensures))
+
+pub returns-in-End-clause-only : goal.returns-in-End-clause-only
+returns-in-End-clause-only c labels next there =
+    let one = one_reading _ _ _ _ _ _ _ _ (reading_ended _ _ _ _ _ _ _ c.way.invariant.1 c.in-End.ensures) there in
+    c.unwrap_or.ensures ∙ one.1
+
+pub returns-in-End-clause-within : goal.returns-in-End-clause-within
+returns-in-End-clause-within c = rw c.unwrap_or.ensures (next_within _ _ _ _ _ _ (reading_ended _ _ _ _ _ _ _ c.way.invariant.1 c.in-End.ensures))
+
+pub overflow_add-spelled-in-Label : goal.overflow_add-spelled-in-Label
+overflow_add-spelled-in-Label c = omega (arith, c.way.invariant.2, way_short _ _ _ _ _ _ c.way.invariant.1.way, c.in-Label.ensures.short)
+
+-- the label that stands there, after those that were skipped
+pub more_spelled : (packet : List ℕ) (here size spelled : ℕ) (labels : List (List ℕ)) → length (take size (drop (here + 1) packet)) ≡ size → spelled ≡ length (spelling labels) →
+    spelled + (size + 1) ≡ length (spelling (labels ++ take size (drop (here + 1) packet) ∷ []))
+more_spelled packet here size spelled labels long is =
+    omega (arith, long, is, length-spelling-snoc labels (take size (drop (here + 1) packet)))
+
+past : (c : goal.Then-spelled-gt-MAX_SPELLING) → FaultAt c.args.packet.now c.args.pointers c.args.at (TooLong c.way.here)
+past c =
+    let there = label_there c.args.packet.now c.way.here c.in-Label.size c.in-Label.ensures in
+    let more = more_spelled c.args.packet.now c.way.here c.in-Label.size c.way.spelled c.way.invariant.0 there.0 c.way.invariant.2 in
+    label_past _ _ _ _ _ _ _ PastLimit c.way.invariant.1.way c.in-Label.ensures (there.1, omega (arith, more, c.if-spelled-gt-MAX_SPELLING.true))
+
+pub returns-then-spelled-gt-MAX_SPELLING-clause-fault : goal.returns-then-spelled-gt-MAX_SPELLING-clause-fault
+returns-then-spelled-gt-MAX_SPELLING-clause-fault c = past c
+
+pub returns-then-spelled-gt-MAX_SPELLING-clause-only : goal.returns-then-spelled-gt-MAX_SPELLING-clause-only
+returns-then-spelled-gt-MAX_SPELLING-clause-only c = no_name _ _ _ _ (past c)
+
+pub way-preserved-in-Label : goal.way-preserved-in-Label
+way-preserved-in-Label c =
+    let there = label_there c.args.packet.now c.way.here c.in-Label.size c.in-Label.ensures in
+    let more = more_spelled c.args.packet.now c.way.here c.in-Label.size c.way.spelled c.way.invariant.0 there.0 c.way.invariant.2 in
+    (_, label_turn _ _ _ _ _ _ _ _ _ c.way.invariant.1 c.in-Label.ensures (omega (arith, more, c.if-spelled-gt-MAX_SPELLING.false)) refl, more)
+
+pub returns-in-Refused-clause-fault : goal.returns-in-Refused-clause-fault
+returns-in-Refused-clause-fault c = reading_fails _ _ _ _ _ _ _ _ c.way.invariant.1 (not_allowed _ c.in-Pointer.ensures c.in-Refused.is)
+
+pub returns-in-Refused-clause-only : goal.returns-in-Refused-clause-only
+returns-in-Refused-clause-only c = no_name _ _ _ _ (reading_fails _ _ _ _ _ _ _ _ c.way.invariant.1 (not_allowed _ c.in-Pointer.ensures c.in-Refused.is))
+
+pub returns-then-target-start-clause-fault : goal.returns-then-target-start-clause-fault
+returns-then-target-start-clause-fault c = reading_fails _ _ _ _ _ _ _ _ c.way.invariant.1 (not_below _ c.in-Pointer.ensures c.in-Followed.is c.if-target-start.true)
+
+pub returns-then-target-start-clause-only : goal.returns-then-target-start-clause-only
+returns-then-target-start-clause-only c = no_name _ _ _ _ (reading_fails _ _ _ _ _ _ _ _ c.way.invariant.1 (not_below _ c.in-Pointer.ensures c.in-Followed.is c.if-target-start.true))
+
+pub way-preserved : goal.way-preserved
+way-preserved c =
+    (
+      c.way.invariant.0,
+      chain_turns _ _ _ _ _ _ _ c.in-Followed.is (c.end_from-start.ensures c.args.packet.now c.requires)
+      (pointer_turn _ _ _ _ _ _ _ _ _ c.way.invariant.1 c.in-Followed.is c.in-Pointer.ensures c.if-target-start.false c.unwrap_or-in-Pointer.ensures),
+      c.way.invariant.2,
+    )
+
+pub way-smaller : goal.way-smaller
+way-smaller c = omega (arith, ends_lower _ _ _ (c.end_from-start.ensures c.args.packet.now c.requires))

@@ -1,0 +1,60 @@
+//! Names that are judged where they stand in a packet, and not kept.
+ghost use Rattle.std.specs.Prelude.{◌≡◌, ◌<◌, ◌≤◌, ℕ, List, length, IfOk, IfErr, IsOkAnd};
+ghost use Rattle.nb_names.specs.Code.PointerEnds.{AreEnds};
+ghost use Rattle.nb_names.specs.Labels.{NameAt};
+ghost use Rattle.nb_names.specs.NameFaults.{FaultAt};
+
+use crate::fault::NameFault;
+use crate::length_byte::{LengthByte, length_byte_at};
+use crate::limits::MAX_SPELLING;
+use crate::pointer_ends::end_from;
+use crate::pointers::Pointers;
+
+/// The offset after the domain name at an offset of a packet, of whose chains of pointers ends are
+/// known.
+#[inline]
+pub(crate) fn skip_along(
+    packet: &[u8],
+    ends: &[u16],
+    at: usize,
+    pointers: Pointers,
+) -> Result<usize, NameFault>
+    requires { AreEnds packet.now ends.now }
+    ensures found { IfOk result (λ next.
+        (labels : List (List ℕ)) × NameAt packet.now pointers at labels next) }
+    ensures only { (labels : List (List ℕ)) (next : ℕ) → NameAt packet.now pointers at labels next →
+        IsOkAnd result (λ read. read ≡ next) }
+    ensures within { IfOk result (λ next. (at < next) × (next ≤ length packet.now)) }
+    ensures fault { IfErr result (FaultAt packet.now pointers at) }
+{
+    let mut spelled = 1;
+    let mut start = at;
+    let mut here = at;
+    let mut next = None;
+    'way: loop {
+        match length_byte_at(packet, here) {
+            LengthByte::Cut => return Err(NameFault::Truncated(at.max(packet.len()))),
+            LengthByte::Reserved => return Err(NameFault::ReservedLabel(here)),
+            LengthByte::End => return Ok(next.unwrap_or(here + 1)),
+            LengthByte::Label(size) => {
+                spelled += size + 1;
+                if spelled > MAX_SPELLING {
+                    return Err(NameFault::TooLong(here));
+                }
+                here = here + 1 + size;
+            }
+            LengthByte::Pointer(target) => {
+                match pointers {
+                    Pointers::Refused => return Err(NameFault::PointerNotAllowed(here)),
+                    Pointers::Followed => {}
+                }
+                if target >= start {
+                    return Err(NameFault::BadPointer(here));
+                }
+                next = Some(next.unwrap_or(here + 2));
+                start = end_from(ends, target);
+                here = start;
+            }
+        }
+    }
+}

@@ -1,12 +1,14 @@
 //! NetBIOS names whose scopes are lent.
-ghost use Rattle.std.specs.Prelude.{◌≡◌, ◌↔◌, ◌≤◌, ℕ, length, IfOk, IfErr, IsOkAnd, IsTrue};
+ghost use Rattle.std.specs.Prelude.{◌≡◌, ◌≤◌, ◌++◌, ℕ, length, string_bytes, IfOk, IfErr, IsOkAnd, OnOk};
 ghost use Rattle.nb_names.specs.Code.Spelled.{labels_of, IsSpelled};
 ghost use Rattle.nb_names.specs.DomainName.{spelling};
 ghost use Rattle.nb_names.specs.Labels.{NameAt};
 ghost use Rattle.nb_names.specs.Name.{NetbiosName, IsName, IsByteName, IsNoName, IsScope, labels_of_name, name_eq};
 ghost use Rattle.nb_names.specs.NameFaults.{NetbiosFaultAt};
+ghost use Rattle.nb_names.specs.NameText.{written};
 ghost use Rattle.nb_names.specs.declared.pointers.Pointers.TheVariants.{Refused};
 
+use crate::bytes::NoMemory;
 use crate::domain_name::DomainName;
 use crate::fault::NameFault;
 use crate::first_level::bytes_of;
@@ -16,6 +18,7 @@ use crate::pointers::Pointers;
 use crate::scope::Scope;
 use crate::skipping::skip_along;
 use crate::spellings::{each_is_a_byte, split_label};
+use crate::text_writing::{push_bytes, push_spelled};
 use std::marker::Model;
 
 /// A NetBIOS name whose scope is lent, as its spelling. It takes a few words, where a [`Name`] has
@@ -159,4 +162,18 @@ pub fn read_lent_name<'a>(
         Ok(name) => Ok((name, next)),
         Err(fault) => Err(NameFault::NotNetbios(fault.place)),
     }
+}
+
+/// Adds the text of a name, as [`name_text`](crate::name_text) has it.
+///
+/// # Errors
+///
+/// [`NoMemory`] where memory ran out; some of the text may then be added.
+///
+/// The form is our choice.
+pub fn push_lent_name(text: &mut String, name: &LentName<'_>) -> Result<(), NoMemory>
+    ensures { OnOk result (string_bytes text.new ≡ string_bytes text.old ++ written name.now) }
+{
+    push_bytes(text, name.bytes())?;
+    push_spelled(text, name.scope_spelling())
 }

@@ -49,7 +49,7 @@ pub use fault::NameFault;
 pub use hexadecimal::{DigitsFault, bytes_of_digits, data_of_text};
 pub use items::Items;
 pub use label_fault::LabelFault;
-pub use lent_name::{LentName, read_lent_name};
+pub use lent_name::{LentName, push_lent_name, read_lent_name};
 pub use name::{Name, NotNetbios};
 pub use name_reader::NameReader;
 pub use pointers::Pointers;

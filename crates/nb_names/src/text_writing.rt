@@ -97,7 +97,7 @@ fn push_plain(text: &mut String, domain: &DomainName) -> Result<(), NoMemory>
 }
 
 /// Adds a name's bytes: the items of the first fifteen, and the digits of the last.
-fn push_bytes(text: &mut String, bytes: &[u8; NAME_LENGTH]) -> Result<(), NoMemory>
+pub(crate) fn push_bytes(text: &mut String, bytes: &[u8; NAME_LENGTH]) -> Result<(), NoMemory>
     ensures written { OnOk result
         (string_bytes text.new ≡ string_bytes text.old ++ bytes_written bytes.now) }
     ensures sixteen { length bytes.now ≡ NAME_LENGTH }
@@ -134,7 +134,7 @@ fn push_labels(text: &mut String, domain: &DomainName) -> Result<(), NoMemory>
 }
 
 /// Adds `.` and the items of each label that is spelled, in one walk along the spelling.
-fn push_spelled(text: &mut String, spelled: &[u8]) -> Result<(), NoMemory>
+pub(crate) fn push_spelled(text: &mut String, spelled: &[u8]) -> Result<(), NoMemory>
     ensures { (labels : List (List ℕ)) → AllByRecursion IsLabel labels →
         spelled.now ≡ spelling labels →
         OnOk result (string_bytes text.new ≡ string_bytes text.old ++ scope_text_of labels) }

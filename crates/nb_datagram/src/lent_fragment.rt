@@ -1,12 +1,13 @@
 //! Fragments whose names are lent with their data.
-ghost use Rattle.std.specs.Prelude.{◌≡◌, ◌≤◌, ◌+◌, length};
+ghost use Rattle.std.specs.Prelude.{◌≡◌, ◌≤◌, ◌<◌, ◌+◌, length, MatchResult};
 ghost use Rattle.nb_datagram.specs.Fragment.{named_length, has_more, is_first};
 ghost use Rattle.nb_datagram.specs.declared.limits.TheConstants.{MAX_LENGTH};
 
 use crate::fragment::Fragment;
 use crate::key::Key;
 use crate::kind::Kind;
-use crate::limits::{FIRST, MORE};
+use crate::limits::{FIRST, MAX_LENGTH, MORE};
+use crate::too_long::TooLong;
 use nb_names::LentName;
 use std::marker::Model;
 
@@ -46,6 +47,49 @@ impl<'a> Model for LentFragment<'a> {
 }
 
 impl<'a> LentFragment<'a> {
+    /// A fragment of these parts, as [`Fragment::new`] has it.
+    ///
+    /// # Errors
+    ///
+    /// `TooLong` where both names, spelled plainly, and the data pass 65,535 bytes together.
+    pub fn new(
+        kind: Kind,
+        flags: u8,
+        key: Key,
+        offset: u16,
+        source: LentName<'a>,
+        destination: LentName<'a>,
+        bytes: &'a [u8],
+    ) -> Result<LentFragment<'a>, TooLong>
+        ensures { MatchResult result
+            (λ fragment. (fragment ≡ record {
+              kind = kind;
+              flags = flags;
+              key = key;
+              offset = offset;
+              source = source.entry;
+              destination = destination.entry;
+              bytes = bytes.entry.now;
+            }) × (named_length source.entry destination.entry bytes.entry.now ≤ MAX_LENGTH))
+            (λ _. MAX_LENGTH < named_length source.entry destination.entry bytes.entry.now) }
+    {
+        if bytes.len() > MAX_LENGTH {
+            return Err(TooLong);
+        }
+        if source.spelled_len() + destination.spelled_len() + bytes.len() > MAX_LENGTH {
+            return Err(TooLong);
+        }
+        Ok(LentFragment {
+            kind,
+            flags,
+            key,
+            offset,
+            source,
+            destination,
+            bytes,
+        })
+    }
+
     /// A fragment of these parts, which are known to fit.
     pub(crate) fn with_parts(
         kind: Kind,

@@ -14,13 +14,13 @@ use Rattle.nb_table.specs.Insert.{Refuses, Takes}
 use Rattle.nb_table.specs.Shared.FragmentLemmas.{join_one}
 use Rattle.nb_table.proofs.Changes.InsertLemmas.{short_more, memory_alone, spared, insert_keeps, change_at}
 use Rattle.nb_table.proofs.Limits.CountLemmas.{room_of_one}
-use Rattle.nb_table.proofs.table.Table.insert.Goals.{After-from_residual}
-use Rattle.nb_table.proofs.table.Table.insert.Goals as goal
+use Rattle.nb_table.proofs.table.Table.insert_lent.Goals.{After-from_residual}
+use Rattle.nb_table.proofs.table.Table.insert_lent.Goals as goal
 
 pub join_counted-requires-clause-fragment : goal.join_counted-requires-clause-fragment
 join_counted-requires-clause-fragment c =
     let most : c.self.inside.longest ≤ MAX_LENGTH = search rules in
-    let takes = MatchOption-at_none (Takes c.args.self.now c.args.fragment.now) (Refuses c.args.self.now c.args.fragment.now) c.in_default.is c.refusal_of.ensures.refusal in
+    let takes = MatchOption-at_none (Takes c.args.self.now c.args.fragment.now) (Refuses c.args.self.now c.args.fragment.now) c.in_default.is c.refusal_of_lent.ensures.refusal in
     let short = takes.passes.short in
     let limit = ap (λ (t : TableValue). t.limits.longest) c.self.view_is in
     omega (arith, short, most, limit)
@@ -37,7 +37,7 @@ pub join_counted-requires-clause-room : goal.join_counted-requires-clause-room
 join_counted-requires-clause-room c none =
     let old : TableValue = record { contents = maps.from_entries {R = key_cmp} c.self.inside.entries.entries; limits = record { keys = c.self.inside.keys; per_source = c.self.inside.per_source; longest = c.self.inside.longest } } in
     let most : c.self.inside.per_source ≤ 4294967295 = search rules in
-    let takes : Takes old c.args.fragment.now = rw c.self.view_is (MatchOption-at_none (Takes c.args.self.now c.args.fragment.now) (Refuses c.args.self.now c.args.fragment.now) c.in_default.is c.refusal_of.ensures.refusal) in
+    let takes : Takes old c.args.fragment.now = rw c.self.view_is (MatchOption-at_none (Takes c.args.self.now c.args.fragment.now) (Refuses c.args.self.now c.args.fragment.now) c.in_default.is c.refusal_of_lent.ensures.refusal) in
     let room = room_of_one old.limits old.contents c.args.fragment.now.key none takes.source_room in
     omega (arith, room, most)
 
@@ -50,7 +50,7 @@ returns-in-Some-clause-without_memory c passes spares =
 refuses : (c : After-from_residual) → IfErr c.from_residual.result (Refuses c.args.self.now c.args.fragment.now)
 refuses c =
     let t = c.args.self.now in
-    let takes = MatchOption-at_none (Takes t c.args.fragment.now) (Refuses t c.args.fragment.now) c.in_default.is c.refusal_of.ensures.refusal in
+    let takes = MatchOption-at_none (Takes t c.args.fragment.now) (Refuses t c.args.fragment.now) c.in_default.is c.refusal_of_lent.ensures.refusal in
     memory_alone c.from_residual.result (Refuses t c.args.fragment.now) c.from_residual.ensures.1
     (takes.passes, (takes.room, rw (← c.self.view_is) c.in_err-change.ensures.needed, takes.source_room))
 
@@ -67,7 +67,7 @@ pub invariant_of-self-2 : goal.invariant_of-self-2
 invariant_of-self-2 c =
     let old : TableValue = record { contents = maps.from_entries {R = key_cmp} c.self.inside.entries.entries; limits = record { keys = c.self.inside.keys; per_source = c.self.inside.per_source; longest = c.self.inside.longest } } in
     let f = c.args.fragment.now in
-    let takes : Takes old f = rw c.self.view_is (MatchOption-at_none (Takes c.args.self.now f) (Refuses c.args.self.now f) c.in_default.is c.refusal_of.ensures.refusal) in (
+    let takes : Takes old f = rw c.self.view_is (MatchOption-at_none (Takes c.args.self.now f) (Refuses c.args.self.now f) c.in_default.is c.refusal_of_lent.ensures.refusal) in (
       subst (λ t. KeepsLimits (record { contents = t; limits = old.limits })) (sym c.in_ok-change.ensures.joined)
           (insert_keeps old (core_of f) c.self.invariant.0 takes.passes.short takes.source_room takes.room),
       c.join_counted.ensures.counted,

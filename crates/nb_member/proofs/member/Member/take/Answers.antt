@@ -1,5 +1,6 @@
 use Rattle.std.proofs.Common.{refl, subst}
 use Rattle.nb_datagram.specs.LentPacket.{packet_of}
+use Rattle.nb_datagram.specs.declared.packet.QueryPacket.{QueryPacket}
 use Rattle.nb_datagram.specs.declared.lent_packet.LentPacket.{LentPacket}
 use Rattle.nb_datagram.specs.Packet.{IsPacket}
 use Rattle.nb_member.proofs.member.Member.take.Goals as goal
@@ -21,7 +22,8 @@ pub returns-in-Ok-Query-default : goal.returns-in-Ok-Query-default
 returns-in-Ok-Query-default c =
     let d = c.in-Ok-Query-default in
     let found = subst (λ (p : LentPacket). IsPacket c.args.payload.now (packet_of p) d.field-0-1) d.field-0-0-is d.ensures.found in
-    query d.field-0-0-0 d.field-0-1 found refl
+    let asked : QueryPacket = record { kind = d.field-0-0-0.kind; flags = d.field-0-0-0.flags; key = d.field-0-0-0.key; destination = d.field-0-0-0.destination } in
+    query asked d.field-0-1 found refl
 
 pub returns-in-Err : goal.returns-in-Err
 returns-in-Err c =

@@ -2,6 +2,7 @@
 #![tactic(auto)]
 
 mod addresses;
+mod ascii_writing;
 mod bytes;
 mod collected;
 mod counted;

@@ -163,8 +163,18 @@ fn push_items(text: &mut String, bytes: &[u8]) -> Result<(), NoMemory>
         (string_bytes text.new ≡ string_bytes text.old ++ items_of bytes.now) }
 {
     if are_plain(bytes) {
-        return push_ascii(bytes, text);
+        push_ascii(bytes, text)
+    } else {
+        push_each(text, bytes)
     }
+}
+
+/// Adds the items of the bytes, one by one.
+#[inline(never)]
+fn push_each(text: &mut String, bytes: &[u8]) -> Result<(), NoMemory>
+    ensures { OnOk result
+        (string_bytes text.new ≡ string_bytes text.old ++ items_of bytes.now) }
+{
     for byte in bytes {
         push_item(text, *byte)?;
     }

@@ -2,6 +2,7 @@
 #![tactic(auto)]
 
 mod addresses;
+mod ascii_writing;
 mod bytes;
 mod collected;
 mod counted;
@@ -24,6 +25,7 @@ pub mod lines;
 mod name;
 mod name_reader;
 pub mod numbers;
+mod numbers_writing;
 pub mod output;
 mod pointer_ends;
 mod pointers;
@@ -54,6 +56,7 @@ pub use label_fault::LabelFault;
 pub use lent_name::{LentName, push_lent_name, read_lent_name};
 pub use name::{Name, NotNetbios};
 pub use name_reader::NameReader;
+pub use numbers_writing::push_number;
 pub use pointers::Pointers;
 pub use reading::{read_domain, read_name};
 pub use scope::Scope;

@@ -12,12 +12,11 @@ pub labels-preserved : goal.labels-preserved
 labels-preserved c labels a e =
     let was = c.labels.invariant labels a e in
     let split = c.in-Some.ensures.split was.0 was.1 was.2 in
-    let dotted = c.in_ok-push.ensures.bytes ∙ ap (λ (dot : List ℕ). string_bytes c.labels.text ++ dot) (c.in_ok-push.ensures.ascii (lit< tt)) in
-    (
+    let dotted = c.in_ok-push.ensures.bytes ∙ ap (λ (dot : List ℕ). string_bytes c.labels.text ++ dot) (c.in_ok-push.ensures.ascii (lit< tt)) in (
       split.0,
       (subst (AllByRecursion IsLabel) split.1 was.1).1,
       split.2,
-      label_turn c.in-Some.label.now split.0 _ _ _ _ dotted c.in_ok-push_items.ensures.written (ap (λ ls. string_bytes c.labels.text ++ scope_text_of ls) (sym split.1) ∙ was.3),
+      label_turn c.in-Some.label.now split.0 _ _ _ _ dotted c.in_ok-push_items.ensures (ap (λ ls. string_bytes c.labels.text ++ scope_text_of ls) (sym split.1) ∙ was.3),
     )
 
 pub returns : goal.returns

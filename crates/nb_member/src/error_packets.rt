@@ -4,7 +4,7 @@ ghost use Rattle.nb_member.specs.Hearing.{error_about, unheard, bad_name, refusa
 
 use crate::settings::Settings;
 use nb_datagram::limits::HEADER_LENGTH;
-use nb_datagram::{Datagram, DatagramFault, ErrorPacket, Key, Kind, error_codes};
+use nb_datagram::{DatagramFault, ErrorPacket, KeptDatagram, Key, Kind, error_codes};
 
 impl Settings {
     /// The error packet of this code about a datagram of this kind and identifier, which is sent
@@ -30,7 +30,7 @@ impl Settings {
     }
 
     /// The error packet about a datagram that became whole and isn't heard.
-    pub(crate) fn unheard(&self, datagram: &Datagram) -> Option<ErrorPacket>
+    pub(crate) fn unheard(&self, datagram: &KeptDatagram) -> Option<ErrorPacket>
         ensures { result ≡ unheard self.now datagram.now }
     {
         self.error_about(

@@ -1,11 +1,12 @@
 //! The names of a station.
-ghost use Rattle.std.specs.Prelude.{◌≡◌, [], ◌≤◌, length, Contains, IsTrue, ◌↔◌};
+ghost use Rattle.std.specs.Prelude.{◌≡◌, [], ◌≤◌, ℕ, List, length, Contains, IsTrue, ◌↔◌};
+ghost use Rattle.nb_names.specs.DomainName.{spelling};
 ghost use Rattle.nb_member.specs.declared.limits.TheConstants.{MAX_NAMES};
 ghost use Rattle.nb_member.specs.Hearing.{Adds, holds, holds_scope, hears, HoldsScope, Hears};
 
 use crate::limits::MAX_NAMES;
-use nb_datagram::{Datagram, Kind};
-use nb_names::{Name, Scope};
+use nb_datagram::{Datagram, KeptDatagram, Kind};
+use nb_names::{LentName, Name, Scope};
 use std::alloc::Global;
 use std::error::Error;
 use std::fmt;
@@ -98,7 +99,7 @@ impl LocalNames {
         // What holds of each station's names.
         ensures within { length self.now ≤ MAX_NAMES }
     {
-        is_among(&self.names, name)
+        is_among(&self.names, &name.lent())
     }
 
     /// Whether a name of this scope is held. No memory is taken.
@@ -106,7 +107,7 @@ impl LocalNames {
         ensures value { result ≡ holds_scope self.now scope.now }
         ensures held { IsTrue result ↔ HoldsScope self.now scope.now }
     {
-        is_scope_among(&self.names, scope)
+        is_scope_among(&self.names, scope.as_domain().spelling())
     }
 
     /// Whether a station with these names hears the datagram. No memory is taken.
@@ -124,18 +125,32 @@ impl LocalNames {
             Kind::Broadcast => self.holds_scope(datagram.destination().scope()),
         }
     }
+
+    /// Whether a station with these names hears a datagram that keeps its names.
+    pub(crate) fn hears_kept(&self, datagram: &KeptDatagram) -> bool
+        ensures { result ≡ hears self.now datagram.now }
+    {
+        let destination = datagram.destination();
+        match datagram.kind() {
+            Kind::Unique | Kind::Group => is_among(&self.names, &destination),
+            Kind::Broadcast => is_scope_among(&self.names, destination.scope_spelling()),
+        }
+    }
 }
 
 /// Whether the name is among these.
-fn is_among(names: &[Name], name: &Name) -> bool
+fn is_among(names: &[Name], name: &LentName<'_>) -> bool
     ensures { result ≡ holds names.now name.now }
 {
-    names.iter().any(|held| held == name)
+    names.iter().any(|held| held.lent().is(name))
 }
 
-/// Whether one of these names has the scope.
-fn is_scope_among(names: &[Name], scope: &Scope) -> bool
-    ensures { result ≡ holds_scope names.now scope.now }
+/// Whether one of these names has the scope that is spelled so.
+fn is_scope_among(names: &[Name], spelled: &[u8]) -> bool
+    ensures { (scope : List (List ℕ)) → spelled.now ≡ spelling scope →
+        result ≡ holds_scope names.now scope }
 {
-    names.iter().any(|held| held.scope() == scope)
+    names
+        .iter()
+        .any(|held| held.scope().as_domain().spelling() == spelled)
 }

@@ -1,6 +1,7 @@
 //! Members.
 ghost use Rattle.std.specs.Prelude.{◌≡◌, ◌+◌, MatchOption};
 ghost use Rattle.std.specs.FinMap as maps;
+ghost use Rattle.nb_table.specs.Code.Change.{change_of};
 ghost use Rattle.nb_member.specs.Events.{limits_of};
 ghost use Rattle.nb_member.specs.Member.{contents, new_member, with_timed, after_clock};
 ghost use Rattle.nb_member.specs.Taking.{Takes, TakesFragment, handed, outcome_of};
@@ -15,8 +16,8 @@ use crate::outcome::{Dropped, Outcome};
 use crate::run_report::RunStop;
 use crate::settings::Settings;
 use crate::timed_table::TimedTable;
-use nb_datagram::{Datagram, Key, LentFragment, LentPacket, decode_lent};
-use nb_table::{Change, Table, TableFault};
+use nb_datagram::{KeptDatagram, Key, LentFragment, LentPacket, decode_lent};
+use nb_table::{KeptChange, Table, TableFault};
 use std::alloc::Global;
 use std::marker::Model;
 
@@ -31,7 +32,8 @@ pub struct Member {
 
 impl Model for Member {
     ghost use Rattle.std.specs.Prelude.{◌≡◌};
-    ghost use Rattle.nb_member.specs.Events.{limits_of};
+    ghost use Rattle.nb_table.specs.Code.Change.{change_of};
+ghost use Rattle.nb_member.specs.Events.{limits_of};
     ghost use Rattle.nb_member.specs.Member.{MemberValue};
     ghost use Rattle.nb_member.specs.Code.Members.{member_code};
 
@@ -158,23 +160,23 @@ fn limit_of(refusal: Option<TableFault>) -> Option<RunStop>
 }
 
 /// What is answered where this changed at the key.
-fn outcome_of(settings: &Settings, names: &LocalNames, key: Key, change: Change) -> Outcome
-    ensures { result ≡ outcome_of settings.now names.now key change }
+fn outcome_of(settings: &Settings, names: &LocalNames, key: Key, change: KeptChange) -> Outcome
+    ensures { result ≡ outcome_of settings.now names.now key (change_of change) }
 {
     match change {
-        Change::Spoilt => Outcome::Spoilt(key),
-        Change::Whole(datagram) => handed(settings, names, key, datagram),
-        Change::Same => Outcome::Kept(key),
-        Change::Grown => Outcome::Kept(key),
+        KeptChange::Spoilt => Outcome::Spoilt(key),
+        KeptChange::Whole(datagram) => handed(settings, names, key, datagram),
+        KeptChange::Same => Outcome::Kept(key),
+        KeptChange::Grown => Outcome::Kept(key),
     }
 }
 
 /// What is answered of a datagram that became whole.
-fn handed(settings: &Settings, names: &LocalNames, key: Key, datagram: Datagram) -> Outcome
+fn handed(settings: &Settings, names: &LocalNames, key: Key, datagram: KeptDatagram) -> Outcome
     ensures { result ≡ handed settings.now names.now key datagram }
 {
-    if names.hears(&datagram) {
-        return Outcome::Delivered(datagram);
+    if names.hears_kept(&datagram) {
+        return Outcome::Delivered(datagram.into_datagram());
     }
     Outcome::Unheard(key, settings.unheard(&datagram))
 }

@@ -2,6 +2,7 @@
 ghost use Rattle.std.specs.Prelude.{◌≡◌, false, IfOk, IfErr, OnOk, OnErr};
 ghost use Rattle.std.specs.FinMap as maps;
 ghost use Rattle.nb_table.specs.Change.{IsChange};
+ghost use Rattle.nb_table.specs.Code.Change.{change_of};
 ghost use Rattle.nb_table.specs.Insert.{Takes as TableTakes, Refuses};
 ghost use Rattle.nb_member.specs.Member.{begun, after_fragment, after_clock};
 
@@ -10,7 +11,7 @@ mod merging;
 use crate::starts::Starts;
 use nb_datagram::{Key, LentFragment};
 use nb_names::NoMemory;
-use nb_table::{Change, Table, TableFault};
+use nb_table::{KeptChange, Table, TableFault};
 use std::alloc::Global;
 use std::marker::Model;
 
@@ -63,11 +64,15 @@ impl TimedTable {
     /// # Errors
     ///
     /// Those of the table, which is then as it was, and so are the moments.
-    pub fn insert(&mut self, moment: u64, fragment: &LentFragment<'_>) -> Result<Change, TableFault>
+    pub fn insert(
+        &mut self,
+        moment: u64,
+        fragment: &LentFragment<'_>,
+    ) -> Result<KeptChange, TableFault>
         ensures taken { OnOk result (TableTakes self.old.table fragment.now) }
         ensures joined { OnOk result (self.new ≡ after_fragment self.old moment fragment.now) }
-        ensures change { IfOk result
-            (IsChange self.old.table.contents self.new.table.contents fragment.now.key) }
+        ensures change { IfOk result (λ change. IsChange self.old.table.contents
+            self.new.table.contents fragment.now.key (change_of change)) }
         ensures refused { IfErr result (Refuses self.old.table fragment.now) }
         ensures kept { OnErr result (self.new ≡ self.old) }
     {

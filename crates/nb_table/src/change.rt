@@ -2,7 +2,7 @@
 ghost use Rattle.std.specs.Prelude.{◌≡◌};
 ghost use Rattle.nb_table.specs.Code.Change.{change_of};
 
-use nb_datagram::Datagram;
+use nb_datagram::{Datagram, KeptDatagram};
 
 /// What a fragment changed at its key.
 #[derive(Drop)]
@@ -17,29 +17,30 @@ pub enum Change {
     Grown,
 }
 
-/// A change whose datagram lies in memory of its own, so that handing it on moves a few bytes.
+/// A change, as [`Change`] has it, whose datagram keeps its names, so that handing it on moves a few
+/// words.
 #[derive(Drop)]
-pub(crate) enum BoxedChange {
-    /// The key became spoilt.
+pub enum KeptChange {
+    /// The key became spoilt: the fragment contradicts what was known.
     Spoilt,
-    /// The key became whole.
-    Whole(Box<Datagram>),
-    /// Nothing changed.
+    /// The key became whole; this is its datagram.
+    Whole(KeptDatagram),
+    /// Nothing: all that the fragment says was known, or the key was spoilt before.
     Same,
-    /// More is known.
+    /// More is known; the key may have been whole before, and a promise is new.
     Grown,
 }
 
-impl BoxedChange {
-    /// The change.
-    pub(crate) fn into_change(self) -> Change
+impl KeptChange {
+    /// The change, with the datagram's names in place. No memory is taken.
+    pub fn into_change(self) -> Change
         ensures { result ≡ change_of self }
     {
         match self {
-            BoxedChange::Spoilt => Change::Spoilt,
-            BoxedChange::Whole(datagram) => Change::Whole(Box::into_inner(datagram)),
-            BoxedChange::Same => Change::Same,
-            BoxedChange::Grown => Change::Grown,
+            KeptChange::Spoilt => Change::Spoilt,
+            KeptChange::Whole(datagram) => Change::Whole(datagram.into_datagram()),
+            KeptChange::Same => Change::Same,
+            KeptChange::Grown => Change::Grown,
         }
     }
 }

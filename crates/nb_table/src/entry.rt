@@ -17,12 +17,12 @@ mod taking_in;
 mod uniting;
 mod whole;
 
-use crate::change::BoxedChange;
+use crate::change::KeptChange;
 use crate::cover::CoverFacts;
 use crate::parties::Parties;
 use crate::slot::Slot;
 use crate::state::State;
-use nb_datagram::{Datagram, Fragment, Key, Kind, LentFragment};
+use nb_datagram::{Fragment, KeptDatagram, Key, Kind, LentFragment};
 use nb_names::{Bytes, LentName, NoMemory};
 use std::alloc::Global;
 use std::marker::Model;
@@ -104,19 +104,24 @@ impl EntryFacts {
     }
 
     /// The datagram of the key with this kind, these names and these bytes.
-    fn datagram_from(&self, key: Key, bytes: Bytes) -> Datagram
+    fn datagram_from(
+        &self,
+        alloc: Global,
+        key: Key,
+        bytes: Bytes,
+    ) -> Result<KeptDatagram, NoMemory>
         requires { length bytes ≤ MAX_LENGTH }
-        ensures { result ≡ record {
+        ensures { IfOk result (λ datagram. datagram ≡ record {
           key = key;
           kind = self.now.kind;
           source = self.now.source;
           destination = self.now.destination;
           bytes = bytes;
-        } }
+        }) }
     {
-        let source = self.parties.source().to_name();
-        let destination = self.parties.destination().to_name();
-        Datagram::new(key, self.kind, source, destination, bytes).unwrap()
+        let source = self.parties.source();
+        let destination = self.parties.destination();
+        KeptDatagram::new(alloc, key, self.kind, &source, &destination, bytes)
     }
 
     /// The datagram of the key with this kind and these names, and with these places, if they are
@@ -126,7 +131,7 @@ impl EntryFacts {
         alloc: Global,
         key: Key,
         cover: &CoverFacts,
-    ) -> Result<Option<Datagram>, NoMemory>
+    ) -> Result<Option<KeptDatagram>, NoMemory>
         requires { (n : ℕ) → cover.now.end ≡ Some n → n ≤ MAX_LENGTH }
         ensures value { IfOk result (λ datagram.
             datagram ≡ datagram_with key self.now (bytes_to cover.now.bytes cover.now.end)) }
@@ -134,7 +139,7 @@ impl EntryFacts {
             → result ≡ Ok None }
     {
         match cover.whole(alloc)? {
-            Some(bytes) => Ok(Some(self.datagram_from(key, bytes))),
+            Some(bytes) => Ok(Some(self.datagram_from(alloc, key, bytes)?)),
             None => Ok(None),
         }
     }
@@ -197,7 +202,7 @@ impl Slot<EntryFacts> {
     pub(crate) fn first(
         alloc: Global,
         fragment: &LentFragment<'_>,
-    ) -> Result<(Entry, BoxedChange), NoMemory>
+    ) -> Result<(Entry, KeptChange), NoMemory>
         requires { reach (core_of fragment.now) ≤ MAX_LENGTH }
         ensures entry { IfOk result (λ made. made.0 ≡ Held (facts_of (core_of fragment.now))) }
         ensures change { IfOk result (λ made.
@@ -213,7 +218,7 @@ impl Slot<EntryFacts> {
         &mut self,
         alloc: Global,
         fragment: &LentFragment<'_>,
-    ) -> Result<BoxedChange, NoMemory>
+    ) -> Result<KeptChange, NoMemory>
         requires entry { IsShort MAX_LENGTH self.old }
         requires fragment { reach (core_of fragment.now) ≤ MAX_LENGTH }
         ensures joined { OnOk result
@@ -227,11 +232,11 @@ impl Slot<EntryFacts> {
             (join_entry self.old (Held (facts_of (core_of fragment.now))) ≢ self.old) }
     {
         let Slot::Held(facts) = self else {
-            return Ok(BoxedChange::Same);
+            return Ok(KeptChange::Same);
         };
         if !facts.agrees_with(fragment) {
             *self = Slot::Spoilt;
-            return Ok(BoxedChange::Spoilt);
+            return Ok(KeptChange::Spoilt);
         }
         facts.grow(alloc, fragment)
     }

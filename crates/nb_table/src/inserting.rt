@@ -13,7 +13,7 @@ ghost use Rattle.nb_table.specs.Code.Change.{KeyChange, change_of};
 ghost use Rattle.nb_table.specs.Code.SourceCounts.{AreCounted, CountsKeys};
 ghost use Rattle.nb_table.specs.Insert.{NeedsNoMemory};
 
-use crate::change::BoxedChange;
+use crate::change::KeptChange;
 use crate::entry::Entry;
 use crate::sources::SourceCounts;
 use nb_datagram::{Key, LentFragment};
@@ -27,7 +27,7 @@ fn join_fragment(
     entries: &mut BTreeMap<Key, Entry>,
     alloc: Global,
     fragment: &LentFragment<'_>,
-) -> Result<BoxedChange, NoMemory>
+) -> Result<KeptChange, NoMemory>
     requires fragment { reach (core_of fragment.now) ≤ MAX_LENGTH }
     requires entry { (e : EntryValue)
         → maps.get (maps.from_entries {R = key_cmp} entries.old.entries) fragment.now.key ≡ Some e
@@ -66,7 +66,7 @@ fn join_and_count(
     counts: &mut SourceCounts,
     alloc: Global,
     fragment: &LentFragment<'_>,
-) -> Result<BoxedChange, NoMemory>
+) -> Result<KeptChange, NoMemory>
     requires fragment { reach (core_of fragment.now) ≤ MAX_LENGTH }
     requires entry { (e : EntryValue)
         → maps.get (maps.from_entries {R = key_cmp} entries.old.entries) fragment.now.key ≡ Some e
@@ -112,7 +112,7 @@ pub(crate) fn join_counted(
     counts: &mut Option<SourceCounts>,
     alloc: Global,
     fragment: &LentFragment<'_>,
-) -> Result<BoxedChange, NoMemory>
+) -> Result<KeptChange, NoMemory>
     requires fragment { reach (core_of fragment.now) ≤ MAX_LENGTH }
     requires entry { (e : EntryValue)
         → maps.get (maps.from_entries {R = key_cmp} entries.old.entries) fragment.now.key ≡ Some e

@@ -3,6 +3,7 @@ ghost use Rattle.std.specs.Prelude.{◌≡◌, ◌↔◌, IsTrue, IsOk, IfOk, If
 ghost use Rattle.std.specs.FinMap as maps;
 ghost use Rattle.nb_table.specs.Limits.{KeepsLimits};
 ghost use Rattle.nb_table.specs.Change.{IsChange};
+ghost use Rattle.nb_table.specs.Code.Change.{change_of};
 ghost use Rattle.nb_table.specs.State.{IsState};
 ghost use Rattle.nb_table.specs.RunCount.{run_count_at};
 ghost use Rattle.nb_datagram.specs.Fragment.{core_of};
@@ -15,7 +16,7 @@ mod reading;
 mod refusing;
 mod saving;
 
-use crate::change::Change;
+use crate::change::{Change, KeptChange};
 use crate::entry::Entry;
 use crate::fault::TableFault;
 use crate::inserting::{are_equal, join_counted};
@@ -122,19 +123,23 @@ impl Table {
         ensures without_memory { Passes self.old.limits fragment.now
             → NeedsNoMemory self.old.contents (core_of fragment.now) → IsOk result }
     {
-        self.insert_lent(&fragment.lent())
+        match self.insert_lent(&fragment.lent()) {
+            Ok(change) => Ok(change.into_change()),
+            Err(fault) => Err(fault),
+        }
     }
 
-    /// Joins a fragment whose names are lent, as [`Table::insert`] does.
+    /// Joins a fragment whose names are lent, as [`Table::insert`] does. A datagram that is handed
+    /// over keeps its names.
     ///
     /// # Errors
     ///
     /// Those of [`Table::insert`].
-    pub fn insert_lent(&mut self, fragment: &LentFragment<'_>) -> Result<Change, TableFault>
+    pub fn insert_lent(&mut self, fragment: &LentFragment<'_>) -> Result<KeptChange, TableFault>
         ensures taken { OnOk result (Takes self.old fragment.now) }
         ensures joined { OnOk result (self.new ≡ with_fragment self.old fragment.now) }
-        ensures change { IfOk result
-            (IsChange self.old.contents self.new.contents fragment.now.key) }
+        ensures change { IfOk result (λ change.
+            IsChange self.old.contents self.new.contents fragment.now.key (change_of change)) }
         ensures refused { IfErr result (Refuses self.old fragment.now) }
         ensures kept { OnErr result (self.new ≡ self.old) }
         ensures without_memory { Passes self.old.limits fragment.now
@@ -144,7 +149,7 @@ impl Table {
             return Err(fault);
         }
         let change = join_counted(&mut self.entries, &mut self.counts, self.alloc, fragment)?;
-        Ok(change.into_change())
+        Ok(change)
     }
 
     /// Takes a key out, and says whether it was held. No memory is taken.

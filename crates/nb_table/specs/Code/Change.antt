@@ -1,11 +1,11 @@
 -- What a fragment changes at its key, of the entries alone.
-use Rattle.std.specs.Prelude.{◌≡◌, ◌≢◌, Option, Some, None, option_and_then, box_value}
+use Rattle.std.specs.Prelude.{◌≡◌, ◌≢◌, Option, Some, None, option_and_then}
 use Rattle.nb_datagram.specs.declared.key.Key.{Key}
 use Rattle.nb_datagram.specs.Datagram.{DatagramParts}
 use Rattle.nb_table.specs.declared.change.Change.{Change}
 use Rattle.nb_table.specs.declared.change.Change.TheVariants.{Spoilt, Whole, Same, Grown}
-use Rattle.nb_table.specs.declared.change.BoxedChange.{BoxedChange}
-use Rattle.nb_table.specs.declared.change.BoxedChange.TheVariants.{Spoilt as BoxedSpoilt, Whole as BoxedWhole, Same as BoxedSame, Grown as BoxedGrown}
+use Rattle.nb_table.specs.declared.change.KeptChange.{KeptChange}
+use Rattle.nb_table.specs.declared.change.KeptChange.TheVariants.{Spoilt as KeptSpoilt, Whole as KeptWhole, Same as KeptSame, Grown as KeptGrown}
 use Rattle.nb_table.specs.Slot.{Spoilt as Clashed}
 use Rattle.nb_table.specs.Entry.{EntryValue}
 use Rattle.nb_table.specs.Whole.{datagram_of, newly}
@@ -24,12 +24,12 @@ abbrev pub grown_to : Option DatagramParts → Change
 grown_to None = Grown
 grown_to (Some d) = Whole d
 
--- the change that is handed on with its datagram in a box
-abbrev pub change_of : BoxedChange → Change
-change_of BoxedSpoilt = Spoilt
-change_of (BoxedWhole d) = Whole (box_value d)
-change_of BoxedSame = Same
-change_of BoxedGrown = Grown
+-- the change, however its datagram keeps its names
+abbrev pub change_of : KeptChange → Change
+change_of KeptSpoilt = Spoilt
+change_of (KeptWhole d) = Whole d
+change_of KeptSame = Same
+change_of KeptGrown = Grown
 
 -- the datagram of a key that became whole
 abbrev pub whole_by : Change → Option DatagramParts

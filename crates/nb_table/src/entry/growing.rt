@@ -12,18 +12,18 @@ ghost use Rattle.nb_table.specs.Code.Change.{KeyChange, change_of};
 ghost use Rattle.nb_table.specs.Code.Change.{grown_to as grown};
 
 use super::EntryFacts;
-use crate::change::BoxedChange;
-use nb_datagram::{Datagram, LentFragment};
+use crate::change::KeptChange;
+use nb_datagram::{KeptDatagram, LentFragment};
 use nb_names::NoMemory;
 use std::alloc::Global;
 
 /// What facts that grow come to: the datagram, if they are whole.
-fn grown_to(alloc: Global, datagram: Option<Datagram>) -> Result<BoxedChange, NoMemory>
-    ensures { IfOk result (λ change. change_of change ≡ grown datagram) }
+fn grown_to(datagram: Option<KeptDatagram>) -> KeptChange
+    ensures { change_of result ≡ grown datagram }
 {
     match datagram {
-        Some(datagram) => Ok(BoxedChange::Whole(Box::new(alloc, datagram)?)),
-        None => Ok(BoxedChange::Grown),
+        Some(datagram) => KeptChange::Whole(datagram),
+        None => KeptChange::Grown,
     }
 }
 
@@ -34,7 +34,7 @@ impl EntryFacts {
         &self,
         alloc: Global,
         fragment: &LentFragment<'_>,
-    ) -> Result<Option<Datagram>, NoMemory>
+    ) -> Result<Option<KeptDatagram>, NoMemory>
         requires fits { CoversFit self.now.cover (cover_of (core_of fragment.now)) }
         requires short { (n : ℕ)
             → (covers_together self.now.cover (cover_of (core_of fragment.now))).end ≡ Some n
@@ -44,7 +44,7 @@ impl EntryFacts {
             (covers_together self.now.cover (cover_of (core_of fragment.now))).end)) }
     {
         match self.cover.whole_with(alloc, fragment)? {
-            Some(bytes) => Ok(Some(self.datagram_from(fragment.key(), bytes))),
+            Some(bytes) => Ok(Some(self.datagram_from(alloc, fragment.key(), bytes)?)),
             None => Ok(None),
         }
     }
@@ -55,7 +55,7 @@ impl EntryFacts {
         &self,
         alloc: Global,
         fragment: &LentFragment<'_>,
-    ) -> Result<Option<Datagram>, NoMemory>
+    ) -> Result<Option<KeptDatagram>, NoMemory>
         requires fits { CoversFit self.now.cover (cover_of (core_of fragment.now)) }
         requires short { (n : ℕ)
             → (covers_together self.now.cover (cover_of (core_of fragment.now))).end ≡ Some n
@@ -78,7 +78,7 @@ impl EntryFacts {
         &mut self,
         alloc: Global,
         fragment: &LentFragment<'_>,
-    ) -> Result<BoxedChange, NoMemory>
+    ) -> Result<KeptChange, NoMemory>
         requires fits { FactsFit self.old (facts_of (core_of fragment.now)) }
         requires short { (n : ℕ)
             → (facts_together self.old (facts_of (core_of fragment.now))).cover.end ≡ Some n
@@ -94,19 +94,18 @@ impl EntryFacts {
             (Holds self.old.cover (facts_of (core_of fragment.now)).cover → ⊥) }
     {
         if self.cover.holds(fragment) {
-            return Ok(BoxedChange::Same);
+            return Ok(KeptChange::Same);
         }
         let datagram = self.newly_whole_with(alloc, fragment)?;
-        let change = grown_to(alloc, datagram)?;
         self.cover.add(alloc, fragment)?;
-        Ok(change)
+        Ok(grown_to(datagram))
     }
 
     /// What one fragment says, and what that changes at its key, which was new.
     pub(crate) fn first(
         alloc: Global,
         fragment: &LentFragment<'_>,
-    ) -> Result<(EntryFacts, BoxedChange), NoMemory>
+    ) -> Result<(EntryFacts, KeptChange), NoMemory>
         requires { (n : ℕ) → (facts_of (core_of fragment.now)).cover.end ≡ Some n → n ≤ MAX_LENGTH }
         ensures facts { IfOk result (λ made. made.0 ≡ facts_of (core_of fragment.now)) }
         ensures change { IfOk result (λ made.
@@ -114,7 +113,6 @@ impl EntryFacts {
     {
         let facts = EntryFacts::of(alloc, fragment)?;
         let datagram = facts.datagram(alloc, fragment.key(), &facts.cover)?;
-        let change = grown_to(alloc, datagram)?;
-        Ok((facts, change))
+        Ok((facts, grown_to(datagram)))
     }
 }

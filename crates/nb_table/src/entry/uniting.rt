@@ -139,6 +139,9 @@ impl EntryFacts {
         ensures no_memory_needed { datagram_with key self.now
             (bytes_to self.now.cover.bytes self.now.cover.end) ≡ None → result ≡ Ok None }
     {
-        self.datagram(alloc, key, &self.cover)
+        match self.datagram(alloc, key, &self.cover)? {
+            Some(datagram) => Ok(Some(datagram.into_datagram())),
+            None => Ok(None),
+        }
     }
 }

@@ -8,7 +8,7 @@ use Rattle.nb_datagram.specs.Fragment.{core_of}
 use Rattle.nb_table.specs.Maps.{joined_onto}
 use Rattle.nb_table.specs.Slot.{Held}
 use Rattle.nb_table.specs.Entry.{EntryValue, facts_of, join_entry}
-use Rattle.nb_table.specs.declared.change.BoxedChange.{BoxedChange}
+use Rattle.nb_table.specs.declared.change.KeptChange.{KeptChange}
 use Rattle.nb_table.specs.Code.Change.{KeyChange, change_of}
 use Rattle.nb_datagram.specs.KeyOrder.{key_cmp_total, key_cmp_exact}
 use Rattle.nb_table.specs.Shared.TreeLemmas.{get_is, changed_is, kept_is, insert_is}
@@ -19,7 +19,7 @@ use Rattle.nb_table.proofs.inserting.join_fragment.Goals as goal
 -- ---- a held key
 
 -- what changed at an entry is what changed at its key
-change_joined : (r : Result BoxedChange NoMemory) (k : Key) (e new b : EntryValue) (o : Option EntryValue) → o ≡ Some e → OnOk r (new ≡ join_entry e b)
+change_joined : (r : Result KeptChange NoMemory) (k : Key) (e new b : EntryValue) (o : Option EntryValue) → o ≡ Some e → OnOk r (new ≡ join_entry e b)
     → IfOk r (λ change. KeyChange k (Some e) (Some new) (change_of change)) → IfOk r (λ change. KeyChange k o (Some (joined_onto join_entry o b)) (change_of change))
 change_joined (Err x) k e new b o at joined change = tt
 change_joined (Ok c) k e new b o at joined change =

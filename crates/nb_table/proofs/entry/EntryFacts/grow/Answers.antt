@@ -44,7 +44,7 @@ returns-clause-change c =
     ∙ ap (λ (x : EntryFacts). newly (datagram_of k (Held x)) (datagram_with k x (bytes_to (covers_together x.cover b.cover).bytes (covers_together x.cover b.cover).end))) (sym c.self.view_is)
     ∙ ap (newly (datagram_of k (Held old))) (with_together k old b (bytes_to (facts_together old b).cover.bytes (facts_together old b).cover.end)) in
     let grown = key_grown k old b fit (not_from_Decides c.holds.result c.holds.ensures c.if-holds.false) in
-    let told = c.in_ok-change.ensures ∙ ap grown_to datagram in
-    subst (λ (x : EntryFacts). KeyChange k (Some (Held x)) (Some (Held (record { kind = c.self.inside.kind; source = c.self.inside.parties.source; destination = c.self.inside.parties.destination; cover = c.add.new.self }))) (change_of c.in_ok-change.change)) c.self.view_is
-    (subst (λ (x : EntryFacts). KeyChange k (Some (Held old)) (Some (Held x)) (change_of c.in_ok-change.change)) (sym new)
+    let told = c.grown_to.ensures ∙ ap grown_to datagram in
+    subst (λ (x : EntryFacts). KeyChange k (Some (Held x)) (Some (Held (record { kind = c.self.inside.kind; source = c.self.inside.parties.source; destination = c.self.inside.parties.destination; cover = c.add.new.self }))) (change_of c.grown_to.result)) c.self.view_is
+    (subst (λ (x : EntryFacts). KeyChange k (Some (Held old)) (Some (Held x)) (change_of c.grown_to.result)) (sym new)
     (subst (λ (x : Change). KeyChange k (Some (Held old)) (Some (Held (facts_together old b))) x) (sym told) grown))

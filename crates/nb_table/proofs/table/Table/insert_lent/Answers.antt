@@ -84,4 +84,4 @@ returns-clause-change c =
     let t : Contents = maps.from_entries {R = key_cmp} c.self.inside.entries.entries in
     let k = c.args.fragment.now.key in
     let at = change_at t k _ (change_of c.in_ok-change.change) c.in_ok-change.ensures.change in
-    rw (← c.self.view_is, c.into_change.ensures) (subst (λ v. IsChange t v k (change_of c.in_ok-change.change)) (sym c.in_ok-change.ensures.joined) at)
+    rw (← c.self.view_is) (subst (λ v. IsChange t v k (change_of c.in_ok-change.change)) (sym c.in_ok-change.ensures.joined) at)

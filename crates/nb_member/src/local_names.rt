@@ -1,6 +1,5 @@
 //! The names of a station.
-ghost use Rattle.std.specs.Prelude.{◌≡◌, [], ◌≤◌, ℕ, List, length, Contains, IsTrue, ◌↔◌};
-ghost use Rattle.nb_names.specs.DomainName.{spelling};
+ghost use Rattle.std.specs.Prelude.{◌≡◌, [], ◌≤◌, length, Contains, IsTrue, ◌↔◌};
 ghost use Rattle.nb_member.specs.declared.limits.TheConstants.{MAX_NAMES};
 ghost use Rattle.nb_member.specs.Hearing.{Adds, holds, holds_scope, hears, HoldsScope, Hears};
 
@@ -107,7 +106,7 @@ impl LocalNames {
         ensures value { result ≡ holds_scope self.now scope.now }
         ensures held { IsTrue result ↔ HoldsScope self.now scope.now }
     {
-        is_scope_among(&self.names, scope.as_domain().spelling())
+        is_scope_among(&self.names, scope)
     }
 
     /// Whether a station with these names hears the datagram. No memory is taken.
@@ -133,7 +132,7 @@ impl LocalNames {
         let destination = datagram.destination();
         match datagram.kind() {
             Kind::Unique | Kind::Group => is_among(&self.names, &destination),
-            Kind::Broadcast => is_scope_among(&self.names, destination.scope_spelling()),
+            Kind::Broadcast => self.holds_scope(destination.to_name().scope()),
         }
     }
 }
@@ -145,12 +144,9 @@ fn is_among(names: &[Name], name: &LentName<'_>) -> bool
     names.iter().any(|held| held.lent().is(name))
 }
 
-/// Whether one of these names has the scope that is spelled so.
-fn is_scope_among(names: &[Name], spelled: &[u8]) -> bool
-    ensures { (scope : List (List ℕ)) → spelled.now ≡ spelling scope →
-        result ≡ holds_scope names.now scope }
+/// Whether one of these names has the scope.
+fn is_scope_among(names: &[Name], scope: &Scope) -> bool
+    ensures { result ≡ holds_scope names.now scope.now }
 {
-    names
-        .iter()
-        .any(|held| held.scope().as_domain().spelling() == spelled)
+    names.iter().any(|held| held.scope() == scope)
 }

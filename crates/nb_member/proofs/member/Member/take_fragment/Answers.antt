@@ -1,5 +1,6 @@
 use Rattle.std.proofs.Common.{ap, ◌∙◌}
 use Rattle.nb_datagram.specs.declared.key.Key.{Key}
+use Rattle.nb_table.specs.Code.Change.{change_of}
 use Rattle.nb_member.proofs.member.Member.take_fragment.Goals as goal
 use Rattle.nb_member.proofs.member.Member.take_fragment.Goals.{in-Ok, in-Err}
 use Rattle.nb_member.specs.Member.{MemberValue, with_timed}
@@ -13,10 +14,10 @@ returns c =
           rw w.result-is (rw (← c.self.view_is) (record {
             takes = w.in-Ok.ensures.taken;
             joined = ap (with_timed m) w.in-Ok.ensures.joined;
-            change = w.in-Ok.change;
+            change = change_of w.in-Ok.change;
             changed = w.in-Ok.ensures.change;
             answered = w.outcome_of.ensures
-                ∙ ap (λ (k : Key). outcome_of m.settings m.names k w.in-Ok.change) c.key-key.ensures;
+                ∙ ap (λ (k : Key). outcome_of m.settings m.names k (change_of w.in-Ok.change)) c.key-key.ensures;
           }))
       | in-Err w ↦
           rw w.result-is (rw (← c.self.view_is) (w.in-Err.ensures.refused, ap (with_timed m) w.in-Err.ensures.kept))

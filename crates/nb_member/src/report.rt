@@ -11,7 +11,7 @@ use crate::comments::Comments;
 use crate::member_fault::MemberFault;
 use crate::outcome::{Dropped, Outcome};
 use crate::report::texts::push_result;
-use nb_names::NoMemory;
+use nb_names::{NoMemory, push_number};
 use std::alloc::Global;
 
 /// The room that a line takes, in bytes, its data and long scopes aside.
@@ -31,7 +31,8 @@ pub fn passed_line(alloc: Global, number: u64) -> Result<String, NoMemory>
     ensures { IfOk result (λ text. string_bytes text ≡ numbered number (codes "passed")) }
 {
     let mut text = String::with_capacity(alloc, USUAL_ROOM)?;
-    write!(text, "{number} passed\n")?;
+    push_number(number, &mut text)?;
+    text.push_str(" passed\n")?;
     Ok(text)
 }
 
@@ -41,8 +42,10 @@ pub fn dropped_line(alloc: Global, number: u64, dropped: Dropped) -> Result<Stri
         numbered number (codes "dropped " ++ decimal dropped.keys)) }
 {
     let mut text = String::with_capacity(alloc, USUAL_ROOM)?;
-    let keys = dropped.keys;
-    write!(text, "{number} dropped {keys}\n")?;
+    push_number(number, &mut text)?;
+    text.push_str(" dropped ")?;
+    push_number(u64::from(dropped.keys), &mut text)?;
+    text.push_str("\n")?;
     Ok(text)
 }
 
@@ -55,9 +58,10 @@ pub fn taken_line(
     ensures { IfOk result (λ text. string_bytes text ≡ numbered number (result_text taken.now)) }
 {
     let mut text = String::with_capacity(alloc, room_for(taken))?;
-    write!(text, "{number} ")?;
+    push_number(number, &mut text)?;
+    text.push_str(" ")?;
     push_result(alloc, taken, &mut text)?;
-    text.push('\n')?;
+    text.push_str("\n")?;
     Ok(text)
 }
 

@@ -23,3 +23,4 @@ pub mod DigitLemmas
 pub mod LetterLemmas
 pub mod DataLemmas
 pub mod PlainLemmas
+pub mod AddressLemmas

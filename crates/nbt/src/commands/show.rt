@@ -1,5 +1,6 @@
 //! `nbt show`: the packets of a capture as text.
-ghost use Rattle.std.specs.Prelude.{◌≡◌, ◌++◌, ℕ, List, OnOk, IfErr, string_bytes};
+ghost use Rattle.std.specs.Prelude.{◌≡◌, ◌++◌, ℕ, List, codes, OnOk, IfErr, string_bytes};
+ghost use Rattle.std.specs.Fmt.{decimal};
 ghost use Rattle.std.specs.Io.KnownBytes.{Appends, Consumes};
 ghost use Rattle.nb_names.specs.Devices.{GrowTo, ShowsUnread, ShowsWriteFault};
 ghost use Rattle.nb_member.specs.Capture.{Reads};
@@ -13,7 +14,7 @@ use crate::settings::options_of;
 use crate::telling::{Teller, print_capture};
 use clap::ArgMatches;
 use nb_member::{Comments, Line, push_comment};
-use nb_names::{Counted, NoMemory};
+use nb_names::{Counted, NoMemory, push_number};
 use nb_text::push_packet;
 use std::alloc::Global;
 use std::io::{Read, Write};
@@ -103,17 +104,38 @@ fn push_line(alloc: Global, number: usize, said: &Line, text: &mut String) -> Re
         (string_bytes text.new ≡ string_bytes text.old ++ shown)) }
 {
     match said {
-        Line::Tick { now } => {
-            writeln!(text, "{number} tick {now}")?;
-            Ok(())
-        }
+        Line::Tick { now } => push_tick(number, *now, text),
         Line::Packet {
             port,
             moment: _,
             payload,
         } => {
-            write!(text, "{number} {port} ")?;
+            push_front(number, *port, text)?;
             push_packet(alloc, *port, payload.as_slice(), text)
         }
     }
+}
+
+/// Adds the line of a look at the clock.
+fn push_tick(number: usize, now: u64, text: &mut String) -> Result<(), NoMemory>
+    ensures { OnOk result (string_bytes text.new ≡ string_bytes text.old
+        ++ (decimal number ++ (codes " tick " ++ (decimal now ++ codes "\n")))) }
+{
+    push_number(number as u64, text)?;
+    text.push_str(" tick ")?;
+    push_number(now, text)?;
+    text.push_str("\n")?;
+    Ok(())
+}
+
+/// Adds what stands before the text of a payload: the line's number and its port.
+fn push_front(number: usize, port: u16, text: &mut String) -> Result<(), NoMemory>
+    ensures { OnOk result (string_bytes text.new ≡ string_bytes text.old
+        ++ (decimal number ++ (codes " " ++ (decimal port ++ codes " ")))) }
+{
+    push_number(number as u64, text)?;
+    text.push_str(" ")?;
+    push_number(u64::from(port), text)?;
+    text.push_str(" ")?;
+    Ok(())
 }

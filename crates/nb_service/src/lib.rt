@@ -26,6 +26,7 @@ mod record;
 mod requests;
 mod responses;
 mod section;
+mod skipping;
 mod writing;
 
 pub use address_entries::AddressEntries;

@@ -15,10 +15,10 @@ use nb_names::numbers::{number_16, number_32};
 use nb_names::{NameReader, Pointers};
 
 /// The bytes of a question after its name: QUESTION_TYPE, QUESTION_CLASS.
-const QUESTION_FIELDS: usize = 4;
+pub(crate) const QUESTION_FIELDS: usize = 4;
 
 /// The bytes of a record between its name and its RDATA: RR_TYPE, RR_CLASS, TTL, RDLENGTH.
-const RECORD_FIELDS: usize = 10;
+pub(crate) const RECORD_FIELDS: usize = 10;
 
 /// The question that stands at an offset, and the offset after it. No memory is taken.
 #[inline(always)]

@@ -12,8 +12,7 @@ pub labels-preserved : goal.labels-preserved
 labels-preserved c labels a e =
     let was = c.labels.invariant labels a e in
     let split = c.in-Some.ensures.split was.0 was.1 was.2 in
-    let dotted = c.in_ok-push.ensures.bytes ∙ ap (λ (dot : List ℕ). string_bytes c.labels.text ++ dot) (c.in_ok-push.ensures.ascii (lit< tt)) in
-    (
+    let dotted = c.in_ok-push.ensures.bytes ∙ ap (λ (dot : List ℕ). string_bytes c.labels.text ++ dot) (c.in_ok-push.ensures.ascii (lit< tt)) in (
       split.0,
       (subst (AllByRecursion IsLabel) split.1 was.1).1,
       split.2,

@@ -11,7 +11,7 @@ use nb_datagram::{
     DatagramFault, ErrorPacket, Fragment, Key, Packet, QueryKind, QueryPacket, decode, kind_name,
     push_key,
 };
-use nb_names::{NoMemory, push_data, push_digits, push_name};
+use nb_names::{NoMemory, push_data, push_digits, push_name, push_number};
 
 /// Adds the text of a payload of port 138.
 pub fn push_datagram(payload: &[u8], text: &mut String) -> Result<(), NoMemory>
@@ -74,8 +74,9 @@ fn push_fragment(fragment: &Fragment<'_>, text: &mut String) -> Result<(), NoMem
 {
     text.push_str(kind_name(fragment.kind()))?;
     push_flags(fragment.flags(), fragment.key(), text)?;
-    let offset = fragment.offset();
-    write!(text, " offset={offset} source=")?;
+    text.push_str(" offset=")?;
+    push_number(u64::from(fragment.offset()), text)?;
+    text.push_str(" source=")?;
     push_name(text, fragment.source())?;
     text.push_str(" destination=")?;
     push_name(text, fragment.destination())?;

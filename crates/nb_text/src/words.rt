@@ -62,7 +62,7 @@ fn push_named(name: Option<&'static str>, number: u8, text: &mut String) -> Resu
             text.push_str(word)?;
             Ok(())
         }
-        None => { push_number(u64::from(number), text) }
+        None => push_number(u64::from(number), text),
     }
 }
 

@@ -2,29 +2,31 @@
 ghost use Rattle.std.specs.Prelude.{◌≡◌, ◌≤◌, ℕ, length, IfOk, IfErr, IsOkAnd};
 ghost use Rattle.nb_datagram.specs.declared.packet.Packet.{Packet};
 ghost use Rattle.nb_datagram.specs.DatagramFaults.{DirectFails, PacketFails};
+ghost use Rattle.nb_datagram.specs.LentPacket.{packet_of};
 ghost use Rattle.nb_datagram.specs.Packet.{IsPacket};
 ghost use Rattle.nb_datagram.specs.Code.Reading.{HasHeader};
 
 use crate::fault::DatagramFault;
 use crate::form::Form;
-use crate::fragment::Fragment;
 use crate::header::{Header, read_header};
 use crate::kind::Kind;
 use crate::laws::{one_datagram_fault, one_packet};
+use crate::lent_fragment::LentFragment;
+use crate::lent_packet::{LentPacket, LentQuery};
 use crate::limits::{DIRECT_HEADER_LENGTH, ERROR_LENGTH, HEADER_LENGTH};
-use crate::packet::{ErrorPacket, Packet, QueryKind, QueryPacket};
+use crate::packet::{ErrorPacket, Packet, QueryKind};
 use nb_names::numbers::number_16;
-use nb_names::{Name, Pointers, read_name};
+use nb_names::read_lent_name;
 
 /// The fragment after a header, and its packet's length.
 fn read_direct<'a>(
     bytes: &'a [u8],
     header: &Header,
     kind: Kind,
-) -> Result<(Packet<'a>, usize), DatagramFault>
+) -> Result<(LentPacket<'a>, usize), DatagramFault>
     requires header { HasHeader bytes.now header.now }
     requires form { header.now.form ≡ Form.Direct kind }
-    ensures found { IfOk result (λ read. IsPacket bytes.now read.0 read.1) }
+    ensures found { IfOk result (λ read. IsPacket bytes.now (packet_of read.0) read.1) }
     ensures fault { IfErr result (DirectFails bytes.now) }
 {
     if bytes.len() < DIRECT_HEADER_LENGTH {
@@ -35,15 +37,15 @@ fn read_direct<'a>(
         return Err(DatagramFault::Truncated(bytes.len()));
     }
     let packet = &bytes[..end];
-    let (source, behind) = match read_name(packet, DIRECT_HEADER_LENGTH, Pointers::Refused) {
+    let (source, behind) = match read_lent_name(packet, DIRECT_HEADER_LENGTH) {
         Ok(read) => read,
         Err(fault) => return Err(DatagramFault::SourceName(fault)),
     };
-    let (destination, start) = match read_name(packet, behind, Pointers::Refused) {
+    let (destination, start) = match read_lent_name(packet, behind) {
         Ok(read) => read,
         Err(fault) => return Err(DatagramFault::DestinationName(fault)),
     };
-    let fragment = Fragment::with_parts(
+    let fragment = LentFragment::with_parts(
         kind,
         header.flags,
         header.key,
@@ -52,14 +54,17 @@ fn read_direct<'a>(
         destination,
         &packet[start..],
     );
-    Ok((Packet::Direct(fragment), end))
+    Ok((LentPacket::Direct(fragment), end))
 }
 
 /// The error packet after a header, and its length.
-fn read_error<'a>(bytes: &'a [u8], header: &Header) -> Result<(Packet<'a>, usize), DatagramFault>
+fn read_error<'a>(
+    bytes: &'a [u8],
+    header: &Header,
+) -> Result<(LentPacket<'a>, usize), DatagramFault>
     requires header { HasHeader bytes.now header.now }
     requires form { header.now.form ≡ Form.Error }
-    ensures found { IfOk result (λ read. IsPacket bytes.now read.0 read.1) }
+    ensures found { IfOk result (λ read. IsPacket bytes.now (packet_of read.0) read.1) }
     ensures fault { IfErr result (PacketFails bytes.now) }
 {
     if bytes.len() < ERROR_LENGTH {
@@ -70,7 +75,7 @@ fn read_error<'a>(bytes: &'a [u8], header: &Header) -> Result<(Packet<'a>, usize
         key: header.key,
         code: bytes[HEADER_LENGTH],
     };
-    Ok((Packet::Error(error), ERROR_LENGTH))
+    Ok((LentPacket::Error(error), ERROR_LENGTH))
 }
 
 /// The query packet after a header, and its length.
@@ -78,23 +83,52 @@ fn read_query<'a>(
     bytes: &'a [u8],
     header: &Header,
     kind: QueryKind,
-) -> Result<(Packet<'a>, usize), DatagramFault>
+) -> Result<(LentPacket<'a>, usize), DatagramFault>
     requires header { HasHeader bytes.now header.now }
     requires form { header.now.form ≡ Form.Query kind }
-    ensures found { IfOk result (λ read. IsPacket bytes.now read.0 read.1) }
+    ensures found { IfOk result (λ read. IsPacket bytes.now (packet_of read.0) read.1) }
     ensures fault { IfErr result (PacketFails bytes.now) }
 {
-    match read_name(bytes, HEADER_LENGTH, Pointers::Refused) {
+    match read_lent_name(bytes, HEADER_LENGTH) {
         Ok((destination, used)) => {
-            let query = QueryPacket {
+            let query = LentQuery {
                 kind,
                 flags: header.flags,
                 key: header.key,
                 destination,
             };
-            Ok((Packet::Query(query), used))
+            Ok((LentPacket::Query(query), used))
         }
         Err(fault) => Err(DatagramFault::DestinationName(fault)),
+    }
+}
+
+/// Decodes the packet at the front of bytes, and how many of them it takes up, as [`decode`] does.
+/// The names are lent from the input, too. No memory is taken.
+///
+/// # Errors
+///
+/// Those of [`decode`].
+///
+/// RFC 1002 sections 4.4.1 to 4.4.4.
+pub fn decode_lent<'a>(bytes: &'a [u8]) -> Result<(LentPacket<'a>, usize), DatagramFault>
+    // What is answered stands there, and what stands there is answered, whatever follows.
+    ensures found { IfOk result (λ read. IsPacket bytes.now (packet_of read.0) read.1) }
+    ensures only { (packet : Packet) (used : ℕ) → IsPacket bytes.now packet used →
+        IsOkAnd result (λ read. (packet_of read.0 ≡ packet) × (read.1 ≡ used)) }
+    ensures within { IfOk result (λ read. read.1 ≤ length bytes.now) }
+
+    // Which fault it is, and where.
+    ensures fault { IfErr result (PacketFails bytes.now) }
+{
+    // The laws on which the clause `only` stands; the calls do nothing.
+    one_packet();
+    one_datagram_fault();
+    let header = read_header(bytes)?;
+    match header.form {
+        Form::Direct(kind) => read_direct(bytes, &header, kind),
+        Form::Error => read_error(bytes, &header),
+        Form::Query(kind) => read_query(bytes, &header, kind),
     }
 }
 
@@ -122,13 +156,8 @@ pub fn decode<'a>(bytes: &'a [u8]) -> Result<(Packet<'a>, usize), DatagramFault>
     // Which fault it is, and where.
     ensures fault { IfErr result (PacketFails bytes.now) }
 {
-    // The laws on which the clause `only` stands; the calls do nothing.
-    one_packet();
-    one_datagram_fault();
-    let header = read_header(bytes)?;
-    match header.form {
-        Form::Direct(kind) => read_direct(bytes, &header, kind),
-        Form::Error => read_error(bytes, &header),
-        Form::Query(kind) => read_query(bytes, &header, kind),
+    match decode_lent(bytes) {
+        Ok((packet, used)) => Ok((packet.to_packet(), used)),
+        Err(fault) => Err(fault),
     }
 }

@@ -4,7 +4,7 @@ ghost use Rattle.nb_datagram.specs.Texts.{key_text, kind_text};
 
 use crate::key::Key;
 use crate::kind::Kind;
-use nb_names::{NoMemory, push_address, push_word};
+use nb_names::{NoMemory, push_address, push_number, push_word};
 
 /// Adds a key, `ADDRESS:PORT/ID`: the address with dots and the port in decimal, the identifier as
 /// four hexadecimal digits.
@@ -18,10 +18,10 @@ pub fn push_key(key: Key, text: &mut String) -> Result<(), NoMemory>
     ensures { OnOk result (string_bytes text.new ≡ string_bytes text.old ++ key_text key) }
 {
     push_address(key.ip, text)?;
-    let port = key.port;
-    write!(text, ":{port}/")?;
-    push_word(key.id, text)?;
-    Ok(())
+    text.push_str(":")?;
+    push_number(u64::from(key.port), text)?;
+    text.push_str("/")?;
+    push_word(key.id, text)
 }
 
 /// The word for a kind: `unique`, `group` or `broadcast` (our choice).

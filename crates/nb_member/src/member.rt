@@ -15,7 +15,7 @@ use crate::outcome::{Dropped, Outcome};
 use crate::run_report::RunStop;
 use crate::settings::Settings;
 use crate::timed_table::TimedTable;
-use nb_datagram::{Datagram, Fragment, Key, Packet, decode};
+use nb_datagram::{Datagram, Key, LentFragment, LentPacket, decode_lent};
 use nb_table::{Change, Table, TableFault};
 use std::alloc::Global;
 use std::marker::Model;
@@ -85,10 +85,10 @@ impl Member {
     pub fn take(&mut self, moment: u64, payload: &[u8]) -> Result<Outcome, MemberFault>
         ensures { Takes self.old moment payload.now self.new result }
     {
-        match decode(payload) {
-            Ok((Packet::Direct(fragment), _)) => self.take_fragment(moment, &fragment),
-            Ok((Packet::Error(_), _)) => Ok(Outcome::Other),
-            Ok((Packet::Query(_), _)) => Ok(Outcome::Other),
+        match decode_lent(payload) {
+            Ok((LentPacket::Direct(fragment), _)) => self.take_fragment(moment, &fragment),
+            Ok((LentPacket::Error(_), _)) => Ok(Outcome::Other),
+            Ok((LentPacket::Query(_), _)) => Ok(Outcome::Other),
             Err(fault) => Err(MemberFault::Packet(fault, self.settings.refusal(payload, fault))),
         }
     }
@@ -97,7 +97,7 @@ impl Member {
     fn take_fragment(
         &mut self,
         moment: u64,
-        fragment: &Fragment<'_>,
+        fragment: &LentFragment<'_>,
     ) -> Result<Outcome, MemberFault>
         ensures { TakesFragment self.old moment fragment.now self.new result }
     {
@@ -114,20 +114,20 @@ impl Member {
         ensures { MatchOption result ((stop : RunStop) → ¬ BeginsFull self.now payload.now stop)
             (BeginsFull self.now payload.now) }
     {
-        match decode(payload) {
-            Ok((Packet::Direct(fragment), _)) => self.limit_met_by(&fragment),
-            Ok((Packet::Error(_), _)) => None,
-            Ok((Packet::Query(_), _)) => None,
+        match decode_lent(payload) {
+            Ok((LentPacket::Direct(fragment), _)) => self.limit_met_by(&fragment),
+            Ok((LentPacket::Error(_), _)) => None,
+            Ok((LentPacket::Query(_), _)) => None,
             Err(_) => None,
         }
     }
 
     /// Which limit on keys a fragment meets, if it is valid and meets one.
-    fn limit_met_by(&self, fragment: &Fragment<'_>) -> Option<RunStop>
+    fn limit_met_by(&self, fragment: &LentFragment<'_>) -> Option<RunStop>
         ensures { MatchOption result ((stop : RunStop) → ¬ MeetsFull self.now fragment.now stop)
             (MeetsFull self.now fragment.now) }
     {
-        limit_of(self.timed.table().refusal_of(fragment))
+        limit_of(self.timed.table().refusal_of_lent(fragment))
     }
 
     /// Looks at the clock, which shows `now`: drops each key, whatever is known of it, that came at

@@ -8,7 +8,7 @@ ghost use Rattle.nb_member.specs.Member.{begun, after_fragment, after_clock};
 mod merging;
 
 use crate::starts::Starts;
-use nb_datagram::{Fragment, Key};
+use nb_datagram::{Key, LentFragment};
 use nb_names::NoMemory;
 use nb_table::{Change, Table, TableFault};
 use std::alloc::Global;
@@ -63,7 +63,7 @@ impl TimedTable {
     /// # Errors
     ///
     /// Those of the table, which is then as it was, and so are the moments.
-    pub fn insert(&mut self, moment: u64, fragment: &Fragment<'_>) -> Result<Change, TableFault>
+    pub fn insert(&mut self, moment: u64, fragment: &LentFragment<'_>) -> Result<Change, TableFault>
         ensures taken { OnOk result (TableTakes self.old.table fragment.now) }
         ensures joined { OnOk result (self.new ≡ after_fragment self.old moment fragment.now) }
         ensures change { IfOk result
@@ -71,7 +71,7 @@ impl TimedTable {
         ensures refused { IfErr result (Refuses self.old.table fragment.now) }
         ensures kept { OnErr result (self.new ≡ self.old) }
     {
-        let change = self.table.insert(fragment)?;
+        let change = self.table.insert_lent(fragment)?;
         begin_or_drop(&mut self.table, &mut self.starts, fragment.key(), moment)?;
         Ok(change)
     }

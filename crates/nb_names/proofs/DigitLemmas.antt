@@ -1,12 +1,11 @@
 -- Hexadecimal digits of bytes, written two at a time.
-use Rattle.std.proofs.Common.{◌≡◌, ℕ, suc, ◌+◌, ◌*◌, ◌/◌, ◌%◌, ◌<◌, ◌≤◌, List, [], ◌∷◌, ◌++◌, length, take, drop, get_or, set, refl, sym, ap, ◌∙◌, arith}
+use Rattle.std.proofs.Common.{◌≡◌, ℕ, suc, ◌+◌, ◌*◌, ◌/◌, ◌%◌, ◌<◌, ◌≤◌, List, [], ◌∷◌, ◌++◌, length, take, drop, get_or, set, refl, sym, ap, ◌∙◌, arith, lit<}
 use Rattle.std.specs.Char.{digit_char}
-use Rattle.std.specs.Str.{IsUtf8, IsAscii}
+use Rattle.std.specs.Str.{IsAscii}
 use Rattle.std.proofs.lemmas.Bool.Decides.{nat_tests}
 use Rattle.std.proofs.lemmas.Grind.{flat_map-append}
 use Rattle.std.proofs.lemmas.List.{append_assoc, take_more, take_all, take-append-drop}
-use Rattle.std.proofs.lemmas.Str.{IsUtf8-from_ascii}
-use Rattle.std.proofs.lemmas.Str.Ascii.{IsAscii-nil, IsAscii-cons}
+use Rattle.std.proofs.lemmas.Str.Ascii.{IsAscii-nil, IsAscii-cons, IsAscii-push}
 use Rattle.nb_names.specs.NameText.{digits_of}
 use Rattle.nb_names.specs.Hexadecimal.{digits_text}
 use Rattle.nb_names.proofs.FirstLevelLemmas.{take_two_set}
@@ -45,13 +44,25 @@ part_more text after whole part behind rest n inv front back added =
 digit_small : (half : ℕ) → half < 16 → digit_char half < 128
 digit_small half h = grind (arith, nat_tests)
 
--- digits are text
-digits_are_ascii : (bytes : List ℕ) → ((i : ℕ) → get_or bytes i 0 < 256) → IsAscii (digits_text bytes)
+-- digits are ASCII
+pub digits_are_ascii : (bytes : List ℕ) → ((i : ℕ) → get_or bytes i 0 < 256) → IsAscii (digits_text bytes)
 digits_are_ascii [] small = IsAscii-nil
 digits_are_ascii (b ∷ bytes) small =
     let byte : b < 256 = small 0 in
     IsAscii-cons (digit_char (b / 16)) (digit_char (b % 16) ∷ digits_text bytes) (digit_small (b / 16) (omega (arith, byte)))
     (IsAscii-cons (digit_char (b % 16)) (digits_text bytes) (digit_small (b % 16) (omega arith)) (digits_are_ascii bytes (λ i. small (suc i))))
 
-pub digits_are_text : (bytes : List ℕ) → ((i : ℕ) → get_or bytes i 0 < 256) → IsUtf8 (digits_text bytes)
-digits_are_text bytes small = IsUtf8-from_ascii (digits_text bytes) (digits_are_ascii bytes small)
+pub byte_is_ascii : (byte : ℕ) → byte < 256 → IsAscii (digits_of byte)
+byte_is_ascii byte small =
+    IsAscii-cons (digit_char (byte / 16)) (digit_char (byte % 16) ∷ []) (digit_small (byte / 16) (omega (arith, small)))
+    (IsAscii-cons (digit_char (byte % 16)) [] (digit_small (byte % 16) (omega arith)) IsAscii-nil)
+
+-- `<`, a byte's digits and `>` are ASCII
+pub suffix_is_ascii : (byte : ℕ) → byte < 256 → IsAscii (60 ∷ digits_of byte ++ 62 ∷ [])
+suffix_is_ascii byte small =
+    IsAscii-cons 60 (digits_of byte ++ 62 ∷ []) (lit< tt)
+    (IsAscii-push (digits_of byte) 62 (byte_is_ascii byte small) (lit< tt))
+
+-- a byte's escape is ASCII
+pub escape_is_ascii : (byte : ℕ) → byte < 256 → IsAscii (92 ∷ digits_of byte)
+escape_is_ascii byte small = IsAscii-cons 92 (digits_of byte) (lit< tt) (byte_is_ascii byte small)

@@ -22,3 +22,4 @@ pub mod HexadecimalLemmas
 pub mod DigitLemmas
 pub mod LetterLemmas
 pub mod DataLemmas
+pub mod PlainLemmas

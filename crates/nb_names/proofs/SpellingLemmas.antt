@@ -106,3 +106,9 @@ split_is ls label others None domain h = h
 split_is ls label others (Some s) domain h =
     let rest = IsDomain-rest ls (label s) h.0 h.1 domain in
     (rw (labels_of-spelled h.0 (others s) rest h.2) h.1, spelled (others s) h.0 rest h.2)
+
+-- one byte spells no label
+pub no_label_spelled : (ls : List (List ℕ)) → length (spelling ls) ≡ 1 → ls ≡ []
+no_label_spelled [] e = refl
+no_label_spelled (l ∷ []) e = absurd (omega (arith, e, length-append l (spelling [])))
+no_label_spelled (l ∷ k ∷ ls) e = absurd (omega (arith, e, length-append l (spelling (k ∷ ls))))

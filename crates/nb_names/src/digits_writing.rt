@@ -2,9 +2,10 @@
 ghost use Rattle.std.specs.Prelude.{◌≡◌, ◌++◌, ◌*◌, ◌<◌, ◌≤◌, length, take, OnOk, string_bytes};
 ghost use Rattle.std.specs.Char.{digit_char};
 ghost use Rattle.nb_names.specs.Hexadecimal.{data_text, digits_text, word_text};
+ghost use Rattle.nb_names.specs.NameText.{digits_of};
 
+use crate::ascii_writing::push_ascii;
 use crate::bytes::NoMemory;
-use std::str;
 
 /// How many bytes' digits are added at a time.
 const PART: usize = 64;
@@ -52,8 +53,10 @@ pub fn push_data(bytes: &[u8], text: &mut String) -> Result<(), NoMemory>
 pub fn push_word(number: u16, text: &mut String) -> Result<(), NoMemory>
     ensures { OnOk result (string_bytes text.new ≡ string_bytes text.old ++ word_text number) }
 {
-    let mut room = [0; 4];
-    push_by(&number.to_be_bytes(), &mut room, text)
+    let [first, last] = number.to_be_bytes();
+    let [a, b] = pair_of(first);
+    let [c, d] = pair_of(last);
+    push_ascii(&[a, b, c, d], text)
 }
 
 /// Adds the digits of a few bytes.
@@ -73,11 +76,7 @@ fn push_by(part: &[u8], room: &mut [u8], text: &mut String) -> Result<(), NoMemo
         (string_bytes text.new ≡ string_bytes text.old ++ digits_text part.now) }
 {
     put_digits(part, room);
-    match str::from_utf8(&room[..2 * part.len()]) {
-        Ok(digits) => text.push_str(digits)?,
-        Err(_) => {}
-    }
-    Ok(())
+    push_ascii(&room[..2 * part.len()], text)
 }
 
 /// Puts the digits of a few bytes into the front of the room.
@@ -91,6 +90,14 @@ pub(crate) fn put_digits(part: &[u8], room: &mut [u8])
         room[2 * place] = digit_of(byte / 16);
         room[2 * place + 1] = digit_of(byte % 16);
     }
+}
+
+/// The two digits of a byte.
+#[inline]
+pub(crate) fn pair_of(byte: u8) -> [u8; 2]
+    ensures { result ≡ digits_of byte }
+{
+    [digit_of(byte / 16), digit_of(byte % 16)]
 }
 
 /// The digit of a half byte.

@@ -76,10 +76,10 @@ impl<'a> LentName<'a> {
     }
 
     /// Whether it is the same name as the other, byte for byte, as `==` of [`Name`] has it.
-    pub fn is(&self, other: &Name) -> bool
+    pub fn is(&self, other: &LentName<'_>) -> bool
         ensures { result ≡ name_eq self.now other.now }
     {
-        self.bytes == *other.bytes() && self.scope == other.scope().as_domain().spelling()
+        self.bytes == other.bytes && self.scope == other.scope
     }
 
     /// The name, with its scope in place. No memory is taken.
@@ -89,6 +89,15 @@ impl<'a> LentName<'a> {
     {
         let scope = Scope::of_domain(DomainName::of_spelling(self.scope));
         Name::new(self.bytes, scope)
+    }
+
+    /// The name's labels, as [`Name::to_domain`] has them.
+    ///
+    /// RFC 1001 sections 14.1 and 14.2.
+    pub fn to_domain(&self) -> DomainName
+        ensures { result ≡ labels_of_name self.now }
+    {
+        self.to_name().to_domain()
     }
 
     /// How many bytes the spelling of its labels has, its zero byte included.

@@ -2,6 +2,7 @@
 #![tactic(auto)]
 
 mod addresses;
+mod ascii_writing;
 mod bytes;
 mod collected;
 mod counted;
@@ -13,6 +14,7 @@ mod first_level;
 mod hexadecimal;
 pub mod input;
 mod items;
+mod kept_name;
 mod label_fault;
 pub mod laws;
 mod length_byte;
@@ -49,6 +51,7 @@ pub use domain_name::DomainName;
 pub use fault::NameFault;
 pub use hexadecimal::{DigitsFault, bytes_of_digits, data_of_text};
 pub use items::Items;
+pub use kept_name::KeptName;
 pub use label_fault::LabelFault;
 pub use lent_name::{LentName, push_lent_name, read_lent_name};
 pub use name::{Name, NotNetbios};

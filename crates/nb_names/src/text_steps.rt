@@ -45,14 +45,23 @@ pub(crate) enum Added {
     LabelEnd,
 }
 
+/// Each plain byte stands at its own place, and `.` at every other.
+static PLAIN: [u8; 256] = *b"\
+    ................................\
+    .!\"#$%&'()*+,-./0123456789:;.=.?\
+    @ABCDEFGHIJKLMNOPQRSTUVWXYZ[.]^_\
+    `abcdefghijklmnopqrstuvwxyz{|}~.\
+    ................................\
+    ................................\
+    ................................\
+    ................................";
+
 /// Whether a byte is plain: it can stand for itself.
+#[inline]
 pub(crate) fn is_plain(byte: u8) -> bool
     ensures { result ≡ is_plain_byte byte }
 {
-    match byte {
-        b'.' | b'<' | b'>' | b'\\' => false,
-        _ => byte.is_ascii_graphic(),
-    }
+    PLAIN[byte as usize] != b'.'
 }
 
 /// The value of a hexadecimal digit, in either case.

@@ -1,14 +1,16 @@
 //! Writing names as text.
-ghost use Rattle.std.specs.Prelude.{◌≡◌, ◌++◌, ◌<◌, ℕ, List, [], ◌∷◌, IfOk, OnOk, length, string_bytes};
-ghost use Rattle.std.specs.Char.{digit_char};
+ghost use Rattle.std.specs.Prelude.{◌≡◌, ◌++◌, ℕ, List, IfOk, OnOk, length, string_bytes};
 ghost use Rattle.nb_names.specs.declared.limits.TheConstants.{NAME_LENGTH};
-ghost use Rattle.std.specs.List.{AllByRecursion};
+ghost use Rattle.std.specs.List.{AllByRecursion, list_all};
 ghost use Rattle.nb_names.specs.DomainName.{AreBytes, AreByteLabels, IsLabel, spelling};
-ghost use Rattle.nb_names.specs.NameText.{IsText, written, bytes_written, domain_written, trimmed, digits_of, item_of, items_of, scope_text_of, labels_written};
+ghost use Rattle.nb_names.specs.NameText.{IsText, written, bytes_written, domain_written, trimmed, item_of, items_of, scope_text_of, labels_written, is_plain as is_plain_byte};
 
+use crate::ascii_writing::push_ascii;
 use crate::bytes::NoMemory;
+use crate::digits_writing::pair_of;
 use crate::domain_name::DomainName;
-use crate::limits::{FRONT_LENGTH, NAME_LENGTH};
+use crate::first_level::bytes_of;
+use crate::limits::{FRONT_LENGTH, LETTERS, NAME_LENGTH};
 use crate::name::Name;
 use crate::spellings::split_label;
 use crate::text_steps::is_plain;
@@ -58,8 +60,17 @@ pub fn push_domain(text: &mut String, domain: &DomainName) -> Result<(), NoMemor
     ensures { OnOk result
         (string_bytes text.new ≡ string_bytes text.old ++ labels_written domain.now) }
 {
-    match Name::from_domain(domain) {
-        Ok(name) => push_name(text, &name),
+    let Some((first, scope)) = domain.split_first() else {
+        return push_plain(text, domain);
+    };
+    if first.len() != LETTERS {
+        return push_plain(text, domain);
+    }
+    match bytes_of(first) {
+        Ok(bytes) => {
+            push_bytes(text, &bytes)?;
+            push_spelled(text, scope)
+        }
         Err(_) => push_plain(text, domain),
     }
 }
@@ -104,10 +115,8 @@ pub(crate) fn push_bytes(text: &mut String, bytes: &[u8; NAME_LENGTH]) -> Result
     ensures bytes { AreBytes bytes.now }
 {
     push_items(text, without_last_spaces(&bytes[..FRONT_LENGTH]))?;
-    text.push('<')?;
-    push_digits(text, bytes[FRONT_LENGTH])?;
-    text.push('>')?;
-    Ok(())
+    let [high, low] = pair_of(bytes[FRONT_LENGTH]);
+    push_ascii(&[b'<', high, low, b'>'], text)
 }
 
 /// The bytes without the spaces at their end.
@@ -150,9 +159,21 @@ pub(crate) fn push_spelled(text: &mut String, spelled: &[u8]) -> Result<(), NoMe
 
 /// Adds the items of the bytes, in order.
 fn push_items(text: &mut String, bytes: &[u8]) -> Result<(), NoMemory>
-    ensures written { OnOk result
+    ensures { OnOk result
         (string_bytes text.new ≡ string_bytes text.old ++ items_of bytes.now) }
-    ensures bytes { AreBytes bytes.now }
+{
+    if are_plain(bytes) {
+        push_ascii(bytes, text)
+    } else {
+        push_each(text, bytes)
+    }
+}
+
+/// Adds the items of the bytes, one by one.
+#[inline(never)]
+fn push_each(text: &mut String, bytes: &[u8]) -> Result<(), NoMemory>
+    ensures { OnOk result
+        (string_bytes text.new ≡ string_bytes text.old ++ items_of bytes.now) }
 {
     for byte in bytes {
         push_item(text, *byte)?;
@@ -160,31 +181,20 @@ fn push_items(text: &mut String, bytes: &[u8]) -> Result<(), NoMemory>
     Ok(())
 }
 
+/// Whether each byte is plain.
+fn are_plain(bytes: &[u8]) -> bool
+    ensures { result ≡ list_all is_plain_byte bytes.now }
+{
+    bytes.iter().all(|byte| is_plain(*byte))
+}
+
 /// Adds the item of a byte.
 fn push_item(text: &mut String, byte: u8) -> Result<(), NoMemory>
     ensures { OnOk result (string_bytes text.new ≡ string_bytes text.old ++ item_of byte) }
 {
     if is_plain(byte) {
-        text.push(char::from(byte))?;
-        return Ok(());
+        return push_ascii(&[byte], text);
     }
-    text.push('\\')?;
-    push_digits(text, byte)
-}
-
-/// Adds the two digits of a byte, in lower case.
-fn push_digits(text: &mut String, byte: u8) -> Result<(), NoMemory>
-    ensures { OnOk result (string_bytes text.new ≡ string_bytes text.old ++ digits_of byte) }
-{
-    push_digit(text, byte / 16)?;
-    push_digit(text, byte % 16)
-}
-
-/// Adds the digit of a half byte.
-fn push_digit(text: &mut String, half: u8) -> Result<(), NoMemory>
-    requires { half < 16 }
-    ensures { OnOk result (string_bytes text.new ≡ string_bytes text.old ++ digit_char half ∷ []) }
-{
-    text.push(char::from_digit(u32::from(half), 16).unwrap())?;
-    Ok(())
+    let [high, low] = pair_of(byte);
+    push_ascii(&[b'\\', high, low], text)
 }

@@ -22,7 +22,7 @@ mod uniting;
 
 use crate::slot::Slot;
 use end::{end_of, ends_agree, has_end, is_below};
-use nb_datagram::Fragment;
+use nb_datagram::{Fragment, LentFragment};
 use nb_names::{Bytes, NoMemory};
 use promise::{greater, is_before, is_promised, promise_of};
 use runs::Runs;
@@ -70,13 +70,13 @@ impl Slot<CoverFacts> {
     pub fn of(alloc: Global, fragment: &Fragment<'_>) -> Result<Cover, NoMemory>
         ensures { IfOk result (λ cover. cover ≡ Held (cover_of (core_of fragment.now))) }
     {
-        Ok(Slot::Held(CoverFacts::of(alloc, fragment)?))
+        Ok(Slot::Held(CoverFacts::of(alloc, &fragment.lent())?))
     }
 }
 
 impl CoverFacts {
     /// What a fragment says.
-    pub(crate) fn of(alloc: Global, fragment: &Fragment<'_>) -> Result<CoverFacts, NoMemory>
+    pub(crate) fn of(alloc: Global, fragment: &LentFragment<'_>) -> Result<CoverFacts, NoMemory>
         ensures { IfOk result (λ cover. cover ≡ cover_of (core_of fragment.now)) }
     {
         let mut bytes = Runs::new(alloc);
@@ -108,7 +108,7 @@ impl CoverFacts {
     }
 
     /// Whether no place has another byte in a fragment.
-    fn bytes_agree_with(&self, fragment: &Fragment<'_>) -> bool
+    fn bytes_agree_with(&self, fragment: &LentFragment<'_>) -> bool
         ensures { result ≡ same_bytes self.now.bytes (cover_of (core_of fragment.now)).bytes }
     {
         let start = u32::from(fragment.offset());
@@ -116,7 +116,7 @@ impl CoverFacts {
     }
 
     /// Whether what is known lies below a fragment's end, and the fragment below the known end.
-    fn is_below_with(&self, fragment: &Fragment<'_>) -> bool
+    fn is_below_with(&self, fragment: &LentFragment<'_>) -> bool
         ensures { result ≡ (is_below_end (cover_of (core_of fragment.now)).end self.now
             && is_below_end self.now.end (cover_of (core_of fragment.now))) }
     {
@@ -124,7 +124,7 @@ impl CoverFacts {
     }
 
     /// Whether a fragment doesn't contradict what is known.
-    pub(crate) fn agrees_with(&self, fragment: &Fragment<'_>) -> bool
+    pub(crate) fn agrees_with(&self, fragment: &LentFragment<'_>) -> bool
         ensures { result ≡ covers_agree self.now (cover_of (core_of fragment.now)) }
     {
         if !self.bytes_agree_with(fragment) {
@@ -134,7 +134,7 @@ impl CoverFacts {
     }
 
     /// Whether each byte of a fragment is known.
-    fn holds_bytes(&self, fragment: &Fragment<'_>) -> bool
+    fn holds_bytes(&self, fragment: &LentFragment<'_>) -> bool
         ensures { IsTrue result ↔ ((i x : ℕ)
             → maps.get (cover_of (core_of fragment.now)).bytes i ≡ Some x
             → maps.get self.now.bytes i ≡ Some x) }
@@ -144,7 +144,7 @@ impl CoverFacts {
     }
 
     /// Whether all that a fragment says is known.
-    pub(crate) fn holds(&self, fragment: &Fragment<'_>) -> bool
+    pub(crate) fn holds(&self, fragment: &LentFragment<'_>) -> bool
         ensures { IsTrue result ↔ Holds self.now (cover_of (core_of fragment.now)) }
     {
         if !has_end(self.end, end_of(fragment)) {
@@ -158,7 +158,7 @@ impl CoverFacts {
 
     /// Adds what a fragment says, which doesn't contradict what is known. All memory is taken
     /// before anything changes.
-    pub(crate) fn add(&mut self, alloc: Global, fragment: &Fragment<'_>) -> Result<(), NoMemory>
+    pub(crate) fn add(&mut self, alloc: Global, fragment: &LentFragment<'_>) -> Result<(), NoMemory>
         requires { CoversFit self.old (cover_of (core_of fragment.now)) }
         ensures ok { OnOk result
             (self.new ≡ covers_together self.old (cover_of (core_of fragment.now))) }
@@ -176,7 +176,7 @@ impl CoverFacts {
     pub(crate) fn whole_with(
         &self,
         alloc: Global,
-        fragment: &Fragment<'_>,
+        fragment: &LentFragment<'_>,
     ) -> Result<Option<Bytes>, NoMemory>
         requires { CoversFit self.now (cover_of (core_of fragment.now)) }
         ensures { IfOk result (λ bytes. bytes

@@ -22,8 +22,8 @@ use crate::cover::CoverFacts;
 use crate::parties::Parties;
 use crate::slot::Slot;
 use crate::state::State;
-use nb_datagram::{Datagram, Fragment, Key, Kind};
-use nb_names::{Bytes, Name, NoMemory};
+use nb_datagram::{Datagram, Fragment, Key, Kind, LentFragment};
+use nb_names::{Bytes, LentName, NoMemory};
 use std::alloc::Global;
 use std::marker::Model;
 
@@ -59,8 +59,8 @@ impl EntryFacts {
     pub(crate) fn new(
         alloc: Global,
         kind: Kind,
-        source: &Name,
-        destination: &Name,
+        source: &LentName<'_>,
+        destination: &LentName<'_>,
         cover: CoverFacts,
     ) -> Result<EntryFacts, NoMemory>
         ensures { IfOk result (λ facts. facts ≡ record {
@@ -79,7 +79,7 @@ impl EntryFacts {
     }
 
     /// What one fragment says.
-    pub(crate) fn of(alloc: Global, fragment: &Fragment<'_>) -> Result<EntryFacts, NoMemory>
+    pub(crate) fn of(alloc: Global, fragment: &LentFragment<'_>) -> Result<EntryFacts, NoMemory>
         ensures { IfOk result (λ facts. facts ≡ facts_of (core_of fragment.now)) }
     {
         let cover = CoverFacts::of(alloc, fragment)?;
@@ -94,12 +94,12 @@ impl EntryFacts {
     }
 
     /// Whether a fragment doesn't contradict what is known.
-    pub(crate) fn agrees_with(&self, fragment: &Fragment<'_>) -> bool
+    pub(crate) fn agrees_with(&self, fragment: &LentFragment<'_>) -> bool
         ensures { result ≡ facts_agree self.now (facts_of (core_of fragment.now)) }
     {
         self.kind == fragment.kind()
-            && *self.parties.source() == *fragment.source()
-            && *self.parties.destination() == *fragment.destination()
+            && self.parties.source().is(fragment.source())
+            && self.parties.destination().is(fragment.destination())
             && self.cover.agrees_with(fragment)
     }
 
@@ -114,8 +114,8 @@ impl EntryFacts {
           bytes = bytes;
         } }
     {
-        let source = self.parties.source().copied();
-        let destination = self.parties.destination().copied();
+        let source = self.parties.source().to_name();
+        let destination = self.parties.destination().to_name();
         Datagram::new(key, self.kind, source, destination, bytes).unwrap()
     }
 
@@ -165,8 +165,8 @@ impl PartialEq for EntryFacts {
 
     fn eq(&self, other: &Self) -> bool {
         self.kind == other.kind
-            && *self.parties.source() == *other.parties.source()
-            && *self.parties.destination() == *other.parties.destination()
+            && self.parties.source().is(&other.parties.source())
+            && self.parties.destination().is(&other.parties.destination())
             && self.cover == other.cover
     }
 }
@@ -190,13 +190,13 @@ impl Slot<EntryFacts> {
     pub fn of(alloc: Global, fragment: &Fragment<'_>) -> Result<Entry, NoMemory>
         ensures { IfOk result (λ entry. entry ≡ Held (facts_of (core_of fragment.now))) }
     {
-        Ok(Slot::Held(EntryFacts::of(alloc, fragment)?))
+        Ok(Slot::Held(EntryFacts::of(alloc, &fragment.lent())?))
     }
 
     /// What one fragment says of its datagram, and what that changes at its key, which was new.
     pub(crate) fn first(
         alloc: Global,
-        fragment: &Fragment<'_>,
+        fragment: &LentFragment<'_>,
     ) -> Result<(Entry, BoxedChange), NoMemory>
         requires { reach (core_of fragment.now) ≤ MAX_LENGTH }
         ensures entry { IfOk result (λ made. made.0 ≡ Held (facts_of (core_of fragment.now))) }
@@ -212,7 +212,7 @@ impl Slot<EntryFacts> {
     pub(crate) fn add(
         &mut self,
         alloc: Global,
-        fragment: &Fragment<'_>,
+        fragment: &LentFragment<'_>,
     ) -> Result<BoxedChange, NoMemory>
         requires entry { IsShort MAX_LENGTH self.old }
         requires fragment { reach (core_of fragment.now) ≤ MAX_LENGTH }

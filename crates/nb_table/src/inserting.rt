@@ -16,7 +16,7 @@ ghost use Rattle.nb_table.specs.Insert.{NeedsNoMemory};
 use crate::change::BoxedChange;
 use crate::entry::Entry;
 use crate::sources::SourceCounts;
-use nb_datagram::{Fragment, Key};
+use nb_datagram::{Key, LentFragment};
 use nb_names::NoMemory;
 use std::alloc::Global;
 use std::collections::BTreeMap;
@@ -26,7 +26,7 @@ use std::collections::BTreeMap;
 fn join_fragment(
     entries: &mut BTreeMap<Key, Entry>,
     alloc: Global,
-    fragment: &Fragment<'_>,
+    fragment: &LentFragment<'_>,
 ) -> Result<BoxedChange, NoMemory>
     requires fragment { reach (core_of fragment.now) ≤ MAX_LENGTH }
     requires entry { (e : EntryValue)
@@ -65,7 +65,7 @@ fn join_and_count(
     entries: &mut BTreeMap<Key, Entry>,
     counts: &mut SourceCounts,
     alloc: Global,
-    fragment: &Fragment<'_>,
+    fragment: &LentFragment<'_>,
 ) -> Result<BoxedChange, NoMemory>
     requires fragment { reach (core_of fragment.now) ≤ MAX_LENGTH }
     requires entry { (e : EntryValue)
@@ -111,7 +111,7 @@ pub(crate) fn join_counted(
     entries: &mut BTreeMap<Key, Entry>,
     counts: &mut Option<SourceCounts>,
     alloc: Global,
-    fragment: &Fragment<'_>,
+    fragment: &LentFragment<'_>,
 ) -> Result<BoxedChange, NoMemory>
     requires fragment { reach (core_of fragment.now) ≤ MAX_LENGTH }
     requires entry { (e : EntryValue)

@@ -1,15 +1,15 @@
 //! Whom a datagram goes from and to.
 ghost use Rattle.std.specs.Prelude.{◌≡◌, IfOk};
 
-use nb_names::{Name, NoMemory};
+use nb_names::{KeptName, LentName, NoMemory};
 use std::alloc::Global;
 use std::marker::Model;
 
 /// Both names.
 #[derive(Drop)]
 struct Names {
-    source: Name,
-    destination: Name,
+    source: KeptName,
+    destination: KeptName,
 }
 
 /// Both names of a datagram, in memory of their own, so that an entry is small and its moves in a
@@ -37,20 +37,19 @@ impl Parties {
     /// Copies of these names.
     pub(crate) fn copy(
         alloc: Global,
-        source: &Name,
-        destination: &Name,
+        source: &LentName<'_>,
+        destination: &LentName<'_>,
     ) -> Result<Parties, NoMemory>
         ensures { IfOk result (λ parties. parties
             ≡ record { source = source.now; destination = destination.now }) }
     {
-        let names = Box::new(
-            alloc,
-            Names {
-                source: source.copied(),
-                destination: destination.copied(),
-            },
-        )?;
-        Ok(Parties { names })
+        let names = Names {
+            source: KeptName::copy(alloc, source)?,
+            destination: KeptName::copy(alloc, destination)?,
+        };
+        Ok(Parties {
+            names: Box::new(alloc, names)?,
+        })
     }
 
     /// The same names.
@@ -58,20 +57,20 @@ impl Parties {
         ensures { IfOk result (λ parties. parties ≡ self.now) }
     {
         let alloc = *Box::allocator(&self.names);
-        Parties::copy(alloc, &self.names.source, &self.names.destination)
+        Parties::copy(alloc, &self.source(), &self.destination())
     }
 
     /// The sender's name.
-    pub(crate) fn source(&self) -> &Name
-        ensures { result.now ≡ self.now.source }
+    pub(crate) fn source(&self) -> LentName<'_>
+        ensures { result ≡ self.now.source }
     {
-        &self.names.source
+        self.names.source.lent()
     }
 
     /// The name that the datagram is for.
-    pub(crate) fn destination(&self) -> &Name
-        ensures { result.now ≡ self.now.destination }
+    pub(crate) fn destination(&self) -> LentName<'_>
+        ensures { result ≡ self.now.destination }
     {
-        &self.names.destination
+        self.names.destination.lent()
     }
 }

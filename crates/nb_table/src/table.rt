@@ -25,7 +25,7 @@ use crate::sources::{SourceCounts, no_counts};
 use crate::state::State;
 pub use loading::load;
 pub use merging::take_in_all;
-use nb_datagram::{Fragment, Key};
+use nb_datagram::{Fragment, Key, LentFragment};
 use std::alloc::Global;
 use std::collections::BTreeMap;
 use std::marker::Model;
@@ -122,7 +122,25 @@ impl Table {
         ensures without_memory { Passes self.old.limits fragment.now
             → NeedsNoMemory self.old.contents (core_of fragment.now) → IsOk result }
     {
-        if let Some(fault) = self.refusal_of(fragment) {
+        self.insert_lent(&fragment.lent())
+    }
+
+    /// Joins a fragment whose names are lent, as [`Table::insert`] does.
+    ///
+    /// # Errors
+    ///
+    /// Those of [`Table::insert`].
+    pub fn insert_lent(&mut self, fragment: &LentFragment<'_>) -> Result<Change, TableFault>
+        ensures taken { OnOk result (Takes self.old fragment.now) }
+        ensures joined { OnOk result (self.new ≡ with_fragment self.old fragment.now) }
+        ensures change { IfOk result
+            (IsChange self.old.contents self.new.contents fragment.now.key) }
+        ensures refused { IfErr result (Refuses self.old fragment.now) }
+        ensures kept { OnErr result (self.new ≡ self.old) }
+        ensures without_memory { Passes self.old.limits fragment.now
+            → NeedsNoMemory self.old.contents (core_of fragment.now) → IsOk result }
+    {
+        if let Some(fault) = self.refusal_of_lent(fragment) {
             return Err(fault);
         }
         let change = join_counted(&mut self.entries, &mut self.counts, self.alloc, fragment)?;

@@ -1,5 +1,5 @@
 -- Others joined one after the other: each is taken in its turn.
-use Rattle.std.proofs.Common.{◌≡◌, ◌+◌, ◌++◌, ℕ, suc, zero, List, [], ◌∷◌, map, take, slice_get, Some, refl, sym, ◌∙◌, ap, subst}
+use Rattle.std.proofs.Common.{◌≡◌, arith, ◌+◌, ◌++◌, ℕ, suc, zero, List, [], ◌∷◌, map, take, drop, slice_get, Some, refl, sym, ◌∙◌, ap, subst}
 use Rattle.std.proofs.lemmas.Option.{none-some, same_Some, slice_get_within, get_or_from_slice_get}
 use Rattle.std.proofs.lemmas.List.{map_more}
 use Rattle.nb_table.specs.Join.{joined_all, AreTaken}
@@ -35,6 +35,16 @@ next_is_joined f c x os n o e = ap (joined_all f x) (one_longer c os n o e) ∙ 
 -- the next one, taken after those before it
 pub next_is_taken : {J X : Type 0} (f : X → X → X) (T : X → X → Type 0) (c : J → X) (x : X) (os : List J) (n : ℕ) (o : J) → slice_get os n ≡ Some o → are_taken f T x (map c (take n os)) → T (joined_all f x (map c (take n os))) (c o) → are_taken f T x (map c (take (n + 1) os))
 next_is_taken f T c x os n o e h t = subst (are_taken f T x) (sym (one_longer c os n o e)) (one_more f T x (map c (take n os)) (c o) h t)
+
+-- the first of those that are left, and what is left after it
+pub next_left : {J : Type 0} (os : List J) (n : ℕ) (o : J) (rest : List J) → drop n os ≡ o ∷ rest → (slice_get os n ≡ Some o) × (drop (n + 1) os ≡ rest)
+next_left [] zero o rest e = absurd (cc)
+next_left [] (suc n) o rest e = absurd (cc)
+next_left (p ∷ os) zero o rest e = (cc, cc)
+next_left (p ∷ os) (suc n) o rest e =
+    let next = next_left os n o rest e in
+    let more : suc n + 1 ≡ suc (n + 1) = omega arith in
+    (next.0, ap (λ k. drop k (p ∷ os)) more ∙ next.1)
 
 -- what holds of a value holds of what it is
 pub carried : {B X : Type 0} (P : B → X → Type 0) (a b : B) (x y : X) → a ≡ b → x ≡ y → P a x → P b y

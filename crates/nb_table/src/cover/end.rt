@@ -6,10 +6,10 @@ ghost use Rattle.nb_table.specs.Cover.{ends_agree as same_ends};
 ghost use Rattle.nb_table.specs.Code.Fitting.{ends_by};
 
 use super::promise::{is_before, promise_of};
-use nb_datagram::Fragment;
+use nb_datagram::LentFragment;
 
 /// Where a fragment ends, if it does.
-pub(super) fn end_of(fragment: &Fragment<'_>) -> Option<u32>
+pub(super) fn end_of(fragment: &LentFragment<'_>) -> Option<u32>
     ensures { result ≡ (cover_of (core_of fragment.now)).end }
 {
     if fragment.has_more() {
@@ -40,14 +40,14 @@ pub(super) fn has_end(end: Option<u32>, other: Option<u32>) -> bool
 }
 
 /// Whether each byte of a fragment lies below the end.
-fn bytes_are_below(fragment: &Fragment<'_>, end: u32) -> bool
+fn bytes_are_below(fragment: &LentFragment<'_>, end: u32) -> bool
     ensures { result ≡ bytes_lie_below end (cover_of (core_of fragment.now)).bytes }
 {
     fragment.bytes().is_empty() || fragment.reach() <= end
 }
 
 /// Whether each byte and the promise of a fragment lie below the end, if there is one.
-pub(super) fn is_below(fragment: &Fragment<'_>, end: Option<u32>) -> bool
+pub(super) fn is_below(fragment: &LentFragment<'_>, end: Option<u32>) -> bool
     ensures { result ≡ is_below_end end (cover_of (core_of fragment.now)) }
 {
     match end {

@@ -6,10 +6,10 @@ ghost use Rattle.nb_table.specs.Promise.{promise_of_one};
 ghost use Rattle.nb_table.specs.Promise.{greater as the_greater};
 ghost use Rattle.nb_table.specs.Code.CoverFacts.{is_promised as promised_already};
 
-use nb_datagram::Fragment;
+use nb_datagram::LentFragment;
 
 /// The place at which, or after which, a fragment promises a byte, if it does.
-pub(super) fn promise_of(fragment: &Fragment<'_>) -> Option<u32>
+pub(super) fn promise_of(fragment: &LentFragment<'_>) -> Option<u32>
     ensures { result ≡ promise_of_one (core_of fragment.now) }
 {
     if fragment.has_more() {

@@ -13,7 +13,7 @@ ghost use Rattle.nb_table.specs.Code.Change.{grown_to as grown};
 
 use super::EntryFacts;
 use crate::change::BoxedChange;
-use nb_datagram::{Datagram, Fragment};
+use nb_datagram::{Datagram, LentFragment};
 use nb_names::NoMemory;
 use std::alloc::Global;
 
@@ -33,7 +33,7 @@ impl EntryFacts {
     fn datagram_with(
         &self,
         alloc: Global,
-        fragment: &Fragment<'_>,
+        fragment: &LentFragment<'_>,
     ) -> Result<Option<Datagram>, NoMemory>
         requires fits { CoversFit self.now.cover (cover_of (core_of fragment.now)) }
         requires short { (n : ℕ)
@@ -54,7 +54,7 @@ impl EntryFacts {
     fn newly_whole_with(
         &self,
         alloc: Global,
-        fragment: &Fragment<'_>,
+        fragment: &LentFragment<'_>,
     ) -> Result<Option<Datagram>, NoMemory>
         requires fits { CoversFit self.now.cover (cover_of (core_of fragment.now)) }
         requires short { (n : ℕ)
@@ -77,7 +77,7 @@ impl EntryFacts {
     pub(crate) fn grow(
         &mut self,
         alloc: Global,
-        fragment: &Fragment<'_>,
+        fragment: &LentFragment<'_>,
     ) -> Result<BoxedChange, NoMemory>
         requires fits { FactsFit self.old (facts_of (core_of fragment.now)) }
         requires short { (n : ℕ)
@@ -105,7 +105,7 @@ impl EntryFacts {
     /// What one fragment says, and what that changes at its key, which was new.
     pub(crate) fn first(
         alloc: Global,
-        fragment: &Fragment<'_>,
+        fragment: &LentFragment<'_>,
     ) -> Result<(EntryFacts, BoxedChange), NoMemory>
         requires { (n : ℕ) → (facts_of (core_of fragment.now)).cover.end ≡ Some n → n ≤ MAX_LENGTH }
         ensures facts { IfOk result (λ made. made.0 ≡ facts_of (core_of fragment.now)) }

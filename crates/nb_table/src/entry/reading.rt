@@ -18,8 +18,8 @@ impl EntryFacts {
     {
         Outline {
             kind: self.kind,
-            source: self.parties.source().copied(),
-            destination: self.parties.destination().copied(),
+            source: self.parties.source().to_name(),
+            destination: self.parties.destination().to_name(),
             held: self.cover.held() as u32,
             runs: self.run_count(),
             end: self.cover.end(),

@@ -12,7 +12,7 @@ ghost use Rattle.nb_table.specs.Code.Part.{IsPart};
 use super::{Entry, EntryFacts};
 use crate::change::Change;
 use crate::slot::Slot;
-use nb_datagram::{Datagram, Fragment, Key};
+use nb_datagram::{Datagram, Key, LentFragment};
 use nb_names::NoMemory;
 use std::alloc::Global;
 
@@ -48,7 +48,7 @@ impl Slot<EntryFacts> {
     }
 
     /// The fragment of the key that says all that is known, if one can.
-    fn as_fragment(&self, key: Key) -> Option<Fragment<'_>>
+    fn as_fragment(&self, key: Key) -> Option<LentFragment<'_>>
         ensures { MatchOption result (Unit {0}) (IsPart key self.now) }
     {
         match self {

@@ -13,7 +13,7 @@ use super::EntryFacts;
 use crate::cover::CoverFacts;
 use crate::slot::Facts;
 use nb_datagram::limits::{MAX_LENGTH, MORE};
-use nb_datagram::{Datagram, Fragment, Key};
+use nb_datagram::{Datagram, Key, LentFragment};
 use nb_names::NoMemory;
 use std::alloc::Global;
 
@@ -58,10 +58,10 @@ impl Facts for EntryFacts {
         if self.kind != other.kind {
             return false;
         }
-        if *self.parties.source() != *other.parties.source() {
+        if !self.parties.source().is(&other.parties.source()) {
             return false;
         }
-        if *self.parties.destination() != *other.parties.destination() {
+        if !self.parties.destination().is(&other.parties.destination()) {
             return false;
         }
         self.cover.agree(&other.cover)
@@ -110,7 +110,7 @@ impl EntryFacts {
     }
 
     /// The fragment of the key that says all of the facts, if one can.
-    pub(crate) fn as_fragment(&self, key: Key) -> Option<Fragment<'_>>
+    pub(crate) fn as_fragment(&self, key: Key) -> Option<LentFragment<'_>>
         ensures { MatchOption result (Unit {0}) (IsPart key (Held self.now)) }
     {
         let Some((start, bytes)) = self.cover.only() else {
@@ -123,9 +123,9 @@ impl EntryFacts {
         let Some(flags) = flags_to(self.cover.end(), self.cover.promise(), reach) else {
             return None;
         };
-        let source = self.parties.source().copied();
-        let destination = self.parties.destination().copied();
-        match Fragment::new(self.kind, flags, key, offset, source, destination, bytes) {
+        let source = self.parties.source();
+        let destination = self.parties.destination();
+        match LentFragment::new(self.kind, flags, key, offset, source, destination, bytes) {
             Ok(fragment) => Some(fragment),
             Err(_) => None,
         }

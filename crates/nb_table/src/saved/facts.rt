@@ -18,7 +18,7 @@ use crate::load_fault::LoadFault;
 use crate::slot::Slot;
 use nb_datagram::Kind;
 use nb_datagram::limits::MAX_LENGTH;
-use nb_names::{Name, NoMemory};
+use nb_names::{LentName, NoMemory};
 use std::alloc::Global;
 use std::marker::Model;
 
@@ -26,8 +26,8 @@ use std::marker::Model;
 #[derive(Drop)]
 pub(crate) struct SavedFacts<'a> {
     kind: Kind,
-    source: Name,
-    destination: Name,
+    source: LentName<'a>,
+    destination: LentName<'a>,
     end: Option<u32>,
     promise: Option<u32>,
     runs: SavedRuns<'a>,

@@ -19,7 +19,7 @@ use super::form::SavedForm;
 use crate::load_fault::LoadFault;
 use nb_datagram::{Key, Kind};
 use nb_names::numbers::{number_16, number_32};
-use nb_names::{Name, NameFault, NoMemory, Pointers, read_name};
+use nb_names::{LentName, NameFault, NoMemory, read_lent_name};
 use std::cmp::Ordering;
 
 /// The byte at an offset.
@@ -159,10 +159,13 @@ fn name_fault(at: usize, fault: NameFault) -> LoadFault
 }
 
 /// The name that is spelled at an offset, with no pointer.
-pub(crate) fn read_plain_name(input: &[u8], at: usize) -> Result<(Name, usize), LoadFault>
+pub(crate) fn read_plain_name<'a>(
+    input: &'a [u8],
+    at: usize,
+) -> Result<(LentName<'a>, usize), LoadFault>
     ensures { name_reading input.now at result }
 {
-    match read_name(input, at, Pointers::Refused) {
+    match read_lent_name(input, at) {
         Ok(read) => Ok(read),
         Err(fault) => Err(name_fault(at, fault)),
     }

@@ -14,8 +14,8 @@ use super::Table;
 use crate::fault::TableFault;
 use crate::join::Join;
 use merging_counted::merge_counted;
-pub use taking_in::take_in_all;
 use nb_datagram::Datagrams;
+pub use taking_in::take_in_all;
 
 impl Table {
     /// Merges the other table into this one: each key that either has, with the join of what both

@@ -5,7 +5,7 @@ ghost use Rattle.nb_table.specs.Insert.{Refuses, Takes};
 use super::Table;
 use crate::fault::TableFault;
 use crate::sources::is_full_of;
-use nb_datagram::Fragment;
+use nb_datagram::{Fragment, LentFragment};
 
 impl Table {
     /// Why [`Table::insert`] refuses a fragment, whatever memory there is; `None` where the table
@@ -18,6 +18,15 @@ impl Table {
     /// many keys are held as may be in all. There is no other (our choice). Where a key of any
     /// address has room, none is looked for.
     pub fn refusal_of(&self, fragment: &Fragment<'_>) -> Option<TableFault>
+        ensures refusal { MatchOption result (Takes self.now fragment.now)
+            (Refuses self.now fragment.now) }
+        ensures no_memory_needed { IfSome result (λ fault. fault ≢ TableFault.NoMemory) }
+    {
+        self.refusal_of_lent(&fragment.lent())
+    }
+
+    /// Why the table refuses a fragment whose names are lent, as [`Table::refusal_of`] answers.
+    pub fn refusal_of_lent(&self, fragment: &LentFragment<'_>) -> Option<TableFault>
         ensures refusal { MatchOption result (Takes self.now fragment.now)
             (Refuses self.now fragment.now) }
         ensures no_memory_needed { IfSome result (λ fault. fault ≢ TableFault.NoMemory) }

@@ -13,37 +13,37 @@ returns-then-bytes-end-clause-fault c = no_data _ c.number_16.ensures (omega ari
 pub returns-in-Err-clause-fault : goal.returns-in-Err-clause-fault
 returns-in-Err-clause-fault c = in_names _ c.number_16.ensures (omega arith) (in_source _ c.in-Err.ensures.fault)
 
-pub returns-in-Err-read_name-clause-fault : goal.returns-in-Err-read_name-clause-fault
-returns-in-Err-read_name-clause-fault c =
-    in_names _ c.number_16.ensures (omega arith) (in_destination _ _ _ c.in-Ok.ensures.name.0 c.in-Ok.ensures.found c.in-Err-read_name.ensures.fault)
+pub returns-in-Err-read_lent_name-clause-fault : goal.returns-in-Err-read_lent_name-clause-fault
+returns-in-Err-read_lent_name-clause-fault c =
+    in_names _ c.number_16.ensures (omega arith) (in_destination _ _ _ c.in-Ok.ensures.name.0 c.in-Ok.ensures.found c.in-Err-read_lent_name.ensures.fault)
 
 pub with_parts-fragment-requires : goal.with_parts-fragment-requires
 with_parts-fragment-requires c =
-    let has : HasFragment c.args.bytes.now c.number_16.result c.number_16-2.result c.in-Ok.read.0 c.in-Ok-read_name.read.0 c.in-Ok.read.1 c.in-Ok-read_name.read.1 = record {
+    let has : HasFragment c.args.bytes.now c.number_16.result c.number_16-2.result c.in-Ok.read.0 c.in-Ok-read_lent_name.read.0 c.in-Ok.read.1 c.in-Ok-read_lent_name.read.1 = record {
       size_there = c.number_16.ensures;
       offset_there = c.number_16-2.ensures;
       whole = omega arith;
       source_there = c.in-Ok.ensures.found;
-      destination_there = c.in-Ok-read_name.ensures.found;
-      within = c.in-Ok-read_name.ensures.within;
+      destination_there = c.in-Ok-read_lent_name.ensures.found;
+      within = c.in-Ok-read_lent_name.ensures.within;
       source_name = c.in-Ok.ensures.name.0;
-      destination_name = c.in-Ok-read_name.ensures.name.0;
+      destination_name = c.in-Ok-read_lent_name.ensures.name.0;
     } in
     let count = named_there _ _ _ _ _ _ _ has in
     let small = c.number_16.ensures.fits in
-    rw (take_rest (take (14 + c.number_16.result) c.args.bytes.now) c.in-Ok-read_name.read.1) (omega (arith, count, small))
+    rw (take_rest (take (14 + c.number_16.result) c.args.bytes.now) c.in-Ok-read_lent_name.read.1) (omega (arith, count, small))
 
 pub returns-clause-found : goal.returns-clause-found
 returns-clause-found c =
-    let has : HasFragment c.args.bytes.now c.number_16.result c.number_16-2.result c.in-Ok.read.0 c.in-Ok-read_name.read.0 c.in-Ok.read.1 c.in-Ok-read_name.read.1 = record {
+    let has : HasFragment c.args.bytes.now c.number_16.result c.number_16-2.result c.in-Ok.read.0 c.in-Ok-read_lent_name.read.0 c.in-Ok.read.1 c.in-Ok-read_lent_name.read.1 = record {
       size_there = c.number_16.ensures;
       offset_there = c.number_16-2.ensures;
       whole = omega arith;
       source_there = c.in-Ok.ensures.found;
-      destination_there = c.in-Ok-read_name.ensures.found;
-      within = c.in-Ok-read_name.ensures.within;
+      destination_there = c.in-Ok-read_lent_name.ensures.found;
+      within = c.in-Ok-read_lent_name.ensures.within;
       source_name = c.in-Ok.ensures.name.0;
-      destination_name = c.in-Ok-read_name.ensures.name.0;
+      destination_name = c.in-Ok-read_lent_name.ensures.name.0;
     } in
-    rw (c.with_parts-fragment.ensures, take_rest (take (14 + c.number_16.result) c.args.bytes.now) c.in-Ok-read_name.read.1)
+    rw (c.with_parts-fragment.ensures, take_rest (take (14 + c.number_16.result) c.args.bytes.now) c.in-Ok-read_lent_name.read.1)
     (fragment_there _ c.args.header.now c.args.kind _ _ _ _ _ _ c.requires.header c.requires.form has)

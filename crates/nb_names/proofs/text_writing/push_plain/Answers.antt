@@ -12,6 +12,6 @@ returns-in_ok-push_items-in-Some c =
     let split = c.in-Some.ensures.split in
     on_ok_weaker c.push_spelled.result (λ written.
     written
-    ∙ ap (λ (front : List ℕ). front ++ scope_text_of labels) c.in_ok-push_items-in-Some.ensures.written
+    ∙ ap (λ (front : List ℕ). front ++ scope_text_of labels) c.in_ok-push_items-in-Some.ensures
     ∙ append_assoc before (items_of label) (scope_text_of labels)
     ∙ ap (λ ls. before ++ domain_written ls) (sym split.0)) (c.push_spelled.ensures labels split.1.domain.each split.1.exact)

@@ -16,7 +16,7 @@ labels-preserved c labels a e =
       split.0,
       (subst (AllByRecursion IsLabel) split.1 was.1).1,
       split.2,
-      label_turn c.in-Some.label.now split.0 _ _ _ _ dotted c.in_ok-push_items.ensures.written (ap (λ ls. string_bytes c.labels.text ++ scope_text_of ls) (sym split.1) ∙ was.3),
+      label_turn c.in-Some.label.now split.0 _ _ _ _ dotted c.in_ok-push_items.ensures (ap (λ ls. string_bytes c.labels.text ++ scope_text_of ls) (sym split.1) ∙ was.3),
     )
 
 pub returns : goal.returns

@@ -22,11 +22,7 @@ use std::alloc::Global;
 use std::collections::{BTreeMap, btree_map};
 
 /// The join of another entry with that of its key: the other one itself, where the key is new.
-fn united_at(
-    entries: &BTreeMap<Key, Entry>,
-    key: Key,
-    other: Entry,
-) -> Result<Entry, NoMemory>
+fn united_at(entries: &BTreeMap<Key, Entry>, key: Key, other: Entry) -> Result<Entry, NoMemory>
     ensures { IfOk result (λ entry. entry ≡ joined_onto join_entry
         (maps.get (maps.from_entries {R = key_cmp} entries.now.entries) key) other) }
 {

@@ -11,5 +11,5 @@ returns c =
     let m = c.args.self.now in
     let f = c.args.fragment.now in
     let table : c.table.result.now ≡ m.timed.table = c.table.ensures ∙ ap (λ (x : MemberValue). x.timed.table) c.self.view_is in
-    let refusal = subst (λ (t : TableValue). MatchOption c.refusal_of.result (Takes t f) (Refuses t f)) table c.refusal_of.ensures.refusal in
-    rw c.limit_of.ensures (met_by m f c.refusal_of.result refusal c.refusal_of.ensures.no_memory_needed)
+    let refusal = subst (λ (t : TableValue). MatchOption c.refusal_of_lent.result (Takes t f) (Refuses t f)) table c.refusal_of_lent.ensures.refusal in
+    rw c.limit_of.ensures (met_by m f c.refusal_of_lent.result refusal c.refusal_of_lent.ensures.no_memory_needed)

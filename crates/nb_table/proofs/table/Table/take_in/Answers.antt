@@ -22,8 +22,7 @@ move_entries-requires-clause-other c k e h =
 
 pub invariant_of-self-2 : goal.invariant_of-self-2
 invariant_of-self-2 c =
-    let was : TableValue = record { contents = maps.from_entries {R = key_cmp} c.self.inside.entries.entries; limits = record { keys = c.self.inside.keys; per_source = c.self.inside.per_source; longest = c.self.inside.longest } } in
-    (
+    let was : TableValue = record { contents = maps.from_entries {R = key_cmp} c.self.inside.entries.entries; limits = record { keys = c.self.inside.keys; per_source = c.self.inside.per_source; longest = c.self.inside.longest } } in (
       merged_keeps was c.args.self.now c.args.other.contents (maps.from_entries {R = key_cmp} c.move_entries.new.entries.entries) c.self.view_is c.self.invariant.0 (rw (← c.other.view_is) c.other.invariant.0.formed) c.in_ok-fits.ensures.fits (rw (← c.self.view_is, ← c.other.view_is) c.in_ok-move_entries.ensures.joined),
       not_counted c.self.inside.counts _ (sym c.is_some.ensures ∙ c.if-is_some.false),
     )

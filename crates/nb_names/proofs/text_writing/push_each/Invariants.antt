@@ -1,6 +1,6 @@
 use Rattle.std.proofs.Common.{◌≡◌, ◌++◌, drop, string_bytes}
 use Rattle.nb_names.specs.NameText.{items_of}
-use Rattle.nb_names.proofs.text_writing.push_items.Given as goal
+use Rattle.nb_names.proofs.text_writing.push_each.Given as goal
 
 abbrev pub invariant-loop-byte : goal.invariant-loop-byte
 invariant-loop-byte l = string_bytes l.text ++ items_of (drop l.byte-index l.bytes) ≡ string_bytes l.fn.text ++ items_of l.bytes

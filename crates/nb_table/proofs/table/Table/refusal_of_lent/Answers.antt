@@ -13,7 +13,7 @@ use Rattle.nb_datagram.specs.KeyOrder.{key_cmp_total, key_cmp_exact}
 use Rattle.nb_table.specs.Shared.TreeLemmas.{get_is, len_is}
 use Rattle.nb_table.proofs.Limits.GroupLemmas.{held_at_most}
 use Rattle.nb_table.proofs.Changes.InsertLemmas.{same_test}
-use Rattle.nb_table.proofs.table.Table.refusal_of.Goals as goal
+use Rattle.nb_table.proofs.table.Table.refusal_of_lent.Goals as goal
 
 -- what the first two tests say of a fragment that they pass over
 passes_by : (l : Limits) (f : FragmentParts) (first : Bool) (offset far longest : ℕ) → first ≡ is_first f.flags → offset ≡ f.offset → far ≡ reach (core_of f) → longest ≡ l.longest

@@ -29,11 +29,11 @@ returns c =
     (and_then (string_bytes c.push_number.new.text) (codes " source=") rest_5
     c.in_ok-push_str-3.ensures.bytes
     (and_then (string_bytes c.push_str-3.new.self) (written c.args.fragment.now.source) rest_6
-    (piece_is (string_bytes c.push_str-3.new.self) (ap written c.source.ensures) c.in_ok-push_name.ensures)
-    (and_then (string_bytes c.push_name.new.text) (codes " destination=") rest_7
+    (piece_is (string_bytes c.push_str-3.new.self) (ap written c.source.ensures) c.in_ok-push_lent_name.ensures)
+    (and_then (string_bytes c.push_lent_name.new.text) (codes " destination=") rest_7
     c.in_ok-push_str-4.ensures.bytes
     (and_then (string_bytes c.push_str-4.new.self) (written c.args.fragment.now.destination) rest_8
-    (piece_is (string_bytes c.push_str-4.new.self) (ap written c.destination.ensures) c.in_ok-push_name-2.ensures)
-    (and_then (string_bytes c.push_name-2.new.text) (codes " data=") rest_9
+    (piece_is (string_bytes c.push_str-4.new.self) (ap written c.destination.ensures) c.in_ok-push_lent_name-2.ensures)
+    (and_then (string_bytes c.push_lent_name-2.new.text) (codes " data=") rest_9
     c.in_ok-push_str-5.ensures.bytes
     (piece_is (string_bytes c.push_str-5.new.self) (ap data_text c.bytes.ensures.value) c.in_ok-push_data.ensures)))))))))

@@ -38,18 +38,26 @@ pub walk_item : {A : Type 0} (S : ℕ → A → ℕ → Type 0) (line : A → Li
 walk_item S line at count i here old now items end row low walk =
     next_item S i here items end (omega (arith, row.counted)) (walk items end row).0
 
--- a turn that read the item and added its line
+-- a turn that added the line of the item, and found where it ends
+pub walk_step : {A : Type 0} (S : ℕ → A → ℕ → Type 0) (line : A → List ℕ) (at count i here after : ℕ) (old mid new : List ℕ)
+    → i < count → Walk S line at count i here old mid → ((y : A) (n : ℕ) → S here y n → (after ≡ n) × (new ≡ mid ++ line y))
+    → Walk S line at count (i + 1) after old new
+walk_step {A} S line at count i here after old mid new low walk added items end row =
+    let next = walk_item S line at count i here old mid items end row low walk in
+    let more_by_one : suc i ≡ i + 1 = omega arith in
+    let turn = added next.item next.after next.stands in
+    let rest : Row S after (drop (suc i) items) end = subst (λ (n : ℕ). Row S n (drop (suc i) items) end) (sym turn.0) next.rest in (
+      subst (λ (n : ℕ). Row S after (drop n items) end) more_by_one rest,
+      row_more line items i next.item old mid new next.there (walk items end row).1 turn.1,
+    )
+
+-- a turn that read the item, and added its line
 pub walk_turn : {A : Type 0} (S : ℕ → A → ℕ → Type 0) (line : A → List ℕ) (at count i here after : ℕ) (x : A) (old mid new : List ℕ)
     → i < count → ((y : A) (n : ℕ) → S here y n → (x ≡ y) × (after ≡ n)) → Walk S line at count i here old mid → new ≡ mid ++ line x
     → Walk S line at count (i + 1) after old new
-walk_turn {A} S line at count i here after x old mid new low one walk added items end row =
-    let next = walk_item S line at count i here old mid items end row low walk in
-    let same = one next.item next.after next.stands in
-    let more_by_one : suc i ≡ i + 1 = omega arith in
-    let rest : Row S after (drop (suc i) items) end = subst (λ (n : ℕ). Row S n (drop (suc i) items) end) (sym same.1) next.rest in (
-      subst (λ (n : ℕ). Row S after (drop n items) end) more_by_one rest,
-      row_more line items i next.item old mid new next.there (walk items end row).1 (added ∙ ap (λ (y : A). mid ++ line y) same.0),
-    )
+walk_turn {A} S line at count i here after x old mid new low one walk added =
+    walk_step S line at count i here after old mid new low walk
+    (λ y n stands. let same = one y n stands in (same.1, added ∙ ap (λ (z : A). mid ++ line z) same.0))
 
 row_over : {A : Type 0} (S : ℕ → A → ℕ → Type 0) (here end : ℕ) → Row S here [] end → here ≡ end
 row_over S here end none = refl

@@ -31,11 +31,29 @@ pub fn push_records(
 {
     let mut next = at;
     for _ in 0..count {
-        let (entry, after) = read_record(names, next).unwrap();
-        push_lines(section, &entry, text)?;
-        next = after;
+        next = push_standing(section, names, next, text)?;
     }
     Ok(next)
+}
+
+/// Adds the lines of the record that stands at an offset, and answers where it ends.
+///
+/// It is no part of the loop, so that a section without records makes no room for one.
+#[inline(never)]
+fn push_standing(
+    section: &str,
+    names: &NameReader<'_, '_>,
+    at: usize,
+    text: &mut String,
+) -> Result<usize, NoMemory>
+    requires { (entry : ResourceRecord) × (next : ℕ) × RecordAt names.now at entry next }
+    ensures { (entry : ResourceRecord) (next : ℕ) → RecordAt names.now at entry next →
+        IfOk result (λ after. (after ≡ next) × (string_bytes text.new
+        ≡ string_bytes text.old ++ record_lines section.now entry)) }
+{
+    let (entry, after) = read_record(names, at).unwrap();
+    push_lines(section, &entry, text)?;
+    Ok(after)
 }
 
 /// Adds the line of a record, and those of the parts of its RDATA.

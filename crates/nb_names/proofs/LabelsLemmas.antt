@@ -143,8 +143,7 @@ pub spelled_there : (packet : List ℕ) (start at : ℕ) (ls : List (List ℕ)) 
 spelled_there packet start at ls n (ends a) = (a, refl)
 spelled_there packet start at ls n (goes_on l more f b s r) =
     let rest = spelled_there packet start (at + 1 + length l) more n r in
-    let here : at + 1 + length l ≡ at + length (length l ∷ l) = omega arith in
-    (
+    let here : at + 1 + length l ≡ at + length (length l ∷ l) = omega arith in (
       stands_joined packet at (length l ∷ l) (spelling more) b (subst (λ (x : ℕ). StandsAt packet x (spelling more)) here rest.0),
       omega (arith, rest.1, length-append l (spelling more)),
     )

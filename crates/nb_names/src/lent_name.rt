@@ -150,10 +150,7 @@ impl Name {
 ///
 /// RFC 1001 section 14.1, RFC 1002 section 4.1.
 #[inline]
-pub fn read_lent_name<'a>(
-    packet: &'a [u8],
-    at: usize,
-) -> Result<(LentName<'a>, usize), NameFault>
+pub fn read_lent_name<'a>(packet: &'a [u8], at: usize) -> Result<(LentName<'a>, usize), NameFault>
     // The labels of the name answered stand there, and a name whose labels stand there is answered.
     ensures found { IfOk result (λ read.
         NameAt packet.entry.now Refused at (labels_of_name read.0) read.1) }

@@ -13,6 +13,10 @@ use itoa::Buffer;
 pub fn push_number(number: u64, text: &mut String) -> Result<(), NoMemory>
     ensures { OnOk result (string_bytes text.new ≡ string_bytes text.old ++ decimal number) }
 {
+    if number < 10 {
+        text.push(char::from(b'0' + number as u8))?;
+        return Ok(());
+    }
     let mut digits = Buffer::new();
     text.push_str(digits.format(number))?;
     Ok(())

@@ -1,5 +1,5 @@
 -- Rows that the code reads, item by item, and the packet that they make.
-use Rattle.std.proofs.Common.{◌≡◌, ℕ, ◌+◌, ◌≤◌, List, [], ◌∷◌, ◌++◌, length, take, drop, refl, ap, ◌∙◌, arith, length-append, length-drop}
+use Rattle.std.proofs.Common.{◌≡◌, ℕ, ◌+◌, ◌≤◌, List, [], ◌∷◌, ◌++◌, length, take, drop, refl, ap, subst, ◌∙◌, arith, length-append, length-drop}
 use Rattle.std.proofs.lemmas.List.{take-append-drop, length-take-le}
 use Rattle.nb_service.specs.declared.fault.ServiceFault.{ServiceFault}
 use Rattle.nb_service.specs.declared.fault.ServiceFault.TheVariants.{NoMemory}
@@ -7,7 +7,7 @@ use Rattle.nb_service.specs.declared.limits.TheConstants.{HEADER_LENGTH}
 use Rattle.nb_service.specs.declared.question.Question.{Question}
 use Rattle.nb_service.specs.Header.{PacketHeader, HasHeader}
 use Rattle.nb_service.specs.Record.{ResourceRecord}
-use Rattle.nb_service.specs.Packet.{QuestionAt, RecordAt, Row, none, more, ServicePacket, header_of, records_of, IsPacket}
+use Rattle.nb_service.specs.Packet.{QuestionAt, RecordAt, Row, none, more, ServicePacket, header_of, records_of, IsPacket, HasOutline}
 use Rattle.nb_service.specs.ServiceFaults.{RecordFails, RowFails, QuestionsFail, RecordsFail, record_count, PacketFails, in_questions, in_records, IsRefused, malformed, no_memory}
 use Rattle.nb_service.specs.Code.Steps.{RowOf, HasRow, OrMemory, fails, memory, item_count, HasPacket}
 use Rattle.nb_names.specs.PacketFacts.{within_16}
@@ -29,7 +29,7 @@ row_stopped S F at k n m xs f r low h = record { items = xs; here = m; before = 
 
 -- a row cut after some items
 rows_packet : (b : List ℕ) (h : PacketHeader) (qs : List Question) (rs : List ResourceRecord) (after used : ℕ) → HasHeader b h → RowOf (QuestionAt b) HEADER_LENGTH h.questions qs after →
-    RowOf (RecordAt b) after (record_count h) rs used → HasPacket b
+    RowOf (RecordAt b) after (record_count h) rs used → (packet : ServicePacket) × IsPacket b packet used
 rows_packet b h qs rs after used x q r =
     let first : List ResourceRecord = take h.answers rs in
     let rest : List ResourceRecord = drop h.answers rs in
@@ -41,7 +41,6 @@ rows_packet b h qs rs after used x q r =
     let last : length third ≡ h.additional = omega (arith, length-drop h.authorities rest, left) in
     let whole : first ++ (second ++ third) ≡ rs = ap (λ (z : List ResourceRecord). first ++ z) (take-append-drop h.authorities rest) ∙ take-append-drop h.answers rs in (
       record { id = h.id; word = h.word; questions = qs; answers = first; authorities = second; additional = third },
-      used,
       record {
         after = after;
         header = rw (q.counted, long, middle, last) x;
@@ -51,7 +50,16 @@ rows_packet b h qs rs after used x q r =
     )
 
 pub packet_there : (b : List ℕ) (h : PacketHeader) (after used : ℕ) → HasHeader b h → HasRow (QuestionAt b) HEADER_LENGTH h.questions after → HasRow (RecordAt b) after (record_count h) used → HasPacket b
-packet_there b h after used x q r = rows_packet b h q.0 r.0 after used x q.1 r.1
+packet_there b h after used x q r =
+    let p = rows_packet b h q.0 r.0 after used x q.1 r.1 in (p.0, used, p.1)
+
+pub outline_there : (b : List ℕ) (h : PacketHeader) (after used : ℕ) → HasHeader b h → HasRow (QuestionAt b) HEADER_LENGTH h.questions after → HasRow (RecordAt b) after (record_count h) used → HasOutline b h used
+outline_there b h after used x q r =
+    let p = rows_packet b h q.0 r.0 after used x q.1 r.1 in
+    record { packet = p.0; stands = p.1; outlined = one_header b (header_of p.0) h p.1.header x }
+
+pub outline_header : (b : List ℕ) (h : PacketHeader) (used : ℕ) → HasOutline b h used → HasHeader b h
+outline_header b h used o = subst (λ (k : PacketHeader). HasHeader b k) o.outlined o.stands.header
 
 pub packet_built : (b : List ℕ) (h : PacketHeader) (qs : List Question) (us bs cs : List ResourceRecord) (m n o used : ℕ) → HasHeader b h → RowOf (QuestionAt b) HEADER_LENGTH h.questions qs m →
     RowOf (RecordAt b) m h.answers us n → RowOf (RecordAt b) n h.authorities bs o → RowOf (RecordAt b) o h.additional cs used →
@@ -87,11 +95,11 @@ build_records b h qs rs m n count f x q before few (memory some) = memory (omega
 
 -- ---- answers of decoding
 
-pub refused_build : (b : List ℕ) (h : PacketHeader) (f : ServiceFault) → HasHeader b h → HasPacket b → OrMemory (item_count h) (PacketFails b) f → IsRefused b f
-refused_build b h f x p (fails r) = malformed r
-refused_build b h f x p (memory some) =
-    let same : item_count (header_of p.0) ≡ item_count h = ap item_count (one_header b (header_of p.0) h p.2.header x) in
-    no_memory p.0 p.1 p.2 (omega (arith, same, some, length-records_of p.0))
+pub refused_build : (b : List ℕ) (h : PacketHeader) (used : ℕ) (f : ServiceFault) → HasOutline b h used → OrMemory (item_count h) (PacketFails b) f → IsRefused b f
+refused_build b h used f o (fails r) = malformed r
+refused_build b h used f o (memory some) =
+    let same : item_count (header_of o.packet) ≡ item_count h = ap item_count o.outlined in
+    no_memory o.packet used o.stands (omega (arith, same, some, length-records_of o.packet))
 
 pub only_memory : (b : List ℕ) (count : ℕ) (f : ServiceFault) → (PacketFails b f → ⊥) → OrMemory count (PacketFails b) f → f ≡ NoMemory
 only_memory b count f none_fails (fails r) = absurd (none_fails r)

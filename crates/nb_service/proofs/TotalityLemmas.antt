@@ -23,7 +23,7 @@ use Rattle.nb_service.specs.Code.Steps.{HasPacket}
 use Rattle.nb_service.proofs.PiecesLemmas.{AreSmall, small_take, small_drop}
 use Rattle.nb_service.proofs.StepLemmas.{packet_there}
 
-are_small : (bytes : List ℕ) → AreBytes bytes → AreSmall bytes
+pub are_small : (bytes : List ℕ) → AreBytes bytes → AreSmall bytes
 are_small [] each k = omega arith
 are_small (b ∷ bs) each zero = omega (arith, each.0)
 are_small (b ∷ bs) each (suc k) = are_small bs each.1 k
@@ -62,14 +62,19 @@ SomeOr {A} S F = (at : ℕ) → ((x : A) × (n : ℕ) × S at x n) ⊎ ((f : Ser
 abbrev pub NameOrFault : List ℕ → Type 0
 NameOrFault b = (at : ℕ) → ((ls : List (List ℕ)) × (n : ℕ) × NameAt b Followed at ls n) ⊎ ((f : NameFault) × FaultAt b Followed at f)
 
+-- after a name with room for the numbers of a question, a question stands
+pub question_there : (b : List ℕ) → AreSmall b → (at after : ℕ) (ls : List (List ℕ)) → NameAt b Followed at ls after → after + 4 ≤ length b →
+    (q : Question) × QuestionAt b at q (after + 4)
+question_there b s at after ls named fits =
+    let kind = number_16 b after s (omega arith) in
+    let class = number_16 b (after + 2) s (omega arith) in
+    (record { name = ls; kind = kind.0; class = class.0 }, record { after = after; name = named; kind = kind.1; class = class.1; end = refl })
+
 question_named : (b : List ℕ) → AreSmall b → (at after : ℕ) (ls : List (List ℕ)) → NameAt b Followed at ls after →
     ((q : Question) × (n : ℕ) × QuestionAt b at q n) ⊎ ((f : ServiceFault) × QuestionFails b at f)
 question_named b s at after ls named = elim (cases_lt (length b) (after + 4)) [
   | inl low ↦ inr (Truncated (length b), question_cut ls after named low)
-  | inr fits ↦
-      let kind = number_16 b after s (omega arith) in
-      let class = number_16 b (after + 2) s (omega arith) in
-      inl (record { name = ls; kind = kind.0; class = class.0 }, after + 4, record { after = after; name = named; kind = kind.1; class = class.1; end = refl })
+  | inr fits ↦ let there = question_there b s at after ls named fits in inl (there.0, after + 4, there.1)
 ]
 
 question_or_fault : (b : List ℕ) → AreSmall b → NameOrFault b → SomeOr (QuestionAt b) (QuestionFails b)
@@ -78,13 +83,17 @@ question_or_fault b s names at = elim (names at) [
   | inr f ↦ inr (Name f.0, question_name f.0 f.1)
 ]
 
+-- bytes stand wherever there are as many
+pub bytes_stand : (b : List ℕ) (at size kind : ℕ) → kind ≢ NS → at + size ≤ length b → (d : ResourceData) × RdataAt b at size kind d
+bytes_stand b at size kind other fits =
+    let bytes : List ℕ = take size (drop at b) in
+    let long : length bytes ≡ size = length-take-le size (drop at b) (omega (arith, length-drop at b)) in
+    (of_bytes bytes, bytes_there bytes other long (subst (λ (n : ℕ). take n (drop at b) ≡ bytes) (sym long) refl))
+
 rdata_or_fault : (b : List ℕ) → NameOrFault b → (at size kind : ℕ) → at + size ≤ length b →
     ((d : ResourceData) × RdataAt b at size kind d) ⊎ ((kind ≡ NS) × ((f : ServiceFault) × DomainFails b at size f))
 rdata_or_fault b names at size kind fits = elim (same_or_not kind NS) [
-  | inr other ↦
-      let bytes : List ℕ = take size (drop at b) in
-      let long : length bytes ≡ size = length-take-le size (drop at b) (omega (arith, length-drop at b)) in
-      inl (of_bytes bytes, bytes_there bytes other long (subst (λ (n : ℕ). take n (drop at b) ≡ bytes) (sym long) refl))
+  | inr other ↦ inl (bytes_stand b at size kind other fits)
   | inl is ↦ elim (names at) [
     | inr f ↦ inr (is, (Name f.0, domain_name f.0 f.1))
     | inl h ↦ elim (same_or_not h.1 (at + size)) [
@@ -93,6 +102,17 @@ rdata_or_fault b names at size kind fits = elim (same_or_not kind NS) [
     ]
   ]
 ]
+
+-- where a name, a kind, a length and then RDATA of that kind and length stand, a record does
+pub record_there : (b : List ℕ) → AreSmall b → (at after kind size : ℕ) (ls : List (List ℕ)) → NameAt b Followed at ls after →
+    NumberAt b after w16 kind → NumberAt b (after + 8) w16 size → after + 10 + size ≤ length b → (d : ResourceData) → RdataAt b (after + 10) size kind d →
+    (r : ResourceRecord) × RecordAt b at r (after + 10 + size)
+record_there b s at after kind size ls named k z fits d there =
+    let class = number_16 b (after + 2) s (omega arith) in
+    let ttl = number_32 b (after + 4) s (omega arith) in (
+      record { name = ls; kind = kind; class = class.0; ttl = ttl.0; rdata = d },
+      record { after = after; size = size; name = named; kind = k; class = class.1; ttl = ttl.1; rdlength = z; whole = fits; rdata = there; end = refl },
+    )
 
 record_sized : (b : List ℕ) → NameOrFault b → (at after kind class ttl size : ℕ) (ls : List (List ℕ)) → NameAt b Followed at ls after →
     NumberAt b after w16 kind → NumberAt b (after + 2) w16 class → NumberAt b (after + 4) w32 ttl → NumberAt b (after + 8) w16 size →

@@ -5,6 +5,7 @@
 use Rattle.std.specs.Prelude.{ℕ, List}
 use Rattle.std.specs.Int.{w16}
 use Rattle.nb_names.specs.Numbers.{NumberAt}
+use Rattle.nb_service.specs.declared.header.Header.{Header}
 
 -- a header: the identifier, the flag word, and how many items the packet has of each sort
 pub record PacketHeader : Type 0 where
@@ -23,3 +24,15 @@ pub record HasHeader (packet : List ℕ) (header : PacketHeader) : Type 0 where
   pub answers : NumberAt packet 6 w16 header.answers
   pub authorities : NumberAt packet 8 w16 header.authorities
   pub additional : NumberAt packet 10 w16 header.additional
+
+-- the header that a value of the code stands for
+abbrev pub header_value : Header → PacketHeader
+header_value h =
+    record {
+      id = h.id;
+      word = h.word;
+      questions = h.questions;
+      answers = h.answers;
+      authorities = h.authorities;
+      additional = h.additional;
+    }

@@ -89,6 +89,13 @@ pub record IsPacket (bytes : List ℕ) (packet : ServicePacket) (used : ℕ) : T
   pub questions : Row (QuestionAt bytes) HEADER_LENGTH packet.questions after
   pub records : Row (RecordAt bytes) after (records_of packet) used
 
+-- HasOutline bytes header used: these bytes begin with a packet of this header, which takes up `used` of
+-- them
+pub record HasOutline (bytes : List ℕ) (header : PacketHeader) (used : ℕ) : Type 0 where
+  pub packet : ServicePacket
+  pub stands : IsPacket bytes packet used
+  pub outlined : header_of packet ≡ header
+
 -- HasSections bytes packet used: the questions stand after the header, and the answers, the authorities
 -- and the additional records one after the other from where the questions end
 pub record HasSections (bytes : List ℕ) (packet : ServicePacket) (used : ℕ) : Type 0 where

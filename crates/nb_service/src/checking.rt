@@ -5,7 +5,7 @@ ghost use Rattle.nb_service.specs.Code.Steps.{HasRow};
 ghost use Rattle.nb_service.specs.ServiceFaults.{QuestionsFail, RecordsFail};
 
 use crate::fault::ServiceFault;
-use crate::reading::{read_question, read_record};
+use crate::skipping::{skip_question, skip_record};
 use nb_names::NameReader;
 
 /// The offset after a row of questions, which begins at `at`.
@@ -19,8 +19,7 @@ pub(crate) fn skip_questions(
 {
     let mut next = at;
     for _ in 0..count {
-        let (_, after) = read_question(names, next)?;
-        next = after;
+        next = skip_question(names, next)?;
     }
     Ok(next)
 }
@@ -36,8 +35,7 @@ pub(crate) fn skip_records(
 {
     let mut next = at;
     for _ in 0..count {
-        let (_, after) = read_record(names, next)?;
-        next = after;
+        next = skip_record(names, next)?;
     }
     Ok(next)
 }

@@ -1,38 +1,60 @@
 //! Packets, decoded.
-ghost use Rattle.std.specs.Prelude.{◌≡◌, ◌≤◌, ℕ, length, IfOk, IfErr, OnOk, MatchResult};
+ghost use Rattle.std.specs.Prelude.{◌≡◌, ◌≤◌, ℕ, length, IfOk, IfErr, IsOkAnd, MatchResult};
 ghost use Rattle.nb_service.specs.declared.fault.ServiceFault.TheVariants.{NoMemory};
-ghost use Rattle.nb_service.specs.Header.{HasHeader};
-ghost use Rattle.nb_service.specs.Packet.{ServicePacket, IsPacket, HasSections};
-ghost use Rattle.nb_service.specs.Code.Steps.{header_value, item_count, HasPacket, OrMemory};
+ghost use Rattle.nb_service.specs.Header.{HasHeader, header_value};
+ghost use Rattle.nb_service.specs.Packet.{ServicePacket, header_of, IsPacket, HasOutline, HasSections};
+ghost use Rattle.nb_service.specs.Code.Steps.{item_count, OrMemory};
 ghost use Rattle.nb_service.specs.ServiceFaults.{PacketFails, IsRefused};
 
 use crate::checking::{skip_questions, skip_records};
 use crate::fault::ServiceFault;
 use crate::header::{Header, read_header};
 use crate::laws::{one_packet, one_service_fault, sections_in_order};
-use crate::limits::HEADER_LENGTH;
+use crate::limits::{HEADER_LENGTH, SHORT_PACKET};
 use crate::listing::{list_questions, list_records};
 use crate::packet::Packet;
 use nb_names::NameReader;
 use nb_names::limits::POINTED_OFFSETS;
 use std::alloc::Global;
 
-/// The longest packet, in bytes, of which each name's pointers are followed one by one. It is the
-/// longest that comes over UDP (RFC 1002 section 4.2.1.1, at TC); for so few names it takes less
-/// time than to clear the places in which the ends of chains are kept.
-const SHORT_PACKET: usize = 576;
-
-/// Checks the questions and records after a header, without memory.
-fn check(names: &NameReader<'_, '_>, header: &Header) -> Result<(), ServiceFault>
+/// Checks the questions and records after a header, without memory, and answers where they end.
+fn check(names: &NameReader<'_, '_>, header: &Header) -> Result<usize, ServiceFault>
     requires { HasHeader names.now (header_value header.now) }
-    ensures found { OnOk result (HasPacket names.now) }
+    ensures found { IfOk result (HasOutline names.now (header_value header.now)) }
     ensures fault { IfErr result (PacketFails names.now) }
 {
     let after = skip_questions(names, HEADER_LENGTH, header.questions as usize)?;
     let records = header.answers as usize
         + (header.authorities as usize + header.additional as usize);
-    skip_records(names, after, records)?;
-    Ok(())
+    skip_records(names, after, records)
+}
+
+/// The header of the packet with which a reader's bytes begin, and how many of them it takes up.
+///
+/// The packet is judged whole, as [`decode`] judges it, and not made; its questions begin after the
+/// header, and its records after them ([`read_question`](crate::read_question),
+/// [`read_record`](crate::read_record)). No memory is taken.
+///
+/// # Errors
+///
+/// What is wrong first, read from the front; never `NoMemory`.
+///
+/// RFC 1002 section 4.2.1.
+pub fn outline(names: &NameReader<'_, '_>) -> Result<(Header, usize), ServiceFault>
+    // What is answered stands there, and what stands there is answered.
+    ensures found { IfOk result (λ seen. HasOutline names.now (header_value seen.0) seen.1) }
+    ensures only { (packet : ServicePacket) (used : ℕ) → IsPacket names.now packet used →
+        IsOkAnd result (λ seen. (header_value seen.0 ≡ header_of packet) × (seen.1 ≡ used)) }
+
+    // Which fault it is, and where.
+    ensures fault { IfErr result (PacketFails names.now) }
+{
+    // The laws on which the clause `only` stands; the calls do nothing.
+    one_packet();
+    one_service_fault();
+    let header = read_header(names.packet())?;
+    let used = check(names, &header)?;
+    Ok((header, used))
 }
 
 /// Builds the packet after a header, and its length.
@@ -78,8 +100,7 @@ fn decode_names<'a>(
     one_packet();
     one_service_fault();
     sections_in_order();
-    let header = read_header(names.packet())?;
-    check(names, &header)?;
+    let (header, _) = outline(names)?;
     build(alloc, names, &header)
 }
 

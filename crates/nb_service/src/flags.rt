@@ -1,6 +1,6 @@
 //! Flags of packets, and of a node's names.
 ghost use Rattle.std.specs.Prelude.{⊤, ◌≡◌, [], ◌∷◌, codes};
-ghost use Rattle.nb_service.specs.Flags.{ont_of, nm_bits, nm_bits_of, node_bits, node_bits_of};
+ghost use Rattle.nb_service.specs.Flags.{opcode_of, rcode_of, ont_of, nm_bits, nm_bits_of, node_bits, node_bits_of};
 
 use bitflags::{Flag, Flags, bitflag_items};
 
@@ -100,6 +100,24 @@ pub(crate) fn node_flags_of(word: u16) -> NodeFlags
     ensures { node_bits result ≡ node_bits_of word }
 {
     NodeFlags::from_bits_truncate(word)
+}
+
+/// The operation in a flag word, OPCODE; any number from 0 to 15.
+///
+/// RFC 1002 section 4.2.1.1.
+pub fn opcode(word: u16) -> u8
+    ensures { result ≡ opcode_of word }
+{
+    (word >> 11 & 0xf) as u8
+}
+
+/// The result of a request in a flag word, RCODE; any number from 0 to 15.
+///
+/// RFC 1002 section 4.2.1.1.
+pub fn rcode(word: u16) -> u8
+    ensures { result ≡ rcode_of word }
+{
+    (word & 0xf) as u8
 }
 
 /// The owner's node type, ONT, in NB_FLAGS or NAME_FLAGS: 0 is B, 1 is P, 2 is M, 3 is reserved.

@@ -1,7 +1,6 @@
 //! The header of a packet.
 ghost use Rattle.std.specs.Prelude.{IfOk, IfErr};
-ghost use Rattle.nb_service.specs.Header.{HasHeader};
-ghost use Rattle.nb_service.specs.Code.Steps.{header_value};
+ghost use Rattle.nb_service.specs.Header.{HasHeader, header_value};
 ghost use Rattle.nb_service.specs.ServiceFaults.{PacketFails};
 
 use crate::fault::ServiceFault;
@@ -10,19 +9,19 @@ use nb_names::numbers::number_16;
 
 /// The fields of a header (RFC 1002 section 4.2.1.1).
 #[derive(Clone, Copy, Debug, PartialEq, Eq)]
-pub(crate) struct Header {
+pub struct Header {
     /// The identifier, NAME_TRN_ID.
-    pub(crate) id: u16,
+    pub id: u16,
     /// The flag word: R, OPCODE, NM_FLAGS and RCODE.
-    pub(crate) word: u16,
+    pub word: u16,
     /// How many questions there are.
-    pub(crate) questions: u16,
+    pub questions: u16,
     /// How many answers there are.
-    pub(crate) answers: u16,
+    pub answers: u16,
     /// How many authorities there are.
-    pub(crate) authorities: u16,
+    pub authorities: u16,
     /// How many additional records there are.
-    pub(crate) additional: u16,
+    pub additional: u16,
 }
 
 /// The header at the front of a packet.

@@ -13,9 +13,9 @@ ghost use Rattle.nb_service.specs.Encoding.{packet_bytes, IsWritable};
 ghost use Rattle.nb_service.specs.declared.question.Question.{Question};
 ghost use Rattle.nb_service.specs.Equality.{question_eq, record_eq, packet_eq};
 ghost use Rattle.nb_service.specs.Flags.{nm_bits, node_bits, opcode_of, rcode_of};
-ghost use Rattle.nb_service.specs.Packet.{RecordAt, ServicePacket, IsPacket, HasSections};
+ghost use Rattle.nb_service.specs.Packet.{QuestionAt, RecordAt, ServicePacket, IsPacket, HasSections};
 ghost use Rattle.nb_service.specs.Record.{ResourceRecord, of_domain};
-ghost use Rattle.nb_service.specs.ServiceFaults.{PacketFails};
+ghost use Rattle.nb_service.specs.ServiceFaults.{QuestionFails, RecordFails, PacketFails};
 
 use nb_names::laws::{name_or_fault, one_fault, one_reading, spelling_is_read};
 
@@ -102,6 +102,30 @@ pub fn one_service_fault()
         PacketFails bytes fault → ¬ IsPacket bytes packet used }
     ensures one { (bytes : List ℕ) (fault other : ServiceFault) →
         PacketFails bytes fault → PacketFails bytes other → fault ≡ other }
+{
+    one_reading();
+    one_fault();
+}
+
+/// At an offset stands one question at most; where one stands, it has no fault.
+pub fn one_question()
+    ensures one { (bytes : List ℕ) (at : ℕ) (question other : Question) (next after : ℕ) →
+        QuestionAt bytes at question next → QuestionAt bytes at other after →
+        (question ≡ other) × (next ≡ after) }
+    ensures alone { (bytes : List ℕ) (at : ℕ) (fault : ServiceFault) (question : Question)
+        (next : ℕ) → QuestionFails bytes at fault → ¬ QuestionAt bytes at question next }
+{
+    one_reading();
+    one_fault();
+}
+
+/// At an offset stands one record at most; where one stands, it has no fault.
+pub fn one_record()
+    ensures one { (bytes : List ℕ) (at : ℕ) (entry other : ResourceRecord) (next after : ℕ) →
+        RecordAt bytes at entry next → RecordAt bytes at other after →
+        (entry ≡ other) × (next ≡ after) }
+    ensures alone { (bytes : List ℕ) (at : ℕ) (fault : ServiceFault) (entry : ResourceRecord)
+        (next : ℕ) → RecordFails bytes at fault → ¬ RecordAt bytes at entry next }
 {
     one_reading();
     one_fault();

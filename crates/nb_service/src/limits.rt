@@ -18,3 +18,8 @@ pub const NODE_NAME_LENGTH: usize = 18;
 
 /// UNIT_ID, in bytes (RFC 1002 section 4.2.18).
 pub const UNIT_ID_LENGTH: usize = 6;
+
+/// The longest packet, in bytes, of which each name's pointers are followed one by one. It is the
+/// longest that comes over UDP (RFC 1002 section 4.2.1.1, at TC); for so few names it takes less
+/// time than to clear the places in which the ends of chains are kept.
+pub const SHORT_PACKET: usize = 576;

@@ -4,7 +4,7 @@ ghost use Rattle.nb_service.specs.Building.{packet_of, empty_packet, IsCounted};
 ghost use Rattle.nb_service.specs.Building.{with_question, with_record, section_of, IsFull};
 ghost use Rattle.nb_service.specs.Flags.{opcode_of, rcode_of, nm_bits, nm_bits_of};
 
-use crate::flags::{NmFlags, nm_flags_of};
+use crate::flags::{NmFlags, nm_flags_of, opcode, rcode};
 use crate::limits::MAX_ENTRIES;
 use crate::lists::{Questions, Records, add};
 use crate::push_fault::PushFault;
@@ -94,7 +94,7 @@ impl<'a> Packet<'a> {
     pub fn opcode(&self) -> u8
         ensures { result ≡ opcode_of self.now.word }
     {
-        (self.word >> 11 & 0xf) as u8
+        opcode(self.word)
     }
 
     /// The result of a request, RCODE; any number from 0 to 15.
@@ -103,7 +103,7 @@ impl<'a> Packet<'a> {
     pub fn rcode(&self) -> u8
         ensures { result ≡ rcode_of self.now.word }
     {
-        (self.word & 0xf) as u8
+        rcode(self.word)
     }
 
     /// The flags AA, TC, RD, RA and B of NM_FLAGS, without its reserved bits.

@@ -1,13 +1,15 @@
 //! Questions and records, read where they stand in a packet.
 //!
 //! They are read in line with their callers: a check then makes no copy of what it doesn't keep.
-ghost use Rattle.std.specs.Prelude.{◌≡◌, ◌≤◌, ◌+◌, length, IfOk, IfErr};
+ghost use Rattle.std.specs.Prelude.{◌≡◌, ◌≤◌, ◌+◌, ℕ, length, IfOk, IfErr, IsOkAnd};
+ghost use Rattle.nb_service.specs.declared.question.Question.{Question as QuestionValue};
 ghost use Rattle.nb_service.specs.Packet.{QuestionAt, RdataAt, RecordAt};
-ghost use Rattle.nb_service.specs.Record.{rdata_of};
+ghost use Rattle.nb_service.specs.Record.{ResourceRecord, rdata_of};
 ghost use Rattle.nb_service.specs.ServiceFaults.{QuestionFails, DomainFails, RecordFails};
 
 use crate::fault::ServiceFault;
 use crate::kinds::NS;
+use crate::laws::{one_question, one_record};
 use crate::question::Question;
 use crate::rdata::Rdata;
 use crate::record::Record;
@@ -15,21 +17,35 @@ use nb_names::numbers::{number_16, number_32};
 use nb_names::{NameReader, Pointers};
 
 /// The bytes of a question after its name: QUESTION_TYPE, QUESTION_CLASS.
-const QUESTION_FIELDS: usize = 4;
+pub(crate) const QUESTION_FIELDS: usize = 4;
 
 /// The bytes of a record between its name and its RDATA: RR_TYPE, RR_CLASS, TTL, RDLENGTH.
-const RECORD_FIELDS: usize = 10;
+pub(crate) const RECORD_FIELDS: usize = 10;
 
-/// The question that stands at an offset, and the offset after it. No memory is taken.
+/// The question that stands at an offset of a packet, and the offset after it. No memory is taken.
+///
+/// # Errors
+///
+/// What is wrong first: the name's fault, or that the packet ends before the question does
+/// (`Truncated`).
+///
+/// RFC 1002 section 4.2.1.2.
 #[inline(always)]
-pub(crate) fn read_question(
+pub fn read_question(
     names: &NameReader<'_, '_>,
     at: usize,
 ) -> Result<(Question, usize), ServiceFault>
+    // What is answered stands there, and what stands there is answered.
     ensures found { IfOk result (λ read. QuestionAt names.now at read.0 read.1) }
+    ensures only { (question : QuestionValue) (next : ℕ) → QuestionAt names.now at question next →
+        IsOkAnd result (λ read. (read.0 ≡ question) × (read.1 ≡ next)) }
     ensures within { IfOk result (λ read. read.1 ≤ length names.now) }
+
+    // Which fault it is, and where.
     ensures fault { IfErr result (QuestionFails names.now at) }
 {
+    // The law on which the clause `only` stands; the call does nothing.
+    one_question();
     let packet = names.packet();
     let (name, after) = names.read_domain(at, Pointers::Followed)?;
     if packet.len() - after < QUESTION_FIELDS {
@@ -66,16 +82,32 @@ fn read_rdata<'a>(
     Ok(Rdata::Domain(name))
 }
 
-/// The record that stands at an offset, and the offset after it. No memory is taken.
+/// The record that stands at an offset of a packet, and the offset after it. No memory is taken.
+/// RDATA of bytes is lent from the packet.
+///
+/// # Errors
+///
+/// What is wrong first: the fault of a name, that the packet ends before the record does
+/// (`Truncated`), or that the name in the RDATA of an NS record doesn't end where the RDATA does
+/// (`NameRdata`).
+///
+/// RFC 1002 section 4.2.1.3.
 #[inline(always)]
-pub(crate) fn read_record<'a>(
+pub fn read_record<'a>(
     names: &NameReader<'a, '_>,
     at: usize,
 ) -> Result<(Record<'a>, usize), ServiceFault>
+    // What is answered stands there, and what stands there is answered.
     ensures found { IfOk result (λ read. RecordAt names.now at read.0 read.1) }
+    ensures only { (entry : ResourceRecord) (next : ℕ) → RecordAt names.now at entry next →
+        IsOkAnd result (λ read. (read.0 ≡ entry) × (read.1 ≡ next)) }
     ensures within { IfOk result (λ read. read.1 ≤ length names.now) }
+
+    // Which fault it is, and where.
     ensures fault { IfErr result (RecordFails names.now at) }
 {
+    // The law on which the clause `only` stands; the call does nothing.
+    one_record();
     let packet = names.packet();
     let (name, after) = names.read_domain(at, Pointers::Followed)?;
     if packet.len() - after < RECORD_FIELDS {

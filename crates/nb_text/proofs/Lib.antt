@@ -1,6 +1,8 @@
 pub mod ShownLemmas
 pub mod SetLemmas
 pub mod RowLemmas
+pub mod WalkLemmas
+pub mod SectionRows
 pub mod PieceLemmas
 pub mod FieldLemmas
 pub mod MidLemmas

@@ -16,7 +16,8 @@ use Rattle.nb_service.specs.declared.kinds.TheConstants.{NB, NBSTAT}
 use Rattle.nb_service.specs.declared.node_name.NodeName.{NodeName}
 use Rattle.nb_service.specs.declared.question.Question.{Question}
 use Rattle.nb_service.specs.Flags.{opcode_of, rcode_of, ont_of}
-use Rattle.nb_service.specs.Packet.{ServicePacket, IsPacket, QuestionAt, RecordAt, RdataAt, bytes_there, domain_there, Row, none, more}
+use Rattle.nb_service.specs.Header.{PacketHeader}
+use Rattle.nb_service.specs.Packet.{ServicePacket, header_of, IsPacket, QuestionAt, RecordAt, RdataAt, bytes_there, domain_there, Row, none, more}
 use Rattle.nb_service.specs.Record.{ResourceData, of_bytes, of_domain, ResourceRecord}
 use Rattle.nb_service.specs.Views.{StatusParts, pieces, entry_of, entries_of_data, entries_in, node_name_of, status_of_size, status_of_data, status_in, no_status}
 use Rattle.nb_text.specs.Fields.{IsWord, AreLines}
@@ -67,26 +68,26 @@ state_mid word =
     (mid_field (codes "flags=") (set_text packet_flags word) refl (packet_set_word word).1)
     (mid_field (codes "rcode=") result refl (named_seen (rcode_word (rcode_of word)) (rcode_of word) (rcode_named (rcode_of word)))))
 
-counts_mid : (packet : ServicePacket) → IsMid (counts_text packet)
-counts_mid packet =
-    let questions = decimal (length packet.questions) in
-    let answers = decimal (length packet.answers) in
-    let authorities = decimal (length packet.authorities) in
-    let additional = decimal (length packet.additional) in
-    mid_both (codes " qd=" ++ questions) _ (mid_field (codes "qd=") questions refl (number_word (length packet.questions)).1)
-    (mid_both (codes " an=" ++ answers) _ (mid_field (codes "an=") answers refl (number_word (length packet.answers)).1)
+counts_mid : (header : PacketHeader) → IsMid (counts_text header)
+counts_mid header =
+    let questions = decimal header.questions in
+    let answers = decimal header.answers in
+    let authorities = decimal header.authorities in
+    let additional = decimal header.additional in
+    mid_both (codes " qd=" ++ questions) _ (mid_field (codes "qd=") questions refl (number_word header.questions).1)
+    (mid_both (codes " an=" ++ answers) _ (mid_field (codes "an=") answers refl (number_word header.answers).1)
     (mid_both (codes " ns=" ++ authorities) (codes " ar=" ++ additional)
-    (mid_field (codes "ns=") authorities refl (number_word (length packet.authorities)).1)
-    (mid_field (codes "ar=") additional refl (number_word (length packet.additional)).1)))
+    (mid_field (codes "ns=") authorities refl (number_word header.authorities).1)
+    (mid_field (codes "ar=") additional refl (number_word header.additional).1)))
 
-header_lines : (packet : ServicePacket) (used : ℕ) → AreLines (header_line packet used)
-header_lines packet used =
-    let id = word_text packet.id in
-    let word = codes " word=" ++ word_text packet.word in
+header_lines : (header : PacketHeader) (used : ℕ) → AreLines (header_line header used)
+header_lines header used =
+    let id = word_text header.id in
+    let word = codes " word=" ++ word_text header.word in
     let front : IsMid (id ++ word) =
-    mid_both id word (mid_seen id (word_seen packet.id)) (mid_field (codes "word=") (word_text packet.word) refl (word_seen packet.word)) in
-    front (state_text packet.word ++ (counts_text packet ++ used_text used))
-    (state_mid packet.word (counts_text packet ++ used_text used) (counts_mid packet (used_text used) (used_ends used)))
+    mid_both id word (mid_seen id (word_seen header.id)) (mid_field (codes "word=") (word_text header.word) refl (word_seen header.word)) in
+    front (state_text header.word ++ (counts_text header ++ used_text used))
+    (state_mid header.word (counts_text header ++ used_text used) (counts_mid header (used_text used) (used_ends used)))
     (codes "id=") (literal (codes "id=") refl)
 
 -- ---- questions and records
@@ -313,7 +314,7 @@ service_lines payload packet used a is =
     let all = records_stand payload is.after (packet.answers ++ (packet.authorities ++ packet.additional)) used a is.records in
     let one = all-split packet.answers (packet.authorities ++ packet.additional) all in
     let two = all-split packet.authorities packet.additional one.1 in
-    lines_then (header_line packet used) _ (header_lines packet used)
+    lines_then (header_line (header_of packet) used) _ (header_lines (header_of packet) used)
     (parts_both (flat_map question_line packet.questions) _
     (parts_each IsByteQuestion question_line packet.questions (questions_stand payload _ packet.questions is.after a is.questions) question_parts)
     (parts_both (flat_map (record_lines (codes "answer")) packet.answers) _

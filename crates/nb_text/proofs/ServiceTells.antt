@@ -5,7 +5,7 @@ use Rattle.std.specs.Fmt.{decimal}
 use Rattle.nb_names.specs.DomainName.{AreBytes}
 use Rattle.nb_names.specs.Hexadecimal.{digits_text}
 use Rattle.nb_service.specs.declared.question.Question.{Question}
-use Rattle.nb_service.specs.Packet.{ServicePacket, IsPacket, QuestionAt, RecordAt, Row, none, more}
+use Rattle.nb_service.specs.Packet.{ServicePacket, header_of, IsPacket, QuestionAt, RecordAt, Row, none, more}
 use Rattle.nb_service.specs.Record.{ResourceData, of_bytes, of_domain, ResourceRecord}
 use Rattle.nb_service.specs.Views.{entries_in, status_in}
 use Rattle.nb_service.proofs.SectionLemmas.{sections}
@@ -44,7 +44,7 @@ pub record IsCounted (p : ServicePacket) : Type 0 where
   pub authorities : length p.authorities < 2 ^ 64
   pub additional : length p.additional < 2 ^ 64
 
-counts_tell : (p q : ServicePacket) → IsCounted p → IsCounted q → Tells (counts_text p) (counts_text q) (Counts p q)
+counts_tell : (p q : ServicePacket) → IsCounted p → IsCounted q → Tells (counts_text (header_of p)) (counts_text (header_of q)) (Counts p q)
 counts_tell p q a b =
     let additional = after_tells (codes " ar=") (number_tells (length p.additional) (length q.additional) a.additional b.additional) in
     let authorities = field_then (codes " ns=") (number_tells (length p.authorities) (length q.authorities) a.authorities b.authorities) additional space space in
@@ -58,7 +58,7 @@ pub record SameHeader (p q : ServicePacket) : Type 0 where
   pub word : p.word ≡ q.word
   pub counts : Counts p q
 
-header_tells : (p q : ServicePacket) (m n : ℕ) → IsCounted p → IsCounted q → Tells (header_line p m) (header_line q n) (SameHeader p q)
+header_tells : (p q : ServicePacket) (m n : ℕ) → IsCounted p → IsCounted q → Tells (header_line (header_of p) m) (header_line (header_of q) n) (SameHeader p q)
 header_tells p q m n a b =
     let word = after_tells (codes " word=") (word_tells p.word q.word a.word b.word) in
     let identity = field_then (codes "id=") (word_tells p.id q.id a.id b.id) word space space in

@@ -1,14 +1,12 @@
 -- Texts of payloads: one for each port.
-use Rattle.std.proofs.Common.{◌≡◌, ◌≢◌, ◌⊎◌, inl, inr, ℕ, List, ◌++◌, Result, Ok, Err, refl, sym, ap, ap₂, ◌∙◌, subst, arith}
+use Rattle.std.proofs.Common.{◌≡◌, ◌≢◌, ◌⊎◌, inl, inr, ℕ, List, ◌++◌, Result, refl, sym, ap, ap₂, ◌∙◌, subst, arith}
 use Rattle.std.specs.Prelude.{OnOk}
 use Rattle.std.proofs.lemmas.Bool.{cases_eq}
 use Rattle.std.proofs.lemmas.Result.{on_ok_weaker}
 use Rattle.nb_service.specs.declared.fault.ServiceFault.{ServiceFault}
-use Rattle.nb_service.specs.declared.fault.ServiceFault.TheVariants.{NoMemory}
 use Rattle.nb_service.specs.FaultTexts.{service_fault_text}
 use Rattle.nb_service.specs.Packet as service
 use Rattle.nb_service.specs.ServiceFaults as service_faults
-use Rattle.nb_service.specs.ServiceFaults.{IsRefused, malformed, no_memory}
 use Rattle.nb_datagram.specs.declared.fault.DatagramFault.{DatagramFault}
 use Rattle.nb_datagram.specs.declared.packet.Packet.{Packet}
 use Rattle.nb_datagram.specs.FaultTexts.{datagram_fault_text}
@@ -21,13 +19,6 @@ use Rattle.nb_text.specs.ServiceText.{service_text}
 use Rattle.nb_text.specs.DatagramText.{datagram_text}
 use Rattle.nb_text.specs.SessionText.{session_text}
 use Rattle.nb_text.specs.Shown.{Shown, AddsShown, names, no_names, datagram, no_datagram, session}
-
--- ---- what is refused
-
--- a refusal that isn't for memory is a fault of the bytes
-pub fails_for : (bytes : List ℕ) (fault : ServiceFault) → IsRefused bytes fault → fault ≢ NoMemory → service_faults.PacketFails bytes fault
-fails_for _ _ (malformed fails) differs = fails
-fails_for _ _ (no_memory packet used stands some) differs = absurd (differs refl)
 
 -- ---- the text by the port
 
@@ -166,20 +157,21 @@ some_shown payload port n d s =
 
 -- ---- what is added
 
-pub adds_names : {E : Type 0} (payload : List ℕ) (packet : service.ServicePacket) (used : ℕ) (old new : List ℕ) (r : Result (Unit {0}) E)
-    → service.IsPacket payload packet used → OnOk r (new ≡ old ++ service_text packet used) → OnOk r (AddsShown payload 137 old new)
-adds_names payload packet used old new r stands added =
-    on_ok_weaker r (λ e. record { text = service_text packet used; shown = names packet used stands; added = e }) added
+-- AddsNames payload used old new: the text of a packet that takes up so many bytes of the payload was added
+abbrev pub AddsNames : List ℕ → ℕ → List ℕ → List ℕ → Type 0
+AddsNames payload used old new =
+    (packet : service.ServicePacket) × service.IsPacket payload packet used × (new ≡ old ++ service_text packet used)
+
+pub adds_names : {E : Type 0} (payload : List ℕ) (used : ℕ) (old new : List ℕ) (r : Result (Unit {0}) E)
+    → OnOk r (AddsNames payload used old new) → OnOk r (AddsShown payload 137 old new)
+adds_names payload used old new r added =
+    on_ok_weaker r (λ e. record { text = service_text e.0 used; shown = names e.0 used e.1; added = e.2 }) added
 
 pub adds_no_names : {E : Type 0} (payload : List ℕ) (fault : ServiceFault) (old new : List ℕ) (r : Result (Unit {0}) E)
-    → IsRefused payload fault → OnOk r (fault ≢ NoMemory) → OnOk r (new ≡ old ++ refused_text (service_fault_text fault))
+    → service_faults.PacketFails payload fault → OnOk r (new ≡ old ++ refused_text (service_fault_text fault))
     → OnOk r (AddsShown payload 137 old new)
-adds_no_names payload fault old new (Ok _) refused other added = record {
-  text = refused_text (service_fault_text fault);
-  shown = no_names fault (fails_for payload fault refused other);
-  added = added;
-}
-adds_no_names payload fault old new (Err e) refused other added = tt
+adds_no_names payload fault old new r fails added =
+    on_ok_weaker r (λ e. record { text = refused_text (service_fault_text fault); shown = no_names fault fails; added = e }) added
 
 pub adds_datagram : {E : Type 0} (payload : List ℕ) (packet : Packet) (used : ℕ) (old new : List ℕ) (r : Result (Unit {0}) E)
     → datagrams.IsPacket payload packet used → OnOk r (new ≡ old ++ datagram_text packet used) → OnOk r (AddsShown payload 138 old new)

@@ -10,7 +10,8 @@ use Rattle.nb_service.specs.declared.address_entry.AddressEntry.{AddressEntry}
 use Rattle.nb_service.specs.declared.node_name.NodeName.{NodeName}
 use Rattle.nb_service.specs.declared.question.Question.{Question}
 use Rattle.nb_service.specs.Flags.{opcode_of, rcode_of, ont_of}
-use Rattle.nb_service.specs.Packet.{ServicePacket}
+use Rattle.nb_service.specs.Header.{PacketHeader}
+use Rattle.nb_service.specs.Packet.{ServicePacket, header_of}
 use Rattle.nb_service.specs.Record.{ResourceData, of_bytes, of_domain, ResourceRecord}
 use Rattle.nb_service.specs.Views.{StatusParts, entries_in, status_in}
 use Rattle.nb_text.specs.Lines.{line_end, used_text}
@@ -19,8 +20,8 @@ use Rattle.nb_text.specs.Words.{operation_word, rcode_word, named_text, packet_f
 -- ---- the header
 
 -- the identifier and the flag word
-abbrev pub identity_text : ServicePacket → List ℕ
-identity_text packet = codes "id=" ++ (word_text packet.id ++ (codes " word=" ++ word_text packet.word))
+abbrev pub identity_text : PacketHeader → List ℕ
+identity_text header = codes "id=" ++ (word_text header.id ++ (codes " word=" ++ word_text header.word))
 
 -- what the flag word says
 abbrev pub state_text : ℕ → List ℕ
@@ -30,15 +31,15 @@ state_text word =
     ++ (codes " rcode=" ++ named_text (rcode_word (rcode_of word)) (rcode_of word)))))
 
 -- how many questions, answers, authorities and additional records there are
-abbrev pub counts_text : ServicePacket → List ℕ
-counts_text packet =
-    codes " qd=" ++ (decimal (length packet.questions) ++ (codes " an=" ++ (decimal (length packet.answers)
-    ++ (codes " ns=" ++ (decimal (length packet.authorities) ++ (codes " ar=" ++ decimal (length packet.additional)))))))
+abbrev pub counts_text : PacketHeader → List ℕ
+counts_text header =
+    codes " qd=" ++ (decimal header.questions ++ (codes " an=" ++ (decimal header.answers
+    ++ (codes " ns=" ++ (decimal header.authorities ++ (codes " ar=" ++ decimal header.additional))))))
 
--- header_line packet used
-abbrev pub header_line : ServicePacket → ℕ → List ℕ
-header_line packet used =
-    identity_text packet ++ (state_text packet.word ++ (counts_text packet ++ used_text used))
+-- header_line header used: of a packet that takes up so many bytes
+abbrev pub header_line : PacketHeader → ℕ → List ℕ
+header_line header used =
+    identity_text header ++ (state_text header.word ++ (counts_text header ++ used_text used))
 
 -- ---- questions and records
 
@@ -95,7 +96,7 @@ record_lines section entry =
 -- service_text packet used: the packet, which takes up so many bytes
 abbrev pub service_text : ServicePacket → ℕ → List ℕ
 service_text packet used =
-    header_line packet used
+    header_line (header_of packet) used
     ++ (flat_map question_line packet.questions
     ++ (flat_map (record_lines (codes "answer")) packet.answers
     ++ (flat_map (record_lines (codes "authority")) packet.authorities

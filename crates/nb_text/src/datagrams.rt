@@ -1,6 +1,7 @@
 //! The text of a datagram service packet.
 ghost use Rattle.std.specs.Prelude.{◌≡◌, ◌++◌, OnOk, string_bytes};
 ghost use Rattle.nb_datagram.specs.FaultTexts.{datagram_fault_text};
+ghost use Rattle.nb_datagram.specs.LentPacket.{packet_of};
 ghost use Rattle.nb_text.specs.DatagramText.{datagram_text, error_text, flags_text, fragment_text, parts_text, query_text};
 ghost use Rattle.nb_text.specs.Lines.{refused_text};
 ghost use Rattle.nb_text.specs.Shown.{AddsShown};
@@ -8,17 +9,17 @@ ghost use Rattle.nb_text.specs.Words.{query_word};
 
 use crate::words::push_used;
 use nb_datagram::{
-    DatagramFault, ErrorPacket, Fragment, Key, Packet, QueryKind, QueryPacket, decode, kind_name,
-    push_key,
+    DatagramFault, ErrorPacket, Key, LentFragment, LentPacket, LentQuery, QueryKind, decode_lent,
+    kind_name, push_key,
 };
-use nb_names::{NoMemory, push_data, push_digits, push_name};
+use nb_names::{NoMemory, push_data, push_digits, push_lent_name, push_number};
 
 /// Adds the text of a payload of port 138.
 pub fn push_datagram(payload: &[u8], text: &mut String) -> Result<(), NoMemory>
     ensures { OnOk result
         (AddsShown payload.now 138 (string_bytes text.old) (string_bytes text.new)) }
 {
-    match decode(payload) {
+    match decode_lent(payload) {
         Ok((packet, used)) => push_whole(&packet, used, text),
         Err(fault) => push_refusal(fault, text),
     }
@@ -34,9 +35,9 @@ fn push_refusal(fault: DatagramFault, text: &mut String) -> Result<(), NoMemory>
 }
 
 /// Adds the line of a packet that takes up so many bytes.
-fn push_whole(packet: &Packet<'_>, used: usize, text: &mut String) -> Result<(), NoMemory>
+fn push_whole(packet: &LentPacket<'_>, used: usize, text: &mut String) -> Result<(), NoMemory>
     ensures { OnOk result
-        (string_bytes text.new ≡ string_bytes text.old ++ datagram_text packet.now used) }
+        (string_bytes text.new ≡ string_bytes text.old ++ datagram_text (packet_of packet.now) used) }
 {
     push_parts(packet, text)?;
     push_used(used, text)?;
@@ -44,14 +45,14 @@ fn push_whole(packet: &Packet<'_>, used: usize, text: &mut String) -> Result<(),
 }
 
 /// Adds what the packet is, and its parts.
-fn push_parts(packet: &Packet<'_>, text: &mut String) -> Result<(), NoMemory>
+fn push_parts(packet: &LentPacket<'_>, text: &mut String) -> Result<(), NoMemory>
     ensures { OnOk result
-        (string_bytes text.new ≡ string_bytes text.old ++ parts_text packet.now) }
+        (string_bytes text.new ≡ string_bytes text.old ++ parts_text (packet_of packet.now)) }
 {
     match packet {
-        Packet::Direct(fragment) => push_fragment(fragment, text),
-        Packet::Error(error) => push_error(*error, text),
-        Packet::Query(query) => push_query(query, text),
+        LentPacket::Direct(fragment) => push_fragment(fragment, text),
+        LentPacket::Error(error) => push_error(*error, text),
+        LentPacket::Query(query) => push_query(query, text),
     }
 }
 
@@ -68,17 +69,18 @@ fn push_flags(flags: u8, key: Key, text: &mut String) -> Result<(), NoMemory>
 }
 
 /// Adds a fragment's parts.
-fn push_fragment(fragment: &Fragment<'_>, text: &mut String) -> Result<(), NoMemory>
+fn push_fragment(fragment: &LentFragment<'_>, text: &mut String) -> Result<(), NoMemory>
     ensures { OnOk result
         (string_bytes text.new ≡ string_bytes text.old ++ fragment_text fragment.now) }
 {
     text.push_str(kind_name(fragment.kind()))?;
     push_flags(fragment.flags(), fragment.key(), text)?;
-    let offset = fragment.offset();
-    write!(text, " offset={offset} source=")?;
-    push_name(text, fragment.source())?;
+    text.push_str(" offset=")?;
+    push_number(u64::from(fragment.offset()), text)?;
+    text.push_str(" source=")?;
+    push_lent_name(text, fragment.source())?;
     text.push_str(" destination=")?;
-    push_name(text, fragment.destination())?;
+    push_lent_name(text, fragment.destination())?;
     text.push_str(" data=")?;
     push_data(fragment.bytes(), text)?;
     Ok(())
@@ -97,14 +99,18 @@ fn push_error(error: ErrorPacket, text: &mut String) -> Result<(), NoMemory>
 }
 
 /// Adds a query's parts.
-fn push_query(query: &QueryPacket, text: &mut String) -> Result<(), NoMemory>
-    ensures { OnOk result
-        (string_bytes text.new ≡ string_bytes text.old ++ query_text query.now) }
+fn push_query(query: &LentQuery<'_>, text: &mut String) -> Result<(), NoMemory>
+    ensures { OnOk result (string_bytes text.new ≡ string_bytes text.old ++ query_text (record {
+      kind = query.now.kind;
+      flags = query.now.flags;
+      key = query.now.key;
+      destination = query.now.destination;
+    })) }
 {
     text.push_str(query_name(query.kind))?;
     push_flags(query.flags, query.key, text)?;
     text.push_str(" destination=")?;
-    push_name(text, &query.destination)?;
+    push_lent_name(text, &query.destination)?;
     Ok(())
 }
 

@@ -1,130 +1,155 @@
 //! The text of a name service packet.
-ghost use Rattle.std.specs.Prelude.{◌≡◌, ◌≢◌, ◌++◌, false, OnOk, string_bytes};
+ghost use Rattle.std.specs.Prelude.{◌≡◌, ◌++◌, ℕ, List, IfOk, OnOk, string_bytes};
 ghost use Rattle.std.specs.List.{flat_map};
+ghost use Rattle.nb_service.specs.declared.question.Question.{Question as QuestionValue};
+ghost use Rattle.nb_service.specs.Code.Steps.{HasRow, RowOf};
 ghost use Rattle.nb_service.specs.FaultTexts.{service_fault_text};
-ghost use Rattle.nb_text.specs.Lines.{refused_text, used_text};
+ghost use Rattle.nb_service.specs.Header.{header_value};
+ghost use Rattle.nb_service.specs.Packet.{HasOutline, IsPacket, QuestionAt, ServicePacket};
+ghost use Rattle.nb_text.specs.Lines.{refused_text};
 ghost use Rattle.nb_text.specs.ServiceText.{counts_text, header_line, identity_text, question_line, service_text, state_text, type_text};
 ghost use Rattle.nb_text.specs.Shown.{AddsShown};
 
 use crate::records::push_records;
 use crate::sets::push_packet_flags;
 use crate::words::{push_operation, push_rcode, push_used};
-use nb_names::{NoMemory, push_domain, push_word};
-use nb_service::{Packet, Question, ServiceFault, decode};
-use std::alloc::Global;
+use nb_names::limits::POINTED_OFFSETS;
+use nb_names::{NameReader, NoMemory, push_domain, push_number, push_word};
+use nb_service::laws::sections_in_order;
+use nb_service::limits::{HEADER_LENGTH, SHORT_PACKET};
+use nb_service::{Header, Question, ServiceFault, opcode, outline, rcode, read_question};
 
 /// Adds the text of a payload of port 137.
-pub fn push_service(alloc: Global, payload: &[u8], text: &mut String) -> Result<(), NoMemory>
+///
+/// Of a packet of more than [`SHORT_PACKET`] bytes the ends of all chains of pointers are found
+/// first, as [`decode`](nb_service::decode) does.
+pub fn push_service(payload: &[u8], text: &mut String) -> Result<(), NoMemory>
     ensures { OnOk result
         (AddsShown payload.now 137 (string_bytes text.old) (string_bytes text.new)) }
 {
-    match decode(alloc, payload) {
-        Ok((packet, used)) => push_whole(&packet, used, text),
+    if payload.len() <= SHORT_PACKET {
+        return push_judged(&NameReader::of(payload, &mut []), text);
+    }
+    let mut ends = [0; POINTED_OFFSETS];
+    push_judged(&NameReader::of(payload, &mut ends), text)
+}
+
+/// Adds the text of the payload whose names are read so.
+fn push_judged(names: &NameReader<'_, '_>, text: &mut String) -> Result<(), NoMemory>
+    ensures { OnOk result
+        (AddsShown names.now 137 (string_bytes text.old) (string_bytes text.new)) }
+{
+    match outline(names) {
+        Ok((header, used)) => push_whole(names, &header, used, text),
         Err(fault) => push_refusal(fault, text),
     }
 }
 
-/// Adds why a payload begins with no packet, unless memory ran out.
+/// Adds why a payload begins with no packet.
 fn push_refusal(fault: ServiceFault, text: &mut String) -> Result<(), NoMemory>
-    ensures fault { OnOk result (fault ≢ ServiceFault.NoMemory) }
-    ensures added { OnOk result (string_bytes text.new
+    ensures { OnOk result (string_bytes text.new
         ≡ string_bytes text.old ++ refused_text (service_fault_text fault)) }
 {
-    if lacked_memory(fault) {
-        return Err(NoMemory);
-    }
     writeln!(text, "refused {fault}")?;
     Ok(())
 }
 
-/// Whether memory ran out.
-fn lacked_memory(fault: ServiceFault) -> bool
-    ensures { result ≡ false → fault ≢ ServiceFault.NoMemory }
+/// Adds the lines of a packet that takes up so many bytes, each read where it stands.
+fn push_whole(
+    names: &NameReader<'_, '_>,
+    header: &Header,
+    used: usize,
+    text: &mut String,
+) -> Result<(), NoMemory>
+    requires { HasOutline names.now (header_value header.now) used }
+    ensures { OnOk result ((packet : ServicePacket) × IsPacket names.now packet used
+        × (string_bytes text.new ≡ string_bytes text.old ++ service_text packet used)) }
 {
-    match fault {
-        ServiceFault::Truncated(_) => false,
-        ServiceFault::Name(_) => false,
-        ServiceFault::NameRdata(_) => false,
-        ServiceFault::NoMemory => true,
-    }
-}
-
-/// Adds the lines of a packet that takes up so many bytes.
-fn push_whole(packet: &Packet<'_>, used: usize, text: &mut String) -> Result<(), NoMemory>
-    ensures { OnOk result
-        (string_bytes text.new ≡ string_bytes text.old ++ service_text packet.now used) }
-{
-    push_header(packet, used, text)?;
-    push_questions(packet.questions().as_slice(), text)?;
-    push_records("answer", packet.answers().as_slice(), text)?;
-    push_records("authority", packet.authorities().as_slice(), text)?;
-    push_records("additional", packet.additional().as_slice(), text)?;
+    // The law on which the order of the sections stands; the call does nothing.
+    sections_in_order();
+    push_header(header, used, text)?;
+    let at = push_questions(names, HEADER_LENGTH, header.questions, text)?;
+    let at = push_records("answer", names, at, header.answers, text)?;
+    let at = push_records("authority", names, at, header.authorities, text)?;
+    push_records("additional", names, at, header.additional, text)?;
     Ok(())
 }
 
 /// Adds the line of the header.
-fn push_header(packet: &Packet<'_>, used: usize, text: &mut String) -> Result<(), NoMemory>
-    ensures { OnOk result
-        (string_bytes text.new ≡ string_bytes text.old ++ header_line packet.now used) }
+fn push_header(header: &Header, used: usize, text: &mut String) -> Result<(), NoMemory>
+    ensures { OnOk result (string_bytes text.new
+        ≡ string_bytes text.old ++ header_line (header_value header.now) used) }
 {
-    push_identity(packet, text)?;
-    push_state(packet, text)?;
-    push_counts(packet, text)?;
+    push_identity(header, text)?;
+    push_state(header.word, text)?;
+    push_counts(header, text)?;
     push_used(used, text)?;
     Ok(())
 }
 
 /// Adds the identifier and the flag word.
-fn push_identity(packet: &Packet<'_>, text: &mut String) -> Result<(), NoMemory>
-    ensures { OnOk result
-        (string_bytes text.new ≡ string_bytes text.old ++ identity_text packet.now) }
+fn push_identity(header: &Header, text: &mut String) -> Result<(), NoMemory>
+    ensures { OnOk result (string_bytes text.new
+        ≡ string_bytes text.old ++ identity_text (header_value header.now)) }
 {
     text.push_str("id=")?;
-    push_word(packet.id(), text)?;
+    push_word(header.id, text)?;
     text.push_str(" word=")?;
-    push_word(packet.word(), text)?;
+    push_word(header.word, text)?;
     Ok(())
 }
 
 /// Adds what the flag word says.
-fn push_state(packet: &Packet<'_>, text: &mut String) -> Result<(), NoMemory>
+fn push_state(word: u16, text: &mut String) -> Result<(), NoMemory>
     ensures { OnOk result
-        (string_bytes text.new ≡ string_bytes text.old ++ state_text packet.now.word) }
+        (string_bytes text.new ≡ string_bytes text.old ++ state_text word) }
 {
     text.push_str(" op=")?;
-    push_operation(packet.opcode(), text)?;
+    push_operation(opcode(word), text)?;
     text.push_str(" flags=")?;
-    push_packet_flags(packet.word(), text)?;
+    push_packet_flags(word, text)?;
     text.push_str(" rcode=")?;
-    push_rcode(packet.rcode(), text)?;
+    push_rcode(rcode(word), text)?;
     Ok(())
 }
 
 /// Adds how many questions, answers, authorities and additional records there are.
-fn push_counts(packet: &Packet<'_>, text: &mut String) -> Result<(), NoMemory>
-    ensures { OnOk result
-        (string_bytes text.new ≡ string_bytes text.old ++ counts_text packet.now) }
+fn push_counts(header: &Header, text: &mut String) -> Result<(), NoMemory>
+    ensures { OnOk result (string_bytes text.new
+        ≡ string_bytes text.old ++ counts_text (header_value header.now)) }
 {
-    let questions = packet.questions().as_slice().len();
-    let answers = packet.answers().as_slice().len();
-    let authorities = packet.authorities().as_slice().len();
-    let additional = packet.additional().as_slice().len();
-    write!(
-        text,
-        " qd={questions} an={answers} ns={authorities} ar={additional}"
-    )?;
+    text.push_str(" qd=")?;
+    push_number(u64::from(header.questions), text)?;
+    text.push_str(" an=")?;
+    push_number(u64::from(header.answers), text)?;
+    text.push_str(" ns=")?;
+    push_number(u64::from(header.authorities), text)?;
+    text.push_str(" ar=")?;
+    push_number(u64::from(header.additional), text)?;
     Ok(())
 }
 
-/// Adds the lines of questions.
-fn push_questions(questions: &[Question], text: &mut String) -> Result<(), NoMemory>
-    ensures { OnOk result (string_bytes text.new
-        ≡ string_bytes text.old ++ flat_map question_line questions.now) }
+/// Adds the lines of so many questions, which stand one after the other from an offset on, and
+/// answers where they end.
+fn push_questions(
+    names: &NameReader<'_, '_>,
+    at: usize,
+    count: u16,
+    text: &mut String,
+) -> Result<usize, NoMemory>
+    requires { (next : ℕ) × HasRow (QuestionAt names.now) at count next }
+    ensures { (questions : List QuestionValue) (next : ℕ) →
+        RowOf (QuestionAt names.now) at count questions next → IfOk result (λ after.
+        (after ≡ next) × (string_bytes text.new
+        ≡ string_bytes text.old ++ flat_map question_line questions)) }
 {
-    for question in questions {
-        push_question(question, text)?;
+    let mut next = at;
+    for _ in 0..count {
+        let (question, after) = read_question(names, next).unwrap();
+        push_question(&question, text)?;
+        next = after;
     }
-    Ok(())
+    Ok(next)
 }
 
 /// Adds the line of a question.

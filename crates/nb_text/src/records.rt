@@ -1,28 +1,59 @@
 //! The text of a record.
-ghost use Rattle.std.specs.Prelude.{◌≡◌, ◌++◌, OnOk, string_bytes};
+ghost use Rattle.std.specs.Prelude.{◌≡◌, ◌++◌, ℕ, List, IfOk, OnOk, string_bytes};
 ghost use Rattle.std.specs.List.{flat_map};
-ghost use Rattle.nb_service.specs.Record.{rdata_of};
+ghost use Rattle.nb_service.specs.Code.Steps.{HasRow, RowOf};
+ghost use Rattle.nb_service.specs.Packet.{RecordAt};
+ghost use Rattle.nb_service.specs.Record.{ResourceRecord, rdata_of};
 ghost use Rattle.nb_service.specs.Views.{entries_in};
 ghost use Rattle.nb_text.specs.ServiceText.{entry_line, rdata_text, record_line, record_lines};
 
 use crate::names::push_type;
 use crate::statuses::push_status;
-use nb_names::{NoMemory, push_address, push_data, push_domain, push_word};
-use nb_service::{AddressEntries, AddressEntry, Rdata, Record, ont};
+use nb_names::{
+    NameReader, NoMemory, push_address, push_data, push_domain, push_number, push_word,
+};
+use nb_service::{AddressEntries, AddressEntry, Rdata, Record, ont, read_record};
 
-/// Adds the lines of the records of a section with this name.
+/// Adds the lines of so many records of a section with this name, which stand one after the other
+/// from an offset on, and answers where they end.
 pub fn push_records(
     section: &str,
-    records: &[Record<'_>],
+    names: &NameReader<'_, '_>,
+    at: usize,
+    count: u16,
     text: &mut String,
-) -> Result<(), NoMemory>
-    ensures { OnOk result (string_bytes text.new
-        ≡ string_bytes text.old ++ flat_map (record_lines section.now) records.now) }
+) -> Result<usize, NoMemory>
+    requires { (next : ℕ) × HasRow (RecordAt names.now) at count next }
+    ensures { (records : List ResourceRecord) (next : ℕ) →
+        RowOf (RecordAt names.now) at count records next → IfOk result (λ after.
+        (after ≡ next) × (string_bytes text.new
+        ≡ string_bytes text.old ++ flat_map (record_lines section.now) records)) }
 {
-    for entry in records {
-        push_lines(section, entry, text)?;
+    let mut next = at;
+    for _ in 0..count {
+        next = push_standing(section, names, next, text)?;
     }
-    Ok(())
+    Ok(next)
+}
+
+/// Adds the lines of the record that stands at an offset, and answers where it ends.
+///
+/// It is no part of the loop, so that a section without records makes no room for one.
+#[inline(never)]
+fn push_standing(
+    section: &str,
+    names: &NameReader<'_, '_>,
+    at: usize,
+    text: &mut String,
+) -> Result<usize, NoMemory>
+    requires { (entry : ResourceRecord) × (next : ℕ) × RecordAt names.now at entry next }
+    ensures { (entry : ResourceRecord) (next : ℕ) → RecordAt names.now at entry next →
+        IfOk result (λ after. (after ≡ next) × (string_bytes text.new
+        ≡ string_bytes text.old ++ record_lines section.now entry)) }
+{
+    let (entry, after) = read_record(names, at).unwrap();
+    push_lines(section, &entry, text)?;
+    Ok(after)
 }
 
 /// Adds the line of a record, and those of the parts of its RDATA.
@@ -41,11 +72,13 @@ fn push_record(section: &str, entry: &Record<'_>, text: &mut String) -> Result<(
     ensures { OnOk result
         (string_bytes text.new ≡ string_bytes text.old ++ record_line section.now entry.now) }
 {
-    write!(text, "  {section} ")?;
+    text.push_str("  ")?;
+    text.push_str(section)?;
+    text.push_str(" ")?;
     push_domain(text, entry.name())?;
     push_type(entry.kind(), entry.class(), text)?;
-    let ttl = entry.ttl();
-    write!(text, " ttl={ttl}")?;
+    text.push_str(" ttl=")?;
+    push_number(u64::from(entry.ttl()), text)?;
     push_rdata(entry.rdata(), text)?;
     text.push_str("\n")?;
     Ok(())
@@ -98,8 +131,9 @@ fn push_entry(entry: AddressEntry, text: &mut String) -> Result<(), NoMemory>
 {
     text.push_str("    entry flags=")?;
     push_word(entry.flags, text)?;
-    let node_type = ont(entry.flags);
-    write!(text, " ont={node_type} address=")?;
+    text.push_str(" ont=")?;
+    push_number(u64::from(ont(entry.flags)), text)?;
+    text.push_str(" address=")?;
     push_address(entry.address, text)?;
     text.push_str("\n")?;
     Ok(())

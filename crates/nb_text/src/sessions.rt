@@ -4,7 +4,7 @@ ghost use Rattle.nb_text.specs.SessionText.{parts_text, session_text};
 ghost use Rattle.nb_text.specs.Shown.{AddsShown};
 
 use crate::words::push_used;
-use nb_names::{Name, NoMemory, push_address, push_data, push_digits, push_name};
+use nb_names::{Name, NoMemory, push_address, push_data, push_digits, push_name, push_number};
 use nb_session::{Packet, Parsed, parse};
 
 /// Adds the text of a payload of port 139.
@@ -23,7 +23,9 @@ fn push_parsed(parsed: &Parsed<'_>, text: &mut String) -> Result<(), NoMemory>
     match parsed {
         Parsed::Whole(packet, used) => push_whole(packet, *used, text),
         Parsed::More(needed) => {
-            writeln!(text, "more {needed}")?;
+            text.push_str("more ")?;
+            push_number(*needed as u64, text)?;
+            text.push_str("\n")?;
             Ok(())
         }
         Parsed::Refused(fault) => {
@@ -69,8 +71,9 @@ fn push_message(bytes: &[u8], text: &mut String) -> Result<(), NoMemory>
     ensures { OnOk result (string_bytes text.new
         ≡ string_bytes text.old ++ parts_text (Packet.Message bytes.now)) }
 {
-    let length = bytes.len();
-    write!(text, "message length={length} data=")?;
+    text.push_str("message length=")?;
+    push_number(bytes.len() as u64, text)?;
+    text.push_str(" data=")?;
     push_data(bytes, text)?;
     Ok(())
 }
@@ -104,6 +107,7 @@ fn push_retarget(address: [u8; 4], port: u16, text: &mut String) -> Result<(), N
 {
     text.push_str("retarget address=")?;
     push_address(address, text)?;
-    write!(text, " port={port}")?;
+    text.push_str(" port=")?;
+    push_number(u64::from(port), text)?;
     Ok(())
 }

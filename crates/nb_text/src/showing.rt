@@ -20,7 +20,7 @@ use std::alloc::Global;
 ///
 /// The form is our choice.
 pub fn push_packet(
-    alloc: Global,
+    _alloc: Global,
     port: u16,
     payload: &[u8],
     text: &mut String,
@@ -29,7 +29,7 @@ pub fn push_packet(
         (AddsShown payload.now port (string_bytes text.old) (string_bytes text.new)) }
 {
     if port == 137 {
-        return push_service(alloc, payload, text);
+        return push_service(payload, text);
     }
     if port == 138 {
         return push_datagram(payload, text);

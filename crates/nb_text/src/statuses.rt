@@ -6,7 +6,7 @@ ghost use Rattle.nb_service.specs.Views.{status_in};
 ghost use Rattle.nb_text.specs.ServiceText.{node_name_line, status_lines, unit_line};
 
 use crate::sets::push_name_flags;
-use nb_names::{Name, NoMemory, Scope, push_digits, push_name, push_word};
+use nb_names::{Name, NoMemory, Scope, push_digits, push_name, push_number, push_word};
 use nb_service::{NodeName, NodeStatus, Record, ont};
 
 /// Adds the lines of a record's node status.
@@ -67,8 +67,9 @@ fn push_node_name(name: NodeName, text: &mut String) -> Result<(), NoMemory>
     push_plain_name(name.bytes, text)?;
     text.push_str(" flags=")?;
     push_word(name.flags, text)?;
-    let node_type = ont(name.flags);
-    write!(text, " ont={node_type} set=")?;
+    text.push_str(" ont=")?;
+    push_number(u64::from(ont(name.flags)), text)?;
+    text.push_str(" set=")?;
     push_name_flags(name.flags, text)?;
     text.push_str("\n")?;
     Ok(())

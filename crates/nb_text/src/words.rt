@@ -3,7 +3,7 @@ ghost use Rattle.std.specs.Prelude.{◌≡◌, ◌++◌, option_map, OnOk, strin
 ghost use Rattle.nb_text.specs.Lines.{used_text};
 ghost use Rattle.nb_text.specs.Words.{named_text, operation_word, rcode_word};
 
-use nb_names::NoMemory;
+use nb_names::{NoMemory, push_number};
 
 /// The name of an operation (RFC 1002 section 4.2.1.1; that 8 is a refresh too is our choice).
 fn operation_name(opcode: u8) -> Option<&'static str>
@@ -62,10 +62,7 @@ fn push_named(name: Option<&'static str>, number: u8, text: &mut String) -> Resu
             text.push_str(word)?;
             Ok(())
         }
-        None => {
-            write!(text, "{number}")?;
-            Ok(())
-        }
+        None => push_number(u64::from(number), text),
     }
 }
 
@@ -73,6 +70,8 @@ fn push_named(name: Option<&'static str>, number: u8, text: &mut String) -> Resu
 pub fn push_used(used: usize, text: &mut String) -> Result<(), NoMemory>
     ensures { OnOk result (string_bytes text.new ≡ string_bytes text.old ++ used_text used) }
 {
-    writeln!(text, " used={used}")?;
+    text.push_str(" used=")?;
+    push_number(used as u64, text)?;
+    text.push_str("\n")?;
     Ok(())
 }

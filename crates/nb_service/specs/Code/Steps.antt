@@ -3,7 +3,6 @@ use Rattle.std.specs.Prelude.{◌≡◌, ℕ, ◌+◌, ◌<◌, List, length}
 use Rattle.nb_service.specs.declared.fault.ServiceFault.{ServiceFault}
 use Rattle.nb_service.specs.declared.fault.ServiceFault.TheVariants.{NoMemory}
 use Rattle.nb_service.specs.Packet.{Row, ServicePacket, IsPacket}
-use Rattle.nb_service.specs.declared.header.Header.{Header}
 use Rattle.nb_service.specs.Header.{PacketHeader}
 use Rattle.nb_service.specs.ServiceFaults.{record_count}
 
@@ -28,15 +27,3 @@ item_count header = header.questions + record_count header
 -- these bytes begin with some packet
 abbrev pub HasPacket : List ℕ → Type 0
 HasPacket bytes = (packet : ServicePacket) × (used : ℕ) × IsPacket bytes packet used
-
--- the header that a value of the code stands for
-abbrev pub header_value : Header → PacketHeader
-header_value h =
-    record {
-      id = h.id;
-      word = h.word;
-      questions = h.questions;
-      answers = h.answers;
-      authorities = h.authorities;
-      additional = h.additional;
-    }

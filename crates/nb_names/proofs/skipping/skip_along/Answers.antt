@@ -76,13 +76,12 @@ pub returns-then-target-start-clause-only : goal.returns-then-target-start-claus
 returns-then-target-start-clause-only c = no_name _ _ _ _ (reading_fails _ _ _ _ _ _ _ _ c.way.invariant.1 (not_below _ c.in-Pointer.ensures c.in-Followed.is c.if-target-start.true))
 
 pub way-preserved : goal.way-preserved
-way-preserved c =
-    (
-      c.way.invariant.0,
-      chain_turns _ _ _ _ _ _ _ c.in-Followed.is (c.end_from-start.ensures c.args.packet.now c.requires)
+way-preserved c = (
+  c.way.invariant.0,
+  chain_turns _ _ _ _ _ _ _ c.in-Followed.is (c.end_from-start.ensures c.args.packet.now c.requires)
       (pointer_turn _ _ _ _ _ _ _ _ _ c.way.invariant.1 c.in-Followed.is c.in-Pointer.ensures c.if-target-start.false c.unwrap_or-in-Pointer.ensures),
-      c.way.invariant.2,
-    )
+  c.way.invariant.2,
+)
 
 pub way-smaller : goal.way-smaller
 way-smaller c = omega (arith, ends_lower _ _ _ (c.end_from-start.ensures c.args.packet.now c.requires))

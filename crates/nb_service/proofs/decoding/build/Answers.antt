@@ -3,7 +3,7 @@ use Rattle.std.proofs.lemmas.Result.{err_from_is_err_and}
 use Rattle.nb_service.specs.Packet.{RecordAt, none}
 use Rattle.nb_service.proofs.RowLemmas.{row-append}
 use Rattle.nb_service.proofs.StepLemmas.{packet_built, build_questions, build_records}
-use Rattle.nb_service.specs.Code.Steps.{header_value}
+use Rattle.nb_service.specs.Header.{header_value}
 use Rattle.nb_service.proofs.decoding.build.Goals as goal
 
 pub returns-in_err-questions-clause-fault : goal.returns-in_err-questions-clause-fault

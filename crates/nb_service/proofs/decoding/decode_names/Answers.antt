@@ -1,27 +1,15 @@
-use Rattle.std.proofs.Common.{ℕ, List, subst}
 use Rattle.std.proofs.lemmas.Result.{err_from_is_err_and, IfOk-weaker, IfErr-weaker, MatchResult-from_both}
-use Rattle.nb_service.specs.Header.{HasHeader}
-use Rattle.nb_service.specs.Code.Steps.{header_value}
 use Rattle.nb_service.specs.ServiceFaults.{malformed}
 use Rattle.nb_service.proofs.StepLemmas.{refused_build, only_memory, packet_within}
 use Rattle.nb_service.proofs.decoding.decode_names.Goals as goal
 
 pub returns-in_err-header-clause-only : goal.returns-in_err-header-clause-only
-returns-in_err-header-clause-only c packet used h =
-    absurd (c.one_service_fault.ensures.alone _ _ packet used c.in_err-header.ensures.fault (rw c.packet.ensures h))
+returns-in_err-header-clause-only c packet used h = absurd (c.one_service_fault.ensures.alone _ _ packet used c.in_err-header.ensures.fault h)
 
 pub returns-in_err-header-clause-fault : goal.returns-in_err-header-clause-fault
 returns-in_err-header-clause-fault c =
     let p = err_from_is_err_and c.from_residual.result c.from_residual.ensures.1 in
-    rw (p.1, p.2, ← c.packet.ensures) (malformed c.in_err-header.ensures.fault)
-
-pub returns-in_err-check-clause-only : goal.returns-in_err-check-clause-only
-returns-in_err-check-clause-only c packet used h = absurd (c.one_service_fault.ensures.alone _ _ packet used c.in_err-check.ensures.fault h)
-
-pub returns-in_err-check-clause-fault : goal.returns-in_err-check-clause-fault
-returns-in_err-check-clause-fault c =
-    let p = err_from_is_err_and c.from_residual-in_err-check.result c.from_residual-in_err-check.ensures.1 in
-    rw (p.1, p.2) (malformed c.in_err-check.ensures.fault)
+    rw (p.1, p.2) (malformed c.in_err-header.ensures.fault)
 
 pub returns-clause-only : goal.returns-clause-only
 returns-clause-only c packet used h =
@@ -37,5 +25,4 @@ returns-clause-within c = IfOk-weaker c.build.result _ _ (λ read found. packet_
 
 pub returns-clause-fault : goal.returns-clause-fault
 returns-clause-fault c =
-    let header = subst (λ (bytes : List ℕ). HasHeader bytes (header_value c.in_ok-header.header)) c.packet.ensures c.in_ok-header.ensures.found in
-    IfErr-weaker c.build.result _ _ (λ fault fails. refused_build _ _ fault header c.in_ok-check.ensures.found fails) c.build.ensures.fault
+    IfErr-weaker c.build.result _ _ (λ fault fails. refused_build _ _ _ fault c.in_ok-header.ensures.found fails) c.build.ensures.fault

@@ -1,8 +1,23 @@
+use Rattle.std.proofs.Common.{string_bytes, arith}
+use Rattle.nb_service.specs.Packet.{QuestionAt}
 use Rattle.nb_text.specs.ServiceText.{question_line}
-use Rattle.nb_text.proofs.RowLemmas.{row_next}
+use Rattle.nb_text.proofs.WalkLemmas.{walk_begun, walk_item, walk_turn, walk_ended, read_is_ok, read_is}
 use Rattle.nb_text.proofs.names.push_questions.Goals as goal
 
-pub loop-question-preserved : goal.loop-question-preserved
-loop-question-preserved c =
-    row_next question_line c.args.questions.now c.loop-question.question-index c.question-item.result _ _ _ c.loop-question-test.true
-    c.question-item.is c.loop-question.invariant c.in_ok-push_question.ensures
+pub loop-init : goal.loop-init
+loop-init c = walk_begun (QuestionAt c.args.names.now) question_line c.args.at c.args.count (string_bytes c.args.text.now)
+
+pub unwrap-question-requires : goal.unwrap-question-requires
+unwrap-question-requires c =
+    let row = c.requires in
+    let next = walk_item (QuestionAt c.args.names.now) question_line _ _ c.loop.counter c.loop.next _ _ row.1.0 row.0 row.1.1 c.loop-test.true c.loop.invariant in
+    read_is_ok c.read_question.result _ (c.read_question.ensures.only next.item next.after next.stands)
+
+pub loop-preserved : goal.loop-preserved
+loop-preserved c =
+    walk_turn (QuestionAt c.args.names.now) question_line _ _ c.loop.counter c.loop.next _ c.unwrap-question.result.0 _ _ _ c.loop-test.true
+    (λ item after stands. read_is c.read_question.result _ _ c.unwrap-question.ensures (c.read_question.ensures.only item after stands))
+    c.loop.invariant c.in_ok-push_question.ensures
+
+pub returns : goal.returns
+returns c = walk_ended (QuestionAt c.args.names.now) question_line _ _ c.loop.counter _ _ _ (omega arith) c.loop.invariant

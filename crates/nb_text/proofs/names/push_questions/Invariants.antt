@@ -1,8 +1,8 @@
-use Rattle.std.proofs.Common.{◌≡◌, ◌++◌, take, string_bytes}
-use Rattle.std.specs.List.{flat_map}
+use Rattle.std.proofs.Common.{string_bytes}
+use Rattle.nb_service.specs.Packet.{QuestionAt}
 use Rattle.nb_text.specs.ServiceText.{question_line}
+use Rattle.nb_text.proofs.WalkLemmas.{Walk}
 use Rattle.nb_text.proofs.names.push_questions.Given as goal
 
-abbrev pub invariant-loop-question : goal.invariant-loop-question
-invariant-loop-question l =
-    string_bytes l.text ≡ string_bytes l.fn.text ++ flat_map question_line (take l.question-index l.questions)
+abbrev pub invariant-loop : goal.invariant-loop
+invariant-loop l = Walk (QuestionAt l.names) question_line l.at l.count l.counter l.next (string_bytes l.fn.text) (string_bytes l.text)

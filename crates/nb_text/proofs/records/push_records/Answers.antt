@@ -1,8 +1,21 @@
+use Rattle.std.proofs.Common.{string_bytes, arith}
+use Rattle.nb_service.specs.Packet.{RecordAt}
 use Rattle.nb_text.specs.ServiceText.{record_lines}
-use Rattle.nb_text.proofs.RowLemmas.{row_next}
+use Rattle.nb_text.proofs.WalkLemmas.{walk_begun, walk_item, walk_step, walk_ended}
 use Rattle.nb_text.proofs.records.push_records.Goals as goal
 
-pub loop-entry-preserved : goal.loop-entry-preserved
-loop-entry-preserved c =
-    row_next (record_lines c.args.section.now) c.args.records.now c.loop-entry.entry-index c.entry-item.result _ _ _ c.loop-entry-test.true
-    c.entry-item.is c.loop-entry.invariant c.in_ok-push_lines.ensures
+pub loop-init : goal.loop-init
+loop-init c = walk_begun (RecordAt c.args.names.now) (record_lines c.args.section.now) c.args.at c.args.count (string_bytes c.args.text.now)
+
+pub push_standing-requires : goal.push_standing-requires
+push_standing-requires c =
+    let row = c.requires in
+    let next = walk_item (RecordAt c.args.names.now) (record_lines c.args.section.now) _ _ c.loop.counter c.loop.next _ _ row.1.0 row.0 row.1.1 c.loop-test.true c.loop.invariant in
+    (next.item, next.after, next.stands)
+
+pub loop-preserved : goal.loop-preserved
+loop-preserved c =
+    walk_step (RecordAt c.args.names.now) (record_lines c.args.section.now) _ _ c.loop.counter c.loop.next _ _ _ _ c.loop-test.true c.loop.invariant c.in_ok-next.ensures
+
+pub returns : goal.returns
+returns c = walk_ended (RecordAt c.args.names.now) (record_lines c.args.section.now) _ _ c.loop.counter _ _ _ (omega arith) c.loop.invariant

@@ -1,0 +1,27 @@
+use Rattle.std.proofs.Common.{ap}
+use Rattle.std.proofs.lemmas.Result.{err_from_is_err_and}
+use Rattle.nb_service.specs.Packet.{header_of}
+use Rattle.nb_service.proofs.decoding.outline.Goals as goal
+
+pub returns-in_err-header-clause-only : goal.returns-in_err-header-clause-only
+returns-in_err-header-clause-only c packet used h =
+    absurd (c.one_service_fault.ensures.alone _ _ packet used c.in_err-header.ensures.fault (rw c.packet.ensures h))
+
+pub returns-in_err-header-clause-fault : goal.returns-in_err-header-clause-fault
+returns-in_err-header-clause-fault c =
+    let p = err_from_is_err_and c.from_residual.result c.from_residual.ensures.1 in
+    rw (p.1, p.2, ← c.packet.ensures) c.in_err-header.ensures.fault
+
+pub returns-in_err-used-clause-only : goal.returns-in_err-used-clause-only
+returns-in_err-used-clause-only c packet used h = absurd (c.one_service_fault.ensures.alone _ _ packet used c.in_err-used.ensures.fault h)
+
+pub returns-in_err-used-clause-fault : goal.returns-in_err-used-clause-fault
+returns-in_err-used-clause-fault c =
+    let p = err_from_is_err_and c.from_residual-in_err-used.result c.from_residual-in_err-used.ensures.1 in
+    rw (p.1, p.2) c.in_err-used.ensures.fault
+
+pub returns-clause-only : goal.returns-clause-only
+returns-clause-only c packet used h =
+    let seen = c.in_ok-used.ensures.found in
+    let one = c.one_packet.ensures _ seen.packet packet _ used seen.stands h in
+    (rw (← seen.outlined) (ap header_of one.0), one.1)

@@ -1,0 +1,81 @@
+//! Questions and records, judged where they stand in a packet, and not kept.
+ghost use Rattle.std.specs.Prelude.{◌≡◌, ◌+◌, ◌^◌, ◌<◌, ◌≤◌, length, IfOk, IfErr, OnOk};
+ghost use Rattle.nb_names.specs.DomainName.{AreBytes};
+ghost use Rattle.nb_service.specs.declared.question.Question.{Question as QuestionValue};
+ghost use Rattle.nb_service.specs.Packet.{QuestionAt, RdataAt, RecordAt};
+ghost use Rattle.nb_service.specs.Record.{ResourceData, ResourceRecord};
+ghost use Rattle.nb_service.specs.ServiceFaults.{QuestionFails, DomainFails, RecordFails};
+
+use crate::fault::ServiceFault;
+use crate::kinds::NS;
+use crate::reading::{QUESTION_FIELDS, RECORD_FIELDS};
+use nb_names::numbers::number_16;
+use nb_names::{NameReader, Pointers};
+
+/// What the type of bytes says of each. It is proved; a call does nothing.
+fn each_is_a_byte(bytes: &[u8])
+    ensures { AreBytes bytes.now }
+{}
+
+/// The offset after the question that stands at an offset.
+#[inline(always)]
+pub(crate) fn skip_question(names: &NameReader<'_, '_>, at: usize) -> Result<usize, ServiceFault>
+    ensures found { IfOk result (λ next.
+        (question : QuestionValue) × QuestionAt names.now at question next) }
+    ensures fault { IfErr result (QuestionFails names.now at) }
+{
+    let packet = names.packet();
+    each_is_a_byte(packet);
+    let after = names.skip_domain(at, Pointers::Followed)?;
+    if packet.len() - after < QUESTION_FIELDS {
+        return Err(ServiceFault::Truncated(packet.len()));
+    }
+    Ok(after + QUESTION_FIELDS)
+}
+
+/// Judges the RDATA of a record of a kind: the `size` bytes at `begin`.
+#[inline(always)]
+fn check_rdata(
+    names: &NameReader<'_, '_>,
+    begin: usize,
+    size: usize,
+    kind: u16,
+) -> Result<(), ServiceFault>
+    requires there { begin + size ≤ length names.now }
+    requires fits { begin + size < 2 ^ 64 }
+    ensures found { OnOk result
+        ((rdata : ResourceData) × RdataAt names.now begin size kind rdata) }
+    ensures fault { IfErr result (λ fault. (kind ≡ NS) × DomainFails names.now begin size fault) }
+{
+    if kind != NS {
+        return Ok(());
+    }
+    let next = names.skip_domain(begin, Pointers::Followed)?;
+    if next != begin + size {
+        return Err(ServiceFault::NameRdata(begin));
+    }
+    Ok(())
+}
+
+/// The offset after the record that stands at an offset.
+#[inline(always)]
+pub(crate) fn skip_record(names: &NameReader<'_, '_>, at: usize) -> Result<usize, ServiceFault>
+    ensures found { IfOk result (λ next.
+        (entry : ResourceRecord) × RecordAt names.now at entry next) }
+    ensures fault { IfErr result (RecordFails names.now at) }
+{
+    let packet = names.packet();
+    each_is_a_byte(packet);
+    let after = names.skip_domain(at, Pointers::Followed)?;
+    if packet.len() - after < RECORD_FIELDS {
+        return Err(ServiceFault::Truncated(packet.len()));
+    }
+    let kind = number_16(packet, after);
+    let size = number_16(packet, after + 8) as usize;
+    let begin = after + RECORD_FIELDS;
+    if packet.len() - begin < size {
+        return Err(ServiceFault::Truncated(packet.len()));
+    }
+    check_rdata(names, begin, size, kind)?;
+    Ok(begin + size)
+}

@@ -2,3 +2,4 @@
 pub mod SavedLemmas
 pub mod ShortLemmas
 pub mod ExampleLemmas
+pub mod WritingLemmas

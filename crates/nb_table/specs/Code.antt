@@ -16,3 +16,4 @@ pub mod SavedTables
 pub mod RunSteps
 pub mod RangeSteps
 pub mod RunCodes
+pub mod Waiting

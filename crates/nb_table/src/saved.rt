@@ -6,6 +6,7 @@ pub(crate) mod entries;
 mod facts;
 pub(crate) mod fields;
 pub(crate) mod form;
+pub(crate) mod part;
 pub(crate) mod runs;
 mod sources;
 pub(crate) mod tables;

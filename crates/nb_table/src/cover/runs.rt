@@ -10,6 +10,7 @@ ghost use Rattle.nb_table.specs.Runs.{AreApart, run_end, map_of_runs, runs_of_ma
 ghost use Rattle.nb_table.specs.Saved.{runs_bytes};
 ghost use Rattle.nb_table.specs.Whole.{bytes_below as map_below};
 ghost use Rattle.nb_table.specs.Code.RunSteps.{value_of, values_of, run_at};
+ghost use Rattle.nb_table.specs.Code.Waiting.{Passes, Breaks};
 
 mod counting;
 mod growing;
@@ -18,9 +19,11 @@ mod saving;
 mod searching;
 mod uniting;
 
-use nb_names::{Bytes, NoMemory};
+use crate::saved::part::Part;
+use nb_names::{Bytes, Counted, DeviceFault, NoMemory};
 pub(crate) use saving::add_run;
 use std::alloc::Global;
+use std::io::Write;
 use std::marker::Model;
 
 /// The place of the first of these bytes, and the bytes, in order.
@@ -235,5 +238,19 @@ impl Runs {
             (saved.new.items ≡ saved.old.items ++ runs_bytes (runs_of_map self.now)) }
     {
         saving::push_runs(saved, &self.runs)
+    }
+
+    /// Puts the maximal runs after the bytes that wait.
+    pub(crate) fn write_saved<W: Write>(
+        &self,
+        writer: &mut Counted<W>,
+        part: &mut Part,
+    ) -> Result<(), DeviceFault>
+        ensures passes { OnOk result (Passes W.contents writer.old writer.new
+            (part.old.items ++ runs_bytes (runs_of_map self.now)) part.new.items) }
+        ensures breaks { OnErr result (Breaks W.contents writer.old writer.new
+            (part.old.items ++ runs_bytes (runs_of_map self.now))) }
+    {
+        saving::put_runs(writer, part, &self.runs)
     }
 }

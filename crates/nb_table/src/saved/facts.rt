@@ -1,7 +1,8 @@
 //! Saved entries, which borrow their runs: read, kept, and written.
-ghost use Rattle.std.specs.Prelude.{◌≡◌, ◌++◌, IfOk, OnOk};
+ghost use Rattle.std.specs.Prelude.{◌≡◌, ◌++◌, IfOk, OnOk, OnErr};
 ghost use Rattle.nb_table.specs.Code.Fitting.{is_short as is_short_entry};
 ghost use Rattle.nb_table.specs.Code.Fitting.{ends_by as ends_at_most};
+ghost use Rattle.nb_table.specs.Code.Waiting.{Passes, Breaks};
 ghost use Rattle.nb_table.specs.Saved.{facts_bytes, entry_bytes};
 ghost use Rattle.nb_table.specs.SavedFits.{IsNamed};
 ghost use Rattle.nb_table.specs.SavedReading.{facts_at, entry_at};
@@ -11,6 +12,7 @@ ghost use Rattle.nb_table.specs.declared.saved.form.SavedForm.TheVariants.{Secon
 
 use super::fields::{read_byte, read_end, read_kind, read_plain_name, read_promise};
 use super::form::SavedForm;
+use super::part::{Part, put};
 use super::runs::{SavedRuns, read_runs};
 use crate::cover::CoverFacts;
 use crate::entry::{Entry, EntryFacts};
@@ -18,8 +20,9 @@ use crate::load_fault::LoadFault;
 use crate::slot::Slot;
 use nb_datagram::Kind;
 use nb_datagram::limits::MAX_LENGTH;
-use nb_names::{LentName, NoMemory};
+use nb_names::{Counted, DeviceFault, LentName, NoMemory};
 use std::alloc::Global;
+use std::io::Write;
 use std::marker::Model;
 
 /// What a saved entry holds.
@@ -131,6 +134,27 @@ impl EntryFacts {
         saved.extend_from_slice(self.parties.destination().to_domain().spelling())?;
         self.cover.save(saved)
     }
+
+    /// Puts the kind, both names and the cover after the bytes that wait.
+    fn write_saved<W: Write>(
+        &self,
+        writer: &mut Counted<W>,
+        part: &mut Part,
+    ) -> Result<(), DeviceFault>
+        ensures passes { OnOk result (Passes W.contents writer.old writer.new
+            (part.old.items ++ facts_bytes Second self.now) part.new.items) }
+        ensures breaks { OnErr result (Breaks W.contents writer.old writer.new
+            (part.old.items ++ facts_bytes Second self.now)) }
+    {
+        put(writer, part, &[self.kind.message_type()])?;
+        put(writer, part, self.parties.source().to_domain().spelling())?;
+        put(
+            writer,
+            part,
+            self.parties.destination().to_domain().spelling(),
+        )?;
+        self.cover.write_saved(writer, part)
+    }
 }
 
 /// A saved entry: spoilt, or what it holds.
@@ -192,5 +216,25 @@ impl Slot<EntryFacts> {
             Slot::Spoilt => saved.push(0)?,
         }
         Ok(())
+    }
+
+    /// Puts after the bytes that wait whether the entry is held, and what is.
+    pub(crate) fn write_saved<W: Write>(
+        &self,
+        writer: &mut Counted<W>,
+        part: &mut Part,
+    ) -> Result<(), DeviceFault>
+        ensures passes { OnOk result (Passes W.contents writer.old writer.new
+            (part.old.items ++ entry_bytes Second self.now) part.new.items) }
+        ensures breaks { OnErr result (Breaks W.contents writer.old writer.new
+            (part.old.items ++ entry_bytes Second self.now)) }
+    {
+        match self {
+            Slot::Held(facts) => {
+                put(writer, part, &[1])?;
+                facts.write_saved(writer, part)
+            }
+            Slot::Spoilt => put(writer, part, &[0]),
+        }
     }
 }

@@ -1,24 +1,27 @@
 //! Whole saved tables: what their form begins with, the number of keys, and the keys with their
 //! entries.
-ghost use Rattle.std.specs.Prelude.{◌≡◌, IfOk, IfErr, OnOk};
+ghost use Rattle.std.specs.Prelude.{◌≡◌, [], IfOk, IfErr, OnOk, OnErr};
 ghost use Rattle.std.specs.List.{AllByRecursion};
 ghost use Rattle.std.specs.FinMap as maps;
 ghost use Rattle.nb_datagram.specs.Key.{key_cmp};
 ghost use Rattle.nb_table.specs.Code.SavedTables.{HasNames, IsJudged};
 ghost use Rattle.nb_names.specs.Labels.{StandsAt};
+ghost use Rattle.nb_table.specs.Code.Waiting.{Passes, Breaks};
 ghost use Rattle.nb_table.specs.Saved.{magic};
 ghost use Rattle.nb_table.specs.Saved.{saved as saved_bytes};
 ghost use Rattle.nb_table.specs.SavedReading.{IsRead};
 
-use super::entries::{Within, judge_entries, push_entries};
-use super::fields::read_count;
+use super::entries::{Within, judge_entries, push_entries, put_entries};
+use super::fields::{put_count, read_count};
 use super::form::SavedForm;
+use super::part::{Part, put, write_out};
 use crate::entry::Entry;
 use crate::load_fault::LoadFault;
 use nb_datagram::Key;
-use nb_names::{Bytes, NoMemory};
+use nb_names::{Bytes, Counted, DeviceFault, NoMemory};
 use std::alloc::Global;
 use std::collections::BTreeMap;
+use std::io::Write;
 
 /// The form that a saved table begins with.
 pub(crate) fn form_of(input: &[u8]) -> Result<SavedForm, LoadFault>
@@ -68,4 +71,21 @@ pub(crate) fn save_entries(alloc: Global, entries: &BTreeMap<Key, Entry>) -> Res
     saved.extend_from_slice(&[count[4], count[5], count[6], count[7]])?;
     push_entries(alloc, &mut saved, entries)?;
     Ok(Bytes::from_vec(saved))
+}
+
+/// Writes the digits of the saved bytes of entries with their keys. No memory is taken.
+pub(crate) fn write_saved<W: Write>(
+    writer: &mut Counted<W>,
+    entries: &BTreeMap<Key, Entry>,
+) -> Result<(), DeviceFault>
+    ensures passes { OnOk result (Passes W.contents writer.old writer.new
+        (saved_bytes (maps.from_entries {R = key_cmp} entries.now.entries)) []) }
+    ensures breaks { OnErr result (Breaks W.contents writer.old writer.new
+        (saved_bytes (maps.from_entries {R = key_cmp} entries.now.entries))) }
+{
+    let mut part = Part::new();
+    put(writer, &mut part, b"NBT2")?;
+    put_count(writer, &mut part, entries.len() as u64)?;
+    put_entries(writer, &mut part, entries)?;
+    write_out(writer, &mut part)
 }

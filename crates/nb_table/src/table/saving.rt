@@ -1,12 +1,16 @@
 //! Tables, saved.
-ghost use Rattle.std.specs.Prelude.{◌≡◌, IfOk, OnOk};
+ghost use Rattle.std.specs.Prelude.{◌≡◌, IfOk, OnOk, OnErr};
+ghost use Rattle.std.specs.Io.KnownBytes.{Appends};
+ghost use Rattle.nb_names.specs.Devices.{AppendsFront, GrowTo, ShowsWriteFault};
+ghost use Rattle.nb_names.specs.Hexadecimal.{digits_text};
 ghost use Rattle.nb_table.specs.LoadFaults.{IsReadAs};
 ghost use Rattle.nb_table.specs.Saved.{saved as saved_bytes};
 ghost use Rattle.nb_table.specs.SavedFits.{FitsSaved};
 
 use super::Table;
-use crate::saved::tables::save_entries;
-use nb_names::{Bytes, NoMemory};
+use crate::saved::tables::{save_entries, write_saved};
+use nb_names::{Bytes, Counted, DeviceFault, NoMemory};
+use std::io::Write;
 
 impl Table {
     /// The bytes of the table's contents, for a file or another program. Limits aren't saved.
@@ -34,5 +38,24 @@ impl Table {
         let _longest = self.longest;
         let saved = save_entries(self.alloc, &self.entries)?;
         Ok(saved)
+    }
+
+    /// Writes the hexadecimal digits of the bytes that [`Table::save`] gives, two for each, in
+    /// lower case. No memory is taken: the digits are made of the table where it stands, those of
+    /// 256 bytes at a time.
+    ///
+    /// # Errors
+    ///
+    /// [`DeviceFault`] where a write failed, took no byte, or was interrupted 1,024 times in a row.
+    /// A front of the digits is written then. The form is our choice.
+    pub fn write_saved<W: Write>(&self, writer: &mut Counted<W>) -> Result<(), DeviceFault>
+        ensures written { OnOk result (Appends (W.contents writer.old.inner)
+            (W.contents writer.new.inner) (digits_text (saved_bytes self.now.contents))) }
+        ensures grow { GrowTo writer.old.counts writer.new.counts }
+        ensures err { OnErr result (AppendsFront (W.contents writer.old.inner)
+            (W.contents writer.new.inner) (digits_text (saved_bytes self.now.contents))) }
+        ensures why { OnErr result (ShowsWriteFault writer.old.counts writer.new.counts) }
+    {
+        write_saved(writer, &self.entries)
     }
 }

@@ -1,0 +1,6 @@
+use Rattle.std.proofs.lemmas.Result.{on_ok_weaker}
+use Rattle.nb_table.proofs.SavedBytes.WritingLemmas.{passes_wrote}
+use Rattle.nb_table.proofs.table.Table.write_saved.Goals as goal
+
+pub returns-clause-written : goal.returns-clause-written
+returns-clause-written g c = rw (← c.self.view_is) (on_ok_weaker c.write_saved.result (passes_wrote _ _ _) c.write_saved.ensures.passes)

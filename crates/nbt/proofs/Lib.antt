@@ -10,3 +10,4 @@ pub mod JoinedLemmas
 pub mod CapacityGiven
 pub mod ShowingTurns
 pub mod DifferenceLemmas
+pub mod SavedCutLemmas

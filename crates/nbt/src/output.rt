@@ -6,13 +6,15 @@ ghost use Rattle.nb_names.specs.Hexadecimal.{digits_text};
 ghost use Rattle.nb_names.specs.Devices.{AppendsFront, GrowTo, ShowsWriteFault};
 ghost use Rattle.nbt.specs.Printing.{line};
 ghost use Rattle.nbt.specs.Replaying.{EndsWith, ReplaysIn};
+ghost use Rattle.nbt.specs.Saved.{saved_digits};
 ghost use Rattle.nbt.specs.Input.{WasCut};
 
 use crate::commands::replay::outcome_of;
 use crate::fault::Fault;
 use nb_member::{CaptureOptions, Member, replay_with};
-use nb_names::output::{write_digits, write_some, write_whole};
+use nb_names::output::{write_some, write_whole};
 use nb_names::{Counted, NoMemory, push_digits};
+use nb_table::Table;
 use std::alloc::Global;
 use std::io;
 use std::io::{ErrorKind, Read, Write};
@@ -76,23 +78,23 @@ impl<W> Output<W> {
         }
     }
 
-    /// Writes the hexadecimal digits of bytes. No memory is taken.
+    /// Writes a table as it is saved, in hexadecimal. No memory is taken.
     ///
     /// # Errors
     ///
     /// [`Fault::Write`], as [`Output::print`] has it. A front of the digits is written then.
-    pub fn print_digits(&mut self, bytes: &[u8]) -> Result<(), Fault>
+    pub fn print_table(&mut self, table: &Table) -> Result<(), Fault>
     where
         W: Write,
         ensures printed { OnOk result (Appends (W.contents self.old.inner)
-            (W.contents self.new.inner) (digits_text bytes.now)) }
+            (W.contents self.new.inner) (saved_digits table.now.contents)) }
         ensures fault { IfErr result (λ fault. fault ≡ Fault.Write) }
         ensures err { OnErr result (AppendsFront (W.contents self.old.inner)
-            (W.contents self.new.inner) (digits_text bytes.now)) }
+            (W.contents self.new.inner) (saved_digits table.now.contents)) }
         ensures grow { GrowTo self.old.counts self.new.counts }
         ensures why { OnErr result (ShowsWriteFault self.old.counts self.new.counts) }
     {
-        match write_digits(&mut self.device, bytes) {
+        match table.write_saved(&mut self.device) {
             Ok(()) => Ok(()),
             Err(_) => Err(Fault::Write),
         }

@@ -1,8 +1,7 @@
 //! Tables in hexadecimal.
-ghost use Rattle.std.specs.Prelude.{◌≡◌, ◌⊎◌, OnOk, OnErr, IfErr};
+ghost use Rattle.std.specs.Prelude.{◌≡◌, ◌⊎◌, OnOk, IfErr};
 ghost use Rattle.nb_names.specs.Devices.{ShowsWriteFault};
-ghost use Rattle.nb_names.specs.Hexadecimal.{digits_text};
-ghost use Rattle.nbt.specs.Printing.{Leaves, PrintsFront, PrintsLine};
+ghost use Rattle.nbt.specs.Printing.{Leaves, PrintsLine};
 ghost use Rattle.nbt.specs.Saved.{saved_digits, IsSavedOf};
 
 use crate::fault::Fault;
@@ -14,8 +13,7 @@ use std::io::Write;
 ///
 /// # Errors
 ///
-/// [`Fault::Memory`] where memory ran out; nothing is printed then. [`Fault::Write`] where the
-/// output failed.
+/// [`Fault::Write`] where the output failed. No memory is taken.
 pub fn print_saved<W: Write>(table: &Table, output: &mut Output<W>) -> Result<(), Fault>
     ensures printed { OnOk result (PrintsLine (W.contents output.old.inner)
         (W.contents output.new.inner) (saved_digits table.now.contents)) }
@@ -25,19 +23,6 @@ pub fn print_saved<W: Write>(table: &Table, output: &mut Output<W>) -> Result<()
     ensures why { IfErr result (λ fault. fault ≡ Fault.Write →
         ShowsWriteFault output.old.counts output.new.counts) }
 {
-    let saved = table.save()?;
-    print_line(saved.as_slice(), output)
-}
-
-/// Prints the hexadecimal digits of bytes, as a line.
-fn print_line<W: Write>(bytes: &[u8], output: &mut Output<W>) -> Result<(), Fault>
-    ensures printed { OnOk result (PrintsLine (W.contents output.old.inner)
-        (W.contents output.new.inner) (digits_text bytes.now)) }
-    ensures fault { IfErr result (λ fault. fault ≡ Fault.Write) }
-    ensures err { OnErr result (PrintsFront (W.contents output.old.inner)
-        (W.contents output.new.inner) (digits_text bytes.now)) }
-    ensures why { OnErr result (ShowsWriteFault output.old.counts output.new.counts) }
-{
-    output.print_digits(bytes)?;
+    output.print_table(table)?;
     output.print(&[b'\n'])
 }

@@ -1,10 +1,7 @@
-use Rattle.std.proofs.Common.{◌≡◌, ◌+◌, List, length, rules, subst}
+use Rattle.std.proofs.Common.{◌≡◌, ◌+◌, length, rules}
 use Rattle.std.proofs.lemmas.Result.{err_from_is_err_and}
 use Rattle.nbt.specs.Settings.{IsCapacity}
-use Rattle.nbt.specs.Tables.{MergeFails, JoinFails, contents_of, input_fails, no_capacity}
-use Rattle.nb_table.specs.Join.{join, joined_all, AreTaken}
-use Rattle.nb_table.specs.Limits.{TableValue}
-use Rattle.nb_table.specs.Merging.{Fits}
+use Rattle.nbt.specs.Tables.{MergeFails, input_fails, no_capacity}
 use Rattle.nbt.proofs.JoinedLemmas.{elsewhere, first_taken, merge_of_join, merge_of_line, merge_of_none, merges_tables}
 use Rattle.nbt.proofs.joining_input.joined_input.Goals as goal
 

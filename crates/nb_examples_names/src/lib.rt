@@ -35,8 +35,13 @@ fn answer_more(line: &mut Line<'_>, call: &str) {
     match call {
         "digits" => pieces::read(line, false),
         "data" => pieces::read(line, true),
-        "push_name" | "push_digits" | "push_data" | "push_word" | "push_address" | "push_domain" =>
-            pieces::added(line, call),
+        "push_name"
+        | "push_digits"
+        | "push_data"
+        | "push_word"
+        | "push_number"
+        | "push_address"
+        | "push_domain" => pieces::added(line, call),
         "counted_read" | "read_some" => devices::read(line, call),
         "read_input" => devices::input(line),
         "counted_write" | "write_some" | "write_whole" => devices::written(line, call),

@@ -1,12 +1,12 @@
-//! Pieces of texts, each added after what a text has: digits, data, addresses and names; and data
-//! of a text.
+//! Pieces of texts, each added after what a text has: digits, data, numbers, addresses and names;
+//! and data of a text.
 
 use crate::reading::domain_of;
 use nb_examples_words::alone;
 use nb_examples_words::line::Line;
 use nb_names::{
     Bytes, DigitsFault, DomainName, Name, bytes_of_digits, data_of_text, push_address, push_data,
-    push_digits, push_domain, push_name, push_word,
+    push_digits, push_domain, push_name, push_number, push_word,
 };
 use std::alloc::Global;
 
@@ -45,6 +45,7 @@ enum Piece {
     Digits(Vec<u8>),
     Data(Vec<u8>),
     Word(u16),
+    Number(u64),
     Address([u8; 4]),
     Domain(DomainName),
     Name(Name),
@@ -52,13 +53,15 @@ enum Piece {
 
 /// `push_digits TEXT BYTES`: the text with the bytes' digits after it; `push_data TEXT BYTES`: with
 /// the bytes as data is written; `push_word TEXT HEX`: with the four digits of a number;
-/// `push_address TEXT ADDRESS`, `push_domain TEXT LABEL ..` and `push_name TEXT NAME`: with these.
+/// `push_number TEXT NUMBER`: with a number in decimal; `push_address TEXT ADDRESS`,
+/// `push_domain TEXT LABEL ..` and `push_name TEXT NAME`: with these.
 pub fn added(line: &mut Line<'_>, call: &str) {
     let front = line.word();
     let piece = match call {
         "push_digits" => Piece::Digits(line.bytes()),
         "push_data" => Piece::Data(line.bytes()),
         "push_word" => Piece::Word(line.hex_16()),
+        "push_number" => Piece::Number(line.number()),
         "push_address" => Piece::Address(line.address()),
         "push_domain" => Piece::Domain(domain_of(line)),
         _ => Piece::Name(line.name()),
@@ -76,6 +79,7 @@ fn with_piece(alloc: Global, front: &str, piece: &Piece) -> Option<String> {
         Piece::Digits(bytes) => push_digits(bytes.as_slice(), &mut text),
         Piece::Data(bytes) => push_data(bytes.as_slice(), &mut text),
         Piece::Word(number) => push_word(*number, &mut text),
+        Piece::Number(number) => push_number(*number, &mut text),
         Piece::Address(address) => push_address(*address, &mut text),
         Piece::Domain(domain) => push_domain(&mut text, domain),
         Piece::Name(name) => push_name(&mut text, name),

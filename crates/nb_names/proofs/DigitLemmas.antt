@@ -1,11 +1,11 @@
 -- Hexadecimal digits of bytes, written two at a time.
-use Rattle.std.proofs.Common.{◌≡◌, ℕ, suc, ◌+◌, ◌*◌, ◌/◌, ◌%◌, ◌<◌, ◌≤◌, List, [], ◌∷◌, ◌++◌, length, take, drop, get_or, set, refl, sym, ap, ◌∙◌, arith, lit<}
+use Rattle.std.proofs.Common.{◌≡◌, ℕ, suc, ◌+◌, ◌*◌, ◌/◌, ◌%◌, ◌<◌, ◌≤◌, List, [], ◌∷◌, ◌++◌, length, take, drop, get_or, set, refl, sym, ap, ◌∙◌, arith}
 use Rattle.std.specs.Char.{digit_char}
 use Rattle.std.specs.Str.{IsAscii}
 use Rattle.std.proofs.lemmas.Bool.Decides.{nat_tests}
 use Rattle.std.proofs.lemmas.Grind.{flat_map-append}
 use Rattle.std.proofs.lemmas.List.{append_assoc, take_more, take_all, take-append-drop}
-use Rattle.std.proofs.lemmas.Str.Ascii.{IsAscii-nil, IsAscii-cons, IsAscii-push}
+use Rattle.std.proofs.lemmas.Str.Ascii.{IsAscii-nil, IsAscii-cons}
 use Rattle.nb_names.specs.NameText.{digits_of}
 use Rattle.nb_names.specs.Hexadecimal.{digits_text}
 use Rattle.nb_names.proofs.FirstLevelLemmas.{take_two_set}
@@ -51,18 +51,3 @@ digits_are_ascii (b ∷ bytes) small =
     let byte : b < 256 = small 0 in
     IsAscii-cons (digit_char (b / 16)) (digit_char (b % 16) ∷ digits_text bytes) (digit_small (b / 16) (omega (arith, byte)))
     (IsAscii-cons (digit_char (b % 16)) (digits_text bytes) (digit_small (b % 16) (omega arith)) (digits_are_ascii bytes (λ i. small (suc i))))
-
-pub byte_is_ascii : (byte : ℕ) → byte < 256 → IsAscii (digits_of byte)
-byte_is_ascii byte small =
-    IsAscii-cons (digit_char (byte / 16)) (digit_char (byte % 16) ∷ []) (digit_small (byte / 16) (omega (arith, small)))
-    (IsAscii-cons (digit_char (byte % 16)) [] (digit_small (byte % 16) (omega arith)) IsAscii-nil)
-
--- `<`, a byte's digits and `>` are ASCII
-pub suffix_is_ascii : (byte : ℕ) → byte < 256 → IsAscii (60 ∷ digits_of byte ++ 62 ∷ [])
-suffix_is_ascii byte small =
-    IsAscii-cons 60 (digits_of byte ++ 62 ∷ []) (lit< tt)
-    (IsAscii-push (digits_of byte) 62 (byte_is_ascii byte small) (lit< tt))
-
--- a byte's escape is ASCII
-pub escape_is_ascii : (byte : ℕ) → byte < 256 → IsAscii (92 ∷ digits_of byte)
-escape_is_ascii byte small = IsAscii-cons 92 (digits_of byte) (lit< tt) (byte_is_ascii byte small)

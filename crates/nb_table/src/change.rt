@@ -17,7 +17,7 @@ pub enum Change {
     Grown,
 }
 
-/// A change, as [`Change`] has it, whose datagram keeps its names, so that handing it on moves a few
+/// A change, as [`Change`] has it, whose datagram keeps its names, so that handing it on moves few
 /// words.
 #[derive(Drop)]
 pub enum KeptChange {

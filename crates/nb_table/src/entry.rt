@@ -104,12 +104,7 @@ impl EntryFacts {
     }
 
     /// The datagram of the key with this kind, these names and these bytes.
-    fn datagram_from(
-        &self,
-        alloc: Global,
-        key: Key,
-        bytes: Bytes,
-    ) -> Result<KeptDatagram, NoMemory>
+    fn datagram_from(&self, alloc: Global, key: Key, bytes: Bytes) -> Result<KeptDatagram, NoMemory>
         requires { length bytes ≤ MAX_LENGTH }
         ensures { IfOk result (λ datagram. datagram ≡ record {
           key = key;

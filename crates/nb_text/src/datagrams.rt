@@ -36,8 +36,8 @@ fn push_refusal(fault: DatagramFault, text: &mut String) -> Result<(), NoMemory>
 
 /// Adds the line of a packet that takes up so many bytes.
 fn push_whole(packet: &LentPacket<'_>, used: usize, text: &mut String) -> Result<(), NoMemory>
-    ensures { OnOk result
-        (string_bytes text.new ≡ string_bytes text.old ++ datagram_text (packet_of packet.now) used) }
+    ensures { OnOk result (string_bytes text.new
+        ≡ string_bytes text.old ++ datagram_text (packet_of packet.now) used) }
 {
     push_parts(packet, text)?;
     push_used(used, text)?;

@@ -32,7 +32,6 @@ pub struct Member {
 
 impl Model for Member {
     ghost use Rattle.std.specs.Prelude.{◌≡◌};
-    ghost use Rattle.nb_table.specs.Code.Change.{change_of};
     ghost use Rattle.nb_member.specs.Events.{limits_of};
     ghost use Rattle.nb_member.specs.Member.{MemberValue};
     ghost use Rattle.nb_member.specs.Code.Members.{member_code};

@@ -14,7 +14,7 @@ const LONGEST: usize = 15;
 ///
 /// # Errors
 ///
-/// [`NoMemory`] where memory ran out; the text is then as it was.
+/// [`NoMemory`] where memory ran out; some of the text may then be added.
 pub fn push_address(address: [u8; 4], text: &mut String) -> Result<(), NoMemory>
     ensures { OnOk result
         (string_bytes text.new ≡ string_bytes text.old ++ address_text address) }

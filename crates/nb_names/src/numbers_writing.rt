@@ -9,7 +9,7 @@ use itoa::Buffer;
 ///
 /// # Errors
 ///
-/// [`NoMemory`] where memory ran out; the text is then as it was.
+/// [`NoMemory`] where memory ran out; some of the digits may then be added.
 pub fn push_number(number: u64, text: &mut String) -> Result<(), NoMemory>
     ensures { OnOk result (string_bytes text.new ≡ string_bytes text.old ++ decimal number) }
 {

@@ -5,6 +5,7 @@ mod building;
 mod decoding;
 mod parts;
 pub mod shown;
+mod standing;
 mod texts;
 mod values;
 mod views;
@@ -16,6 +17,9 @@ use nb_examples_words::line::Line;
 pub fn answer(line: &mut Line<'_>, call: &str) {
     match call {
         "decode" => decoding::decoded(line),
+        "outline" => standing::outlined(line),
+        "question_at" => standing::question_at(line),
+        "record_at" => standing::record_at(line),
         "again" => decoding::encoded_again(line),
         "same" => decoding::compared(line),
         "debug" => decoding::debugged(line),

@@ -25,16 +25,21 @@ fn say_name(line: &mut Line<'_>, domain: &DomainName) {
     line.say_made(text.ok());
 }
 
-/// Says questions: name, kind and class.
+/// Says questions.
 fn say_questions(line: &mut Line<'_>, questions: &[Question]) {
     if questions.len() > MOST_ITEMS {
         return write!(line, "{} questions; ", questions.len());
     }
     for question in questions {
-        line.say("question ");
-        say_name(line, &question.name);
-        write!(line, " {:04x} {:04x}; ", question.kind, question.class);
+        say_question(line, question);
     }
+}
+
+/// Says a question: name, kind and class.
+pub fn say_question(line: &mut Line<'_>, question: &Question) {
+    line.say("question ");
+    say_name(line, &question.name);
+    write!(line, " {:04x} {:04x}; ", question.kind, question.class);
 }
 
 /// Says the records of a section.

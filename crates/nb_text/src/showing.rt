@@ -14,6 +14,8 @@ use std::alloc::Global;
 /// Port 137 is the name service, 138 the datagram service; a payload of any other port is taken for
 /// a session packet, port 139. Bytes after the packet aren't shown.
 ///
+/// Memory is taken for the text alone, from where the text has it; the first argument isn't used.
+///
 /// # Errors
 ///
 /// [`NoMemory`] where memory ran out. Some of the text may then be added: drop it.

@@ -52,7 +52,10 @@ fn answer_more(line: &mut Line<'_>, call: &str) {
     match call {
         "cover" => comparing::compared::<Cover>(line),
         "entry" => comparing::compared::<Entry>(line),
+        "take_in" => merging::taken_in(line),
+        "take_in_all" => merging::all_taken_in(line),
         "save" => saving::saved(line),
+        "write_saved" => saving::written(line),
         "load" => saving::loaded(line),
         "loaded" => saving::inserts_after_load(line),
         "faults" => faults::table_faults(line),

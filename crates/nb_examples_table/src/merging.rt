@@ -6,7 +6,7 @@ use nb_datagram::Datagrams;
 use nb_examples_datagram::texts::say_datagram;
 use nb_examples_words::asked;
 use nb_examples_words::line::Line;
-use nb_table::{Join, Table, TableFault, join_all};
+use nb_table::{Join, Table, TableFault, join_all, take_in_all};
 
 /// `fits TABLE | TABLE`: whether both tables have the same contents, and whether the first takes in
 /// the second, as `Debug` prints it.
@@ -90,6 +90,27 @@ pub fn joined(line: &mut Line<'_>) {
     }
 }
 
+/// `take_in TABLE | TABLE`: what the first is saved as once it took the second in, or why it can't.
+pub fn taken_in(line: &mut Line<'_>) {
+    let (first, second) = line.halves(" | ");
+    let mut table = table_of(line, first);
+    let other = table_of(line, second);
+    let before = reads(line, &table);
+    line.begin();
+    let mut answer = table.take_in(other);
+    line.end();
+    if let Err(TableFault::NoMemory) = answer {
+        let is_same = reads(line, &table) == before;
+        line.again(is_same);
+        let other = table_of(line, second);
+        answer = table.take_in(other);
+    }
+    match answer {
+        Ok(()) => say_saved(line, &table),
+        Err(fault) => say_fault(line, fault),
+    }
+}
+
 /// The tables of `TABLE | TABLE ..`.
 fn tables_of<'a>(line: &mut Line<'a>, text: &'a str) -> Vec<Table> {
     let mut tables = Vec::new(line.alloc());
@@ -117,6 +138,25 @@ pub fn joined_all(line: &mut Line<'_>) {
         let is_same = has_front(line, first, front, &table);
         line.again(is_same);
         answer = join_all(&mut table, others.as_slice());
+    }
+    say_joined(line, answer);
+    say_saved(line, &table);
+}
+
+/// `take_in_all TABLE | TABLE ..`: the same of tables that are taken in.
+pub fn all_taken_in(line: &mut Line<'_>) {
+    let (first, others) = line.halves(" | ");
+    let tables = tables_of(line, others);
+    let mut table = table_of(line, first);
+    line.begin();
+    let mut answer = take_in_all(&mut table, tables);
+    line.end();
+    if let Err((place, TableFault::NoMemory)) = answer {
+        let tables = tables_of(line, others);
+        let front = tables.as_slice().get(..place).unwrap_or(&[]);
+        let is_same = has_front(line, first, front, &table);
+        line.again(is_same);
+        answer = take_in_all(&mut table, tables);
     }
     say_joined(line, answer);
     say_saved(line, &table);

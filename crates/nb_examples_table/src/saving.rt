@@ -3,13 +3,40 @@
 use crate::inserting::say_inserts;
 use crate::steps::{rest_table, say_saved};
 use nb_examples_words::alone;
+use nb_examples_words::devices::Sink;
 use nb_examples_words::line::Line;
+use nb_names::{Counted, bytes_of_digits};
 use nb_table::{LoadFault, Table, load};
+
+/// The most bytes of a saved table whose digits are written.
+const ROOM: usize = 70_000;
 
 /// `save TABLE`: the bytes that the table is saved as.
 pub fn saved(line: &mut Line<'_>) {
     let table = rest_table(line);
     match alone!(line, Err(_), table.save()) {
+        Ok(bytes) => line.say_bytes(bytes.as_slice()),
+        Err(_) => line.no_memory(),
+    }
+}
+
+/// `write_saved MOST INTERRUPTS FAILING TABLE`: whether the digits of the bytes that the table is
+/// saved as are written, and the bytes whose digits the device has taken.
+pub fn written(line: &mut Line<'_>) {
+    let conduct = line.conduct();
+    let table = rest_table(line);
+    let mut sink = Sink::new(line.alloc(), conduct);
+    if sink.make_room(2 * ROOM).is_err() {
+        line.no_memory();
+    }
+    line.begin();
+    let answer = table.write_saved(&mut Counted::new(&mut sink));
+    line.end();
+    match answer {
+        Ok(()) => line.say("written "),
+        Err(fault) => write!(line, "{fault} "),
+    }
+    match bytes_of_digits(line.alloc(), sink.taken()) {
         Ok(bytes) => line.say_bytes(bytes.as_slice()),
         Err(_) => line.no_memory(),
     }

@@ -1,8 +1,6 @@
 use Rattle.std.proofs.Common.{◌∙◌}
 use Rattle.std.proofs.lemmas.Result.{err_from_is_err_and}
 use Rattle.nb_names.specs.NameFaults.{on_way, not_netbios}
-use Rattle.nb_names.specs.Code.Spelled.{labels_of}
-use Rattle.nb_names.specs.Name.{labels_of_name}
 use Rattle.nb_names.proofs.FaultLemmas.{no_netbios}
 use Rattle.nb_names.proofs.LabelsLemmas.{one_reading, IsDomain-read, range_spelled}
 use Rattle.nb_names.proofs.NameLemmas.{one_name}

@@ -1,4 +1,4 @@
-use Rattle.std.proofs.Common.{◌≡◌, ◌≤◌, ◌<◌, ◌+◌, ◌++◌, [], ◌∷◌, ℕ, List, length, take, drop, refl, arith, ◌∙◌}
+use Rattle.std.proofs.Common.{◌≡◌, ◌+◌, ◌++◌, [], ◌∷◌, ℕ, List, length, take, drop, refl, arith, ◌∙◌}
 use Rattle.nb_names.specs.declared.fault.NameFault.TheVariants.{TooLong}
 use Rattle.nb_names.specs.declared.label_fault.LabelFault.TheVariants.{TooLong as PastLimit}
 use Rattle.nb_names.specs.DomainName.{spelling}

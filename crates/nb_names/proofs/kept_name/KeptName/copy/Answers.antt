@@ -1,4 +1,3 @@
-use Rattle.std.proofs.Common.{◌∙◌}
 use Rattle.nb_names.proofs.kept_name.KeptName.copy.Goals as goal
 
 pub invariant_of-result : goal.invariant_of-result

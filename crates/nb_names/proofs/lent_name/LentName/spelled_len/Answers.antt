@@ -1,4 +1,4 @@
-use Rattle.std.proofs.Common.{◌≡◌, ◌+◌, length, arith, ap, length-append}
+use Rattle.std.proofs.Common.{length, arith, ap, length-append}
 use Rattle.nb_names.specs.Code.Spelled.{labels_of}
 use Rattle.nb_names.specs.DomainName.{spelling}
 use Rattle.nb_names.specs.FirstLevel.{letters}

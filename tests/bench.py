@@ -16,13 +16,13 @@ import time
 
 sys.dont_write_bytecode = True
 sys.path.insert(1, f'{sys.path[0]}/lib')
-from bench_captures import MOST_IN_A_CAPTURE, descending, office, one_address, shuffled, unfragmented
+from bench_captures import FRED, MOST_IN_A_CAPTURE, descending, labels, office, one_address, pointed, shuffled, unfragmented
 
 HERE = os.path.dirname(os.path.abspath(__file__))
 PROGRAM = os.path.join(HERE, '..', 'crates', 'nbt', 'out', 'nbt')
 REPLAY, SHOW, SAVE, MERGE = ['replay', 'FRED<20>'], ['show'], ['save', '--keys', '65535'], ['merge', '--keys', '65535']
 # How many keys one address may have in a table of 65,535, in the last rows.
-LIMITS = (64, 1_000)
+LIMITS = (64, 1_000, 30_000)
 
 
 def written(folder, title, lines):
@@ -128,6 +128,12 @@ def stations(program, folder):
         measure([program] + SHOW, title, *written(folder, title, office(port, count)))
 
 
+def longest(program, folder):
+    """The rows of packets of 65,000 bytes: an ordinary name, and the one of which most labels are read."""
+    for title, name in (('10,800 pointers to a name', FRED), ('10,800 to 111 labels', labels(111))):
+        measure([program] + SHOW, title, *written(folder, title, pointed(name, 10_800)))
+
+
 def flood(program, folder):
     """The rows of one address's keys, which are limited to fewer than all."""
     path, packets = written(folder, 'one address', one_address(60_000))
@@ -140,7 +146,7 @@ def main():
     program = sys.argv[1] if len(sys.argv) > 1 else PROGRAM
     print('%-7s %-36s %8s %12s %9s' % ('command', 'workload', 'a packet', 'packets a s', 'peak kB'))
     with tempfile.TemporaryDirectory() as folder:
-        for rows in (fragments, stations, flood, growth):
+        for rows in (fragments, stations, longest, flood, growth):
             rows(program, folder)
 
 

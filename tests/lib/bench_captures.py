@@ -149,3 +149,18 @@ def one_address(count):
     """First fragments of one address, each of another datagram: as many keys, of which none is whole."""
     for i in range(count):
         yield line(0, packet(bytes([10, 0, 0, 5]), i % 65_536, 3, 0, b'x'))
+
+
+# ---- the largest packets of port 137
+
+def pointed(name, count):
+    """A packet of one question by this name and `count` questions by pointers to it, 20 times."""
+    fields = struct.pack('>HH', NB, IN)
+    questions = name + fields + (TO_FIRST_QUESTION + fields) * count
+    payload = struct.pack('>HHHHHH', 1, 0x0110, 1 + count, 0, 0, 0) + questions
+    return [line(moment, payload, 137) for moment in range(20)]
+
+
+def labels(count):
+    """The name with so many labels of one byte."""
+    return b'\x01a' * count + b'\0'

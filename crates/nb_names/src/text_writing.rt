@@ -1,7 +1,9 @@
 //! Writing names as text.
-ghost use Rattle.std.specs.Prelude.{◌≡◌, ◌++◌, ℕ, List, IfOk, OnOk, length, string_bytes};
+ghost use Rattle.std.specs.Prelude.{◌≡◌, ◌++◌, ◌∷◌, ℕ, List, IfOk, OnOk, IsTrue, length, string_bytes};
 ghost use Rattle.nb_names.specs.declared.limits.TheConstants.{NAME_LENGTH};
 ghost use Rattle.std.specs.List.{AllByRecursion, list_all};
+ghost use Rattle.std.specs.Str.{IsAscii};
+ghost use Rattle.nb_names.specs.Ascii.{dot};
 ghost use Rattle.nb_names.specs.DomainName.{AreBytes, AreByteLabels, IsLabel, spelling};
 ghost use Rattle.nb_names.specs.NameText.{IsText, written, bytes_written, domain_written, trimmed, item_of, items_of, scope_text_of, labels_written, is_plain as is_plain_byte};
 
@@ -10,10 +12,11 @@ use crate::bytes::NoMemory;
 use crate::digits_writing::pair_of;
 use crate::domain_name::DomainName;
 use crate::first_level::bytes_of;
-use crate::limits::{FRONT_LENGTH, LETTERS, NAME_LENGTH};
+use crate::limits::{FRONT_LENGTH, LETTERS, MAX_SPELLING, NAME_LENGTH};
 use crate::name::Name;
 use crate::spellings::split_label;
 use crate::text_steps::is_plain;
+use arrayvec::ArrayVec;
 use std::alloc::Global;
 
 /// The text of a name, as it is written: the spaces at the end of its first fifteen bytes are left
@@ -142,8 +145,71 @@ fn push_labels(text: &mut String, domain: &DomainName) -> Result<(), NoMemory>
     push_spelled(text, domain.spelling())
 }
 
-/// Adds `.` and the items of each label that is spelled, in one walk along the spelling.
+/// Adds `.` and the items of each label that is spelled.
 pub(crate) fn push_spelled(text: &mut String, spelled: &[u8]) -> Result<(), NoMemory>
+    ensures { (labels : List (List ℕ)) → AllByRecursion IsLabel labels →
+        spelled.now ≡ spelling labels →
+        OnOk result (string_bytes text.new ≡ string_bytes text.old ++ scope_text_of labels) }
+{
+    if split_label(spelled).is_none() {
+        return Ok(());
+    }
+    push_scope(text, spelled)
+}
+
+/// Adds `.` and the items of each label that is spelled: all at once, where each byte is plain.
+///
+/// It is no part of its callers, which then make no room for a row where there is no label.
+#[inline(never)]
+fn push_scope(text: &mut String, spelled: &[u8]) -> Result<(), NoMemory>
+    ensures { (labels : List (List ℕ)) → AllByRecursion IsLabel labels →
+        spelled.now ≡ spelling labels →
+        OnOk result (string_bytes text.new ≡ string_bytes text.old ++ scope_text_of labels) }
+{
+    let mut row = ArrayVec::new();
+    if dot_labels(spelled, &mut row) {
+        push_ascii(row.as_slice(), text)
+    } else {
+        push_each_label(text, spelled)
+    }
+}
+
+/// Adds `.` and each label that is spelled to a row, and says whether all of them are plain and
+/// found room.
+fn dot_labels(spelled: &[u8], row: &mut ArrayVec<u8, MAX_SPELLING>) -> bool
+    ensures dotted { (labels : List (List ℕ)) → AllByRecursion IsLabel labels →
+        spelled.now ≡ spelling labels → IsTrue result →
+        row.new.items ≡ row.old.items ++ scope_text_of labels }
+    ensures ascii { IsTrue result → IsAscii row.old.items → IsAscii row.new.items }
+{
+    let mut rest = spelled;
+    'labels: while let Some((label, behind)) = split_label(rest) {
+        if !dot_label(label, row) {
+            return false;
+        }
+        rest = behind;
+    }
+    true
+}
+
+/// Adds `.` and a label to a row, if it is plain and finds room.
+fn dot_label(label: &[u8], row: &mut ArrayVec<u8, MAX_SPELLING>) -> bool
+    ensures dotted { IsTrue result → row.new.items ≡ row.old.items ++ dot ∷ items_of label.now }
+    ensures ascii { IsTrue result → IsAscii row.old.items → IsAscii row.new.items }
+{
+    if row.remaining_capacity() <= label.len() {
+        return false;
+    }
+    if !are_plain(label) {
+        return false;
+    }
+    row.push(b'.');
+    row.try_extend_from_slice(label).unwrap();
+    true
+}
+
+/// Adds `.` and the items of each label that is spelled, one by one.
+fn push_each_label(text: &mut String, spelled: &[u8]) -> Result<(), NoMemory>
     ensures { (labels : List (List ℕ)) → AllByRecursion IsLabel labels →
         spelled.now ≡ spelling labels →
         OnOk result (string_bytes text.new ≡ string_bytes text.old ++ scope_text_of labels) }

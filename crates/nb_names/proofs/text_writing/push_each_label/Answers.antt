@@ -3,7 +3,7 @@ use Rattle.std.specs.List.{AllByRecursion}
 use Rattle.nb_names.specs.DomainName.{IsLabel}
 use Rattle.nb_names.specs.NameText.{scope_text_of}
 use Rattle.nb_names.proofs.WrittenLemmas.{label_turn}
-use Rattle.nb_names.proofs.text_writing.push_spelled.Goals as goal
+use Rattle.nb_names.proofs.text_writing.push_each_label.Goals as goal
 
 pub labels-init : goal.labels-init
 labels-init c labels a e = (labels, a, e, refl)

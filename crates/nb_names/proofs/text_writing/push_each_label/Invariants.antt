@@ -2,7 +2,7 @@ use Rattle.std.proofs.Common.{◌≡◌, ◌++◌, ℕ, List, length, string_byt
 use Rattle.std.specs.List.{AllByRecursion}
 use Rattle.nb_names.specs.DomainName.{IsLabel, spelling}
 use Rattle.nb_names.specs.NameText.{scope_text_of}
-use Rattle.nb_names.proofs.text_writing.push_spelled.Given as goal
+use Rattle.nb_names.proofs.text_writing.push_each_label.Given as goal
 
 abbrev pub invariant-labels : goal.invariant-labels
 invariant-labels l =

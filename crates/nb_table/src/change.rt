@@ -31,6 +31,15 @@ pub enum KeptChange {
     Grown,
 }
 
+/// What an insert does with the datagram of a key that becomes whole.
+#[derive(Clone, Copy, Debug, PartialEq, Eq)]
+pub enum Handing {
+    /// It is copied, and handed over.
+    Over,
+    /// It stays in the table alone, and the key is said to grow.
+    Kept,
+}
+
 impl KeptChange {
     /// The change, with the datagram's names in place. No memory is taken.
     pub fn into_change(self) -> Change

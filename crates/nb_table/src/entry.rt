@@ -8,7 +8,7 @@ ghost use Rattle.nb_table.specs.Limits.{AreShort, IsShort};
 ghost use Rattle.nb_table.specs.Runs.{runs_of_map};
 ghost use Rattle.nb_table.specs.RunCount.{entry_run_count};
 ghost use Rattle.nb_table.specs.Whole.{IsWholeCover, bytes_to, datagram_with};
-ghost use Rattle.nb_table.specs.Code.Change.{KeyChange, change_of};
+ghost use Rattle.nb_table.specs.Code.Change.{Tells};
 ghost use Rattle.nb_table.specs.Code.State.{IsEntryState};
 
 mod growing;
@@ -17,7 +17,7 @@ mod taking_in;
 mod uniting;
 mod whole;
 
-use crate::change::KeptChange;
+use crate::change::{Handing, KeptChange};
 use crate::cover::CoverFacts;
 use crate::parties::Parties;
 use crate::slot::Slot;
@@ -197,13 +197,14 @@ impl Slot<EntryFacts> {
     pub(crate) fn first(
         alloc: Global,
         fragment: &LentFragment<'_>,
+        handing: Handing,
     ) -> Result<(Entry, KeptChange), NoMemory>
         requires { reach (core_of fragment.now) ≤ MAX_LENGTH }
         ensures entry { IfOk result (λ made. made.0 ≡ Held (facts_of (core_of fragment.now))) }
         ensures change { IfOk result (λ made.
-            KeyChange fragment.now.key None (Some made.0) (change_of made.1)) }
+            Tells handing fragment.now.key None (Some made.0) made.1) }
     {
-        let (facts, change) = EntryFacts::first(alloc, fragment)?;
+        let (facts, change) = EntryFacts::first(alloc, fragment, handing)?;
         Ok((Slot::Held(facts), change))
     }
 
@@ -213,13 +214,14 @@ impl Slot<EntryFacts> {
         &mut self,
         alloc: Global,
         fragment: &LentFragment<'_>,
+        handing: Handing,
     ) -> Result<KeptChange, NoMemory>
         requires entry { IsShort MAX_LENGTH self.old }
         requires fragment { reach (core_of fragment.now) ≤ MAX_LENGTH }
         ensures joined { OnOk result
             (self.new ≡ join_entry self.old (Held (facts_of (core_of fragment.now)))) }
         ensures change { IfOk result (λ change.
-            KeyChange fragment.now.key (Some self.old) (Some self.new) (change_of change)) }
+            Tells handing fragment.now.key (Some self.old) (Some self.new) change) }
         ensures kept { OnErr result (self.new ≡ self.old) }
         ensures not_spoilt { OnErr result
             (join_entry self.old (Held (facts_of (core_of fragment.now))) ≢ Spoilt) }
@@ -233,7 +235,7 @@ impl Slot<EntryFacts> {
             *self = Slot::Spoilt;
             return Ok(KeptChange::Spoilt);
         }
-        facts.grow(alloc, fragment)
+        facts.grow(alloc, fragment, handing)
     }
 
     /// How many runs its bytes make up, if it isn't spoilt.

@@ -9,11 +9,11 @@ ghost use Rattle.nb_table.specs.Slot.{Held};
 ghost use Rattle.nb_table.specs.Entry.{EntryValue, facts_of, join_entry};
 ghost use Rattle.nb_table.specs.KeyCounts.{held_keys, of_source};
 ghost use Rattle.nb_table.specs.Limits.{IsShort};
-ghost use Rattle.nb_table.specs.Code.Change.{KeyChange, change_of};
+ghost use Rattle.nb_table.specs.Code.Change.{Tells};
 ghost use Rattle.nb_table.specs.Code.SourceCounts.{AreCounted, CountsKeys};
 ghost use Rattle.nb_table.specs.Insert.{NeedsNoMemory};
 
-use crate::change::KeptChange;
+use crate::change::{Handing, KeptChange};
 use crate::entry::Entry;
 use crate::sources::SourceCounts;
 use nb_datagram::{Key, LentFragment};
@@ -27,6 +27,7 @@ fn join_fragment(
     entries: &mut BTreeMap<Key, Entry>,
     alloc: Global,
     fragment: &LentFragment<'_>,
+    handing: Handing,
 ) -> Result<KeptChange, NoMemory>
     requires fragment { reach (core_of fragment.now) ≤ MAX_LENGTH }
     requires entry { (e : EntryValue)
@@ -37,11 +38,11 @@ fn join_fragment(
         (joined_onto join_entry
         (maps.get (maps.from_entries {R = key_cmp} entries.old.entries) fragment.now.key)
         (Held (facts_of (core_of fragment.now))))) }
-    ensures change { IfOk result (λ change. KeyChange fragment.now.key
+    ensures change { IfOk result (λ change. Tells handing fragment.now.key
         (maps.get (maps.from_entries {R = key_cmp} entries.old.entries) fragment.now.key)
         (Some (joined_onto join_entry
         (maps.get (maps.from_entries {R = key_cmp} entries.old.entries) fragment.now.key)
-        (Held (facts_of (core_of fragment.now))))) (change_of change)) }
+        (Held (facts_of (core_of fragment.now))))) change) }
     ensures needed { OnErr result (¬ NeedsNoMemory
         (maps.from_entries {R = key_cmp} entries.old.entries) (core_of fragment.now)) }
     ensures kept { OnErr result (maps.from_entries {R = key_cmp} entries.new.entries
@@ -49,9 +50,9 @@ fn join_fragment(
 {
     let key = fragment.key();
     match entries.get_mut(&key) {
-        Some(entry) => entry.add(alloc, fragment),
+        Some(entry) => entry.add(alloc, fragment, handing),
         None => {
-            let (entry, change) = Entry::first(alloc, fragment)?;
+            let (entry, change) = Entry::first(alloc, fragment, handing)?;
             match entries.insert(key, entry) {
                 Ok(_) => Ok(change),
                 Err(_) => Err(NoMemory),
@@ -66,6 +67,7 @@ fn join_and_count(
     counts: &mut SourceCounts,
     alloc: Global,
     fragment: &LentFragment<'_>,
+    handing: Handing,
 ) -> Result<KeptChange, NoMemory>
     requires fragment { reach (core_of fragment.now) ≤ MAX_LENGTH }
     requires entry { (e : EntryValue)
@@ -80,11 +82,11 @@ fn join_and_count(
         (joined_onto join_entry
         (maps.get (maps.from_entries {R = key_cmp} entries.old.entries) fragment.now.key)
         (Held (facts_of (core_of fragment.now))))) }
-    ensures change { IfOk result (λ change. KeyChange fragment.now.key
+    ensures change { IfOk result (λ change. Tells handing fragment.now.key
         (maps.get (maps.from_entries {R = key_cmp} entries.old.entries) fragment.now.key)
         (Some (joined_onto join_entry
         (maps.get (maps.from_entries {R = key_cmp} entries.old.entries) fragment.now.key)
-        (Held (facts_of (core_of fragment.now))))) (change_of change)) }
+        (Held (facts_of (core_of fragment.now))))) change) }
     ensures needed { OnErr result (¬ NeedsNoMemory
         (maps.from_entries {R = key_cmp} entries.old.entries) (core_of fragment.now)) }
     ensures kept { OnErr result (maps.from_entries {R = key_cmp} entries.new.entries
@@ -93,10 +95,10 @@ fn join_and_count(
 {
     let key = fragment.key();
     if entries.contains_key(&key) {
-        return join_fragment(entries, alloc, fragment);
+        return join_fragment(entries, alloc, fragment, handing);
     }
     counts.add(key.ip)?;
-    match join_fragment(entries, alloc, fragment) {
+    match join_fragment(entries, alloc, fragment, handing) {
         Ok(change) => Ok(change),
         Err(fault) => {
             counts.take(key.ip);
@@ -112,6 +114,7 @@ pub(crate) fn join_counted(
     counts: &mut Option<SourceCounts>,
     alloc: Global,
     fragment: &LentFragment<'_>,
+    handing: Handing,
 ) -> Result<KeptChange, NoMemory>
     requires fragment { reach (core_of fragment.now) ≤ MAX_LENGTH }
     requires entry { (e : EntryValue)
@@ -126,11 +129,11 @@ pub(crate) fn join_counted(
         (joined_onto join_entry
         (maps.get (maps.from_entries {R = key_cmp} entries.old.entries) fragment.now.key)
         (Held (facts_of (core_of fragment.now))))) }
-    ensures change { IfOk result (λ change. KeyChange fragment.now.key
+    ensures change { IfOk result (λ change. Tells handing fragment.now.key
         (maps.get (maps.from_entries {R = key_cmp} entries.old.entries) fragment.now.key)
         (Some (joined_onto join_entry
         (maps.get (maps.from_entries {R = key_cmp} entries.old.entries) fragment.now.key)
-        (Held (facts_of (core_of fragment.now))))) (change_of change)) }
+        (Held (facts_of (core_of fragment.now))))) change) }
     ensures needed { OnErr result (¬ NeedsNoMemory
         (maps.from_entries {R = key_cmp} entries.old.entries) (core_of fragment.now)) }
     ensures kept { OnErr result (maps.from_entries {R = key_cmp} entries.new.entries
@@ -138,8 +141,8 @@ pub(crate) fn join_counted(
     ensures counted { AreCounted counts.new (maps.from_entries {R = key_cmp} entries.new.entries) }
 {
     match counts {
-        Some(counts) => join_and_count(entries, counts, alloc, fragment),
-        None => join_fragment(entries, alloc, fragment),
+        Some(counts) => join_and_count(entries, counts, alloc, fragment, handing),
+        None => join_fragment(entries, alloc, fragment, handing),
     }
 }
 

@@ -21,7 +21,7 @@ mod sources;
 mod state;
 mod table;
 
-pub use change::{Change, KeptChange};
+pub use change::{Change, Handing, KeptChange};
 pub use cover::{Cover, CoverFacts};
 pub use entry::{Entry, EntryFacts};
 pub use fault::TableFault;

@@ -3,7 +3,8 @@ ghost use Rattle.std.specs.Prelude.{◌≡◌, ◌↔◌, IsTrue, IsOk, IfOk, If
 ghost use Rattle.std.specs.FinMap as maps;
 ghost use Rattle.nb_table.specs.Limits.{KeepsLimits};
 ghost use Rattle.nb_table.specs.Change.{IsChange};
-ghost use Rattle.nb_table.specs.Code.Change.{change_of};
+ghost use Rattle.nb_table.specs.Code.Change.{change_of, told_by};
+ghost use Rattle.nb_table.specs.declared.change.Change.{Change};
 ghost use Rattle.nb_table.specs.State.{IsState};
 ghost use Rattle.nb_table.specs.RunCount.{run_count_at};
 ghost use Rattle.nb_datagram.specs.Fragment.{core_of};
@@ -16,7 +17,7 @@ mod reading;
 mod refusing;
 mod saving;
 
-use crate::change::{Change, KeptChange};
+use crate::change::{Change, Handing, KeptChange};
 use crate::entry::Entry;
 use crate::fault::TableFault;
 use crate::inserting::{are_equal, join_counted};
@@ -145,10 +146,41 @@ impl Table {
         ensures without_memory { Passes self.old.limits fragment.now
             → NeedsNoMemory self.old.contents (core_of fragment.now) → IsOk result }
     {
+        self.insert_with(fragment, Handing::Over)
+    }
+
+    /// Joins a fragment whose names are lent, as [`Table::insert_lent`] does, and says what that
+    /// changed at its key, as far as datagrams are handed over. Where they aren't, none is made, and
+    /// memory is taken for what is held alone.
+    ///
+    /// # Errors
+    ///
+    /// Those of [`Table::insert`].
+    pub fn insert_with(
+        &mut self,
+        fragment: &LentFragment<'_>,
+        handing: Handing,
+    ) -> Result<KeptChange, TableFault>
+        ensures taken { OnOk result (Takes self.old fragment.now) }
+        ensures joined { OnOk result (self.new ≡ with_fragment self.old fragment.now) }
+        ensures change { IfOk result (λ told. (change : Change) ×
+            IsChange self.old.contents self.new.contents fragment.now.key change ×
+            (change_of told ≡ told_by handing change)) }
+        ensures refused { IfErr result (Refuses self.old fragment.now) }
+        ensures kept { OnErr result (self.new ≡ self.old) }
+        ensures without_memory { Passes self.old.limits fragment.now
+            → NeedsNoMemory self.old.contents (core_of fragment.now) → IsOk result }
+    {
         if let Some(fault) = self.refusal_of_lent(fragment) {
             return Err(fault);
         }
-        let change = join_counted(&mut self.entries, &mut self.counts, self.alloc, fragment)?;
+        let change = join_counted(
+            &mut self.entries,
+            &mut self.counts,
+            self.alloc,
+            fragment,
+            handing,
+        )?;
         Ok(change)
     }
 

@@ -8,7 +8,9 @@ use Rattle.nb_table.specs.Entry.{EntryFacts, EntryValue, FactsFit, facts_togethe
 use Rattle.nb_table.specs.Shared.EntryLemmas.{facts_agree_of}
 use Rattle.nb_table.specs.Code.CoverFacts.{Holds}
 use Rattle.nb_table.specs.Whole.{bytes_to, datagram_with, datagram_of, newly}
-use Rattle.nb_table.specs.Code.Change.{KeyChange, grown_to}
+use Rattle.nb_table.specs.declared.change.Handing.{Handing}
+use Rattle.nb_table.specs.declared.change.Handing.TheVariants.{Over, Kept}
+use Rattle.nb_table.specs.Code.Change.{KeyChange, grown_to, handed_by, told_by}
 use Rattle.nb_table.specs.Shared.CoverLemmas.{together_held}
 use Rattle.nb_table.proofs.Wholeness.WholeLemmas.{below_found}
 use Rattle.nb_table.proofs.Covers.CoverFactsLemmas.{together_holds}
@@ -58,6 +60,12 @@ key_first k e = at (datagram_of k (Held e)) refl
     at : (o : Option DatagramParts) → datagram_of k (Held e) ≡ o → KeyChange k None (Some (Held e)) (grown_to o)
     at None h = (λ same. absurd (cc same), (λ s. held_spoilt _ s.1), h)
     at (Some d) h = h
+
+-- what is told of facts that grow, whose datagram is handed over or not
+pub told_grown : (h : Handing) (d : Option DatagramParts) → grown_to (handed_by h d) ≡ told_by h (grown_to d)
+told_grown Over d = refl
+told_grown Kept None = refl
+told_grown Kept (Some d) = refl
 
 held_one : (a b : EntryFacts) → ◌≡◌ {A = EntryValue} (Held a) (Held b) → a ≡ b
 held_one a b e = cc

@@ -6,7 +6,7 @@ use Rattle.std.proofs.lemmas.Option.{get_or_from_slice_get}
 use Rattle.std.specs.Io.KnownBytes.{Appends}
 use Rattle.std.proofs.lemmas.Grind.{flat_map-append}
 use Rattle.nb_names.specs.Counted.{CountedOf}
-use Rattle.nb_names.specs.Devices.{AppendsFront, GrowTo}
+use Rattle.nb_names.specs.Devices.{AppendsFront}
 use Rattle.nb_names.specs.DeviceFacts.{Appends-nil, Appends-more, front_wider, front_after, fails_from, grows_on}
 use Rattle.nb_names.specs.Hexadecimal.{digits_text}
 use Rattle.nb_names.specs.NameText.{digits_of}

@@ -8,12 +8,12 @@ ghost use Rattle.nb_table.specs.Cover.{CoversFit, cover_of, covers_together};
 ghost use Rattle.nb_table.specs.Code.CoverFacts.{Holds};
 ghost use Rattle.nb_table.specs.Whole.{bytes_to, datagram_with, newly};
 ghost use Rattle.nb_table.specs.Whole.{datagram_of as entry_datagram};
-ghost use Rattle.nb_table.specs.Code.Change.{KeyChange, change_of};
+ghost use Rattle.nb_table.specs.Code.Change.{Tells, change_of, handed_by};
 ghost use Rattle.nb_table.specs.Code.Change.{grown_to as grown};
 
 use super::EntryFacts;
-use crate::change::KeptChange;
-use nb_datagram::{KeptDatagram, LentFragment};
+use crate::change::{Handing, KeptChange};
+use nb_datagram::{KeptDatagram, Key, LentFragment};
 use nb_names::NoMemory;
 use std::alloc::Global;
 
@@ -50,23 +50,28 @@ impl EntryFacts {
         }
     }
 
-    /// The datagram of a fragment's key, if the facts become whole with it. No memory is taken
-    /// where they don't.
+    /// The datagram of a fragment's key, if the facts become whole with it and it is handed over. No
+    /// memory is taken else.
     fn newly_whole_with(
         &self,
         alloc: Global,
         fragment: &LentFragment<'_>,
+        handing: Handing,
     ) -> Result<Option<KeptDatagram>, NoMemory>
         requires fits { CoversFit self.now.cover (cover_of (core_of fragment.now)) }
         requires short { (n : ℕ)
             → (covers_together self.now.cover (cover_of (core_of fragment.now))).end ≡ Some n
             → n ≤ MAX_LENGTH }
         ensures { IfOk result (λ datagram. datagram
-            ≡ newly (entry_datagram fragment.now.key (Held self.now))
+            ≡ handed_by handing (newly (entry_datagram fragment.now.key (Held self.now))
             (datagram_with fragment.now.key self.now
             (bytes_to (covers_together self.now.cover (cover_of (core_of fragment.now))).bytes
-            (covers_together self.now.cover (cover_of (core_of fragment.now))).end))) }
+            (covers_together self.now.cover (cover_of (core_of fragment.now))).end)))) }
     {
+        match handing {
+            Handing::Over => {}
+            Handing::Kept => return Ok(None),
+        }
         if self.is_whole() {
             return Ok(None);
         }
@@ -79,6 +84,7 @@ impl EntryFacts {
         &mut self,
         alloc: Global,
         fragment: &LentFragment<'_>,
+        handing: Handing,
     ) -> Result<KeptChange, NoMemory>
         requires fits { FactsFit self.old (facts_of (core_of fragment.now)) }
         requires short { (n : ℕ)
@@ -87,8 +93,7 @@ impl EntryFacts {
         ensures joined { OnOk result
             (self.new ≡ facts_together self.old (facts_of (core_of fragment.now))) }
         ensures change { IfOk result (λ change.
-            KeyChange fragment.now.key (Some (Held self.old)) (Some (Held self.new))
-            (change_of change)) }
+            Tells handing fragment.now.key (Some (Held self.old)) (Some (Held self.new)) change) }
         ensures formed { AreEntryFacts self.new }
         ensures kept { OnErr result (self.new ≡ self.old) }
         ensures more { OnErr result
@@ -97,9 +102,27 @@ impl EntryFacts {
         if self.cover.holds(fragment) {
             return Ok(KeptChange::Same);
         }
-        let datagram = self.newly_whole_with(alloc, fragment)?;
+        let datagram = self.newly_whole_with(alloc, fragment, handing)?;
         self.cover.add(alloc, fragment)?;
         Ok(grown_to(datagram))
+    }
+
+    /// The datagram of a key, which was new, if the facts are whole and it is handed over. No memory
+    /// is taken else.
+    fn first_datagram(
+        &self,
+        alloc: Global,
+        key: Key,
+        handing: Handing,
+    ) -> Result<Option<KeptDatagram>, NoMemory>
+        requires { (n : ℕ) → self.now.cover.end ≡ Some n → n ≤ MAX_LENGTH }
+        ensures { IfOk result (λ datagram. datagram
+            ≡ handed_by handing (entry_datagram key (Held self.now))) }
+    {
+        match handing {
+            Handing::Over => self.datagram(alloc, key, &self.cover),
+            Handing::Kept => Ok(None),
+        }
     }
 
     /// What one fragment says, and what that changes at its key, which was new. It is no part of
@@ -108,14 +131,15 @@ impl EntryFacts {
     pub(crate) fn first(
         alloc: Global,
         fragment: &LentFragment<'_>,
+        handing: Handing,
     ) -> Result<(EntryFacts, KeptChange), NoMemory>
         requires { (n : ℕ) → (facts_of (core_of fragment.now)).cover.end ≡ Some n → n ≤ MAX_LENGTH }
         ensures facts { IfOk result (λ made. made.0 ≡ facts_of (core_of fragment.now)) }
         ensures change { IfOk result (λ made.
-            KeyChange fragment.now.key None (Some (Held made.0)) (change_of made.1)) }
+            Tells handing fragment.now.key None (Some (Held made.0)) made.1) }
     {
         let facts = EntryFacts::of(alloc, fragment)?;
-        let datagram = facts.datagram(alloc, fragment.key(), &facts.cover)?;
+        let datagram = facts.first_datagram(alloc, fragment.key(), handing)?;
         Ok((facts, grown_to(datagram)))
     }
 }

@@ -10,7 +10,7 @@ ghost use Rattle.nb_table.specs.Code.Fitting.{is_short};
 ghost use Rattle.nb_table.specs.Code.Part.{IsPart};
 
 use super::{Entry, EntryFacts};
-use crate::change::Change;
+use crate::change::{Change, Handing};
 use crate::slot::Slot;
 use nb_datagram::{Datagram, Key, LentFragment};
 use nb_names::NoMemory;
@@ -74,7 +74,7 @@ impl Slot<EntryFacts> {
         ensures err { OnErr result (self.new ≡ self.old) }
     {
         if let Some(fragment) = other.as_fragment(key) {
-            let change = self.add(alloc, &fragment)?;
+            let change = self.add(alloc, &fragment, Handing::Over)?;
             return Ok(datagram_of(change.into_change()));
         }
         let (joined, datagram) = self.joined(alloc, key, other)?;

@@ -8,8 +8,9 @@ use Rattle.nb_datagram.specs.Fragment.{core_of}
 use Rattle.nb_table.specs.Maps.{joined_onto}
 use Rattle.nb_table.specs.Slot.{Held}
 use Rattle.nb_table.specs.Entry.{EntryValue, facts_of, join_entry}
+use Rattle.nb_table.specs.declared.change.Handing.{Handing}
 use Rattle.nb_table.specs.declared.change.KeptChange.{KeptChange}
-use Rattle.nb_table.specs.Code.Change.{KeyChange, change_of}
+use Rattle.nb_table.specs.Code.Change.{KeyChange, Tells}
 use Rattle.nb_datagram.specs.KeyOrder.{key_cmp_total, key_cmp_exact}
 use Rattle.nb_table.specs.Shared.TreeLemmas.{get_is, changed_is, kept_is, insert_is}
 use Rattle.nb_table.proofs.Changes.InsertLemmas.{needs_more, on_err_both, on_any_err}
@@ -19,13 +20,16 @@ use Rattle.nb_table.proofs.inserting.join_fragment.Goals as goal
 -- ---- a held key
 
 -- what changed at an entry is what changed at its key
-change_joined : (r : Result KeptChange NoMemory) (k : Key) (e new b : EntryValue) (o : Option EntryValue) → o ≡ Some e → OnOk r (new ≡ join_entry e b)
-    → IfOk r (λ change. KeyChange k (Some e) (Some new) (change_of change)) → IfOk r (λ change. KeyChange k o (Some (joined_onto join_entry o b)) (change_of change))
-change_joined (Err x) k e new b o at joined change = tt
-change_joined (Ok c) k e new b o at joined change =
-    let now = ap (λ (x : EntryValue). Some x) (joined ∙ ap (λ p. joined_onto join_entry p b) (sym at)) in
-    subst (λ p. KeyChange k p (Some (joined_onto join_entry o b)) (change_of c)) (sym at)
-    (subst (λ p. KeyChange k (Some e) p (change_of c)) now change)
+change_joined : (h : Handing) (r : Result KeptChange NoMemory) (k : Key) (e new b : EntryValue) (o : Option EntryValue) → o ≡ Some e → OnOk r (new ≡ join_entry e b)
+    → IfOk r (Tells h k (Some e) (Some new)) → IfOk r (Tells h k o (Some (joined_onto join_entry o b)))
+change_joined h (Err x) k e new b o at joined change = tt
+change_joined h (Ok c) k e new b o at joined change =
+    let now = ap (λ (x : EntryValue). Some x) (joined ∙ ap (λ p. joined_onto join_entry p b) (sym at)) in (
+      change.0,
+      subst (λ p. KeyChange k p (Some (joined_onto join_entry o b)) change.0) (sym at)
+          (subst (λ p. KeyChange k (Some e) p change.0) now change.1),
+      change.2,
+    )
 
 pub add-requires-clause-entry : goal.add-requires-clause-entry
 add-requires-clause-entry c =
@@ -64,7 +68,7 @@ returns-in-Some-clause-change c =
     let k = c.args.fragment.now.key in
     let b = facts_of (core_of c.args.fragment.now) in
     let at = ap (maps.get t) (sym c.key-key.ensures) ∙ get_is key_cmp_total m c.key-key.result ∙ sym c.in-Some.ensures.value in
-    change_joined c.add.result k c.in-Some.entry.now c.add.new.self (Held b) (maps.get t k) at c.add.ensures.joined c.add.ensures.change
+    change_joined c.args.handing c.add.result k c.in-Some.entry.now c.add.new.self (Held b) (maps.get t k) at c.add.ensures.joined c.add.ensures.change
 
 -- ---- a new key
 
@@ -93,8 +97,12 @@ returns-in-Ok-clause-change c =
     let b = facts_of (core_of c.args.fragment.now) in
     let none = ap (maps.get t) (sym c.key-key.ensures) ∙ get_is key_cmp_total m c.key-key.result ∙ sym c.in-None.ensures.value in
     let now = ap (λ (x : EntryValue). Some x) (c.in_ok-entry-in-None.ensures.entry ∙ ap (λ o. joined_onto join_entry o (Held b)) (sym none)) in
-    subst (λ o. KeyChange k o (Some (joined_onto join_entry (maps.get t k) (Held b))) (change_of c.in_ok-entry-in-None.change)) (sym none)
-    (subst (λ o. KeyChange k None o (change_of c.in_ok-entry-in-None.change)) now c.in_ok-entry-in-None.ensures.change)
+    let told = c.in_ok-entry-in-None.ensures.change in (
+      told.0,
+      subst (λ o. KeyChange k o (Some (joined_onto join_entry (maps.get t k) (Held b))) told.0) (sym none)
+          (subst (λ o. KeyChange k None o told.0) now told.1),
+      told.2,
+    )
 
 pub returns-in-Err-clause-needed : goal.returns-in-Err-clause-needed
 returns-in-Err-clause-needed c =

@@ -1,12 +1,12 @@
-use Rattle.std.proofs.Common.{◌≡◌, ◌∙◌, sym, ap, subst, Some}
+use Rattle.std.proofs.Common.{◌≡◌, ◌∙◌, sym, ap, subst, Option, Some}
 use Rattle.nb_datagram.specs.Fragment.{core_of}
-use Rattle.nb_table.specs.declared.change.Change.{Change}
+use Rattle.nb_datagram.specs.Datagram.{DatagramParts}
 use Rattle.nb_table.specs.Slot.{Held}
 use Rattle.nb_table.specs.Cover.{AreCoverFacts, covers_together}
 use Rattle.nb_table.specs.Entry.{EntryFacts, FactsFit, facts_of, facts_together}
 use Rattle.nb_table.specs.Whole.{bytes_to, datagram_of, datagram_with, newly}
-use Rattle.nb_table.specs.Code.Change.{KeyChange, change_of, grown_to}
-use Rattle.nb_table.proofs.Changes.ChangeLemmas.{facts_held, key_grown, with_together}
+use Rattle.nb_table.specs.Code.Change.{KeyChange, grown_to, handed_by}
+use Rattle.nb_table.proofs.Changes.ChangeLemmas.{facts_held, key_grown, told_grown, with_together}
 use Rattle.nb_table.proofs.Covers.PlacedLemmas.{cover_of_formed}
 use Rattle.nb_table.proofs.Covers.CoverFactsLemmas.{together_formed}
 use Rattle.std.proofs.lemmas.Bool.Decides.{not_from_Decides}
@@ -34,6 +34,7 @@ pub returns-clause-change : goal.returns-clause-change
 returns-clause-change c =
     let b = facts_of (core_of c.args.fragment.now) in
     let k = c.args.fragment.now.key in
+    let h = c.args.handing in
     let old : EntryFacts = record { kind = c.self.inside.kind; source = c.self.inside.parties.source; destination = c.self.inside.parties.destination; cover = c.self.inside.cover } in
     let fit = subst (λ (x : EntryFacts). FactsFit x b) (sym c.self.view_is) c.requires.fits in
     let made = c.in_ok-add.ensures.ok in
@@ -41,10 +42,13 @@ returns-clause-change c =
     λ i. record { kind = c.self.inside.kind; source = c.self.inside.parties.source; destination = c.self.inside.parties.destination; cover = made i } in
     let datagram =
     c.in_ok-datagram.ensures
-    ∙ ap (λ (x : EntryFacts). newly (datagram_of k (Held x)) (datagram_with k x (bytes_to (covers_together x.cover b.cover).bytes (covers_together x.cover b.cover).end))) (sym c.self.view_is)
-    ∙ ap (newly (datagram_of k (Held old))) (with_together k old b (bytes_to (facts_together old b).cover.bytes (facts_together old b).cover.end)) in
+    ∙ ap (λ (x : EntryFacts). handed_by h (newly (datagram_of k (Held x)) (datagram_with k x (bytes_to (covers_together x.cover b.cover).bytes (covers_together x.cover b.cover).end)))) (sym c.self.view_is)
+    ∙ ap (λ (d : Option DatagramParts). handed_by h (newly (datagram_of k (Held old)) d)) (with_together k old b (bytes_to (facts_together old b).cover.bytes (facts_together old b).cover.end)) in
     let grown = key_grown k old b fit (not_from_Decides c.holds.result c.holds.ensures c.if-holds.false) in
-    let told = c.grown_to.ensures ∙ ap grown_to datagram in
-    subst (λ (x : EntryFacts). KeyChange k (Some (Held x)) (Some (Held (record { kind = c.self.inside.kind; source = c.self.inside.parties.source; destination = c.self.inside.parties.destination; cover = c.add.new.self }))) (change_of c.grown_to.result)) c.self.view_is
-    (subst (λ (x : EntryFacts). KeyChange k (Some (Held old)) (Some (Held x)) (change_of c.grown_to.result)) (sym new)
-    (subst (λ (x : Change). KeyChange k (Some (Held old)) (Some (Held (facts_together old b))) x) (sym told) grown))
+    let whole = newly (datagram_of k (Held old)) (datagram_of k (Held (facts_together old b))) in
+    let told = c.grown_to.ensures ∙ ap grown_to datagram ∙ told_grown h whole in (
+      grown_to whole,
+      subst (λ (x : EntryFacts). KeyChange k (Some (Held x)) (Some (Held (record { kind = c.self.inside.kind; source = c.self.inside.parties.source; destination = c.self.inside.parties.destination; cover = c.add.new.self }))) (grown_to whole)) c.self.view_is
+          (subst (λ (x : EntryFacts). KeyChange k (Some (Held old)) (Some (Held x)) (grown_to whole)) (sym new) grown),
+      told,
+    )

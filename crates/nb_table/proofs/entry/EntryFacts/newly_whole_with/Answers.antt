@@ -12,7 +12,7 @@ returns-then-is_whole c =
     let e = c.args.self.now in
     let b = cover_of (core_of c.args.fragment.now) in
     let k = c.args.fragment.now.key in
-    newly_never k (Held e) (datagram_with k e (bytes_to (covers_together e.cover b).bytes (covers_together e.cover b).end)) (c.is_whole.ensures.0 c.if-is_whole.true)
+    rw c.in-Over.is (newly_never k (Held e) (datagram_with k e (bytes_to (covers_together e.cover b).bytes (covers_together e.cover b).end)) (c.is_whole.ensures.0 c.if-is_whole.true))
 
 pub returns : goal.returns
 returns c =
@@ -20,4 +20,4 @@ returns c =
     let b = cover_of (core_of c.args.fragment.now) in
     let k = c.args.fragment.now.key in
     let p = datagram_with k e (bytes_to (covers_together e.cover b).bytes (covers_together e.cover b).end) in
-    if_ok c.datagram_with.result (λ made same. newly_always k (Held e) made p (not_from_Decides c.is_whole.result c.is_whole.ensures c.if-is_whole.false) same) c.datagram_with.ensures
+    rw c.in-Over.is (if_ok c.datagram_with.result (λ made same. newly_always k (Held e) made p (not_from_Decides c.is_whole.result c.is_whole.ensures c.if-is_whole.false) same) c.datagram_with.ensures)

@@ -1,11 +1,12 @@
 //! Members.
-ghost use Rattle.std.specs.Prelude.{◌≡◌, ◌+◌, MatchOption};
+ghost use Rattle.std.specs.Prelude.{◌≡◌, ◌+◌, Ok, Err, OnOk, IfErr, MatchOption};
 ghost use Rattle.std.specs.FinMap as maps;
 ghost use Rattle.nb_table.specs.Code.Change.{change_of};
 ghost use Rattle.nb_member.specs.Events.{limits_of};
 ghost use Rattle.nb_member.specs.Member.{contents, new_member, with_timed, after_clock};
 ghost use Rattle.nb_member.specs.Taking.{Takes, TakesFragment, handed, outcome_of};
 ghost use Rattle.nb_member.specs.Code.Members.{MeetsFull, BeginsFull, limit_of};
+ghost use Rattle.nb_member.specs.declared.outcome.Outcome.{Outcome};
 ghost use Rattle.nb_member.specs.declared.run_report.RunStop.{RunStop};
 
 mod absorbing;
@@ -17,7 +18,7 @@ use crate::run_report::RunStop;
 use crate::settings::Settings;
 use crate::timed_table::TimedTable;
 use nb_datagram::{KeptDatagram, Key, LentFragment, LentPacket, decode_lent};
-use nb_table::{KeptChange, Table, TableFault};
+use nb_table::{Handing, KeptChange, Table, TableFault};
 use std::alloc::Global;
 use std::marker::Model;
 
@@ -94,6 +95,26 @@ impl Member {
         }
     }
 
+    /// Takes a payload that came at this moment as [`Member::take`] does, and says no more than
+    /// that: no datagram is made, so memory is taken for what the table holds alone.
+    ///
+    /// # Errors
+    ///
+    /// Those of [`Member::take`].
+    pub fn hold(&mut self, moment: u64, payload: &[u8]) -> Result<(), MemberFault>
+        ensures taken { OnOk result ((outcome : Outcome) ×
+            Takes self.old moment payload.now self.new (Ok outcome)) }
+        ensures refused { IfErr result (λ fault.
+            Takes self.old moment payload.now self.new (Err fault)) }
+    {
+        match decode_lent(payload) {
+            Ok((LentPacket::Direct(fragment), _)) => self.hold_fragment(moment, &fragment),
+            Ok((LentPacket::Error(_), _)) => Ok(()),
+            Ok((LentPacket::Query(_), _)) => Ok(()),
+            Err(fault) => Err(MemberFault::Packet(fault, self.settings.refusal(payload, fault))),
+        }
+    }
+
     /// Takes a fragment that came at this moment.
     fn take_fragment(
         &mut self,
@@ -103,8 +124,21 @@ impl Member {
         ensures { TakesFragment self.old moment fragment.now self.new result }
     {
         let key = fragment.key();
-        match self.timed.insert(moment, fragment) {
+        match self.timed.insert(moment, fragment, Handing::Over) {
             Ok(change) => Ok(outcome_of(&self.settings, &self.names, key, change)),
+            Err(fault) => Err(MemberFault::Table(fault)),
+        }
+    }
+
+    /// Takes a fragment that came at this moment, and hands nothing over.
+    fn hold_fragment(&mut self, moment: u64, fragment: &LentFragment<'_>) -> Result<(), MemberFault>
+        ensures taken { OnOk result ((outcome : Outcome) ×
+            TakesFragment self.old moment fragment.now self.new (Ok outcome)) }
+        ensures refused { IfErr result (λ fault.
+            TakesFragment self.old moment fragment.now self.new (Err fault)) }
+    {
+        match self.timed.insert(moment, fragment, Handing::Kept) {
+            Ok(_) => Ok(()),
             Err(fault) => Err(MemberFault::Table(fault)),
         }
     }

@@ -2,7 +2,8 @@
 ghost use Rattle.std.specs.Prelude.{◌≡◌, false, IfOk, IfErr, OnOk, OnErr};
 ghost use Rattle.std.specs.FinMap as maps;
 ghost use Rattle.nb_table.specs.Change.{IsChange};
-ghost use Rattle.nb_table.specs.Code.Change.{change_of};
+ghost use Rattle.nb_table.specs.Code.Change.{change_of, told_by};
+ghost use Rattle.nb_table.specs.declared.change.Change.{Change};
 ghost use Rattle.nb_table.specs.Insert.{Takes as TableTakes, Refuses};
 ghost use Rattle.nb_member.specs.Member.{begun, after_fragment, after_clock};
 
@@ -11,7 +12,7 @@ mod merging;
 use crate::starts::Starts;
 use nb_datagram::{Key, LentFragment};
 use nb_names::NoMemory;
-use nb_table::{KeptChange, Table, TableFault};
+use nb_table::{Handing, KeptChange, Table, TableFault};
 use std::alloc::Global;
 use std::marker::Model;
 
@@ -59,7 +60,8 @@ impl TimedTable {
         &self.table
     }
 
-    /// Takes in a fragment that came at this moment, and says what that changed at its key.
+    /// Takes in a fragment that came at this moment, and says what that changed at its key, as far
+    /// as datagrams are handed over.
     ///
     /// # Errors
     ///
@@ -68,15 +70,17 @@ impl TimedTable {
         &mut self,
         moment: u64,
         fragment: &LentFragment<'_>,
+        handing: Handing,
     ) -> Result<KeptChange, TableFault>
         ensures taken { OnOk result (TableTakes self.old.table fragment.now) }
         ensures joined { OnOk result (self.new ≡ after_fragment self.old moment fragment.now) }
-        ensures change { IfOk result (λ change. IsChange self.old.table.contents
-            self.new.table.contents fragment.now.key (change_of change)) }
+        ensures change { IfOk result (λ told. (change : Change) ×
+            IsChange self.old.table.contents self.new.table.contents fragment.now.key change ×
+            (change_of told ≡ told_by handing change)) }
         ensures refused { IfErr result (Refuses self.old.table fragment.now) }
         ensures kept { OnErr result (self.new ≡ self.old) }
     {
-        let change = self.table.insert_lent(fragment)?;
+        let change = self.table.insert_with(fragment, handing)?;
         begin_or_drop(&mut self.table, &mut self.starts, fragment.key(), moment)?;
         Ok(change)
     }

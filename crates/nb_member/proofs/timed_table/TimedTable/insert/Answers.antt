@@ -19,7 +19,7 @@ invariant_of-self-in_err-begin_or_drop c =
     let known = c.in_err-begin_or_drop.ensures in
     let unmet = ap (λ (j : Key). maps.contains_key c.self.inside.starts j) (sym c.key.ensures) ∙ known.unmet in
     let new = sym (c.self.invariant f.key) ∙ unmet in
-    let table = table_restored c.self.inside.table c.insert_lent.new.self c.begin_or_drop.new.table f c.key.result c.key.ensures c.in_ok-change.ensures.joined known.dropped new in
+    let table = table_restored c.self.inside.table c.insert_with.new.self c.begin_or_drop.new.table f c.key.result c.key.ensures c.in_ok-change.ensures.joined known.dropped new in
     λ k.
     ap (λ (m : Moments). maps.contains_key m k) known.still
     ∙ (c.self.invariant k ∙ sym (ap (λ (t : TableValue). maps.contains_key t.contents k) table))
@@ -39,7 +39,7 @@ returns-in_err-begin_or_drop-clause-kept c =
     let known = c.in_err-begin_or_drop.ensures in
     let unmet = ap (λ (j : Key). maps.contains_key c.self.inside.starts j) (sym c.key.ensures) ∙ known.unmet in
     let new = sym (c.self.invariant f.key) ∙ unmet in
-    let table = table_restored c.self.inside.table c.insert_lent.new.self c.begin_or_drop.new.table f c.key.result c.key.ensures c.in_ok-change.ensures.joined known.dropped new in
+    let table = table_restored c.self.inside.table c.insert_with.new.self c.begin_or_drop.new.table f c.key.result c.key.ensures c.in_ok-change.ensures.joined known.dropped new in
     let p = err_from_is_err_and c.from_residual-in_err-begin_or_drop.result c.from_residual-in_err-begin_or_drop.ensures.1 in
     rw p.1 (rw (← c.self.view_is) (λ i. record { table = table i; moments = known.still i }))
 

@@ -12,9 +12,9 @@ use nb_table::{Table, TableFault};
 /// `take STATION STEP, STEP ..`: what a new member answers to each step.
 ///
 /// `take MOMENT PAYLOAD` is a payload that comes, `took MOMENT PAYLOAD` one whose call stands
-/// between no marks, `tick NOW` a look at the clock, which answers how many keys it dropped, `keys`
-/// asks how many keys are held, `list` for the lines of the keys, and `settings` what the member
-/// was set up with.
+/// between no marks, `hold MOMENT PAYLOAD` one that hands nothing over, `tick NOW` a look at the
+/// clock, which answers how many keys it dropped, `keys` asks how many keys are held, `list` for the
+/// lines of the keys, and `settings` what the member was set up with.
 pub fn taken(line: &mut Line<'_>) {
     let station = line.word();
     let mut member = member_of(line, station);
@@ -60,6 +60,7 @@ fn say_step<'a>(line: &mut Line<'a>, step: &'a str, member: &mut Member, other: 
     match line.word() {
         "take" => take(line, member),
         "took" => take_unmarked(line, member),
+        "hold" => hold(line, member),
         "tick" => tick(line, member),
         "absorb" => absorb(line, member, other),
         "preview" => preview(line, member, other),
@@ -91,6 +92,22 @@ fn take_unmarked(line: &mut Line<'_>, member: &mut Member) {
     let payload = line.bytes();
     let taken = member.take(moment, payload.as_slice());
     say_taken(line, &taken);
+}
+
+/// `hold MOMENT PAYLOAD`.
+fn hold(line: &mut Line<'_>, member: &mut Member) {
+    let moment = line.number();
+    let payload = line.bytes();
+    let held = asked!(
+        line,
+        Err(MemberFault::Table(TableFault::NoMemory)),
+        member.hold(moment, payload.as_slice()),
+        reads(line, member.table())
+    );
+    match held {
+        Ok(()) => line.say("held"),
+        Err(fault) => say_refused(line, fault),
+    }
 }
 
 /// `tick NOW`.

@@ -205,9 +205,6 @@ fn outcome_of(settings: &Settings, names: &LocalNames, key: Key, change: KeptCha
 }
 
 /// What is answered of a datagram that became whole.
-///
-/// It is no part of its caller, so that a payload that makes none whole makes no room for one.
-#[inline(never)]
 fn handed(settings: &Settings, names: &LocalNames, key: Key, datagram: KeptDatagram) -> Outcome
     ensures { result ≡ handed settings.now names.now key datagram }
 {

@@ -59,6 +59,19 @@ impl Starts {
         if self.moments.contains_key(&key) {
             return Ok(());
         }
+        self.begin_new(key, moment)
+    }
+
+    /// Starts the timer of a key that has none.
+    ///
+    /// # Errors
+    ///
+    /// `NoMemory` where memory ran out. The moments are then as they were.
+    pub fn begin_new(&mut self, key: Key, moment: u64) -> Result<(), NoMemory>
+        requires { maps.contains_key self.old key ≡ false }
+        ensures begun { OnOk result (self.new ≡ begun self.old key moment) }
+        ensures kept { OnErr result (self.new ≡ self.old) }
+    {
         self.moments.insert(key, moment)?;
         Ok(())
     }

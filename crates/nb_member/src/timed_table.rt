@@ -80,7 +80,11 @@ impl TimedTable {
         ensures refused { IfErr result (Refuses self.old.table fragment.now) }
         ensures kept { OnErr result (self.new ≡ self.old) }
     {
+        let keys = self.table.len();
         let change = self.table.insert_with(fragment, handing)?;
+        if self.table.len() == keys {
+            return Ok(change);
+        }
         begin_or_drop(&mut self.table, &mut self.starts, fragment.key(), moment)?;
         Ok(change)
     }
@@ -93,23 +97,23 @@ impl TimedTable {
     }
 }
 
-/// Starts the timer of a key of the table, or takes the key out of the table where memory ran out.
+/// Starts the timer of a new key of the table, or takes the key out of it where memory ran out.
 fn begin_or_drop(
     table: &mut Table,
     starts: &mut Starts,
     key: Key,
     moment: u64,
 ) -> Result<(), NoMemory>
+    requires { maps.contains_key starts.old key ≡ false }
     ensures begun { OnOk result (starts.new ≡ begun starts.old key moment) }
     ensures kept { OnOk result (table.new ≡ table.old) }
-    ensures unmet { OnErr result (maps.contains_key starts.old key ≡ false) }
     ensures still { OnErr result (starts.new ≡ starts.old) }
     ensures dropped { OnErr result (table.new ≡ record {
       contents = maps.remove table.old.contents key;
       limits = table.old.limits;
     }) }
 {
-    match starts.begin(key, moment) {
+    match starts.begin_new(key, moment) {
         Ok(()) => Ok(()),
         Err(fault) => {
             table.drop_key(&key);

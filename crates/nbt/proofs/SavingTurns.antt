@@ -1,7 +1,8 @@
 -- What taking the lines of a capture keeps from turn to turn.
-use Rattle.std.proofs.Common.{◌≡◌, ◌≢◌, ◌⊎◌, ◌≤◌, ◌+◌, ◌++◌, [], ◌∷◌, ℕ, Bool, true, false, List, Option, Some, None, Result, Ok, Err, inl, inr, length, refl, sym, ap, subst, ◌∙◌, append_assoc, arith}
+use Rattle.std.proofs.Common.{◌≡◌, ◌≢◌, ◌⊎◌, ◌≤◌, ◌+◌, ◌++◌, [], ◌∷◌, ℕ, Bool, true, false, List, Option, Some, None, Result, Ok, Err, IfErr, OnOk, inl, inr, length, refl, sym, ap, subst, ◌∙◌, append_assoc, arith}
 use Rattle.std.specs.Io.KnownBytes.{IsAtEnd}
 use Rattle.std.proofs.lemmas.List.{append-nil, length-append}
+use Rattle.std.proofs.lemmas.Result.{IfErr-at_err}
 use Rattle.nb_names.specs.Counted.{Counts}
 use Rattle.nb_names.specs.Devices.{ShowsUnread}
 use Rattle.nb_names.specs.Lines.{CutInto, rest, line, with_rest}
@@ -26,7 +27,7 @@ use Rattle.nbt.specs.declared.fault.Fault.{Fault}
 use Rattle.nbt.specs.declared.fault.Fault.TheVariants.{FullSource, Full, Memory, Read, Line as LineFault}
 use Rattle.nbt.specs.SaveFaults.{LineStops, PayloadStops, SaidStops, StopsTaking, StopsSaving, here, later, at_end}
 use Rattle.nbt.specs.Saved.{saved_digits}
-use Rattle.nbt.specs.Saving.{TakesEach, TakesLine, TakesSaid, SavesCapture, new_saver, more, none}
+use Rattle.nbt.specs.Saving.{GoesOn, TakesEach, TakesLine, TakesPayload, TakesSaid, SavesCapture, new_saver, more, none}
 
 -- ---- what a line says
 
@@ -35,20 +36,27 @@ pub took_line : (m new : MemberValue) (l : List ℕ) (said : Option Line) → Re
 took_line m new l said reads takes = record { said = said; reads = reads; takes = takes }
 
 -- a payload for which there is no room, or no memory
-pub payload_full : (m new : MemberValue) (moment : ℕ) (payload : List ℕ) (taken : Result Outcome MemberFault) (key : Key)
-    → Takes m moment payload new taken → taken ≡ Err (Table (tables.Full key)) → PayloadStops m moment payload Full
-payload_full m new moment payload taken key takes is =
-    (key, new, subst (λ (r : Result Outcome MemberFault). Takes m moment payload new r) is takes)
+pub payload_full : {X : Type 0} (m new : MemberValue) (moment : ℕ) (payload : List ℕ) (held : Result X MemberFault) (key : Key)
+    → IfErr held (λ fault. Takes m moment payload new (Err fault)) → held ≡ Err (Table (tables.Full key)) → PayloadStops m moment payload Full
+payload_full m new moment payload held key refused is =
+    (key, new, IfErr-at_err (λ fault. Takes m moment payload new (Err fault)) is refused)
 
-pub payload_full_source : (m new : MemberValue) (moment : ℕ) (payload : List ℕ) (taken : Result Outcome MemberFault) (key : Key)
-    → Takes m moment payload new taken → taken ≡ Err (Table (tables.FullSource key)) → PayloadStops m moment payload FullSource
-payload_full_source m new moment payload taken key takes is =
-    (key, new, subst (λ (r : Result Outcome MemberFault). Takes m moment payload new r) is takes)
+pub payload_full_source : {X : Type 0} (m new : MemberValue) (moment : ℕ) (payload : List ℕ) (held : Result X MemberFault) (key : Key)
+    → IfErr held (λ fault. Takes m moment payload new (Err fault)) → held ≡ Err (Table (tables.FullSource key)) → PayloadStops m moment payload FullSource
+payload_full_source m new moment payload held key refused is =
+    (key, new, IfErr-at_err (λ fault. Takes m moment payload new (Err fault)) is refused)
 
-pub payload_memory : (m new : MemberValue) (moment : ℕ) (payload : List ℕ) (taken : Result Outcome MemberFault)
-    → Takes m moment payload new taken → taken ≡ Err (Table tables.NoMemory) → PayloadStops m moment payload Memory
-payload_memory m new moment payload taken takes is =
-    (new, subst (λ (r : Result Outcome MemberFault). Takes m moment payload new r) is takes)
+pub payload_memory : {X : Type 0} (m new : MemberValue) (moment : ℕ) (payload : List ℕ) (held : Result X MemberFault)
+    → IfErr held (λ fault. Takes m moment payload new (Err fault)) → held ≡ Err (Table tables.NoMemory) → PayloadStops m moment payload Memory
+payload_memory m new moment payload held refused is =
+    (new, IfErr-at_err (λ fault. Takes m moment payload new (Err fault)) is refused)
+
+-- a payload that ends nothing
+pub payload_held : {X : Type 0} (m new : MemberValue) (moment : ℕ) (payload : List ℕ) (held : Result X MemberFault)
+    → OnOk held ((outcome : Outcome) × Takes m moment payload new (Ok outcome)) → IfErr held (λ fault. Takes m moment payload new (Err fault))
+    → IfErr held (λ fault. GoesOn (Err fault)) → TakesPayload m moment payload new
+payload_held m new moment payload (Ok x) taken refused goes_on = record { answer = Ok taken.0; taken = taken.1; goes_on = tt }
+payload_held m new moment payload (Err fault) taken refused goes_on = record { answer = Err fault; taken = refused; goes_on = goes_on }
 
 -- a line whose payload isn't taken
 pub said_stops : (m : MemberValue) (said : Option Line) (port moment : ℕ) (payload seen : List ℕ) (fault : Fault)

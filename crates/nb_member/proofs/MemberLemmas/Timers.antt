@@ -1,5 +1,5 @@
 -- Tables whose keys have moments.
-use Rattle.std.proofs.Common.{◌≡◌, ℕ, Bool, true, false, cond, ◌||◌, [], ◌∷◌, Option, Some, None, is_some, refl, sym, ap, ◌∙◌}
+use Rattle.std.proofs.Common.{◌≡◌, ◌≢◌, ℕ, ◌+◌, Bool, true, false, cond, ◌||◌, arith, [], ◌∷◌, Option, Some, None, is_some, refl, sym, ap, ◌∙◌}
 use Rattle.std.specs.FinMap as maps
 use Rattle.std.proofs.lemmas.Bool.{false≢true}
 use Rattle.nb_datagram.specs.declared.key.Key.{Key}
@@ -56,6 +56,39 @@ pub one_set_after : (t : Contents) (m : Moments) (f : Core) (moment : ℕ) → H
 one_set_after t m f moment h q =
     has_begun m f.key moment q
     ∙ (ap (λ (b : Bool). same_key q f.key || b) (h q) ∙ sym (has_joined t f q))
+
+-- ---- keys that are new
+
+keys_after : (t : Contents) (f : Core) (b : Bool) → maps.contains_key t f.key ≡ b
+    → maps.len (join t (table_of (f ∷ []))) ≡ cond b (maps.len t) (maps.len t + 1)
+keys_after t f b e =
+    ap (λ (u : Contents). maps.len u) (join_one t f)
+    ∙ maps.len-insert key_cmp_total t f.key (joined_onto join_entry (maps.get t f.key) (Held (facts_of f)))
+    ∙ ap (λ (has : Bool). cond has (maps.len t) (maps.len t + 1)) e
+
+-- where the table has as many keys as before, it had the fragment's
+pub known_key : (t u : TableValue) (f : FragmentParts) (before after : ℕ) → before ≡ maps.len t.contents → after ≡ maps.len u.contents
+    → u ≡ with_fragment t f → after ≡ before → maps.contains_key t.contents f.key ≡ true
+known_key t u f before after b a joined same = at (maps.contains_key t.contents f.key) refl
+  where
+    at : (has : Bool) → maps.contains_key t.contents f.key ≡ has → maps.contains_key t.contents f.key ≡ true
+    at true e = e
+    at false e = absurd (
+        let size = ap (λ (x : TableValue). maps.len x.contents) joined ∙ keys_after t.contents (core_of f) false e in
+        omega (arith, size, a, b, same))
+
+-- else it hadn't
+pub new_key : (t u : TableValue) (f : FragmentParts) (before after : ℕ) → before ≡ maps.len t.contents → after ≡ maps.len u.contents
+    → u ≡ with_fragment t f → after ≢ before → maps.contains_key t.contents f.key ≡ false
+new_key t u f before after b a joined differ = at (maps.contains_key t.contents f.key) refl
+  where
+    at : (has : Bool) → maps.contains_key t.contents f.key ≡ has → maps.contains_key t.contents f.key ≡ false
+    at true e = absurd (differ (a ∙ ap (λ (x : TableValue). maps.len x.contents) joined ∙ keys_after t.contents (core_of f) true e ∙ sym b))
+    at false e = e
+
+-- the timer of a key that has one runs on
+pub begun_already : (m : Moments) (k : Key) (moment : ℕ) → maps.contains_key m k ≡ true → begun m k moment ≡ m
+begun_already m k moment has = ap (λ (b : Bool). cond b m (maps.insert m k moment)) has
 
 taken_out : (b : Bool) (e : EntryValue) (o : Option EntryValue) → (b ≡ true → o ≡ None)
     → cond b None (cond b (Some e) o) ≡ o

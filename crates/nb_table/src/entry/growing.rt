@@ -29,8 +29,7 @@ fn grown_to(datagram: Option<KeptDatagram>) -> KeptChange
 
 impl EntryFacts {
     /// The datagram of a fragment's key, if the facts are whole with it. No memory is taken where
-    /// they aren't. It is no part of its callers, which then make no room for a datagram.
-    #[inline(never)]
+    /// they aren't.
     fn datagram_with(
         &self,
         alloc: Global,
@@ -125,9 +124,7 @@ impl EntryFacts {
         }
     }
 
-    /// What one fragment says, and what that changes at its key, which was new. It is no part of
-    /// its callers, which make no room for it where the key is held.
-    #[inline(never)]
+    /// What one fragment says, and what that changes at its key, which was new.
     pub(crate) fn first(
         alloc: Global,
         fragment: &LentFragment<'_>,

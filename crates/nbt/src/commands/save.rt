@@ -144,7 +144,7 @@ fn take_payload(moment: u64, payload: &[u8], member: &mut Member) -> Result<(), 
     ensures no_read { IfErr result (λ fault. fault ≢ Fault.Read) }
     ensures stops { IfErr result (PayloadStops member.old moment payload.now) }
 {
-    match member.take(moment, payload) {
+    match member.hold(moment, payload) {
         Err(MemberFault::Table(TableFault::FullSource(_))) => Err(Fault::FullSource),
         Err(MemberFault::Table(TableFault::Full(_))) => Err(Fault::Full),
         Err(MemberFault::Table(TableFault::NoMemory)) => Err(Fault::Memory),

@@ -2,12 +2,35 @@
 ghost use Rattle.std.specs.Prelude.{◌≡◌, ◌+◌, ◌-◌, ◌<◌, ◌≤◌, ◌++◌, ◌∷◌, length, take, drop, min, max, slice_index_or, slice_set, OnOk, OnErr};
 ghost use Rattle.std.specs.Vec.{vec_capacity, vec_len};
 ghost use Rattle.nb_table.specs.Runs.{run_end, AreApart};
+ghost use Rattle.nb_table.specs.declared.cover.runs.growing.TheConstants.{FEW};
 ghost use Rattle.nb_table.specs.Code.RunSteps.{stretch_of, value_of, values_of, room_in, run_at, grown, Meet, Agree, IsPut};
 
 use super::searching::{first_from, past_to};
 use super::{Run, Stretch};
+use arrayvec::ArrayVec;
 use nb_names::NoMemory;
 use std::alloc::Global;
+
+/// How many bytes are moved by way of the stack: `rotate_right` clears four times as many for its
+/// room, whatever it moves.
+const FEW: usize = 1_024;
+
+/// Puts bytes before few others, for which there is room.
+///
+/// It is no part of its caller, which then makes no room on the stack where there are more.
+#[inline(never)]
+fn grow_few(items: &mut Vec<u8>, front: &[u8])
+    requires few { vec_len items.old ≤ FEW }
+    requires room { vec_len items.old + length front.now ≤ vec_capacity items.old }
+    ensures items { items.new.items ≡ front.now ++ items.old.items }
+    ensures room { vec_capacity items.old ≤ vec_capacity items.new }
+{
+    let mut others: ArrayVec<u8, FEW> = ArrayVec::new();
+    others.try_extend_from_slice(items.as_slice()).unwrap();
+    items.clear();
+    items.extend_from_slice(front).unwrap();
+    items.extend_from_slice(others.as_slice()).unwrap();
+}
 
 /// Puts bytes before the others, for which there is room.
 fn grow_front(items: &mut Vec<u8>, front: &[u8])
@@ -15,6 +38,10 @@ fn grow_front(items: &mut Vec<u8>, front: &[u8])
     ensures items { items.new.items ≡ front.now ++ items.old.items }
     ensures room { vec_capacity items.old ≤ vec_capacity items.new }
 {
+    if items.len() <= FEW {
+        grow_few(items, front);
+        return;
+    }
     let count = front.len();
     items.extend_from_slice(front).unwrap();
     items.rotate_right(count);

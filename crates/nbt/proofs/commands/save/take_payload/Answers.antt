@@ -4,16 +4,16 @@ use Rattle.nbt.proofs.commands.save.take_payload.Goals.{in-Err-Table-FullSource,
 
 pub returns-clause-stops : goal.returns-clause-stops
 returns-clause-stops c =
-    elim c.match-take.branch [
+    elim c.match-hold.branch [
       | in-Err-Table-FullSource w ↦
           let f = w.in-Err-Table-FullSource in
-          rw w.result-is (payload_full_source _ _ _ _ _ f.field-0-0-0 c.take.ensures (cc (f.is, f.field-0-is, f.field-0-0-is)))
+          rw w.result-is (payload_full_source _ _ _ _ _ f.field-0-0-0 c.hold.ensures.refused (cc (f.is, f.field-0-is, f.field-0-0-is)))
       | in-Err-Table-Full w ↦
           let f = w.in-Err-Table-Full in
-          rw w.result-is (payload_full _ _ _ _ _ f.field-0-0-0 c.take.ensures (cc (f.is, f.field-0-is, f.field-0-0-is)))
+          rw w.result-is (payload_full _ _ _ _ _ f.field-0-0-0 c.hold.ensures.refused (cc (f.is, f.field-0-is, f.field-0-0-is)))
       | in-Err-Table-NoMemory w ↦
           let f = w.in-Err-Table-NoMemory in
-          rw w.result-is (payload_memory _ _ _ _ _ c.take.ensures (cc (f.is, f.field-0-is, f.field-0-0-is)))
+          rw w.result-is (payload_memory _ _ _ _ _ c.hold.ensures.refused (cc (f.is, f.field-0-is, f.field-0-0-is)))
       | in_default w ↦ rw w.result-is tt
       | in_default-2 w ↦ rw w.result-is tt
       | in_default-3 w ↦ rw w.result-is tt

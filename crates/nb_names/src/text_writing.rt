@@ -197,14 +197,28 @@ fn dot_label(label: &[u8], row: &mut ArrayVec<u8, MAX_SPELLING>) -> bool
     ensures dotted { IsTrue result → row.new.items ≡ row.old.items ++ dot ∷ items_of label.now }
     ensures ascii { IsTrue result → IsAscii row.old.items → IsAscii row.new.items }
 {
-    if row.remaining_capacity() <= label.len() {
-        return false;
-    }
-    if !are_plain(label) {
+    if row.is_full() {
         return false;
     }
     row.push(b'.');
-    row.try_extend_from_slice(label).unwrap();
+    for byte in label {
+        if !add_plain(*byte, row) {
+            return false;
+        }
+    }
+    true
+}
+
+/// Adds a byte to a row, if it is plain and finds room. For a label of few bytes it costs less than
+/// a look at all of them and a copy.
+fn add_plain(byte: u8, row: &mut ArrayVec<u8, MAX_SPELLING>) -> bool
+    ensures added { IsTrue result → row.new.items ≡ row.old.items ++ item_of byte }
+    ensures ascii { IsTrue result → IsAscii row.old.items → IsAscii row.new.items }
+{
+    if !is_plain(byte) || row.is_full() {
+        return false;
+    }
+    row.push(byte);
     true
 }
 

@@ -1,5 +1,5 @@
 -- What taking the lines of a capture keeps from turn to turn.
-use Rattle.std.proofs.Common.{◌≡◌, ◌≢◌, ◌⊎◌, ◌≤◌, ◌+◌, ◌++◌, [], ◌∷◌, ℕ, Bool, true, false, List, Option, Some, None, Result, Ok, Err, IfErr, OnOk, inl, inr, length, refl, sym, ap, subst, ◌∙◌, append_assoc, arith}
+use Rattle.std.proofs.Common.{◌≡◌, ◌≢◌, ◌⊎◌, ◌≤◌, ◌+◌, ◌++◌, [], ◌∷◌, ℕ, Bool, true, false, List, Option, Some, None, Result, Ok, Err, IfErr, inl, inr, length, refl, sym, ap, subst, ◌∙◌, append_assoc, arith}
 use Rattle.std.specs.Io.KnownBytes.{IsAtEnd}
 use Rattle.std.proofs.lemmas.List.{append-nil, length-append}
 use Rattle.std.proofs.lemmas.Result.{IfErr-at_err}
@@ -15,7 +15,6 @@ use Rattle.nb_member.specs.declared.line_read_fault.LineReadFault.{LineReadFault
 use Rattle.nb_member.specs.declared.line_read_fault.LineReadFault.TheVariants as unread
 use Rattle.nb_member.specs.declared.member_fault.MemberFault.{MemberFault}
 use Rattle.nb_member.specs.declared.member_fault.MemberFault.TheVariants.{Table}
-use Rattle.nb_member.specs.declared.outcome.Outcome.{Outcome}
 use Rattle.nb_member.specs.Capture.{Reads}
 use Rattle.nb_member.specs.LineReading.{ReadsLine}
 use Rattle.nb_member.specs.LineRoom.{RoomValue, nothing_within}
@@ -27,7 +26,7 @@ use Rattle.nbt.specs.declared.fault.Fault.{Fault}
 use Rattle.nbt.specs.declared.fault.Fault.TheVariants.{FullSource, Full, Memory, Read, Line as LineFault}
 use Rattle.nbt.specs.SaveFaults.{LineStops, PayloadStops, SaidStops, StopsTaking, StopsSaving, here, later, at_end}
 use Rattle.nbt.specs.Saved.{saved_digits}
-use Rattle.nbt.specs.Saving.{GoesOn, TakesEach, TakesLine, TakesPayload, TakesSaid, SavesCapture, new_saver, more, none}
+use Rattle.nbt.specs.Saving.{TakesEach, TakesLine, TakesSaid, SavesCapture, new_saver, more, none}
 
 -- ---- what a line says
 
@@ -50,13 +49,6 @@ pub payload_memory : {X : Type 0} (m new : MemberValue) (moment : ℕ) (payload 
     → IfErr held (λ fault. Takes m moment payload new (Err fault)) → held ≡ Err (Table tables.NoMemory) → PayloadStops m moment payload Memory
 payload_memory m new moment payload held refused is =
     (new, IfErr-at_err (λ fault. Takes m moment payload new (Err fault)) is refused)
-
--- a payload that ends nothing
-pub payload_held : {X : Type 0} (m new : MemberValue) (moment : ℕ) (payload : List ℕ) (held : Result X MemberFault)
-    → OnOk held ((outcome : Outcome) × Takes m moment payload new (Ok outcome)) → IfErr held (λ fault. Takes m moment payload new (Err fault))
-    → IfErr held (λ fault. GoesOn (Err fault)) → TakesPayload m moment payload new
-payload_held m new moment payload (Ok x) taken refused goes_on = record { answer = Ok taken.0; taken = taken.1; goes_on = tt }
-payload_held m new moment payload (Err fault) taken refused goes_on = record { answer = Err fault; taken = refused; goes_on = goes_on }
 
 -- a line whose payload isn't taken
 pub said_stops : (m : MemberValue) (said : Option Line) (port moment : ℕ) (payload seen : List ℕ) (fault : Fault)

@@ -32,6 +32,7 @@ impl Ord for Key {
     ghost matches_eq = { Prim.search (comparing, rules) };
 
     fn cmp(&self, other: &Self) -> Ordering {
+        // Byte by byte, since maps compare keys often: `cmp` of arrays is a loop.
         let [a, b, c, d] = self.ip;
         let [e, f, g, h] = other.ip;
         let by_address = a

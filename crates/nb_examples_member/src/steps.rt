@@ -13,8 +13,8 @@ use nb_table::{Table, TableFault};
 ///
 /// `take MOMENT PAYLOAD` is a payload that comes, `took MOMENT PAYLOAD` one whose call stands
 /// between no marks, `hold MOMENT PAYLOAD` one that hands nothing over, `tick NOW` a look at the
-/// clock, which answers how many keys it dropped, `keys` asks how many keys are held, `list` for the
-/// lines of the keys, and `settings` what the member was set up with.
+/// clock, which answers how many keys it dropped, `keys` asks how many keys are held, `list` for
+/// the lines of the keys, and `settings` what the member was set up with.
 pub fn taken(line: &mut Line<'_>) {
     let station = line.word();
     let mut member = member_of(line, station);

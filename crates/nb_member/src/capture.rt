@@ -9,8 +9,8 @@ use crate::limits::{MAX_LINE, MAX_MOMENT_DIGITS};
 use crate::line::Line;
 use crate::line_fault::LineFault;
 use nb_names::{Bytes, DigitsFault, data_of_text};
+use percent_encoding::ascii_str;
 use std::alloc::Global;
-use std::str;
 
 /// What a line of a capture says, or nothing where it is empty or a comment.
 ///
@@ -130,10 +130,7 @@ fn moment_of(text: &[u8]) -> Option<u64>
     if !are_digits(text) {
         return None;
     }
-    match str::from_utf8(text) {
-        Ok(digits) => digits.parse().ok(),
-        Err(_) => None,
-    }
+    ascii_str(text).parse().ok()
 }
 
 /// Whether each byte is a decimal digit.

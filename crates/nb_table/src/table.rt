@@ -150,8 +150,8 @@ impl Table {
     }
 
     /// Joins a fragment whose names are lent, as [`Table::insert_lent`] does, and says what that
-    /// changed at its key, as far as datagrams are handed over. Where they aren't, none is made, and
-    /// memory is taken for what is held alone.
+    /// changed at its key, as far as datagrams are handed over. Where they aren't, none is made,
+    /// and memory is taken for what is held alone.
     ///
     /// # Errors
     ///

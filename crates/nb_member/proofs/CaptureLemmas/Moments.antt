@@ -4,10 +4,9 @@ use Rattle.std.specs.Prelude.{MatchOption}
 use Rattle.std.specs.Result.{result_ok}
 use Rattle.std.specs.List.{list_all}
 use Rattle.std.specs.Char.{is_ascii_digit}
-use Rattle.std.specs.Str.{IsUtf8}
+use Rattle.std.specs.Str.{IsAscii}
 use Rattle.std.specs.Str.Parse.{AllDigits, ParsesUnsigned}
 use Rattle.std.proofs.lemmas.Bool.{false≢true}
-use Rattle.std.proofs.lemmas.Str.{IsUtf8-from_ascii}
 use Rattle.std.proofs.lemmas.Str.Parse.{parse_digits, numerals_by_value, tells_digits}
 use Rattle.nb_member.specs.declared.limits.TheConstants.{MAX_MOMENT_DIGITS}
 use Rattle.nb_member.proofs.CaptureLemmas.Digits.{AllDigits-from_test, test-from_AllDigits, IsAscii-from_digits}
@@ -18,9 +17,9 @@ pub no_moment_from_test : (text : List ℕ) → list_all is_ascii_digit text ≡
 no_moment_from_test text h moment m =
     false≢true (sym h ∙ test-from_AllDigits text m.digits.1)
 
--- digits are text
-pub text_of_digits : (text : List ℕ) → list_all is_ascii_digit text ≡ true → IsUtf8 text
-text_of_digits text h = IsUtf8-from_ascii text (IsAscii-from_digits text (AllDigits-from_test text h))
+-- digits are ASCII
+pub digits_are_ascii : (text : List ℕ) → list_all is_ascii_digit text ≡ true → IsAscii text
+digits_are_ascii text h = IsAscii-from_digits text (AllDigits-from_test text h)
 
 -- what is parsed of digits is their moment, and nothing is where they have none
 pub moment_from_parse : {E : Type 0} (text : List ℕ) (r : Result ℕ E) → list_all is_ascii_digit text ≡ true

@@ -49,8 +49,8 @@ impl EntryFacts {
         }
     }
 
-    /// The datagram of a fragment's key, if the facts become whole with it and it is handed over. No
-    /// memory is taken else.
+    /// The datagram of a fragment's key, if the facts become whole with it and it is handed over.
+    /// No memory is taken else.
     fn newly_whole_with(
         &self,
         alloc: Global,
@@ -106,8 +106,8 @@ impl EntryFacts {
         Ok(grown_to(datagram))
     }
 
-    /// The datagram of a key, which was new, if the facts are whole and it is handed over. No memory
-    /// is taken else.
+    /// The datagram of a key, which was new, if the facts are whole and it is handed over. No
+    /// memory is taken else.
     fn first_datagram(
         &self,
         alloc: Global,

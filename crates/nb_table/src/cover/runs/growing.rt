@@ -171,6 +171,16 @@ fn join_more(
     Ok(())
 }
 
+/// Takes room for one run where there is none: most datagrams have no second one.
+fn reserve_first(runs: &mut Vec<Run>) -> Result<(), NoMemory>
+    ensures { runs.new.items ≡ runs.old.items }
+{
+    if runs.is_empty() {
+        runs.reserve_exact(1)?;
+    }
+    Ok(())
+}
+
 /// Puts a run before the runs from `place` on.
 fn put_at(runs: &mut Vec<Run>, place: usize, run: Run) -> Result<(), NoMemory>
     requires { place ≤ length runs.old.items }
@@ -178,6 +188,7 @@ fn put_at(runs: &mut Vec<Run>, place: usize, run: Run) -> Result<(), NoMemory>
         (runs.new.items ≡ take place runs.old.items ++ run ∷ drop place runs.old.items) }
     ensures err { OnErr result (runs.new.items ≡ runs.old.items) }
 {
+    reserve_first(runs)?;
     runs.push(run)?;
     runs[place..].rotate_right(1);
     Ok(())

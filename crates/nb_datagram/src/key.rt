@@ -32,15 +32,7 @@ impl Ord for Key {
     ghost matches_eq = { Prim.search (comparing, rules) };
 
     fn cmp(&self, other: &Self) -> Ordering {
-        // Byte by byte, since maps compare keys often: `cmp` of arrays is a loop.
-        let [a, b, c, d] = self.ip;
-        let [e, f, g, h] = other.ip;
-        let by_address = a
-            .cmp(&e)
-            .then_with(|| b.cmp(&f))
-            .then_with(|| c.cmp(&g))
-            .then_with(|| d.cmp(&h));
-        by_address.then_with(|| {
+        self.ip.cmp(&other.ip).then_with(|| {
             self.port
                 .cmp(&other.port)
                 .then_with(|| self.id.cmp(&other.id))

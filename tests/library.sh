@@ -1,6 +1,6 @@
 #!/usr/bin/env bash
 # The library for C: what it is made of, the examples of bindings/c, a caller's worst (tests/lib/library.c) beside `nbt
-# show`, sanitizers, memory that runs out, the package for Python, nbt-station, and the crate for Rust. Usage:
+# show`, sanitizers, memory that runs out, the package for Python and its types, nbt-station, and the crate for Rust. Usage:
 # [AFTER_RT_CI=1] tests/library.sh [PROGRAM]; its last line is 'N passed, M failed, K skipped'. The library is built over what
 # `rt ci` has just left, where AFTER_RT_CI says so, and else by `rt lib`.
 set -uo pipefail
@@ -171,6 +171,15 @@ sys.stdout.write(nbt.list_table(bytes.fromhex(sys.stdin.read())))
     replays_alike 'in Python'
 }
 
+# The types of the package, and of calls that use them, by mypy's strict rules for the oldest Python that it is for.
+types() {
+    local each words=(--strict --python-version 3.9 --cache-dir "$room/mypy")
+    for each in '-p nbt' tests/typed_calls.py; do
+        (cd "$top/bindings/python" && MYPYPATH=. ended mypy "${words[@]}" $each) >"$room/log" 2>&1
+        count $? "mypy --strict $each: $(head -n 3 "$room/log")"
+    done
+}
+
 # tools/nbt-station on sockets of the loopback interface.
 station() {
     NBT_LIBRARY=$built/libnbt.so.0 "$timeout" -k 5 600 "$here/lib/station.py" "$top/tools/nbt-station" "$program" \
@@ -262,6 +271,7 @@ part callers callers
 part memory refused
 part replay replayed
 part python python
+if command -v mypy >/dev/null; then part types types; else lacks types mypy; fi
 part station station
 if command -v pkg-config >/dev/null; then part installed installed; else lacks installed pkg-config; fi
 if ! command -v pkg-config >/dev/null; then

@@ -7,21 +7,26 @@ sessions    packets of port 139
 service     requests of port 137
 stations    stations, which put datagrams together
 tables      saved tables
+turns       calls on a station, one at a time
 statuses    why a call did nothing, as exceptions
-numbers     numbers and addresses, judged before a call
+numbers     numbers, addresses and texts, judged before a call
+buffers     the bytes of buffers
 library     the shared library, found and loaded
 
-The calls may be made from any thread, those on one station one at a time, and let other threads run meanwhile.
+The calls may be made from any thread, and let other threads run meanwhile, but for those that read one packet. On one
+station a call waits for another to end.
 """
+from .buffers import Buffer
 from .datagrams import Datagram, DatagramType
 from .names import spell, text
 from .packets import show
 from .service import node_status, query, refresh, registration, release
-from .sessions import SessionPacket, SessionType
+from .sessions import SessionPacket, SessionStream, SessionType
 from .stations import Delivery, Outcome, Station, Taken
 from .statuses import MoreNeeded, NbtError, Status
 from .tables import list_table, merge
+from .turns import ReentryError
 
-__all__ = ['Datagram', 'DatagramType', 'Delivery', 'MoreNeeded', 'NbtError', 'Outcome', 'SessionPacket', 'SessionType', 'Station',
-           'Status', 'Taken', 'list_table', 'merge', 'node_status', 'query', 'refresh', 'registration', 'release', 'show', 'spell',
-           'text']
+__all__ = ['Buffer', 'Datagram', 'DatagramType', 'Delivery', 'MoreNeeded', 'NbtError', 'Outcome', 'ReentryError', 'SessionPacket',
+           'SessionStream', 'SessionType', 'Station', 'Status', 'Taken', 'list_table', 'merge', 'node_status', 'query', 'refresh',
+           'registration', 'release', 'show', 'spell', 'text']

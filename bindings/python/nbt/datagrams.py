@@ -8,8 +8,9 @@ from dataclasses import dataclass
 from typing import Iterator, List, Optional
 
 from . import names
-from .library import BYTES, Buffer, Reader, given, writer
-from .numbers import Address, address_number, number
+from .buffers import Buffer, given
+from .library import BYTES, Reader, writer
+from .numbers import Address, address_number, encoded, number
 
 
 class DatagramType(enum.IntEnum):
@@ -34,7 +35,7 @@ class Found(ctypes.Structure):
                 ('used', ctypes.c_size_t)]
 
 
-READ = Reader('nbt_datagram_read', Found)
+READ = Reader('nbt_datagram_read', Found, 'source', 'destination', 'data')
 WRITE = writer('nbt_datagram_write', ctypes.c_uint8, ctypes.c_uint16, ctypes.c_uint32, ctypes.c_uint16, *BYTES, *BYTES,
                *BYTES, ctypes.c_uint16)
 
@@ -65,19 +66,16 @@ class Datagram:
         return self.flags & 0x02 != 0
 
     @classmethod
-    def read(cls, payload: Buffer) -> Datagram:
-        """The packet at the front of a payload of port 138.
+    def read(cls, payload: Buffer, offset: int = 0) -> Datagram:
+        """The packet at the front of a payload of port 138, which begins at an offset of the buffer; places count from there.
 
         NbtError: TRUNCATED, UNKNOWN_TYPE, SOURCE_TRUNCATED to SOURCE_NOT_NETBIOS, DESTINATION_TRUNCATED to
         DESTINATION_NOT_NETBIOS.
         """
-        whole = given(payload)
-        found = READ(whole)
-        part = lambda start, length: whole[start:start + length]
-        name = lambda start, length: names.text(part(start, length)) if length else None
+        found, (source, destination, data) = READ(payload, offset)
         return cls(DatagramType(found.type), found.flags, found.identifier, ipaddress.IPv4Address(found.address), found.port,
-                   found.offset, name(found.source, found.source_length), name(found.destination, found.destination_length),
-                   part(found.data, found.data_length), found.used)
+                   found.offset, names.text(source) if source else None, names.text(destination) if destination else None, data,
+                   found.used)
 
     @staticmethod
     def write(type: int, identifier: int, address: Address, port: int, source: str, destination: str, data: Buffer,
@@ -87,7 +85,7 @@ class Datagram:
 
         NbtError: UNKNOWN_TYPE, SOURCE_BAD_TEXT to DESTINATION_LONG_TEXT, LONG_DATA, ZERO_PIECE.
         """
-        texts, whole = [source.encode(), destination.encode()], given(data)
+        texts, whole = [encoded(source, 'source'), encoded(destination, 'destination')], given(data)
         written = WRITE(number(type, 8, 'type'), number(identifier, 16, 'identifier'), address_number(address),
                         number(port, 16, 'port'), texts[0], len(texts[0]), texts[1], len(texts[1]), whole, len(whole),
                         number(most, 16, 'most'))

@@ -7,11 +7,11 @@ from __future__ import annotations
 
 import ctypes
 import os
-from typing import Any, Callable, List, Union
+from typing import Any, Callable, List, Tuple, Type
 
-from .statuses import refusal
-
-Buffer = Union[bytes, bytearray, memoryview]
+from .buffers import Buffer, lend
+from .numbers import whole_number
+from .statuses import NbtError, Status, refusal
 
 NAME = 'libnbt.so.0'
 # How many bytes an answer may have before a call is made a second time, and how many a room has that is kept.
@@ -25,47 +25,53 @@ ADDRESS = LENGTH = ctypes.c_void_p
 BYTES = (ctypes.c_char_p, LENGTH)
 
 
-def loaded() -> ctypes.CDLL:
+def loaded(kind: Type[ctypes.CDLL]) -> ctypes.CDLL:
     """The shared library; ImportError where there is none."""
     beside = os.path.join(os.path.dirname(os.path.abspath(__file__)), NAME)
     path = os.environ.get('NBT_LIBRARY') or (beside if os.path.exists(beside) else NAME)
     try:
-        return ctypes.CDLL(path)
+        return kind(path)
     except OSError as error:
         raise ImportError(f'{error}; NBT_LIBRARY may name the file') from error
 
 
-LIBRARY = loaded()
+# By the second no other thread runs during a call.
+LIBRARY, ALONE = loaded(ctypes.CDLL), loaded(ctypes.PyDLL)
 
 
-def given(data: Buffer) -> bytes:
-    """The bytes of a buffer, of which nothing is copied where it is `bytes`."""
-    return data if type(data) is bytes else bytes(memoryview(data))
-
-
-def call(name: str, *arguments: Any) -> Any:
-    """A call of the library that answers a status; ImportError where the library is older than this package and lacks it."""
+def call(name: str, *arguments: Any, library: ctypes.CDLL = LIBRARY, answer: Any = ctypes.c_uint32) -> Any:
+    """A call of the library, which answers a status; ImportError where the library is older than this package and lacks it."""
     try:
-        function = getattr(LIBRARY, name)
+        function = getattr(library, name)
     except AttributeError as error:
         raise ImportError(str(error)) from error
-    function.argtypes, function.restype = arguments, ctypes.c_uint32
+    function.argtypes, function.restype = arguments, answer
     return function
 
 
 class Reader:
-    """A call that fills in a structure of numbers and places."""
+    """A call that fills in a structure of numbers, and of places: of each part where it begins and its length. It reads a
+    buffer where that lies."""
 
-    def __init__(self, name: str, structure: Any) -> None:
+    def __init__(self, name: str, structure: Any, *parts: str) -> None:
         self.structure = structure
-        self.call = call(name, *BYTES, ADDRESS, ADDRESS)
+        self.parts = [(part, f'{part}_length') for part in parts]
+        self.call = call(name, ADDRESS, LENGTH, ADDRESS, ADDRESS, library=ALONE)
 
-    def __call__(self, data: bytes) -> Any:
-        found, at = self.structure(), ctypes.c_size_t()
-        status = self.call(data, len(data), ctypes.addressof(found), ctypes.addressof(at))
+    def __call__(self, data: Buffer, offset: int) -> Tuple[Any, List[bytes]]:
+        """What the bytes of a buffer from an offset on fill in, and the bytes of each part."""
+        return lend(data, self.read, whole_number(offset, 'offset'))
+
+    def read(self, address: int, length: int, offset: int) -> Tuple[Any, List[bytes]]:
+        """The same of the bytes at an address; ValueError where the offset lies outside."""
+        if not 0 <= offset <= length:
+            raise ValueError(f'offset: {offset} lies outside of {length} bytes')
+        found, at, front = self.structure(), ctypes.c_size_t(), address + offset
+        status = self.call(front, length - offset, ctypes.addressof(found), ctypes.addressof(at))
         if status != DONE:
-            raise words_of(status, at.value)
-        return found
+            raise failure(status, at.value)
+        return found, [ctypes.string_at(front + getattr(found, place), size) if (size := getattr(found, part_length)) else b''
+                       for place, part_length in self.parts]
 
 
 class Room:
@@ -77,7 +83,8 @@ class Room:
 
     def grow(self, length: int) -> None:
         """Room for so many bytes."""
-        self.length, self.into = length, ctypes.create_string_buffer(length)
+        self.length = length
+        self.into: Any = ctypes.create_string_buffer(length)
         self.words = ctypes.addressof(self.into), length, ctypes.addressof(self.used), ctypes.addressof(self.at)
 
 
@@ -99,8 +106,9 @@ def writer(name: str, *arguments: Any, places: bool = True) -> Callable[..., byt
             while (status := made(*(arguments + room.words[:count]))) == NO_ROOM:
                 room.grow(room.used.value)
             if status != DONE:
-                raise words_of(status, room.at.value)
-            return room.into[:room.used.value]
+                raise failure(status, room.at.value)
+            written: bytes = room.into[:room.used.value]
+            return written
         finally:
             if room.length <= MOST_SPARE:
                 SPARE.append(room)
@@ -111,6 +119,19 @@ def writer(name: str, *arguments: Any, places: bool = True) -> Callable[..., byt
 STATUS_TEXT = writer('nbt_status_text', ctypes.c_uint32, places=False)
 
 
-def words_of(status: int, at: int) -> Exception:
-    """The exception of a status, with its words."""
-    return refusal(status, at, STATUS_TEXT(status).decode())
+def words_of(status: int) -> str:
+    """The words of a status; of one that the library doesn't know those of UNKNOWN_STATUS."""
+    try:
+        return STATUS_TEXT(status).decode()
+    except NbtError as unknown:
+        return unknown.words
+
+
+def error_of(status: int, at: int) -> NbtError:
+    """The error of a status, with its words."""
+    return refusal(status, at, words_of(status))
+
+
+def failure(status: int, at: int) -> Exception:
+    """What a call raises at a status: MemoryError where memory ran out, else the error."""
+    return MemoryError(words_of(status)) if status == Status.NO_MEMORY else error_of(status, at)

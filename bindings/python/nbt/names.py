@@ -3,7 +3,9 @@ section 4.1. The form of texts is the library's choice: the characters of the na
 digits between < and >, and the labels of its scope, each after a full stop."""
 from __future__ import annotations
 
-from .library import BYTES, Buffer, given, writer
+from .buffers import Buffer, given
+from .library import BYTES, writer
+from .numbers import encoded
 
 SPELL = writer('nbt_name_spell', *BYTES)
 TEXT = writer('nbt_name_text', *BYTES)
@@ -14,7 +16,7 @@ def spell(text: str) -> bytes:
 
     NbtError: BAD_TEXT, whose place counts bytes of UTF-8, and LONG_TEXT.
     """
-    data = text.encode()
+    data = encoded(text, 'text')
     return SPELL(data, len(data))
 
 

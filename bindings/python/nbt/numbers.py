@@ -1,19 +1,36 @@
-"""Numbers and addresses, judged before a call: the library would be given their lowest bits."""
+"""Numbers, addresses and texts, judged before a call: the library would be given the lowest bits of a number."""
 from __future__ import annotations
 
 import ipaddress
-from typing import Union
+from operator import index
+from typing import SupportsIndex, Union
 
 Address = Union[str, int, ipaddress.IPv4Address]
 
 
-def number(value: int, bits: int, what: str) -> int:
+def whole_number(value: SupportsIndex, what: str) -> int:
+    """The whole number; TypeError where it is something else."""
+    try:
+        return index(value)
+    except TypeError:
+        raise TypeError(f'{what}: {value!r} is no whole number') from None
+
+
+def number(value: SupportsIndex, bits: int, what: str) -> int:
     """The number, if it has at most so many bits; else ValueError."""
-    if value >> bits:  # -1 of a negative one
-        raise ValueError(f'{what}: {value} is no number of {bits} bits')
-    return value
+    whole = whole_number(value, what)
+    if whole >> bits:  # -1 of a negative one
+        raise ValueError(f'{what}: {whole} is no number of {bits} bits')
+    return whole
 
 
 def address_number(address: Address) -> int:
     """An address as a number: '10.0.0.5' is 0x0a000005."""
     return int(ipaddress.IPv4Address(address))
+
+
+def encoded(text: str, what: str) -> bytes:
+    """The bytes of a text, in UTF-8; TypeError where it is none. Half a pair of surrogates has bytes too, which no name has."""
+    if not isinstance(text, str):
+        raise TypeError(f'{what}: {text!r} is no text')
+    return text.encode('utf-8', 'surrogatepass')

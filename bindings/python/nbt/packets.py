@@ -3,7 +3,8 @@ from __future__ import annotations
 
 import ctypes
 
-from .library import BYTES, Buffer, given, writer
+from .buffers import Buffer, given
+from .library import BYTES, writer
 from .numbers import number
 
 SHOW = writer('nbt_show', ctypes.c_uint16, *BYTES, places=False)

@@ -9,7 +9,7 @@ from __future__ import annotations
 import ctypes
 
 from .library import BYTES, writer
-from .numbers import Address, address_number, number
+from .numbers import Address, address_number, encoded, number
 
 QUERY, NODE_STATUS, REGISTRATION, REFRESH, RELEASE = range(5)
 REQUEST = writer('nbt_service_request', ctypes.c_uint32, ctypes.c_uint16, ctypes.c_bool, *BYTES, ctypes.c_uint32,
@@ -45,6 +45,6 @@ def release(identifier: int, name: str, nb_flags: int, address: Address, broadca
 def request(kind: int, identifier: int, name: str, broadcast: bool, time_to_live: int = 0, nb_flags: int = 0,
             address: Address = 0) -> bytes:
     """The request of a kind."""
-    text = name.encode()
+    text = encoded(name, 'name')
     return REQUEST(kind, number(identifier, 16, 'identifier'), broadcast, text, len(text),
                    number(time_to_live, 32, 'time to live'), number(nb_flags, 16, 'NB_FLAGS'), address_number(address))

@@ -4,9 +4,12 @@ from __future__ import annotations
 import ctypes
 import enum
 from dataclasses import dataclass
+from typing import Iterator
 
-from .library import BYTES, Buffer, Reader, given, writer
+from .buffers import Buffer, given
+from .library import BYTES, Reader, writer
 from .numbers import number
+from .statuses import MoreNeeded
 
 
 class SessionType(enum.IntEnum):
@@ -27,7 +30,7 @@ class Found(ctypes.Structure):
                 ('used', ctypes.c_size_t)]
 
 
-READ = Reader('nbt_session_read', Found)
+READ = Reader('nbt_session_read', Found, 'body')
 WRITE = writer('nbt_session_write', ctypes.c_uint8, *BYTES)
 
 
@@ -40,15 +43,20 @@ class SessionPacket:
     used: int  # the bytes of the packet: what follows them isn't looked at
 
     @classmethod
-    def read(cls, data: Buffer) -> SessionPacket:
-        """The packet at the front of what came over a connection to port 139.
+    def read(cls, data: Buffer, offset: int = 0) -> SessionPacket:
+        """The packet at the front of what came over a connection to port 139, from an offset of the buffer on; places count
+        from there.
 
         MoreNeeded where it isn't there whole yet. NbtError: UNKNOWN_TYPE, RESERVED_FLAGS, BAD_LENGTH, and of a request
         NAME_TRUNCATED to NAME_NOT_NETBIOS, TRAILING_BYTES.
         """
-        whole = given(data)
-        found = READ(whole)
-        return cls(SessionType(found.type), whole[found.body:found.body + found.body_length], found.used)
+        found, (body,) = READ(data, offset)
+        return cls(SessionType(found.type), body, found.used)
+
+    @staticmethod
+    def stream(data: Buffer, offset: int = 0) -> SessionStream:
+        """The packets of what came over a connection to port 139, one after the other, from an offset of the buffer on."""
+        return SessionStream(data, offset)
 
     @staticmethod
     def write(type: int, body: Buffer = b'') -> bytes:
@@ -59,3 +67,28 @@ class SessionPacket:
         """
         data = given(body)
         return WRITE(number(type, 8, 'type'), data, len(data))
+
+
+class SessionStream(Iterator[SessionPacket]):
+    """The packets that stand one after the other in a buffer, to its end or to the first one that isn't there whole, of which
+    at least `missing` bytes are missing. `offset` is where the next one begins, and `left` how many bytes follow there.
+
+    NbtError: as of SessionPacket.read; `offset` stays where no packet begins.
+    """
+
+    def __init__(self, data: Buffer, offset: int = 0) -> None:
+        self.data, self.offset, self.missing = data, offset, 0
+
+    def __next__(self) -> SessionPacket:
+        try:
+            packet = SessionPacket.read(self.data, self.offset)
+        except MoreNeeded as more:
+            self.missing = more.missing if self.left else 0
+            raise StopIteration from None
+        self.offset += packet.used
+        return packet
+
+    @property
+    def left(self) -> int:
+        """How many bytes of the buffer follow the packets up to here."""
+        return memoryview(self.data).nbytes - self.offset

@@ -4,16 +4,19 @@ from __future__ import annotations
 import ctypes
 import enum
 import ipaddress
+import weakref
 from dataclasses import dataclass
 from types import TracebackType
-from typing import Iterable, List, Optional, Type
+from typing import Iterable, List, NoReturn, Optional, Type
 
 from . import names as spelled
+from .buffers import Buffer, given
 from .datagrams import DatagramType
-from .library import ADDRESS, BYTES, LIBRARY, Buffer, call, given, words_of, writer
-from .numbers import Address, address_number, number
-from .statuses import Status
+from .library import ADDRESS, BYTES, DONE, call, error_of, failure, writer
+from .numbers import Address, address_number, encoded, number
+from .statuses import NbtError
 from .tables import KEYS, PER_SOURCE
+from .turns import Turns
 
 # NBT_TAKE_ROOM: no call of nbt_station_take writes more.
 TAKE_ROOM = 66_045
@@ -68,7 +71,7 @@ class Taken:
     identifier: int
     delivery: Optional[Delivery]              # at DELIVERED
     error: bytes                              # the packet to send to where the payload came from, or b''
-    refusal: Optional[Exception]              # at REFUSED: what Datagram.read raises of the payload
+    refusal: Optional[NbtError]               # at REFUSED: what Datagram.read raises of the payload
 
 
 CREATE = call('nbt_station_create', *BYTES, ctypes.c_uint32, ctypes.c_uint16, ctypes.c_uint32, ctypes.c_uint32, ADDRESS,
@@ -77,25 +80,32 @@ TAKE = call('nbt_station_take', ADDRESS, ctypes.c_uint64, *BYTES, ADDRESS, *BYTE
 TICK = call('nbt_station_tick', ADDRESS, ctypes.c_uint64, ADDRESS)
 SAVE = writer('nbt_station_save', ADDRESS, places=False)
 ABSORB = writer('nbt_station_absorb', ADDRESS, ctypes.c_uint64, *BYTES)
+FREE = call('nbt_station_free', Handle, answer=None)
 
 
 class Station:
     """A station with these names, address and port, and an empty table that has room for so many keys, and for so many of one
-    address. It is given back at the end of a `with`, by `close`, or with the object. One call at a time.
+    address. It is given back at the end of a `with`, by `close`, or with the object.
+
+    Any threads may call it: one call waits for another to end. A call within one of the same thread, as by a signal handler,
+    is refused by ReentryError. A station can't be copied or pickled.
 
     NbtError: BAD_TEXT, LONG_TEXT, NAME_PRESENT, TOO_MANY_NAMES; `at` counts in the names with a space between two.
     """
 
     def __init__(self, names: Iterable[str], address: Address, port: int = 138, keys: int = KEYS,
                  per_source: int = PER_SOURCE) -> None:
-        self.handle = Handle()
-        texts = ' '.join(names).encode()
+        texts, self.handle = joined(names), Handle()
         at, place = ctypes.c_void_p(), ctypes.c_size_t()
         status = CREATE(texts, len(texts), address_number(address), number(port, 16, 'port'), number(keys, 32, 'keys'),
                         number(per_source, 32, 'per source'), ctypes.byref(at), ctypes.byref(place))
-        if status != Status.DONE:
-            raise words_of(status, place.value)
+        if status != DONE:
+            raise failure(status, place.value)
         self.handle.at = at.value
+        self.free = weakref.finalize(self, FREE, self.handle)
+        # A thread may still be within a call when Python ends.
+        self.free.atexit = False
+        self.turns = Turns()
         self.into, self.used = ctypes.create_string_buffer(TAKE_ROOM), ctypes.c_size_t()
 
     def __enter__(self) -> Station:
@@ -105,20 +115,16 @@ class Station:
                  trace: Optional[TracebackType]) -> None:
         self.close()
 
-    def __del__(self) -> None:
-        self.close()
+    def __reduce__(self) -> NoReturn:
+        raise TypeError("a station can't be copied or pickled: save() gives its table")
 
     def close(self) -> None:
         """Gives the station back. No other call may follow; a second close does nothing."""
-        if self.handle.at:
-            free = LIBRARY.nbt_station_free
-            free.argtypes, free.restype = (Handle,), None
-            free(Handle(self.handle.at))
-            self.handle.at = None
+        self.turns.take(self.free)
 
     def open(self) -> ctypes._Pointer[Handle]:
         """The handle; ValueError where the station is closed."""
-        if not self.handle.at:
+        if not self.free.alive:
             raise ValueError('the station is closed')
         return ctypes.pointer(self.handle)
 
@@ -128,23 +134,27 @@ class Station:
         NbtError: MISPLACED_FIRST, LONG, FULL_SOURCE, FULL. The station is then as it was.
         """
         data, told = given(payload), Numbers()
-        status = TAKE(self.open(), number(moment, 64, 'moment'), data, len(data), ctypes.byref(told), self.into, TAKE_ROOM,
-                      ctypes.byref(self.used))
-        if status != Status.DONE:
-            raise words_of(status, 0)
-        return taken(told, ctypes.string_at(self.into, self.used.value))
+        written = self.turns.take(self.take_in, number(moment, 64, 'moment'), data, told)
+        return taken(told, written)
+
+    def take_in(self, moment: int, data: bytes, told: Numbers) -> bytes:
+        """Takes a payload, of which this is told; what is written of it."""
+        status = TAKE(self.open(), moment, data, len(data), ctypes.byref(told), self.into, TAKE_ROOM, ctypes.byref(self.used))
+        if status != DONE:
+            raise failure(status, 0)
+        return ctypes.string_at(self.into, self.used.value)
 
     def tick(self, now: int) -> int:
         """Looks at the clock: drops each key that came at least 2,000 milliseconds before, and answers how many."""
-        dropped = ctypes.c_uint32()
-        status = TICK(self.open(), number(now, 64, 'now'), ctypes.byref(dropped))
-        if status != Status.DONE:
-            raise words_of(status, 0)
+        moment, dropped = number(now, 64, 'now'), ctypes.c_uint32()
+        status = self.turns.take(lambda: int(TICK(self.open(), moment, ctypes.byref(dropped))))
+        if status != DONE:
+            raise failure(status, 0)
         return dropped.value
 
     def save(self) -> bytes:
         """The station's table, saved."""
-        return SAVE(self.open())
+        return self.turns.take(lambda: SAVE(self.open()))
 
     def absorb(self, moment: int, table: Buffer) -> List[Delivery]:
         """Joins the saved table of another station to this one's, at this moment: the keys that are new came then. The datagrams
@@ -152,8 +162,16 @@ class Station:
 
         NbtError: TABLE_BAD_MAGIC to TABLE_FULL, FULL_SOURCE, FULL. The station is then as it was.
         """
-        data = given(table)
-        return deliveries(ABSORB(self.open(), number(moment, 64, 'moment'), data, len(data)))
+        data, came = given(table), number(moment, 64, 'moment')
+        return deliveries(self.turns.take(lambda: ABSORB(self.open(), came, data, len(data))))
+
+
+def joined(names: Iterable[str]) -> bytes:
+    """The names with a space between two. Joined, an empty one would be none, and one with a space two: a zero byte, which no
+    name's text has, stands in its place."""
+    if isinstance(names, (str, bytes)):
+        raise TypeError(f'names: {names!r} is one text; a list of them is wanted')
+    return b' '.join(encoded(each, 'name').replace(b' ', b'\0') or b'\0' for each in names)
 
 
 def taken(told: Numbers, written: bytes) -> Taken:
@@ -162,7 +180,7 @@ def taken(told: Numbers, written: bytes) -> Taken:
     fragment = outcome not in (Outcome.OTHER, Outcome.REFUSED)
     return Taken(outcome, ipaddress.IPv4Address(told.address) if fragment else None, told.port, told.identifier,
                  delivery(told, written) if outcome == Outcome.DELIVERED else None, written[:told.error_length],
-                 words_of(told.refusal, told.refused_at) if outcome == Outcome.REFUSED else None)
+                 error_of(told.refusal, told.refused_at) if outcome == Outcome.REFUSED else None)
 
 
 def delivery(told: Numbers, written: bytes) -> Delivery:

@@ -3,7 +3,7 @@ exceptions that have them."""
 from __future__ import annotations
 
 import enum
-from typing import Optional
+from typing import Any, Optional, Tuple
 
 
 class Status(enum.IntEnum):
@@ -67,6 +67,7 @@ class Status(enum.IntEnum):
     UNKNOWN_STATUS = 255
 
 
+NUMBERS = frozenset(map(int, Status))
 # The statuses that say where the fault stands.
 PLACED = frozenset(it for it in Status if it in {10, 12, 14, *range(20, 27), *range(30, 37), *range(40, 47), 50, 52, 55, 72,
                                                  82, 100, 101})
@@ -74,12 +75,28 @@ PLACED = frozenset(it for it in Status if it in {10, 12, 14, *range(20, 27), *ra
 
 class NbtError(ValueError):
     """A call did nothing: `status` says why, and `at` where the fault stands, in bytes of the input, or None where it has
-    no place. The text is the library's words, and the place."""
+    no place. The text is the library's words, and the place. `number` is the status's; a newer library may answer one that
+    this package doesn't know: its status is UNKNOWN_STATUS, and its text has the number."""
 
-    def __init__(self, status: Status, at: Optional[int], words: str) -> None:
-        super().__init__(words if at is None else f'{words} {at}')
-        self.status = status
+    def __init__(self, number: int, at: Optional[int], words: str) -> None:
+        known = number in NUMBERS
+        text = words if known else f'status {number}: {words}'
+        super().__init__(text if at is None else f'{text} {at}')
+        self.status = Status(number) if known else Status.UNKNOWN_STATUS
+        self.number = int(number)
         self.at = at
+        self.words = words
+
+    def __reduce__(self) -> Tuple[Any, ...]:
+        return type(self), (self.number, self.at, self.words), self.__dict__
+
+    def __eq__(self, other: object) -> bool:
+        if not isinstance(other, NbtError):
+            return NotImplemented
+        return (self.number, self.at) == (other.number, other.at)
+
+    def __hash__(self) -> int:
+        return hash((self.number, self.at))
 
 
 class MoreNeeded(NbtError):
@@ -87,12 +104,11 @@ class MoreNeeded(NbtError):
 
     @property
     def missing(self) -> int:
+        """How many bytes are missing, at least."""
         return self.at or 0
 
 
-def refusal(status: int, at: int, words: str) -> Exception:
-    """The exception of a status: MemoryError where memory ran out, else NbtError."""
-    if status == Status.NO_MEMORY:
-        return MemoryError(words)
-    kind = MoreNeeded if status == Status.MORE else NbtError
-    return kind(Status(status), at if status in PLACED else None, words)
+def refusal(number: int, at: int, words: str) -> NbtError:
+    """The error of a status, and of the place that came with it."""
+    kind = MoreNeeded if number == Status.MORE else NbtError
+    return kind(number, at if number in PLACED else None, words)

@@ -3,7 +3,8 @@ from __future__ import annotations
 
 import ctypes
 
-from .library import BYTES, Buffer, given, writer
+from .buffers import Buffer, given
+from .library import BYTES, writer
 from .numbers import number
 
 # How many keys a table has room for, and how many of one address, where nothing else is said.

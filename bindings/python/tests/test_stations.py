@@ -76,6 +76,15 @@ class Stations(Refusing):
         self.assertEqual(self.refused(nbt.Station, names, '10.0.0.9'), (Status.TOO_MANY_NAMES, len(' '.join(names[:254])) + 1))
         self.assertEqual(self.refused(nbt.Station, [''] * 2, '10.0.0.9'), (Status.BAD_TEXT, 0))
 
+    def test_names_that_joining_would_hide(self):
+        for names, at in ([''], 0), (['FRED<20>', ''], 9), (['FRED<20> JOE<00>'], 8), (['ANN<20>', 'FRED<20> '], 16):
+            self.assertEqual(self.refused(nbt.Station, names, '10.0.0.9'), (Status.BAD_TEXT, at))
+        for text in ('FRED<20>', '', b'FRED<20>'):
+            with self.assertRaisesRegex(TypeError, f'^names: {text!r} is one text; a list of them is wanted$'):
+                nbt.Station(text, '10.0.0.9')
+        with nbt.Station(iter(['FRED<20>']), '10.0.0.9') as station:
+            self.assertEqual(station.save(), EMPTY)
+
     def test_absorb(self):
         first, second = pieces()
         with nbt.Station(['FRED<20>'], '10.0.0.9') as one, nbt.Station([], '10.0.0.8') as other:

@@ -1,0 +1,142 @@
+"""Buffers of any kind, read from an offset on without a copy; streams; and what isn't a buffer, a number or a text."""
+import mmap
+import tempfile
+import time
+import tracemalloc
+import unittest
+from array import array
+
+import nbt
+from nbt import SessionType, Status
+
+ALIVE, HELLO = b'\x85\0\0\0', b'\0\0\0\x05hello'
+DATAGRAM = nbt.Datagram.write(nbt.DatagramType.GROUP, 10, '10.0.0.5', 138, 'JOE<00>', 'FRED<20>', b'hello')[0]
+RUNS, SLACK = 3, 3
+
+
+def mapped(data):
+    """A file with these bytes, mapped, which can't be written."""
+    with tempfile.TemporaryFile() as file:
+        file.write(data)
+        file.flush()
+        return mmap.mmap(file.fileno(), len(data), access=mmap.ACCESS_READ)
+
+
+KINDS = (bytes, bytearray, memoryview, lambda data: memoryview(bytearray(data)), lambda data: array('B', data),
+         lambda data: array('H', data), mapped)
+
+
+class Offsets(unittest.TestCase):
+    def test_kinds(self):
+        for kind in KINDS:
+            buffer = kind(b'xx' + HELLO + DATAGRAM + b'yy')
+            with self.subTest(type(buffer).__name__):
+                packet = nbt.SessionPacket.read(buffer, offset=2)
+                self.assertEqual((packet.type, packet.body, packet.used), (SessionType.MESSAGE, b'hello', 9))
+                self.assertEqual(nbt.Datagram.read(buffer, offset=11), nbt.Datagram.read(DATAGRAM))
+
+    def test_every_second_byte(self):
+        """A view whose bytes don't stand in a row."""
+        view = memoryview(bytes(each for byte in HELLO for each in (byte, 0xff)))[::2]
+        self.assertEqual(nbt.SessionPacket.read(view).body, b'hello')
+        self.assertEqual(nbt.show(139, view), nbt.show(139, HELLO))
+
+    def test_places_count_from_the_offset(self):
+        for offset in (0, 3):
+            with self.assertRaises(nbt.NbtError) as caught:
+                nbt.Datagram.read(b'xxx'[:offset] + DATAGRAM[:60], offset)
+            self.assertEqual((caught.exception.status, caught.exception.at), (Status.TRUNCATED, 60))
+
+    def test_outside(self):
+        for kind in KINDS:
+            buffer = kind(ALIVE)
+            with self.assertRaises(nbt.MoreNeeded):
+                nbt.SessionPacket.read(buffer, 4)
+            for offset in (-1, 5):
+                with self.assertRaisesRegex(ValueError, f'^offset: {offset} lies outside of 4 bytes$'):
+                    nbt.SessionPacket.read(buffer, offset)
+        for empty in (b'', bytearray(), array('H')):
+            self.assertRaises(nbt.MoreNeeded, nbt.SessionPacket.read, empty)
+
+    def test_buffers_are_given_back(self):
+        buffer = bytearray(ALIVE + b'\x86')
+        stream = nbt.SessionPacket.stream(buffer)
+        next(stream)
+        buffer += b'\0\0\0'
+        self.assertRaises(nbt.NbtError, next, stream)
+        del buffer[:]
+
+    def test_nothing_else_is_copied(self):
+        """The peak of Python's memory over a read of a few bytes in a buffer of a megabyte."""
+        for kind in KINDS:
+            buffer = kind(bytes(1 << 19) + HELLO + DATAGRAM + bytes(1 << 19))
+            for call, offset in ((nbt.SessionPacket.read, 1 << 19), (nbt.Datagram.read, (1 << 19) + 9)):
+                call(buffer, offset)
+                tracemalloc.start()
+                call(buffer, offset)
+                _, peak = tracemalloc.get_traced_memory()
+                tracemalloc.stop()
+                with self.subTest(f'{call.__qualname__} of {type(buffer).__name__}'):
+                    self.assertLess(peak, 1 << 14)
+
+
+class Streams(unittest.TestCase):
+    def test_what_is_left(self):
+        for rest, missing in ((b'', 0), (b'\x85', 3), (HELLO[:6], 3), (ALIVE[:3], 1)):
+            for kind in (bytes, bytearray, memoryview, mapped):
+                stream = nbt.SessionPacket.stream(kind(b'x' + HELLO + ALIVE + rest), offset=1)
+                found = [(packet.type, packet.body) for packet in stream]
+                self.assertEqual(found, [(SessionType.MESSAGE, b'hello'), (SessionType.KEEPALIVE, b'')])
+                self.assertEqual((stream.offset, stream.left, stream.missing), (14, len(rest), missing))
+
+    def test_no_packet(self):
+        stream = nbt.SessionPacket.stream(HELLO + b'\x86\0\0\0' + HELLO)
+        self.assertEqual(next(stream).body, b'hello')
+        for _ in range(2):
+            with self.assertRaises(nbt.NbtError) as caught:
+                next(stream)
+            self.assertEqual((caught.exception.status, stream.offset, stream.left), (Status.UNKNOWN_TYPE, 9, 13))
+
+    def test_linear(self):
+        """A packet of a stream of a hundred times the length costs at most a few times as much."""
+        def cost(count):
+            """The processor time of a packet."""
+            buffer = bytearray(ALIVE * count)
+            def once():
+                began = time.thread_time()
+                found = sum(1 for _ in nbt.SessionPacket.stream(buffer))
+                self.assertEqual(found, count)
+                return (time.thread_time() - began) / count
+            return min(once() for _ in range(RUNS))
+
+        one, ten, hundred = map(cost, (1_000, 10_000, 100_000))
+        self.assertLess(ten, SLACK * one)
+        self.assertLess(hundred, SLACK * one)
+
+
+class Words(unittest.TestCase):
+    def test_no_number(self):
+        for call, words in ((lambda: nbt.show(139.0, b''), 'port: 139.0'), (lambda: nbt.query('3', 'FRED<20>'), "identifier: '3'"),
+                            (lambda: nbt.Station([], '10.0.0.9', 138.5), 'port: 138.5'),
+                            (lambda: nbt.SessionPacket.read(ALIVE, 0.0), 'offset: 0.0')):
+            with self.assertRaisesRegex(TypeError, f'^{words} is no whole number$'):
+                call()
+
+    def test_no_text(self):
+        for call, words in ((lambda: nbt.spell(b'FRED<20>'), "text: b'FRED<20>'"), (lambda: nbt.query(3, None), 'name: None'),
+                            (lambda: nbt.Station([b'FRED<20>'], '10.0.0.9'), "name: b'FRED<20>'"),
+                            (lambda: nbt.Datagram.write(0x10, 1, 1, 1, b'JOE<00>', 'FRED<20>', b''), "source: b'JOE<00>'")):
+            with self.assertRaisesRegex(TypeError, f'^{words} is no text$'):
+                call()
+        with self.assertRaises(nbt.NbtError) as caught:
+            nbt.spell('FRED\udcff<20>')
+        self.assertEqual((caught.exception.status, caught.exception.at), (Status.BAD_TEXT, 4))
+
+    def test_no_buffer(self):
+        for call in (lambda: nbt.text('FRED'), lambda: nbt.SessionPacket.read('FRED'), lambda: nbt.show(139, 'FRED')):
+            with self.assertRaisesRegex(TypeError, '^str is no buffer of bytes$'):
+                call()
+
+
+if __name__ == '__main__':
+    unittest.main()

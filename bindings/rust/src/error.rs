@@ -2,13 +2,16 @@
 
 use std::fmt;
 
+use crate::status::words;
 use crate::Status;
 
 /// Why a call did nothing, and where the fault stands. Its text is the library's words and the place, as in
-/// `bad text 4`.
+/// `bad text 4`; of a status that this version of the crate doesn't know it has the number, as in
+/// `status 120: unknown status`.
 #[derive(Clone, Copy, Debug, PartialEq, Eq, Hash)]
 pub struct Error {
     status: Status,
+    number: u32,
     at: Option<usize>,
 }
 
@@ -18,6 +21,7 @@ impl Error {
         let status = Status::from_number(number);
         Error {
             status,
+            number,
             at: status.has_place().then_some(at),
         }
     }
@@ -25,12 +29,19 @@ impl Error {
     /// Want of memory.
     pub(crate) const NO_MEMORY: Error = Error {
         status: Status::NoMemory,
+        number: Status::NoMemory as u32,
         at: None,
     };
 
     /// Why the call did nothing.
     pub fn status(self) -> Status {
         self.status
+    }
+
+    /// The number of the status, as the library answered it: a newer one may answer a number that this version of the
+    /// crate doesn't know, whose status is [`Status::UnknownStatus`].
+    pub fn number(self) -> u32 {
+        self.number
     }
 
     /// Where the fault stands, in bytes from the start of the input that has it, counted from 0; `None` where it has no
@@ -42,6 +53,10 @@ impl Error {
 
 impl fmt::Display for Error {
     fn fmt(&self, out: &mut fmt::Formatter<'_>) -> fmt::Result {
+        if self.number != self.status.number() {
+            let words = words(self.number).unwrap_or_else(|_| self.status.to_string());
+            return write!(out, "status {}: {words}", self.number);
+        }
         match self.at {
             Some(at) => write!(out, "{} {at}", self.status),
             None => write!(out, "{}", self.status),

@@ -4,6 +4,7 @@ use std::fmt;
 
 use crate::calls::nbt_status_text;
 use crate::room::{text_of, written};
+use crate::Result;
 
 /// Why a call did nothing. Each is a number of `enum nbt_status`, which stands for one thing in all versions; its text
 /// is the library's words, as in `bad text`.
@@ -128,7 +129,7 @@ pub enum Status {
     /// There are more than 254 names. The place: where the text of the 255th begins.
     TooManyNames = 101,
 
-    /// A number that this version of the crate doesn't know.
+    /// A number that this version of the crate doesn't know: [`crate::Error::number`] keeps it.
     UnknownStatus = 255,
 }
 
@@ -213,12 +214,15 @@ impl Status {
     }
 }
 
+/// The library's words for a number.
+pub(crate) fn words(number: u32) -> Result<String> {
+    // SAFETY: the room's parts lie apart, and the call writes what it says.
+    unsafe { written(|room| nbt_status_text(number, room.into, room.length, room.used)) }
+        .map(text_of)
+}
+
 impl fmt::Display for Status {
     fn fmt(&self, out: &mut fmt::Formatter<'_>) -> fmt::Result {
-        // SAFETY: the room's parts lie apart, and the call writes what it says.
-        let words = unsafe {
-            written(|room| nbt_status_text(self.number(), room.into, room.length, room.used))
-        };
-        out.pad(&words.map(text_of).map_err(|_| fmt::Error)?)
+        out.pad(&words(self.number()).map_err(|_| fmt::Error)?)
     }
 }

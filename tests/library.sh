@@ -209,9 +209,11 @@ installed() {
     $CC -std=c11 -Wall -Wextra -Werror -o "$room/example" "$room/first.c" $flags >"$room/log" 2>&1
     count $? "the program in C of docs/CALLING.md: $(head -n 1 "$room/log")"
     LD_LIBRARY_PATH=$room/root/lib ended "$room/example" | same "$(block text)" 'the program in C of docs/CALLING.md'
-    block python >"$room/first.py"
-    PYTHONPATH=$room/root/share/nbt/python PYTHONDONTWRITEBYTECODE=1 ended python3 "$room/first.py" 2>&1 \
-        | same "$(block text 2)" 'the program in Python of docs/CALLING.md'
+    for each in 1 2; do
+        block python $each >"$room/first.py"
+        PYTHONPATH=$room/root/share/nbt/python PYTHONDONTWRITEBYTECODE=1 ended python3 "$room/first.py" 2>&1 \
+            | same "$(block text $((each + 1)))" "program $each in Python of docs/CALLING.md"
+    done
 }
 
 # cargo COMMAND [OPTION]..: cargo's command on the crate for Rust, over what is installed below $room/root.
@@ -252,7 +254,7 @@ rust() {
         "$room/root/share/nbt/rust" >"$room/user/Cargo.toml"
     block rust >"$room/user/src/main.rs"
     (cd "$room/user" && PKG_CONFIG_PATH=$room/root/lib/pkgconfig NBT_STATIC=1 CARGO_TARGET_DIR=$room/user/target \
-        ended cargo run --quiet --offline) 2>&1 | same "$(block text 3)" 'the program in Rust of docs/CALLING.md'
+        ended cargo run --quiet --offline) 2>&1 | same "$(block text 4)" 'the program in Rust of docs/CALLING.md'
 }
 
 # block LANGUAGE [NUMBER]: a block of docs/CALLING.md in this language, the first of them if no number is given.

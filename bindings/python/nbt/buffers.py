@@ -45,10 +45,10 @@ def lend(data: Buffer, borrower: Callable[..., Answer], *words: Any) -> Answer:
     view = View()
     place = ctypes.addressof(view)
     try:
-        BORROW(data, place, IN_A_ROW)
-    except (BufferError, TypeError):
-        return lend(given(data), borrower, *words)
-    try:
+        try:
+            BORROW(data, place, IN_A_ROW)
+        except (BufferError, TypeError):
+            return lend(given(data), borrower, *words)
         return borrower(view.address or ctypes.addressof(NOTHING), view.length, *words)
     finally:
         GIVE_BACK(place)

@@ -102,9 +102,9 @@ class Station:
         if status != DONE:
             raise failure(status, place.value)
         self.handle.at = at.value
-        self.free = weakref.finalize(self, FREE, self.handle)
+        self.finalizer = weakref.finalize(self, FREE, self.handle)
         # A thread may still be within a call when Python ends.
-        self.free.atexit = False
+        self.finalizer.atexit = False
         self.turns = Turns()
         self.into, self.used = ctypes.create_string_buffer(TAKE_ROOM), ctypes.c_size_t()
 
@@ -120,11 +120,11 @@ class Station:
 
     def close(self) -> None:
         """Gives the station back. No other call may follow; a second close does nothing."""
-        self.turns.take(self.free)
+        self.turns.take(self.finalizer)
 
     def open(self) -> ctypes._Pointer[Handle]:
         """The handle; ValueError where the station is closed."""
-        if not self.free.alive:
+        if not self.finalizer.alive:
             raise ValueError('the station is closed')
         return ctypes.pointer(self.handle)
 

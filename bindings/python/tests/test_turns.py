@@ -13,7 +13,7 @@ import nbt
 from nbt import Outcome, stations
 
 HERE = os.path.dirname(os.path.abspath(__file__))
-PATIENCE = 100
+PATIENCE, EMPTY = 100, b'NBT2\0\0\0\0'
 # Stations that were never made, that are left when Python ends, also in a ring, and that are called then.
 ENDS = '''
 import threading
@@ -61,7 +61,7 @@ class Reentry(unittest.TestCase):
     def handle(self, *_):
         """A signal handler that makes each call."""
         for call, words in ((self.station.take, (0, payload(2))), (self.station.tick, (0,)), (self.station.save, ()),
-                            (self.station.absorb, (0, b'')), (self.station.close, ())):
+                            (self.station.absorb, (0, EMPTY)), (self.station.close, ())):
             try:
                 call(*words)
             except nbt.ReentryError as refused:

@@ -4,6 +4,8 @@
 # 'N passed, M failed, K skipped'. Where tshark isn't installed all of it is left out.
 set -uo pipefail
 . "$(dirname "$0")/lib/counting.sh"
+. "$here/lib/pcap_cases.sh"
+. "$here/lib/live_cases.sh"
 program=$(realpath "${1:-$here/../crates/nbt/out/nbt}")
 
 if ! command -v tshark >/dev/null; then
@@ -241,7 +243,7 @@ others() {
     count $? 'a stream ends with a line that is no session packet'
 }
 
-# ---- Long captures, readers that end, terminals, signals, and a network.
+# ---- Long captures, readers that end, and terminals.
 
 # A pcap of so many queries, a millisecond apart.
 queries() {
@@ -310,71 +312,6 @@ growing() {
     count $? "pcap2cap, peak of memory: $small and $large"
 }
 
-# interrupted SECONDS TOOL: what a tool that waits for its input, or still begins, says to Ctrl-C.
-interrupted() {
-    sleep 4 | timeout --preserve-status -s INT "$1" "$here/../tools/$2" ${3:-} >"$room/output" 2>"$room/errors"
-    [ "${PIPESTATUS[1]}" -eq 130 ] && [ "$(cat "$room/errors")" = "$2: interrupted" ]
-    count $? "$2 ${3:-}, Ctrl-C after $1 s: $(cat "$room/errors")"
-}
-
-# A packet, a pause, another one, and Ctrl-C.
-live() {
-    (sleep 2; sends abc 20137; sleep 4; sends last 138) &
-    timeout --preserve-status -s INT 9 "$here/../tools/pcap2cap" -i lo --port 137=20137 >"$room/output" 2>"$room/errors"
-    [ $? -eq 0 ] && [ "$(cat "$room/errors")" = '2 frames, 2 of these ports, 0 left out' ] &&
-        sed -E 's/^(# frame [12]) 2[-0-9T:.]+Z 127.0.0.1:[0-9]+/\1/; s/^(138 4)[0-9]+/\1/' "$room/output" | head -n 9 | diff - <(printf '%s\n' \
-            '# frame 1 > 127.0.0.1:20137' '137 0 616263' 'tick 1000' 'tick 2000' 'tick 3000' 'tick 4000' '# frame 2 > 127.0.0.1:138' \
-            '138 4 6c617374' 'tick 5000')
-    count $? "pcap2cap -i lo: $(cat "$room/errors")"
-    wait
-    answers "'$here/../tools/pcap2cap' -i lo --quiet --port 138=20138" "'$program' show"
-    answers "'$here/../tools/pcap2cap' -i lo --quiet --port 138=20138" "'$program' replay 'FRED<20>'"
-}
-
-# answers CAPTURE ANSWER: each packet is answered within a second. Other work on this machine may be in the way: three tries.
-answers() {
-    local try
-    for try in 1 2 3; do
-        ended "$here/lib/live.py" 20138 "$1" "$2" >"$room/output" 2>"$room/errors" && break
-    done
-    [ -s "$room/output" ]
-    count $? "$1 | $2: $(cat "$room/errors")"
-}
-
-# The same of packets that come from tcpdump by a pipe, which ends with tcpdump.
-dumped() {
-    local dump
-    if ! command -v tcpdump >/dev/null; then
-        lacks dumped tcpdump
-        return
-    fi
-    if ! timeout --preserve-status -s INT 1 tcpdump -i lo -w - >"$room/output" 2>"$room/errors"; then
-        skip dumped 'tcpdump may not listen to lo here'
-        return
-    fi
-    dump="bash -c \"exec tcpdump -i lo --immediate-mode -U -w - udp port 20138 2>'$room/dump' \
-        > >(exec '$here/../tools/pcap2cap' --quiet --port 138=20138 -)\""
-    answers "$dump" "'$program' show"
-    answers "$dump" "'$program' replay 'FRED<20>'"
-}
-
-sends() { python3 -c 'import socket, sys
-socket.socket(socket.AF_INET, socket.SOCK_DGRAM).sendto(sys.argv[1].encode(), ("127.0.0.1", int(sys.argv[2])))' "$@"; }
-
-waits() {
-    local seconds
-    for seconds in 0.05 0.1 2; do
-        interrupted $seconds pcap2cap -
-        interrupted $seconds cap2pcap
-    done
-    if ended tshark -i lo -a duration:0 >"$room/output" 2>&1; then
-        live
-    else
-        skipped=$((skipped + 3))
-        echo 'skipped: pcap2cap -i lo, 3 cases (tshark may not listen to lo here)'
-    fi
-}
-
 # examples/office.pcap, made once more.
 office() {
     local example=$here/../examples/office
@@ -389,6 +326,11 @@ office() {
 
 part built built
 part network network
+part odd odd
+part random random
+part empties empties
+part plugins plugins
+part early early
 part others others
 part long long
 part growing growing

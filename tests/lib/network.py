@@ -24,22 +24,29 @@ def ends(packet):
 class Network:
     """The frames of the pcap file, and beside them the lines that they have to give."""
 
-    def __init__(self, file):
+    def __init__(self, file, link=1):
         self.file = file
         self.number = 0
         self.comment = None
-        self.file.write(struct.pack('<LHHLLLL', 0xa1b2c3d4, 2, 4, 0, 0, 262_144, 1))
+        self.file.write(struct.pack('<LHHLLLL', 0xa1b2c3d4, 2, 4, 0, 0, 262_144, link))
 
     def frame(self, moment, packet, captured=None, tag=b'', inner=None):
         """A frame at so many milliseconds, of which only so many bytes were captured; with a packet in a tunnel, perhaps."""
         kind = b'\x86\xdd' if packet[0] >> 4 == 6 else b'\x08\x00'
-        data = bytes(12) + tag + kind + packet
+        self.record(moment, bytes(12) + tag + kind + packet, captured)
+        self.tells(moment, inner or packet)
+
+    def record(self, moment, data, captured=None):
         when = 1_700_000_000_700 + moment
         self.file.write(struct.pack('<LLLL', when // 1000, when % 1000 * 1000, len(data[:captured]), len(data)))
         self.file.write(data[:captured])
         self.number += 1
+
+    def tells(self, moment, packet):
+        """The comment on this packet of the latest frame."""
+        when = 1_700_000_000_700 + moment
         shown = time.strftime('%Y-%m-%dT%H:%M:%S', time.gmtime(when // 1000)) + '.%06dZ' % (when % 1000 * 1000)
-        self.comment = '# frame %d %s %s' % (self.number, shown, ends(inner or packet))
+        self.comment = '# frame %d %s %s' % (self.number, shown, ends(packet))
 
     def gives(self, *lines):
         """The lines that the latest frame gives, and before a payload the comment on that frame."""
@@ -210,18 +217,23 @@ def mapped(network):
     network.frame(20_980, ip(UDP, udp(20_137, 50_000, QUERY)))
 
 
-with open(sys.argv[1], 'wb') as pcap:
-    made = Network(pcap)
-    datagrams(made)
-    session(made)
-    strangers(made)
-    overlaps(made)
-    rarities(made)
-    cuts(made)
-    again(made)
-    starts(made)
-    closes(made)
-    mapped(made)
-    made.gives(('# stream 2 from 10.0.0.5 port 1027: bytes left over: 16 (%s)' % FOREIGN.hex(),),
-               ('# stream 3 from 10.0.0.5 port 1028: bytes left over: 4 (%s)' % KEEPALIVE.hex(),),
-               ('# stream 5 from 10.0.0.5 port 1030: bytes left over: 4 (%s)' % OTHER[:4].hex(),))
+def main():
+    with open(sys.argv[1], 'wb') as pcap:
+        made = Network(pcap)
+        datagrams(made)
+        session(made)
+        strangers(made)
+        overlaps(made)
+        rarities(made)
+        cuts(made)
+        again(made)
+        starts(made)
+        closes(made)
+        mapped(made)
+        made.gives(('# stream 2 from 10.0.0.5 port 1027: bytes left over: 16 (%s)' % FOREIGN.hex(),),
+                   ('# stream 3 from 10.0.0.5 port 1028: bytes left over: 4 (%s)' % KEEPALIVE.hex(),),
+                   ('# stream 5 from 10.0.0.5 port 1030: bytes left over: 4 (%s)' % OTHER[:4].hex(),))
+
+
+if __name__ == '__main__':
+    main()

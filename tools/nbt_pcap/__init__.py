@@ -1,8 +1,14 @@
 """What pcap2cap and cap2pcap are made of: packets of a pcap file or a network, and the lines of a capture.
 
 arguments    the command line of pcap2cap
-tshark       what is asked of tshark, and the rows that it prints
-frames       a row, its time, and the lines that it gives
+tshark       what is asked of tshark, and how it ends
+listening    the capture filter of a network
+rows         the rows that tshark prints
+layers       the packets of a row: which of its fields belong together
+fragments    the times of IP fragments
+clock        the times of frames
+report       what is left out: comments, and the counts of the summary
+frames       a row, and the lines that it gives
 sessions     the TCP streams of port 139
 direction    the bytes that one side of a stream sends
 session      the header of a session packet

@@ -50,7 +50,7 @@ def judge_ports(ports):
 
 def judge_file(path, closed):
     """Refuses what holds no packets, and what can't be opened."""
-    title = 'standard input' if path == '-' else path
+    title = title_of(path)
     if path == '-' and 0 in closed:
         raise Stopped(3, 'standard input is closed')
     try:
@@ -64,6 +64,10 @@ def judge_file(path, closed):
         raise Stopped(2, '%s: the file holds no packets: it is empty' % title)
     if begin.startswith(CAPTURE_FRONTS):
         raise Stopped(2, '%s: the file holds no packets: it is the text of a capture' % title)
+
+
+def title_of(path):
+    return 'standard input' if path == '-' else path
 
 
 def begin_of(path):

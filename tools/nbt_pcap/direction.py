@@ -32,20 +32,20 @@ class Recent:
 class Direction:
     """One side of a stream. Places count bytes on from its first sequence number, past 2^32."""
 
-    __slots__ = ('title', 'recent', 'first', 'due', 'early', 'early_size', 'held', 'past', 'uncut', 'frames', 'given_up', 'cut',
+    __slots__ = ('title', 'recent', 'report', 'first', 'due', 'early', 'early_size', 'held', 'past', 'uncut', 'frames', 'cut',
                  'lost', 'end')
 
-    def __init__(self, title, recent, due):
+    def __init__(self, title, recent, report, due):
         self.title = title
         self.recent = recent
+        self.report = report
         self.first = self.due = due          # the place of the first byte, and of the next one
-        self.early = []                      # pieces past that place, in order, without overlaps
+        self.early = []                      # pieces past that place, in order, without overlaps, with the marks of their frames
         self.early_size = 0
         self.held = bytearray()              # bytes in order that aren't cut yet, or the first of those that never are
         self.past = bytearray()              # the latest bytes before the next one
         self.uncut = 0                       # how many bytes in order are in no packet
-        self.frames = collections.deque()    # the places at which segments end that have bytes in no packet yet
-        self.given_up = 0                    # how many more segments have bytes that never come into one
+        self.frames = collections.deque()    # the places at which bytes of frames end that are in no packet yet, and their marks
         self.cut = True                      # whether packets are still cut
         self.lost = None                     # how many bytes were missing where that was given up, and how many came after
         self.end = None                      # the place after the last byte, by FIN
@@ -65,8 +65,10 @@ class Direction:
         return True
 
     def take(self, place, data):
-        """Keeps what is new of a segment. Answers how many of its bytes differ from those that came first."""
+        """Keeps what is new of the latest frame's segment. Answers how many of its bytes differ from those that came first."""
         differing = 0
+        if self.is_kept_alive(place, data):
+            return 0
         if place < self.due:
             differing = self.compare(place, data)
             data = data[self.due - place:]
@@ -75,41 +77,43 @@ class Direction:
             return differing
         if self.lost:
             self.lost[1] += len(data)
-            self.given_up += 1
+            self.report.count(self.report.mark)
         elif place == self.due and not self.early:
-            self.append(data)
+            self.append(data, self.report.mark)
         else:
             differing += self.put_aside(place, data)
             while self.early and self.early[0][0] == self.due:
-                _, piece = self.early.pop(0)
+                _, piece, mark = self.early.pop(0)
                 self.early_size -= len(piece)
-                self.append(piece)
+                self.append(piece, mark)
             if self.early_size > MOST_EARLY or len(self.early) > MOST_EARLY_PIECES:
                 self.give_up()
         return differing
 
     def is_kept_alive(self, place, data):
-        """Whether it is a byte before the next one, whose value has no meaning: it keeps a connection alive."""
-        return len(data) == 1 and place == self.due - 1
+        """Whether it is the last byte again, whose value has no meaning then: it keeps a connection alive."""
+        return len(data) == 1 and place + 1 in (self.due, self.last_end())
+
+    def last_end(self):
+        """The place after the last byte that came."""
+        return self.early[-1][0] + len(self.early[-1][1]) if self.early else self.due
 
     def compare(self, place, data):
         """How many of these bytes differ from the latest ones."""
-        if self.is_kept_alive(place, data):
-            return 0
         start = self.due - len(self.past)
         begin, end = max(place, start), min(place + len(data), self.due)
         return unlike(self.past[begin - start:end - start], data[begin - place:end - place]) if begin < end else 0
 
-    def append(self, data):
-        """Bytes in order."""
+    def append(self, data, mark):
+        """Bytes in order, of the frame with this mark."""
         self.due += len(data)
         self.uncut += len(data)
+        self.recent.keep(self.past, data)
         if self.cut:
-            self.frames.append(self.due)
+            self.frames.append((self.due, mark))
             self.held += data
-            self.recent.keep(self.past, data)
         else:
-            self.given_up += 1
+            self.report.count(mark)
             self.held += data[:max(0, SHOWN - len(self.held))]
 
     def put_aside(self, place, data):
@@ -117,19 +121,19 @@ class Direction:
         differing, end, new = 0, place + len(data), []
         at = max(bisect.bisect_right(self.early, (place + 1,)) - 1, 0)
         cursor = place
-        for start, piece in self.early[at:]:
+        for start, piece, _ in self.early[at:]:
             if start >= end:
                 break
             if start + len(piece) <= cursor:
                 continue
             if cursor < start:
-                new.append((cursor, data[cursor - place:start - place]))
+                new.append((cursor, data[cursor - place:start - place], self.report.mark))
                 cursor = start
             stop = min(end, start + len(piece))
             differing += unlike(piece[cursor - start:stop - start], data[cursor - place:stop - place])
             cursor = stop
         if cursor < end:
-            new.append((cursor, data[cursor - place:]))
+            new.append((cursor, data[cursor - place:], self.report.mark))
         for piece in new:
             bisect.insort(self.early, piece)
             self.early_size += len(piece[1])
@@ -138,7 +142,7 @@ class Direction:
     def give_up(self):
         """Waits no longer for missing bytes: counts what comes after them."""
         self.lost = [self.early[0][0] - self.due, self.early_size]
-        self.given_up += len(self.early)
+        self.count_frames()
         self.early = []
         self.early_size = 0
 
@@ -151,30 +155,32 @@ class Direction:
             packet = bytes(self.held[:size])
             del self.held[:size]
             self.uncut -= size
-            while self.frames and self.frames[0] <= self.due - self.uncut:
+            while self.frames and self.frames[0][0] <= self.due - self.uncut:
                 self.frames.popleft()
             self.cut = has_header(packet)
             yield packet
         if not self.cut:
             del self.held[SHOWN:]
+            self.count_frames()
 
-    def forget_frame(self, given_up):
-        """The latest segment is counted elsewhere; so many were given up before it."""
-        self.given_up -= self.given_up == given_up + 1
-        if self.frames and self.frames[-1] == self.due:
-            self.frames.pop()
+    def count_frames(self):
+        """Counts the frames of the bytes that are in no packet: none comes any more."""
+        for *_, mark in (*self.frames, *self.early):
+            self.report.count(mark)
+        self.frames.clear()
 
-    def leftovers(self):
-        """What is told of the bytes that are in no packet, or None; and how many frames they came in."""
+    def tell(self):
+        """The comment on the bytes that are in no packet."""
         missing = self.lost or (self.early and [self.early[0][0] - self.due, self.early_size])
         if not self.uncut and not missing:
-            return None, 0
+            return
+        self.count_frames()
         text = '%s: bytes left over: %d' % (self.title, self.uncut)
         if self.uncut:
             text += ' (%s%s)' % (self.held[:SHOWN].hex(), '..' if self.uncut > SHOWN else '')
         if missing:
             text += ', then missing: %d, then captured: %d' % tuple(missing)
-        return text, len(self.frames) + self.given_up + len(self.early)
+        self.report.comment(text)
 
     def is_over(self):
         return self.end is not None and self.due >= self.end

@@ -1,7 +1,7 @@
 """The TCP streams of port 139: which side of which stream a segment is of, and how streams begin and end."""
 import collections
 
-from .direction import Direction, Recent
+from .direction import ALL, MOST_RECENT, Direction, Recent
 from .session import HEADER
 
 FIN, SYN, RST = 0x01, 0x02, 0x04
@@ -17,27 +17,30 @@ class Sessions:
     def __init__(self, report):
         self.report = report
         self.open = collections.OrderedDict()      # those that had a segment last come last
-        self.closed = collections.OrderedDict()    # the places after the last bytes of those that ended last
+        self.closed = collections.OrderedDict()    # the first and the next place of those that ended last
         self.held = 0
         self.recent = Recent()
 
-    def segment(self, frame, source, target):
-        """The session packets that are whole with this frame's segment."""
-        flags, sequence = int(frame.tcp_flags, 16), int(frame.tcp_seq)
-        data, size = bytes.fromhex(frame.tcp_payload.replace(':', '')), int(frame.tcp_len)
-        key = frame.tcp_stream, source, frame.tcp_source
+    def segment(self, packet):
+        """The session packets that are whole with the latest frame's segment."""
+        flags, sequence = int(packet.flags, 16), int(packet.sequence)
+        data, size = bytes.fromhex(packet.payload.replace(':', '')), int(packet.size)
+        key = packet.stream, packet.host.source, packet.source
         if flags & RST:
             if size:
                 self.report.leave_out('the %d bytes of its segment come with RST' % size)
             self.end(key)
-            self.end((frame.tcp_stream, target, frame.tcp_target))
+            self.end((packet.stream, packet.host.target, packet.target))
             return
         if size > len(data):
-            self.report.note('frame %s: the file has %d of the %d bytes of its segment' % (frame.number, len(data), size))
+            self.report.note('frame %s: the file has %d of the %d bytes of its segment' % (self.report.number, len(data), size))
         direction = self.direction(key, flags, sequence, data)
         if direction:
             before = direction.size()
-            yield from self.bytes(frame, direction, sequence + bool(flags & SYN), data, flags & FIN)
+            place = direction.place(sequence + bool(flags & SYN))
+            if flags & FIN:
+                direction.end = place + size
+            yield from self.bytes(direction, place, data)
             self.held += direction.size() - before
             if direction.is_over():
                 self.end(key)
@@ -47,11 +50,13 @@ class Sessions:
     def direction(self, key, flags, sequence, data):
         """The direction of a segment: begun anew by a SYN, or by bytes whose stream isn't open; None for other segments."""
         direction = self.open.get(key)
+        if direction is None and self.came_before(key, flags & SYN, sequence, data):
+            return None
         if flags & SYN:
             if direction is None or direction.place(sequence + 1) != direction.first:
                 self.end(key)
                 direction = self.begin(key, sequence + 1)
-        elif direction is None and data and not self.came_before(key, sequence, data):
+        elif direction is None and data:
             if len(data) < HEADER:
                 self.report.leave_out('it has %d bytes of a stream whose start the file lacks' % len(data))
                 return None
@@ -62,60 +67,51 @@ class Sessions:
             self.open.move_to_end(key)
         return direction
 
-    def came_before(self, key, sequence, data):
-        """Whether a closed direction had these bytes before it ended."""
-        due = self.closed.get(key)
-        return due is not None and 0 < (due - sequence) % 2**32 < 2**31 and (due - sequence) % 2**32 >= len(data)
+    def came_before(self, key, syn, sequence, data):
+        """Whether a closed direction had this SYN, or these bytes, before it ended."""
+        first, due = self.closed.get(key, (0, 0))
+        if syn:
+            return first < due and (sequence + 1 - first) % ALL == 0 and len(data) <= due - first
+        back = (due - sequence) % ALL
+        return 0 < len(data) <= back <= min(due - first, MOST_RECENT)
 
     def begin(self, key, due):
         self.closed.pop(key, None)
         title = 'stream %s from %s port %s' % (key[0], key[1].strip('[]'), key[2])
-        self.open[key] = direction = Direction(title, self.recent, due)
+        self.open[key] = direction = Direction(title, self.recent, self.report, due)
         return direction
 
-    def bytes(self, frame, direction, sequence, data, fin):
+    def bytes(self, direction, place, data):
         """The packets of a segment, in whatever order segments come, and however often."""
-        place = direction.place(sequence)
-        if fin:
-            direction.end = place + len(data)
         if direction.pass_on(place, data):
             yield data
         elif data:
-            yield from self.pieces(frame, direction, place, data)
+            yield from self.pieces(direction, place, data)
 
-    def pieces(self, frame, direction, place, data):
+    def pieces(self, direction, place, data):
         """The packets of a segment that isn't one packet, or that doesn't come next."""
         if place < direction.first and not direction.is_kept_alive(place, data):
             count = min(direction.first - place, len(data))
             self.report.leave_out('%d bytes before the start of %s' % (count, direction.title))
             data = data[count:]
             place = direction.first
-        given_up = direction.given_up
         differing = direction.take(place, data)
         if differing:
             self.report.note('frame %s: %d bytes of %s came before with other values, which are kept'
-                             % (frame.number, differing, direction.title))
+                             % (self.report.number, differing, direction.title))
         yield from direction.packets()
-        if self.report.is_counted:
-            direction.forget_frame(given_up)
 
     def end(self, key):
-        """Lets a direction go that is open, and keeps the place up to which bytes have come."""
+        """Lets a direction go that is open, and keeps the places between which its bytes have come."""
         direction = self.open.pop(key, None)
         if direction is None:
             return
         self.held -= direction.size()
-        self.tell(direction)
+        direction.tell()
         direction.let_go()
-        self.closed[key] = direction.due
+        self.closed[key] = direction.first, direction.due
         if len(self.closed) > MOST_CLOSED:
             self.closed.popitem(last=False)
-
-    def tell(self, direction):
-        """The comment on bytes that are in no packet."""
-        text, frames = direction.leftovers()
-        if text:
-            self.report.left_over(text, frames)
 
     def let_go(self):
         """Ends directions where there are too many, or too many bytes: those whose last segment is the longest ago."""
@@ -128,4 +124,4 @@ class Sessions:
 
     def finish(self):
         for direction in self.open.values():
-            self.tell(direction)
+            direction.tell()

@@ -5,13 +5,20 @@ import select
 import signal
 import subprocess
 
-from .frames import FIELDS
+from . import listening
 from .process import reader_ended
+from .rows import BETWEEN, FIELDS
 
 PART = 65_536
 BETWEEN_TICKS = 0.5
+# How often tshark is asked to end a capture, before it is killed.
+MOST_REQUESTS = 10
 # Frames whose headers end before their ports do.
 HEADER_CUT = '((_ws.short || _ws.malformed) && frame.protocols matches ":(udp|tcp)$")'
+# Fragments of IP, of which only the times are wanted.
+FRAGMENT = 'ip.flags.mf == 1 || ip.frag_offset > 0 || ipv6.fraghdr'
+# Several packets in one frame of 802.11: one may stand beside an ICMP error, or be where tshark doesn't come to.
+AGGREGATE = 'wlan_aggregate.a_mdsu.length'
 # Payloads as they are on the wire: IP fragments are put together, and no dissector above TCP joins segments. What tshark
 # would keep of each packet, to say something of later ones, it doesn't.
 PREFERENCES = ('ip.defragment:TRUE', 'ipv6.defragment:TRUE', 'tcp.relative_sequence_numbers:FALSE',
@@ -26,9 +33,8 @@ CHATTER = (b'Running as user', b'Capturing on', b' ** (tshark:', b'tshark: \n')
 def command_of(options):
     udp = sorted({port for port, service in options.ports if service != 139})
     tcp = sorted({port for port, service in options.ports if service == 139})
-    joined = ', '.join(map(str, udp)), ', '.join(map(str, tcp))
-    wanted = 'frame.number == 1 || ((udp.port in {%s} || tcp.port in {%s} || %s) && !icmp && !icmpv6)' % (*joined, HEADER_CUT)
-    command = ['tshark', '-n', '-Y', wanted, '-T', 'fields', '-E', 'separator=/t', '-E', 'occurrence=l', '-z', COUNTING]
+    command = ['tshark', '-n', '-Y', wanted(udp, tcp), '-T', 'fields', '-E', 'separator=/t', '-E', 'occurrence=a',
+               '-E', 'aggregator=' + BETWEEN, '-z', COUNTING]
     for each in PREFERENCES:
         command += ['-o', each]
     for kind, ports in (('udp', udp), ('tcp', tcp)):
@@ -38,21 +44,65 @@ def command_of(options):
         command += ['-e', field]
     if not options.live:
         return command + (['-l'] if options.file == '-' else []) + ['-r', os.fsencode(options.file)]
-    heard = ' or '.join(['udp port %d' % port for port in udp] + ['tcp port %d' % port for port in tcp])
-    command += ['-l', '-f', heard + ' or (ip[6:2] & 0x3fff != 0) or ip6 proto 44']
+    command += ['-l', '-f', listening.filter_of(udp, tcp)]
     return command + (['-i', options.interface] if options.interface else [])
 
 
+def wanted(udp, tcp):
+    """The display filter of the frames that give a row."""
+    ports = 'udp.port in {%s} || tcp.port in {%s}' % (', '.join(map(str, udp)), ', '.join(map(str, tcp)))
+    return ('frame.number == 1 || ((%s || %s) && ((!icmp && !icmpv6) || %s)) || %s || (%s && (_ws.short || _ws.malformed))'
+            % (ports, HEADER_CUT, AGGREGATE, FRAGMENT, AGGREGATE))
+
+
 def start(options, settings, errors):
-    """Starts it over a folder of settings, so that the user's own aren't read."""
+    """Starts it over a folder of settings, so that the user's own, and the user's plugins, aren't read."""
     return subprocess.Popen(command_of(options), stdin=None if options.file == '-' else subprocess.DEVNULL,
                             stdout=subprocess.PIPE, stderr=errors, preexec_fn=end_with_us, start_new_session=True,
-                            env=dict(os.environ, WIRESHARK_CONFIG_DIR=settings))
+                            env=environment(settings))
+
+
+def environment(settings):
+    """The variables of tshark: none by which it finds settings or plugins of the user."""
+    kept = {name: value for name, value in os.environ.items()
+            if not name.startswith('WIRESHARK_') and name != 'XDG_CONFIG_HOME'}
+    return dict(kept, HOME=settings, WIRESHARK_CONFIG_DIR=settings)
 
 
 def end_with_us():
     """Called in the child: it is ended where this process is."""
     ctypes.CDLL(None).prctl(1, signal.SIGTERM)
+
+
+class Stopping:
+    """The end of a network's capture by a signal. tshark is asked again where it is silent: while it starts what captures
+    for it, it may miss a request."""
+
+    def __init__(self, process, signals):
+        self.process = process
+        self.requests = 0
+        for each in signals:
+            signal.signal(each, self.begin)
+
+    def begin(self, *_):
+        if not self.requests:
+            self.request()
+
+    def insist(self):
+        """Asks again; tshark printed nothing for a while."""
+        if self.requests == MOST_REQUESTS:
+            os.killpg(self.process.pid, signal.SIGKILL)
+        elif self.requests:
+            self.request()
+
+    def request(self):
+        self.requests += 1
+        self.process.terminate()
+
+    def status(self):
+        """How tshark ended; well, where it was asked to."""
+        status = self.process.wait()
+        return 0 if self.requests and status < 0 else status
 
 
 def end(process):

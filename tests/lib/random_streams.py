@@ -1,0 +1,145 @@
+"""What a random capture holds: datagrams, fragments and TCP streams, each a list of frames in the order of their times."""
+import struct
+
+from wire import ACK, FIN, RST, SYN, TCP, UDP
+
+IPV4, IPV6 = 0x0800, 0x86dd
+TYPES = (0x00, 0x00, 0x00, 0x00, 0x81, 0x82, 0x83, 0x84, 0x85)
+FRAGMENT_HEADER = 44
+
+
+class Ends:
+    """Two hosts, of IPv4 or IPv6."""
+
+    def __init__(self, rng, number):
+        self.six = rng.random() < 0.3
+        host = bytes([10, 0, number >> 8, number & 255])
+        self.source = (bytes(12) + host) if self.six else host
+        self.target = self.source[:-3] + bytes([1]) + self.source[-2:]
+
+    def packet(self, protocol, data, back=False, more=0, offset=0, identifier=0, fragment=False):
+        source, target = (self.target, self.source) if back else (self.source, self.target)
+        if not self.six:
+            return struct.pack('>BBHHHBBH', 0x45, 0, 20 + len(data), identifier, (0x2000 if more else 0) | offset // 8, 64, protocol,
+                               0) + source + target + data
+        if fragment:
+            data = struct.pack('>BBHL', protocol, 0, offset | bool(more), identifier) + data
+            protocol = FRAGMENT_HEADER
+        return struct.pack('>LHBB', 0x60000000, len(data), protocol, 64) + source + target + data
+
+
+def datagrams(rng, ends):
+    """Datagrams of these ports and of others, some with a length that isn't theirs."""
+    for _ in range(rng.randrange(1, 6)):
+        payload = rng.randbytes(rng.choice((0, 1, 20, 50, 200)))
+        size = 8 + len(payload) + rng.choice((0, 0, 0, 0, 0, 0, 3, -3, -8))
+        port, other = rng.choice((137, 138, 138, 9_999)), rng.choice((137, 40_000, 50_001))
+        yield 0.01, ends.packet(UDP, struct.pack('>HHHH', port, other, max(size, 0), 0) + payload)
+
+
+def fragments(rng, ends):
+    """A datagram in fragments: out of order, missing, doubled, overlapping with other values, or more than a minute apart."""
+    for _ in range(rng.randrange(1, 4)):
+        identifier = rng.randrange(1, 65_536)
+        for _ in range(rng.choice((1, 1, 2))):
+            yield from datagram_in_fragments(rng, ends, identifier)
+
+
+def datagram_in_fragments(rng, ends, identifier):
+    payload = rng.randbytes(rng.randrange(40, 200))
+    whole = struct.pack('>HHHH', 138, 138, 8 + len(payload), 0) + payload
+    cuts = sorted(rng.sample(range(8, len(whole), 8), rng.randrange(1, 4)))
+    pieces = [(start, whole[start:end], end < len(whole)) for start, end in zip([0] + cuts, cuts + [len(whole)])]
+    if rng.random() < 0.3:
+        rng.shuffle(pieces)
+    if rng.random() < 0.2:
+        pieces.pop(rng.randrange(len(pieces)))
+    if rng.random() < 0.3:
+        pieces.insert(rng.randrange(len(pieces) + 1), rng.choice(pieces))
+    if rng.random() < 0.2:
+        start, data, more = rng.choice(pieces)
+        pieces.insert(rng.randrange(len(pieces) + 1), (start, rng.randbytes(len(data)), more))
+    pause = rng.choice((0.01,) * 6 + (25.0, 70.0))
+    for start, data, more in pieces:
+        yield pause, ends.packet(UDP, data, more=more, offset=start, identifier=identifier, fragment=True)
+
+
+class Side:
+    """What one end of a stream sends, as segments with a place, bytes and flags."""
+
+    def __init__(self, rng, ends, ports, back):
+        self.rng, self.ends, self.ports, self.back = rng, ends, ports, back
+        self.first = rng.choice((rng.randrange(2**32), 2**32 - rng.randrange(1, 200)))
+
+    def bytes(self):
+        """Session packets, at times with a header that none has among them, or only a part of the last."""
+        data = b''
+        for _ in range(self.rng.randrange(1, 8)):
+            size = self.rng.choice((0, 0, 5, 40, 150))
+            kind = self.rng.choice(TYPES) if self.rng.random() < 0.97 else 0x47
+            data += struct.pack('>BBH', kind, 0, size) + self.rng.randbytes(size)
+        return data[:-self.rng.choice((1, 3, 6))] or data if self.rng.random() < 0.2 else data
+
+    def segments(self, data, ending):
+        cuts = sorted(self.rng.sample(range(1, len(data)), min(self.rng.randrange(0, 6), len(data) - 1)))
+        segments = [(start, data[start:end], ACK) for start, end in zip([0] + cuts, cuts + [len(data)])]
+        for _ in range(self.rng.choice((0, 0, 1, 3))):
+            self.disorder(segments, data)
+        if ending == FIN:
+            start, part, flags = segments.pop() if self.rng.random() < 0.5 else (len(data), b'', ACK)
+            segments.append((start, part, flags | FIN))
+        if ending == RST:
+            segments.append((len(data), b'' if self.rng.random() < 0.7 else b'reset', RST))
+        return segments
+
+    def disorder(self, segments, data):
+        """One thing that a network does: a segment is lost, is late, comes again, otherwise perhaps, or keeps alive."""
+        at, kind = self.rng.randrange(len(segments)), self.rng.randrange(6)
+        start, part, _ = segments[at]
+        if kind == 0 and len(segments) > 1:
+            segments.pop(at)
+        elif kind == 1:
+            segments.insert(self.rng.randrange(len(segments) + 1), segments.pop(at))
+        elif kind == 2:
+            segments.insert(self.rng.randrange(at, len(segments)) + 1, segments[at])
+        elif kind == 3:
+            segments.insert(at + 1, (start, self.rng.randbytes(len(part)), ACK))
+        elif kind == 4:
+            segments.insert(at + 1, (start + len(part) - 1, b'\0', ACK))
+        else:
+            begin = self.rng.randrange(len(data))
+            segments.insert(self.rng.randrange(len(segments) + 1), (begin, data[begin:begin + self.rng.randrange(1, 60)], ACK))
+
+    def packet(self, place, data, flags, options=b''):
+        source, target = self.ports[::-1] if self.back else self.ports
+        sequence = (self.first + place) % 2**32
+        header = struct.pack('>HHLLBBHHH', source, target, sequence, 0, (20 + len(options)) * 4, flags, 65_535, 0, 0)
+        return self.ends.packet(TCP, header + options + data, self.back)
+
+
+def stream(rng, ends):
+    """A TCP stream of both ends, or one that has the ports of one that ended, and no SYN."""
+    ports = rng.randrange(1_024, 30_000), 139
+    for life in range(rng.choice((1, 1, 1, 2))):
+        ending = rng.choice((0, FIN, FIN, RST)) if life == 0 else FIN
+        sides = [Side(rng, ends, ports, back) for back in (False, True)[:rng.randrange(1, 3)]]
+        sent = []
+        for side in sides:
+            options = rng.choice((b'', bytes([2, 4, 5, 180]), bytes([1]) * 20))
+            if rng.random() < 0.8 and life == 0:
+                yield 0.002, side.packet(-1, b'', SYN | (ACK if side.back else 0), options)
+            sent.append([side.packet(*each) for each in side.segments(side.bytes(), ending)])
+        for packet in mixed(rng, sent):
+            yield 0.002, packet
+
+
+def mixed(rng, lists):
+    """The items of lists, each list in its order."""
+    lists = [iter(each) for each in lists]
+    while lists:
+        each = rng.choice(lists)
+        item = next(each, None)
+        if item is None:
+            lists.remove(each)
+        else:
+            yield item

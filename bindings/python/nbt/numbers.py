@@ -18,7 +18,7 @@ def whole_number(value: SupportsIndex, what: str) -> int:
 
 def number(value: SupportsIndex, bits: int, what: str) -> int:
     """The number, if it has at most so many bits; else ValueError."""
-    whole = whole_number(value, what)
+    whole = value if type(value) is int else whole_number(value, what)
     if whole >> bits:  # -1 of a negative one
         raise ValueError(f'{what}: {whole} is no number of {bits} bits')
     return whole

@@ -52,9 +52,9 @@ completions: $(PROGRAM)
 # change say make build. The tools lie beside their modules.
 install: $(PROGRAM)
 	install -D -m 755 $(PROGRAM) '$(ROOT)/bin/nbt'
-	install -d '$(ROOT)/share/nbt/nbt_pcap' '$(ROOT)/share/man/man1' '$(ROOT)/share/doc/nbt/docs' '$(ROOT)/share/doc/nbt/examples'
+	install -d '$(ROOT)/share/nbt/nbt_pcap' '$(ROOT)/share/nbt/nbt_shards' '$(ROOT)/share/man/man1' '$(ROOT)/share/doc/nbt/docs' '$(ROOT)/share/doc/nbt/examples'
 	install -m 755 $(TOOLS) '$(ROOT)/share/nbt'
-	install -m 644 tools/nbt_shards.py '$(ROOT)/share/nbt'
+	install -m 644 tools/nbt_shards/*.py '$(ROOT)/share/nbt/nbt_shards'
 	install -m 644 tools/nbt_pcap/*.py '$(ROOT)/share/nbt/nbt_pcap'
 	ln -sf ../share/nbt/nbt-parallel ../share/nbt/nbt-dask ../share/nbt/nbt-station '$(ROOT)/bin'
 	ln -sf ../share/nbt/pcap2cap '$(ROOT)/bin/nbt-pcap2cap'

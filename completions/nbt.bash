@@ -29,8 +29,8 @@ _nbt_tool() {
     case ${1##*/} in
     nbt-pcap2cap) words='--bare --quiet --port --live -i --help' ;;
     nbt-cap2pcap) words='--help' ;;
-    nbt-parallel) words='--program --shard-bytes --by-source --tables --quiet --jobs --sshlogin --retries --help --list' ;;
-    nbt-dask) words='--program --shard-bytes --by-source --tables --quiet --scheduler --workers --send --help' ;;
+    nbt-parallel) words='--force --program --shard-bytes --by-source --no-estimate --tables --quiet --jobs --sshlogin --retries --help --list' ;;
+    nbt-dask) words='--force --program --shard-bytes --by-source --no-estimate --tables --quiet --scheduler --workers --send --wait --help' ;;
     nbt-station) words='--bind --port --address --keys --per-source --json --save --join --help' ;;
     esac
     COMPREPLY=()

@@ -36,12 +36,20 @@ gives() {
     rm -rf out out.work
 }
 
+# variant NAME CASES: $room/NAME, the program but for some commands, of which CASES says what is done first or instead.
+variant() { printf '#!/bin/sh\ncase $1 in\n%s\nesac\nexec "%s" "$@"\n' "$2" "$program" >"$1" && chmod +x "$1"; }
+
 # A program that tells when it starts, and takes its time. Its parent is the worker: a job's shell, or a process of dask.
-printf '#!/bin/sh\necho $$ $PPID >>%s/started\nsleep 0.3\nexec %s "$@"\n' "$room" "$program" >slow && chmod +x slow
+variant slow "save | merge) echo \$\$ \$PPID >>'$room/started'; sleep 0.3 ;;"
 
 # Programs that give no table: their memory runs out, or they are killed, at each try.
 printf '#!/bin/sh\necho nbt: memory >&2\nexit 3\n' >starving && chmod +x starving
 printf '#!/bin/sh\nkill -9 $$\n' >killed && chmod +x killed
+
+# Programs that print no table: one that never does, one that does so instead of a table, and one that joins none.
+printf '#!/bin/sh\necho "$@"\n' >echoing && chmod +x echoing
+variant lying 'save | merge) echo 4e42543200; exit ;;'
+variant unjoining 'merge) exit 3 ;;'
 
 # Waits for the start of so many runs of the slowed program.
 await() {
@@ -61,6 +69,12 @@ loses_worker() {
     rm -rf out out.work
 }
 
+# kills NAME COUNT: the client is killed at random moments, and run again.
+kills() {
+    "$here/scale_kills.py" "$1" --count "$2" --program "$program" >output 2>&1
+    count $? "$1, killed at $2 moments: $(tail -n 1 output)"
+}
+
 # loses_client WORD..: the client is killed while it works, and run again.
 loses_client() {
     : >started
@@ -74,22 +88,35 @@ loses_client() {
     rm -rf out out.work
 }
 
-# on_cluster WORD..: the words, and behind them the address of a scheduler with two workers, which have no nanny.
-on_cluster() {
-    local each cluster=()
-    "$python" -m distributed.cli.dask_scheduler --host 127.0.0.1 --port 0 --no-dashboard --scheduler-file cluster >logs 2>&1 &
-    cluster+=($!)
-    for each in one other; do
-        (cd / && exec "$python" -m distributed.cli.dask_worker --scheduler-file "$room/cluster" --nthreads 1 --no-nanny \
-            --no-dashboard --local-directory "$room/$each" >>"$room/logs" 2>&1) &
-        cluster+=($!)
-    done
-    disown -a
+# scheduler: starts a scheduler without workers; $address is where.
+scheduler() {
+    cluster=()
+    rm -f cluster
+    mkdir -p elsewhere
+    background "$python" -m distributed.cli.dask_scheduler --host 127.0.0.1 --port 0 --no-dashboard --scheduler-file "$room/cluster"
     for ((i = 0; i < 300; i++)); do
         [ -s cluster ] && break
         sleep 0.1
     done
-    "$@" "$("$python" -c 'import json; print(json.load(open("cluster"))["address"])')"
+    address=$("$python" -c 'import json; print(json.load(open("cluster"))["address"])')
+}
+
+# worker NAME: starts a worker of the scheduler, without a nanny, in another folder.
+worker() {
+    background "$python" -m distributed.cli.dask_worker --scheduler-file "$room/cluster" --nthreads 1 --no-nanny \
+        --no-dashboard --local-directory "$room/$1"
+}
+
+# background COMMAND..: starts a part of the cluster.
+background() {
+    (cd elsewhere && exec "$@" >>"$room/logs" 2>&1) &
+    cluster+=($!)
+    disown
+}
+
+# unclustered: ends the cluster.
+unclustered() {
+    local each
     for each in "${cluster[@]}"; do
         kill "$each" 2>/dev/null
         for ((i = 0; i < 300; i++)); do
@@ -98,6 +125,69 @@ on_cluster() {
         done
         kill -9 "$each" 2>/dev/null
     done
+}
+
+# on_cluster WORD..: the words, and behind them the address of a scheduler with two workers, which have no nanny.
+on_cluster() {
+    scheduler
+    worker one
+    worker other
+    "$@" "$address"
+    unclustered
+}
+
+# same_files: workers read the client's captures by their whole paths, and nothing else of these names.
+same_files() {
+    cp flow elsewhere/gaps
+    gives gaps.table "$tools/nbt-dask" gaps --program "$program" --scheduler "$1"
+    rm elsewhere/gaps
+}
+
+# awaited LINE: waits until the client says this.
+awaited() {
+    for ((i = 0; i < 300; i++)); do
+        grep -q "$1" errors && break
+        sleep 0.1
+    done
+}
+
+# lonely: a cluster without workers is waited for; what a worker reads then has to be what the client read.
+lonely() {
+    local client wait='*nbt-dask: the scheduler tcp:* has no workers: waiting'
+    scheduler
+    ended "$tools/nbt-dask" gaps out --wait 2 --program "$program" --scheduler "$address" >output 2>errors
+    [ $? -eq 3 ] && [[ $(cat errors) == $wait\ 2\ seconds\ for\ one$'\n'"nbt-dask: the scheduler $address has no workers, 2 seconds long" ]] && [ ! -e out ]
+    count $? "nbt-dask without workers: $(cat errors)"
+
+    cp gaps changing
+    ended "$tools/nbt-dask" changing out --program "$program" --scheduler "$address" >output 2>errors &
+    client=$!
+    awaited 'has no workers'
+    sed -i '4000s/.$/x/' changing
+    worker one
+    wait $client
+    [ $? -eq 3 ] && [[ $(cat errors) == $wait*"nbt-dask: $room/changing: lines 1 to 4440: a worker reads other bytes there; --send sends the shards" ]] && [ ! -e out ]
+    count $? "nbt-dask, another file of that name at a worker: $(cat errors)"
+    unclustered
+
+    scheduler
+    ended "$tools/nbt-dask" gaps out --program "$program" --scheduler "$address" >output 2>errors &
+    client=$!
+    awaited 'has no workers'
+    kill -9 "${cluster[0]}"
+    wait $client
+    [ $? -eq 3 ] && [[ $(cat errors) == $wait*"nbt-dask: the scheduler $address has ended, or can't be reached any more" ]] && [ ! -e out ] &&
+        [ "$(wc -l <errors)" -eq 2 ]
+    count $? "nbt-dask, the scheduler killed: $(cat errors)"
+    refuses 3 "nbt-dask: no scheduler at $address: *" "$tools/nbt-dask" gaps --program "$program" --scheduler "$address"
+}
+
+# taken_port: another program has the port of dask's pages.
+taken_port() {
+    "$python" -c 'import socket, time; it = socket.socket(); it.bind(("", 8787)); it.listen(); print(flush=True); time.sleep(100)' >bound 2>/dev/null &
+    for ((i = 0; i < 50 && $(wc -c <bound) == 0; i++)); do sleep 0.1; done
+    gives gaps.table ./nbt-dask "$program" gaps
+    kill $!
 }
 
 # refusals ENGINE: inputs that are refused, devices that fail, and words that make no sense.
@@ -113,6 +203,39 @@ refusals() {
     cp bad kept && ended "$1" "$program" many kept >output 2>errors
     [ $? -eq 2 ] && cmp -s bad kept && [[ $(cat errors) == "$name: kept is there, and is no saved table"* ]]
     count $? "$1: OUT is a capture: $(cat errors)"
+    keeps_table "$1" "$program" --tables gaps.table
+    keeps 2 "$name: out is there, and is a saved table: --force replaces it" "$1" "$program" gaps
+    wrong_programs "$1"
+}
+
+# keeps STATUS TEXT WORD..: the command ends with the status and the text, and OUT, a saved table, stays.
+keeps() {
+    local status=$1 text=$2
+    shift 2
+    cp flow.table out
+    ended "$@" out >output 2>errors </dev/null
+    [ $? -eq "$status" ] && cmp -s flow.table out && [[ $(cat errors) == $text ]]
+    count $? "$*, over a table: $(cat errors)"
+    rm -rf out out.work
+}
+
+# keeps_table WORD..: an OUT that is a saved table, the result itself too, is replaced by --force alone.
+keeps_table() {
+    keeps 2 "*: out is there, and is a saved table: --force replaces it" "$@"
+    cp flow.table out
+    gives gaps.table "$@" --force
+    ended "$@" out >output 2>errors
+    ended "$@" out >output 2>errors
+    [ $? -eq 2 ] && cmp -s gaps.table out && [ ! -e out.work ]
+    count $? "$*, the same words again: $(cat errors)"
+    : >out
+    gives gaps.table "$@"
+}
+
+# wrong_programs ENGINE: what a program prints that isn't nbt, or prints no table, becomes no OUT.
+wrong_programs() {
+    keeps 3 "*gaps: lines * (shard g0000-00000?): *$room/echoing printed isn't a saved table*" "$1" "$room/echoing" --force gaps
+    keeps 3 "*gaps: lines * (shard g0000-00000?): *$room/lying printed isn't a saved table*truncated*" "$1" "$room/lying" --force gaps
 }
 
 # full_disk PART ENGINE: a full disk: OUT's folder is one of 1 MiB.
@@ -127,14 +250,14 @@ full_disk() {
 
 fills_disk() {
     ended unshare -rm bash -c 'mount -t tmpfs -o size=1m none disk; echo 4e425432 >disk/out
-        "$1" "$2" many disk/out; echo $?; cat disk/out; ls disk' - "$1" "$program" >output 2>errors
+        "$1" "$2" --force many disk/out; echo $?; cat disk/out; ls disk' - "$1" "$program" >output 2>errors
     printf '3\n4e425432\nout\n' | cmp -s - <(grep -v out.work output) && [[ $(cat errors) == nbt-*": No space left on device" ]]
     count $? "$1: a full disk: $(cat errors)"
 }
 
 inputs() {
     local each
-    for each in many keys gaps flow ever wide; do
+    for each in many keys gaps flow ever wide rubbish; do
         python3 "$here/lib/scale_capture.py" $each "$room"
     done
     cp many bad && sed -i '54321s/.*/138 0 xyz/' bad
@@ -153,6 +276,69 @@ inputs() {
     make -s -C "$here/.." -o build install PROGRAM="$program" DESTDIR="$room" PREFIX=/installed
     count $? 'make install'
     save <gaps >gaps.table
+    save <flow >flow.table
+    save <rubbish >rubbish.table
+}
+
+# folders: a folder, or a link, of the name OUT.work that isn't of an earlier run is left as it is.
+folders() {
+    local text="nbt-parallel: $room/out.work is there, and isn't of an earlier run: it is left as it is" files
+    for files in monday 'lock monday' 'lock plan'; do
+        mkdir out.work && cp gaps "out.work/${files##* }"
+        [ "$files" = monday ] || : >out.work/lock
+        ended ./nbt-parallel "$program" "out.work/${files##* }" out >output 2>errors
+        [ $? -eq 2 ] && [ "$(cat errors)" = "$text" ] && [ ! -e out ] && cmp -s gaps "out.work/${files##* }" && [ "$(ls out.work | wc -l)" -eq "$(wc -w <<<"$files")" ]
+        count $? "nbt-parallel: OUT.work has $files: $(cat errors)"
+        rm -rf out.work
+    done
+    mkdir theirs && cp gaps theirs/monday && ln -s theirs out.work
+    ended ./nbt-parallel "$program" gaps out >output 2>errors
+    [ $? -eq 2 ] && [ "$(cat errors)" = "$text" ] && [ -L out.work ] && [ "$(ls theirs)" = monday ]
+    count $? "nbt-parallel: OUT.work is a link: $(cat errors)"
+    rm out.work
+    ended ./nbt-parallel "$room/unjoining" --shard-bytes 262201 gaps out >output 2>errors
+    mv theirs/monday out.work
+    ended ./nbt-parallel "$program" --shard-bytes 262201 gaps out >output 2>errors
+    [ $? -eq 2 ] && [ "$(cat errors)" = "$text" ] && cmp -s gaps out.work/monday
+    count $? "nbt-parallel: OUT.work of an earlier run has another file: $(cat errors)"
+    rm -rf out.work theirs
+}
+
+# programs: a table that another program made isn't used; the program of these tools is found off PATH.
+programs() {
+    refuses 3 'nbt-parallel: gaps: merge g0000-level01-000000.table: *' ./nbt-parallel "$room/unjoining" --shard-bytes 262201 gaps
+    ended ./nbt-parallel "$room/unjoining" --shard-bytes 262201 gaps out >output 2>errors
+    : >started
+    ended ./nbt-parallel "$room/slow" --shard-bytes 262201 gaps out >output 2>errors && cmp -s gaps.table out && [ "$(wc -l <started)" -ge 8 ] &&
+        [[ $(cat errors) == *'out.work is of other captures, of another program, or of other words: begun anew' ]]
+    count $? "nbt-parallel, after another program: $(cat errors)"
+    rm -f out
+    PATH=/usr/bin:/bin gives gaps.table "$room/installed/bin/nbt-parallel" gaps
+}
+
+# settings: the user's settings of GNU parallel, a parallel that is killed, and numbers that are none.
+settings() {
+    local word
+    mkdir -p home/.parallel killing && echo --tag >home/.parallel/config
+    HOME=$room/home gives gaps.table ./nbt-parallel "$program" gaps
+    PARALLEL=--tag gives gaps.table ./nbt-parallel "$program" gaps
+    PARALLEL_HOME=$room/home/.parallel gives gaps.table ./nbt-parallel "$program" gaps
+    [ "$(find home ! -type d)" = home/.parallel/config ]
+    count $? 'nbt-parallel leaves nothing in the home folder'
+    TMPDIR=$room/nowhere gives gaps.table ./nbt-parallel "$program" gaps
+    for word in x '' 1.5 -- 9999999; do
+        ended "$tools/nbt-parallel" --jobs "$word" --program "$program" gaps out >output 2>errors
+        [ $? -eq 2 ] && [[ $(tail -n 1 errors) == 'nbt-parallel: error: argument --jobs: '* ]] && [ ! -e out ]
+        count $? "nbt-parallel --jobs '$word': $(tail -n 1 errors)"
+    done
+    for word in 200% +1 -1; do
+        ended "$tools/nbt-parallel" --jobs "$word" --program "$program" gaps out >output 2>errors && cmp -s gaps.table out
+        count $? "nbt-parallel --jobs $word: $(cat errors)"
+        rm -rf out out.work
+    done
+    printf '#!/bin/sh\n[ "$1" = --version ] || kill -9 $$\nexec %s "$@"\n' "$(command -v parallel)" >killing/parallel && chmod +x killing/parallel
+    PATH=$room/killing:$PATH refuses 3 'nbt-parallel: gaps: lines 1 to 4440 (shard g0000-000000): signal 9 ended GNU parallel; the same words again go on' \
+        ./nbt-parallel "$program" gaps
 }
 
 with_parallel() {
@@ -162,19 +348,24 @@ with_parallel() {
     [ "$(wc -l <started)" -lt 12 ]
     count $? "./nbt-parallel, run again: it goes on where it was, $(wc -l <started) runs of the program"
     refusals ./nbt-parallel
+    kills nbt-parallel 5
+    folders
+    programs
+    settings
     gives gaps.table ./nbt-parallel "$program" --shard-bytes 262201 gaps
     PATH=$room/installed/bin:$PATH gives gaps.table nbt-parallel gaps
-    save <flow >flow.table
     gives flow.table ./nbt-parallel "$program" --shard-bytes 262201 flow
     ended ./nbt-parallel "$program" --by-source 3 --shard-bytes 262201 flow out && [ "$(wc -l <out)" -eq 3 ] &&
         merge <out | cmp -s flow.table
     count $? './nbt-parallel --by-source 3, with ticks'
+    rm out
     for each in part.*; do save <"$each" >"$each.table"; done
     gives table ./nbt-parallel "$program" --tables part.*.table
     refuses 1 'nbt-parallel: 2 tables are left, of which no two can be merged:*' ./nbt-parallel "$program" --tables table copy
     too_large ./nbt-parallel
     ended ./nbt-parallel "$program" --by-source 2 keys out && [ "$(wc -l <out)" -eq 2 ]
     count $? './nbt-parallel --by-source 2, of 66,000 keys'
+    rm out
     ended ./nbt-parallel "$program" --by-source 7 wide out && [ "$(wc -l <out)" -eq 7 ]
     count $? './nbt-parallel --by-source 7, of a table of 39 MB'
     rm out
@@ -210,6 +401,8 @@ too_large() {
     refuses 1 "$name: wide has about 50000 keys and * in 2 groups, *--by-source [5-7]" "$1" "$room/slow" --by-source 2 wide
     [ ! -s started ]
     count $? "$1: nothing is begun where a table is too large"
+    refuses 1 "$name: *: nbt: full: *" "$1" "$program" --no-estimate keys
+    gives rubbish.table "$1" "$program" rubbish
 }
 
 # shows_progress ENGINE: how many shards are done, on a terminal; it is gone at the end.
@@ -227,6 +420,10 @@ with_dask() {
     loses_worker ./nbt-dask "$room/slow"
     loses_client ./nbt-dask "$room/slow"
     on_cluster loses_worker "$tools/nbt-dask" --send --program "$room/slow" --scheduler
+    on_cluster same_files
+    lonely
+    taken_port
+    kills nbt-dask 2
     refusals ./nbt-dask
     too_large ./nbt-dask
     shows_progress ./nbt-dask

@@ -9,6 +9,7 @@ gaps   FOLDER/gaps: 40 bursts of packets, five seconds apart, a tick after each;
 flow   FOLDER/flow: a packet each 5 ms, and a tick each 100 ms, so that keys live across each tick
 ever   FOLDER/ever: the same of more than 16 MiB
 wide   FOLDER/wide: 50,000 datagrams, each in one packet, whose table has 39 MB
+rubbish  FOLDER/rubbish: 70,000 payloads that look like fragments and have no names, and a datagram
 """
 import os
 import random
@@ -90,6 +91,12 @@ def ever(rng, folder):
 def wide(rng, _folder):
     for place in range(50_000):
         yield line(0, 1 + place % 50, place // 50, rng.randbytes(300))
+
+
+def rubbish(rng, _folder):
+    for place in range(70_000):
+        yield '138 0 %s%s\n' % (struct.pack('>BBH4sHHH', 0x11, 2, place & 0xffff, rng.randbytes(4), 138, 44, 0).hex(), 'ff' * 44)
+    yield line(0, 1, 1, b'there')
 
 
 def main():

@@ -1,0 +1,31 @@
+"""The program nbt: where it is, and which one."""
+import os
+import shutil
+import subprocess
+
+from .ending import Stopped
+from .tables import checksum_of_file
+
+HERE = os.path.dirname(os.path.abspath(__file__))
+BUILT = os.path.join(HERE, '..', '..', 'crates', 'nbt', 'out', 'nbt')
+INSTALLED = os.path.join(HERE, '..', '..', '..', 'bin', 'nbt')
+
+
+def local_program(asked):
+    """The program, for workers of this machine: the one of these tools, or else the one on PATH."""
+    if asked is None:
+        beside = INSTALLED if HERE.endswith(os.path.join('share', 'nbt', 'nbt_shards')) else BUILT
+        asked = beside if os.path.exists(beside) else 'nbt'
+    found = shutil.which(asked)
+    if found is None:
+        raise Stopped('%s: no such program; `make build` builds it, --program PATH names another' % asked)
+    return os.path.abspath(found)
+
+
+def identity(program):
+    """Which program it is: its version, and the checksum of its file."""
+    try:
+        version = subprocess.run([program, '--version'], stdin=subprocess.DEVNULL, capture_output=True).stdout
+        return ['%s %s' % (version.decode(errors='replace').strip(), checksum_of_file(program))]
+    except OSError as error:
+        raise Stopped('%s: %s' % (program, error.strerror)) from error

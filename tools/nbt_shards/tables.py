@@ -1,0 +1,83 @@
+"""Which tables are merged together, and how OUT is written."""
+import contextlib
+import hashlib
+import os
+
+from .cutting import MOST_READ
+from .ending import Stopped
+from .groups import HALF
+
+MOST_TOGETHER = 16
+
+
+def grouped(sizes, options):
+    """Rows of places: the tables that one `nbt merge` reads together, the smaller ones first."""
+    rows, room = [], 0
+    for place in sorted(range(len(sizes)), key=lambda place: (sizes[place], place)):
+        if not rows or sizes[place] > room or len(rows[-1]) == MOST_TOGETHER:
+            rows.append([])
+            room = MOST_READ
+        rows[-1].append(place)
+        room -= sizes[place]
+    if len(rows) == len(sizes):
+        raise Stopped('%d tables are left, of which no two can be merged: the two smallest have %d bytes together, and `nbt '
+                      'merge` reads %d. Cut by source address: --by-source %d'
+                      % (len(sizes), sum(sorted(sizes)[:2]), MOST_READ, groups_for(sum(sizes), options)), 1)
+    return rows
+
+
+def groups_for(size, options):
+    """A number of groups that is enough where addresses are spread evenly, for tables of one group with so many bytes."""
+    return (options.by_source or 1) * (1 + -(-size // HALF))
+
+
+# ---- how OUT is written
+
+@contextlib.contextmanager
+def part_beside(out):
+    """A new file beside OUT, which goes where it isn't put in the place of OUT."""
+    part = '%s.%d.part' % (os.path.abspath(out), os.getpid())
+    try:
+        open(part, 'xb').close()
+    except OSError as error:
+        raise Stopped('%s: %s' % (part, error.strerror)) from error
+    try:
+        yield part
+    except OSError as error:
+        raise Stopped('%s: %s' % (out, error.strerror)) from error
+    finally:
+        if os.path.exists(part):
+            os.unlink(part)
+
+
+def write_whole(part, lines):
+    """Writes the lines to a file that is on the disk then, and answers a checksum of them."""
+    checksum = hashlib.sha256()
+    try:
+        with open(part, 'wb') as file:
+            for line in lines:
+                checksum.update(line)
+                file.write(line)
+            file.flush()
+            os.fsync(file.fileno())
+    except OSError as error:
+        raise OSError(error.errno, error.strerror, error.filename or part) from error
+    return checksum.hexdigest()
+
+
+def put(part, out):
+    """Puts a whole file in the place of OUT at once: what was there stays until then."""
+    os.rename(part, out)
+    handle = os.open(os.path.dirname(os.path.abspath(out)), os.O_RDONLY)
+    try:
+        os.fsync(handle)
+    finally:
+        os.close(handle)
+
+
+def checksum_of_file(path):
+    checksum = hashlib.sha256()
+    with open(path, 'rb') as file:
+        while block := file.read(1 << 20):
+            checksum.update(block)
+    return checksum.hexdigest()

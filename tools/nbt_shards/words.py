@@ -1,0 +1,64 @@
+"""The command line, and what is refused before anything is done."""
+import argparse
+import os
+
+from .cutting import LONGEST_LINE, MOST_READ
+from .ending import Stopped
+from .groups import MOST_GROUPS
+
+
+def parser(name, about):
+    """The words that both engines take."""
+    words = argparse.ArgumentParser(prog=name, description=about)
+    words.add_argument('captures', metavar='CAPTURE', nargs='+', help='captures, as `nbt save` reads them')
+    words.add_argument('out', metavar='OUT', help='the file for the saved table; it appears when all is done')
+    words.add_argument('--force', action='store_true', help='replace OUT, if it is a saved table')
+    words.add_argument('--program', metavar='PATH', help='the program nbt, as the workers find it')
+    words.add_argument('--shard-bytes', metavar='N', type=number(LONGEST_LINE + 1, MOST_READ), default=8_388_608,
+                       help='how many bytes of a capture a shard has at most, where ticks allow it (8388608)')
+    words.add_argument('--by-source', metavar='N', type=number(1, MOST_GROUPS),
+                       help='N tables, a line of OUT each: a source address goes to the table with its number modulo N')
+    words.add_argument('--no-estimate', action='store_true',
+                       help='begin without working out whether the table is too large')
+    words.add_argument('--tables', action='store_true', help='the inputs are saved tables, a line each')
+    words.add_argument('--quiet', action='store_true', help='no progress; without it a terminal shows how many shards are done')
+    return words
+
+
+def number(least, most):
+    """The type of a word that is a number within these bounds."""
+    def read(text):
+        if not text.isascii() or not text.isdigit() or not least <= int(text) <= most:
+            raise argparse.ArgumentTypeError('a number from %d to %d is wanted' % (least, most))
+        return int(text)
+    return read
+
+
+def judge(options):
+    """Refuses words that don't go together, and an OUT that is no place for a table."""
+    if options.tables and options.by_source:
+        raise Stopped('--tables and --by-source: a saved table isn\'t cut', 2)
+    for capture in options.captures:
+        if not os.path.isfile(capture):
+            raise Stopped('%s: no such file' % capture if not os.path.exists(capture) else '%s: no regular file' % capture)
+        if os.path.exists(options.out) and os.path.samefile(capture, options.out):
+            raise Stopped('%s is read, and OUT too: the last word is the file to be written' % capture, 2)
+    folder = os.path.dirname(os.path.abspath(options.out))
+    if not os.path.isdir(folder):
+        raise Stopped('%s: no such folder' % folder)
+    if os.path.exists(options.out) and not is_table(options.out):
+        raise Stopped('%s is there, and is no saved table: it is left as it is' % options.out, 2)
+
+
+def judge_force(options):
+    """Refuses to replace a saved table without the word for it."""
+    if not options.force and os.path.exists(options.out) and os.path.getsize(options.out):
+        raise Stopped('%s is there, and is a saved table: --force replaces it' % options.out, 2)
+
+
+def is_table(path):
+    """Whether a file may be replaced by a saved table: it is one, or is empty."""
+    if not os.path.isfile(path):
+        return False
+    with open(path, 'rb') as file:
+        return file.read(6).lower() in (b'', b'4e4254')

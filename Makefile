@@ -6,13 +6,11 @@ CAPTURE = examples/capture.txt
 SECONDS = 60
 PREFIX ?= /usr/local
 DEB = out
-ROOT = $(DESTDIR)$(PREFIX)
-TOOLS = tools/nbt-parallel tools/nbt-dask tools/nbt-station tools/pcap2cap tools/cap2pcap
-NAMED = nbt-pcap2cap nbt-cap2pcap nbt-parallel nbt-dask nbt-station
-COMPLETIONS = $(ROOT)/share/bash-completion/completions
 LIBRARY = out/lib
+# The shell is given what users choose in the environment, whatever characters it has.
+export PROGRAM DESTDIR PREFIX DEB LIBRARY
 
-.PHONY: run build try check test bench fuzz completions install uninstall deb lib install-lib
+.PHONY: run build try check test bench fuzz completions install uninstall deb lib install-lib uninstall-lib
 
 # Prove and build the program, and replay a capture in a station with these names.
 run: build
@@ -48,54 +46,35 @@ completions: $(PROGRAM)
 	tools/completions.py bash $(PROGRAM) >completions/nbt.bash
 	tools/completions.py zsh $(PROGRAM) >completions/_nbt
 
-# Put the program below PREFIX, with its tools, pages and completions. It is built first where it isn't there yet: after a
-# change say make build. The tools lie beside their modules.
+# Put the program below PREFIX, with its tools, pages and completions; tools/installation has the list. It is built first where
+# it isn't there yet: after a change say make build.
 install: $(PROGRAM)
-	install -D -m 755 $(PROGRAM) '$(ROOT)/bin/nbt'
-	install -d '$(ROOT)/share/nbt/nbt_pcap' '$(ROOT)/share/nbt/nbt_shards' '$(ROOT)/share/man/man1' '$(ROOT)/share/doc/nbt/docs' '$(ROOT)/share/doc/nbt/examples'
-	install -m 755 $(TOOLS) '$(ROOT)/share/nbt'
-	install -m 644 tools/nbt_shards/*.py '$(ROOT)/share/nbt/nbt_shards'
-	install -m 644 tools/nbt_pcap/*.py '$(ROOT)/share/nbt/nbt_pcap'
-	ln -sf ../share/nbt/nbt-parallel ../share/nbt/nbt-dask ../share/nbt/nbt-station '$(ROOT)/bin'
-	ln -sf ../share/nbt/pcap2cap '$(ROOT)/bin/nbt-pcap2cap'
-	ln -sf ../share/nbt/cap2pcap '$(ROOT)/bin/nbt-cap2pcap'
-	install -m 644 man/*.1 '$(ROOT)/share/man/man1'
-	install -m 644 README.md CHANGELOG.md '$(ROOT)/share/doc/nbt'
-	install -m 644 docs/*.md docs/picture.svg '$(ROOT)/share/doc/nbt/docs'
-	install -m 644 examples/capture.txt examples/office.pcap '$(ROOT)/share/doc/nbt/examples'
-	install -D -m 644 completions/nbt.bash '$(COMPLETIONS)/nbt'
-	for tool in $(NAMED); do ln -sf nbt '$(COMPLETIONS)'/$$tool; done
-	install -D -m 644 completions/_nbt '$(ROOT)/share/zsh/site-functions/_nbt'
+	@tools/installation put program
 
 $(PROGRAM):
 	$(MAKE) build
 
-# Take away what install put below the same PREFIX, and the folders of its own.
+# Take away what install put below the same PREFIX. What install-lib put there stays.
 uninstall:
-	for name in nbt $(NAMED); do rm -f '$(ROOT)/bin'/$$name '$(ROOT)/share/man/man1'/$$name.1 '$(COMPLETIONS)'/$$name; done
-	rm -f '$(ROOT)/share/zsh/site-functions/_nbt'
-	rm -rf '$(ROOT)/share/nbt' '$(ROOT)/share/doc/nbt'
+	@tools/installation take program
 
 # Make a Debian package of the built program, its tools and pages. DEBFULLNAME and DEBEMAIL say who answers for it.
 deb: $(PROGRAM)
-	tools/deb $(PROGRAM) '$(DEB)'
+	tools/deb "$$PROGRAM" "$$DEB"
 
 # Prove the library for C and build it: LIBRARY has libnbt.a, libnbt.so.0 and nbt.pc.
 lib:
+	@tools/pkgconfig "$$PREFIX" >/dev/null
 	cd crates/nb_c && rt lib
-	tools/library crates/nb_c/out/libnb_c.a '$(LIBRARY)' '$(PREFIX)'
+	tools/library crates/nb_c/out/libnb_c.a "$$LIBRARY" "$$PREFIX"
 
 # Build the library, and put it below PREFIX, with its header, the package for Python, which finds it there, and the crate for
-# Rust.
+# Rust. The system's loader has to find it then: the last lines say how.
 install-lib: lib
-	install -d '$(DESTDIR)$(PREFIX)/lib/pkgconfig' '$(DESTDIR)$(PREFIX)/include' '$(DESTDIR)$(PREFIX)/share/nbt/python/nbt'
-	install -m 644 '$(LIBRARY)/libnbt.a' '$(DESTDIR)$(PREFIX)/lib'
-	install -m 755 '$(LIBRARY)/libnbt.so.0' '$(DESTDIR)$(PREFIX)/lib'
-	ln -sf libnbt.so.0 '$(DESTDIR)$(PREFIX)/lib/libnbt.so'
-	sed 's|^prefix=.*|prefix=$(PREFIX)|' '$(LIBRARY)/nbt.pc' >'$(DESTDIR)$(PREFIX)/lib/pkgconfig/nbt.pc'
-	install -m 644 include/nbt.h '$(DESTDIR)$(PREFIX)/include'
-	install -m 644 bindings/python/nbt/*.py bindings/python/nbt/py.typed '$(DESTDIR)$(PREFIX)/share/nbt/python/nbt'
-	ln -sf ../../../../lib/libnbt.so.0 '$(DESTDIR)$(PREFIX)/share/nbt/python/nbt'
-	install -d '$(DESTDIR)$(PREFIX)/share/nbt/rust/src'
-	install -m 644 bindings/rust/Cargo.toml bindings/rust/build.rs '$(DESTDIR)$(PREFIX)/share/nbt/rust'
-	install -m 644 bindings/rust/src/*.rs '$(DESTDIR)$(PREFIX)/share/nbt/rust/src'
+	@tools/installation put library
+	@echo "Programs that link libnbt.so.0 start once the loader finds it: run ldconfig as root where it looks into $$PREFIX/lib,"
+	@echo "or link them with -Wl,-rpath,$$PREFIX/lib. docs/CALLING.md says more."
+
+# Take away what install-lib put below the same PREFIX. What install put there stays.
+uninstall-lib:
+	@tools/installation take library

@@ -31,7 +31,7 @@ _nbt_tool() {
     nbt-cap2pcap) words='--help' ;;
     nbt-parallel) words='--force --program --shard-bytes --by-source --no-estimate --tables --quiet --jobs --sshlogin --retries --help --list' ;;
     nbt-dask) words='--force --program --shard-bytes --by-source --no-estimate --tables --quiet --scheduler --workers --send --wait --help' ;;
-    nbt-station) words='--bind --port --address --keys --per-source --json --save --join --help' ;;
+    nbt-station) words='--bind --port --address --keys --per-source --json --save --pid --join --help' ;;
     esac
     COMPREPLY=()
     [[ $2 != -* ]] || COMPREPLY=($(compgen -W "$words" -- "$2"))

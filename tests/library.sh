@@ -186,6 +186,11 @@ station() {
         >"$room/cases" 2>"$room/errors"
     count $? "tests/lib/station.py: $(tail -n 1 "$room/errors")"
     while IFS= read -r each; do
+        if [[ $each == skipped:* ]]; then
+            skipped=$((skipped + 1))
+            echo "$each"
+            continue
+        fi
         [[ $each == ok:* ]]
         count $? "nbt-station: ${each#failed: }"
     done <"$room/cases"
@@ -214,6 +219,24 @@ installed() {
         PYTHONPATH=$room/root/share/nbt/python PYTHONDONTWRITEBYTECODE=1 ended python3 "$room/first.py" 2>&1 \
             | same "$(block text $((each + 1)))" "program $each in Python of docs/CALLING.md"
     done
+    installed_below "$room/it's a place & more"
+}
+
+# installed_below PREFIX: the words of pkg-config lead a shell there, and a program that is linked with -rpath starts by itself; so
+# does the package for Python. uninstall-lib leaves nothing of it.
+installed_below() {
+    local flags
+    block python >"$room/first.py"
+    make -s -C "$top" -o lib install-lib LIBRARY="$built" DESTDIR= PREFIX="$1" >"$room/log" 2>&1
+    count $? "make install-lib PREFIX=$1: $(tail -n 1 "$room/log")"
+    flags=$(PKG_CONFIG_PATH=$1/lib/pkgconfig pkg-config --cflags --libs nbt)
+    eval "$CC -std=c11 -o \"\$room/example\" \"\$room/first.c\" $flags \"-Wl,-rpath,\$1/lib\"" >"$room/log" 2>&1
+    count $? "a program by pkg-config below $1: $(head -n 1 "$room/log")"
+    ended env -u LD_LIBRARY_PATH "$room/example" | same "$(block text)" "a program below $1"
+    env -u NBT_LIBRARY PYTHONPATH="$1/share/nbt/python" PYTHONDONTWRITEBYTECODE=1 "$timeout" 120 python3 "$room/first.py" 2>&1 \
+        | same "$(block text 2)" "the package for Python below $1"
+    make -s -C "$top" uninstall-lib LIBRARY="$built" DESTDIR= PREFIX="$1" >"$room/log" 2>&1
+    find "$1" ! -type d | same '' "make uninstall-lib PREFIX=$1"
 }
 
 # cargo COMMAND [OPTION]..: cargo's command on the crate for Rust, over what is installed below $room/root.

@@ -76,13 +76,15 @@ tool_words() {
     done
 }
 
-# installing TARGET: make install or uninstall, without rt, of the built program, below $room/root.
+# installing TARGET [PREFIX]: make install, uninstall, install-lib or uninstall-lib, without rt, of the built program and of what
+# stands for the library, below $room/root.
 installing() {
     (
         PATH=$room/no_rt
-        "$(command -v make)" -s -C "$here/.." "$1" PROGRAM="$(realpath "$program")" DESTDIR="$room/root" PREFIX=/usr
+        "$(command -v make)" -s -C "$here/.." -o lib "$1" PROGRAM="$(realpath "$program")" LIBRARY="$room/lib" \
+            DESTDIR="$room/root" PREFIX="${2:-/usr}"
     ) >"$room/output" 2>&1
-    count $? "make $1, without rt: $(cat "$room/output")"
+    count $? "make $1 PREFIX=${2:-/usr}, without rt: $(cat "$room/output")"
 }
 
 # The programs on PATH but rt.
@@ -120,6 +122,63 @@ installed() {
     count $? "make uninstall: $(tr '\n' ' ' <"$room/left")"
 }
 
+# placed NAME: the files and the folders of the project below $room/root, into $room/NAME.
+placed() { (cd "$room/root" && find . ! -type d -o -path '*/nbt' -o -path '*/nbt/*' | LC_ALL=C sort) >"$room/$1"; }
+
+# left NAME WHAT: below $room/root stands what stood there when $room/NAME was written.
+left() {
+    placed now
+    diff "$room/$1" "$room/now" >"$room/difference"
+    count $? "$2: $(head -c 300 "$room/difference")"
+}
+
+# apart PREFIX: below it the program and the library are put and taken away each by itself, and what others put there stays.
+apart() {
+    rm -rf "$room/root"
+    mkdir -p "$room/root$1/share/nbt/python/nbt" "$room/root$1/lib/pkgconfig"
+    touch "$room/root$1/share/nbt/python/nbt/other.py" "$room/root$1/lib/pkgconfig/other.pc"
+    placed none
+    installing install-lib "$1"
+    grep -q "ldconfig.* $1/lib" "$room/output" && grep -qF -- "-Wl,-rpath,$1/lib" "$room/output"
+    count $? "make install-lib PREFIX=$1 says how programs find the library: $(cat "$room/output")"
+    grep -qxF "prefix=$1" "$room/root$1/lib/pkgconfig/nbt.pc"
+    count $? "nbt.pc below $1"
+    placed library
+    installing install "$1"
+    ended "$room/root$1/bin/nbt" --help >"$room/help" 2>&1 && [ -s "$room/help" ]
+    count $? "nbt, installed below $1"
+    placed both
+    installing uninstall "$1"
+    left library "make uninstall PREFIX=$1 takes the program alone"
+    installing install "$1"
+    left both "make install PREFIX=$1, once more"
+    mkdir -p "$room/root$1/share/nbt/python/nbt/__pycache__"
+    installing uninstall-lib "$1"
+    LC_ALL=C comm -13 "$room/library" "$room/both" | LC_ALL=C sort - "$room/none" -u >"$room/program"
+    left program "make uninstall-lib PREFIX=$1 takes the library alone"
+    installing uninstall "$1"
+    left none "make uninstall PREFIX=$1 after it leaves what others put there"
+}
+
+# A PREFIX that nbt.pc can't have is refused before anything is put there.
+refused_prefix() {
+    rm -rf "$room/root"
+    mkdir "$room/root"
+    (make -s -C "$here/.." -o lib install-lib LIBRARY="$room/lib" DESTDIR="$room/root" PREFIX="$1") >"$room/output" 2>&1
+    [ $? -eq 2 ] && grep -q '^tools/pkgconfig: PREFIX is' "$room/output" && [ -z "$(ls "$room/root")" ]
+    count $? "make install-lib PREFIX=$1: $(cat "$room/output")"
+}
+
+# What is put where below all sorts of prefixes, and what takes it away.
+prefixes() {
+    local each
+    [ -d "$room/no_rt" ] || without_rt
+    mkdir "$room/lib"
+    touch "$room/lib/libnbt.a" "$room/lib/libnbt.so.0"
+    for each in /usr "/it's here" '/a b&c|d;e'; do apart "$each"; done
+    for each in 'usr' '/a#b' '/a"b' '/a(b)'; do refused_prefix "$each"; done
+}
+
 # The beginnings of command lines, and the words that a shell offers there; of files it offers those that are there.
 offers() {
     cat <<'END'
@@ -136,7 +195,7 @@ nbt-pcap2cap -|--bare --quiet --port --live -i --help
 nbt-cap2pcap --|--help
 nbt-parallel --s|--shard-bytes --sshlogin
 nbt-dask --w|--workers
-nbt-station --p|--port --per-source
+nbt-station --p|--port --per-source --pid
 END
 }
 
@@ -210,6 +269,7 @@ part places places
 part bash completion bash nbt.bash
 if command -v zsh >/dev/null; then part zsh completion zsh _nbt; else lacks zsh zsh; fi
 part installed installed
+part prefixes prefixes
 if command -v dpkg-deb >/dev/null; then part deb package; else lacks deb dpkg-deb; fi
 if command -v lintian >/dev/null; then part lintian package_lint; else lacks lintian lintian; fi
 finish

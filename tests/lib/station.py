@@ -1,9 +1,8 @@
 #!/usr/bin/env python3
-"""tools/nbt-station on sockets of the loopback interface, beside the program.  Usage: tests/lib/station.py TOOL PROGRAM
+"""tools/nbt-station on sockets of the loopback interface, beside the program.  Usage: tests/lib/station.py TOOL PROGRAM [CASE]..
 
-Prints `ok: CASE`, or `failed: CASE: why`, for each case.
+Prints `ok: CASE`, `skipped: CASE: why`, or `failed: CASE: why`, for each case, or each of these.
 """
-import contextlib
 import json
 import os
 import random
@@ -15,136 +14,11 @@ import tempfile
 import time
 
 sys.dont_write_bytecode = True
+import station_system
 from fuzz_inputs import Maker, capture_lines, example_bytes
-from wire import FRED, JOE, first_level
-
-TOOL, PROGRAM = map(os.path.abspath, sys.argv[1:])
-PATIENCE = 20
-ANN, NOBODY = first_level('ANN', 0x20), first_level('NOBODY', 0x20)
-SENDER = bytes([10, 0, 0, 5, 0, 138])
-UNIQUE, GROUP = 0x10, 0x11
-FIRST, MORE = 2, 1
-EMPTY = '4e42543200000000\n'
-# How often a case is tried whose keys may be dropped before it is done, where the machine is busy.
-TRIES = 5
-
-
-class Wrong(Exception):
-    """A case that didn't go as it has to."""
-
-
-class TooSlow(Exception):
-    """Keys were dropped before the case was done: it is tried again."""
-
-
-def expect(wanted, found):
-    if wanted != found:
-        raise Wrong(f'{str(found)[:300]!r}, not {str(wanted)[:300]!r}')
-
-
-def packet(kind, identifier, destination, data, offset=0, flags=FIRST, source=JOE):
-    """A packet of a datagram."""
-    length = len(source) + len(destination) + len(data)
-    head = bytes([kind, flags]) + identifier.to_bytes(2, 'big') + SENDER
-    return head + length.to_bytes(2, 'big') + offset.to_bytes(2, 'big') + source + destination + data
-
-
-def pieces(identifier, data, most=7):
-    """The packets of a group datagram to FRED<20>, with at most so many bytes of data each."""
-    starts = range(0, len(data), most)
-    return [packet(GROUP, identifier, FRED, data[it:it + most], it, FIRST * (it == 0) | MORE * (it != starts[-1]))
-            for it in starts]
-
-
-class Station:
-    """A tool that runs, and a socket that sends to it."""
-
-    def __init__(self, folder, *words, names=('FRED<20>',), bind='127.0.0.1:0', out=None):
-        self.folder, self.out = folder, os.path.join(folder, 'out') if out is None else out
-        with open(self.out, 'wb') as out:
-            self.process = subprocess.Popen([TOOL, '--bind', bind, *words, *names], cwd=folder, stdin=subprocess.DEVNULL,
-                                            stdout=out, stderr=subprocess.PIPE)
-        first = self.process.stderr.readline().decode()
-        if 'listens at' not in first:
-            self.process.kill()
-            raise Wrong(f'it said {first!r}')
-        self.last = 0x10000
-        host, port = first.split()[-1].split(':')
-        self.socket = socket.socket(socket.AF_INET, socket.SOCK_DGRAM)
-        self.socket.settimeout(PATIENCE)
-        self.socket.connect((host, int(port)))
-
-    def send(self, *payloads):
-        for payload in payloads:
-            self.socket.send(payload)
-
-    def answer(self):
-        return self.socket.recv(100)
-
-    def reached(self):
-        """Waits until all that was sent before was taken: a datagram for nobody, each time another, is answered after it."""
-        self.last -= 1
-        self.send(packet(UNIQUE, self.last, NOBODY, b''))
-        while self.answer()[2:4] != self.last.to_bytes(2, 'big'):
-            pass
-
-    def lines(self):
-        with open(self.out, encoding='ascii') as lines:
-            return lines.read().splitlines()
-
-    def saved(self, name='table'):
-        """What stands in the file of a saved table, once it is there."""
-        path, until = os.path.join(self.folder, name), time.monotonic() + PATIENCE
-        while not os.path.exists(path):
-            if time.monotonic() > until:
-                raise Wrong('no table was saved')
-            time.sleep(0.01)
-        with open(path, encoding='ascii') as line:
-            return line.read()
-
-    def ended(self, number=signal.SIGTERM):
-        """The status with which it ends at a signal, and what it says then."""
-        self.process.send_signal(number)
-        said = self.process.communicate(timeout=PATIENCE)[1]
-        return self.process.returncode, said.decode()
-
-
-@contextlib.contextmanager
-def station(*words, **named):
-    """A station in a folder of its own, which ends with the case."""
-    with tempfile.TemporaryDirectory() as folder:
-        each = Station(folder, *words, **named)
-        try:
-            yield each
-        finally:
-            each.process.kill()
-            each.process.communicate()
-            each.socket.close()
-
-
-def nbt(*words, text=''):
-    return subprocess.run([PROGRAM, *words], input=text, capture_output=True, text=True, timeout=PATIENCE).stdout
-
-
-def replayed(payloads, *names):
-    """The deliveries of `nbt replay` of these payloads."""
-    capture = ''.join(f'138 0 {it.hex() or "empty"}\n' for it in payloads)
-    lines = nbt('replay', '--keys', '65535', *names, text=capture).splitlines()
-    return [line.split(' ', 1)[1] for line in lines if ' delivered ' in line]
-
-
-def begun(folder, *words):
-    """The status and the words of a tool that ends by itself."""
-    done = subprocess.run([TOOL, *words], cwd=folder, capture_output=True, text=True, timeout=PATIENCE)
-    return done.returncode, done.stderr.strip().splitlines()[-1]
-
-
-def whole_tables(table, count):
-    """The table, if no key of it was dropped yet."""
-    found = len(nbt('list', text=table).splitlines())
-    if found < count:
-        raise TooSlow(f'{found} keys of {count}')
-    return table
+from station_runs import (ANN, EMPTY, GROUP, PATIENCE, SENDER, TRIES, UNIQUE, LeftOut, TooSlow, Wrong, begun, expect, nbt, packet, pieces,
+                          replayed, station, whole_tables)
+from wire import FRED, JOE
 
 
 # ---- the cases
@@ -163,9 +37,9 @@ def any_order_and_repeats():
             each.process.send_signal(signal.SIGUSR1)
         tables = [whole_tables(each.saved(), 13) for each in (one, other)]
         expect('equal\n', nbt('agree', text=''.join(tables)))
-        expect(sorted(replayed(payloads, 'FRED<20>')), sorted(one.lines()))
-        expect(sorted(one.lines()), sorted(other.lines()))
-        expect(11, len(one.lines()))
+        expect(sorted(replayed(payloads, 'FRED<20>')), sorted(one.lines(11)))
+        expect(sorted(one.lines(11)), sorted(other.lines(11)))
+        expect(11, len(one.lines(11)))
 
 
 def saved_at_its_end():
@@ -189,7 +63,7 @@ def saved_again():
         each.reached()
         each.process.send_signal(signal.SIGUSR1)
         whole_tables(each.saved(), 2)
-        expect(1, len(each.lines()))
+        expect(1, len(each.lines(1)))
 
 
 def no_file():
@@ -200,7 +74,7 @@ def no_file():
         each.reached()
         expect((0, ''), each.ended())
         expect(['out'], os.listdir(each.folder))
-        expect(['delivered 10.0.0.5:138/0001 group JOE<00> FRED<20> 68656c6c6f'], each.lines())
+        expect(['delivered 10.0.0.5:138/0001 group JOE<00> FRED<20> 68656c6c6f'], each.lines(1))
 
 
 def dropped_by_the_clock():
@@ -231,7 +105,7 @@ def json_lines():
     with station('--json', names=('FRED<20>', 'ANN<20>')) as each:
         each.send(packet(UNIQUE, 1, ANN, b''), packet(GROUP, 0xabcd, FRED, b'hi'))
         each.reached()
-        lines = [json.loads(it) for it in each.lines()]
+        lines = [json.loads(it) for it in each.lines(2)]
         expect(replayed([packet(UNIQUE, 1, ANN, b''), packet(GROUP, 0xabcd, FRED, b'hi')], 'FRED<20>', 'ANN<20>'),
                [' '.join(it or 'empty' for it in line.values()) for line in lines])
         expect(['outcome', 'key', 'kind', 'source', 'destination', 'data'], list(lines[0]))
@@ -250,7 +124,8 @@ def any_payloads():
             each.reached()
         if time.monotonic() - began > 1.9:
             raise TooSlow('2 s passed')
-        expect(replayed(payloads, *names), each.lines())
+        wanted = replayed(payloads, *names)
+        expect(wanted, each.lines(len(wanted)))
 
 
 def limits():
@@ -275,10 +150,10 @@ def joined_tables():
                 file.write(text)
         line = 'delivered 10.0.0.5:138/%04x group JOE<00> FRED<20> %s'
         with station('--join', paths[0], '--join', paths[1], '--save', 'table') as each:
-            expect([line % (2, b'whole'.hex()), line % (3, b'hi'.hex())], each.lines())
+            expect([line % (2, b'whole'.hex()), line % (3, b'hi'.hex())], each.lines(2))
             each.send(*sent[1:])
             each.reached()
-            expect([line % (1, b'hello, FRED'.hex())], each.lines()[2:])
+            expect([line % (1, b'hello, FRED'.hex())], each.lines(3)[2:])
             expect(0, each.ended()[0])
             whole_tables(each.saved(), 5)
         own = ('--bind', '127.0.0.1:0', '--save', os.path.join(folder, 'table'))
@@ -305,18 +180,17 @@ def refused_beginnings():
 
 
 def failing_devices():
-    """Standard output that takes nothing ends the station, and its table is saved; a folder that isn't there is said."""
+    """Standard output that takes nothing ends the station, and its table is saved."""
     with station('--save', 'table', out='/dev/full') as each:
         each.send(*pieces(1, b'hello'))
         each.process.wait(PATIENCE)
-        expect((3, 'nbt-station: standard output: No space left on device\n'), (each.process.returncode, each.process.stderr.read().decode()))
+        expect((3, 'nbt-station: standard output: deliveries that were left out: 1\n'
+                   'nbt-station: standard output: No space left on device\n'), (each.process.returncode, each.process.stderr.read().decode()))
         whole_tables(each.saved(), 1)
-    with station('--save', 'none/table') as each:
-        expect((3, 'nbt-station: none/table: No such file or directory\n'), each.ended())
 
 
 CASES = (any_order_and_repeats, saved_at_its_end, saved_again, no_file, dropped_by_the_clock, error_packets, json_lines,
-         any_payloads, limits, joined_tables, refused_beginnings, failing_devices)
+         any_payloads, limits, joined_tables, refused_beginnings, failing_devices, *station_system.CASES)
 
 
 def result_of(case):
@@ -326,6 +200,8 @@ def result_of(case):
         try:
             case()
             return f'ok: {case.__name__}'
+        except LeftOut as left_out:
+            return f'skipped: {case.__name__}: {left_out}'
         except TooSlow as slow:
             why = f'{slow}, {TRIES} times'
         except (Wrong, OSError, ValueError, subprocess.SubprocessError) as error:
@@ -333,5 +209,6 @@ def result_of(case):
     return f'failed: {case.__name__}: {why}'
 
 
-for each in CASES:
-    print(result_of(each), flush=True)
+for each in CASES if not sys.argv[3:] else (*CASES, *station_system.WITHIN):
+    if each.__name__ in (sys.argv[3:] or [each.__name__]):
+        print(result_of(each), flush=True)

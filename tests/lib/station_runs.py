@@ -1,0 +1,154 @@
+"""A tool that runs, for the cases of station.py and station_system.py: what is sent to it, and what it prints, saves and says."""
+import contextlib
+import os
+import signal
+import socket
+import subprocess
+import sys
+import tempfile
+import time
+
+sys.dont_write_bytecode = True
+from wire import FRED, JOE, first_level
+
+TOOL, PROGRAM = map(os.path.abspath, sys.argv[1:3])
+PATIENCE = 20
+ANN, NOBODY = first_level('ANN', 0x20), first_level('NOBODY', 0x20)
+SENDER = bytes([10, 0, 0, 5, 0, 138])
+UNIQUE, GROUP = 0x10, 0x11
+FIRST, MORE = 2, 1
+EMPTY = '4e42543200000000\n'
+# How often a case is tried whose keys may be dropped before it is done, where the machine is busy.
+TRIES = 5
+
+
+class Wrong(Exception):
+    """A case that didn't go as it has to."""
+
+
+class TooSlow(Exception):
+    """Keys were dropped before the case was done: it is tried again."""
+
+
+class LeftOut(Exception):
+    """A case that this machine doesn't allow."""
+
+
+def expect(wanted, found):
+    if wanted != found:
+        raise Wrong(f'{str(found)[:300]!r}, not {str(wanted)[:300]!r}')
+
+
+def packet(kind, identifier, destination, data, offset=0, flags=FIRST, source=JOE):
+    """A packet of a datagram."""
+    length = len(source) + len(destination) + len(data)
+    head = bytes([kind, flags]) + identifier.to_bytes(2, 'big') + SENDER
+    return head + length.to_bytes(2, 'big') + offset.to_bytes(2, 'big') + source + destination + data
+
+
+def pieces(identifier, data, most=7):
+    """The packets of a group datagram to FRED<20>, with at most so many bytes of data each."""
+    starts = range(0, len(data), most)
+    return [packet(GROUP, identifier, FRED, data[it:it + most], it, FIRST * (it == 0) | MORE * (it != starts[-1]))
+            for it in starts]
+
+
+class Station:
+    """A tool that runs, and a socket that sends to it."""
+
+    def __init__(self, folder, *words, names=('FRED<20>',), bind='127.0.0.1:0', out='out', **system):
+        self.folder, self.out = folder, out
+        with contextlib.ExitStack() as opened:
+            if isinstance(out, str):
+                self.out = os.path.join(folder, out)
+                out = opened.enter_context(open(self.out, 'wb'))
+            self.process = subprocess.Popen([TOOL, '--bind', bind, *words, *names], cwd=folder, stdin=subprocess.DEVNULL,
+                                            stdout=out, stderr=subprocess.PIPE, bufsize=0, **system)
+        first = self.process.stderr.readline().decode()
+        if 'listens at' not in first:
+            self.process.kill()
+            raise Wrong(f'it said {first!r}')
+        self.broadcasts = '' if bind.startswith('0.0.0.0') else self.process.stderr.readline().decode()
+        self.last = 0x10000
+        host, self.port = first.split()[-1].split(':')[0], int(first.split(':')[-1])
+        self.socket = socket.socket(socket.AF_INET, socket.SOCK_DGRAM)
+        self.socket.settimeout(PATIENCE)
+        self.socket.connect((host, self.port))
+
+    def send(self, *payloads):
+        for payload in payloads:
+            self.socket.send(payload)
+
+    def answer(self):
+        return self.socket.recv(100)
+
+    def reached(self):
+        """Waits until all that was sent before was taken: a datagram for nobody, each time another, is answered after it."""
+        self.last -= 1
+        self.send(packet(UNIQUE, self.last, NOBODY, b''))
+        while self.answer()[2:4] != self.last.to_bytes(2, 'big'):
+            pass
+
+    def lines(self, count):
+        """What it printed, once it is so many lines."""
+        until = time.monotonic() + PATIENCE
+        while True:
+            with open(self.out, encoding='ascii') as lines:
+                found = lines.read().splitlines()
+            if len(found) >= count or time.monotonic() > until:
+                return found
+            time.sleep(0.01)
+
+    def saved(self, name='table'):
+        """What stands in the file of a saved table, once it is there."""
+        path, until = os.path.join(self.folder, name), time.monotonic() + PATIENCE
+        while not os.path.exists(path):
+            if time.monotonic() > until:
+                raise Wrong('no table was saved')
+            time.sleep(0.01)
+        with open(path, encoding='ascii') as line:
+            return line.read()
+
+    def ended(self, number=signal.SIGTERM):
+        """The status with which it ends at a signal, and what it says then."""
+        self.process.send_signal(number)
+        said = self.process.communicate(timeout=PATIENCE)[1]
+        return self.process.returncode, said.decode()
+
+
+@contextlib.contextmanager
+def station(*words, **named):
+    """A station in a folder of its own, which ends with the case."""
+    with tempfile.TemporaryDirectory() as folder:
+        each = Station(folder, *words, **named)
+        try:
+            yield each
+        finally:
+            each.process.kill()
+            each.process.communicate()
+            each.socket.close()
+
+
+def nbt(*words, text=''):
+    return subprocess.run([PROGRAM, *words], input=text, capture_output=True, text=True, timeout=PATIENCE).stdout
+
+
+def replayed(payloads, *names):
+    """The deliveries of `nbt replay` of these payloads."""
+    capture = ''.join(f'138 0 {it.hex() or "empty"}\n' for it in payloads)
+    lines = nbt('replay', '--keys', '65535', *names, text=capture).splitlines()
+    return [line.split(' ', 1)[1] for line in lines if ' delivered ' in line]
+
+
+def begun(folder, *words):
+    """The status and the words of a tool that ends by itself."""
+    done = subprocess.run([TOOL, *words], cwd=folder, capture_output=True, text=True, timeout=PATIENCE)
+    return done.returncode, done.stderr.strip().splitlines()[-1]
+
+
+def whole_tables(table, count):
+    """The table, if no key of it was dropped yet."""
+    found = len(nbt('list', text=table).splitlines())
+    if found < count:
+        raise TooSlow(f'{found} keys of {count}')
+    return table

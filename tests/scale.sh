@@ -160,6 +160,7 @@ lonely() {
     count $? "nbt-dask without workers: $(cat errors)"
 
     cp gaps changing
+    : >errors
     ended "$tools/nbt-dask" changing out --program "$program" --scheduler "$address" >output 2>errors &
     client=$!
     awaited 'has no workers'
@@ -171,6 +172,7 @@ lonely() {
     unclustered
 
     scheduler
+    : >errors
     ended "$tools/nbt-dask" gaps out --program "$program" --scheduler "$address" >output 2>errors &
     client=$!
     awaited 'has no workers'

@@ -236,7 +236,7 @@ installed_below() {
     env -u NBT_LIBRARY PYTHONPATH="$1/share/nbt/python" PYTHONDONTWRITEBYTECODE=1 "$timeout" 120 python3 "$room/first.py" 2>&1 \
         | same "$(block text 2)" "the package for Python below $1"
     make -s -C "$top" uninstall-lib LIBRARY="$built" DESTDIR= PREFIX="$1" >"$room/log" 2>&1
-    find "$1" ! -type d | same '' "make uninstall-lib PREFIX=$1"
+    find "$1" ! -type d | wc -l | same 0 "make uninstall-lib PREFIX=$1"
 }
 
 # cargo COMMAND [OPTION]..: cargo's command on the crate for Rust, over what is installed below $room/root.

@@ -230,9 +230,12 @@ def interrupted_before_it_listens():
             for moment in 0, 0.02, 0.05, 0.1, 0.2, 1:
                 each = subprocess.Popen([TOOL, *OWN, '--join', 'pipe', '--save', 'table', '--pid', 'pid', 'FRED<20>'], cwd=folder,
                                         stdout=subprocess.DEVNULL, stderr=subprocess.PIPE, text=True)
-                time.sleep(moment)
-                each.send_signal(number)
-                said = each.communicate(timeout=PATIENCE)[1]
+                try:
+                    time.sleep(moment)
+                    each.send_signal(number)
+                    said = each.communicate(timeout=PATIENCE)[1]
+                finally:
+                    each.kill()
                 expect(True, (each.returncode, said) in ((128 + number, f'nbt-station: {words}\n'), (-number, '')))
                 if moment == 1:
                     expect(128 + number, each.returncode)

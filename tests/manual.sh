@@ -194,7 +194,7 @@ nbt-pcap2cap --b|--bare
 nbt-pcap2cap -|--bare --quiet --port --live -i --help
 nbt-cap2pcap --|--help
 nbt-parallel --s|--shard-bytes --sshlogin
-nbt-dask --wo|--workers
+nbt-dask --w|--workers --wait
 nbt-station --p|--port --per-source --pid
 END
 }

@@ -152,6 +152,12 @@ fills_disk() {
         "$1" "$2" --force many disk/out; echo $?; cat disk/out; ls disk' - "$1" "$program" >output 2>errors
     printf '3\n4e425432\nout\n' | cmp -s - <(grep -v out.work output) && [[ $(cat errors) == nbt-*": No space left on device" ]]
     count $? "$1: a full disk: $(cat errors)"
+    ended unshare -rm bash -c 'mount -t tmpfs -o size=3m none disk; "$1" "$2" gaps disk/out; echo $?; ls disk' - "$1" "$program" >output 2>errors
+    case $1 in
+    ./nbt-parallel) printf '3\nout.work\n' | cmp -s - output && [[ $(cat errors) == "nbt-parallel: $room/disk/out.work"*": No space left on device" ]] ;;
+    *) printf '0\nout\n' | cmp -s - output && [ ! -s errors ] ;;
+    esac
+    count $? "$1: a disk that a table fills: $(cat errors)"
 }
 
 inputs() {
@@ -218,9 +224,9 @@ programs() {
 # settings: the user's settings of GNU parallel, a parallel that is killed, and numbers that are none.
 settings() {
     local word
-    mkdir -p home/.parallel killing && echo --tag >home/.parallel/config
+    mkdir -p home/.parallel killing && echo --dry-run >home/.parallel/config
     HOME=$room/home gives gaps.table ./nbt-parallel "$program" gaps
-    PARALLEL=--tag gives gaps.table ./nbt-parallel "$program" gaps
+    PARALLEL=--dry-run gives gaps.table ./nbt-parallel "$program" gaps
     PARALLEL_HOME=$room/home/.parallel gives gaps.table ./nbt-parallel "$program" gaps
     [ "$(find home ! -type d)" = home/.parallel/config ]
     count $? 'nbt-parallel leaves nothing in the home folder'

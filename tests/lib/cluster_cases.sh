@@ -99,6 +99,7 @@ lonely() {
 
 # taken_port: another program has the port of dask's pages.
 taken_port() {
+    : >bound
     "$python" -c 'import socket, time; it = socket.socket(); it.bind(("", 8787)); it.listen(); print(flush=True); time.sleep(100)' >bound 2>/dev/null &
     for ((i = 0; i < 50 && $(wc -c <bound) == 0; i++)); do sleep 0.1; done
     gives gaps.table ./nbt-dask "$program" gaps

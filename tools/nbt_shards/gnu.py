@@ -77,10 +77,13 @@ def run_jobs(options, work, step, jobs):
     if not missing:
         return {}
     work.keep(step + '.jobs', [(job.words() + '\n').encode() for job in missing])
-    with open(work.path(step + '.errors'), 'w+', errors='replace') as errors:
+    with open(os.memfd_create(step), 'w+', errors='replace') as errors:
         told, status = results(work, command_of(options, step), errors, step, len(jobs) - len(missing), len(jobs))
         errors.seek(0)
-        ended = 3, why_ended(status, options.retries, first_line(errors.read()))
+        words = errors.read()
+    if 'Is the disk full?' in words:
+        raise Stopped('%s: No space left on device' % work.folder)
+    ended = 3, why_ended(status, options.retries, first_line(words))
     return {job.table: told.get(job.table, ended) for job in missing if not work.size(job.table)}
 
 

@@ -2,7 +2,7 @@
 
 It has the file `lock`, which marks it, and a folder for the plan: the shards, their tables, the logs of parallel. A plan is
 what a run was asked for, and which program does it; its folder has a name of its own, so that a job which outlives its run
-puts nothing into another.
+puts nothing into another. The lock says of which plan OUT was made, and its checksum, before OUT is put; it goes last.
 """
 import contextlib
 import fcntl
@@ -10,7 +10,6 @@ import hashlib
 import itertools
 import json
 import os
-import pathlib
 import re
 import shutil
 import time
@@ -64,12 +63,15 @@ class Work:
         if lock is None or not lock.is_file(follow_symlinks=False):
             return lock is None and not found
         with open(lock.path, 'rb') as file:
-            mark = file.read(len(MARK) + 1)
+            mark = file.read(len(MARK))
         plans = all(each.is_dir(follow_symlinks=False) and PLAN.fullmatch(name) for name, each in found.items())
         return mark == MARK and plans or mark == b'' and not found
 
+    def lock_path(self):
+        return os.path.join(self.top, 'lock')
+
     def lock(self):
-        path = os.path.join(self.top, 'lock')
+        path = self.lock_path()
         os.makedirs(self.top, exist_ok=True)
         file = os.fdopen(os.open(path, os.O_RDWR | os.O_CREAT | os.O_NOFOLLOW, 0o666), 'r+b')
         try:
@@ -81,12 +83,15 @@ class Work:
         return file
 
     def remove(self):
-        """Takes all of it away. A job of an earlier run may still write there, and ends soon."""
+        """Takes all of it away, the lock last. A job of an earlier run may still write there, and ends soon."""
         for _ in range(50):
-            shutil.rmtree(self.top, ignore_errors=True)
-            if not os.path.lexists(self.top):
+            for each in os.listdir(self.top):
+                if each != 'lock':
+                    shutil.rmtree(os.path.join(self.top, each), ignore_errors=True)
+            if os.listdir(self.top) == ['lock']:
                 break
             time.sleep(0.1)
+        shutil.rmtree(self.top, ignore_errors=True)
 
     # ---- the plan, and the shards
 
@@ -182,15 +187,23 @@ class Work:
     def put(self, names):
         """Makes OUT of the tables with these names. What it is, is written down first: a run may be killed after that."""
         checksum = write_whole(self.path('whole'), map(self.read, names))
-        self.keep('done', [checksum.encode()])
+        with open(self.lock_path(), 'a') as file:
+            file.write('%s %s\n' % (os.path.basename(self.folder), checksum))
+            file.flush()
+            os.fsync(file.fileno())
         put(self.path('whole'), self.options.out)
 
     def is_done(self):
-        """Whether OUT is what an earlier run made that was killed before it took OUT.work away."""
-        folders = self.others() if self.folder == self.top else [self.folder]
-        done = [os.path.join(each, 'done') for each in folders]
-        made = [pathlib.Path(each).read_text() for each in done if os.path.exists(each)]
-        return bool(made) and os.path.exists(self.options.out) and checksum_of_file(self.options.out) in made
+        """Whether OUT is what an earlier run made that was killed before it took OUT.work away: one of this plan, once there is one."""
+        plan, _, checksum = self.made().partition(' ')
+        if self.folder != self.top and plan != os.path.basename(self.folder):
+            return False
+        return checksum != '' and os.path.exists(self.options.out) and checksum_of_file(self.options.out) == checksum
+
+    def made(self):
+        """The plan of which OUT was made last, and its checksum; nothing where it wasn't."""
+        with open(self.lock_path()) as file:
+            return file.read()[len(MARK):].strip().rpartition('\n')[2]
 
 
 def state_of(path):

@@ -57,7 +57,7 @@ enum nbt_status {
     NBT_NAME_LONG = 23,            /* a label makes the spelling longer than 255 bytes; *at: where it stands */
     NBT_NAME_NOT_NETBIOS = 24,     /* labels that no NetBIOS name has; *at: a place in their spelling */
     NBT_NAME_TRAILING_BYTES = 25,  /* bytes after the spelling; *at: where they begin */
-    NBT_NAME_BAD_POINTER = 26,     /* a pointer that doesn't go back; *at: where */
+    NBT_NAME_BAD_POINTER = 26,     /* a pointer that doesn't go back; *at: where; no call of this version answers it */
 
     /* The source's name in a datagram packet; as those of 20 to 26. */
     NBT_SOURCE_TRUNCATED = 30,
@@ -65,7 +65,7 @@ enum nbt_status {
     NBT_SOURCE_POINTER = 32,
     NBT_SOURCE_LONG = 33,
     NBT_SOURCE_NOT_NETBIOS = 34,
-    NBT_SOURCE_BAD_POINTER = 36,
+    NBT_SOURCE_BAD_POINTER = 36, /* no call of this version answers it */
 
     /* The destination's name in a datagram packet; as those of 20 to 26. */
     NBT_DESTINATION_TRUNCATED = 40,
@@ -73,7 +73,7 @@ enum nbt_status {
     NBT_DESTINATION_POINTER = 42,
     NBT_DESTINATION_LONG = 43,
     NBT_DESTINATION_NOT_NETBIOS = 44,
-    NBT_DESTINATION_BAD_POINTER = 46,
+    NBT_DESTINATION_BAD_POINTER = 46, /* no call of this version answers it */
 
     /* A packet. */
     NBT_TRUNCATED = 50,      /* the payload ends inside the packet; *at: where it ends */
@@ -92,7 +92,7 @@ enum nbt_status {
     NBT_TABLE_BAD_MAGIC = 70,     /* it begins with neither NBT2 nor NBT1 */
     NBT_TABLE_TRUNCATED = 71,     /* it ends before or inside a field that has to follow */
     NBT_TABLE_NOT_CANONICAL = 72, /* no saved table has there what it has; *at: where */
-    NBT_TABLE_LONG = 73,          /* a datagram longer than the longest; none where that is 65,535 bytes */
+    NBT_TABLE_LONG = 73,          /* a datagram longer than the longest; no call of this version answers it */
     NBT_TABLE_FULL_SOURCE = 74,   /* more keys of one address than may be held */
     NBT_TABLE_FULL = 75,          /* more keys than may be held in all */
 
@@ -100,7 +100,7 @@ enum nbt_status {
     NBT_SECOND_BAD_MAGIC = 80,
     NBT_SECOND_TRUNCATED = 81,
     NBT_SECOND_NOT_CANONICAL = 82, /* *at counts in the second */
-    NBT_SECOND_LONG = 83,
+    NBT_SECOND_LONG = 83, /* no call of this version answers it */
     NBT_SECOND_FULL_SOURCE = 84,
     NBT_SECOND_FULL = 85,
 
@@ -300,8 +300,8 @@ uint32_t nbt_station_save(struct nbt_station *station, uint8_t *into, size_t int
  * saved tables (SOURCE_IP in four bytes, SOURCE_PORT and DGM_ID in two), MSG_TYPE in one, the spellings of the source
  * and of the destination, the length of the data in two, and the data; the higher byte of a number first (our choice).
  * Nothing is lost at NBT_NO_ROOM: the station is then as it was. The call takes memory for a copy of the table.
- * 70 to 75, NBT_FULL_SOURCE, NBT_FULL, NBT_NO_MEMORY (which may come before those that follow 75), NBT_NO_ROOM. At each
- * of these the station and the buffer are as they were. */
+ * 70 to 75, NBT_FULL_SOURCE, NBT_FULL, NBT_NO_MEMORY (which may come before any of these), NBT_NO_ROOM. At each of these
+ * the station and the buffer are as they were. */
 uint32_t nbt_station_absorb(struct nbt_station *station, uint64_t moment, const uint8_t *table, size_t table_length,
                             uint8_t *into, size_t into_length, size_t *used, size_t *at);
 

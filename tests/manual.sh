@@ -62,6 +62,21 @@ places() {
     done
 }
 
+# Each wrong body that a page names is there, and docs/PROOFS.md names each that is there.
+wrong_bodies() {
+    local edit crate
+    for edit in $(grep -ohE '`([a-z_]+/)?[a-z0-9_]+-[a-z0-9]+(_[a-z0-9]+)+`' "$here"/../docs/*.md | tr -d '`' | sort -u); do
+        compgen -G "$here/../crates/*/must-fail/${edit##*/}.edit" | grep -q "${edit%"${edit##*/}"}"
+        count $? "the pages name the wrong body $edit"
+    done
+    for edit in "$here"/../crates/*/must-fail/*.edit; do
+        crate=${edit%/must-fail/*}
+        edit=${edit##*/}
+        grep -qF "\`${crate##*/}/${edit%.edit}\`" "$here/../docs/PROOFS.md"
+        count $? "docs/PROOFS.md names the wrong body ${crate##*/}/${edit%.edit}"
+    done
+}
+
 # The help of each installed tool says its installed name alone, and its page has each option of it.
 tool_words() {
     local tool option
@@ -266,6 +281,7 @@ if command -v mandoc >/dev/null; then part mandoc lint; else lacks mandoc mandoc
 part words words
 part refusals refusals
 part places places
+part wrong_bodies wrong_bodies
 part bash completion bash nbt.bash
 if command -v zsh >/dev/null; then part zsh completion zsh _nbt; else lacks zsh zsh; fi
 part installed installed

@@ -8,6 +8,7 @@ import contextlib
 import os
 import resource
 import select
+import shutil
 import signal
 import subprocess
 import sys
@@ -15,9 +16,9 @@ import tempfile
 import time
 
 sys.path.insert(1, f'{sys.path[0]}/lib')
-from process_inputs import CAPTURE, COMMANDS, FRED, READING, REPORT, captures, roomy
-from process_runs import (TESTS, at_terminal, broken_pipe, bytes_of, closed, limited, lines_of, quiet_terminal, rest_of, run,
-                          small_pipe, start, starts, wait)
+from process_inputs import CAPTURE, COMMANDS, FRED, READING, REPORT, captures, chained, roomy
+from process_runs import (TESTS, at_terminal, broken_pipe, bytes_of, closed, instructions, limited, lines_of, quiet_terminal,
+                          rest_of, run, small_pipe, start, starts, wait)
 
 counts = {'passed': 0, 'failed': 0, 'skipped': 0}
 
@@ -345,6 +346,15 @@ def room():
         check(ended == (0, output, b''), f'nbt {words[0]}, {name} in {limit} kB: {ended[0]} {ended[2][:60]}')
 
 
+def pointers():
+    """Names that lead to the end of a chain of pointers cost what those at its front do: it is followed once for all."""
+    if not shutil.which('valgrind'):
+        skip('pointers', 'valgrind')
+        return
+    near, far = (instructions(['show'], chained(place)) for place in (0, 7_999))
+    check(far < 2 * near, f'nbt show, 4,000 names at the end of 8,000 pointers: {far} instructions, at the front {near}')
+
+
 # The stack that is enough beside a run's words and environment (docs/ATTACKS.md).
 STACK = 96 << 10
 
@@ -373,7 +383,7 @@ def is_told(ended, whole):
 
 
 for part in (ordinary, failing_outputs, closed_reports, cut_reports, inputs, open_inputs, halting_inputs, terminals,
-             full_disks, short_files, short_memory, room, short_stack):
+             full_disks, short_files, short_memory, room, pointers, short_stack):
     before = sum(counts.values())
     part()
     count = sum(counts.values()) - before

@@ -53,6 +53,16 @@ def pieces(*rows):
     return ''.join(lines).encode(), ''.join(report).encode()
 
 
+def chained(place):
+    """A capture of a packet with a chain of 8,000 pointers in RDATA, which leads to FRED<20>, and 4,000 records whose
+    names are pointers to the one with this place in it."""
+    name, chain = 23, 23 + len(FRED) // 2
+    pointers = [name, *range(chain, chain + 2 * 7_999, 2)]
+    data = FRED + ''.join(f'{0xc000 | it:04x}' for it in pointers)
+    records = f'{0xc000 | chain + 2 * place:04x}000a0001000000000000' * 4_000
+    return f'137 0 00018500{0:04x}{4_001:04x}0000000000000a000100000000{len(data) // 2:04x}{data}{records}\n'.encode()
+
+
 def roomy():
     """(name, words, input, output, kB of memory) of inputs that want a known room.
 

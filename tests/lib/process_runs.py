@@ -1,6 +1,7 @@
 """Runs of the built program over streams of any kind, for tests/process.py."""
 import fcntl
 import os
+import re
 import resource
 import select
 import subprocess
@@ -30,6 +31,13 @@ def run(words, given=b'', before=None, **streams):
         process.communicate()
         return None, b'', b''
     return process.returncode, output or b'', errors or b''
+
+
+def instructions(words, given):
+    """How many instructions a run over an input takes, counted by valgrind: as many in each run."""
+    count = ['valgrind', '--tool=callgrind', '--callgrind-out-file=/dev/null', program, *words]
+    done = subprocess.run(count, input=given, stdout=subprocess.DEVNULL, stderr=subprocess.PIPE, check=True)
+    return int(re.search(rb'Collected : (\d+)', done.stderr).group(1))
 
 
 def wait(process):

@@ -5,6 +5,7 @@ from concurrent.futures import ThreadPoolExecutor
 import nbt
 from nbt import DatagramType, SessionType, Status
 from nbt.library import SPARE
+from nbt.service import REQUEST
 
 FRED = bytes.fromhex('20') + b'EGFCEFEECACACACACACACACACACACACA\0'
 JOE = bytes.fromhex('20') + b'EKEPEFCACACACACACACACACACACACAAA\0'
@@ -37,6 +38,33 @@ class Datagrams(unittest.TestCase):
                 nbt.Datagram.read(payload)
             self.assertEqual((caught.exception.status, caught.exception.at), (status, at))
 
+    def test_refused_names(self):
+        """Each fault of the source's name and of the destination's, at its place."""
+        long = (b'\x3f' + b'a' * 63) * 4
+        for name, of_source, of_destination, place in [
+                (JOE[:33], Status.SOURCE_TRUNCATED, Status.DESTINATION_TRUNCATED, 33),
+                (JOE[:33] + b'\x40', Status.SOURCE_RESERVED_LABEL, Status.DESTINATION_RESERVED_LABEL, 33),
+                (JOE[:33] + b'\xc0\x0c', Status.SOURCE_POINTER, Status.DESTINATION_POINTER, 33),
+                (JOE[:33] + long, Status.SOURCE_LONG, Status.DESTINATION_LONG, 225),
+                (JOE.replace(b'K', b'k'), Status.SOURCE_NOT_NETBIOS, Status.DESTINATION_NOT_NETBIOS, 2)]:
+            for before, status in [(b'', of_source), (FRED, of_destination)]:
+                names = before + name + (b'' if of_source == Status.SOURCE_TRUNCATED else JOE)
+                payload = HELLO[:10] + len(names).to_bytes(2, 'big') + HELLO[12:14] + names
+                at = place if of_source == Status.SOURCE_NOT_NETBIOS else 14 + len(before) + place
+                with self.subTest(status), self.assertRaises(nbt.NbtError) as caught:
+                    nbt.Datagram.read(payload)
+                self.assertEqual((caught.exception.status, caught.exception.at), (status, at))
+
+    def test_longest_packet(self):
+        """A packet of just 65,535 bytes is written, and none of one byte more."""
+        words = (0x10, 1, '10.0.0.5', 138, 'JOE<00>', 'FRED<20>')
+        most = 65_535 - 14 - len(JOE) - len(FRED)
+        self.assertEqual([len(it) for it in nbt.Datagram.write(*words, bytes(most), 65_535)], [65_535])
+        self.assertEqual([len(it) for it in nbt.Datagram.write(*words, bytes(most + 1), most)], [65_535, 65_535 - most + 1])
+        with self.assertRaises(nbt.NbtError) as caught:
+            nbt.Datagram.write(*words, bytes(most + 1), most + 1)
+        self.assertEqual(caught.exception.status, Status.LONG_DATA)
+
     def test_write(self):
         self.assertEqual(nbt.Datagram.write(DatagramType.GROUP, 10, '10.0.0.5', 138, 'JOE<00>', 'FRED<20>', b'hello'), [HELLO])
         pieces = nbt.Datagram.write(0x11, 10, 0x0a000005, 138, 'JOE<00>', 'FRED<20>', b'hello', 2)
@@ -48,6 +76,8 @@ class Datagrams(unittest.TestCase):
     def test_write_refused(self):
         for changed, status in [({'type': 0x13}, Status.UNKNOWN_TYPE), ({'source': 'JOE'}, Status.SOURCE_BAD_TEXT),
                                 ({'destination': 'A' * 16 + '<20>'}, Status.DESTINATION_LONG_TEXT),
+                                ({'source': 'A' * 16 + '<20>'}, Status.SOURCE_LONG_TEXT),
+                                ({'destination': 'FRED'}, Status.DESTINATION_BAD_TEXT),
                                 ({'data': bytes(65_536)}, Status.LONG_DATA), ({'most': 0}, Status.ZERO_PIECE),
                                 ({'data': bytes(65_535), 'most': 65_535}, Status.LONG_DATA)]:
             words = {'type': 0x10, 'identifier': 1, 'address': '10.0.0.5', 'port': 138, 'source': 'JOE<00>',
@@ -74,7 +104,7 @@ class Sessions(unittest.TestCase):
         for data, missing in [(b'', 4), (b'\x85', 3), (b'\0\0\0\x05he', 3)]:
             with self.assertRaises(nbt.MoreNeeded) as caught:
                 nbt.SessionPacket.read(data)
-            self.assertEqual(caught.exception.missing, missing)
+            self.assertEqual((caught.exception.status, caught.exception.missing), (Status.MORE, missing))
 
     def test_refused(self):
         for data, status, at in [(b'\x86\0\0\0', Status.UNKNOWN_TYPE, None), (b'\0\2\0\0', Status.RESERVED_FLAGS, None),
@@ -113,6 +143,9 @@ class Service(unittest.TestCase):
         with self.assertRaises(nbt.NbtError) as caught:
             nbt.query(3, 'FRED')
         self.assertEqual((caught.exception.status, caught.exception.at), (Status.BAD_TEXT, 4))
+        with self.assertRaises(nbt.NbtError) as caught:
+            REQUEST(5, 3, False, b'FRED<20>', 8, 0, 0, 0)
+        self.assertEqual((caught.exception.status, caught.exception.at), (Status.UNKNOWN_REQUEST, None))
         with self.assertRaises(ValueError):
             nbt.query(65_536, 'FRED<20>')
 

@@ -68,6 +68,9 @@ class Stations(Refusing):
             misplaced = bytearray(pieces()[0])
             misplaced[1] = 1
             self.assertEqual(self.refused(station.take, 0, misplaced), (Status.MISPLACED_FIRST, None))
+            past = bytearray(pieces()[1])
+            past[12:14] = b'\xff\xff'
+            self.assertEqual(self.refused(station.take, 0, past), (Status.LONG, None))
 
     def test_names(self):
         names = ['N%d<20>' % i for i in range(255)]
@@ -143,6 +146,10 @@ class Tables(Refusing):
         self.assertEqual(self.refused(nbt.merge, spoilt(1, 2), EMPTY, keys=1), (Status.TABLE_FULL, None))
         self.assertEqual(self.refused(nbt.merge, EMPTY, spoilt(1, 2), per_source=1), (Status.SECOND_FULL_SOURCE, None))
         self.assertEqual(self.refused(nbt.merge, spoilt(1), spoilt(2), keys=1), (Status.FULL, None))
+        self.assertEqual(self.refused(nbt.merge, EMPTY, b'NBT3'), (Status.SECOND_BAD_MAGIC, None))
+        self.assertEqual(self.refused(nbt.merge, EMPTY, spoilt(2, 1)), (Status.SECOND_NOT_CANONICAL, 17))
+        self.assertEqual(self.refused(nbt.merge, EMPTY, spoilt(1, 2), keys=1), (Status.SECOND_FULL, None))
+        self.assertEqual(self.refused(nbt.merge, spoilt(1, 2), b'NBT3', keys=1), (Status.TABLE_FULL, None))
 
     def test_list(self):
         first, second = pieces()

@@ -1,39 +1,56 @@
 -- What is judged and answered is done.
-use Rattle.std.proofs.Common.{◌≡◌, ℕ, List, Result, Ok, Err, inl, inr, subst, sym}
+use Rattle.std.proofs.Common.{◌≡◌, ◌∙◌, ℕ, Bool, List, Result, Ok, Err, inl, inr, refl, subst, sym}
 use Rattle.std.specs.Prelude.{IfOk}
 use Rattle.nb_names.specs.declared.bytes.NoMemory.{NoMemory}
 use Rattle.nb_c.specs.declared.refusal.Refusal.{Refusal}
 use Rattle.nb_c.specs.declared.refusal.Refusal.TheVariants.{Memory, Fault, FaultAt}
-use Rattle.nb_c.specs.Outputs.{Alone, Answers, Does, Judged, Filled, Fills, of_memory}
+use Rattle.nb_c.specs.Outputs.{Alone, Answers, Does, HasOne, MayLack, OrMemory, Filled, Fills, all_late, of_memory}
 
-module _ (Says : Result (List ℕ) Refusal → Type 0) (old new : List ℕ) (used used' at at' status : ℕ) where
-  alone : (answer : Result (List ℕ) Refusal) → Alone (List ℕ) Says answer → Answers answer old new used used' at at' status
-      → Does Says old new used used' at at' status
-  alone answer j h = record {
-    some = inr (answer, j.said, h);
-    only = λ other said. inr (subst (λ (told : Result (List ℕ) Refusal). Answers told old new used used' at at' status) (sym (j.only other said)) h);
+module _ (late : ℕ → Bool) (Says : Result (List ℕ) Refusal → Type 0) (one : HasOne Says)
+    (old new : List ℕ) (used used' at at' status : ℕ) where
+  told : (answer : Result (List ℕ) Refusal) → Says answer → Answers answer old new used used' at at' status
+      → Does late Says old new used used' at at' status
+  told answer said h = record {
+    some = inr (answer, said, h);
+    only = λ other also. inr (subst (λ (t : Result (List ℕ) Refusal). Answers t old new used used' at at' status) (one answer other said also) h);
   }
 
-  pub does : (answer : Result (List ℕ) Refusal) → Judged (List ℕ) Says answer → Answers answer old new used used' at at' status
-      → Does Says old new used used' at at' status
-  does (Ok bytes) j h = alone (Ok bytes) j h
-  does (Err Memory) j h = record { some = inl h; only = λ other said. inl h }
-  does (Err (Fault code)) j h = alone (Err (Fault code)) j h
-  does (Err (FaultAt code place)) j h = alone (Err (FaultAt code place)) j h
+  pub does : (answer : Result (List ℕ) Refusal) → OrMemory late Says answer → Answers answer old new used used' at at' status
+      → Does late Says old new used used' at at' status
+  does (Ok bytes) j h = told (Ok bytes) j h
+  does (Err Memory) j h = record { some = inl h; only = λ other said. inl (j other said, h) }
+  does (Err (Fault code)) j h = told (Err (Fault code)) j h
+  does (Err (FaultAt code place)) j h = told (Err (FaultAt code place)) j h
 
--- what alone is said is judged
-pub judged_alone : (Says : Result (List ℕ) Refusal → Type 0) (answer : Result (List ℕ) Refusal) → Alone (List ℕ) Says answer
-    → Judged (List ℕ) Says answer
-judged_alone Says (Ok bytes) j = j
-judged_alone Says (Err Memory) j = tt
-judged_alone Says (Err (Fault status)) j = j
-judged_alone Says (Err (FaultAt status place)) j = j
+-- one answer that is known is one
+pub has_one_value : (expected : Result (List ℕ) Refusal) → HasOne (λ answer. answer ≡ expected)
+has_one_value expected a b h k = h ∙ sym k
 
--- bytes that are judged, if there is memory for them
-pub judged : (Says : Result (List ℕ) Refusal → Type 0) (bytes : List ℕ) (told : Result (List ℕ) NoMemory)
-    → Alone (List ℕ) Says (Ok bytes) → IfOk told (λ (found : List ℕ). found ≡ bytes) → Judged (List ℕ) Says (of_memory told)
-judged Says bytes (Ok found) j e = subst (λ (b : List ℕ). Alone (List ℕ) Says (Ok b)) (sym e) j
-judged Says bytes (Err fault) j e = tt
+-- what alone is said is one
+pub has_one : (Says : Result (List ℕ) Refusal → Type 0) (answer : Result (List ℕ) Refusal) → Alone (List ℕ) Says answer
+    → HasOne Says
+has_one Says answer j a b h k = j.only a h ∙ sym (j.only b k)
+
+-- any answer may lack memory where all come late
+pub all_lack : (answer : Result (List ℕ) Refusal) → MayLack all_late answer
+all_lack (Ok bytes) = tt
+all_lack (Err refusal) = refl
+
+-- bytes that are said, if there is memory for them
+pub bytes_said : (late : ℕ → Bool) (Says : Result (List ℕ) Refusal → Type 0) (bytes : List ℕ) (told : Result (List ℕ) NoMemory)
+    → HasOne Says → Says (Ok bytes) → IfOk told (λ (found : List ℕ). found ≡ bytes) → OrMemory late Says (of_memory told)
+bytes_said late Says bytes (Ok found) one said e = subst (λ (b : List ℕ). Says (Ok b)) (sym e) said
+bytes_said late Says bytes (Err fault) one said e =
+    λ other also. subst (λ (t : Result (List ℕ) Refusal). MayLack late t) (one (Ok bytes) other said also) tt
+
+-- an answer that has to be is said
+pub or_said : (late : ℕ → Bool) (Says : Result (List ℕ) Refusal → Type 0) (expected : Result (List ℕ) Refusal) → HasOne Says
+    → Says expected → (answer : Result (List ℕ) Refusal) → OrMemory late (λ other. other ≡ expected) answer
+    → OrMemory late Says answer
+or_said late Says expected one said (Ok bytes) h = subst Says (sym h) said
+or_said late Says expected one said (Err Memory) h = λ other also. h other (one other expected also said)
+or_said late Says expected one said (Err (Fault status)) h = subst Says (sym h) said
+or_said late Says expected one said (Err (FaultAt status place)) h = subst Says (sym h) said
 
 -- what alone is said and filled in
 pub fills : (A : Type 0) (Says : Result A Refusal → Type 0) (answer : Result A Refusal) (old new : A) (at at' status : ℕ)

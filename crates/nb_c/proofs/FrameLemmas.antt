@@ -1,16 +1,21 @@
 -- What is asked to be written on port 139 has one answer.
-use Rattle.std.proofs.Common.{◌≡◌, ◌==◌, ◌∙◌, ℕ, ◌<◌, ◌≤◌, List, length, Result, Err, if◌then◌else◌, refl, sym, ap, subst, arith}
+use Rattle.std.proofs.Common.{◌≡◌, ◌==◌, ◌∙◌, ℕ, Bool, true, false, ◌≤◌, List, length, take, Result, Ok, Err, if◌then◌else◌, refl, sym, ap, subst, arith}
+use Rattle.nb_names.specs.declared.fault.NameFault.{NameFault}
+use Rattle.nb_names.specs.declared.fault.NameFault.TheVariants as names
+use Rattle.nb_session.specs.declared.fault.SessionFault.{SessionFault}
+use Rattle.nb_session.specs.declared.fault.SessionFault.TheVariants.{UnknownType, ReservedFlags, BadLength, Name, TrailingBytes}
+use Rattle.nb_session.specs.declared.header.Header.{Header}
 use Rattle.nb_session.specs.declared.kind.Kind.{Kind}
 use Rattle.nb_session.specs.declared.kind.Kind.TheVariants.{Message, Request, Positive, Negative, Retarget, Keepalive}
 use Rattle.nb_session.specs.declared.limits.TheConstants.{MAX_MESSAGE}
 use Rattle.nb_session.specs.declared.parsing.Parsed.{Parsed}
-use Rattle.nb_session.specs.Header.{type_of}
-use Rattle.nb_session.specs.Parsing.{Parses}
+use Rattle.nb_session.specs.Header.{HasHeader, type_of, packet_length}
+use Rattle.nb_session.specs.Parsing.{HeaderFails, unknown_type as unknown_header, reserved_flags, bad_length, RequestFails, called_fails, calling_fails, bytes_trail, Parses, header_lacks, header_fails, body_lacks, body_fails, whole}
 use Rattle.nb_c.specs.declared.refusal.Refusal.{Refusal}
-use Rattle.nb_c.specs.declared.refusal.Refusal.TheVariants.{Fault}
-use Rattle.nb_c.specs.declared.statuses.TheConstants as statuses
-use Rattle.nb_c.specs.Framing.{Stands, Writes, unknown_type, too_long, judged, frame, unless_faulty}
-use Rattle.nb_c.specs.Outputs.{Alone}
+use Rattle.nb_c.specs.declared.refusal.Refusal.TheVariants.{Memory, Fault, FaultAt}
+use Rattle.nb_c.specs.Framing.{Stands, Writes, unknown_type, too_long, judged, frame, follow_the_type, unless_faulty}
+use Rattle.nb_c.specs.Outputs.{Alone, HasOne, MayLack, OrMemory, refused_status}
+use Rattle.nb_c.specs.Statuses.{name_refusal, session_refusal}
 
 -- a kind by its number, any other number being that of a message
 kind_with : ℕ → Kind
@@ -37,27 +42,89 @@ judged_bytes bytes parsed stands only = record { said = (parsed, stands, refl); 
   others : (other : Result (List ℕ) Refusal) → Stands bytes other → other ≡ unless_faulty bytes parsed
   others other (found, there, exact) = cc (exact, only found there)
 
+-- whether this is the fault of an unknown type
+is_unknown : SessionFault → Bool
+is_unknown UnknownType = true
+is_unknown ReservedFlags = false
+is_unknown BadLength = false
+is_unknown (Name fault) = false
+is_unknown (TrailingBytes at) = false
+
+request_known : (packet : List ℕ) (fault : SessionFault) → RequestFails packet fault → is_unknown fault ≡ false
+unfolding is_unknown
+request_known packet _ (called_fails fault _) = refl
+request_known packet _ (calling_fails called behind fault _ _ _) = refl
+request_known packet _ (bytes_trail called calling behind end _ _ _ _ _) = refl
+
+header_known : (kind : Kind) (header : Header) (fault : SessionFault) → type_of kind ≡ header.packet_type → HeaderFails header fault
+    → is_unknown fault ≡ false
+unfolding is_unknown
+header_known kind header _ is (unknown_header none) = absurd (none kind is)
+header_known kind header _ is (reserved_flags _ _ _) = refl
+header_known kind header _ is (bad_length _ _ _ _) = refl
+
+late_name : (fault : NameFault) → follow_the_type (refused_status (name_refusal fault)) ≡ true
+late_name (names.Truncated at) = refl
+late_name (names.ReservedLabel at) = refl
+late_name (names.PointerNotAllowed at) = refl
+late_name (names.BadPointer at) = refl
+late_name (names.TooLong at) = refl
+late_name (names.NotNetbios at) = refl
+
+late_session : (fault : SessionFault) → is_unknown fault ≡ false → follow_the_type (refused_status (session_refusal fault)) ≡ true
+unfolding is_unknown
+late_session UnknownType h = absurd (cc h)
+late_session ReservedFlags h = refl
+late_session BadLength h = refl
+late_session (Name fault) h = late_name fault
+late_session (TrailingBytes at) h = refl
+
+-- a frame has its type
+type_there : (kind : Kind) (body : List ℕ) (header : Header) → HasHeader (frame kind body) header → type_of kind ≡ header.packet_type
+type_there kind body header has = cc has.first
+
+-- what is judged of a frame comes late
+judged_late : (kind : Kind) (body : List ℕ) (parsed : Parsed) → Parses (frame kind body) parsed
+    → MayLack follow_the_type (unless_faulty (frame kind body) parsed)
+judged_late kind body _ (header_lacks _) = refl
+judged_late kind body _ (header_fails header fault has fails) =
+    late_session fault (header_known kind header fault (type_there kind body header has) fails)
+judged_late kind body _ (body_lacks _ _ _ _ _) = refl
+judged_late kind body _ (body_fails header fault _ _ _ fails) =
+    late_session fault (request_known (take (packet_length header) (frame kind body)) fault fails)
+judged_late kind body _ (whole _ _ _ _) = tt
+
 module _ (type : ℕ) (body : List ℕ) where
-  pub no_type : ((kind : Kind) → ¬ (type_of kind ≡ type)) → Alone (List ℕ) (Writes type body) (Err (Fault statuses.UNKNOWN_TYPE))
-  no_type none = record { said = unknown_type none; only = others } where
-    others : (other : Result (List ℕ) Refusal) → Writes type body other → other ≡ Err (Fault statuses.UNKNOWN_TYPE)
-    others _ (unknown_type _) = refl
-    others _ (too_long kind is _) = absurd (none kind is)
-    others _ (judged kind answer is _ _) = absurd (none kind is)
+  -- one answer is written, where one is parsed
+  pub one_writes : ((bytes : List ℕ) (parsed other : Parsed) → Parses bytes parsed → Parses bytes other → parsed ≡ other)
+      → HasOne (Writes type body)
+  one_writes one _ _ (unknown_type none) (unknown_type _) = refl
+  one_writes one _ _ (unknown_type none) (too_long kind is _) = absurd (none kind is)
+  one_writes one _ _ (unknown_type none) (judged kind b is _ _) = absurd (none kind is)
+  one_writes one _ _ (too_long kind is long) (unknown_type none) = absurd (none kind is)
+  one_writes one _ _ (too_long kind is long) (too_long _ _ _) = refl
+  one_writes one _ _ (too_long kind is long) (judged _ b _ short _) = absurd (omega (arith, long, short))
+  one_writes one _ _ (judged kind a is short _) (unknown_type none) = absurd (none kind is)
+  one_writes one _ _ (judged kind a is short _) (too_long _ _ long) = absurd (omega (arith, long, short))
+  one_writes one _ _ (judged kind a is short (parsed, p, e)) (judged other b also _ (found, q, d)) =
+      e ∙ together (one_kind type kind other is also) ∙ sym d where
+        together : kind ≡ other → unless_faulty (frame kind body) parsed ≡ unless_faulty (frame other body) found
+        together same =
+            let there = subst (λ (k : Kind). Parses (frame k body) found) (sym same) q in
+            ap (λ (p : Parsed). unless_faulty (frame kind body) p) (one (frame kind body) parsed found p there)
+            ∙ ap (λ (k : Kind). unless_faulty (frame k body) found) same
 
-  pub long_body : (kind : Kind) → type_of kind ≡ type → MAX_MESSAGE < length body
-      → Alone (List ℕ) (Writes type body) (Err (Fault statuses.BAD_LENGTH))
-  long_body kind is long = record { said = too_long kind is long; only = others } where
-    others : (other : Result (List ℕ) Refusal) → Writes type body other → other ≡ Err (Fault statuses.BAD_LENGTH)
-    others _ (unknown_type none) = absurd (none kind is)
-    others _ (too_long _ _ _) = refl
-    others _ (judged _ answer _ short _) = absurd (omega (arith, long, short))
+  -- memory may run out before whatever is written with a known type
+  pub writes_late : (kind : Kind) → type_of kind ≡ type → (answer : Result (List ℕ) Refusal) → Writes type body answer
+      → MayLack follow_the_type answer
+  writes_late kind is _ (unknown_type none) = absurd (none kind is)
+  writes_late kind is _ (too_long _ _ _) = refl
+  writes_late kind is _ (judged other answer _ _ (parsed, p, e)) = rw e (judged_late other body parsed p)
 
-  pub framed : (kind : Kind) (answer : Result (List ℕ) Refusal) → type_of kind ≡ type → length body ≤ MAX_MESSAGE
-      → Alone (List ℕ) (Stands (frame kind body)) answer → Alone (List ℕ) (Writes type body) answer
-  framed kind answer is short j = record { said = judged kind answer is short j.said; only = others } where
-    others : (other : Result (List ℕ) Refusal) → Writes type body other → other ≡ answer
-    others _ (unknown_type none) = absurd (none kind is)
-    others _ (too_long _ _ long) = absurd (omega (arith, long, short))
-    others other (judged found _ there _ stands) =
-        j.only other (subst (λ (k : Kind). Stands (frame k body) other) (one_kind type found kind there is) stands)
+  -- what is judged is written
+  pub written : (kind : Kind) (answer : Result (List ℕ) Refusal) → type_of kind ≡ type → length body ≤ MAX_MESSAGE
+      → Stands (frame kind body) answer → OrMemory follow_the_type (Writes type body) answer
+  written kind (Ok bytes) is short j = judged kind (Ok bytes) is short j
+  written kind (Err Memory) is short j = writes_late kind is
+  written kind (Err (Fault status)) is short j = judged kind (Err (Fault status)) is short j
+  written kind (Err (FaultAt status place)) is short j = judged kind (Err (FaultAt status place)) is short j

@@ -3,6 +3,7 @@ pub mod AnswerLemmas
 pub mod FrameLemmas
 pub mod HandleValues
 pub mod ListLemmas
+pub mod LoadLemmas
 pub mod MergeLemmas
 pub mod NameLemmas
 pub mod PlaceLemmas

@@ -1,15 +1,39 @@
 -- The lines of a saved table's keys are what is answered of it.
-use Rattle.std.proofs.Common.{◌≡◌, ℕ, List, Result, Ok, Err, IfOk, inl, inr, refl, subst, sym}
+use Rattle.std.proofs.Common.{◌≡◌, ℕ, List, Result, Ok, Err, IfOk, ap, subst, sym}
 use Rattle.nb_member.specs.Listing.{listing}
 use Rattle.nb_names.specs.declared.bytes.NoMemory.{NoMemory}
+use Rattle.nb_table.specs.declared.load_fault.LoadFault.{LoadFault}
+use Rattle.nb_table.specs.declared.load_fault.LoadFault.TheVariants as loads
 use Rattle.nb_table.specs.Contents.{Contents}
-use Rattle.nb_table.specs.LoadFaults.{IsReadAs}
-use Rattle.nb_c.specs.Outputs.{of_memory}
-use Rattle.nb_c.specs.Tables.{Lists, listed, OrNoMemory}
+use Rattle.nb_table.specs.Limits.{TableValue}
+use Rattle.nb_table.specs.LoadFaults.{LoadFails}
+use Rattle.nb_c.specs.declared.refusal.Refusal.{Refusal}
+use Rattle.nb_c.specs.Outputs.{HasOne, MayLack, OrMemory, none_late, of_memory}
+use Rattle.nb_c.specs.Tables.{IsLoaded, Lists, not_read, listed, first_refusal, widest}
+use Rattle.nb_c.proofs.LoadLemmas.{InputLaws, one_fault, as_memory, no_other, loaded_apart}
 
--- what a table that was read comes to, in lines
-pub lists : (table : List ℕ) (contents : Contents) (told : Result (List ℕ) NoMemory) → IsReadAs table contents
-    → IfOk told (λ (bytes : List ℕ). bytes ≡ listing contents) → OrNoMemory (Lists table) (of_memory told)
-lists table contents (Ok bytes) read e =
-    inr (subst (λ (lines : List ℕ). Lists table (Ok lines)) (sym e) (listed contents read))
-lists table contents (Err fault) read e = inl refl
+module _ (table : List ℕ) (laws : InputLaws table) where
+  pub one_list : HasOne (Lists table)
+  one_list _ _ (not_read f h p) (not_read g k q) = ap (λ (x : LoadFault). Err (first_refusal x)) (one_fault table widest laws f g p q)
+  one_list _ _ (not_read f h p) (listed t is) = loaded_apart table widest laws t f h is p
+  one_list _ _ (listed t is) (not_read f h p) = loaded_apart table widest laws t f h is p
+  one_list _ _ (listed t is) (listed u also) = ap (λ (x : Contents). Ok (listing x)) (laws.one t.contents u.contents is.stands also.stands)
+
+  lacks : LoadFails table widest loads.NoMemory → (answer : Result (List ℕ) Refusal) → Lists table answer → MayLack none_late answer
+  lacks q _ (not_read fault h p) = no_other table widest laws fault h p q
+  lacks q _ (listed t is) = tt
+
+  pub list_failed : (fault : LoadFault) → LoadFails table widest fault → OrMemory none_late (Lists table) (Err (first_refusal fault))
+  list_failed loads.BadMagic p = not_read loads.BadMagic (λ e. absurd (cc e)) p
+  list_failed loads.Truncated p = not_read loads.Truncated (λ e. absurd (cc e)) p
+  list_failed (loads.NotCanonical at) p = not_read (loads.NotCanonical at) (λ e. absurd (cc e)) p
+  list_failed loads.TooLong p = not_read loads.TooLong (λ e. absurd (cc e)) p
+  list_failed loads.FullSource p = not_read loads.FullSource (λ e. absurd (cc e)) p
+  list_failed loads.Full p = not_read loads.Full (λ e. absurd (cc e)) p
+  list_failed loads.NoMemory p = lacks p
+
+  -- what a table that was read comes to, in lines
+  pub lists : (t : TableValue) (told : Result (List ℕ) NoMemory) → IsLoaded table widest t
+      → IfOk told (λ (bytes : List ℕ). bytes ≡ listing t.contents) → OrMemory none_late (Lists table) (of_memory told)
+  lists t (Ok bytes) is e = subst (λ (lines : List ℕ). Lists table (Ok lines)) (sym e) (listed t is)
+  lists t (Err fault) is e = lacks (as_memory table widest laws t is)

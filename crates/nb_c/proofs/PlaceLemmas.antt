@@ -1,14 +1,16 @@
--- The parts of a fragment stand at the places that are answered of them.
-use Rattle.std.proofs.Common.{◌≡◌, ◌∙◌, ℕ, List, ◌++◌, length, refl, sym, ap, subst, arith, append_assoc, length-append}
+-- The parts of a packet stand at the places that are answered of them.
+use Rattle.std.proofs.Common.{◌≡◌, ◌∙◌, ℕ, List, [], ◌∷◌, ◌++◌, length, refl, sym, ap, subst, arith, append_assoc, length-append}
 use Rattle.std.proofs.Math.Seq.{take-append_seam, drop-append_seam}
 use Rattle.std.specs.Int.{w16, to_be_bytes}
 use Rattle.nb_names.specs.Labels.{StandsAt}
-use Rattle.nb_datagram.specs.declared.packet.Packet.TheVariants.{Direct}
+use Rattle.nb_datagram.specs.declared.packet.Packet.TheVariants.{Direct, Error, Query}
+use Rattle.nb_datagram.specs.declared.packet.ErrorPacket.{ErrorPacket}
+use Rattle.nb_datagram.specs.declared.packet.QueryPacket.{QueryPacket}
 use Rattle.nb_datagram.specs.Fragment.{FragmentParts, named_length}
-use Rattle.nb_datagram.specs.Header.{header_bytes}
+use Rattle.nb_datagram.specs.Header.{header_bytes, error_type, query_type}
 use Rattle.nb_datagram.specs.Kind.{type_of}
 use Rattle.nb_datagram.specs.Packet.{IsPacket, name_bytes}
-use Rattle.nb_c.specs.Datagrams.{fragment_places}
+use Rattle.nb_c.specs.Datagrams.{fragment_places, error_places, query_places}
 
 stands : (whole front bytes rest : List ℕ) (at : ℕ) → whole ≡ front ++ (bytes ++ rest) → at ≡ length front → StandsAt whole at bytes
 stands whole front bytes rest at w e =
@@ -62,3 +64,18 @@ module _ (payload : List ℕ) (f : FragmentParts) (used : ℕ) (is : IsPacket pa
         length-append (name_bytes f.source) (name_bytes f.destination),
         before_length,
       ))
+
+-- the code of an error packet stands behind its header
+pub code_stands : (payload : List ℕ) (e : ErrorPacket) (used : ℕ) → IsPacket payload (Error e) used → StandsAt payload (error_places e used).contents (e.code ∷ [])
+code_stands payload e used is =
+    let header : List ℕ = header_bytes error_type e.flags e.key in
+    stands payload header (e.code ∷ []) is.rest (error_places e used).contents
+    (is.whole ∙ append_assoc header (e.code ∷ []) is.rest) (grind (arith, length-append, is.fits.ip))
+
+-- and so does the name of a query
+pub name_stands : (payload : List ℕ) (q : QueryPacket) (used : ℕ) → IsPacket payload (Query q) used
+    → StandsAt payload (query_places q used).destination (name_bytes q.destination)
+name_stands payload q used is =
+    let header : List ℕ = header_bytes (query_type q.kind) q.flags q.key in
+    stands payload header (name_bytes q.destination) is.rest (query_places q used).destination
+    (is.whole ∙ append_assoc header (name_bytes q.destination) is.rest) (grind (arith, length-append, is.fits.0.ip))

@@ -8,7 +8,8 @@ use Rattle.nb_datagram.specs.Packet.{name_bytes}
 use Rattle.nb_table.specs.declared.fault.TableFault.{TableFault}
 use Rattle.nb_table.specs.declared.load_fault.LoadFault.{LoadFault}
 use Rattle.nb_table.specs.Contents.{Contents}
-use Rattle.nb_table.specs.LoadFaults.{IsReadAs, LoadFails}
+use Rattle.nb_table.specs.Limits.{TableValue}
+use Rattle.nb_table.specs.LoadFaults.{LoadFails}
 use Rattle.nb_table.specs.Merging.{IsRefused}
 use Rattle.nb_table.specs.Saved.{key_bytes}
 use Rattle.nb_member.specs.Events.{limits_of}
@@ -18,7 +19,7 @@ use Rattle.nb_c.specs.declared.refusal.Refusal.{Refusal}
 use Rattle.nb_c.specs.declared.refusal.Refusal.TheVariants.{Memory}
 use Rattle.nb_c.specs.Outputs.{Answers}
 use Rattle.nb_c.specs.Stations.{table_refusal}
-use Rattle.nb_c.specs.Tables.{first_refusal}
+use Rattle.nb_c.specs.Tables.{first_refusal, IsLoaded}
 
 -- what is written of a datagram: its key as in saved tables, MSG_TYPE, both spellings, how many bytes its data has, and
 -- these
@@ -50,8 +51,8 @@ pub data Joined (m : MemberValue) (moment : ℕ) (other : Contents) (room : ℕ)
 
 -- Absorbed m moment table room after answer: the same of a saved table, which is read first, under the limits of m
 pub data Absorbed (m : MemberValue) (moment : ℕ) (table : List ℕ) (room : ℕ) (after : MemberValue) : Result (List ℕ) Refusal → Type 0 where
-  read : (other : Contents) (answer : Result (List ℕ) Refusal) → IsReadAs table other
-      → Joined m moment other room after answer → Absorbed m moment table room after answer
+  read : (other : TableValue) (answer : Result (List ℕ) Refusal) → IsLoaded table (limits_of m.settings) other
+      → Joined m moment other.contents room after answer → Absorbed m moment table room after answer
   not_read : (fault : LoadFault) → LoadFails table (limits_of m.settings) fault → after ≡ m
       → Absorbed m moment table room after (Err (first_refusal fault))
   unread : after ≡ m → Absorbed m moment table room after (Err Memory)

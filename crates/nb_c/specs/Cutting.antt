@@ -1,5 +1,5 @@
 -- What the call that writes the packets of a datagram answers (RFC 1002 section 4.4.2).
-use Rattle.std.specs.Prelude.{◌≡◌, ◌==◌, ◌+◌, ◌%◌, ℕ, Bool, nat_lt, min, List, ◌++◌, length, Option, Some, None, Result, Ok, Err, if◌then◌else◌}
+use Rattle.std.specs.Prelude.{◌≡◌, ◌==◌, ◌||◌, ◌+◌, ◌%◌, ℕ, Bool, nat_lt, min, List, ◌++◌, length, Option, Some, None, Result, Ok, Err, if◌then◌else◌}
 use Rattle.std.specs.Int.{w16, w32, to_be_bytes}
 use Rattle.std.specs.List.{flat_map}
 use Rattle.nb_names.specs.declared.text_fault.TextFault.{TextFault}
@@ -63,6 +63,10 @@ cut_kind (Some kind) sent (Ok source) (Ok destination) contents =
 -- the same, by the type's number
 abbrev pub cut_names : Sent → Result NetbiosName TextFault → Result NetbiosName TextFault → List ℕ → Result (List ℕ) Refusal
 cut_names sent = cut_kind (kind_with sent.packet_type) sent
+
+-- the statuses that come after the texts, once memory is taken for the data
+abbrev pub follow_the_texts : ℕ → Bool
+follow_the_texts status = status == LONG_DATA || status == ZERO_PIECE
 
 -- Cuts sent source destination contents answer: this is answered where the names have these texts
 abbrev pub Cuts : Sent → List ℕ → List ℕ → List ℕ → Result (List ℕ) Refusal → Type 0

@@ -1,5 +1,5 @@
 -- What the call that writes packets of port 139 answers (RFC 1002 section 4.3).
-use Rattle.std.specs.Prelude.{◌≡◌, ℕ, ◌<◌, ◌≤◌, List, ◌++◌, length, Result, Ok, Err}
+use Rattle.std.specs.Prelude.{◌≡◌, ◌==◌, ℕ, Bool, not, ◌<◌, ◌≤◌, List, ◌++◌, length, Result, Ok, Err}
 use Rattle.nb_session.specs.declared.kind.Kind.{Kind}
 use Rattle.nb_session.specs.declared.limits.TheConstants.{MAX_MESSAGE}
 use Rattle.nb_session.specs.declared.parsing.Parsed.{Parsed}
@@ -32,3 +32,7 @@ pub data Writes (type : ℕ) (body : List ℕ) : Result (List ℕ) Refusal → T
       → Writes type body (Err (Fault statuses.BAD_LENGTH))
   judged : (kind : Kind) (answer : Result (List ℕ) Refusal) → type_of kind ≡ type → length body ≤ MAX_MESSAGE
       → Stands (frame kind body) answer → Writes type body answer
+
+-- the statuses that come once memory is taken for the packet: all but that of an unknown type
+abbrev pub follow_the_type : ℕ → Bool
+follow_the_type status = not (status == statuses.UNKNOWN_TYPE)

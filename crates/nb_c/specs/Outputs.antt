@@ -1,6 +1,6 @@
 -- What a call does to what its caller lends it (our choice): the front of a buffer, how many bytes it has or wants, and
 -- the place of a fault.
-use Rattle.std.specs.Prelude.{◌≡◌, ◌⊎◌, ℕ, Bool, nat_le, List, ◌++◌, length, drop, Result, Ok, Err, if◌then◌else◌, ⊤}
+use Rattle.std.specs.Prelude.{◌≡◌, ◌⊎◌, ℕ, Bool, true, false, nat_le, List, ◌++◌, length, drop, Result, Ok, Err, if◌then◌else◌, ⊤}
 use Rattle.nb_names.specs.declared.bytes.NoMemory.{NoMemory}
 use Rattle.nb_c.specs.declared.refusal.Refusal.{Refusal}
 use Rattle.nb_c.specs.declared.refusal.Refusal.TheVariants.{Memory, Fault, FaultAt}
@@ -48,27 +48,38 @@ pub record Alone (A : Type 0) (Says : Result A Refusal → Type 0) (answer : Res
   pub said : Says answer
   pub only : (other : Result A Refusal) → Says other → other ≡ answer
 
--- Judged Says answer: this is said, and nothing else, unless memory ran out
-abbrev pub Judged : (A : Type 0) → (Result A Refusal → Type 0) → Result A Refusal → Type 0
-Judged A Says (Ok value) = Alone A Says (Ok value)
-Judged A Says (Err Memory) = ⊤
-Judged A Says (Err (Fault status)) = Alone A Says (Err (Fault status))
-Judged A Says (Err (FaultAt status place)) = Alone A Says (Err (FaultAt status place))
+-- HasOne Says: at most one answer is said
+abbrev pub HasOne : (Result (List ℕ) Refusal → Type 0) → Type 0
+HasOne Says = (answer other : Result (List ℕ) Refusal) → Says answer → Says other → answer ≡ other
 
--- OrMemory expected answer: what is answered is this, unless memory ran out
-abbrev pub OrMemory : Result (List ℕ) Refusal → Result (List ℕ) Refusal → Type 0
-OrMemory expected (Ok bytes) = Ok bytes ≡ expected
-OrMemory expected (Err Memory) = ⊤
-OrMemory expected (Err (Fault status)) = Err (Fault status) ≡ expected
-OrMemory expected (Err (FaultAt status place)) = Err (FaultAt status place) ≡ expected
+-- MayLack late answer: memory may run out before this is answered: bytes, or a fault whose status is one of those that
+-- come late, after memory is taken
+abbrev pub MayLack : (ℕ → Bool) → Result (List ℕ) Refusal → Type 0
+MayLack late (Ok bytes) = ⊤
+MayLack late (Err refusal) = late (refused_status refusal) ≡ true
 
--- Does Says old new used used' at at' status: a call does what is said, and whatever is said is what it does, unless
--- memory runs out
-pub record Does (Says : Result (List ℕ) Refusal → Type 0) (old new : List ℕ) (used used' at at' status : ℕ) : Type 0 where
+-- no fault comes late: memory is taken for the bytes alone
+abbrev pub none_late : ℕ → Bool
+none_late status = false
+
+-- any fault may
+abbrev pub all_late : ℕ → Bool
+all_late status = true
+
+-- OrMemory late Says answer: this is said, or memory ran out where it may, before whatever is said
+abbrev pub OrMemory : (ℕ → Bool) → (Result (List ℕ) Refusal → Type 0) → Result (List ℕ) Refusal → Type 0
+OrMemory late Says (Ok bytes) = Says (Ok bytes)
+OrMemory late Says (Err Memory) = (answer : Result (List ℕ) Refusal) → Says answer → MayLack late answer
+OrMemory late Says (Err (Fault status)) = Says (Err (Fault status))
+OrMemory late Says (Err (FaultAt status place)) = Says (Err (FaultAt status place))
+
+-- Does late Says old new used used' at at' status: a call does what is said, and whatever is said is what it does, unless
+-- memory runs out, which it may only before what takes memory
+pub record Does (late : ℕ → Bool) (Says : Result (List ℕ) Refusal → Type 0) (old new : List ℕ) (used used' at at' status : ℕ) : Type 0 where
   pub some : Answers (Err Memory) old new used used' at at' status
       ⊎ ((answer : Result (List ℕ) Refusal) × Says answer × Answers answer old new used used' at at' status)
   pub only : (answer : Result (List ℕ) Refusal) → Says answer
-      → Answers (Err Memory) old new used used' at at' status ⊎ Answers answer old new used used' at at' status
+      → (MayLack late answer × Answers (Err Memory) old new used used' at at' status) ⊎ Answers answer old new used used' at at' status
 
 -- Filled A answer old new at at' status: a call with this answer leaves what it fills in and the place so, and has this
 -- status

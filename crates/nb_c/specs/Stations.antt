@@ -53,6 +53,18 @@ pub data AreNames : ℕ → List NetbiosName → List (List ℕ) → Result (Lis
       (name : NetbiosName) → IsRead word (Ok name) → ¬ Contains held name → length held < MAX_NAMES
       → AreNames (place + length word + 1) (held ++ name ∷ []) words answer → AreNames place held (word ∷ words) answer
 
+-- NamesText place held word new result: the text that begins at the place is added to the names that are held, and those
+-- after it then stand as they would after it; or it has the first fault, whatever comes after it; or memory ran out
+abbrev pub NamesText : ℕ → List NetbiosName → List ℕ → List NetbiosName → Result Unit Refusal → Type 0
+NamesText place held word new (Ok _) =
+    (words : List (List ℕ)) (answer : Result (List NetbiosName) Refusal) → AreNames (place + length word + 1) new words answer
+    → AreNames place held (word ∷ words) answer
+NamesText place held word new (Err Memory) = new ≡ held
+NamesText place held word new (Err (Fault status)) =
+    (words : List (List ℕ)) → AreNames place held (word ∷ words) (Err (Fault status))
+NamesText place held word new (Err (FaultAt status at)) =
+    (words : List (List ℕ)) → AreNames place held (word ∷ words) (Err (FaultAt status at))
+
 -- ---- what became of a payload
 
 -- of_key outcome k: this became of a fragment of the key k

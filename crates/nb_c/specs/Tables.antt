@@ -1,11 +1,12 @@
 -- What the calls on saved tables answer (our choice).
-use Rattle.std.specs.Prelude.{◌≡◌, ◌⊎◌, ℕ, List, Result, Ok, Err}
+use Rattle.std.specs.Prelude.{◌≡◌, ◌≢◌, ℕ, Bool, nat_le, List, Result, Ok, Err}
 use Rattle.nb_table.specs.declared.load_fault.LoadFault.{LoadFault}
 use Rattle.nb_table.specs.declared.load_fault.LoadFault.TheVariants as loads
 use Rattle.nb_table.specs.declared.fault.TableFault.{TableFault}
+use Rattle.nb_table.specs.declared.fault.TableFault.TheVariants as tables
 use Rattle.nb_table.specs.Contents.{Contents}
 use Rattle.nb_table.specs.Join.{join}
-use Rattle.nb_table.specs.Limits.{Limits}
+use Rattle.nb_table.specs.Limits.{Limits, TableValue, KeepsLimits}
 use Rattle.nb_table.specs.LoadFaults.{IsReadAs, LoadFails}
 use Rattle.nb_table.specs.Merging.{Fits, IsRefused}
 use Rattle.nb_table.specs.Saved.{saved}
@@ -13,7 +14,6 @@ use Rattle.nb_member.specs.Listing.{listing}
 use Rattle.nb_c.specs.declared.refusal.Refusal.{Refusal}
 use Rattle.nb_c.specs.declared.refusal.Refusal.TheVariants.{Memory, Fault, FaultAt}
 use Rattle.nb_c.specs.declared.statuses.TheConstants as statuses
-use Rattle.nb_c.specs.Outputs.{Answers}
 use Rattle.nb_c.specs.Stations.{table_refusal}
 
 -- why the first of two saved tables isn't read
@@ -36,19 +36,32 @@ second_refusal loads.FullSource = Fault statuses.SECOND_FULL_SOURCE
 second_refusal loads.Full = Fault statuses.SECOND_FULL
 second_refusal loads.NoMemory = Memory
 
--- Joins l s t answer: the join of the tables s and t, saved, if it is taken in under the limits l, else why not
+-- IsLoaded input limits t: the table t stands in the input, and has and keeps these limits
+pub record IsLoaded (input : List ℕ) (limits : Limits) (t : TableValue) : Type 0 where
+  pub stands : IsReadAs input t.contents
+  pub limited : t.limits ≡ limits
+  pub keeps : KeepsLimits t
+
+-- Joins l s t answer: the join of the tables s and t, saved, if it is taken in under the limits l, else why not, for
+-- another reason than want of memory
 abbrev pub Joins : Limits → Contents → Contents → Result (List ℕ) Refusal → Type 0
 Joins l s t (Ok bytes) = Fits l s t × (bytes ≡ saved (join s t))
-Joins l s t (Err refusal) = (fault : TableFault) × IsRefused l s t fault × (refusal ≡ table_refusal fault)
+Joins l s t (Err refusal) =
+    (fault : TableFault) × (fault ≢ tables.NoMemory) × IsRefused l s t fault × (refusal ≡ table_refusal fault)
 
 -- Merges first second limits answer: this is answered of two saved tables: the first is read, then the second, then
--- they are joined
+-- they are joined, each under these limits
 pub data Merges (first second : List ℕ) (limits : Limits) : Result (List ℕ) Refusal → Type 0 where
-  first_fails : (fault : LoadFault) → LoadFails first limits fault → Merges first second limits (Err (first_refusal fault))
-  second_fails : (one : Contents) (fault : LoadFault) → IsReadAs first one → LoadFails second limits fault
-      → Merges first second limits (Err (second_refusal fault))
-  joined : (one other : Contents) (answer : Result (List ℕ) Refusal) → IsReadAs first one → IsReadAs second other
-      → Joins limits one other answer → Merges first second limits answer
+  first_fails : (fault : LoadFault) → fault ≢ loads.NoMemory → LoadFails first limits fault
+      → Merges first second limits (Err (first_refusal fault))
+  second_fails : (one : TableValue) (fault : LoadFault) → IsLoaded first limits one → fault ≢ loads.NoMemory
+      → LoadFails second limits fault → Merges first second limits (Err (second_refusal fault))
+  joined : (one other : TableValue) (answer : Result (List ℕ) Refusal) → IsLoaded first limits one
+      → IsLoaded second limits other → Joins limits one.contents other.contents answer → Merges first second limits answer
+
+-- the statuses of the second table and of the join, which come after memory is taken for the first
+abbrev pub follow_the_first : ℕ → Bool
+follow_the_first status = nat_le statuses.SECOND_BAD_MAGIC status
 
 -- the limits of a table that is only listed: as many keys as a saved one can have, and the longest datagrams
 abbrev pub widest : Limits
@@ -56,14 +69,6 @@ widest = record { keys = 4294967295; per_source = 4294967295; longest = 65535 }
 
 -- Lists table answer: this is answered of a saved table: it is read, then the lines of its keys are made
 pub data Lists (table : List ℕ) : Result (List ℕ) Refusal → Type 0 where
-  not_read : (fault : LoadFault) → LoadFails table widest fault → Lists table (Err (first_refusal fault))
-  listed : (contents : Contents) → IsReadAs table contents → Lists table (Ok (listing contents))
-
--- OrNoMemory Says answer: this is said, or memory ran out
-abbrev pub OrNoMemory : (Result (List ℕ) Refusal → Type 0) → Result (List ℕ) Refusal → Type 0
-OrNoMemory Says answer = (answer ≡ Err Memory) ⊎ Says answer
-
--- Gives Says old new used used' at at' status: a call does what is said, unless memory runs out
-abbrev pub Gives : (Result (List ℕ) Refusal → Type 0) → List ℕ → List ℕ → ℕ → ℕ → ℕ → ℕ → ℕ → Type 0
-Gives Says old new used used' at at' status =
-    (answer : Result (List ℕ) Refusal) × OrNoMemory Says answer × Answers answer old new used used' at at' status
+  not_read : (fault : LoadFault) → fault ≢ loads.NoMemory → LoadFails table widest fault
+      → Lists table (Err (first_refusal fault))
+  listed : (t : TableValue) → IsLoaded table widest t → Lists table (Ok (listing t.contents))

@@ -1,10 +1,11 @@
 //! Tables of other stations, taken in by a station.
 ghost use Rattle.std.specs.Prelude.{◌≡◌, ◌++◌, IfOk, OnOk, Ok};
 ghost use Rattle.nb_c.specs.Absorbing.{Absorbed, AbsorbsInto, Hears, Joined, all_heard, heard_bytes};
-ghost use Rattle.nb_c.specs.Tables.{OrNoMemory};
+ghost use Rattle.nb_c.specs.Outputs.{OrMemory, all_late};
 ghost use Rattle.nb_table.specs.Saved.{key_bytes};
 
 use crate::handle::{NbtStation, shut, spare, swapped};
+use crate::loading::loaded;
 use crate::output::{answer_of, write_answer};
 use crate::refusal::{Refusal, first_refusal, table_refusal};
 use crate::statuses::NO_MEMORY;
@@ -12,7 +13,7 @@ use nb_datagram::{Datagram, Datagrams, Key};
 use nb_member::Member;
 use nb_member::laws::a_preview_is_what_is_handed_over;
 use nb_names::{Bytes, NoMemory};
-use nb_table::{Table, load};
+use nb_table::Table;
 use std::alloc::Global;
 
 /// Joins the saved table of another station to the station's at this moment, and writes the
@@ -52,7 +53,7 @@ fn absorb_saved(
     ensures { Absorbed member.old moment table.now room member.new result }
 {
     let settings = member.settings();
-    match load(
+    match loaded(
         alloc,
         table,
         settings.keys,
@@ -82,7 +83,7 @@ fn join(
 
 /// The bytes of the datagrams that a member would hand over.
 fn heard(alloc: Global, member: &Member, other: &Table) -> Result<Bytes, Refusal>
-    ensures { OrNoMemory (Hears member.now other.now.contents) result }
+    ensures { OrMemory all_late (Hears member.now other.now.contents) result }
 {
     match member.preview(alloc, other) {
         Err(fault) => Err(table_refusal(fault)),

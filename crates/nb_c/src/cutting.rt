@@ -1,8 +1,8 @@
 //! Datagrams, cut into packets of the datagram service.
-ghost use Rattle.std.specs.Prelude.{◌≡◌, ◌++◌, ◌≤◌, List, ℕ, length, IfOk, OnOk, MatchOption};
+ghost use Rattle.std.specs.Prelude.{◌≡◌, ◌++◌, ◌≤◌, length, IfOk, OnOk, MatchOption};
 ghost use Rattle.std.specs.List.{flat_map};
-ghost use Rattle.nb_c.specs.Cutting.{Cuts, are_long, cut_answer, cut_names, key_of, kind_with, packet_of, counted};
-ghost use Rattle.nb_c.specs.Outputs.{Does, Judged, OrMemory};
+ghost use Rattle.nb_c.specs.Cutting.{Cuts, follow_the_texts, are_long, cut_answer, cut_names, key_of, kind_with, packet_of, counted};
+ghost use Rattle.nb_c.specs.Outputs.{Does, HasOne, OrMemory};
 ghost use Rattle.nb_datagram.specs.declared.limits.TheConstants.{MAX_LENGTH};
 ghost use Rattle.nb_datagram.specs.Pieces.{pieces};
 
@@ -49,7 +49,7 @@ pub extern "C" fn nbt_datagram_write(
     used: &mut usize,
     at: &mut usize,
 ) -> u32
-    ensures { Does (Cuts (record {
+    ensures { Does follow_the_texts (Cuts (record {
       packet_type = packet_type;
       identifier = identifier;
       address = address;
@@ -81,7 +81,9 @@ fn answer(
     destination: &[u8],
     contents: &[u8],
 ) -> Result<Bytes, Refusal>
-    ensures { Judged (List ℕ) (Cuts sent source.now destination.now contents.now) result }
+    ensures answer { OrMemory follow_the_texts
+        (Cuts sent source.now destination.now contents.now) result }
+    ensures one { HasOne (Cuts sent source.now destination.now contents.now) }
 {
     // For the clause: a text has one name or one fault. The calls do nothing.
     one_name();
@@ -103,7 +105,8 @@ fn packets(
     destination: Result<Name, TextFault>,
     contents: &[u8],
 ) -> Result<Bytes, Refusal>
-    ensures { OrMemory (cut_names sent source destination contents.now) result }
+    ensures { OrMemory follow_the_texts
+        (λ answer. answer ≡ cut_names sent source destination contents.now) result }
 {
     match kind_with(sent.packet_type) {
         None => Err(Refusal::Fault(UNKNOWN_TYPE)),
@@ -138,7 +141,7 @@ fn cut_data(
     destination: Name,
     contents: &[u8],
 ) -> Result<Bytes, Refusal>
-    ensures { OrMemory (cut_answer (record {
+    ensures { OrMemory follow_the_texts (λ answer. answer ≡ cut_answer (record {
       key = key_of sent;
       kind = kind;
       source = source;
@@ -169,7 +172,7 @@ fn key_of(sent: Sent) -> Key
 /// The packets of a datagram.
 fn cut_whole(alloc: Global, datagram: &Datagram, most: u16) -> Result<Bytes, Refusal>
     requires { length datagram.now.bytes ≤ MAX_LENGTH }
-    ensures { OrMemory (cut_answer datagram.now most) result }
+    ensures { OrMemory follow_the_texts (λ answer. answer ≡ cut_answer datagram.now most) result }
 {
     if most == 0 {
         return Err(Refusal::Fault(ZERO_PIECE));

@@ -1,13 +1,14 @@
 //! Packets of the session service, written.
 ghost use Rattle.std.specs.Prelude.{◌≡◌, ◌++◌, ◌≤◌, List, ℕ, length, IfOk};
-ghost use Rattle.nb_c.specs.Framing.{Stands, Writes, frame};
-ghost use Rattle.nb_c.specs.Outputs.{Alone, Does, Judged};
+ghost use Rattle.nb_c.specs.Framing.{Stands, Writes, follow_the_type, frame};
+ghost use Rattle.nb_c.specs.Outputs.{Alone, Does, HasOne, OrMemory};
 ghost use Rattle.nb_session.specs.declared.limits.TheConstants.{MAX_MESSAGE};
 
 use crate::output::write_answer;
 use crate::refusal::{Refusal, session_refusal};
 use crate::statuses::{BAD_LENGTH, MORE, UNKNOWN_TYPE};
 use nb_names::{Bytes, NoMemory};
+use nb_session::laws::one_answer;
 use nb_session::limits::{HEADER_LENGTH, MAX_MESSAGE};
 use nb_session::{Kind, Parsed, parse};
 use std::alloc::Global;
@@ -24,7 +25,7 @@ pub extern "C" fn nbt_session_write(
     used: &mut usize,
     at: &mut usize,
 ) -> u32
-    ensures { Does (Writes packet_type body.now)
+    ensures { Does follow_the_type (Writes packet_type body.now)
         into.old into.new used.old used.new at.old at.new result }
 {
     write_answer(packet_of(alloc, packet_type, body), into, used, at)
@@ -32,8 +33,11 @@ pub extern "C" fn nbt_session_write(
 
 /// The packet with this type and this body.
 fn packet_of(alloc: Global, packet_type: u8, body: &[u8]) -> Result<Bytes, Refusal>
-    ensures { Judged (List ℕ) (Writes packet_type body.now) result }
+    ensures answer { OrMemory follow_the_type (Writes packet_type body.now) result }
+    ensures one { HasOne (Writes packet_type body.now) }
 {
+    // For the clause; the call does nothing.
+    one_answer();
     match Kind::of_type(packet_type) {
         None => Err(Refusal::Fault(UNKNOWN_TYPE)),
         Some(kind) => {

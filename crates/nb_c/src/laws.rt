@@ -1,13 +1,39 @@
 //! Laws of the definitions that the contracts cite. Each is proved; a call does nothing.
-ghost use Rattle.std.specs.Prelude.{◌≡◌, ℕ, List};
+ghost use Rattle.std.specs.Prelude.{◌≡◌, ◌<◌, ◌≤◌, ◌+◌, [], ◌∷◌, ℕ, List, Result, Err};
+ghost use Rattle.nb_names.specs.declared.fault.NameFault.{NameFault};
+ghost use Rattle.nb_names.specs.declared.fault.NameFault.TheVariants as names;
+ghost use Rattle.nb_names.specs.declared.text_fault.TextFault.{TextFault};
+ghost use Rattle.nb_names.specs.declared.text_fault.TextFault.TheVariants as texts;
 ghost use Rattle.nb_names.specs.Labels.{StandsAt};
-ghost use Rattle.nb_datagram.specs.declared.packet.Packet.TheVariants.{Direct};
+ghost use Rattle.nb_names.specs.Name.{NetbiosName};
+ghost use Rattle.nb_service.specs.Requests.{query_packet, status_packet, registration_packet, refresh_packet, release_packet};
+ghost use Rattle.nb_session.specs.declared.fault.SessionFault.TheVariants as sessions;
+ghost use Rattle.nb_datagram.specs.declared.fault.DatagramFault.TheVariants as datagrams;
+ghost use Rattle.nb_datagram.specs.declared.fault.DatagramFault.TheVariants.{SourceName, DestinationName};
+ghost use Rattle.nb_datagram.specs.declared.key.Key.{Key};
+ghost use Rattle.nb_datagram.specs.declared.packet.Packet.TheVariants.{Direct, Error, Query};
+ghost use Rattle.nb_datagram.specs.declared.packet.ErrorPacket.{ErrorPacket};
+ghost use Rattle.nb_datagram.specs.declared.packet.QueryPacket.{QueryPacket};
 ghost use Rattle.nb_datagram.specs.Fragment.{FragmentParts};
 ghost use Rattle.nb_datagram.specs.Packet.{IsPacket, name_bytes};
-ghost use Rattle.nb_c.specs.Datagrams.{fragment_places};
+ghost use Rattle.nb_c.specs.Datagrams.{fragment_places, error_places, query_places};
+ghost use Rattle.nb_c.specs.Tables.{Lists, Merges, first_refusal, second_refusal};
+ghost use Rattle.nb_c.specs.Outputs.{refused_status};
+ghost use Rattle.nb_c.specs.Requests.{named_answer, request_answer, requested};
+ghost use Rattle.nb_c.specs.Stations.{place_in, table_refusal};
+ghost use Rattle.nb_c.specs.Statuses.{text_refusal, source_text_refusal, destination_text_refusal, name_refusal, datagram_refusal, session_refusal};
+ghost use Rattle.nb_c.specs.declared.refusal.Refusal.{Refusal};
+ghost use Rattle.nb_c.specs.declared.refusal.Refusal.TheVariants.{Memory, Fault, FaultAt};
+ghost use Rattle.nb_c.specs.declared.service.Asked.{Asked};
+ghost use Rattle.nb_c.specs.declared.taken.TheConstants.{KEPT, SPOILT, DELIVERED, UNHEARD, OTHER, REFUSED, TAKE_ROOM};
+ghost use Rattle.nb_table.specs.declared.fault.TableFault.TheVariants as joins;
+ghost use Rattle.nb_table.specs.declared.load_fault.LoadFault.TheVariants as loads;
+ghost use Rattle.nb_table.specs.Limits.{Limits};
 ghost use Rattle.nb_c.specs.declared.statuses.TheConstants.{DONE, NO_ROOM, NO_MEMORY, BAD_TEXT, LONG_TEXT, SOURCE_BAD_TEXT, SOURCE_LONG_TEXT, DESTINATION_BAD_TEXT, DESTINATION_LONG_TEXT, NAME_TRUNCATED, NAME_RESERVED_LABEL, NAME_POINTER, NAME_LONG, NAME_NOT_NETBIOS, NAME_TRAILING_BYTES, NAME_BAD_POINTER, SOURCE_TRUNCATED, SOURCE_RESERVED_LABEL, SOURCE_POINTER, SOURCE_LONG, SOURCE_NOT_NETBIOS, SOURCE_BAD_POINTER, DESTINATION_TRUNCATED, DESTINATION_RESERVED_LABEL, DESTINATION_POINTER, DESTINATION_LONG, DESTINATION_NOT_NETBIOS, DESTINATION_BAD_POINTER, TRUNCATED, UNKNOWN_TYPE, MORE, RESERVED_FLAGS, BAD_LENGTH, TRAILING_BYTES, UNKNOWN_REQUEST, ZERO_PIECE, LONG_DATA, TABLE_BAD_MAGIC, TABLE_TRUNCATED, TABLE_NOT_CANONICAL, TABLE_LONG, TABLE_FULL_SOURCE, TABLE_FULL, SECOND_BAD_MAGIC, SECOND_TRUNCATED, SECOND_NOT_CANONICAL, SECOND_LONG, SECOND_FULL_SOURCE, SECOND_FULL, MISPLACED_FIRST, LONG, FULL_SOURCE, FULL, NAME_PRESENT, TOO_MANY_NAMES, UNKNOWN_STATUS};
 
-/// The number of each status.
+use nb_table::laws::{an_input_is_read_as_one_table, saved_bytes_have_one_reading};
+
+/// The number of each status, of what became of a payload, and of the room for it.
 pub fn numbers()
     ensures outcomes { (DONE ≡ 0) × (NO_ROOM ≡ 1) × (NO_MEMORY ≡ 2) }
     ensures texts { (BAD_TEXT ≡ 10) × (LONG_TEXT ≡ 11) × (SOURCE_BAD_TEXT ≡ 12)
@@ -34,9 +60,101 @@ pub fn numbers()
         × (FULL_SOURCE ≡ 92) × (FULL ≡ 93) }
     ensures stations { (NAME_PRESENT ≡ 100) × (TOO_MANY_NAMES ≡ 101) }
     ensures unknown { (UNKNOWN_STATUS ≡ 255) }
+    ensures payloads { (KEPT ≡ 0) × (SPOILT ≡ 1) × (DELIVERED ≡ 2) × (UNHEARD ≡ 3)
+        × (OTHER ≡ 4) × (REFUSED ≡ 5) }
+    ensures room { TAKE_ROOM ≡ 66045 }
 {}
 
-/// The names and the data of a fragment stand in the payload where they are said to stand.
+/// Each fault has a status of its own, and its place if it has one. Two share theirs: the unknown
+/// types of ports 138 and 139. The faults of a source's name have those of a name and 10, of a
+/// destination's 20, and of the second table those of the first and 10.
+pub fn each_fault_has_its_status()
+    ensures texts { (place : ℕ) → (text_refusal (texts.BadText place) ≡ FaultAt 10 place)
+        × (text_refusal texts.TooLong ≡ Fault 11)
+        × (source_text_refusal (texts.BadText place) ≡ FaultAt 12 place)
+        × (source_text_refusal texts.TooLong ≡ Fault 13)
+        × (destination_text_refusal (texts.BadText place) ≡ FaultAt 14 place)
+        × (destination_text_refusal texts.TooLong ≡ Fault 15) }
+    ensures names { (place : ℕ) → (name_refusal (names.Truncated place) ≡ FaultAt 20 place)
+        × (name_refusal (names.ReservedLabel place) ≡ FaultAt 21 place)
+        × (name_refusal (names.PointerNotAllowed place) ≡ FaultAt 22 place)
+        × (name_refusal (names.TooLong place) ≡ FaultAt 23 place)
+        × (name_refusal (names.NotNetbios place) ≡ FaultAt 24 place)
+        × (name_refusal (names.BadPointer place) ≡ FaultAt 26 place) }
+    ensures sources { (fault : NameFault) →
+        (refused_status (datagram_refusal (SourceName fault))
+        ≡ refused_status (name_refusal fault) + 10)
+        × (place_in (datagram_refusal (SourceName fault)) ≡ place_in (name_refusal fault)) }
+    ensures destinations { (fault : NameFault) →
+        (refused_status (datagram_refusal (DestinationName fault))
+        ≡ refused_status (name_refusal fault) + 20)
+        × (place_in (datagram_refusal (DestinationName fault)) ≡ place_in (name_refusal fault)) }
+    ensures datagrams { (place : ℕ) →
+        (datagram_refusal (datagrams.Truncated place) ≡ FaultAt 50 place)
+        × (datagram_refusal datagrams.UnknownType ≡ Fault 51) }
+    ensures sessions { (place : ℕ) → (session_refusal sessions.UnknownType ≡ Fault 51)
+        × (session_refusal sessions.ReservedFlags ≡ Fault 53)
+        × (session_refusal sessions.BadLength ≡ Fault 54)
+        × (session_refusal (sessions.TrailingBytes place) ≡ FaultAt 55 place) }
+    ensures called { (fault : NameFault) →
+        session_refusal (sessions.Name fault) ≡ name_refusal fault }
+    ensures tables { (place : ℕ) → (first_refusal loads.BadMagic ≡ Fault 70)
+        × (first_refusal loads.Truncated ≡ Fault 71)
+        × (first_refusal (loads.NotCanonical place) ≡ FaultAt 72 place)
+        × (first_refusal loads.TooLong ≡ Fault 73) × (first_refusal loads.FullSource ≡ Fault 74)
+        × (first_refusal loads.Full ≡ Fault 75) × (first_refusal loads.NoMemory ≡ Memory) }
+    ensures seconds { (place : ℕ) → (second_refusal loads.BadMagic ≡ Fault 80)
+        × (second_refusal loads.Truncated ≡ Fault 81)
+        × (second_refusal (loads.NotCanonical place) ≡ FaultAt 82 place)
+        × (second_refusal loads.TooLong ≡ Fault 83) × (second_refusal loads.FullSource ≡ Fault 84)
+        × (second_refusal loads.Full ≡ Fault 85) × (second_refusal loads.NoMemory ≡ Memory) }
+    ensures joins { (key : Key) → (table_refusal joins.MisplacedFirst ≡ Fault 90)
+        × (table_refusal joins.TooLong ≡ Fault 91) × (table_refusal (joins.FullSource key) ≡ Fault 92)
+        × (table_refusal (joins.Full key) ≡ Fault 93) × (table_refusal joins.NoMemory ≡ Memory) }
+{}
+
+/// The numbers 0 to 4 are requests, and no other is.
+pub fn five_numbers_are_requests()
+    ensures query { (asked : Asked) (name : NetbiosName) (entry : List ℕ) → asked.request ≡ 0 →
+        requested asked name entry ≡ query_packet asked.identifier name asked.broadcast }
+    ensures node_status { (asked : Asked) (name : NetbiosName) (entry : List ℕ) →
+        asked.request ≡ 1 →
+        requested asked name entry ≡ status_packet asked.identifier name asked.broadcast }
+    ensures registration { (asked : Asked) (name : NetbiosName) (entry : List ℕ) →
+        asked.request ≡ 2 → requested asked name entry
+        ≡ registration_packet asked.identifier name asked.broadcast asked.time_to_live entry }
+    ensures refresh { (asked : Asked) (name : NetbiosName) (entry : List ℕ) → asked.request ≡ 3 →
+        requested asked name entry
+        ≡ refresh_packet asked.identifier name asked.broadcast asked.time_to_live entry }
+    ensures release { (asked : Asked) (name : NetbiosName) (entry : List ℕ) → asked.request ≡ 4 →
+        requested asked name entry
+        ≡ release_packet asked.identifier name asked.broadcast entry }
+    ensures known { (asked : Asked) (read : Result NetbiosName TextFault) → asked.request ≤ 4 →
+        request_answer asked read ≡ named_answer asked read }
+    ensures unknown { (asked : Asked) (read : Result NetbiosName TextFault) → 4 < asked.request →
+        request_answer asked read ≡ Err (Fault 60) }
+{}
+
+/// Of two saved tables one thing is answered, the join of both or one fault.
+pub fn a_merge_has_one_answer()
+    ensures { (first second : List ℕ) (limits : Limits) (answer other : Result (List ℕ) Refusal) →
+        Merges first second limits answer → Merges first second limits other → answer ≡ other }
+{
+    an_input_is_read_as_one_table();
+    saved_bytes_have_one_reading();
+}
+
+/// Of a saved table one thing is answered, the lines of its keys or one fault.
+pub fn a_table_has_one_list()
+    ensures { (table : List ℕ) (answer other : Result (List ℕ) Refusal) →
+        Lists table answer → Lists table other → answer ≡ other }
+{
+    an_input_is_read_as_one_table();
+    saved_bytes_have_one_reading();
+}
+
+/// The names and the data of a fragment, the code of an error packet and the name of a query stand in
+/// the payload where they are said to stand.
 pub fn parts_stand_at_their_places()
     ensures source { (payload : List ℕ) (f : FragmentParts) (used : ℕ) →
         IsPacket payload (Direct f) used →
@@ -47,4 +165,10 @@ pub fn parts_stand_at_their_places()
     ensures bytes { (payload : List ℕ) (f : FragmentParts) (used : ℕ) →
         IsPacket payload (Direct f) used →
         StandsAt payload (fragment_places f used).contents f.bytes }
+    ensures code { (payload : List ℕ) (e : ErrorPacket) (used : ℕ) →
+        IsPacket payload (Error e) used →
+        StandsAt payload (error_places e used).contents (e.code ∷ []) }
+    ensures query { (payload : List ℕ) (q : QueryPacket) (used : ℕ) →
+        IsPacket payload (Query q) used →
+        StandsAt payload (query_places q used).destination (name_bytes q.destination) }
 {}

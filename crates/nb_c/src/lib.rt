@@ -8,6 +8,7 @@ pub mod framing;
 mod handle;
 mod kept;
 pub mod laws;
+mod loading;
 pub mod names;
 mod naming;
 mod output;

@@ -1,8 +1,8 @@
 //! Names, as texts and as spellings.
-ghost use Rattle.std.specs.Prelude.{◌≡◌, List, ℕ, IfOk};
+ghost use Rattle.std.specs.Prelude.{◌≡◌, IfOk};
 ghost use Rattle.nb_names.specs.NameText.{written};
 ghost use Rattle.nb_c.specs.Names.{Spells, Tells, spelling_answer};
-ghost use Rattle.nb_c.specs.Outputs.{Does, Judged, OrMemory};
+ghost use Rattle.nb_c.specs.Outputs.{Does, HasOne, OrMemory, none_late};
 
 use crate::output::{answer_of, write_answer};
 use crate::refusal::{Refusal, name_refusal, text_refusal};
@@ -24,7 +24,7 @@ pub extern "C" fn nbt_name_spell(
     used: &mut usize,
     at: &mut usize,
 ) -> u32
-    ensures { Does (Spells text.now) into.old into.new used.old used.new at.old at.new result }
+    ensures { Does none_late (Spells text.now) into.old into.new used.old used.new at.old at.new result }
 {
     write_answer(spelling_of(alloc, text), into, used, at)
 }
@@ -40,14 +40,15 @@ pub extern "C" fn nbt_name_text(
     used: &mut usize,
     at: &mut usize,
 ) -> u32
-    ensures { Does (Tells spelling.now) into.old into.new used.old used.new at.old at.new result }
+    ensures { Does none_late (Tells spelling.now) into.old into.new used.old used.new at.old at.new result }
 {
     write_answer(text_of(alloc, spelling), into, used, at)
 }
 
 /// The spelling of the name with this text.
 fn spelling_of(alloc: Global, text: &[u8]) -> Result<Bytes, Refusal>
-    ensures { Judged (List ℕ) (Spells text.now) result }
+    ensures answer { OrMemory none_late (Spells text.now) result }
+    ensures one { HasOne (Spells text.now) }
 {
     // For the clause: a text has one name or one fault. The calls do nothing.
     one_name();
@@ -57,7 +58,7 @@ fn spelling_of(alloc: Global, text: &[u8]) -> Result<Bytes, Refusal>
 
 /// The spelling of a name, if one was read.
 fn spelling_read(alloc: Global, read: Result<Name, TextFault>) -> Result<Bytes, Refusal>
-    ensures { OrMemory (spelling_answer read) result }
+    ensures { OrMemory none_late (λ answer. answer ≡ spelling_answer read) result }
 {
     match read {
         Ok(name) => answer_of(write_domain(alloc, &name.to_domain())),
@@ -67,7 +68,8 @@ fn spelling_read(alloc: Global, read: Result<Name, TextFault>) -> Result<Bytes, 
 
 /// The text of the name with this spelling.
 fn text_of(alloc: Global, spelling: &[u8]) -> Result<Bytes, Refusal>
-    ensures { Judged (List ℕ) (Tells spelling.now) result }
+    ensures answer { OrMemory none_late (Tells spelling.now) result }
+    ensures one { HasOne (Tells spelling.now) }
 {
     // For the clause: a spelling has one name or one fault. The calls do nothing.
     one_reading();

@@ -1,4 +1,6 @@
 //! The names of a station, read from their texts.
+ghost use Rattle.std.specs.Prelude.{◌+◌, ◌<◌, length};
+ghost use Rattle.nb_c.specs.Stations.{NamesText};
 
 use crate::refusal::Refusal;
 use crate::statuses::{BAD_TEXT, LONG_TEXT, NAME_PRESENT, TOO_MANY_NAMES};
@@ -22,7 +24,10 @@ pub(crate) fn names_of(alloc: Global, texts: &[u8]) -> Result<LocalNames, Refusa
 }
 
 /// Adds the name with this text, which begins at a place.
-fn add(text: &[u8], place: usize, names: &mut LocalNames) -> Result<(), Refusal> {
+fn add(text: &[u8], place: usize, names: &mut LocalNames) -> Result<(), Refusal>
+    ensures { place + length text.now < 18446744073709551616 →
+        NamesText place names.old text.now names.new result }
+{
     match name_of_text(text) {
         Ok(name) => match names.add(name) {
             Ok(()) => Ok(()),

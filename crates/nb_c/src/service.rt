@@ -1,6 +1,6 @@
 //! Requests of the name service, written.
-ghost use Rattle.std.specs.Prelude.{◌≡◌, List, ℕ, IfOk};
-ghost use Rattle.nb_c.specs.Outputs.{Does, Judged, OrMemory};
+ghost use Rattle.std.specs.Prelude.{◌≡◌, IfOk};
+ghost use Rattle.nb_c.specs.Outputs.{Does, HasOne, OrMemory, none_late};
 ghost use Rattle.nb_c.specs.Requests.{Requests, entry_of, request_answer, requested};
 ghost use Rattle.nb_service.specs.Encoding.{packet_bytes};
 ghost use Rattle.nb_service.specs.Views.{entry_bytes};
@@ -55,7 +55,7 @@ pub extern "C" fn nbt_service_request(
     used: &mut usize,
     at: &mut usize,
 ) -> u32
-    ensures { Does (Requests (record {
+    ensures { Does none_late (Requests (record {
       request = request;
       identifier = identifier;
       broadcast = broadcast;
@@ -77,7 +77,8 @@ pub extern "C" fn nbt_service_request(
 
 /// The request about the name with this text.
 fn answer(alloc: Global, asked: Asked, text: &[u8]) -> Result<Bytes, Refusal>
-    ensures { Judged (List ℕ) (Requests asked text.now) result }
+    ensures answer { OrMemory none_late (Requests asked text.now) result }
+    ensures one { HasOne (Requests asked text.now) }
 {
     // For the clause: a text has one name or one fault. The calls do nothing.
     one_name();
@@ -91,7 +92,7 @@ fn request_read(
     asked: Asked,
     read: Result<Name, TextFault>,
 ) -> Result<Bytes, Refusal>
-    ensures { OrMemory (request_answer asked read) result }
+    ensures { OrMemory none_late (λ answer. answer ≡ request_answer asked read) result }
 {
     if asked.request > RELEASE {
         return Err(Refusal::Fault(UNKNOWN_REQUEST));

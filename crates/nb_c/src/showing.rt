@@ -1,6 +1,6 @@
 //! The texts of packets.
 ghost use Rattle.std.specs.Prelude.{IfOk};
-ghost use Rattle.nb_c.specs.Outputs.{Does};
+ghost use Rattle.nb_c.specs.Outputs.{Does, none_late};
 ghost use Rattle.nb_c.specs.Showing.{Shows};
 ghost use Rattle.nb_text.specs.Shown.{Shown};
 
@@ -21,7 +21,7 @@ pub extern "C" fn nbt_show(
     into: &mut [u8],
     used: &mut usize,
 ) -> u32
-    ensures { Does (Shows payload.now port) into.old into.new used.old used.new 0 0 result }
+    ensures { Does none_late (Shows payload.now port) into.old into.new used.old used.new 0 0 result }
 {
     // For the clause: a payload has one text. The call does nothing.
     one_text();
@@ -33,6 +33,6 @@ fn shown(alloc: Global, port: u16, payload: &[u8]) -> Result<Bytes, NoMemory>
     ensures { IfOk result (Shown payload.now port) }
 {
     let mut text = String::new(alloc);
-    push_packet(alloc, port, payload, &mut text)?;
+    push_packet(port, payload, &mut text)?;
     Ok(Bytes::from_vec(text.into_bytes()))
 }

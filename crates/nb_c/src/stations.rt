@@ -1,9 +1,10 @@
 //! Stations: made, shown the clock, saved and given back.
 ghost use Rattle.std.specs.Prelude.{◌≡◌, Ok};
-ghost use Rattle.nb_c.specs.Outputs.{Does};
+ghost use Rattle.nb_c.specs.Outputs.{Does, none_late};
 ghost use Rattle.nb_c.specs.Stations.{Ticks};
 ghost use Rattle.nb_table.specs.Saved.{saved as saved_bytes};
-ghost use Rattle.nb_member.specs.Member.{contents};
+ghost use Rattle.nb_member.specs.Member.{contents, new_member};
+ghost use Rattle.std.specs.Int.{w32, to_be_bytes};
 
 use crate::handle::{NbtStation, opened, shut, spare, swapped};
 use crate::kept::Kept;
@@ -30,6 +31,33 @@ pub extern "C" fn nbt_station_create(
     station: &mut *mut (),
     at: &mut usize,
 ) -> u32 {
+    match names_of(alloc, names) {
+        Ok(names) => {
+            let member = member_of(alloc, names, address, port, keys, per_source);
+            create(alloc, member, station)
+        }
+        Err(refusal) => refuse(refusal, at),
+    }
+}
+
+/// A member with these names and an empty table with these limits, whose error packets have this
+/// address and port.
+fn member_of(
+    alloc: Global,
+    names: LocalNames,
+    address: u32,
+    port: u16,
+    keys: u32,
+    per_source: u32,
+) -> Member
+    ensures { result ≡ new_member (record {
+      ip = to_be_bytes w32 address;
+      port = port;
+      keys = keys;
+      per_source = per_source;
+      longest = 65535;
+    }) names }
+{
     let settings = Settings {
         ip: address.to_be_bytes(),
         port,
@@ -37,15 +65,11 @@ pub extern "C" fn nbt_station_create(
         per_source,
         longest: LONGEST,
     };
-    match names_of(alloc, names) {
-        Ok(names) => create(alloc, settings, names, station),
-        Err(refusal) => refuse(refusal, at),
-    }
+    Member::new(alloc, settings, names)
 }
 
-/// Makes a station with these settings and names, and answers the pointer to it.
-fn create(alloc: Global, settings: Settings, names: LocalNames, station: &mut *mut ()) -> u32 {
-    let member = Member::new(alloc, settings, names);
+/// Makes the station that this member is, and answers the pointer to it.
+fn create(alloc: Global, member: Member, station: &mut *mut ()) -> u32 {
     match Box::new(alloc, Kept { member }) {
         Ok(kept) => {
             *station = Box::into_raw(kept) as *mut ();
@@ -87,7 +111,7 @@ pub extern "C" fn nbt_station_save(
     into: &mut [u8],
     used: &mut usize,
 ) -> u32
-    ensures saved { Does (λ answer. answer ≡ Ok (saved_bytes (contents station.old.value.member)))
+    ensures saved { Does none_late (λ answer. answer ≡ Ok (saved_bytes (contents station.old.value.member)))
         into.old into.new used.old used.new 0 0 result }
     ensures stays { station.new.value ≡ station.old.value }
 {

@@ -1,14 +1,18 @@
 //! Saved tables, joined and listed.
 ghost use Rattle.std.specs.Prelude.{◌≡◌, IfOk};
-ghost use Rattle.nb_c.specs.Tables.{Gives, Joins, Lists, Merges, OrNoMemory};
+ghost use Rattle.nb_c.specs.Tables.{Joins, Lists, Merges, follow_the_first};
+ghost use Rattle.nb_c.specs.Outputs.{Does, OrMemory, none_late};
 ghost use Rattle.nb_member.specs.Listing.{listing};
 
+use crate::laws::{a_merge_has_one_answer, a_table_has_one_list};
+use crate::loading::loaded;
 use crate::output::{answer_of, write_answer};
 use crate::refusal::{Refusal, first_refusal, second_refusal, table_refusal};
 use crate::stations::LONGEST;
 use nb_member::list_keys;
 use nb_names::{Bytes, NoMemory};
-use nb_table::{Table, load};
+use nb_table::Table;
+use nb_table::laws::{an_input_is_read_as_one_table, saved_bytes_have_one_reading};
 use std::alloc::Global;
 
 /// Writes the join of two saved tables, saved, where each of the three has room for so many keys,
@@ -26,12 +30,14 @@ pub extern "C" fn nbt_table_merge(
     used: &mut usize,
     at: &mut usize,
 ) -> u32
-    ensures { Gives (Merges first.now second.now (record {
+    ensures { Does follow_the_first (Merges first.now second.now (record {
       keys = keys;
       per_source = per_source;
       longest = 65535;
     })) into.old into.new used.old used.new at.old at.new result }
 {
+    // For the clause; the call does nothing.
+    a_merge_has_one_answer();
     write_answer(
         merged(alloc, first, second, keys, per_source),
         into,
@@ -48,15 +54,18 @@ fn merged(
     keys: u32,
     per_source: u32,
 ) -> Result<Bytes, Refusal>
-    ensures { OrNoMemory (Merges first.now second.now (record {
+    ensures { OrMemory follow_the_first (Merges first.now second.now (record {
       keys = keys;
       per_source = per_source;
       longest = 65535;
     })) result }
 {
-    match load(alloc, first, keys, per_source, LONGEST) {
+    // For the clause; the calls do nothing.
+    an_input_is_read_as_one_table();
+    saved_bytes_have_one_reading();
+    match loaded(alloc, first, keys, per_source, LONGEST) {
         Err(fault) => Err(first_refusal(fault)),
-        Ok(mut table) => match load(alloc, second, keys, per_source, LONGEST) {
+        Ok(mut table) => match loaded(alloc, second, keys, per_source, LONGEST) {
             Err(fault) => Err(second_refusal(fault)),
             Ok(other) => joined(&mut table, other),
         },
@@ -65,7 +74,8 @@ fn merged(
 
 /// The join of a table and another, saved.
 fn joined(table: &mut Table, other: Table) -> Result<Bytes, Refusal>
-    ensures { OrNoMemory (Joins table.old.limits table.old.contents other.contents) result }
+    ensures { OrMemory follow_the_first
+        (Joins table.old.limits table.old.contents other.contents) result }
 {
     match table.take_in(other) {
         Err(fault) => Err(table_refusal(fault)),
@@ -84,16 +94,22 @@ pub extern "C" fn nbt_table_list(
     used: &mut usize,
     at: &mut usize,
 ) -> u32
-    ensures { Gives (Lists table.now) into.old into.new used.old used.new at.old at.new result }
+    ensures { Does none_late (Lists table.now)
+        into.old into.new used.old used.new at.old at.new result }
 {
+    // For the clause; the call does nothing.
+    a_table_has_one_list();
     write_answer(listed(alloc, table), into, used, at)
 }
 
 /// The lines of a saved table's keys.
 fn listed(alloc: Global, table: &[u8]) -> Result<Bytes, Refusal>
-    ensures { OrNoMemory (Lists table.now) result }
+    ensures { OrMemory none_late (Lists table.now) result }
 {
-    match load(alloc, table, u32::MAX, u32::MAX, LONGEST) {
+    // For the clause; the calls do nothing.
+    an_input_is_read_as_one_table();
+    saved_bytes_have_one_reading();
+    match loaded(alloc, table, u32::MAX, u32::MAX, LONGEST) {
         Err(fault) => Err(first_refusal(fault)),
         Ok(table) => answer_of(lines_of(alloc, &table)),
     }

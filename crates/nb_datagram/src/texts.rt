@@ -1,5 +1,8 @@
 //! Keys and kinds as text.
+#![tactic(auto, using(nb_names::specs::GrowthFacts::front_stays))]
+
 ghost use Rattle.std.specs.Prelude.{◌≡◌, ◌++◌, OnOk, string_bytes};
+ghost use Rattle.nb_names.specs.Growth.{OnlyAdds};
 ghost use Rattle.nb_datagram.specs.Texts.{key_text, kind_text};
 
 use crate::key::Key;
@@ -15,7 +18,8 @@ use nb_names::{NoMemory, push_address, push_number, push_word};
 ///
 /// The form is our choice.
 pub fn push_key(key: Key, text: &mut String) -> Result<(), NoMemory>
-    ensures { OnOk result (string_bytes text.new ≡ string_bytes text.old ++ key_text key) }
+    ensures added { OnOk result (string_bytes text.new ≡ string_bytes text.old ++ key_text key) }
+    ensures front { OnlyAdds (string_bytes text.old) (string_bytes text.new) }
 {
     push_address(key.ip, text)?;
     text.push_str(":")?;

@@ -22,7 +22,7 @@ pub fn answer(line: &mut Line<'_>, call: &str) {
 /// A payload's text, or nothing where memory ran out.
 fn shown(alloc: Global, port: u16, payload: &[u8]) -> Option<String> {
     let mut text = String::new(alloc);
-    match push_packet(alloc, port, payload, &mut text) {
+    match push_packet(port, payload, &mut text) {
         Ok(()) => Some(text),
         Err(_) => None,
     }

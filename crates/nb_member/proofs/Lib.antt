@@ -10,3 +10,4 @@ pub mod AgreementLemmas
 pub mod ReplayLemmas
 pub mod ReportLemmas
 pub mod LineLemmas
+pub mod ListingLemmas

@@ -8,8 +8,7 @@ ghost use Rattle.nb_names.specs.Hexadecimal.{DataText};
 use crate::limits::{MAX_LINE, MAX_MOMENT_DIGITS};
 use crate::line::Line;
 use crate::line_fault::LineFault;
-use nb_names::{Bytes, DigitsFault, data_of_text};
-use percent_encoding::ascii_str;
+use nb_names::{Bytes, DigitsFault, ascii_str, data_of_text};
 use std::alloc::Global;
 
 /// What a line of a capture says, or nothing where it is empty or a comment.

@@ -1,6 +1,9 @@
 //! Writing the comments of captures.
-ghost use Rattle.std.specs.Prelude.{◌≡◌, ◌++◌, OnOk, string_bytes};
+#![tactic(auto, using(nb_names::specs::GrowthFacts::front_stays))]
+
+ghost use Rattle.std.specs.Prelude.{◌≡◌, ◌++◌, [], IsOk, OnOk, string_bytes};
 ghost use Rattle.std.specs.List.{flat_map};
+ghost use Rattle.nb_names.specs.Growth.{OnlyAdds};
 ghost use Rattle.nb_member.specs.Comments.{blank_text, byte_text, comment_text, is_printable as is_printable_byte};
 
 use crate::comments::Comments;
@@ -13,12 +16,16 @@ use nb_names::{NoMemory, push_digits};
 ///
 /// # Errors
 ///
-/// [`NoMemory`] where memory ran out; some of the text may then be added.
+/// [`NoMemory`] where memory ran out. What stood in the text is still its front; some of the
+/// comment may stand after it.
 ///
 /// The form is our choice.
 pub fn push_comment(comments: Comments, line: &[u8], text: &mut String) -> Result<(), NoMemory>
-    ensures { OnOk result
+    ensures added { OnOk result
         (string_bytes text.new ≡ string_bytes text.old ++ blank_text comments line.now) }
+    ensures front { OnlyAdds (string_bytes text.old) (string_bytes text.new) }
+    ensures left_out { comments ≡ Comments.LeftOut → IsOk result }
+    ensures empty { line.now ≡ [] → IsOk result }
 {
     match comments {
         Comments::LeftOut => Ok(()),
@@ -28,8 +35,10 @@ pub fn push_comment(comments: Comments, line: &[u8], text: &mut String) -> Resul
 
 /// Adds a comment and a line feed, or nothing of an empty line.
 fn push_line(line: &[u8], text: &mut String) -> Result<(), NoMemory>
-    ensures { OnOk result
+    ensures added { OnOk result
         (string_bytes text.new ≡ string_bytes text.old ++ comment_text line.now) }
+    ensures front { OnlyAdds (string_bytes text.old) (string_bytes text.new) }
+    ensures empty { line.now ≡ [] → IsOk result }
 {
     if line.is_empty() {
         return Ok(());
@@ -41,8 +50,9 @@ fn push_line(line: &[u8], text: &mut String) -> Result<(), NoMemory>
 
 /// Adds the bytes of a comment.
 fn push_bytes(bytes: &[u8], text: &mut String) -> Result<(), NoMemory>
-    ensures { OnOk result
+    ensures added { OnOk result
         (string_bytes text.new ≡ string_bytes text.old ++ flat_map byte_text bytes.now) }
+    ensures front { OnlyAdds (string_bytes text.old) (string_bytes text.new) }
 {
     for byte in bytes {
         push_byte(*byte, text)?;
@@ -52,7 +62,8 @@ fn push_bytes(bytes: &[u8], text: &mut String) -> Result<(), NoMemory>
 
 /// Adds a byte of a comment.
 fn push_byte(byte: u8, text: &mut String) -> Result<(), NoMemory>
-    ensures { OnOk result (string_bytes text.new ≡ string_bytes text.old ++ byte_text byte) }
+    ensures added { OnOk result (string_bytes text.new ≡ string_bytes text.old ++ byte_text byte) }
+    ensures front { OnlyAdds (string_bytes text.old) (string_bytes text.new) }
 {
     if is_printable(byte) {
         text.push(char::from(byte))?;

@@ -23,6 +23,7 @@ ghost use Rattle.nb_member.specs.Agreement.{valid, NoneDropped, GiveTheSame};
 
 mod deliveries;
 mod events;
+mod listings;
 mod merging;
 
 pub use deliveries::{
@@ -30,6 +31,7 @@ pub use deliveries::{
     once_is_one_or_none,
 };
 pub use events::each_event_says_something;
+pub use listings::a_key_that_is_absent_is_listed_as_spoilt;
 pub use merging::{
     a_new_member_stands_for_no_event, a_preview_is_what_is_handed_over,
     merging_gives_the_table_of_both,

@@ -184,6 +184,8 @@ fn wanted_of(left: u64) -> usize
     ensures few { result ≤ MAX_READ }
     ensures none { left ≡ 0 → result ≡ 1 }
     ensures within { 0 < left → result ≤ left }
+    ensures rest { 0 < left → left < MAX_READ → result ≡ left }
+    ensures many { MAX_READ ≤ left → result ≡ MAX_READ }
 {
     if left == 0 {
         1

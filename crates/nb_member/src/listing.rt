@@ -1,5 +1,11 @@
 //! What a table knows of its keys, a line for each.
-ghost use Rattle.std.specs.Prelude.{◌≡◌, ◌++◌, IfOk, OnOk, string_bytes};
+#![tactic(auto, using(nb_names::specs::GrowthFacts::front_stays))]
+
+ghost use Rattle.std.specs.Prelude.{◌≡◌, ◌++◌, codes, IfOk, OnOk, string_bytes};
+ghost use Rattle.nb_names.specs.Growth.{OnlyAdds};
+ghost use Rattle.std.specs.Fmt.{decimal};
+ghost use Rattle.nb_names.specs.NameText.{written};
+ghost use Rattle.nb_datagram.specs.Texts.{kind_text};
 ghost use Rattle.nb_table.specs.Outline.{outline_at};
 ghost use Rattle.nb_table.specs.Ranges.{ranges_at};
 ghost use Rattle.nb_table.specs.Whole.{datagram_at};
@@ -7,7 +13,7 @@ ghost use Rattle.nb_member.specs.Listing.{end_text, key_line, known_text, listin
 
 use crate::report::texts::push_parts;
 use nb_datagram::{Key, kind_name, push_key};
-use nb_names::{NoMemory, push_name};
+use nb_names::{NoMemory, push_name, push_number};
 use nb_table::{Outline, PlaceRange, Ranges, Table};
 use std::alloc::Global;
 
@@ -27,14 +33,17 @@ pub fn list_keys(alloc: Global, table: &Table) -> Result<String, NoMemory>
     Ok(lines)
 }
 
-/// Adds the line of a key that is held, as [`list_keys`] has it.
+/// Adds the line of a key that is held, as [`list_keys`] has it. Of one that isn't held it says
+/// `spoilt`: whoever has such keys asks the table first.
 ///
 /// # Errors
 ///
-/// `NoMemory` where memory ran out; some of the line may then be added.
+/// `NoMemory` where memory ran out. What stood in the text is still its front; some of the line may
+/// stand after it.
 pub fn push_key_line(table: &Table, key: Key, text: &mut String) -> Result<(), NoMemory>
-    ensures { OnOk result
+    ensures added { OnOk result
         (string_bytes text.new ≡ string_bytes text.old ++ key_line table.now.contents key) }
+    ensures front { OnlyAdds (string_bytes text.old) (string_bytes text.new) }
 {
     push_key(key, text)?;
     push_known(table, &key, text)?;
@@ -44,9 +53,10 @@ pub fn push_key_line(table: &Table, key: Key, text: &mut String) -> Result<(), N
 
 /// Adds what is known of a key that is held.
 fn push_known(table: &Table, key: &Key, text: &mut String) -> Result<(), NoMemory>
-    ensures { OnOk result (string_bytes text.new ≡ string_bytes text.old
+    ensures added { OnOk result (string_bytes text.new ≡ string_bytes text.old
         ++ known_text (datagram_at table.now.contents key.now)
         (outline_at table.now.contents key.now) (ranges_at table.now.contents key.now)) }
+    ensures front { OnlyAdds (string_bytes text.old) (string_bytes text.new) }
 {
     if let Some(datagram) = table.datagram(key)? {
         text.push_str(" whole")?;
@@ -66,8 +76,9 @@ fn push_known(table: &Table, key: &Key, text: &mut String) -> Result<(), NoMemor
 
 /// Adds what is known of a datagram that isn't whole, the ranges of its known places among it.
 fn push_partial(outline: &Outline, ranges: Ranges<'_>, text: &mut String) -> Result<(), NoMemory>
-    ensures { OnOk result (string_bytes text.new
+    ensures added { OnOk result (string_bytes text.new
         ≡ string_bytes text.old ++ partial_text outline.now ranges.entry) }
+    ensures front { OnlyAdds (string_bytes text.old) (string_bytes text.new) }
 {
     push_outline(outline, text)?;
     text.push_str(" ")?;
@@ -77,8 +88,9 @@ fn push_partial(outline: &Outline, ranges: Ranges<'_>, text: &mut String) -> Res
 
 /// Adds ranges of places, with a comma between two, or `-` where there is none.
 fn push_ranges(mut ranges: Ranges<'_>, text: &mut String) -> Result<(), NoMemory>
-    ensures { OnOk result
+    ensures added { OnOk result
         (string_bytes text.new ≡ string_bytes text.old ++ ranges_text ranges.entry) }
+    ensures front { OnlyAdds (string_bytes text.old) (string_bytes text.new) }
 {
     match ranges.next() {
         Some(range) => {
@@ -94,8 +106,9 @@ fn push_ranges(mut ranges: Ranges<'_>, text: &mut String) -> Result<(), NoMemory
 
 /// Adds further ranges of places, with a comma before each.
 fn push_more_ranges(ranges: Ranges<'_>, text: &mut String) -> Result<(), NoMemory>
-    ensures { OnOk result
+    ensures added { OnOk result
         (string_bytes text.new ≡ string_bytes text.old ++ more_ranges_text ranges.entry) }
+    ensures front { OnlyAdds (string_bytes text.old) (string_bytes text.new) }
 {
     for range in ranges {
         text.push_str(",")?;
@@ -106,49 +119,75 @@ fn push_more_ranges(ranges: Ranges<'_>, text: &mut String) -> Result<(), NoMemor
 
 /// Adds a range: its first place, and the one after its last.
 fn push_range(range: PlaceRange, text: &mut String) -> Result<(), NoMemory>
-    ensures { OnOk result (string_bytes text.new ≡ string_bytes text.old ++ range_text range) }
+    ensures added { OnOk result (string_bytes text.new ≡ string_bytes text.old ++ range_text range) }
+    ensures front { OnlyAdds (string_bytes text.old) (string_bytes text.new) }
 {
-    let from = range.from;
-    let to = range.to;
-    write!(text, "{from}-{to}")?;
-    Ok(())
+    push_number(u64::from(range.from), text)?;
+    text.push_str("-")?;
+    push_number(u64::from(range.to), text)
 }
 
 /// Adds the place of a promise that reaches past all that is known, where there is one.
 fn push_more(awaited: Option<u32>, text: &mut String) -> Result<(), NoMemory>
-    ensures { OnOk result (string_bytes text.new ≡ string_bytes text.old ++ more_text awaited) }
+    ensures added { OnOk result (string_bytes text.new ≡ string_bytes text.old ++ more_text awaited) }
+    ensures front { OnlyAdds (string_bytes text.old) (string_bytes text.new) }
 {
     if let Some(place) = awaited {
-        write!(text, " more {place}")?;
+        text.push_str(" more ")?;
+        push_number(u64::from(place), text)?;
     }
     Ok(())
 }
 
 /// Adds what is known of a datagram that isn't whole but for its places.
 fn push_outline(outline: &Outline, text: &mut String) -> Result<(), NoMemory>
-    ensures { OnOk result
+    ensures added { OnOk result
         (string_bytes text.new ≡ string_bytes text.old ++ outline_text outline.now) }
+    ensures front { OnlyAdds (string_bytes text.old) (string_bytes text.new) }
+{
+    push_stations(outline, text)?;
+    push_counts(outline, text)
+}
+
+/// Adds a datagram's kind, and its names.
+fn push_stations(outline: &Outline, text: &mut String) -> Result<(), NoMemory>
+    ensures added { OnOk result (string_bytes text.new ≡ string_bytes text.old
+        ++ (kind_text outline.now.kind ++ (codes " " ++ (written outline.now.source
+        ++ (codes " " ++ written outline.now.destination))))) }
+    ensures front { OnlyAdds (string_bytes text.old) (string_bytes text.new) }
 {
     text.push_str(kind_name(outline.kind))?;
     text.push_str(" ")?;
     push_name(text, &outline.source)?;
     text.push_str(" ")?;
-    push_name(text, &outline.destination)?;
-    let held = outline.held;
-    write!(text, " {held}/")?;
+    push_name(text, &outline.destination)
+}
+
+/// Adds how many bytes are held of how many, and in how many runs.
+fn push_counts(outline: &Outline, text: &mut String) -> Result<(), NoMemory>
+    ensures added { OnOk result (string_bytes text.new ≡ string_bytes text.old
+        ++ (codes " " ++ (decimal outline.now.held ++ (codes "/" ++ (end_text outline.now.end
+        ++ (codes " " ++ decimal outline.now.runs)))))) }
+    ensures front { OnlyAdds (string_bytes text.old) (string_bytes text.new) }
+{
+    text.push_str(" ")?;
+    push_number(u64::from(outline.held), text)?;
+    text.push_str("/")?;
     push_end(outline.end, text)?;
-    let runs = outline.runs;
-    write!(text, " {runs}")?;
-    Ok(())
+    text.push_str(" ")?;
+    push_number(u64::from(outline.runs), text)
 }
 
 /// Adds how many bytes a datagram has, or `?`.
 fn push_end(end: Option<u32>, text: &mut String) -> Result<(), NoMemory>
-    ensures { OnOk result (string_bytes text.new ≡ string_bytes text.old ++ end_text end) }
+    ensures added { OnOk result (string_bytes text.new ≡ string_bytes text.old ++ end_text end) }
+    ensures front { OnlyAdds (string_bytes text.old) (string_bytes text.new) }
 {
     match end {
-        Some(end) => write!(text, "{end}")?,
-        None => text.push_str("?")?,
+        Some(end) => push_number(u64::from(end), text),
+        None => {
+            text.push_str("?")?;
+            Ok(())
+        }
     }
-    Ok(())
 }

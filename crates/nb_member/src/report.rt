@@ -1,6 +1,7 @@
 //! The lines of a replay's report.
-ghost use Rattle.std.specs.Prelude.{◌≡◌, ◌++◌, codes, IfOk, string_bytes};
+ghost use Rattle.std.specs.Prelude.{◌≡◌, ◌≤◌, ◌+◌, ◌*◌, ◌++◌, [], codes, IfOk, IsOk, string_bytes};
 ghost use Rattle.std.specs.Fmt.{decimal};
+ghost use Rattle.nb_datagram.specs.declared.limits.TheConstants.{MAX_LENGTH};
 ghost use Rattle.nb_member.specs.Comments.{blank_text};
 ghost use Rattle.nb_member.specs.Report.{numbered, result_text};
 
@@ -19,7 +20,9 @@ const USUAL_ROOM: usize = 160;
 
 /// The report's line about a line that is a comment or empty: the comment, or nothing.
 pub fn comment_line(alloc: Global, comments: Comments, line: &[u8]) -> Result<String, NoMemory>
-    ensures { IfOk result (λ text. string_bytes text ≡ blank_text comments line.now) }
+    ensures written { IfOk result (λ text. string_bytes text ≡ blank_text comments line.now) }
+    ensures left_out { comments ≡ Comments.LeftOut → IsOk result }
+    ensures empty { line.now ≡ [] → IsOk result }
 {
     let mut text = String::new(alloc);
     push_comment(comments, line, &mut text)?;
@@ -66,7 +69,9 @@ pub fn taken_line(
 }
 
 /// The room that a line about this takes, in bytes, long scopes aside.
-fn room_for(taken: &Result<Outcome, MemberFault>) -> usize {
+fn room_for(taken: &Result<Outcome, MemberFault>) -> usize
+    ensures few { result ≤ 160 + 2 * MAX_LENGTH }
+{
     match taken {
         Ok(Outcome::Delivered(datagram)) => USUAL_ROOM + 2 * datagram.bytes().len(),
         _ => USUAL_ROOM,

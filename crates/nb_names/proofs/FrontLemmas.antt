@@ -4,14 +4,15 @@ use Rattle.std.proofs.lemmas.List.{take-append-drop, take-take, take_more, take_
 use Rattle.nb_names.specs.declared.text_steps.Stage.{Stage}
 use Rattle.nb_names.specs.declared.text_steps.Stage.TheVariants.{Front, FrontEscape, FrontDigit, Suffix, SuffixDigit, SuffixEnd, Closed, LabelStart, Label, LabelEscape, LabelDigit}
 use Rattle.nb_names.specs.declared.text_steps.Added.{Added}
-use Rattle.nb_names.specs.declared.text_steps.Added.TheVariants.{LabelEnd}
-use Rattle.nb_names.specs.NameText.{Parts, IsFormed, IsFront, IsBad, IsText, IsFaultOf}
+use Rattle.nb_names.specs.declared.text_steps.Added.TheVariants.{FrontByte, Last, LabelByte, LabelEnd}
+use Rattle.nb_names.specs.NameText.{IsHexDigit, byte_of, Parts, IsFormed, IsFront, IsBad, IsText, IsFaultOf}
 use Rattle.nb_names.specs.Name.{NetbiosName}
 use Rattle.nb_names.specs.declared.text_fault.TextFault.{TextFault}
 use Rattle.nb_names.specs.declared.text_fault.TextFault.TheVariants.{BadText, TooLong}
-use Rattle.nb_names.specs.Code.TextSteps.{Taken, nothing_taken, takes, step, run, parts_of, finish, parts_read}
-use Rattle.nb_names.proofs.TextRunLemmas.{ended, run-append, parts_read-form}
-use Rattle.nb_names.proofs.TextReachLemmas.{form-parts_read}
+use Rattle.nb_names.specs.Code.Digits.{pair_byte}
+use Rattle.nb_names.specs.Code.TextSteps.{Taken, nothing_taken, takes, second_digit, step, run, parts_of, finish, parts_read}
+use Rattle.nb_names.proofs.TextRunLemmas.{ended, run-append, run_on, second_digit-hex, parts_read-form}
+use Rattle.nb_names.proofs.TextReachLemmas.{Reached, start_reached, run_reached, form-parts_read}
 
 -- what completes a text from a stage
 completion : Stage → List ℕ
@@ -27,19 +28,48 @@ completion Label = []
 completion LabelEscape = 48 ∷ 48 ∷ []
 completion (LabelDigit _) = 48 ∷ []
 
-completes : (s : Stage) (t : Taken) → (parts : Parts) × (ended (run s t (completion s)) ≡ Some parts)
-unfolding completion
-completes Front t = (_, refl)
-completes FrontEscape t = (_, refl)
-completes (FrontDigit _) t = (_, refl)
-completes Suffix t = (_, refl)
-completes (SuffixDigit _) t = (_, refl)
-completes SuffixEnd t = (_, refl)
-completes Closed t = (_, refl)
-completes LabelStart t = (_, refl)
-completes Label t = (_, refl)
-completes LabelEscape t = (_, refl)
-completes (LabelDigit _) t = (_, refl)
+-- a stage that remembers a digit remembers one
+HasDigit : Stage → Type 0
+HasDigit (FrontDigit high) = IsHexDigit high
+HasDigit (SuffixDigit high) = IsHexDigit high
+HasDigit (LabelDigit high) = IsHexDigit high
+HasDigit _ = Unit {0}
+
+has_digit : (s : Stage) (t : Taken) (done : List ℕ) → Reached s t done → HasDigit s
+unfolding HasDigit
+has_digit (FrontDigit high) t done (d, f, digit, e) = digit
+has_digit (SuffixDigit high) t done (d, f, digit, e) = digit
+has_digit (LabelDigit high) t done (d, l, digit, e) = digit
+has_digit Front t done r = tt
+has_digit FrontEscape t done r = tt
+has_digit Suffix t done r = tt
+has_digit SuffixEnd t done r = tt
+has_digit Closed t done r = tt
+has_digit LabelStart t done r = tt
+has_digit Label t done r = tt
+has_digit LabelEscape t done r = tt
+
+-- a zero ends an escape, or the byte after `<`
+zero_behind : (high : ℕ) (t : Taken) (next : Stage) (adds : ℕ → Added) (rest : List ℕ) (s : Stage) → IsHexDigit high
+    → step s 48 ≡ second_digit (pair_byte high 48) next adds
+    → run s t (48 ∷ rest) ≡ run next (takes t (adds (byte_of high 48))) rest
+zero_behind high t next adds rest s digit is =
+    run_on s t 48 rest (next, adds (byte_of high 48)) (is ∙ second_digit-hex high 48 next adds digit (omega arith))
+
+completes : (s : Stage) (t : Taken) → HasDigit s → (parts : Parts) × (ended (run s t (completion s)) ≡ Some parts)
+unfolding completion HasDigit
+completes Front t h = (_, refl)
+completes FrontEscape t h = (_, refl)
+completes (FrontDigit high) t h =
+    (_, ap ended (zero_behind high t Front FrontByte (60 ∷ 48 ∷ 48 ∷ 62 ∷ []) (FrontDigit high) h refl))
+completes Suffix t h = (_, refl)
+completes (SuffixDigit high) t h = (_, ap ended (zero_behind high t SuffixEnd Last (62 ∷ []) (SuffixDigit high) h refl))
+completes SuffixEnd t h = (_, refl)
+completes Closed t h = (_, refl)
+completes LabelStart t h = (_, refl)
+completes Label t h = (_, refl)
+completes LabelEscape t h = (_, refl)
+completes (LabelDigit high) t h = (_, ap ended (zero_behind high t Label LabelByte [] (LabelDigit high) h refl))
 
 -- a text whose reading ends in parts is formed; one whose reading doesn't isn't
 pub formed_if_read : (text : List ℕ) (parts : Parts) → parts_read text ≡ Some parts → IsFormed text
@@ -57,7 +87,9 @@ none_behind front rest e = ap ended (run-append Front nothing_taken front rest �
 -- some text of the form begins with what the steps read
 pub front_if_run : (text : List ℕ) (count : ℕ) (s : Stage) (t : Taken) → run Front nothing_taken (take count text) ≡ Some (s, t) → IsFront text count
 front_if_run text count s t e =
-    let whole = completes s t in
+    let reached = run_reached Front nothing_taken [] (take count text) start_reached in
+    let digit = has_digit s t (take count text) (rw e at reached) in
+    let whole = completes s t digit in
     (completion s, formed_if_read (take count text ++ completion s) whole.0 (read_behind s t (take count text) (completion s) e ∙ whole.1))
 
 -- no text of the form begins with what they refuse, or with more

@@ -24,3 +24,4 @@ pub mod LetterLemmas
 pub mod DataLemmas
 pub mod PlainLemmas
 pub mod AddressLemmas
+pub mod ShownLemmas

@@ -1,14 +1,16 @@
 -- What the steps read as parts has the form with these parts.
-use Rattle.std.proofs.Common.{◌≡◌, ◌==◌, ℕ, ◌+◌, ◌*◌, ◌<◌, Bool, true, false, IfSome, List, [], ◌∷◌, ◌++◌, length, Option, Some, None, option_and_then, if◌then◌else◌, nat_lt, refl, ◌∙◌, ap, arith, append_assoc, append-nil}
+use Rattle.std.proofs.Common.{◌≡◌, ◌==◌, ◌&&◌, ℕ, ◌<◌, ◌≤◌, Bool, true, false, inl, inr, IfSome, List, [], ◌∷◌, ◌++◌, length, Option, Some, None, option_and_then, if◌then◌else◌, nat_lt, refl, ◌∙◌, ap, arith, append_assoc, append-nil}
 use Rattle.std.specs.Char.{digit_value}
-use Rattle.std.proofs.lemmas.Bool.{ltb-true, eqb-true}
+use Rattle.std.proofs.lemmas.Bool.{cases_lt, ltb-true, eqb-true}
+use Rattle.std.proofs.lemmas.Bool.Decides.{nat_tests}
 use Rattle.std.proofs.lemmas.List.{length-append}
 use Rattle.nb_names.specs.declared.text_steps.Stage.{Stage}
 use Rattle.nb_names.specs.declared.text_steps.Stage.TheVariants.{Front, FrontEscape, FrontDigit, Suffix, SuffixDigit, SuffixEnd, Closed, LabelStart, Label, LabelEscape, LabelDigit}
 use Rattle.nb_names.specs.declared.text_steps.Added.{Added}
 use Rattle.nb_names.specs.declared.text_steps.Added.TheVariants.{Nothing, FrontByte, Last, LabelByte, LabelEnd}
 use Rattle.nb_names.specs.NameText.{is_plain, IsHexDigit, byte_of, Item, plain, escaped, Items, no_item, more_items, ScopeText, no_label, more_labels, Parts, HasForm}
-use Rattle.nb_names.specs.Code.TextSteps.{digit_step, step, step_in_front, step_in_label, Taken, nothing_taken, takes, run, parts_of, finish, parts_read}
+use Rattle.nb_names.specs.Code.Digits.{pair_byte}
+use Rattle.nb_names.specs.Code.TextSteps.{first_digit, second_digit, step, step_in_front, step_in_label, Taken, nothing_taken, takes, run, parts_of, finish, parts_read}
 
 -- ---- items and labels at an end
 
@@ -42,24 +44,19 @@ pub record InLabel (t : Taken) (done : List ℕ) : Type 0 where
   pub row : Items t.label items
   pub whole : done ≡ text ++ 46 ∷ items
 
--- Digit value digit: the digit has the value
-pub record Digit (value digit : ℕ) : Type 0 where
-  pub is : value ≡ digit_value digit
-  pub hex : IsHexDigit digit
-
 -- Reached stage t done: what the bytes read so far are, where a reading stands here with this taken
 abbrev pub Reached : Stage → Taken → List ℕ → Type 0
 Reached Front t done = InFront t done
 Reached FrontEscape t done = (d : List ℕ) × InFront t d × (done ≡ d ++ 92 ∷ [])
-Reached (FrontDigit high) t done = (d : List ℕ) × (c : ℕ) × InFront t d × Digit high c × (done ≡ d ++ 92 ∷ c ∷ [])
+Reached (FrontDigit high) t done = (d : List ℕ) × InFront t d × IsHexDigit high × (done ≡ d ++ 92 ∷ high ∷ [])
 Reached Suffix t done = (d : List ℕ) × InFront t d × (done ≡ d ++ 60 ∷ [])
-Reached (SuffixDigit high) t done = (d : List ℕ) × (c : ℕ) × InFront t d × Digit high c × (done ≡ d ++ 60 ∷ c ∷ [])
+Reached (SuffixDigit high) t done = (d : List ℕ) × InFront t d × IsHexDigit high × (done ≡ d ++ 60 ∷ high ∷ [])
 Reached SuffixEnd t done = (d : List ℕ) × (c e : ℕ) × InFront t d × IsHexDigit c × IsHexDigit e × (t.last ≡ byte_of c e) × (done ≡ d ++ 60 ∷ c ∷ e ∷ [])
 Reached Closed t done = HasForm (parts_of t) done × (t.label ≡ [])
 Reached LabelStart t done = InLabel t done × (t.label ≡ [])
 Reached Label t done = InLabel t done × (0 < length t.label)
 Reached LabelEscape t done = (d : List ℕ) × InLabel t d × (done ≡ d ++ 92 ∷ [])
-Reached (LabelDigit high) t done = (d : List ℕ) × (c : ℕ) × InLabel t d × Digit high c × (done ≡ d ++ 92 ∷ c ∷ [])
+Reached (LabelDigit high) t done = (d : List ℕ) × InLabel t d × IsHexDigit high × (done ≡ d ++ 92 ∷ high ∷ [])
 
 -- ---- what a step leads to
 
@@ -70,11 +67,24 @@ some_if : {X : Type 0} (Q : X → Type 0) (b : Bool) (x : X) (o : Option X) → 
 some_if Q true x o p q = p refl
 some_if Q false x o p q = q
 
-some_digit : (Q : Stage × Added → Type 0) (c : ℕ) (next : ℕ → Stage × Added) → (IsHexDigit c → Q (next (digit_value c))) → IfSome (digit_step c next) Q
-some_digit Q c next p = some_if Q (nat_lt (digit_value c) 16) (next (digit_value c)) None (λ e. p (ltb-true (digit_value c) 16 e)) tt
+second_if : (Q : Stage × Added → Type 0) (both : Bool) (byte : ℕ) (next : Stage) (adds : ℕ → Added) → Q (next, adds byte)
+    → IfSome (second_digit (if both then Some byte else None) next adds) Q
+second_if Q true byte next adds q = q
+second_if Q false byte next adds q = tt
 
-escaped_at : (value high low : ℕ) → Digit value high → IsHexDigit low → Item (value * 16 + digit_value low) (92 ∷ high ∷ low ∷ [])
-escaped_at value high low digit h = rw digit.is (escaped high low digit.hex h)
+not_digit : (first : Bool) (value : ℕ) → 16 ≤ value → (first && nat_lt value 16) ≡ false
+not_digit true value big = grind (arith, nat_tests)
+not_digit false value big = refl
+
+some_first : (Q : Stage × Added → Type 0) (c : ℕ) (next : Stage) → (IsHexDigit c → Q (next, Nothing)) → IfSome (first_digit c next) Q
+some_first Q c next p = some_if Q (nat_lt (digit_value c) 16) (next, Nothing) None (λ e. p (ltb-true (digit_value c) 16 e)) tt
+
+some_second : (Q : Stage × Added → Type 0) (high c : ℕ) (next : Stage) (adds : ℕ → Added) → (IsHexDigit c → Q (next, adds (byte_of high c)))
+    → IfSome (second_digit (pair_byte high c) next adds) Q
+some_second Q high c next adds p = elim (cases_lt (digit_value c) 16) [
+  | inl hex ↦ second_if Q (nat_lt (digit_value high) 16 && nat_lt (digit_value c) 16) (byte_of high c) next adds (p hex)
+  | inr big ↦ rw (not_digit (nat_lt (digit_value high) 16) (digit_value c) big) tt
+]
 
 -- what is reached after a byte
 abbrev After : Taken → List ℕ → ℕ → Stage × Added → Type 0
@@ -135,15 +145,15 @@ suffix_ends t done c (d, high, low, f, h, l, last, whole) is = (
 reached_step : (s : Stage) (t : Taken) (done : List ℕ) (c : ℕ) → Reached s t done → IfSome (step s c) (After t done c)
 reached_step Front t done c f = front_step t done c f
 reached_step FrontEscape t done c (d, f, e) =
-    some_digit (After t done c) c (λ high. (FrontDigit high, Nothing)) (λ hex. (d, c, f, record { is = refl; hex = hex }, further d done (92 ∷ []) (c ∷ []) e))
-reached_step (FrontDigit high) t done c (d, first, f, digit, e) =
-    some_digit (After t done c) c (λ low. (Front, FrontByte (high * 16 + low))) (λ hex.
-    rw (further d done (92 ∷ first ∷ []) (c ∷ []) e) (front_item t d f (high * 16 + digit_value c) (92 ∷ first ∷ c ∷ []) (escaped_at high first c digit hex)))
+    some_first (After t done c) c (FrontDigit c) (λ hex. (d, f, hex, further d done (92 ∷ []) (c ∷ []) e))
+reached_step (FrontDigit high) t done c (d, f, digit, e) =
+    some_second (After t done c) high c Front FrontByte (λ hex.
+    rw (further d done (92 ∷ high ∷ []) (c ∷ []) e) (front_item t d f (byte_of high c) (92 ∷ high ∷ c ∷ []) (escaped high c digit hex)))
 reached_step Suffix t done c (d, f, e) =
-    some_digit (After t done c) c (λ high. (SuffixDigit high, Nothing)) (λ hex. (d, c, f, record { is = refl; hex = hex }, further d done (60 ∷ []) (c ∷ []) e))
-reached_step (SuffixDigit high) t done c (d, first, f, digit, e) =
-    some_digit (After t done c) c (λ low. (SuffixEnd, Last (high * 16 + low))) (λ hex.
-    (d, first, c, record { items = f.items; scope = f.scope; label = f.label }, digit.hex, hex, ap (λ (value : ℕ). value * 16 + digit_value c) digit.is, further d done (60 ∷ first ∷ []) (c ∷ []) e))
+    some_first (After t done c) c (SuffixDigit c) (λ hex. (d, f, hex, further d done (60 ∷ []) (c ∷ []) e))
+reached_step (SuffixDigit high) t done c (d, f, digit, e) =
+    some_second (After t done c) high c SuffixEnd Last (λ hex.
+    (d, high, c, record { items = f.items; scope = f.scope; label = f.label }, digit, hex, refl, further d done (60 ∷ high ∷ []) (c ∷ []) e))
 reached_step SuffixEnd t done c r =
     some_if (After t done c) (c == 62) (Closed, Nothing) None (λ e. suffix_ends t done c r (eqb-true c 62 e)) tt
 reached_step Closed t done c (form, none) =
@@ -152,10 +162,10 @@ reached_step LabelStart t done c (l, _) = label_step t done c l
 reached_step Label t done c (l, some) =
     some_if (After t done c) (c == 46) (LabelStart, LabelEnd) _ (λ e. (label_begun (takes t LabelEnd) done c (ended_label t done l some) refl (eqb-true c 46 e), refl)) (label_step t done c l)
 reached_step LabelEscape t done c (d, l, e) =
-    some_digit (After t done c) c (λ high. (LabelDigit high, Nothing)) (λ hex. (d, c, l, record { is = refl; hex = hex }, further d done (92 ∷ []) (c ∷ []) e))
-reached_step (LabelDigit high) t done c (d, first, l, digit, e) =
-    some_digit (After t done c) c (λ low. (Label, LabelByte (high * 16 + low))) (λ hex.
-    rw (further d done (92 ∷ first ∷ []) (c ∷ []) e) (label_item t d l (high * 16 + digit_value c) (92 ∷ first ∷ c ∷ []) (escaped_at high first c digit hex)))
+    some_first (After t done c) c (LabelDigit c) (λ hex. (d, l, hex, further d done (92 ∷ []) (c ∷ []) e))
+reached_step (LabelDigit high) t done c (d, l, digit, e) =
+    some_second (After t done c) high c Label LabelByte (λ hex.
+    rw (further d done (92 ∷ high ∷ []) (c ∷ []) e) (label_item t d l (byte_of high c) (92 ∷ high ∷ c ∷ []) (escaped high c digit hex)))
 
 -- ---- runs
 

@@ -1,5 +1,5 @@
 -- A text that has the form with some parts is read by the steps as these parts.
-use Rattle.std.proofs.Common.{◌≡◌, ◌==◌, ◌||◌, ℕ, ◌+◌, ◌*◌, ◌<◌, Bool, true, false, IsTrue, List, [], ◌∷◌, ◌++◌, length, Option, Some, None, option_and_then, if◌then◌else◌, refl, ◌∙◌, ap, arith, append_assoc, append-nil}
+use Rattle.std.proofs.Common.{◌≡◌, ◌==◌, ◌||◌, ℕ, ◌<◌, Bool, true, false, IsTrue, List, [], ◌∷◌, ◌++◌, length, Option, Some, None, option_and_then, if◌then◌else◌, refl, ◌∙◌, ap, arith, append_assoc, append-nil}
 use Rattle.std.specs.Char.{digit_value}
 use Rattle.std.proofs.lemmas.Bool.{lt-ltb}
 use Rattle.nb_names.specs.declared.text_steps.Stage.{Stage}
@@ -7,7 +7,8 @@ use Rattle.nb_names.specs.declared.text_steps.Stage.TheVariants.{Front, FrontEsc
 use Rattle.nb_names.specs.declared.text_steps.Added.{Added}
 use Rattle.nb_names.specs.declared.text_steps.Added.TheVariants.{Nothing, FrontByte, Last, LabelByte, LabelEnd}
 use Rattle.nb_names.specs.NameText.{is_plain, IsHexDigit, byte_of, Item, plain, escaped, Items, no_item, more_items, ScopeText, no_label, more_labels, Parts, HasForm}
-use Rattle.nb_names.specs.Code.TextSteps.{digit_step, step, step_in_front, step_in_label, Taken, nothing_taken, takes, run, finish, parts_read}
+use Rattle.nb_names.specs.Code.Digits.{pair_byte}
+use Rattle.nb_names.specs.Code.TextSteps.{first_digit, second_digit, step, step_in_front, step_in_label, Taken, nothing_taken, takes, run, finish, parts_read}
 
 -- ---- runs
 
@@ -30,8 +31,12 @@ run_on s t c rest next e = ap (option_and_then (λ (n : Stage × Added). run n.0
 
 -- ---- steps
 
-pub digit_step-hex : (c : ℕ) (next : ℕ → Stage × Added) → IsHexDigit c → digit_step c next ≡ Some (next (digit_value c))
-digit_step-hex c next h = rw (lt-ltb (digit_value c) 16 h) refl
+first_digit-hex : (c : ℕ) (next : Stage) → IsHexDigit c → first_digit c next ≡ Some (next, Nothing)
+first_digit-hex c next h = rw (lt-ltb (digit_value c) 16 h) refl
+
+pub second_digit-hex : (high low : ℕ) (next : Stage) (adds : ℕ → Added) → IsHexDigit high → IsHexDigit low
+    → second_digit (pair_byte high low) next adds ≡ Some (next, adds (byte_of high low))
+second_digit-hex high low next adds h l = rw (lt-ltb (digit_value high) 16 h, lt-ltb (digit_value low) 16 l) refl
 
 not_first : (a b c d e : Bool) → (if a || b || c || d then false else e) ≡ true → a ≡ false
 not_first true b c d e h = absurd (cc)
@@ -59,8 +64,8 @@ step-label_plain c p = otherwise (c == 46) (Some (LabelStart, LabelEnd)) (step_i
 front_item : (b : ℕ) (item : List ℕ) → Item b item → (t : Taken) (rest : List ℕ) → run Front t (item ++ rest) ≡ run Front (takes t (FrontByte b)) rest
 front_item b item (plain byte p) t rest = run_on Front t byte rest (Front, FrontByte byte) (step_in_front-plain byte p)
 front_item b item (escaped high low h l) t rest =
-    run_on FrontEscape t high (low ∷ rest) _ (digit_step-hex high (λ d. (FrontDigit d, Nothing)) h)
-    ∙ run_on (FrontDigit (digit_value high)) t low rest _ (digit_step-hex low (λ d. (Front, FrontByte (digit_value high * 16 + d))) l)
+    run_on FrontEscape t high (low ∷ rest) _ (first_digit-hex high (FrontDigit high) h)
+    ∙ run_on (FrontDigit high) t low rest _ (second_digit-hex high low Front FrontByte h l)
 
 pub front_items : (bytes text : List ℕ) → Items bytes text → (t : Taken) (rest : List ℕ) → run Front t (text ++ rest) ≡ run Front (record t { front = t.front ++ bytes }) rest
 front_items bytes text no_item t rest = rw append-nil refl
@@ -71,8 +76,8 @@ front_items bytes text (more_items byte more item text' one others) t rest =
 start_item : (b : ℕ) (item : List ℕ) → Item b item → (t : Taken) (rest : List ℕ) → run LabelStart t (item ++ rest) ≡ run Label (takes t (LabelByte b)) rest
 start_item b item (plain byte p) t rest = run_on LabelStart t byte rest (Label, LabelByte byte) (step_in_label-plain byte p)
 start_item b item (escaped high low h l) t rest =
-    run_on LabelEscape t high (low ∷ rest) _ (digit_step-hex high (λ d. (LabelDigit d, Nothing)) h)
-    ∙ run_on (LabelDigit (digit_value high)) t low rest _ (digit_step-hex low (λ d. (Label, LabelByte (digit_value high * 16 + d))) l)
+    run_on LabelEscape t high (low ∷ rest) _ (first_digit-hex high (LabelDigit high) h)
+    ∙ run_on (LabelDigit high) t low rest _ (second_digit-hex high low Label LabelByte h l)
 
 label_item : (b : ℕ) (item : List ℕ) → Item b item → (t : Taken) (rest : List ℕ) → run Label t (item ++ rest) ≡ run Label (takes t (LabelByte b)) rest
 label_item b item (plain byte p) t rest = run_on Label t byte rest (Label, LabelByte byte) (step-label_plain byte p)
@@ -116,7 +121,7 @@ parts_read-form parts text form =
     let t : Taken = record { front = parts.front; last = 0; scope = []; label = [] } in
     ap parts_read form.whole
     ∙ ap ended (front_items parts.front form.items form.front nothing_taken behind)
-    ∙ ap ended (run_on Suffix t form.high (form.low ∷ 62 ∷ form.behind) _ (digit_step-hex form.high (λ d. (SuffixDigit d, Nothing)) form.high_digit))
-    ∙ ap ended (run_on (SuffixDigit (digit_value form.high)) t form.low (62 ∷ form.behind) _ (digit_step-hex form.low (λ d. (SuffixEnd, Last (digit_value form.high * 16 + d))) form.low_digit))
+    ∙ ap ended (run_on Suffix t form.high (form.low ∷ 62 ∷ form.behind) _ (first_digit-hex form.high (SuffixDigit form.high) form.high_digit))
+    ∙ ap ended (run_on (SuffixDigit form.high) t form.low (62 ∷ form.behind) _ (second_digit-hex form.high form.low SuffixEnd Last form.high_digit form.low_digit))
     ∙ scope_behind parts.scope form.behind form.scope (record t { last = byte_of form.high form.low }) refl refl
     ∙ rw (← form.last) refl

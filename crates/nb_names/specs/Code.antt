@@ -4,5 +4,6 @@ pub mod Spelled
 pub mod Kept
 pub mod LengthByte
 pub mod PointerEnds
+pub mod Digits
 pub mod TextSteps
 pub mod Collected

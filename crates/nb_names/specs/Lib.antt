@@ -9,6 +9,8 @@ pub mod Numbers
 pub mod PacketFacts
 pub mod FaultTexts
 pub mod NameText
+pub mod Growth
+pub mod GrowthFacts
 pub mod Hexadecimal
 pub mod Addresses
 pub mod HexadecimalFacts

@@ -1,6 +1,9 @@
 //! Addresses as text.
+#![tactic(auto, using(crate::specs::GrowthFacts::front_stays))]
+
 ghost use Rattle.std.specs.Prelude.{◌≡◌, ◌++◌, ◌+◌, ◌<◌, ◌≤◌, ◌∷◌, OnOk, codes, drop, length, string_bytes};
 ghost use Rattle.std.specs.Fmt.{decimal};
+ghost use Rattle.nb_names.specs.Growth.{OnlyAdds};
 ghost use Rattle.nb_names.specs.Addresses.{address_text};
 
 use crate::ascii_writing::push_ascii;
@@ -16,8 +19,9 @@ const LONGEST: usize = 15;
 ///
 /// [`NoMemory`] where memory ran out; some of the text may then be added.
 pub fn push_address(address: [u8; 4], text: &mut String) -> Result<(), NoMemory>
-    ensures { OnOk result
+    ensures added { OnOk result
         (string_bytes text.new ≡ string_bytes text.old ++ address_text address) }
+    ensures front { OnlyAdds (string_bytes text.old) (string_bytes text.new) }
 {
     let [a, b, c, d] = address;
     let mut room = [0; LONGEST];

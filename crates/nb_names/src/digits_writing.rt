@@ -1,6 +1,8 @@
 //! Hexadecimal digits, added to a text.
-ghost use Rattle.std.specs.Prelude.{◌≡◌, ◌++◌, ◌*◌, ◌<◌, ◌≤◌, length, take, OnOk, string_bytes};
-ghost use Rattle.std.specs.Char.{digit_char};
+#![tactic(auto, using(crate::specs::GrowthFacts::front_stays))]
+
+ghost use Rattle.std.specs.Prelude.{◌≡◌, ◌++◌, ◌*◌, ◌≤◌, length, OnOk, string_bytes};
+ghost use Rattle.nb_names.specs.Growth.{OnlyAdds};
 ghost use Rattle.nb_names.specs.Hexadecimal.{data_text, digits_text, word_text};
 ghost use Rattle.nb_names.specs.NameText.{digits_of};
 
@@ -10,33 +12,15 @@ use crate::bytes::NoMemory;
 /// How many bytes' digits are added at a time.
 const PART: usize = 64;
 
-/// The two digits of each byte, in order.
-static PAIRS: [u8; 512] = *b"\
-    000102030405060708090a0b0c0d0e0f\
-    101112131415161718191a1b1c1d1e1f\
-    202122232425262728292a2b2c2d2e2f\
-    303132333435363738393a3b3c3d3e3f\
-    404142434445464748494a4b4c4d4e4f\
-    505152535455565758595a5b5c5d5e5f\
-    606162636465666768696a6b6c6d6e6f\
-    707172737475767778797a7b7c7d7e7f\
-    808182838485868788898a8b8c8d8e8f\
-    909192939495969798999a9b9c9d9e9f\
-    a0a1a2a3a4a5a6a7a8a9aaabacadaeaf\
-    b0b1b2b3b4b5b6b7b8b9babbbcbdbebf\
-    c0c1c2c3c4c5c6c7c8c9cacbcccdcecf\
-    d0d1d2d3d4d5d6d7d8d9dadbdcdddedf\
-    e0e1e2e3e4e5e6e7e8e9eaebecedeeef\
-    f0f1f2f3f4f5f6f7f8f9fafbfcfdfeff";
-
 /// Adds the hexadecimal digits of bytes, two for each, in lower case.
 ///
 /// # Errors
 ///
 /// [`NoMemory`] where memory ran out; some of the digits may then be added.
 pub fn push_digits(bytes: &[u8], text: &mut String) -> Result<(), NoMemory>
-    ensures { OnOk result
+    ensures added { OnOk result
         (string_bytes text.new ≡ string_bytes text.old ++ digits_text bytes.now) }
+    ensures front { OnlyAdds (string_bytes text.old) (string_bytes text.new) }
 {
     let mut rest = bytes;
     'parts: while rest.len() > PART {
@@ -55,7 +39,9 @@ pub fn push_digits(bytes: &[u8], text: &mut String) -> Result<(), NoMemory>
 ///
 /// The form is our choice.
 pub fn push_data(bytes: &[u8], text: &mut String) -> Result<(), NoMemory>
-    ensures { OnOk result (string_bytes text.new ≡ string_bytes text.old ++ data_text bytes.now) }
+    ensures added { OnOk result
+        (string_bytes text.new ≡ string_bytes text.old ++ data_text bytes.now) }
+    ensures front { OnlyAdds (string_bytes text.old) (string_bytes text.new) }
 {
     if bytes.is_empty() {
         text.push_str("empty")?;
@@ -70,65 +56,48 @@ pub fn push_data(bytes: &[u8], text: &mut String) -> Result<(), NoMemory>
 ///
 /// [`NoMemory`] where memory ran out; some of the digits may then be added.
 pub fn push_word(number: u16, text: &mut String) -> Result<(), NoMemory>
-    ensures { OnOk result (string_bytes text.new ≡ string_bytes text.old ++ word_text number) }
+    ensures added { OnOk result
+        (string_bytes text.new ≡ string_bytes text.old ++ word_text number) }
+    ensures front { OnlyAdds (string_bytes text.old) (string_bytes text.new) }
 {
-    let [first, last] = number.to_be_bytes();
-    let [a, b] = pair_of(first);
-    let [c, d] = pair_of(last);
-    push_ascii(&[a, b, c, d], text)
+    push_part(&number.to_be_bytes(), text)
 }
 
 /// Adds the digits of a few bytes.
 fn push_part(part: &[u8], text: &mut String) -> Result<(), NoMemory>
     requires { length part.now ≤ 64 }
-    ensures { OnOk result
+    ensures added { OnOk result
         (string_bytes text.new ≡ string_bytes text.old ++ digits_text part.now) }
+    ensures front { OnlyAdds (string_bytes text.old) (string_bytes text.new) }
 {
     let mut room = [0; 2 * PART];
-    push_by(part, &mut room, text)
+    push_by(part, &mut room[..2 * part.len()], text)
 }
 
 /// Adds the digits of a few bytes, which are made in this room.
 fn push_by(part: &[u8], room: &mut [u8], text: &mut String) -> Result<(), NoMemory>
-    requires { 2 * length part.now ≤ length room.old }
-    ensures { OnOk result
+    requires { length room.old ≡ 2 * length part.now }
+    ensures added { OnOk result
         (string_bytes text.new ≡ string_bytes text.old ++ digits_text part.now) }
+    ensures front { OnlyAdds (string_bytes text.old) (string_bytes text.new) }
 {
     put_digits(part, room);
-    push_ascii(&room[..2 * part.len()], text)
+    push_ascii(room, text)
 }
 
-/// Puts the digits of a few bytes into the front of the room.
+/// Puts the digits of a few bytes into the room, which they fill.
 pub(crate) fn put_digits(part: &[u8], room: &mut [u8])
-    requires { 2 * length part.now ≤ length room.old }
-    ensures digits { take (2 * length part.now) room.new ≡ digits_text part.now }
-    ensures same { length room.new ≡ length room.old }
+    requires { length room.old ≡ 2 * length part.now }
+    ensures { room.new ≡ digits_text part.now }
 {
-    'bytes: for place in 0..part.len() {
-        let byte = part[place];
-        room[2 * place] = digit_of(byte / 16);
-        room[2 * place + 1] = digit_of(byte % 16);
-    }
+    let _ = hex::encode_to_slice(part, room);
 }
 
 /// The two digits of a byte.
-#[inline]
 pub(crate) fn pair_of(byte: u8) -> [u8; 2]
     ensures { result ≡ digits_of byte }
 {
-    let place = 2 * byte as usize;
-    [PAIRS[place], PAIRS[place + 1]]
-}
-
-/// The digit of a half byte.
-#[inline]
-fn digit_of(half: u8) -> u8
-    requires { half < 16 }
-    ensures { result ≡ digit_char half }
-{
-    if half < 10 {
-        half + b'0'
-    } else {
-        half + (b'a' - 10)
-    }
+    let mut pair = [0; 2];
+    put_digits(&[byte], &mut pair);
+    pair
 }

@@ -1,11 +1,12 @@
 //! Bytes in hexadecimal.
-ghost use Rattle.std.specs.Prelude.{◌≡◌, ◌*◌, ◌%◌, ◌<◌, ◌≤◌, ℕ, List, [], length, false, IsTrue, Err};
+ghost use Rattle.std.specs.Prelude.{◌≡◌, ◌%◌, ◌<◌, [], length, Err};
 ghost use Rattle.std.specs.List.{list_all};
-ghost use Rattle.std.specs.Char.{digit_value, is_ascii_hexdigit};
-ghost use Rattle.nb_names.specs.NameText.{IsHexDigit};
-ghost use Rattle.nb_names.specs.Hexadecimal.{HexText, ReadsData, ReadsDigits};
+ghost use Rattle.std.specs.Char.{is_ascii_hexdigit};
+ghost use Rattle.nb_names.specs.Hexadecimal.{ReadsData, ReadsDigits};
+ghost use Rattle.nb_names.specs.Code.Digits.{pair_byte};
 
 use crate::bytes::Bytes;
+use hex::FromHexError;
 use std::alloc::Global;
 use std::error::Error;
 use std::fmt;
@@ -33,12 +34,12 @@ pub fn bytes_of_digits(alloc: Global, text: &[u8]) -> Result<Bytes, DigitsFault>
     if text.is_empty() {
         return Ok(Bytes::from_vec(Vec::new(alloc)));
     }
-    if text.len() % 2 != 0 {
-        return Err(DigitsFault::BadDigits);
-    }
-    match vec![in alloc; 0u8; text.len() / 2] {
-        Ok(room) => bytes_in(room, text),
-        Err(_) => Err(fault_without_room(text)),
+    match hex::decode(alloc, text) {
+        Ok(bytes) => Ok(Bytes::from_vec(bytes)),
+        Err(fault) => match fault {
+            FromHexError::OutOfMemory => Err(fault_without_room(text)),
+            _ => Err(DigitsFault::BadDigits),
+        },
     }
 }
 
@@ -70,19 +71,6 @@ fn no_bytes(alloc: Global) -> Bytes
     Bytes::from_vec(Vec::new(alloc))
 }
 
-/// The bytes that the digits stand for, in this room.
-fn bytes_in(room: Vec<u8>, text: &[u8]) -> Result<Bytes, DigitsFault>
-    requires { length text.now ≡ 2 * length room.items }
-    ensures { ReadsDigits text.now result }
-{
-    let mut bytes = room;
-    if fill_from_digits(bytes.as_mut_slice(), text) {
-        Ok(Bytes::from_vec(bytes))
-    } else {
-        Err(DigitsFault::BadDigits)
-    }
-}
-
 /// What is answered of a text for whose bytes there is no room.
 fn fault_without_room(text: &[u8]) -> DigitsFault
     requires some { 0 < length text.now }
@@ -103,42 +91,14 @@ fn are_digits(text: &[u8]) -> bool
     text.iter().all(|digit| digit.is_ascii_hexdigit())
 }
 
-/// Fills the room with the bytes that the digits stand for, and says whether they are digits.
-fn fill_from_digits(room: &mut [u8], text: &[u8]) -> bool
-    requires { length text.now ≡ 2 * length room.old }
-    ensures read { IsTrue result → HexText room.new text.now }
-    ensures other { result ≡ false → (bytes : List ℕ) → ¬ HexText bytes text.now }
+/// The byte that two hexadecimal digits of either case give, the high half first; nothing where one of them is none.
+pub(crate) fn byte_of_pair(high: u8, low: u8) -> Option<u8>
+    ensures { result ≡ pair_byte high low }
 {
-    let mut rest = text;
-    let mut good = true;
-    'pairs: for place in 0..room.len() {
-        let (pair, behind) = rest.split_at(2);
-        let high = value_of(pair[0]);
-        let low = value_of(pair[1]);
-        good = good & (high < 16) & (low < 16);
-        room[place] = high.wrapping_mul(16).wrapping_add(low);
-        rest = behind;
-    }
-    good
-}
-
-/// The value of a hexadecimal digit, in either case; 16 or more for another byte.
-#[inline]
-fn value_of(digit: u8) -> u8
-    ensures digit { IsHexDigit digit → result ≡ digit_value digit }
-    ensures other { ¬ IsHexDigit digit → 16 ≤ result }
-{
-    let decimal = digit.wrapping_sub(b'0');
-    let lower = digit.wrapping_sub(b'a');
-    let upper = digit.wrapping_sub(b'A');
-    if decimal < 10 {
-        decimal
-    } else if lower < 6 {
-        lower + 10
-    } else if upper < 6 {
-        upper + 10
-    } else {
-        u8::MAX
+    let mut byte = [0];
+    match hex::decode_to_slice(&[high, low], &mut byte) {
+        Ok(()) => Some(byte[0]),
+        Err(_) => None,
     }
 }
 

@@ -1,5 +1,8 @@
 //! NetBIOS names whose scopes are lent.
+#![tactic(auto, using(crate::specs::GrowthFacts::front_stays))]
+
 ghost use Rattle.std.specs.Prelude.{◌≡◌, ◌≤◌, ◌++◌, ℕ, length, string_bytes, IfOk, IfErr, IsOkAnd, OnOk};
+ghost use Rattle.nb_names.specs.Growth.{OnlyAdds};
 ghost use Rattle.nb_names.specs.Code.Spelled.{labels_of, IsSpelled};
 ghost use Rattle.nb_names.specs.DomainName.{spelling};
 ghost use Rattle.nb_names.specs.Labels.{NameAt};
@@ -178,7 +181,8 @@ pub fn read_lent_name<'a>(packet: &'a [u8], at: usize) -> Result<(LentName<'a>, 
 ///
 /// The form is our choice.
 pub fn push_lent_name(text: &mut String, name: &LentName<'_>) -> Result<(), NoMemory>
-    ensures { OnOk result (string_bytes text.new ≡ string_bytes text.old ++ written name.now) }
+    ensures added { OnOk result (string_bytes text.new ≡ string_bytes text.old ++ written name.now) }
+    ensures front { OnlyAdds (string_bytes text.old) (string_bytes text.new) }
 {
     push_bytes(text, name.bytes())?;
     push_spelled(text, name.scope_spelling())

@@ -1,5 +1,6 @@
 //! Laws of the text of names.
 ghost use Rattle.std.specs.Prelude.{◌≡◌, ◌≢◌, ◌↔◌, ◌⊎◌, ◌≤◌, IsTrue, List, ℕ};
+ghost use Rattle.nb_names.specs.Growth.{IsFrontOf, OnlyAdds};
 ghost use Rattle.nb_names.specs.Name.{NetbiosName, IsByteName};
 ghost use Rattle.nb_names.specs.NameText.{IsText, IsFaultOf, is_plain, written};
 ghost use Rattle.nb_names.specs.declared.text_fault.TextFault.{TextFault};
@@ -37,4 +38,11 @@ pub fn text_or_fault()
 pub fn plain_bytes()
     ensures { (byte : ℕ) → IsTrue (is_plain byte) ↔ ((33 ≤ byte) × (byte ≤ 126)
         × (byte ≢ 46) × (byte ≢ 60) × (byte ≢ 62) × (byte ≢ 92)) }
+{}
+
+/// What only adds to a text leaves the text itself as a front of what it is then, and such a text
+/// was only added to.
+pub fn what_only_adds_keeps_the_text()
+    ensures kept { (old new : List ℕ) → OnlyAdds old new → IsFrontOf old new }
+    ensures only { (old new : List ℕ) → IsFrontOf old new → OnlyAdds old new }
 {}

@@ -1,7 +1,9 @@
 //! The steps in which the text of a name is read, a byte at a time.
-ghost use Rattle.std.specs.Prelude.{◌≡◌, ◌<◌, IfSome};
+ghost use Rattle.std.specs.Prelude.{◌≡◌};
 ghost use Rattle.nb_names.specs.NameText.{is_plain as is_plain_byte};
-ghost use Rattle.nb_names.specs.Code.TextSteps.{step, step_in_front, step_in_label, digit_of, HasDigit};
+ghost use Rattle.nb_names.specs.Code.TextSteps.{step, step_in_front, step_in_label, first_digit};
+
+use crate::hexadecimal::byte_of_pair;
 
 /// Where a reading stands: what the bytes read so far end in.
 #[derive(Clone, Copy, Debug, PartialEq, Eq)]
@@ -10,11 +12,11 @@ pub(crate) enum Stage {
     Front,
     /// The `\` of an escape before `<`.
     FrontEscape,
-    /// That escape's first digit, by its value.
+    /// That escape's first digit.
     FrontDigit(u8),
     /// `<`.
     Suffix,
-    /// The first digit after `<`, by its value.
+    /// The first digit after `<`.
     SuffixDigit(u8),
     /// The second digit after `<`.
     SuffixEnd,
@@ -26,7 +28,7 @@ pub(crate) enum Stage {
     Label,
     /// The `\` of an escape in a label.
     LabelEscape,
-    /// That escape's first digit, by its value.
+    /// That escape's first digit.
     LabelDigit(u8),
 }
 
@@ -64,14 +66,14 @@ pub(crate) fn is_plain(byte: u8) -> bool
     PLAIN[byte as usize] != b'.'
 }
 
-/// The value of a hexadecimal digit, in either case.
-fn hex_value(digit: u8) -> Option<u8>
-    ensures value { result ≡ digit_of digit }
-    ensures bound { IfSome result (λ value. value < 16) }
+/// A step to what remembers a hexadecimal digit.
+fn digit_step(byte: u8, next: Stage) -> Option<(Stage, Added)>
+    ensures value { result ≡ first_digit byte next }
 {
-    match char::from(digit).to_digit(16) {
-        Some(value) => Some(value as u8),
-        None => None,
+    if byte.is_ascii_hexdigit() {
+        Some((next, Added::Nothing))
+    } else {
+        None
     }
 }
 
@@ -105,27 +107,25 @@ fn label_step(byte: u8) -> Option<(Stage, Added)>
 /// Where a reading stands after a byte, and what the byte adds, or nothing where no text of the
 /// form goes on with it.
 pub(crate) fn step_of(stage: Stage, byte: u8) -> Option<(Stage, Added)>
-    requires { HasDigit stage }
-    ensures value { result ≡ step stage byte }
-    ensures digit { IfSome result (λ next. HasDigit next.0) }
+    ensures { result ≡ step stage byte }
 {
     match stage {
         Stage::Front => front_step(byte),
-        Stage::FrontEscape => Some((Stage::FrontDigit(hex_value(byte)?), Added::Nothing)),
+        Stage::FrontEscape => digit_step(byte, Stage::FrontDigit(byte)),
         Stage::FrontDigit(high) => {
-            Some((Stage::Front, Added::FrontByte(high * 16 + hex_value(byte)?)))
+            Some((Stage::Front, Added::FrontByte(byte_of_pair(high, byte)?)))
         }
-        Stage::Suffix => Some((Stage::SuffixDigit(hex_value(byte)?), Added::Nothing)),
+        Stage::Suffix => digit_step(byte, Stage::SuffixDigit(byte)),
         Stage::SuffixDigit(high) => {
-            Some((Stage::SuffixEnd, Added::Last(high * 16 + hex_value(byte)?)))
+            Some((Stage::SuffixEnd, Added::Last(byte_of_pair(high, byte)?)))
         }
         Stage::SuffixEnd if byte == b'>' => Some((Stage::Closed, Added::Nothing)),
         Stage::Closed if byte == b'.' => Some((Stage::LabelStart, Added::Nothing)),
         Stage::Label if byte == b'.' => Some((Stage::LabelStart, Added::LabelEnd)),
         Stage::LabelStart | Stage::Label => label_step(byte),
-        Stage::LabelEscape => Some((Stage::LabelDigit(hex_value(byte)?), Added::Nothing)),
+        Stage::LabelEscape => digit_step(byte, Stage::LabelDigit(byte)),
         Stage::LabelDigit(high) => {
-            Some((Stage::Label, Added::LabelByte(high * 16 + hex_value(byte)?)))
+            Some((Stage::Label, Added::LabelByte(byte_of_pair(high, byte)?)))
         }
         Stage::SuffixEnd | Stage::Closed => None,
     }

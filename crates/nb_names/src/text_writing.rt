@@ -1,8 +1,11 @@
 //! Writing names as text.
+#![tactic(auto, using(crate::specs::GrowthFacts::front_stays))]
+
 ghost use Rattle.std.specs.Prelude.{◌≡◌, ◌++◌, ◌∷◌, ℕ, List, IfOk, OnOk, IsTrue, length, string_bytes};
 ghost use Rattle.nb_names.specs.declared.limits.TheConstants.{NAME_LENGTH};
 ghost use Rattle.std.specs.List.{AllByRecursion, list_all};
 ghost use Rattle.std.specs.Str.{IsAscii};
+ghost use Rattle.nb_names.specs.Growth.{OnlyAdds};
 ghost use Rattle.nb_names.specs.Ascii.{dot};
 ghost use Rattle.nb_names.specs.DomainName.{AreBytes, AreByteLabels, IsLabel, spelling};
 ghost use Rattle.nb_names.specs.NameText.{IsText, written, bytes_written, domain_written, trimmed, item_of, items_of, scope_text_of, labels_written, is_plain as is_plain_byte};
@@ -45,7 +48,8 @@ pub fn name_text(alloc: Global, name: &Name) -> Result<String, NoMemory>
 ///
 /// The form is our choice.
 pub fn push_name(text: &mut String, name: &Name) -> Result<(), NoMemory>
-    ensures { OnOk result (string_bytes text.new ≡ string_bytes text.old ++ written name.now) }
+    ensures added { OnOk result (string_bytes text.new ≡ string_bytes text.old ++ written name.now) }
+    ensures front { OnlyAdds (string_bytes text.old) (string_bytes text.new) }
 {
     push_bytes(text, name.bytes())?;
     push_labels(text, name.scope().as_domain())
@@ -60,8 +64,9 @@ pub fn push_name(text: &mut String, name: &Name) -> Result<(), NoMemory>
 ///
 /// The form is our choice.
 pub fn push_domain(text: &mut String, domain: &DomainName) -> Result<(), NoMemory>
-    ensures { OnOk result
+    ensures added { OnOk result
         (string_bytes text.new ≡ string_bytes text.old ++ labels_written domain.now) }
+    ensures front { OnlyAdds (string_bytes text.old) (string_bytes text.new) }
 {
     let Some((first, scope)) = domain.split_first() else {
         return push_plain(text, domain);
@@ -95,8 +100,9 @@ pub fn domain_text(alloc: Global, domain: &DomainName) -> Result<String, NoMemor
 
 /// Adds the text of a domain name, as [`domain_text`] has it.
 fn push_plain(text: &mut String, domain: &DomainName) -> Result<(), NoMemory>
-    ensures { OnOk result
+    ensures added { OnOk result
         (string_bytes text.new ≡ string_bytes text.old ++ domain_written domain.now) }
+    ensures front { OnlyAdds (string_bytes text.old) (string_bytes text.new) }
 {
     match domain.split_first() {
         Some((label, rest)) => {
@@ -114,6 +120,7 @@ fn push_plain(text: &mut String, domain: &DomainName) -> Result<(), NoMemory>
 pub(crate) fn push_bytes(text: &mut String, bytes: &[u8; NAME_LENGTH]) -> Result<(), NoMemory>
     ensures written { OnOk result
         (string_bytes text.new ≡ string_bytes text.old ++ bytes_written bytes.now) }
+    ensures front { OnlyAdds (string_bytes text.old) (string_bytes text.new) }
     ensures sixteen { length bytes.now ≡ NAME_LENGTH }
     ensures bytes { AreBytes bytes.now }
 {
@@ -140,6 +147,7 @@ fn without_last_spaces(bytes: &[u8]) -> &[u8]
 fn push_labels(text: &mut String, domain: &DomainName) -> Result<(), NoMemory>
     ensures written { OnOk result
         (string_bytes text.new ≡ string_bytes text.old ++ scope_text_of domain.now) }
+    ensures front { OnlyAdds (string_bytes text.old) (string_bytes text.new) }
     ensures bytes { AreByteLabels domain.now }
 {
     push_spelled(text, domain.spelling())
@@ -147,9 +155,10 @@ fn push_labels(text: &mut String, domain: &DomainName) -> Result<(), NoMemory>
 
 /// Adds `.` and the items of each label that is spelled.
 pub(crate) fn push_spelled(text: &mut String, spelled: &[u8]) -> Result<(), NoMemory>
-    ensures { (labels : List (List ℕ)) → AllByRecursion IsLabel labels →
+    ensures added { (labels : List (List ℕ)) → AllByRecursion IsLabel labels →
         spelled.now ≡ spelling labels →
         OnOk result (string_bytes text.new ≡ string_bytes text.old ++ scope_text_of labels) }
+    ensures front { OnlyAdds (string_bytes text.old) (string_bytes text.new) }
 {
     if split_label(spelled).is_none() {
         return Ok(());
@@ -162,9 +171,10 @@ pub(crate) fn push_spelled(text: &mut String, spelled: &[u8]) -> Result<(), NoMe
 /// It is no part of its callers, which then make no room for a row where there is no label.
 #[inline(never)]
 fn push_scope(text: &mut String, spelled: &[u8]) -> Result<(), NoMemory>
-    ensures { (labels : List (List ℕ)) → AllByRecursion IsLabel labels →
+    ensures added { (labels : List (List ℕ)) → AllByRecursion IsLabel labels →
         spelled.now ≡ spelling labels →
         OnOk result (string_bytes text.new ≡ string_bytes text.old ++ scope_text_of labels) }
+    ensures front { OnlyAdds (string_bytes text.old) (string_bytes text.new) }
 {
     let mut row = ArrayVec::new();
     if dot_labels(spelled, &mut row) {
@@ -224,9 +234,10 @@ fn add_plain(byte: u8, row: &mut ArrayVec<u8, MAX_SPELLING>) -> bool
 
 /// Adds `.` and the items of each label that is spelled, one by one.
 fn push_each_label(text: &mut String, spelled: &[u8]) -> Result<(), NoMemory>
-    ensures { (labels : List (List ℕ)) → AllByRecursion IsLabel labels →
+    ensures added { (labels : List (List ℕ)) → AllByRecursion IsLabel labels →
         spelled.now ≡ spelling labels →
         OnOk result (string_bytes text.new ≡ string_bytes text.old ++ scope_text_of labels) }
+    ensures front { OnlyAdds (string_bytes text.old) (string_bytes text.new) }
 {
     let mut rest = spelled;
     'labels: while let Some((label, behind)) = split_label(rest) {
@@ -239,8 +250,9 @@ fn push_each_label(text: &mut String, spelled: &[u8]) -> Result<(), NoMemory>
 
 /// Adds the items of the bytes, in order.
 fn push_items(text: &mut String, bytes: &[u8]) -> Result<(), NoMemory>
-    ensures { OnOk result
+    ensures added { OnOk result
         (string_bytes text.new ≡ string_bytes text.old ++ items_of bytes.now) }
+    ensures front { OnlyAdds (string_bytes text.old) (string_bytes text.new) }
 {
     if are_plain(bytes) {
         push_ascii(bytes, text)
@@ -252,8 +264,9 @@ fn push_items(text: &mut String, bytes: &[u8]) -> Result<(), NoMemory>
 /// Adds the items of the bytes, one by one.
 #[inline(never)]
 fn push_each(text: &mut String, bytes: &[u8]) -> Result<(), NoMemory>
-    ensures { OnOk result
+    ensures added { OnOk result
         (string_bytes text.new ≡ string_bytes text.old ++ items_of bytes.now) }
+    ensures front { OnlyAdds (string_bytes text.old) (string_bytes text.new) }
 {
     for byte in bytes {
         push_item(text, *byte)?;
@@ -270,7 +283,8 @@ fn are_plain(bytes: &[u8]) -> bool
 
 /// Adds the item of a byte.
 fn push_item(text: &mut String, byte: u8) -> Result<(), NoMemory>
-    ensures { OnOk result (string_bytes text.new ≡ string_bytes text.old ++ item_of byte) }
+    ensures added { OnOk result (string_bytes text.new ≡ string_bytes text.old ++ item_of byte) }
+    ensures front { OnlyAdds (string_bytes text.old) (string_bytes text.new) }
 {
     if is_plain(byte) {
         return push_ascii(&[byte], text);

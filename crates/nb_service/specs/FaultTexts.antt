@@ -2,6 +2,10 @@
 use Rattle.std.specs.Prelude.{ℕ, List, ◌++◌, codes}
 use Rattle.std.specs.Fmt.{decimal}
 use Rattle.nb_names.specs.FaultTexts.{name_fault_text}
+use Rattle.nb_service.specs.declared.push_fault.PushFault.{PushFault}
+use Rattle.nb_service.specs.declared.push_fault.PushFault.TheVariants as pushing
+use Rattle.nb_service.specs.declared.record_fault.RecordFault.{RecordFault}
+use Rattle.nb_service.specs.declared.record_fault.RecordFault.TheVariants as making
 use Rattle.nb_service.specs.declared.fault.ServiceFault.{ServiceFault}
 use Rattle.nb_service.specs.declared.fault.ServiceFault.TheVariants.{Truncated, Name, NameRdata, NoMemory}
 
@@ -11,3 +15,13 @@ service_fault_text (Truncated at) = codes "truncated " ++ decimal at
 service_fault_text (Name fault) = codes "name: " ++ name_fault_text fault
 service_fault_text (NameRdata at) = codes "name rdata " ++ decimal at
 service_fault_text NoMemory = codes "memory"
+
+-- what is reported of a record that could not be made
+abbrev pub record_fault_text : RecordFault → List ℕ
+record_fault_text making.KindIsNs = codes "the kind is NS"
+record_fault_text making.TooLong = codes "too long"
+
+-- what is reported of an item that could not be added to a packet
+abbrev pub push_fault_text : PushFault → List ℕ
+push_fault_text pushing.TooMany = codes "too many"
+push_fault_text pushing.NoMemory = codes "memory"

@@ -1,20 +1,35 @@
 //! Why a list of a packet could not grow.
 
 use nb_names::NoMemory;
-use thiserror::Error;
+use std::error::Error;
+use std::fmt;
 
 /// Why a question or a record could not be added to a packet.
 ///
 /// Where both apply, it is the upper one.
-#[derive(Clone, Copy, Debug, PartialEq, Eq, Error)]
+#[derive(Clone, Copy, Debug, PartialEq, Eq)]
 pub enum PushFault {
     /// The list has 65,535 items already.
-    #[error("too many")]
     TooMany,
     /// Memory ran out.
-    #[error("memory")]
     NoMemory,
 }
+
+impl fmt::Display for PushFault {
+    ghost use Rattle.std.specs.Prelude.{Some};
+    ghost use Rattle.nb_service.specs.FaultTexts.{push_fault_text};
+
+    ghost output = { λ fault. Some (push_fault_text fault) };
+
+    fn fmt<W: fmt::Write>(&self, f: &mut fmt::Formatter<W>) -> fmt::Result {
+        match self {
+            PushFault::TooMany => f.write_str("too many"),
+            PushFault::NoMemory => f.write_str("memory"),
+        }
+    }
+}
+
+impl Error for PushFault {}
 
 impl From<NoMemory> for PushFault {
     ghost use Rattle.std.specs.Prelude.{◌≡◌};

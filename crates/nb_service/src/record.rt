@@ -10,20 +10,9 @@ use crate::kinds::{NB, NBSTAT, NS};
 use crate::limits::{ENTRY_LENGTH, MAX_RDATA, NODE_NAME_LENGTH};
 use crate::node_status::NodeStatus;
 use crate::rdata::Rdata;
+use crate::record_fault::RecordFault;
 use nb_names::DomainName;
 use std::marker::Model;
-use thiserror::Error;
-
-/// Why there is no such record. Where both apply, the first is answered.
-#[derive(Clone, Copy, Debug, PartialEq, Eq, Error)]
-pub enum RecordFault {
-    /// The kind is NS, whose RDATA is a domain name (our choice).
-    #[error("the kind is NS")]
-    KindIsNs,
-    /// The RDATA has more than 65,535 bytes.
-    #[error("too long")]
-    TooLong,
-}
 
 /// A resource record (RFC 1002 section 4.2.1.3). RDATA of bytes is borrowed.
 ///

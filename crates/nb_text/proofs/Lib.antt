@@ -18,3 +18,4 @@ pub mod LabelTells
 pub mod SessionTells
 pub mod DatagramTells
 pub mod ServiceTells
+pub mod WordLemmas

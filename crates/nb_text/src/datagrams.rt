@@ -1,5 +1,8 @@
 //! The text of a datagram service packet.
+#![tactic(auto, using(nb_names::specs::GrowthFacts::front_stays))]
+
 ghost use Rattle.std.specs.Prelude.{◌≡◌, ◌++◌, OnOk, string_bytes};
+ghost use Rattle.nb_names.specs.Growth.{OnlyAdds};
 ghost use Rattle.nb_datagram.specs.FaultTexts.{datagram_fault_text};
 ghost use Rattle.nb_datagram.specs.LentPacket.{packet_of};
 ghost use Rattle.nb_text.specs.DatagramText.{datagram_text, error_text, flags_text, fragment_text, parts_text, query_text};
@@ -12,12 +15,13 @@ use nb_datagram::{
     DatagramFault, ErrorPacket, Key, LentFragment, LentPacket, LentQuery, QueryKind, decode_lent,
     kind_name, push_key,
 };
-use nb_names::{NoMemory, push_data, push_digits, push_lent_name, push_number};
+use nb_names::{NoMemory, push_data, push_digits, push_lent_name, push_number, push_shown};
 
 /// Adds the text of a payload of port 138.
 pub fn push_datagram(payload: &[u8], text: &mut String) -> Result<(), NoMemory>
-    ensures { OnOk result
+    ensures added { OnOk result
         (AddsShown payload.now 138 (string_bytes text.old) (string_bytes text.new)) }
+    ensures front { OnlyAdds (string_bytes text.old) (string_bytes text.new) }
 {
     match decode_lent(payload) {
         Ok((packet, used)) => push_whole(&packet, used, text),
@@ -27,17 +31,21 @@ pub fn push_datagram(payload: &[u8], text: &mut String) -> Result<(), NoMemory>
 
 /// Adds why a payload begins with no packet.
 fn push_refusal(fault: DatagramFault, text: &mut String) -> Result<(), NoMemory>
-    ensures { OnOk result (string_bytes text.new
+    ensures added { OnOk result (string_bytes text.new
         ≡ string_bytes text.old ++ refused_text (datagram_fault_text fault)) }
+    ensures front { OnlyAdds (string_bytes text.old) (string_bytes text.new) }
 {
-    writeln!(text, "refused {fault}")?;
+    text.push_str("refused ")?;
+    push_shown(fault, text)?;
+    text.push_str("\n")?;
     Ok(())
 }
 
 /// Adds the line of a packet that takes up so many bytes.
 fn push_whole(packet: &LentPacket<'_>, used: usize, text: &mut String) -> Result<(), NoMemory>
-    ensures { OnOk result (string_bytes text.new
+    ensures added { OnOk result (string_bytes text.new
         ≡ string_bytes text.old ++ datagram_text (packet_of packet.now) used) }
+    ensures front { OnlyAdds (string_bytes text.old) (string_bytes text.new) }
 {
     push_parts(packet, text)?;
     push_used(used, text)?;
@@ -46,8 +54,9 @@ fn push_whole(packet: &LentPacket<'_>, used: usize, text: &mut String) -> Result
 
 /// Adds what the packet is, and its parts.
 fn push_parts(packet: &LentPacket<'_>, text: &mut String) -> Result<(), NoMemory>
-    ensures { OnOk result
+    ensures added { OnOk result
         (string_bytes text.new ≡ string_bytes text.old ++ parts_text (packet_of packet.now)) }
+    ensures front { OnlyAdds (string_bytes text.old) (string_bytes text.new) }
 {
     match packet {
         LentPacket::Direct(fragment) => push_fragment(fragment, text),
@@ -58,8 +67,9 @@ fn push_parts(packet: &LentPacket<'_>, text: &mut String) -> Result<(), NoMemory
 
 /// Adds FLAGS and the key.
 fn push_flags(flags: u8, key: Key, text: &mut String) -> Result<(), NoMemory>
-    ensures { OnOk result
+    ensures added { OnOk result
         (string_bytes text.new ≡ string_bytes text.old ++ flags_text flags key) }
+    ensures front { OnlyAdds (string_bytes text.old) (string_bytes text.new) }
 {
     text.push_str(" flags=")?;
     push_digits(&[flags], text)?;
@@ -70,8 +80,9 @@ fn push_flags(flags: u8, key: Key, text: &mut String) -> Result<(), NoMemory>
 
 /// Adds a fragment's parts.
 fn push_fragment(fragment: &LentFragment<'_>, text: &mut String) -> Result<(), NoMemory>
-    ensures { OnOk result
+    ensures added { OnOk result
         (string_bytes text.new ≡ string_bytes text.old ++ fragment_text fragment.now) }
+    ensures front { OnlyAdds (string_bytes text.old) (string_bytes text.new) }
 {
     text.push_str(kind_name(fragment.kind()))?;
     push_flags(fragment.flags(), fragment.key(), text)?;
@@ -88,8 +99,9 @@ fn push_fragment(fragment: &LentFragment<'_>, text: &mut String) -> Result<(), N
 
 /// Adds an error's parts.
 fn push_error(error: ErrorPacket, text: &mut String) -> Result<(), NoMemory>
-    ensures { OnOk result
+    ensures added { OnOk result
         (string_bytes text.new ≡ string_bytes text.old ++ error_text error) }
+    ensures front { OnlyAdds (string_bytes text.old) (string_bytes text.new) }
 {
     text.push_str("error")?;
     push_flags(error.flags, error.key, text)?;
@@ -100,12 +112,13 @@ fn push_error(error: ErrorPacket, text: &mut String) -> Result<(), NoMemory>
 
 /// Adds a query's parts.
 fn push_query(query: &LentQuery<'_>, text: &mut String) -> Result<(), NoMemory>
-    ensures { OnOk result (string_bytes text.new ≡ string_bytes text.old ++ query_text (record {
+    ensures added { OnOk result (string_bytes text.new ≡ string_bytes text.old ++ query_text (record {
       kind = query.now.kind;
       flags = query.now.flags;
       key = query.now.key;
       destination = query.now.destination;
     })) }
+    ensures front { OnlyAdds (string_bytes text.old) (string_bytes text.new) }
 {
     text.push_str(query_name(query.kind))?;
     push_flags(query.flags, query.key, text)?;

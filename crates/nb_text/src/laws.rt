@@ -1,16 +1,20 @@
 //! Laws of the definitions that the contracts cite. Each is proved; a call does nothing.
-ghost use Rattle.std.specs.Prelude.{◌≡◌, ℕ, List};
+ghost use Rattle.std.specs.Prelude.{◌≡◌, ◌≤◌, ◌/◌, ◌%◌, ℕ, List, [], ◌∷◌, Some, None, codes};
 ghost use Rattle.std.specs.Fmt.{decimal};
 ghost use Rattle.nb_names.specs.DomainName.{IsDomain, AreByteLabels, AreBytes};
 ghost use Rattle.nb_names.specs.Hexadecimal.{data_text};
 ghost use Rattle.nb_names.specs.Name.{NetbiosName, IsByteName};
 ghost use Rattle.nb_names.specs.NameText.{labels_written, written};
+ghost use Rattle.nb_service.specs.declared.flags.TheConstants.NmFlags.{AA, TC, RD, RA, B};
+ghost use Rattle.nb_service.specs.declared.flags.TheConstants.NodeFlags.{G, DRG, CNF, ACT, PRM};
+ghost use Rattle.nb_service.specs.Flags.{nm_bits, node_bits, ont_of, opcode_of, rcode_of};
 ghost use Rattle.nb_service.specs.Packet.{ServicePacket, IsPacket as IsServicePacket};
 ghost use Rattle.nb_session.specs.declared.packet.Packet.{Packet as SessionPacket};
 ghost use Rattle.nb_session.specs.declared.parsing.Parsed.TheVariants.{Whole};
 ghost use Rattle.nb_session.specs.Parsing.{Parses};
 ghost use Rattle.nb_datagram.specs.declared.key.Key.{Key};
 ghost use Rattle.nb_datagram.specs.declared.packet.Packet.{Packet as DatagramPacket};
+ghost use Rattle.nb_datagram.specs.declared.packet.QueryKind.TheVariants.{Request, Positive, Negative};
 ghost use Rattle.nb_datagram.specs.Header.{IsKey};
 ghost use Rattle.nb_datagram.specs.Packet.{IsPacket as IsDatagramPacket};
 ghost use Rattle.nb_datagram.specs.Texts.{key_text};
@@ -19,7 +23,7 @@ ghost use Rattle.nb_text.specs.Fields.{AreLines, IsWord};
 ghost use Rattle.nb_text.specs.ServiceText.{service_text};
 ghost use Rattle.nb_text.specs.SessionText.{session_text};
 ghost use Rattle.nb_text.specs.Shown.{Shown};
-ghost use Rattle.nb_text.specs.Words.{name_flags, packet_flags, set_text};
+ghost use Rattle.nb_text.specs.Words.{flag, name_flags, operation_word, packet_flags, query_word, rcode_word, set_text};
 
 use nb_datagram::laws as datagrams;
 use nb_service::laws as names;
@@ -99,4 +103,40 @@ pub fn a_text_tells_its_packet()
         (used after shown again : ℕ) → AreBytes payload → AreBytes other →
         IsServicePacket payload packet used → IsServicePacket other same after →
         service_text packet shown ≡ service_text same again → packet ≡ same }
+{}
+
+/// The words for numbers, one by one: operations (RFC 1002 section 4.2.1.1), results (sections
+/// 4.2.6, 4.2.11 and 4.2.14) and queries of port 138. All other numbers have none.
+pub fn words_for_numbers()
+    ensures operations { (operation_word 0 ≡ Some (codes "query"))
+        × (operation_word 5 ≡ Some (codes "registration"))
+        × (operation_word 6 ≡ Some (codes "release")) × (operation_word 7 ≡ Some (codes "wack"))
+        × (operation_word 8 ≡ Some (codes "refresh")) × (operation_word 9 ≡ Some (codes "refresh")) }
+    ensures no_operations { (n : ℕ) → 1 ≤ n → n ≤ 4 → operation_word n ≡ None }
+    ensures past_operations { (n : ℕ) → 10 ≤ n → operation_word n ≡ None }
+    ensures results { (rcode_word 0 ≡ Some (codes "ok")) × (rcode_word 1 ≡ Some (codes "FMT_ERR"))
+        × (rcode_word 2 ≡ Some (codes "SRV_ERR")) × (rcode_word 3 ≡ Some (codes "NAM_ERR"))
+        × (rcode_word 4 ≡ Some (codes "IMP_ERR")) × (rcode_word 5 ≡ Some (codes "RFS_ERR"))
+        × (rcode_word 6 ≡ Some (codes "ACT_ERR")) × (rcode_word 7 ≡ Some (codes "CFT_ERR")) }
+    ensures past_results { (n : ℕ) → 8 ≤ n → rcode_word n ≡ None }
+    ensures queries { (query_word Request ≡ codes "find") × (query_word Positive ≡ codes "found")
+        × (query_word Negative ≡ codes "missing") }
+{}
+
+/// The words for flags stand for the bits of the flags of nb_service that have these names, in the
+/// order in which they are shown, and no others are shown; the numbers beside them are parts of the
+/// same words (RFC 1002 sections 4.2.1.1, 4.2.13 and 4.2.18).
+pub fn words_for_flags()
+    ensures packets { packet_flags ≡ flag (codes "AA") (nm_bits AA) ∷ flag (codes "TC") (nm_bits TC)
+        ∷ flag (codes "RD") (nm_bits RD) ∷ flag (codes "RA") (nm_bits RA)
+        ∷ flag (codes "B") (nm_bits B) ∷ [] }
+    ensures packet_bits { packet_flags ≡ flag (codes "AA") 1024 ∷ flag (codes "TC") 512
+        ∷ flag (codes "RD") 256 ∷ flag (codes "RA") 128 ∷ flag (codes "B") 16 ∷ [] }
+    ensures names { name_flags ≡ flag (codes "G") (node_bits G) ∷ flag (codes "DRG") (node_bits DRG)
+        ∷ flag (codes "CNF") (node_bits CNF) ∷ flag (codes "ACT") (node_bits ACT)
+        ∷ flag (codes "PRM") (node_bits PRM) ∷ [] }
+    ensures name_bits { name_flags ≡ flag (codes "G") 32768 ∷ flag (codes "DRG") 4096
+        ∷ flag (codes "CNF") 2048 ∷ flag (codes "ACT") 1024 ∷ flag (codes "PRM") 512 ∷ [] }
+    ensures fields { (word : ℕ) → (opcode_of word ≡ word / 2048 % 16) × (rcode_of word ≡ word % 16)
+        × (ont_of word ≡ word / 8192 % 4) }
 {}

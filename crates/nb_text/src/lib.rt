@@ -2,11 +2,11 @@
 #![tactic(auto)]
 
 mod datagrams;
+mod flags;
 pub mod laws;
 mod names;
 mod records;
 mod sessions;
-mod sets;
 mod showing;
 mod statuses;
 mod words;

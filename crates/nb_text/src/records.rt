@@ -1,6 +1,9 @@
 //! The text of a record.
+#![tactic(auto, using(nb_names::specs::GrowthFacts::front_stays))]
+
 ghost use Rattle.std.specs.Prelude.{◌≡◌, ◌++◌, ℕ, List, IfOk, OnOk, string_bytes};
 ghost use Rattle.std.specs.List.{flat_map};
+ghost use Rattle.nb_names.specs.Growth.{OnlyAdds};
 ghost use Rattle.nb_service.specs.Code.Steps.{HasRow, RowOf};
 ghost use Rattle.nb_service.specs.Packet.{RecordAt};
 ghost use Rattle.nb_service.specs.Record.{ResourceRecord, rdata_of};
@@ -24,10 +27,11 @@ pub fn push_records(
     text: &mut String,
 ) -> Result<usize, NoMemory>
     requires { (next : ℕ) × HasRow (RecordAt names.now) at count next }
-    ensures { (records : List ResourceRecord) (next : ℕ) →
+    ensures added { (records : List ResourceRecord) (next : ℕ) →
         RowOf (RecordAt names.now) at count records next → IfOk result (λ after.
         (after ≡ next) × (string_bytes text.new
         ≡ string_bytes text.old ++ flat_map (record_lines section.now) records)) }
+    ensures front { OnlyAdds (string_bytes text.old) (string_bytes text.new) }
 {
     let mut next = at;
     for _ in 0..count {
@@ -47,9 +51,10 @@ fn push_standing(
     text: &mut String,
 ) -> Result<usize, NoMemory>
     requires { (entry : ResourceRecord) × (next : ℕ) × RecordAt names.now at entry next }
-    ensures { (entry : ResourceRecord) (next : ℕ) → RecordAt names.now at entry next →
+    ensures added { (entry : ResourceRecord) (next : ℕ) → RecordAt names.now at entry next →
         IfOk result (λ after. (after ≡ next) × (string_bytes text.new
         ≡ string_bytes text.old ++ record_lines section.now entry)) }
+    ensures front { OnlyAdds (string_bytes text.old) (string_bytes text.new) }
 {
     let (entry, after) = read_record(names, at).unwrap();
     push_lines(section, &entry, text)?;
@@ -58,8 +63,9 @@ fn push_standing(
 
 /// Adds the line of a record, and those of the parts of its RDATA.
 fn push_lines(section: &str, entry: &Record<'_>, text: &mut String) -> Result<(), NoMemory>
-    ensures { OnOk result (string_bytes text.new
+    ensures added { OnOk result (string_bytes text.new
         ≡ string_bytes text.old ++ record_lines section.now entry.now) }
+    ensures front { OnlyAdds (string_bytes text.old) (string_bytes text.new) }
 {
     push_record(section, entry, text)?;
     push_entries(entry, text)?;
@@ -69,8 +75,9 @@ fn push_lines(section: &str, entry: &Record<'_>, text: &mut String) -> Result<()
 
 /// Adds the line of a record.
 fn push_record(section: &str, entry: &Record<'_>, text: &mut String) -> Result<(), NoMemory>
-    ensures { OnOk result
+    ensures added { OnOk result
         (string_bytes text.new ≡ string_bytes text.old ++ record_line section.now entry.now) }
+    ensures front { OnlyAdds (string_bytes text.old) (string_bytes text.new) }
 {
     text.push_str("  ")?;
     text.push_str(section)?;
@@ -86,8 +93,9 @@ fn push_record(section: &str, entry: &Record<'_>, text: &mut String) -> Result<(
 
 /// Adds a record's RDATA.
 fn push_rdata(rdata: &Rdata<'_>, text: &mut String) -> Result<(), NoMemory>
-    ensures { OnOk result
+    ensures added { OnOk result
         (string_bytes text.new ≡ string_bytes text.old ++ rdata_text (rdata_of rdata.now)) }
+    ensures front { OnlyAdds (string_bytes text.old) (string_bytes text.new) }
 {
     match rdata {
         Rdata::Bytes(bytes) => {
@@ -103,8 +111,9 @@ fn push_rdata(rdata: &Rdata<'_>, text: &mut String) -> Result<(), NoMemory>
 
 /// Adds a line for each address entry of a record.
 fn push_entries(entry: &Record<'_>, text: &mut String) -> Result<(), NoMemory>
-    ensures { OnOk result (string_bytes text.new
+    ensures added { OnOk result (string_bytes text.new
         ≡ string_bytes text.old ++ flat_map entry_line (entries_in entry.now)) }
+    ensures front { OnlyAdds (string_bytes text.old) (string_bytes text.new) }
 {
     match entry.address_entries() {
         Some(entries) => push_each(&entries, text),
@@ -114,8 +123,9 @@ fn push_entries(entry: &Record<'_>, text: &mut String) -> Result<(), NoMemory>
 
 /// Adds a line for each of these address entries.
 fn push_each(entries: &AddressEntries<'_>, text: &mut String) -> Result<(), NoMemory>
-    ensures { OnOk result
+    ensures added { OnOk result
         (string_bytes text.new ≡ string_bytes text.old ++ flat_map entry_line entries.now) }
+    ensures front { OnlyAdds (string_bytes text.old) (string_bytes text.new) }
 {
     for place in 0..entries.len() {
         let entry = entries.get(place).unwrap();
@@ -126,8 +136,9 @@ fn push_each(entries: &AddressEntries<'_>, text: &mut String) -> Result<(), NoMe
 
 /// Adds the line of an address entry.
 fn push_entry(entry: AddressEntry, text: &mut String) -> Result<(), NoMemory>
-    ensures { OnOk result
+    ensures added { OnOk result
         (string_bytes text.new ≡ string_bytes text.old ++ entry_line entry) }
+    ensures front { OnlyAdds (string_bytes text.old) (string_bytes text.new) }
 {
     text.push_str("    entry flags=")?;
     push_word(entry.flags, text)?;

@@ -1,24 +1,33 @@
 //! The text of a session packet.
+#![tactic(auto, using(nb_names::specs::GrowthFacts::front_stays))]
+
 ghost use Rattle.std.specs.Prelude.{◌≡◌, ◌≢◌, ◌++◌, ℕ, OnOk, string_bytes};
+ghost use Rattle.nb_names.specs.Growth.{OnlyAdds};
+ghost use Rattle.nb_session.specs.FaultTexts.{session_fault_text};
+ghost use Rattle.nb_text.specs.Lines.{refused_text};
 ghost use Rattle.nb_text.specs.SessionText.{parts_text, session_text};
 ghost use Rattle.nb_text.specs.Shown.{AddsShown};
 
 use crate::words::push_used;
-use nb_names::{Name, NoMemory, push_address, push_data, push_digits, push_name, push_number};
-use nb_session::{Packet, Parsed, parse};
+use nb_names::{
+    Name, NoMemory, push_address, push_data, push_digits, push_name, push_number, push_shown,
+};
+use nb_session::{Packet, Parsed, SessionFault, parse};
 
 /// Adds the text of a payload of port 139.
 pub fn push_session(payload: &[u8], text: &mut String) -> Result<(), NoMemory>
-    ensures { OnOk result ((port : ℕ) → port ≢ 137 → port ≢ 138 →
+    ensures added { OnOk result ((port : ℕ) → port ≢ 137 → port ≢ 138 →
         AddsShown payload.now port (string_bytes text.old) (string_bytes text.new)) }
+    ensures front { OnlyAdds (string_bytes text.old) (string_bytes text.new) }
 {
     push_parsed(&parse(payload), text)
 }
 
 /// Adds what stands at the front of a payload.
 fn push_parsed(parsed: &Parsed<'_>, text: &mut String) -> Result<(), NoMemory>
-    ensures { OnOk result
+    ensures added { OnOk result
         (string_bytes text.new ≡ string_bytes text.old ++ session_text parsed.now) }
+    ensures front { OnlyAdds (string_bytes text.old) (string_bytes text.new) }
 {
     match parsed {
         Parsed::Whole(packet, used) => push_whole(packet, *used, text),
@@ -28,17 +37,27 @@ fn push_parsed(parsed: &Parsed<'_>, text: &mut String) -> Result<(), NoMemory>
             text.push_str("\n")?;
             Ok(())
         }
-        Parsed::Refused(fault) => {
-            writeln!(text, "refused {fault}")?;
-            Ok(())
-        }
+        Parsed::Refused(fault) => push_refusal(*fault, text),
     }
+}
+
+/// Adds why a payload begins with no packet.
+fn push_refusal(fault: SessionFault, text: &mut String) -> Result<(), NoMemory>
+    ensures added { OnOk result (string_bytes text.new
+        ≡ string_bytes text.old ++ refused_text (session_fault_text fault)) }
+    ensures front { OnlyAdds (string_bytes text.old) (string_bytes text.new) }
+{
+    text.push_str("refused ")?;
+    push_shown(fault, text)?;
+    text.push_str("\n")?;
+    Ok(())
 }
 
 /// Adds the line of a packet that takes up so many bytes.
 fn push_whole(packet: &Packet<'_>, used: usize, text: &mut String) -> Result<(), NoMemory>
-    ensures { OnOk result (string_bytes text.new
+    ensures added { OnOk result (string_bytes text.new
         ≡ string_bytes text.old ++ session_text (Parsed.Whole packet.now used)) }
+    ensures front { OnlyAdds (string_bytes text.old) (string_bytes text.new) }
 {
     push_parts(packet, text)?;
     push_used(used, text)?;
@@ -47,8 +66,9 @@ fn push_whole(packet: &Packet<'_>, used: usize, text: &mut String) -> Result<(),
 
 /// Adds what the packet is, and its parts.
 fn push_parts(packet: &Packet<'_>, text: &mut String) -> Result<(), NoMemory>
-    ensures { OnOk result
+    ensures added { OnOk result
         (string_bytes text.new ≡ string_bytes text.old ++ parts_text packet.now) }
+    ensures front { OnlyAdds (string_bytes text.old) (string_bytes text.new) }
 {
     match packet {
         Packet::Message(message) => push_message(message.bytes(), text),
@@ -68,8 +88,9 @@ fn push_parts(packet: &Packet<'_>, text: &mut String) -> Result<(), NoMemory>
 
 /// Adds a message's parts.
 fn push_message(bytes: &[u8], text: &mut String) -> Result<(), NoMemory>
-    ensures { OnOk result (string_bytes text.new
+    ensures added { OnOk result (string_bytes text.new
         ≡ string_bytes text.old ++ parts_text (Packet.Message bytes.now)) }
+    ensures front { OnlyAdds (string_bytes text.old) (string_bytes text.new) }
 {
     text.push_str("message length=")?;
     push_number(bytes.len() as u64, text)?;
@@ -80,8 +101,9 @@ fn push_message(bytes: &[u8], text: &mut String) -> Result<(), NoMemory>
 
 /// Adds a request's parts.
 fn push_request(called: &Name, calling: &Name, text: &mut String) -> Result<(), NoMemory>
-    ensures { OnOk result (string_bytes text.new
+    ensures added { OnOk result (string_bytes text.new
         ≡ string_bytes text.old ++ parts_text (Packet.Request called.now calling.now)) }
+    ensures front { OnlyAdds (string_bytes text.old) (string_bytes text.new) }
 {
     text.push_str("request called=")?;
     push_name(text, called)?;
@@ -92,8 +114,9 @@ fn push_request(called: &Name, calling: &Name, text: &mut String) -> Result<(), 
 
 /// Adds a negative response's parts.
 fn push_negative(code: u8, text: &mut String) -> Result<(), NoMemory>
-    ensures { OnOk result
+    ensures added { OnOk result
         (string_bytes text.new ≡ string_bytes text.old ++ parts_text (Packet.Negative code)) }
+    ensures front { OnlyAdds (string_bytes text.old) (string_bytes text.new) }
 {
     text.push_str("negative code=")?;
     push_digits(&[code], text)?;
@@ -102,8 +125,9 @@ fn push_negative(code: u8, text: &mut String) -> Result<(), NoMemory>
 
 /// Adds a retarget response's parts.
 fn push_retarget(address: [u8; 4], port: u16, text: &mut String) -> Result<(), NoMemory>
-    ensures { OnOk result (string_bytes text.new
+    ensures added { OnOk result (string_bytes text.new
         ≡ string_bytes text.old ++ parts_text (Packet.Retarget address port)) }
+    ensures front { OnlyAdds (string_bytes text.old) (string_bytes text.new) }
 {
     text.push_str("retarget address=")?;
     push_address(address, text)?;

@@ -1,5 +1,8 @@
 //! The words for numbers, and what texts end with.
+#![tactic(auto, using(nb_names::specs::GrowthFacts::front_stays))]
+
 ghost use Rattle.std.specs.Prelude.{◌≡◌, ◌++◌, option_map, OnOk, string_bytes};
+ghost use Rattle.nb_names.specs.Growth.{OnlyAdds};
 ghost use Rattle.nb_text.specs.Lines.{used_text};
 ghost use Rattle.nb_text.specs.Words.{named_text, operation_word, rcode_word};
 
@@ -38,24 +41,27 @@ fn rcode_name(rcode: u8) -> Option<&'static str>
 
 /// Adds an operation.
 pub fn push_operation(opcode: u8, text: &mut String) -> Result<(), NoMemory>
-    ensures { OnOk result (string_bytes text.new
+    ensures added { OnOk result (string_bytes text.new
         ≡ string_bytes text.old ++ named_text (operation_word opcode) opcode) }
+    ensures front { OnlyAdds (string_bytes text.old) (string_bytes text.new) }
 {
     push_named(operation_name(opcode), opcode, text)
 }
 
 /// Adds a result.
 pub fn push_rcode(rcode: u8, text: &mut String) -> Result<(), NoMemory>
-    ensures { OnOk result (string_bytes text.new
+    ensures added { OnOk result (string_bytes text.new
         ≡ string_bytes text.old ++ named_text (rcode_word rcode) rcode) }
+    ensures front { OnlyAdds (string_bytes text.old) (string_bytes text.new) }
 {
     push_named(rcode_name(rcode), rcode, text)
 }
 
 /// Adds a number by its name, or in decimal where it has none.
 fn push_named(name: Option<&'static str>, number: u8, text: &mut String) -> Result<(), NoMemory>
-    ensures { OnOk result (string_bytes text.new
+    ensures added { OnOk result (string_bytes text.new
         ≡ string_bytes text.old ++ named_text (option_map (λ word. word.now) name.entry) number) }
+    ensures front { OnlyAdds (string_bytes text.old) (string_bytes text.new) }
 {
     match name {
         Some(word) => {
@@ -68,7 +74,8 @@ fn push_named(name: Option<&'static str>, number: u8, text: &mut String) -> Resu
 
 /// Adds how many bytes a packet takes up, with which its line ends.
 pub fn push_used(used: usize, text: &mut String) -> Result<(), NoMemory>
-    ensures { OnOk result (string_bytes text.new ≡ string_bytes text.old ++ used_text used) }
+    ensures added { OnOk result (string_bytes text.new ≡ string_bytes text.old ++ used_text used) }
+    ensures front { OnlyAdds (string_bytes text.old) (string_bytes text.new) }
 {
     text.push_str(" used=")?;
     push_number(used as u64, text)?;

@@ -5,12 +5,12 @@ use Rattle.nb_names.specs.declared.pointers.Pointers.TheVariants.{Refused}
 use Rattle.nb_names.specs.Devices.{AppendsFront}
 use Rattle.nb_names.specs.DomainName.{spelling}
 use Rattle.nb_names.specs.Hexadecimal.{HexText, digits_text}
-use Rattle.nb_names.specs.Name.{NetbiosName, labels_of_name}
+use Rattle.nb_names.specs.Name.{NetbiosName, IsName, labels_of_name}
 use Rattle.nb_names.specs.NameText.{IsText, IsFaultOf, written}
 use Rattle.nb_names.specs.Labels.{NameAt}
 use Rattle.nb_names.specs.NameFaults.{NetbiosFaultAt}
 use Rattle.nbt.specs.declared.fault.Fault.{Fault}
-use Rattle.nbt.specs.declared.fault.Fault.TheVariants.{Text, Name, BadHex, TrailingBytes, Arguments, TooLong, ZeroPiece, Line, FullSource, Full, TooManyNames, Load, NoTables, TwoTablesWanted, Read, Write, Memory}
+use Rattle.nbt.specs.declared.fault.Fault.TheVariants.{Text, Name, BadHex, TrailingBytes, Write, Memory}
 
 -- the text as a line
 abbrev pub line : List ℕ → List ℕ
@@ -34,22 +34,9 @@ pub record IsSpellingOf (text digits : List ℕ) : Type 0 where
 -- why no spelling is printed for a text
 abbrev pub IsSpellingFault : List ℕ → Fault → Type 0
 IsSpellingFault text (Text fault) = IsFaultOf text fault
-IsSpellingFault text (Name fault) = ⊥
-IsSpellingFault text BadHex = ⊥
-IsSpellingFault text (TrailingBytes at) = ⊥
-IsSpellingFault text Arguments = ⊥
-IsSpellingFault text TooLong = ⊥
-IsSpellingFault text ZeroPiece = ⊥
-IsSpellingFault text (Line number) = ⊥
-IsSpellingFault text FullSource = ⊥
-IsSpellingFault text Full = ⊥
-IsSpellingFault text TooManyNames = ⊥
-IsSpellingFault text (Load fault) = ⊥
-IsSpellingFault text NoTables = ⊥
-IsSpellingFault text TwoTablesWanted = ⊥
-IsSpellingFault text Read = ⊥
 IsSpellingFault text Write = Unit {0}
 IsSpellingFault text Memory = Unit {0}
+IsSpellingFault text _ = ⊥
 
 -- the digits are of no bytes
 abbrev pub IsNoHex : List ℕ → Type 0
@@ -61,33 +48,23 @@ pub record IsNameOf (digits text : List ℕ) : Type 0 where
   pub bytes : List ℕ
   pub name : NetbiosName
   pub decoded : HexText bytes digits
+  pub is : IsName name
   pub stands : NameAt bytes Refused 0 (labels_of_name name) (length bytes)
   pub exact : text ≡ written name
 
 -- IsTrailing bytes at: a name's labels stand at the front of the bytes, and other bytes from this
 -- offset on
 abbrev pub IsTrailing : List ℕ → ℕ → Type 0
-IsTrailing bytes at = (name : NetbiosName) × NameAt bytes Refused 0 (labels_of_name name) at × (at < length bytes)
+IsTrailing bytes at = (name : NetbiosName) × IsName name × NameAt bytes Refused 0 (labels_of_name name) at × (at < length bytes)
 
 -- why no name is printed for digits
 abbrev pub IsNameFault : List ℕ → Fault → Type 0
-IsNameFault digits (Text fault) = ⊥
 IsNameFault digits BadHex = IsNoHex digits
 IsNameFault digits (Name fault) = (bytes : List ℕ) × HexText bytes digits × NetbiosFaultAt bytes Refused 0 fault
 IsNameFault digits (TrailingBytes at) = (bytes : List ℕ) × HexText bytes digits × IsTrailing bytes at
-IsNameFault digits Arguments = ⊥
-IsNameFault digits TooLong = ⊥
-IsNameFault digits ZeroPiece = ⊥
-IsNameFault digits (Line number) = ⊥
-IsNameFault digits FullSource = ⊥
-IsNameFault digits Full = ⊥
-IsNameFault digits TooManyNames = ⊥
-IsNameFault digits (Load fault) = ⊥
-IsNameFault digits NoTables = ⊥
-IsNameFault digits TwoTablesWanted = ⊥
-IsNameFault digits Read = ⊥
 IsNameFault digits Write = Unit {0}
 IsNameFault digits Memory = Unit {0}
+IsNameFault digits _ = ⊥
 
 -- Leaves IsText fault old new: a fault in writing leaves a front of the text's line after the bytes
 -- that the output held, and any other leaves the output as it was

@@ -51,6 +51,10 @@ IsListed matches false = one_text (found_of matches) (codes "list") ≡ Some (co
 abbrev pub IsText : ArgMatches → Type 0
 IsText matches = one_text (found_of matches) (codes "json") ≡ Some (codes "false")
 
+-- the matches hold that `--json` is given
+abbrev pub IsJson : ArgMatches → Type 0
+IsJson matches = one_text (found_of matches) (codes "json") ≡ Some (codes "true")
+
 -- AreComments matches comments: comments are printed where the matches hold `true` for `--comments`, and left out where
 -- they hold `false` or nothing
 pub record AreComments (matches : ArgMatches) (comments : Comments) : Type 0 where

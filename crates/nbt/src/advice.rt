@@ -29,8 +29,7 @@ pub fn asked<'a>(refusals: &'a [Refusal], words: &[String]) -> Option<&'a Refusa
     }
 }
 
-/// The refusal with this text: the words alone, or followed by a number, or after a colon or
-/// `refused`, as in `nbt: full` and `refused source name: truncated 14`.
+/// The refusal with this text: the words alone, or as the program prints them, in a line of its own or of a report.
 fn refusal_of<'a>(refusals: &'a [Refusal], text: &str) -> Option<&'a Refusal>
     ensures known { IfSome result (λ refusal. Contains refusals.now refusal.now) }
     ensures unknown { IfNone result (HasNone text.now refusals.now) }
@@ -39,23 +38,61 @@ fn refusal_of<'a>(refusals: &'a [Refusal], text: &str) -> Option<&'a Refusal>
 {
     match with_words(refusals, text) {
         Some(refusal) => Some(refusal),
-        None => with_words(refusals, words_of(text)),
+        None => said_by(refusals, reason_of(text)),
     }
 }
 
-/// The words of a refusal's text: what follows its last colon or `refused`, without the number at
-/// its end.
-fn words_of(text: &str) -> &str {
-    after(after(text, "refused "), ": ")
-        .trim_end_matches(|character: char| character.is_ascii_digit())
-        .trim_end_matches(' ')
+/// What a line says of its refusal, as in `nbt: full`, `4 unheard 10.0.0.5:138/0001` and
+/// `2 refused source name: not netbios 3 error 1302`.
+fn reason_of(line: &str) -> &str {
+    let front = match line.rsplit_once(" error ") {
+        Some((front, _)) => front,
+        None => line,
+    };
+    if is_unheard(front) {
+        return "unheard";
+    }
+    let refused = match front.rsplit_once(" refused ") {
+        Some((_, reason)) => reason,
+        None => front.strip_prefix("refused ").unwrap_or(front),
+    };
+    match refused.rsplit_once(": ") {
+        Some((_, reason)) => reason,
+        None => refused,
+    }
 }
 
-/// What follows the last of these marks in the text; all of it, where there is none.
-fn after<'a>(text: &'a str, mark: &str) -> &'a str {
-    match text.rsplit_once(mark) {
-        Some((_, last)) => last,
-        None => text,
+/// Whether this is the line of a report, or its end, that says of a key that its datagram isn't heard.
+fn is_unheard(line: &str) -> bool {
+    match line.split_once("unheard ") {
+        Some((number, key)) => is_number(number.trim_end_matches(' ')) && !key.contains(' '),
+        None => false,
+    }
+}
+
+/// Whether a text is digits alone.
+fn is_number(text: &str) -> bool {
+    text.bytes().all(|byte| byte.is_ascii_digit())
+}
+
+/// The first of these refusals that the program says so: its words, and the number after them where it has one.
+fn said_by<'a>(refusals: &'a [Refusal], reason: &str) -> Option<&'a Refusal>
+    ensures { IfSome result (λ refusal. Contains refusals.now refusal.now) }
+{
+    refusals.iter().find(|refusal| is_said(refusal, reason))
+}
+
+/// Whether this is what the program says of the refusal.
+fn is_said(refusal: &Refusal, reason: &str) -> bool {
+    match reason.strip_prefix(refusal.words) {
+        Some("") => true,
+        Some(rest) => match rest.strip_prefix(' ') {
+            Some(number) => {
+                !refusal.number.is_empty() && !number.is_empty() && is_number(number)
+            }
+            None => false,
+        },
+        None => false,
     }
 }
 

@@ -107,9 +107,7 @@ fn print_said<W: Write>(
         ShowsWriteFault output.old.counts output.new.counts) }
 {
     match teller {
-        Teller::Text(comments, text) => {
-            show_said(alloc, number, line, said, *comments, text, output)
-        }
+        Teller::Text(comments, text) => { show_said(number, line, said, *comments, text, output) }
         Teller::Json(json) => print_object(alloc, number, line, said, json, output),
     }
 }

@@ -1,5 +1,8 @@
 //! Parts of the report's lines.
+#![tactic(auto, using(nb_names::specs::GrowthFacts::front_stays))]
+
 ghost use Rattle.std.specs.Prelude.{◌≡◌, ◌++◌, codes, OnOk, string_bytes, Err};
+ghost use Rattle.nb_names.specs.Growth.{OnlyAdds};
 ghost use Rattle.nb_names.specs.NameText.{written};
 ghost use Rattle.nb_datagram.specs.Texts.{key_text};
 ghost use Rattle.nb_member.specs.Report.{datagram_text, error_text, outcome_text, parts_text, result_text};
@@ -7,7 +10,7 @@ ghost use Rattle.nb_member.specs.Report.{datagram_text, error_text, outcome_text
 use crate::member_fault::MemberFault;
 use crate::outcome::Outcome;
 use nb_datagram::{Datagram, ErrorPacket, Key, Packet, encode, kind_name, push_key};
-use nb_names::{Name, NoMemory, push_data, push_digits, push_name};
+use nb_names::{Name, NoMemory, push_data, push_digits, push_name, push_shown};
 use std::alloc::Global;
 
 /// Adds what became of a payload that a member took or refused, as the report has it after the
@@ -15,13 +18,14 @@ use std::alloc::Global;
 ///
 /// # Errors
 ///
-/// `NoMemory` where memory ran out; some of the text may then be added.
+/// `NoMemory` where memory ran out. What stood in the text is still its front.
 pub fn push_result(
     alloc: Global,
     taken: &Result<Outcome, MemberFault>,
     text: &mut String,
 ) -> Result<(), NoMemory>
-    ensures { OnOk result (string_bytes text.new ≡ string_bytes text.old ++ result_text taken.now) }
+    ensures added { OnOk result (string_bytes text.new ≡ string_bytes text.old ++ result_text taken.now) }
+    ensures front { OnlyAdds (string_bytes text.old) (string_bytes text.new) }
 {
     match taken {
         Ok(outcome) => push_outcome(alloc, outcome, text),
@@ -31,8 +35,9 @@ pub fn push_result(
 
 /// Adds what became of a payload that was taken.
 fn push_outcome(alloc: Global, outcome: &Outcome, text: &mut String) -> Result<(), NoMemory>
-    ensures { OnOk result
+    ensures added { OnOk result
         (string_bytes text.new ≡ string_bytes text.old ++ outcome_text outcome.now) }
+    ensures front { OnlyAdds (string_bytes text.old) (string_bytes text.new) }
 {
     match outcome {
         Outcome::Kept(key) => {
@@ -60,10 +65,12 @@ fn push_outcome(alloc: Global, outcome: &Outcome, text: &mut String) -> Result<(
 
 /// Adds why a payload was refused.
 fn push_refused(alloc: Global, fault: MemberFault, text: &mut String) -> Result<(), NoMemory>
-    ensures { OnOk result
+    ensures added { OnOk result
         (string_bytes text.new ≡ string_bytes text.old ++ result_text (Err fault)) }
+    ensures front { OnlyAdds (string_bytes text.old) (string_bytes text.new) }
 {
-    write!(text, "refused {fault}")?;
+    text.push_str("refused ")?;
+    push_shown(fault, text)?;
     match fault {
         MemberFault::Packet(_, error) => push_error(alloc, error, text),
         MemberFault::Table(_) => Ok(()),
@@ -72,8 +79,9 @@ fn push_refused(alloc: Global, fault: MemberFault, text: &mut String) -> Result<
 
 /// Adds a datagram.
 fn push_datagram(datagram: &Datagram, text: &mut String) -> Result<(), NoMemory>
-    ensures { OnOk result
+    ensures added { OnOk result
         (string_bytes text.new ≡ string_bytes text.old ++ datagram_text datagram.now) }
+    ensures front { OnlyAdds (string_bytes text.old) (string_bytes text.new) }
 {
     push_key(datagram.key(), text)?;
     push_parts(datagram, text)
@@ -84,10 +92,11 @@ fn push_datagram(datagram: &Datagram, text: &mut String) -> Result<(), NoMemory>
 ///
 /// # Errors
 ///
-/// `NoMemory` where memory ran out.
+/// `NoMemory` where memory ran out. What stood in the text is still its front.
 pub fn push_parts(datagram: &Datagram, text: &mut String) -> Result<(), NoMemory>
-    ensures { OnOk result
+    ensures added { OnOk result
         (string_bytes text.new ≡ string_bytes text.old ++ parts_text datagram.now) }
+    ensures front { OnlyAdds (string_bytes text.old) (string_bytes text.new) }
 {
     text.push(' ')?;
     text.push_str(kind_name(datagram.kind()))?;
@@ -99,8 +108,9 @@ pub fn push_parts(datagram: &Datagram, text: &mut String) -> Result<(), NoMemory
 
 /// Adds a space and a name.
 fn push_word(name: &Name, text: &mut String) -> Result<(), NoMemory>
-    ensures { OnOk result
+    ensures added { OnOk result
         (string_bytes text.new ≡ string_bytes text.old ++ (codes " " ++ written name.now)) }
+    ensures front { OnlyAdds (string_bytes text.old) (string_bytes text.new) }
 {
     text.push(' ')?;
     push_name(text, name)
@@ -113,8 +123,9 @@ fn push_unheard(
     error: Option<ErrorPacket>,
     text: &mut String,
 ) -> Result<(), NoMemory>
-    ensures { OnOk result
+    ensures added { OnOk result
         (string_bytes text.new ≡ string_bytes text.old ++ (key_text key ++ error_text error)) }
+    ensures front { OnlyAdds (string_bytes text.old) (string_bytes text.new) }
 {
     push_key(key, text)?;
     push_error(alloc, error, text)
@@ -122,7 +133,8 @@ fn push_unheard(
 
 /// Adds the bytes of an error packet, if there is one.
 fn push_error(alloc: Global, error: Option<ErrorPacket>, text: &mut String) -> Result<(), NoMemory>
-    ensures { OnOk result (string_bytes text.new ≡ string_bytes text.old ++ error_text error) }
+    ensures added { OnOk result (string_bytes text.new ≡ string_bytes text.old ++ error_text error) }
+    ensures front { OnlyAdds (string_bytes text.old) (string_bytes text.new) }
 {
     let Some(error) = error else {
         return Ok(());

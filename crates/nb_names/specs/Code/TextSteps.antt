@@ -1,6 +1,6 @@
 -- The steps in which the text of a name is read, a byte at a time (our choice). They are no part of what a
 -- name's text is: that stands in NameText.
-use Rattle.std.specs.Prelude.{◌==◌, ℕ, ◌+◌, ◌*◌, ◌<◌, List, [], ◌∷◌, ◌++◌, Option, Some, None, option_and_then, if◌then◌else◌, nat_lt}
+use Rattle.std.specs.Prelude.{◌==◌, ℕ, List, [], ◌∷◌, ◌++◌, Option, Some, None, option_and_then, if◌then◌else◌, nat_lt}
 use Rattle.std.specs.Char.{digit_value}
 use Rattle.nb_names.specs.declared.text_steps.Stage.{Stage}
 use Rattle.nb_names.specs.declared.text_steps.Stage.TheVariants.{Front, FrontEscape, FrontDigit, Suffix, SuffixDigit, SuffixEnd, Closed, LabelStart, Label, LabelEscape, LabelDigit}
@@ -8,21 +8,16 @@ use Rattle.nb_names.specs.declared.text_steps.Added.{Added}
 use Rattle.nb_names.specs.declared.text_steps.Added.TheVariants.{Nothing, FrontByte, Last, LabelByte, LabelEnd}
 use Rattle.nb_names.specs.Ascii.{dot, less_than, greater_than, backslash}
 use Rattle.nb_names.specs.NameText.{is_plain, Parts}
+use Rattle.nb_names.specs.Code.Digits.{pair_byte}
 
--- a stage that remembers a digit remembers one
-abbrev pub HasDigit : Stage → Type 0
-HasDigit (FrontDigit high) = high < 16
-HasDigit (SuffixDigit high) = high < 16
-HasDigit (LabelDigit high) = high < 16
-HasDigit _ = Unit {0}
+-- first_digit byte next: the byte is a hexadecimal digit, which the next stage remembers
+abbrev pub first_digit : ℕ → Stage → Option (Stage × Added)
+first_digit byte next = if nat_lt (digit_value byte) 16 then Some (next, Nothing) else None
 
--- the value of a hexadecimal digit
-abbrev pub digit_of : ℕ → Option ℕ
-digit_of digit = if nat_lt (digit_value digit) 16 then Some (digit_value digit) else None
-
--- digit_step byte next: the byte is a hexadecimal digit, and its value decides what is next
-abbrev pub digit_step : ℕ → (ℕ → Stage × Added) → Option (Stage × Added)
-digit_step byte next = if nat_lt (digit_value byte) 16 then Some (next (digit_value byte)) else None
+-- the step by which a second digit adds the byte of both
+abbrev pub second_digit : Option ℕ → Stage → (ℕ → Added) → Option (Stage × Added)
+second_digit (Some byte) next adds = Some (next, adds byte)
+second_digit None next adds = None
 
 -- a step before `<`
 abbrev pub step_in_front : ℕ → Option (Stage × Added)
@@ -42,16 +37,16 @@ step_in_label byte =
 -- step stage byte: the stage after a byte, and what the byte adds
 abbrev pub step : Stage → ℕ → Option (Stage × Added)
 step Front byte = step_in_front byte
-step FrontEscape byte = digit_step byte (λ high. (FrontDigit high, Nothing))
-step (FrontDigit high) byte = digit_step byte (λ low. (Front, FrontByte (high * 16 + low)))
-step Suffix byte = digit_step byte (λ high. (SuffixDigit high, Nothing))
-step (SuffixDigit high) byte = digit_step byte (λ low. (SuffixEnd, Last (high * 16 + low)))
+step FrontEscape byte = first_digit byte (FrontDigit byte)
+step (FrontDigit high) byte = second_digit (pair_byte high byte) Front FrontByte
+step Suffix byte = first_digit byte (SuffixDigit byte)
+step (SuffixDigit high) byte = second_digit (pair_byte high byte) SuffixEnd Last
 step SuffixEnd byte = if byte == greater_than then Some (Closed, Nothing) else None
 step Closed byte = if byte == dot then Some (LabelStart, Nothing) else None
 step LabelStart byte = step_in_label byte
 step Label byte = if byte == dot then Some (LabelStart, LabelEnd) else step_in_label byte
-step LabelEscape byte = digit_step byte (λ high. (LabelDigit high, Nothing))
-step (LabelDigit high) byte = digit_step byte (λ low. (Label, LabelByte (high * 16 + low)))
+step LabelEscape byte = first_digit byte (LabelDigit byte)
+step (LabelDigit high) byte = second_digit (pair_byte high byte) Label LabelByte
 
 -- what a reading has taken: the bytes before `<`, the byte after it, the labels that have ended,
 -- and the bytes of the one that hasn't

@@ -56,7 +56,6 @@ pub fn run_show<R: Read, W: Write>(
 ///
 /// [`Fault::Write`] where it can't be written, [`Fault::Memory`] where memory ran out.
 pub fn show_said<W: Write>(
-    alloc: Global,
     number: usize,
     line: &[u8],
     said: &Option<Line>,
@@ -75,13 +74,12 @@ pub fn show_said<W: Write>(
         ShowsWriteFault output.old.counts output.new.counts) }
 {
     text.clear();
-    push_said(alloc, number, line, said, comments, text)?;
+    push_said(number, line, said, comments, text)?;
     output.print(text.as_bytes())
 }
 
 /// Adds the text of what a line says, or of its comment.
 fn push_said(
-    alloc: Global,
     number: usize,
     line: &[u8],
     said: &Option<Line>,
@@ -93,13 +91,13 @@ fn push_said(
         (string_bytes text.new ≡ string_bytes text.old ++ shown)) }
 {
     match said {
-        Some(said) => push_line(alloc, number, said, text),
+        Some(said) => push_line(number, said, text),
         None => push_comment(comments, line, text),
     }
 }
 
 /// Adds the text of what a line says.
-fn push_line(alloc: Global, number: usize, said: &Line, text: &mut String) -> Result<(), NoMemory>
+fn push_line(number: usize, said: &Line, text: &mut String) -> Result<(), NoMemory>
     ensures { OnOk result ((shown : List ℕ) × ShowsValue number said.now shown ×
         (string_bytes text.new ≡ string_bytes text.old ++ shown)) }
 {
@@ -111,7 +109,7 @@ fn push_line(alloc: Global, number: usize, said: &Line, text: &mut String) -> Re
             payload,
         } => {
             push_front(number, *port, text)?;
-            push_packet(alloc, *port, payload.as_slice(), text)
+            push_packet(*port, payload.as_slice(), text)
         }
     }
 }

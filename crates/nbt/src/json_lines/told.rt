@@ -43,7 +43,7 @@ fn push_packet_of(alloc: Global, said: &Line, object: &mut JsonLine) -> Result<(
         return Ok(());
     };
     let mut text = String::new(alloc);
-    push_packet(alloc, *port, payload.as_slice(), &mut text)?;
+    push_packet(*port, payload.as_slice(), &mut text)?;
     push_shown(*port, text.as_str(), object);
     Ok(())
 }

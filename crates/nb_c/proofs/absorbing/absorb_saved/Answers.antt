@@ -3,6 +3,7 @@ use Rattle.nb_member.specs.declared.settings.Settings.{Settings}
 use Rattle.nb_member.specs.Events.{limits_of}
 use Rattle.nb_table.specs.LoadFaults.{LoadFails}
 use Rattle.nb_c.specs.Absorbing.{not_read, read}
+use Rattle.nb_c.specs.Tables.{IsLoaded}
 use Rattle.nb_c.proofs.absorbing.absorb_saved.Goals as goal
 
 pub returns-in-Err : goal.returns-in-Err
@@ -11,4 +12,6 @@ returns-in-Err c =
     c.settings-settings.ensures c.in-Err.ensures.fault) refl)
 
 pub returns-in-Ok : goal.returns-in-Ok
-returns-in-Ok c = read _ _ c.in-Ok.ensures.found c.join.ensures
+returns-in-Ok c =
+    read _ _ (subst (λ (s : Settings). IsLoaded c.args.table.now (limits_of s) c.in-Ok.other) c.settings-settings.ensures
+    c.in-Ok.ensures.found) c.join.ensures

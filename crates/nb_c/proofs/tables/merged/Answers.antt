@@ -1,15 +1,18 @@
-use Rattle.std.proofs.Common.{inr}
-use Rattle.nb_c.specs.Tables.{first_fails, second_fails}
-use Rattle.nb_c.proofs.MergeLemmas.{merges}
+use Rattle.nb_c.proofs.LoadLemmas.{InputLaws}
+use Rattle.nb_c.proofs.MergeLemmas.{first_failed, second_failed, merges}
 use Rattle.nb_c.proofs.tables.merged.Goals as goal
 
 pub returns-in-Err : goal.returns-in-Err
-returns-in-Err c = rw c.first_refusal.ensures (inr (first_fails _ c.in-Err.ensures.fault))
+returns-in-Err c =
+    let laws : InputLaws c.args.first.now = record { one = c.an_input_is_read_as_one_table.ensures _; one_reading = c.saved_bytes_have_one_reading.ensures _ } in
+    rw c.first_refusal.ensures (first_failed _ _ _ laws _ c.in-Err.ensures.fault)
 
-pub returns-in-Err-load : goal.returns-in-Err-load
-returns-in-Err-load c =
-    rw c.second_refusal.ensures (inr (second_fails _ _ c.in-Ok.ensures.found c.in-Err-load.ensures.fault))
+pub returns-in-Err-loaded : goal.returns-in-Err-loaded
+returns-in-Err-loaded c =
+    let laws : InputLaws c.args.first.now = record { one = c.an_input_is_read_as_one_table.ensures _; one_reading = c.saved_bytes_have_one_reading.ensures _ } in
+    rw c.second_refusal.ensures (second_failed _ _ _ laws _ _ c.in-Ok.ensures.found c.in-Err-loaded.ensures.fault)
 
 pub returns : goal.returns
 returns c =
-    merges _ _ _ _ _ _ _ c.in-Ok.ensures.found c.in-Ok-load.ensures.found c.in-Ok.ensures.limits c.joined.ensures
+    let laws : InputLaws c.args.first.now = record { one = c.an_input_is_read_as_one_table.ensures _; one_reading = c.saved_bytes_have_one_reading.ensures _ } in
+    merges _ _ _ laws _ _ _ c.in-Ok.ensures.found c.in-Ok-loaded.ensures.found c.joined.ensures

@@ -9,7 +9,7 @@ pub returns-in-Ok-clause-acted : goal.returns-in-Ok-clause-acted
 returns-in-Ok-clause-acted c =
     let m = c.args.member.now in
     let says = subst (λ (said : Option Line). Reads c.args.line.now (Ok said)) c.in-Ok-None.field-0-is c.in-Ok-None.ensures in
-    λ L s. subst (λ (bytes : List ℕ). ReportsLine c.args.comments m L c.args.number c.args.line.now m bytes) (sym c.in-Ok.ensures)
+    λ L s. subst (λ (bytes : List ℕ). ReportsLine c.args.comments m L c.args.number c.args.line.now m bytes) (sym c.in-Ok.ensures.written)
     (quiet c.args.comments m L c.args.number c.args.line.now s says)
 
 pub returns-in-Ok-Some-clause-fault : goal.returns-in-Ok-Some-clause-fault

@@ -22,8 +22,8 @@ push_ascii-requires c =
     (rw c.from.ensures at w.ensures.written) in
     rw put (address_is_ascii (slice_index a 0) (slice_index a 1) (slice_index a 2) (slice_index a 3) c.element_fits.fits c.element_fits2.fits c.element_fits3.fits c.element_fits4.fits)
 
-pub returns : goal.returns
-returns c =
+pub returns-clause-added : goal.returns-clause-added
+returns-clause-added c =
     let a = c.args.address in
     let w = c.write_digits-start in
     let put =
@@ -31,4 +31,4 @@ returns c =
     [] w.new.buf c.put_dotted-first.new.room c.put_dotted-second.new.room c.put_dotted-third.new.room
     refl (omega arith) c.put_dotted-third.ensures.put c.put_dotted-second.ensures.put c.put_dotted-first.ensures.put
     (rw c.from.ensures at w.ensures.written) in
-    on_ok_weaker c.push_ascii.result (λ added. added ∙ ap (λ (text : List ℕ). string_bytes c.args.text.now ++ text) put) c.push_ascii.ensures
+    on_ok_weaker c.push_ascii.result (λ added. added ∙ ap (λ (text : List ℕ). string_bytes c.args.text.now ++ text) put) c.push_ascii.ensures.added

@@ -4,4 +4,4 @@ use Rattle.nb_names.proofs.digits_writing.push_by.Goals as goal
 
 pub push_ascii-requires : goal.push_ascii-requires
 push_ascii-requires c =
-    rw c.put_digits.ensures.digits (digits_are_ascii c.args.part.now (λ i. omega (arith, c.type_inv.part i)))
+    rw c.put_digits.ensures (digits_are_ascii c.args.part.now (λ i. omega (arith, c.type_inv.part i)))

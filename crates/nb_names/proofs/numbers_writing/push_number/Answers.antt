@@ -2,8 +2,8 @@ use Rattle.std.proofs.Common.{◌≡◌, ℕ, ◌+◌, List, [], ◌∷◌, ◌+
 use Rattle.std.proofs.lemmas.Fmt.{decimal_digit}
 use Rattle.nb_names.proofs.numbers_writing.push_number.Goals as goal
 
-pub returns-then-number-lt10 : goal.returns-then-number-lt10
-returns-then-number-lt10 c =
+pub returns-then-number-lt10-clause-added : goal.returns-then-number-lt10-clause-added
+returns-then-number-lt10-clause-added c =
     let same : c.from.result ≡ 48 + c.args.number = omega (arith, c.from.ensures) in
     let digit = c.in_ok-push.ensures.ascii (omega (arith, same, c.if-number-lt10.true)) in
     rw (decimal_digit c.args.number c.if-number-lt10.true)

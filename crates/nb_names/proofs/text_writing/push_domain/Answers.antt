@@ -5,8 +5,8 @@ use Rattle.nb_names.specs.NameText.{bytes_written, scope_text_of, labels_written
 use Rattle.nb_names.proofs.LetterLemmas.{labels_written-letters}
 use Rattle.nb_names.proofs.text_writing.push_domain.Goals as goal
 
-pub returns-in_ok-push_bytes-in-Ok : goal.returns-in_ok-push_bytes-in-Ok
-returns-in_ok-push_bytes-in-Ok c =
+pub returns-in_ok-push_bytes-in-Ok-clause-added : goal.returns-in_ok-push_bytes-in-Ok-clause-added
+returns-in_ok-push_bytes-in-Ok-clause-added c =
     let bytes = c.in-Ok.bytes in
     let labels = labels_of c.in-Some.scope.now in
     let before = string_bytes c.args.text.now in
@@ -18,4 +18,4 @@ returns-in_ok-push_bytes-in-Ok c =
     written
     ∙ ap (λ (front : List ℕ). front ++ scope_text_of labels) c.in_ok-push_bytes-in-Ok.ensures.written
     ∙ append_assoc before (bytes_written bytes) (scope_text_of labels)
-    ∙ ap (λ (text : List ℕ). before ++ text) (sym whole)) (c.push_spelled.ensures labels split.1.domain.each split.1.exact)
+    ∙ ap (λ (text : List ℕ). before ++ text) (sym whole)) (c.push_spelled.ensures.added labels split.1.domain.each split.1.exact)

@@ -6,4 +6,4 @@ use Rattle.nb_text.proofs.records.push_each.Goals as goal
 pub loop-place-preserved : goal.loop-place-preserved
 loop-place-preserved c =
     row_more entry_line c.args.entries.now c.loop-place.place c.unwrap-entry.result _ _ _ (sym c.get.ensures ∙ c.unwrap-entry.ensures)
-    c.loop-place.invariant c.in_ok-push_entry.ensures
+    c.loop-place.invariant c.in_ok-push_entry.ensures.added

@@ -6,13 +6,13 @@ use Rattle.nb_service.specs.declared.address_entry.AddressEntry.{AddressEntry}
 use Rattle.nb_text.specs.ServiceText.{entry_line}
 use Rattle.nb_text.proofs.records.push_entries.Goals as goal
 
-pub returns-in-Some : goal.returns-in-Some
-returns-in-Some c =
+pub returns-in-Some-clause-added : goal.returns-in-Some-clause-added
+returns-in-Some-clause-added c =
     let same = c.in-Some.ensures.value in
     on_ok_weaker c.push_each.result
-    (λ added. added ∙ ap (λ (xs : List AddressEntry). string_bytes c.args.text.now ++ flat_map entry_line xs) same) c.push_each.ensures
+    (λ added. added ∙ ap (λ (xs : List AddressEntry). string_bytes c.args.text.now ++ flat_map entry_line xs) same) c.push_each.ensures.added
 
-pub returns-in-None : goal.returns-in-None
-returns-in-None c =
+pub returns-in-None-clause-added : goal.returns-in-None-clause-added
+returns-in-None-clause-added c =
     let none = c.in-None.ensures.value in
     rw none (sym (append-nil (string_bytes c.args.text.now)))

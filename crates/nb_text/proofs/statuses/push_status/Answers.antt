@@ -5,13 +5,13 @@ use Rattle.nb_service.specs.Views.{StatusParts}
 use Rattle.nb_text.specs.ServiceText.{status_lines}
 use Rattle.nb_text.proofs.statuses.push_status.Goals as goal
 
-pub returns-in-Some : goal.returns-in-Some
-returns-in-Some c =
+pub returns-in-Some-clause-added : goal.returns-in-Some-clause-added
+returns-in-Some-clause-added c =
     let same = c.in-Some.ensures.value in
     on_ok_weaker c.push_lines.result
-    (λ added. added ∙ ap (λ (s : StatusParts). string_bytes c.args.text.now ++ status_lines s) same) c.push_lines.ensures
+    (λ added. added ∙ ap (λ (s : StatusParts). string_bytes c.args.text.now ++ status_lines s) same) c.push_lines.ensures.added
 
-pub returns-in-None : goal.returns-in-None
-returns-in-None c =
+pub returns-in-None-clause-added : goal.returns-in-None-clause-added
+returns-in-None-clause-added c =
     let none = c.in-None.ensures.value in
     rw none (sym (append-nil (string_bytes c.args.text.now)))

@@ -13,13 +13,11 @@ ghost use Rattle.nbt.specs.Responses.{HasRdata, response_packet, with_flag};
 
 use crate::commands::build::arguments::{data, long_number, word};
 use crate::commands::build::build_fault::BuildFault;
+use bitflags::Flags;
 use nb_names::{Bytes, DomainName, Name, Pointers, name_from_text, read_domain};
 use nb_service::classes::IN;
-use nb_service::{Record, RecordFault, encode, response};
+use nb_service::{NmFlags, Record, RecordFault, encode, response};
 use std::alloc::Global;
-
-/// The flag B of NM_FLAGS, by its place in the flag word.
-const B: u16 = 0x0010;
 
 /// The bytes of the response that ID WORD NAME TYPE TTL DATA give: a packet with one answer, of
 /// class IN, and nothing else. `broadcast` sets B in WORD.
@@ -52,7 +50,11 @@ fn flag_word(alloc: Global, digits: &str, broadcast: bool) -> Result<u16, BuildF
         × (made ≡ with_flag number broadcast)) }
 {
     let flags = word(alloc, digits)?;
-    Ok(if broadcast { flags | B } else { flags })
+    Ok(if broadcast {
+        flags | NmFlags::B.bits()
+    } else {
+        flags
+    })
 }
 
 /// The type of a record, and its time to live.

@@ -19,4 +19,4 @@ returns-in_ok-push_front-in-Packet c =
     on_ok_weaker c.push_packet.result
     (adds_packet c.args.number c.in-Packet.port c.in-Packet.moment c.as_slice.result.now old mid new c.args.said.now is
     c.in_ok-push_front-in-Packet.ensures)
-    c.push_packet.ensures
+    c.push_packet.ensures.added

@@ -1,0 +1,13 @@
+use Rattle.nb_c.proofs.MergeLemmas.{join_refused, join_done}
+use Rattle.std.proofs.Common.{ℕ, List, subst, IfOk, ◌≡◌}
+use Rattle.nb_table.specs.Limits.{TableValue}
+use Rattle.nb_table.specs.Saved.{saved}
+use Rattle.nb_c.proofs.tables.joined.Goals as goal
+
+pub returns-in-Err : goal.returns-in-Err
+returns-in-Err c = rw c.table_refusal.ensures (join_refused _ _ _ _ c.in-Err.ensures.fault)
+
+pub returns-in-Ok : goal.returns-in-Ok
+returns-in-Ok c =
+    rw c.answer_of.ensures (join_done _ _ _ _ c.in-Ok.ensures.fits
+    (subst (λ (t : TableValue). IfOk c.save.result (λ (bytes : List ℕ). bytes ≡ saved t.contents)) c.in-Ok.ensures.joined c.save.ensures.value))

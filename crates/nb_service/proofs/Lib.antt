@@ -7,3 +7,4 @@ pub mod PiecesLemmas
 pub mod StandingLemmas
 pub mod SectionLemmas
 pub mod TotalityLemmas
+pub mod ViewLemmas

@@ -1,21 +1,25 @@
 //! Laws of the definitions that the contracts cite. Each is proved; a call does nothing.
-ghost use Rattle.std.specs.Prelude.{◌≡◌, ◌⊎◌, ◌↔◌, IsTrue, ℕ, ◌+◌, ◌*◌, ◌/◌, ◌%◌, ◌<◌, List, ◌++◌, length};
+ghost use Rattle.std.specs.Prelude.{◌≡◌, ◌≢◌, ◌⊎◌, ◌↔◌, IsTrue, ℕ, ◌+◌, ◌*◌, ◌/◌, ◌%◌, ◌<◌, List, [], ◌∷◌, ◌++◌, length};
+ghost use Rattle.std.specs.List.{AllByRecursion, flat_map};
 ghost use Rattle.nb_names.specs.declared.pointers.Pointers.TheVariants.{Followed};
 ghost use Rattle.nb_names.specs.DomainName.{AreBytes};
 ghost use Rattle.nb_names.specs.Labels.{NameAt};
+ghost use Rattle.nb_service.specs.declared.address_entry.AddressEntry.{AddressEntry};
 ghost use Rattle.nb_service.specs.declared.classes.TheConstants.{IN};
 ghost use Rattle.nb_service.specs.declared.kinds.TheConstants.{A, NS, NULL, NB, NBSTAT};
 ghost use Rattle.nb_service.specs.declared.limits.TheConstants.{HEADER_LENGTH, MAX_ENTRIES, MAX_RDATA, ENTRY_LENGTH, NODE_NAME_LENGTH, UNIT_ID_LENGTH};
 ghost use Rattle.nb_service.specs.declared.fault.ServiceFault.{ServiceFault};
 ghost use Rattle.nb_service.specs.declared.flags.TheConstants.NmFlags.{AA, TC, RD, RA, B};
 ghost use Rattle.nb_service.specs.declared.flags.TheConstants.NodeFlags.{G, DRG, CNF, ACT, PRM};
+ghost use Rattle.nb_service.specs.declared.node_name.NodeName.{NodeName};
 ghost use Rattle.nb_service.specs.Encoding.{packet_bytes, IsWritable};
 ghost use Rattle.nb_service.specs.declared.question.Question.{Question};
 ghost use Rattle.nb_service.specs.Equality.{question_eq, record_eq, packet_eq};
 ghost use Rattle.nb_service.specs.Flags.{nm_bits, node_bits, opcode_of, rcode_of};
 ghost use Rattle.nb_service.specs.Packet.{QuestionAt, RecordAt, ServicePacket, IsPacket, HasSections};
-ghost use Rattle.nb_service.specs.Record.{ResourceRecord, of_domain};
+ghost use Rattle.nb_service.specs.Record.{ResourceRecord, of_bytes, of_domain, record_of};
 ghost use Rattle.nb_service.specs.ServiceFaults.{QuestionFails, RecordFails, PacketFails};
+ghost use Rattle.nb_service.specs.Views.{StatusParts, entries_in, entry_bytes, node_name_bytes, status_in};
 
 use nb_names::laws::{name_or_fault, one_fault, one_reading, spelling_is_read};
 
@@ -57,6 +61,65 @@ pub fn equal_is_same()
     ensures questions { (a b : Question) → IsTrue (question_eq a b) ↔ (a ≡ b) }
     ensures records { (a b : ResourceRecord) → IsTrue (record_eq a b) ↔ (a ≡ b) }
     ensures packets { (a b : ServicePacket) → IsTrue (packet_eq a b) ↔ (a ≡ b) }
+{}
+
+/// The address entries of a record of kind 32: RDATA that is entries alone, each of two bytes of
+/// flags, the high one first, and four of an address. Other records have none.
+///
+/// RFC 1002 section 4.2.13.
+pub fn entries_of_a_record()
+    ensures bytes { (entry : AddressEntry) → entry.flags < 65536 →
+        entry_bytes entry ≡ entry.flags / 256 ∷ entry.flags % 256 ∷ entry.address }
+    ensures entries { (entry : ResourceRecord) (entries : List AddressEntry) →
+        AllByRecursion (λ e. (e.flags < 65536) × (length e.address ≡ 4)) entries →
+        entry.kind ≡ 32 → entry.rdata
+        ≡ of_bytes (flat_map (λ e. e.flags / 256 ∷ e.flags % 256 ∷ e.address) entries) →
+        entries_in entry ≡ entries }
+    ensures broken { (entry : ResourceRecord) (bytes : List ℕ) → entry.rdata ≡ of_bytes bytes →
+        length bytes % 6 ≢ 0 → entries_in entry ≡ [] }
+    ensures domains { (entry : ResourceRecord) (labels : List (List ℕ)) →
+        entry.rdata ≡ of_domain labels → entries_in entry ≡ [] }
+    ensures other_kinds { (entry : ResourceRecord) → entry.kind ≢ 32 → entries_in entry ≡ [] }
+    ensures two { (name : List (List ℕ)) (class ttl : ℕ) → entries_in (record_of name 32 class ttl
+        (of_bytes (224 ∷ 1 ∷ 10 ∷ 2 ∷ 3 ∷ 4 ∷ 96 ∷ 5 ∷ 192 ∷ 6 ∷ 7 ∷ 8 ∷ [])))
+        ≡ record { flags = 57345; address = 10 ∷ 2 ∷ 3 ∷ 4 ∷ [] }
+        ∷ record { flags = 24581; address = 192 ∷ 6 ∷ 7 ∷ 8 ∷ [] } ∷ [] }
+{}
+
+/// The status of a node is that of a record of kind 33: RDATA of NUM_NAMES, so many names, each of
+/// sixteen bytes and two of flags, the high one first, and what follows them. Other records have
+/// none, nor has RDATA with less than so many names.
+///
+/// RFC 1002 section 4.2.18.
+pub fn status_of_a_record()
+    ensures bytes { (name : NodeName) → name.flags < 65536 →
+        node_name_bytes name ≡ name.bytes ++ name.flags / 256 ∷ name.flags % 256 ∷ [] }
+    ensures status { (entry : ResourceRecord) (status : StatusParts) →
+        AllByRecursion (λ n. (length n.bytes ≡ 16) × (n.flags < 65536)) status.names →
+        entry.kind ≡ 33 → entry.rdata ≡ of_bytes (length status.names
+        ∷ (flat_map (λ n. n.bytes ++ n.flags / 256 ∷ n.flags % 256 ∷ []) status.names
+        ++ status.statistics)) →
+        status_in entry ≡ status }
+    ensures short { (entry : ResourceRecord) (count : ℕ) (rest : List ℕ) →
+        entry.rdata ≡ of_bytes (count ∷ rest) → length rest < 18 * count →
+        status_in entry ≡ record { names = []; statistics = [] } }
+    ensures empty { (entry : ResourceRecord) → entry.rdata ≡ of_bytes [] →
+        status_in entry ≡ record { names = []; statistics = [] } }
+    ensures domains { (entry : ResourceRecord) (labels : List (List ℕ)) →
+        entry.rdata ≡ of_domain labels → status_in entry ≡ record { names = []; statistics = [] } }
+    ensures other_kinds { (entry : ResourceRecord) → entry.kind ≢ 33 →
+        status_in entry ≡ record { names = []; statistics = [] } }
+    ensures one { (name : List (List ℕ)) (class ttl : ℕ) → status_in (record_of name 33 class ttl
+        (of_bytes (1 ∷ 10 ∷ 11 ∷ 12 ∷ 13 ∷ 14 ∷ 15 ∷ 16 ∷ 17 ∷ 18 ∷ 19 ∷ 20 ∷ 21 ∷ 22 ∷ 23 ∷ 24 ∷ 25
+        ∷ 68 ∷ 3 ∷ 4 ∷ 5 ∷ 6 ∷ 7 ∷ 8 ∷ 9 ∷ 2 ∷ [])))
+        ≡ record {
+          names = record {
+            bytes = 10 ∷ 11 ∷ 12 ∷ 13 ∷ 14 ∷ 15 ∷ 16 ∷ 17 ∷ 18 ∷ 19 ∷ 20
+                ∷ 21 ∷ 22 ∷ 23 ∷ 24 ∷ 25 ∷ [];
+            flags = 17411;
+          } ∷ [];
+          statistics = 4 ∷ 5 ∷ 6 ∷ 7 ∷ 8 ∷ 9 ∷ 2 ∷ [];
+        } }
 {}
 
 /// Where a record's RDATA is a domain name, its kind is 2, and that name is read ten bytes after

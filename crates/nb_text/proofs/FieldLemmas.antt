@@ -213,9 +213,9 @@ letters_small (high ∷ low ∷ letters) h =
     (small, letters_small letters two.1)
 
 -- labels of which the first is letters are a name's
-pub letters_name : (first : List ℕ) (scope : List (List ℕ)) → are_letters first ≡ true → IsDomain (first ∷ scope) → AreByteLabels scope
-    → IsByteName (record { bytes = bytes_of_letters first; scope = scope })
-letters_name first scope h domain bytes =
+pub letters_are_a_name : (first : List ℕ) (scope : List (List ℕ)) → are_letters first ≡ true → IsDomain (first ∷ scope)
+    → IsName (record { bytes = bytes_of_letters first; scope = scope })
+letters_are_a_name first scope h domain =
     let parts = and_parts (length first == 32) (list_all is_letter first) h in
     let test = parts.0 in
     let long : length first ≡ 32 = grind (arith, nat_tests, test) in
@@ -225,9 +225,11 @@ letters_name first scope h domain bytes =
     let short : length (spelling scope) ≤ 222 = omega (arith, long, whole, length-append first (spelling scope)) in
     let within : length (spelling scope) ≤ 255 = omega (arith, short) in
     let fits : IsScope scope = record { domain = record { each = domain.each.1; short = within }; short = short } in
-    let is : IsName (record { bytes = bytes_of_letters first; scope = scope }) =
-    record { sixteen = sixteen; each = letters_small first parts.1; scope = fits } in
-    (is, bytes)
+    record { sixteen = sixteen; each = letters_small first parts.1; scope = fits }
+
+pub letters_name : (first : List ℕ) (scope : List (List ℕ)) → are_letters first ≡ true → IsDomain (first ∷ scope) → AreByteLabels scope
+    → IsByteName (record { bytes = bytes_of_letters first; scope = scope })
+letters_name first scope h domain bytes = (letters_are_a_name first scope h domain, bytes)
 
 pub labels_word : (labels : List (List ℕ)) → IsDomain labels → AreByteLabels labels → IsWord (labels_written labels)
 labels_word [] domain bytes = literal (46 ∷ []) refl

@@ -131,7 +131,7 @@ letter_back high low h l =
     (omega (arith, from, least, most), omega (arith, from, least, most))
 
 -- letters are those of the bytes that they stand for
-letters_back : (row : List ℕ) → list_all is_letter row ≡ true → length row % 2 ≡ 0 → letters (bytes_of_letters row) ≡ row
+pub letters_back : (row : List ℕ) → list_all is_letter row ≡ true → length row % 2 ≡ 0 → letters (bytes_of_letters row) ≡ row
 letters_back [] h even = refl
 letters_back (high ∷ []) h even = absurd (omega (arith, even))
 letters_back (high ∷ low ∷ row) h even =

@@ -15,6 +15,7 @@ pub mod ShownLines
 pub mod TellLemmas
 pub mod FieldTells
 pub mod LabelTells
+pub mod LabelLemmas
 pub mod SessionTells
 pub mod DatagramTells
 pub mod ServiceTells

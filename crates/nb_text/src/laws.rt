@@ -1,10 +1,10 @@
 //! Laws of the definitions that the contracts cite. Each is proved; a call does nothing.
-ghost use Rattle.std.specs.Prelude.{◌≡◌, ◌≤◌, ◌/◌, ◌%◌, ℕ, List, [], ◌∷◌, Some, None, codes};
+ghost use Rattle.std.specs.Prelude.{◌≡◌, ◌≢◌, ◌≤◌, ◌/◌, ◌%◌, ℕ, List, [], ◌∷◌, ◌++◌, Some, None, codes};
 ghost use Rattle.std.specs.Fmt.{decimal};
 ghost use Rattle.nb_names.specs.DomainName.{IsDomain, AreByteLabels, AreBytes};
 ghost use Rattle.nb_names.specs.Hexadecimal.{data_text};
-ghost use Rattle.nb_names.specs.Name.{NetbiosName, IsByteName};
-ghost use Rattle.nb_names.specs.NameText.{labels_written, written};
+ghost use Rattle.nb_names.specs.Name.{NetbiosName, IsName, IsByteName, IsNoName, labels_of_name};
+ghost use Rattle.nb_names.specs.NameText.{ScopeText, domain_written, labels_written, name_of_labels, written};
 ghost use Rattle.nb_service.specs.declared.flags.TheConstants.NmFlags.{AA, TC, RD, RA, B};
 ghost use Rattle.nb_service.specs.declared.flags.TheConstants.NodeFlags.{G, DRG, CNF, ACT, PRM};
 ghost use Rattle.nb_service.specs.Flags.{nm_bits, node_bits, ont_of, opcode_of, rcode_of};
@@ -82,6 +82,37 @@ pub fn a_field_tells_its_value()
         data_text bytes ≡ data_text others → bytes ≡ others }
     ensures keys { (key other : Key) → IsKey key → AreBytes key.ip → IsKey other →
         AreBytes other.ip → key_text key ≡ key_text other → key ≡ other }
+{}
+
+/// Which labels are a NetBIOS name's: those that spell it, and no others.
+pub fn labels_of_one_name()
+    ensures spelled { (name : NetbiosName) → IsName name →
+        name_of_labels (labels_of_name name) ≡ Some name }
+    ensures only { (labels : List (List ℕ)) (name : NetbiosName) → IsDomain labels →
+        name_of_labels labels ≡ Some name → IsName name × (labels ≡ labels_of_name name) }
+    ensures none { (labels : List (List ℕ)) (place : ℕ) → IsNoName labels place →
+        name_of_labels labels ≡ None }
+{}
+
+/// Labels that spell a NetBIOS name are written as that name, with its scope, and others as a domain
+/// name. That is the text of a scope with these labels, without the `.` at its front, and `.` alone
+/// where there is no label.
+///
+/// The vectors are of the name that RFC 1001 section 14.1 spells, and of three labels that spell none.
+pub fn labels_as_text()
+    ensures names { (name : NetbiosName) → IsName name →
+        labels_written (labels_of_name name) ≡ written name }
+    ensures domains { (labels : List (List ℕ)) → IsDomain labels →
+        ((name : NetbiosName) → IsName name → labels ≢ labels_of_name name) →
+        labels_written labels ≡ domain_written labels }
+    ensures dotted { (first : List ℕ) (labels : List (List ℕ)) → IsDomain (first ∷ labels) →
+        AreByteLabels (first ∷ labels) →
+        ScopeText (first ∷ labels) (46 ∷ domain_written (first ∷ labels)) }
+    ensures no_label { domain_written [] ≡ codes "." }
+    ensures a_name { labels_written (codes "EGFCEFEECACACACACACACACACACACACA"
+        ∷ codes "NETBIOS" ∷ codes "COM" ∷ []) ≡ codes "FRED<20>.NETBIOS.COM" }
+    ensures a_domain { labels_written (codes "ab" ∷ codes "c d" ∷ codes "e" ∷ [])
+        ≡ codes "ab.c" ++ 92 ∷ codes "20d.e" }
 {}
 
 /// The text of a packet tells the packet: two packets of a port that are shown by the same text are

@@ -1,3 +1,4 @@
 -- Reading the lines of an input.
 pub mod HeldBytes
 pub mod Seeking
+pub mod Calls

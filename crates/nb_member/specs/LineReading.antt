@@ -4,7 +4,7 @@ use Rattle.std.specs.Io.KnownBytes.{Consumes, IsAtEnd}
 use Rattle.nb_names.specs.Counted.{Counts}
 use Rattle.nb_names.specs.Devices.{GrowTo, ShowsReadFault}
 use Rattle.nb_names.specs.Lines.{IsLine}
-use Rattle.nb_member.specs.declared.limits.TheConstants.{MAX_LINE}
+use Rattle.nb_member.specs.declared.limits.TheConstants.{MAX_LINE, MAX_READ}
 use Rattle.nb_member.specs.declared.line_read_fault.LineReadFault.{LineReadFault}
 use Rattle.nb_member.specs.declared.line_read_fault.LineReadFault.TheVariants.{TooLong, Read, NoMemory}
 use Rattle.nb_member.specs.declared.line_room.standing.Standing.{Standing}
@@ -35,8 +35,18 @@ Repeats standing.Ended result = result ≡ Ok None
 Repeats standing.Unread result = result ≡ Err Read
 Repeats standing.TooLong result = result ≡ Err TooLong
 
+-- LastRead held got: these bytes came after those held, the last of them in one read, before which no line was whole or
+-- too long
+pub record LastRead (held got : List ℕ) : Type 0 where
+  pub earlier : List ℕ
+  pub last : List ℕ
+  pub both : got ≡ earlier ++ last
+  pub few : length last ≤ MAX_READ
+  pub was_open : IsOpen (held ++ earlier)
+
 -- ReadsLine old before left counts later result new: a call for the next line got these bytes from the reader,
--- which are kept, and one over the limit at most, which isn't, and answered so; the old room is now the new one
+-- which are kept, and one over the limit at most, which isn't, and answered so; the old room is now the new one, and
+-- all that was held or got is handed out or held
 pub record ReadsLine (old : RoomValue) (before left : Option (List ℕ)) (counts later : Counts)
     (result : Result (Option (List ℕ)) LineReadFault) (new : RoomValue) : Type 0 where
   pub got : List ℕ
@@ -47,11 +57,22 @@ pub record ReadsLine (old : RoomValue) (before left : Option (List ℕ)) (counts
   pub within : new.taken ≤ old.most
   pub few : length over ≤ 1
   pub kept : (over ≡ []) ⊎ ((result ≡ Err Read) × (new.taken ≡ old.most))
+  pub nothing_lost : old.rest ++ got ≡ new.lent ++ new.rest
+  pub asked : (got ≡ []) ⊎ LastRead old.rest got
   pub answers : Answers (old.rest ++ got) new result
   pub again : Repeats old.standing result
   pub unread : result ≡ Err Read → (old.standing ≡ standing.Unread) ⊎ ((0 < length over) ⊎ ShowsReadFault counts later)
   pub at_end : new.standing ≡ standing.Ended → ((old.standing ≡ standing.Ended) × (left ≡ before)) ⊎ IsAtEnd left
   pub grow : GrowTo counts later
+
+-- ManyCalls old handed got new: calls for lines, one after another, made the old room the new one; these bytes were
+-- handed out, line feeds among them, and these were got from the reader
+pub data ManyCalls : RoomValue → List ℕ → List ℕ → RoomValue → Type 0 where
+  no_call : (room : RoomValue) → ManyCalls room [] [] room
+  one_more : (old mid new : RoomValue) (handed got : List ℕ) (before left : Option (List ℕ)) (counts later : Counts)
+      (result : Result (Option (List ℕ)) LineReadFault) → ManyCalls old handed got mid
+      → (call : ReadsLine mid before left counts later result new)
+      → ManyCalls old (handed ++ new.lent) (got ++ call.got) new
 
 -- what is answered, a line by its bytes
 abbrev pub lent_line : Result (Option (Bor (List ℕ))) LineReadFault → Result (Option (List ℕ)) LineReadFault

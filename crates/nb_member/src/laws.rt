@@ -23,6 +23,7 @@ ghost use Rattle.nb_member.specs.Agreement.{valid, NoneDropped, GiveTheSame};
 
 mod deliveries;
 mod events;
+mod lines;
 mod listings;
 mod merging;
 
@@ -31,6 +32,7 @@ pub use deliveries::{
     once_is_one_or_none,
 };
 pub use events::each_event_says_something;
+pub use lines::what_came_is_handed_out_or_held;
 pub use listings::a_key_that_is_absent_is_listed_as_spoilt;
 pub use merging::{
     a_new_member_stands_for_no_event, a_preview_is_what_is_handed_over,

@@ -1,7 +1,8 @@
 //! What a table knows of its keys, a line for each.
 #![tactic(auto, using(nb_names::specs::GrowthFacts::front_stays))]
 
-ghost use Rattle.std.specs.Prelude.{◌≡◌, ◌++◌, codes, IfOk, OnOk, string_bytes};
+ghost use Rattle.std.specs.Prelude.{◌≡◌, ◌++◌, [], codes, IfOk, IsOk, OnOk, string_bytes};
+ghost use Rattle.std.specs.FinMap as maps;
 ghost use Rattle.nb_names.specs.Growth.{OnlyAdds};
 ghost use Rattle.std.specs.Fmt.{decimal};
 ghost use Rattle.nb_names.specs.NameText.{written};
@@ -18,13 +19,15 @@ use nb_table::{Outline, PlaceRange, Ranges, Table};
 use std::alloc::Global;
 
 /// The lines of a table's keys, ascending, as `nbt list` prints them (our choice): the key, and
-/// `whole` with its datagram, `partial` with what is known of it, or `spoilt`.
+/// `whole` with its datagram, `partial` with what is known of it, or `spoilt`. No memory is wanted
+/// where there are no keys.
 ///
 /// # Errors
 ///
 /// `NoMemory` where memory ran out.
 pub fn list_keys(alloc: Global, table: &Table) -> Result<String, NoMemory>
-    ensures { IfOk result (λ lines. string_bytes lines ≡ listing table.now.contents) }
+    ensures listed { IfOk result (λ lines. string_bytes lines ≡ listing table.now.contents) }
+    ensures without_memory { maps.keys table.now.contents ≡ [] → IsOk result }
 {
     let mut lines = String::new(alloc);
     for key in table.keys() {
@@ -51,7 +54,7 @@ pub fn push_key_line(table: &Table, key: Key, text: &mut String) -> Result<(), N
     Ok(())
 }
 
-/// Adds what is known of a key that is held.
+/// Adds what is known of a key; of one that isn't held, that it is spoilt.
 fn push_known(table: &Table, key: &Key, text: &mut String) -> Result<(), NoMemory>
     ensures added { OnOk result (string_bytes text.new ≡ string_bytes text.old
         ++ known_text (datagram_at table.now.contents key.now)

@@ -1,5 +1,5 @@
 -- What reading to a line keeps from read to read.
-use Rattle.std.proofs.Common.{◌≡◌, ◌<◌, ◌≤◌, ◌+◌, ◌++◌, ◌∷◌, ℕ, List, [], take, drop, length, Option, Some, None, Ok, Err, refl, sym, ◌∙◌, ap, subst, inl, inr, append_assoc, arith}
+use Rattle.std.proofs.Common.{◌≡◌, ◌⊎◌, ◌<◌, ◌≤◌, ◌+◌, ◌++◌, ◌∷◌, ℕ, List, [], take, drop, length, Option, Some, None, Ok, Err, refl, sym, ◌∙◌, ap, subst, inl, inr, append_assoc, arith}
 use Rattle.std.specs.Prelude.{Contains}
 use Rattle.std.specs.Io.KnownBytes.{Consumes, IsAtEnd}
 use Rattle.std.proofs.lemmas.List.Elements.{Contains-append_left}
@@ -11,7 +11,8 @@ use Rattle.nb_member.specs.declared.line_read_fault.LineReadFault.TheVariants.{R
 use Rattle.nb_member.specs.declared.line_room.standing.Standing.TheVariants as standing
 use Rattle.nb_names.specs.Devices.{GrowTo}
 use Rattle.nb_member.specs.Code.LineSteps.{IsFeedAt}
-use Rattle.nb_member.specs.LineReading.{ReadsLine}
+use Rattle.nb_member.specs.declared.limits.TheConstants.{MAX_READ}
+use Rattle.nb_member.specs.LineReading.{LastRead, ReadsLine}
 use Rattle.nb_member.specs.Code.LineSteps.{HandsFirst, ReadsMore, let_go_of, handed_out, with_standing, with_bytes}
 use Rattle.nb_member.specs.LineRoom.{RoomValue, IsOpen, IsTooLong}
 use Rattle.nb_names.specs.DeviceFacts.{Consumes-nil, Consumes-more, Consumes-kept, grows_on, cut_from}
@@ -30,6 +31,7 @@ pub record IsSeeking (old : RoomValue) (before now : Option (List ℕ)) (counts 
   pub grow : GrowTo counts later
   pub limit : room.most ≡ old.most
   pub most : room.taken ≤ old.most
+  pub asked : (got ≡ []) ⊎ LastRead old.rest got
 
 pub no_growth : (counts : Counts) → GrowTo counts counts
 no_growth counts = record { empty = omega arith; interrupted = omega arith; failed = omega arith }
@@ -57,7 +59,17 @@ seeking_first old new known counts is reads most = record {
   limit = ap (λ (r : RoomValue). r.most) is;
   most = omega (arith, most, ap (λ (r : RoomValue). r.most) is);
   began = sym (ap (λ (r : RoomValue). r.standing) is) ∙ sym reads;
+  asked = inl refl;
 }
+
+-- what is held where nothing is handed out
+all_held : (new : RoomValue) (bytes : List ℕ) → new.lent ≡ [] → new.rest ≡ bytes → bytes ≡ new.lent ++ new.rest
+all_held new bytes none is = sym is ∙ ap (λ (bs : List ℕ). bs ++ new.rest) (sym none)
+
+-- what is handed out where nothing is held
+all_handed : (new : RoomValue) (bytes : List ℕ) → new.lent ≡ bytes → new.rest ≡ [] → bytes ≡ new.lent ++ new.rest
+all_handed new bytes is none =
+    sym (append-nil bytes) ∙ ap (λ (bs : List ℕ). bytes ++ bs) (sym none) ∙ ap (λ (bs : List ℕ). bs ++ new.rest) (sym is)
 
 -- a line in front
 pub hands_line : (bytes : List ℕ) (old new : RoomValue) (at : ℕ) → bytes ≡ old.rest → IsFeedAt bytes at → at ≤ 262200
@@ -90,6 +102,8 @@ turn_ended old new known counts is ended none most =
       consumes = Consumes-nil known;
       taken = ap (λ (r : RoomValue). r.taken) is ∙ omega arith;
       kept = inl refl;
+      nothing_lost = all_held new (old.rest ++ []) (ap (λ (r : RoomValue). r.lent) is) (rest ∙ sym (append-nil old.rest));
+      asked = inl refl;
       answers = (append-nil old.rest ∙ sym rest ∙ none, none, ap (λ (r : RoomValue). r.lent) is, sym ended);
       unread = λ e. absurd (cc);
       at_end = λ e. inl (was, refl);
@@ -110,6 +124,8 @@ turn_unread old new known counts is unread opened most =
       consumes = Consumes-nil known;
       taken = ap (λ (r : RoomValue). r.taken) is ∙ omega arith;
       kept = inl refl;
+      nothing_lost = all_held new (old.rest ++ []) (ap (λ (r : RoomValue). r.lent) is) rest;
+      asked = inl refl;
       answers = (subst IsOpen rest opened, ap (λ (r : RoomValue). r.lent) is, sym unread);
       unread = λ e. inl was;
       at_end = λ e. absurd (cc);
@@ -130,6 +146,8 @@ turn_long old new known counts is long far most =
       consumes = Consumes-nil known;
       taken = ap (λ (r : RoomValue). r.taken) is ∙ omega arith;
       kept = inl refl;
+      nothing_lost = all_held new (old.rest ++ []) (ap (λ (r : RoomValue). r.lent) is) rest;
+      asked = inl refl;
       answers = (subst IsTooLong rest far, ap (λ (r : RoomValue). r.lent) is, sym long);
       unread = λ e. absurd (cc);
       at_end = λ e. absurd (cc);
@@ -155,6 +173,8 @@ turn_line old room new before now counts later seen n s p =
       consumes = subst (λ (bs : List ℕ). Consumes before now bs) (sym (append-nil s.got)) s.consumes;
       taken = ap (λ (r : RoomValue). r.taken) p.5 ∙ s.taken;
       kept = inl refl;
+      nothing_lost = sym s.rest ∙ p.4 ∙ sym (append_assoc p.0 (10 ∷ []) new.rest) ∙ ap (λ (bs : List ℕ). bs ++ new.rest) (sym lent);
+      asked = s.asked;
       answers = (short, p.3, inl (lent, sym s.rest ∙ p.4, reads));
       unread = λ e. absurd (cc);
       at_end = λ e. absurd (cc (reads, e));
@@ -175,6 +195,8 @@ turn_too_long old room new before now counts later seen s p =
       consumes = subst (λ (bs : List ℕ). Consumes before now bs) (sym (append-nil s.got)) s.consumes;
       taken = ap (λ (r : RoomValue). r.taken) p.1 ∙ s.taken;
       kept = inl refl;
+      nothing_lost = all_held new (old.rest ++ s.got) (ap (λ (r : RoomValue). r.lent) p.1 ∙ s.lent) (ap (λ (r : RoomValue). r.rest) p.1 ∙ s.rest);
+      asked = s.asked;
       answers = (subst IsTooLong s.rest p.0, ap (λ (r : RoomValue). r.lent) p.1 ∙ s.lent, stands);
       unread = λ e. absurd (cc);
       at_end = λ e. absurd (cc (stands, e));
@@ -208,6 +230,13 @@ seeking_on old room opened new before now after counts mid later seen n k s p r 
       limit = ap (λ (v : RoomValue). v.most) came ∙ s.limit;
       most = omega (arith, bounded, r.3, ap (λ (v : RoomValue). v.most) p.2, s.limit);
       began = s.began;
+      asked = inr (record {
+        earlier = s.got;
+        last = r.0;
+        both = refl;
+        few = subst (λ (m : ℕ). m ≤ MAX_READ) r.1 r.7;
+        was_open = subst IsOpen s.rest p.0;
+      });
     }
 
 -- the input can't be read further
@@ -230,6 +259,9 @@ turn_unreadable old room opened mid new before now after counts midway later see
         | inl w ↦ inl w.1
         | inr w ↦ inr (refl, taken ∙ sym there ∙ w.1 ∙ ap (λ (v : RoomValue). v.most) p.2 ∙ s.limit)
       ];
+      nothing_lost = all_held new (old.rest ++ s.got) (ap (λ (v : RoomValue). v.lent) is ∙ ap (λ (v : RoomValue). v.lent) same ∙ s.lent)
+          (ap (λ (v : RoomValue). v.rest) is ∙ ap (λ (v : RoomValue). v.rest) same ∙ s.rest);
+      asked = s.asked;
       answers = (subst IsOpen s.rest p.0, ap (λ (v : RoomValue). v.lent) is ∙ ap (λ (v : RoomValue). v.lent) same ∙ s.lent, stands);
       unread = λ e. inr (elim (r.2) [
         | inl w ↦ inr (cut_from counts midway later s.grow w.0)
@@ -256,6 +288,8 @@ turn_unheld old room opened mid before now after counts midway later seen n s p 
       consumes = subst (λ (bs : List ℕ). Consumes before after bs) (sym (append-nil s.got)) (Consumes-kept before now after s.got s.consumes r.0);
       taken = ap (λ (v : RoomValue). v.taken) same ∙ s.taken;
       kept = inl refl;
+      nothing_lost = all_held mid (old.rest ++ s.got) (ap (λ (v : RoomValue). v.lent) same ∙ s.lent) (ap (λ (v : RoomValue). v.rest) same ∙ s.rest);
+      asked = s.asked;
       answers = (ap (λ (v : RoomValue). v.rest) same ∙ s.rest, ap (λ (v : RoomValue). v.lent) same ∙ s.lent, stands, subst IsOpen s.rest p.0);
       unread = λ e. absurd (cc);
       at_end = λ e. absurd (cc (stands, e));
@@ -317,6 +351,8 @@ turn_none old room opened mid out new before now after counts midway later seen 
       consumes = e.consumes;
       taken = e.taken_so ∙ s.taken;
       kept = inl refl;
+      nothing_lost = sym s.rest ∙ all_handed new room.rest e.lent e.none;
+      asked = s.asked;
       answers = (sym s.rest ∙ empty, e.none, e.lent ∙ empty, e.stands);
       unread = λ h. absurd (cc);
       at_end = λ h. inr e.at_end;
@@ -342,6 +378,8 @@ turn_last old room opened mid out new before now after counts midway later seen 
       consumes = e.consumes;
       taken = e.taken_so ∙ s.taken;
       kept = inl refl;
+      nothing_lost = sym s.rest ∙ all_handed new room.rest e.lent e.none;
+      asked = s.asked;
       answers = (p.0.0, p.0.1, inr (e.lent, sym s.rest, size, e.none, e.stands));
       unread = λ h. absurd (cc);
       at_end = λ h. inr e.at_end;

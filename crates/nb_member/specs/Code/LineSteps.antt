@@ -5,7 +5,7 @@ use Rattle.nb_names.specs.Counted.{Counts}
 use Rattle.nb_names.specs.Devices.{GrowTo, ShowsReadFault}
 use Rattle.nb_names.specs.Lines.{IsLine}
 use Rattle.nb_names.specs.declared.device_fault.DeviceFault.{DeviceFault}
-use Rattle.nb_member.specs.declared.limits.TheConstants.{MAX_HELD, MAX_LINE}
+use Rattle.nb_member.specs.declared.limits.TheConstants.{MAX_HELD, MAX_LINE, MAX_READ}
 use Rattle.nb_member.specs.declared.line_reading.First.{First}
 use Rattle.nb_member.specs.declared.line_reading.First.TheVariants.{Line, TooLong, Open}
 use Rattle.nb_member.specs.declared.line_read_fault.LineReadFault.{LineReadFault}
@@ -64,12 +64,12 @@ HandsFirst old (Line n) new =
 HandsFirst old TooLong new = IsTooLong old.rest × (new ≡ with_standing standing.TooLong old)
 HandsFirst old (Open n) new = IsOpen old.rest × (n ≡ length old.rest) × (new ≡ old)
 
--- ReadsMore old before left counts later result new: what reading once gives: so many bytes more, none at the
--- end; or the input can't be read further, maybe because it gave more bytes than are looked at
+-- ReadsMore old before left counts later result new: what reading once gives: so many bytes more, no more than a read
+-- asks for, none at the end; or the input can't be read further, maybe because it gave more bytes than are looked at
 abbrev pub ReadsMore : RoomValue → Option (List ℕ) → Option (List ℕ) → Counts → Counts → Result ℕ LineReadFault → RoomValue → Type 0
 ReadsMore old before left counts later (Ok n) new =
     (got : List ℕ) × (n ≡ length got) × Consumes before left got × (old.taken + n ≤ old.most)
-    × (n ≡ 0 → IsAtEnd left) × (new ≡ with_bytes old got) × GrowTo counts later
+    × (n ≡ 0 → IsAtEnd left) × (new ≡ with_bytes old got) × GrowTo counts later × (n ≤ MAX_READ)
 ReadsMore old before left counts later (Err fault.Read) new =
     (over : List ℕ) × Consumes before left over
     × ((ShowsReadFault counts later × (over ≡ [])) ⊎ ((0 < length over) × (old.taken ≡ old.most)))

@@ -244,7 +244,7 @@ struct nbt_station {
  * address, whatever its ports; UINT32_MAX is no limit. A key is kept from its first fragment on until the clock drops it,
  * some 200 bytes and the data each. `*station`, written at NBT_DONE alone, goes to `at` of a struct nbt_station.
  * The first fault of the names in order: NBT_BAD_TEXT and NBT_LONG_TEXT (*at counts from the front of `names`),
- * NBT_NAME_PRESENT, NBT_TOO_MANY_NAMES; NBT_NO_MEMORY, which may come before them. */
+ * NBT_NAME_PRESENT, NBT_TOO_MANY_NAMES; NBT_NO_MEMORY, which may come before those of a text after the first. */
 uint32_t nbt_station_create(const uint8_t *names, size_t names_length, uint32_t address, uint16_t port,
                             uint32_t keys, uint32_t per_source, void **station, size_t *at);
 

@@ -4,19 +4,18 @@ use Rattle.std.specs.Prelude.{IfOk}
 use Rattle.nb_names.specs.declared.bytes.NoMemory.{NoMemory}
 use Rattle.nb_c.specs.declared.refusal.Refusal.{Refusal}
 use Rattle.nb_c.specs.declared.refusal.Refusal.TheVariants.{Memory, Fault, FaultAt}
-use Rattle.nb_c.specs.Outputs.{Alone, Answers, Does, HasOne, MayLack, OrMemory, Filled, Fills, all_late, of_memory}
+use Rattle.nb_c.specs.Outputs.{Alone, Answers, Does, HasOne, Lent, MayLack, OrMemory, Filled, Fills, all_late, of_memory}
 
-module _ (late : ℕ → Bool) (Says : Result (List ℕ) Refusal → Type 0) (one : HasOne Says)
-    (old new : List ℕ) (used used' at at' status : ℕ) where
-  told : (answer : Result (List ℕ) Refusal) → Says answer → Answers answer old new used used' at at' status
-      → Does late Says old new used used' at at' status
+module _ (late : ℕ → Bool) (Says : Result (List ℕ) Refusal → Type 0) (one : HasOne Says) (old new : Lent) (status : ℕ) where
+  told : (answer : Result (List ℕ) Refusal) → Says answer → Answers answer old new status
+      → Does late Says old new status
   told answer said h = record {
     some = inr (answer, said, h);
-    only = λ other also. inr (subst (λ (t : Result (List ℕ) Refusal). Answers t old new used used' at at' status) (one answer other said also) h);
+    only = λ other also. inr (subst (λ (t : Result (List ℕ) Refusal). Answers t old new status) (one answer other said also) h);
   }
 
-  pub does : (answer : Result (List ℕ) Refusal) → OrMemory late Says answer → Answers answer old new used used' at at' status
-      → Does late Says old new used used' at at' status
+  pub does : (answer : Result (List ℕ) Refusal) → OrMemory late Says answer → Answers answer old new status
+      → Does late Says old new status
   does (Ok bytes) j h = told (Ok bytes) j h
   does (Err Memory) j h = record { some = inl h; only = λ other said. inl (j other said, h) }
   does (Err (Fault code)) j h = told (Err (Fault code)) j h

@@ -2,6 +2,7 @@ pub mod AbsorbLemmas
 pub mod AnswerLemmas
 pub mod FrameLemmas
 pub mod HandleValues
+pub mod LengthLemmas
 pub mod ListLemmas
 pub mod LoadLemmas
 pub mod MergeLemmas
@@ -9,5 +10,6 @@ pub mod NameLemmas
 pub mod PlaceLemmas
 pub mod ReadLemmas
 pub mod ShowLemmas
+pub mod StationNameLemmas
 pub mod TellLemmas
 pub mod TextLemmas

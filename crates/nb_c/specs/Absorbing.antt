@@ -17,7 +17,7 @@ use Rattle.nb_member.specs.Member.{MemberValue, contents}
 use Rattle.nb_member.specs.Taking.{Absorbs, Previews}
 use Rattle.nb_c.specs.declared.refusal.Refusal.{Refusal}
 use Rattle.nb_c.specs.declared.refusal.Refusal.TheVariants.{Memory}
-use Rattle.nb_c.specs.Outputs.{Answers}
+use Rattle.nb_c.specs.Outputs.{Answers, Lent}
 use Rattle.nb_c.specs.Stations.{table_refusal}
 use Rattle.nb_c.specs.Tables.{first_refusal, IsLoaded}
 
@@ -57,9 +57,8 @@ pub data Absorbed (m : MemberValue) (moment : ℕ) (table : List ℕ) (room : �
       → Absorbed m moment table room after (Err (first_refusal fault))
   unread : after ≡ m → Absorbed m moment table room after (Err Memory)
 
--- AbsorbsInto m moment table after old new used used' at at' status: what the call does to the member m, and to the buffer,
--- the count and the place that its caller lends
-abbrev pub AbsorbsInto : MemberValue → ℕ → List ℕ → MemberValue → List ℕ → List ℕ → ℕ → ℕ → ℕ → ℕ → ℕ → Type 0
-AbsorbsInto m moment table after old new used used' at at' status =
-    (answer : Result (List ℕ) Refusal) × Absorbed m moment table (length old) after answer
-    × Answers answer old new used used' at at' status
+-- AbsorbsInto m moment table after old new status: what the call does to the member m, and to what its caller lends
+abbrev pub AbsorbsInto : MemberValue → ℕ → List ℕ → MemberValue → Lent → Lent → ℕ → Type 0
+AbsorbsInto m moment table after old new status =
+    (answer : Result (List ℕ) Refusal) × Absorbed m moment table (length old.buffer) after answer
+    × Answers answer old new status

@@ -35,13 +35,20 @@ abbrev pub of_memory : Result (List ℕ) NoMemory → Result (List ℕ) Refusal
 of_memory (Ok bytes) = Ok bytes
 of_memory (Err fault) = Err Memory
 
--- Answers answer old new used used' at at' status: a call with this answer leaves the buffer, the number of bytes and
--- the place so, and has this status
-abbrev pub Answers : Result (List ℕ) Refusal → List ℕ → List ℕ → ℕ → ℕ → ℕ → ℕ → ℕ → Type 0
-Answers (Ok bytes) old new used used' at at' status =
-    (new ≡ put_into bytes old) × (used' ≡ length bytes) × (at' ≡ at) × (status ≡ put_status bytes old)
-Answers (Err refusal) old new used used' at at' status =
-    (new ≡ old) × (used' ≡ used) × (at' ≡ at_refused refusal at) × (status ≡ refused_status refusal)
+-- what a caller lends for bytes: a buffer, how many bytes it has or wants, and the place of a fault
+pub record Lent : Type 0 where
+  pub buffer : List ℕ
+  pub used : ℕ
+  pub place : ℕ
+
+-- Answers answer old new status: a call with this answer leaves what was lent so, and has this status
+abbrev pub Answers : Result (List ℕ) Refusal → Lent → Lent → ℕ → Type 0
+Answers (Ok bytes) old new status =
+    (new.buffer ≡ put_into bytes old.buffer) × (new.used ≡ length bytes) × (new.place ≡ old.place)
+    × (status ≡ put_status bytes old.buffer)
+Answers (Err refusal) old new status =
+    (new.buffer ≡ old.buffer) × (new.used ≡ old.used) × (new.place ≡ at_refused refusal old.place)
+    × (status ≡ refused_status refusal)
 
 -- Alone Says answer: this is said, and nothing else
 pub record Alone (A : Type 0) (Says : Result A Refusal → Type 0) (answer : Result A Refusal) : Type 0 where
@@ -73,13 +80,13 @@ OrMemory late Says (Err Memory) = (answer : Result (List ℕ) Refusal) → Says 
 OrMemory late Says (Err (Fault status)) = Says (Err (Fault status))
 OrMemory late Says (Err (FaultAt status place)) = Says (Err (FaultAt status place))
 
--- Does late Says old new used used' at at' status: a call does what is said, and whatever is said is what it does, unless
--- memory runs out, which it may only before what takes memory
-pub record Does (late : ℕ → Bool) (Says : Result (List ℕ) Refusal → Type 0) (old new : List ℕ) (used used' at at' status : ℕ) : Type 0 where
-  pub some : Answers (Err Memory) old new used used' at at' status
-      ⊎ ((answer : Result (List ℕ) Refusal) × Says answer × Answers answer old new used used' at at' status)
+-- Does late Says old new status: a call does what is said, and whatever is said is what it does, unless memory runs out,
+-- which it may only before what takes memory
+pub record Does (late : ℕ → Bool) (Says : Result (List ℕ) Refusal → Type 0) (old new : Lent) (status : ℕ) : Type 0 where
+  pub some : Answers (Err Memory) old new status
+      ⊎ ((answer : Result (List ℕ) Refusal) × Says answer × Answers answer old new status)
   pub only : (answer : Result (List ℕ) Refusal) → Says answer
-      → (MayLack late answer × Answers (Err Memory) old new used used' at at' status) ⊎ Answers answer old new used used' at at' status
+      → (MayLack late answer × Answers (Err Memory) old new status) ⊎ Answers answer old new status
 
 -- Filled A answer old new at at' status: a call with this answer leaves what it fills in and the place so, and has this
 -- status

@@ -1,6 +1,7 @@
 -- What the calls on a station do (RFC 1002 section 5.3; the form of what is written is our choice).
-use Rattle.std.specs.Prelude.{◌≡◌, ◌<◌, ◌≤◌, ◌+◌, ℕ, List, [], ◌∷◌, ◌++◌, length, drop, Contains, Option, Some, None, Result, Ok, Err}
+use Rattle.std.specs.Prelude.{◌≡◌, ◌==◌, ◌⊎◌, ◌<◌, ◌≤◌, ◌+◌, ℕ, Bool, List, [], ◌∷◌, ◌++◌, length, drop, Contains, Option, Some, None, Result, Ok, Err}
 use Rattle.std.specs.Int.{w32, from_be_bytes}
+use Rattle.std.specs.List.{slice_split}
 use Rattle.nb_names.specs.declared.text_fault.TextFault.{TextFault}
 use Rattle.nb_names.specs.declared.text_fault.TextFault.TheVariants as texts
 use Rattle.nb_names.specs.Name.{NetbiosName}
@@ -32,6 +33,15 @@ use Rattle.nb_c.specs.Statuses.{datagram_refusal}
 
 -- ---- the names of a new station
 
+-- whether a byte is a space
+abbrev pub is_space : ℕ → Bool
+is_space byte = byte == 32
+
+-- the texts that stand in the bytes, with one space between two; none where there are no bytes
+abbrev pub texts_in : List ℕ → List (List ℕ)
+texts_in [] = []
+texts_in (byte ∷ bytes) = slice_split is_space (byte ∷ bytes)
+
 -- bad_name place fault: why the text that begins there is of no name
 abbrev pub bad_name : ℕ → TextFault → Refusal
 bad_name place (texts.BadText at) = FaultAt statuses.BAD_TEXT (place + at)
@@ -53,17 +63,40 @@ pub data AreNames : ℕ → List NetbiosName → List (List ℕ) → Result (Lis
       (name : NetbiosName) → IsRead word (Ok name) → ¬ Contains held name → length held < MAX_NAMES
       → AreNames (place + length word + 1) (held ++ name ∷ []) words answer → AreNames place held (word ∷ words) answer
 
+-- the first of the texts is a name's
+abbrev pub BeginsWithName : List (List ℕ) → Type 0
+BeginsWithName [] = ⊥
+BeginsWithName (word ∷ words) = (name : NetbiosName) × IsRead word (Ok name)
+
 -- NamesText place held word new result: the text that begins at the place is added to the names that are held, and those
--- after it then stand as they would after it; or it has the first fault, whatever comes after it; or memory ran out
+-- after it then stand as they would after it; or it has the first fault, whatever comes after it; or it is a name's, and
+-- memory ran out
 abbrev pub NamesText : ℕ → List NetbiosName → List ℕ → List NetbiosName → Result Unit Refusal → Type 0
 NamesText place held word new (Ok _) =
-    (words : List (List ℕ)) (answer : Result (List NetbiosName) Refusal) → AreNames (place + length word + 1) new words answer
-    → AreNames place held (word ∷ words) answer
-NamesText place held word new (Err Memory) = new ≡ held
+    BeginsWithName (word ∷ [])
+    × ((words : List (List ℕ)) (answer : Result (List NetbiosName) Refusal) → AreNames (place + length word + 1) new words answer
+    → AreNames place held (word ∷ words) answer)
+NamesText place held word new (Err Memory) = BeginsWithName (word ∷ []) × (new ≡ held)
 NamesText place held word new (Err (Fault status)) =
     (words : List (List ℕ)) → AreNames place held (word ∷ words) (Err (Fault status))
 NamesText place held word new (Err (FaultAt status at)) =
     (words : List (List ℕ)) → AreNames place held (word ∷ words) (Err (FaultAt status at))
+
+-- Names words answer: these are the names with the texts, in order, or the first fault; memory may run out instead of
+-- either, but not where the first of the texts is no name's
+abbrev pub Names : List (List ℕ) → Result (List NetbiosName) Refusal → Type 0
+Names words (Ok names) = AreNames 0 [] words (Ok names)
+Names words (Err Memory) = BeginsWithName words
+Names words (Err (Fault status)) = AreNames 0 [] words (Err (Fault status))
+Names words (Err (FaultAt status at)) = AreNames 0 [] words (Err (FaultAt status at))
+
+-- Creates bytes at at' status: what the call that makes a station of names with their texts in the bytes answers, and what
+-- it leaves of the place: nothing is wrong with the names, and it is done or memory ran out; or they have a fault
+pub data Creates (bytes : List ℕ) (at at' status : ℕ) : Type 0 where
+  made : (names : List NetbiosName) → Names (texts_in bytes) (Ok names) → at' ≡ at
+      → (status ≡ statuses.DONE) ⊎ (status ≡ statuses.NO_MEMORY) → Creates bytes at at' status
+  refused : (refusal : Refusal) → Names (texts_in bytes) (Err refusal) → at' ≡ at_refused refusal at
+      → status ≡ refused_status refusal → Creates bytes at at' status
 
 -- ---- what became of a payload
 
@@ -192,27 +225,32 @@ answer_told (Ok outcome) = Ok (told_of outcome)
 answer_told (Err (Packet fault error)) = Ok (told_refused fault error)
 answer_told (Err (Table fault)) = Err (table_refusal fault)
 
--- Tells answer taken taken' old new used used' status: a call with this answer leaves the numbers, the buffer and the
--- count so, and has this status
-abbrev pub Tells : Result Told Refusal → NbtTaken → NbtTaken → List ℕ → List ℕ → ℕ → ℕ → ℕ → Type 0
-Tells (Ok told) taken taken' old new used used' status =
-    (taken' ≡ told.numbers) × (new ≡ told.bytes ++ drop (length told.bytes) old)
-    × (used' ≡ length told.bytes) × (status ≡ statuses.DONE)
-Tells (Err refusal) taken taken' old new used used' status =
-    (taken' ≡ taken) × (new ≡ old) × (used' ≡ used) × (status ≡ refused_status refusal)
+-- what the caller lends: the numbers that are filled in, a buffer, and how many bytes it has or wants
+pub record LentToTake : Type 0 where
+  pub taken : NbtTaken
+  pub buffer : List ℕ
+  pub used : ℕ
 
--- Took m moment payload after taken taken' old new used used' status: what the call that takes a payload does to the
--- member m and to what its caller lends. The room is judged first: where there is too little, whatever the payload, or
--- where memory runs out, nothing changes
-pub data Took (m : MemberValue) (moment : ℕ) (payload : List ℕ) (after : MemberValue) (taken taken' : NbtTaken)
-    (old new : List ℕ) (used used' status : ℕ) : Type 0 where
-  no_room : length old < outcomes.TAKE_ROOM → after ≡ m → taken' ≡ taken → new ≡ old → used' ≡ outcomes.TAKE_ROOM
-      → status ≡ statuses.NO_ROOM → Took m moment payload after taken taken' old new used used' status
-  no_memory : outcomes.TAKE_ROOM ≤ length old → after ≡ m → taken' ≡ taken → new ≡ old → used' ≡ used
-      → status ≡ statuses.NO_MEMORY → Took m moment payload after taken taken' old new used used' status
-  answered : (result : Result Outcome MemberFault) → outcomes.TAKE_ROOM ≤ length old → Takes m moment payload after result
-      → Tells (answer_told result) taken taken' old new used used' status
-      → Took m moment payload after taken taken' old new used used' status
+-- Tells answer old new status: a call with this answer leaves what was lent so, and has this status
+abbrev pub Tells : Result Told Refusal → LentToTake → LentToTake → ℕ → Type 0
+Tells (Ok told) old new status =
+    (new.taken ≡ told.numbers) × (new.buffer ≡ told.bytes ++ drop (length told.bytes) old.buffer)
+    × (new.used ≡ length told.bytes) × (status ≡ statuses.DONE)
+Tells (Err refusal) old new status =
+    (new.taken ≡ old.taken) × (new.buffer ≡ old.buffer) × (new.used ≡ old.used) × (status ≡ refused_status refusal)
+
+-- Took m moment payload after old new status: what the call that takes a payload does to the member m and to what its
+-- caller lends. The room is judged first: where there is too little, whatever the payload, or where memory runs out,
+-- nothing changes
+pub data Took (m : MemberValue) (moment : ℕ) (payload : List ℕ) (after : MemberValue)
+    (old new : LentToTake) (status : ℕ) : Type 0 where
+  no_room : length old.buffer < outcomes.TAKE_ROOM → after ≡ m → new.taken ≡ old.taken → new.buffer ≡ old.buffer
+      → new.used ≡ outcomes.TAKE_ROOM → status ≡ statuses.NO_ROOM → Took m moment payload after old new status
+  no_memory : outcomes.TAKE_ROOM ≤ length old.buffer → after ≡ m → new.taken ≡ old.taken → new.buffer ≡ old.buffer
+      → new.used ≡ old.used → status ≡ statuses.NO_MEMORY → Took m moment payload after old new status
+  answered : (result : Result Outcome MemberFault) → outcomes.TAKE_ROOM ≤ length old.buffer
+      → Takes m moment payload after result → Tells (answer_told result) old new status
+      → Took m moment payload after old new status
 
 -- ---- the clock
 

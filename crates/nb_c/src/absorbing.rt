@@ -31,7 +31,8 @@ pub extern "C" fn nbt_station_absorb(
     at: &mut usize,
 ) -> u32
     ensures { AbsorbsInto station.old.value.member moment table.now station.new.value.member
-        into.old into.new used.old used.new at.old at.new result }
+        (record { buffer = into.old; used = used.old; place = at.old })
+        (record { buffer = into.new; used = used.new; place = at.new }) result }
 {
     let Ok(spare) = spare(alloc) else {
         return NO_MEMORY;

@@ -56,7 +56,8 @@ pub extern "C" fn nbt_datagram_write(
       port = port;
       most = most;
     }) source.now destination.now contents.now)
-        into.old into.new used.old used.new at.old at.new result }
+        (record { buffer = into.old; used = used.old; place = at.old })
+        (record { buffer = into.new; used = used.new; place = at.new }) result }
 {
     let sent = Sent {
         packet_type,

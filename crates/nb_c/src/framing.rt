@@ -26,7 +26,8 @@ pub extern "C" fn nbt_session_write(
     at: &mut usize,
 ) -> u32
     ensures { Does follow_the_type (Writes packet_type body.now)
-        into.old into.new used.old used.new at.old at.new result }
+        (record { buffer = into.old; used = used.old; place = at.old })
+        (record { buffer = into.new; used = used.new; place = at.new }) result }
 {
     write_answer(packet_of(alloc, packet_type, body), into, used, at)
 }

@@ -1,5 +1,6 @@
 //! Laws of the definitions that the contracts cite. Each is proved; a call does nothing.
-ghost use Rattle.std.specs.Prelude.{◌≡◌, ◌<◌, ◌≤◌, ◌+◌, [], ◌∷◌, ℕ, List, Result, Err};
+ghost use Rattle.std.specs.Prelude.{◌≡◌, ◌↔◌, ◌<◌, ◌≤◌, ◌+◌, IsTrue, length, [], ◌∷◌, ℕ, List, All, Contains, Result, Err};
+ghost use Rattle.std.specs.List.{join_with_byte};
 ghost use Rattle.nb_names.specs.declared.fault.NameFault.{NameFault};
 ghost use Rattle.nb_names.specs.declared.fault.NameFault.TheVariants as names;
 ghost use Rattle.nb_names.specs.declared.text_fault.TextFault.{TextFault};
@@ -16,11 +17,15 @@ ghost use Rattle.nb_datagram.specs.declared.packet.ErrorPacket.{ErrorPacket};
 ghost use Rattle.nb_datagram.specs.declared.packet.QueryPacket.{QueryPacket};
 ghost use Rattle.nb_datagram.specs.Fragment.{FragmentParts};
 ghost use Rattle.nb_datagram.specs.Packet.{IsPacket, name_bytes};
+ghost use Rattle.nb_datagram.specs.Datagram.{DatagramParts};
+ghost use Rattle.nb_datagram.specs.Header.{IsKey};
+ghost use Rattle.nb_datagram.specs.Pieces.{piece};
+ghost use Rattle.nb_c.specs.Cutting.{are_long, packet_of};
 ghost use Rattle.nb_c.specs.Datagrams.{fragment_places, error_places, query_places};
 ghost use Rattle.nb_c.specs.Tables.{Lists, Merges, first_refusal, second_refusal};
 ghost use Rattle.nb_c.specs.Outputs.{refused_status};
 ghost use Rattle.nb_c.specs.Requests.{named_answer, request_answer, requested};
-ghost use Rattle.nb_c.specs.Stations.{place_in, table_refusal};
+ghost use Rattle.nb_c.specs.Stations.{AreNames, place_in, table_refusal, texts_in};
 ghost use Rattle.nb_c.specs.Statuses.{text_refusal, source_text_refusal, destination_text_refusal, name_refusal, datagram_refusal, session_refusal};
 ghost use Rattle.nb_c.specs.declared.refusal.Refusal.{Refusal};
 ghost use Rattle.nb_c.specs.declared.refusal.Refusal.TheVariants.{Memory, Fault, FaultAt};
@@ -31,6 +36,7 @@ ghost use Rattle.nb_table.specs.declared.load_fault.LoadFault.TheVariants as loa
 ghost use Rattle.nb_table.specs.Limits.{Limits};
 ghost use Rattle.nb_c.specs.declared.statuses.TheConstants.{DONE, NO_ROOM, NO_MEMORY, BAD_TEXT, LONG_TEXT, SOURCE_BAD_TEXT, SOURCE_LONG_TEXT, DESTINATION_BAD_TEXT, DESTINATION_LONG_TEXT, NAME_TRUNCATED, NAME_RESERVED_LABEL, NAME_POINTER, NAME_LONG, NAME_NOT_NETBIOS, NAME_TRAILING_BYTES, NAME_BAD_POINTER, SOURCE_TRUNCATED, SOURCE_RESERVED_LABEL, SOURCE_POINTER, SOURCE_LONG, SOURCE_NOT_NETBIOS, SOURCE_BAD_POINTER, DESTINATION_TRUNCATED, DESTINATION_RESERVED_LABEL, DESTINATION_POINTER, DESTINATION_LONG, DESTINATION_NOT_NETBIOS, DESTINATION_BAD_POINTER, TRUNCATED, UNKNOWN_TYPE, MORE, RESERVED_FLAGS, BAD_LENGTH, TRAILING_BYTES, UNKNOWN_REQUEST, ZERO_PIECE, LONG_DATA, TABLE_BAD_MAGIC, TABLE_TRUNCATED, TABLE_NOT_CANONICAL, TABLE_LONG, TABLE_FULL_SOURCE, TABLE_FULL, SECOND_BAD_MAGIC, SECOND_TRUNCATED, SECOND_NOT_CANONICAL, SECOND_LONG, SECOND_FULL_SOURCE, SECOND_FULL, MISPLACED_FIRST, LONG, FULL_SOURCE, FULL, NAME_PRESENT, TOO_MANY_NAMES, UNKNOWN_STATUS};
 
+use nb_names::text_laws::{one_name, one_text_fault};
 use nb_table::laws::{an_input_is_read_as_one_table, saved_bytes_have_one_reading};
 
 /// The number of each status, of what became of a payload, and of the room for it.
@@ -172,3 +178,29 @@ pub fn parts_stand_at_their_places()
         IsPacket payload (Query q) used →
         StandsAt payload (query_places q used).destination (name_bytes q.destination) }
 {}
+
+/// A datagram is too long exactly where the first of its packets, than which none is longer, has more
+/// than 65,535 bytes.
+pub fn the_first_packet_is_the_longest()
+    ensures long { (d : DatagramParts) (most : ℕ) → IsKey d.key →
+        IsTrue (are_long d most) ↔ (65535 < length (packet_of (piece d most 0))) }
+    ensures longest { (d : DatagramParts) (most j : ℕ) → IsKey d.key →
+        length (packet_of (piece d most j)) ≤ length (packet_of (piece d most 0)) }
+{}
+
+/// The texts of a station's names are what stands between spaces: joined by one space each they are
+/// the bytes, and none has a space in it.
+pub fn texts_stand_between_spaces()
+    ensures joined { (bytes : List ℕ) → join_with_byte 32 (texts_in bytes) ≡ bytes }
+    ensures apart { (bytes : List ℕ) → All (λ text. ¬ Contains text 32) (texts_in bytes) }
+    ensures none { texts_in [] ≡ [] }
+{}
+
+/// Of the texts of a station's names one thing is answered, the names or the first fault.
+pub fn a_station_has_one_list_of_names()
+    ensures { (words : List (List ℕ)) (answer other : Result (List NetbiosName) Refusal) →
+        AreNames 0 [] words answer → AreNames 0 [] words other → answer ≡ other }
+{
+    one_name();
+    one_text_fault();
+}

@@ -24,7 +24,9 @@ pub extern "C" fn nbt_name_spell(
     used: &mut usize,
     at: &mut usize,
 ) -> u32
-    ensures { Does none_late (Spells text.now) into.old into.new used.old used.new at.old at.new result }
+    ensures { Does none_late (Spells text.now)
+        (record { buffer = into.old; used = used.old; place = at.old })
+        (record { buffer = into.new; used = used.new; place = at.new }) result }
 {
     write_answer(spelling_of(alloc, text), into, used, at)
 }
@@ -40,7 +42,9 @@ pub extern "C" fn nbt_name_text(
     used: &mut usize,
     at: &mut usize,
 ) -> u32
-    ensures { Does none_late (Tells spelling.now) into.old into.new used.old used.new at.old at.new result }
+    ensures { Does none_late (Tells spelling.now)
+        (record { buffer = into.old; used = used.old; place = at.old })
+        (record { buffer = into.new; used = used.new; place = at.new }) result }
 {
     write_answer(text_of(alloc, spelling), into, used, at)
 }

@@ -1,6 +1,7 @@
 //! The names of a station, read from their texts.
-ghost use Rattle.std.specs.Prelude.{◌+◌, ◌<◌, length};
-ghost use Rattle.nb_c.specs.Stations.{NamesText};
+ghost use Rattle.std.specs.Prelude.{◌≡◌, ◌+◌, ◌<◌, ◌++◌, ◌∷◌, Contains, MatchOption, length};
+ghost use Rattle.std.specs.List.{slice_split};
+ghost use Rattle.nb_c.specs.Stations.{Names, NamesText, is_space, texts_in};
 
 use crate::refusal::Refusal;
 use crate::statuses::{BAD_TEXT, LONG_TEXT, NAME_PRESENT, TOO_MANY_NAMES};
@@ -9,24 +10,45 @@ use nb_member::{AddFault, LocalNames};
 use nb_names::TextFault;
 use std::alloc::Global;
 
-/// The names whose texts these are, with one space between two.
-pub(crate) fn names_of(alloc: Global, texts: &[u8]) -> Result<LocalNames, Refusal> {
-    let mut names = LocalNames::new(alloc);
+/// The names whose texts these are, with one space between two; none where there are no bytes.
+pub(crate) fn names_of(alloc: Global, texts: &[u8]) -> Result<LocalNames, Refusal>
+    ensures { Names (texts_in texts.now) result }
+{
     if texts.is_empty() {
-        return Ok(names);
+        return Ok(LocalNames::new(alloc));
     }
-    let mut place = 0_usize;
-    for text in texts.split(|byte| *byte == b' ') {
+    names_between(alloc, texts)
+}
+
+/// The names whose texts stand between spaces.
+fn names_between(alloc: Global, texts: &[u8]) -> Result<LocalNames, Refusal>
+    ensures { Names (slice_split is_space texts.now) result }
+{
+    let mut names = LocalNames::new(alloc);
+    let mut rest = texts;
+    let mut place = 0;
+    while let Some((text, others)) = at_space(rest) {
         add(text, place, &mut names)?;
-        place = place.saturating_add(text.len()).saturating_add(1);
+        place += text.len() + 1;
+        rest = others;
     }
+    add(rest, place, &mut names)?;
     Ok(names)
+}
+
+/// What stands before the first space, and what after it; `None` where there is none.
+fn at_space(texts: &[u8]) -> Option<(&[u8], &[u8])>
+    ensures { MatchOption result (¬ Contains texts.now 32)
+        (λ parts. (texts.now ≡ parts.0.now ++ 32 ∷ parts.1.now) × (¬ Contains parts.0.now 32)) }
+{
+    let at = texts.iter().position(|byte| *byte == b' ')?;
+    Some((&texts[..at], &texts[at + 1..]))
 }
 
 /// Adds the name with this text, which begins at a place.
 fn add(text: &[u8], place: usize, names: &mut LocalNames) -> Result<(), Refusal>
-    ensures { place + length text.now < 18446744073709551616 →
-        NamesText place names.old text.now names.new result }
+    requires { place + length text.now < 18446744073709551616 }
+    ensures { NamesText place names.old text.now names.new result }
 {
     match name_of_text(text) {
         Ok(name) => match names.add(name) {

@@ -42,7 +42,9 @@ pub(crate) fn write_answer(
     used: &mut usize,
     at: &mut usize,
 ) -> u32
-    ensures { Answers answer into.old into.new used.old used.new at.old at.new result }
+    ensures { Answers answer
+        (record { buffer = into.old; used = used.old; place = at.old })
+        (record { buffer = into.new; used = used.new; place = at.new }) result }
 {
     match answer {
         Ok(bytes) => put(bytes.as_slice(), into, used),
@@ -52,7 +54,9 @@ pub(crate) fn write_answer(
 
 /// Writes the bytes, unless memory ran out.
 pub(crate) fn write_bytes(bytes: Result<Bytes, NoMemory>, into: &mut [u8], used: &mut usize) -> u32
-    ensures { Answers (of_memory bytes) into.old into.new used.old used.new 0 0 result }
+    ensures { Answers (of_memory bytes)
+        (record { buffer = into.old; used = used.old; place = 0 })
+        (record { buffer = into.new; used = used.new; place = 0 }) result }
 {
     match bytes {
         Ok(bytes) => put(bytes.as_slice(), into, used),

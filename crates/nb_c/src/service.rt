@@ -62,7 +62,9 @@ pub extern "C" fn nbt_service_request(
       time_to_live = time_to_live;
       nb_flags = nb_flags;
       address = address;
-    }) name.now) into.old into.new used.old used.new at.old at.new result }
+    }) name.now)
+        (record { buffer = into.old; used = used.old; place = at.old })
+        (record { buffer = into.new; used = used.new; place = at.new }) result }
 {
     let asked = Asked {
         request,

@@ -21,7 +21,9 @@ pub extern "C" fn nbt_show(
     into: &mut [u8],
     used: &mut usize,
 ) -> u32
-    ensures { Does none_late (Shows payload.now port) into.old into.new used.old used.new 0 0 result }
+    ensures { Does none_late (Shows payload.now port)
+        (record { buffer = into.old; used = used.old; place = 0 })
+        (record { buffer = into.new; used = used.new; place = 0 }) result }
 {
     // For the clause: a payload has one text. The call does nothing.
     one_text();

@@ -1,7 +1,8 @@
 //! Stations: made, shown the clock, saved and given back.
-ghost use Rattle.std.specs.Prelude.{◌≡◌, Ok};
+ghost use Rattle.std.specs.Prelude.{◌≡◌, ◌≢◌, ◌⊎◌, Ok};
 ghost use Rattle.nb_c.specs.Outputs.{Does, none_late};
-ghost use Rattle.nb_c.specs.Stations.{Ticks};
+ghost use Rattle.nb_c.specs.Stations.{Creates, Ticks};
+ghost use Rattle.nb_c.specs.declared.statuses.TheConstants.{DONE, NO_MEMORY};
 ghost use Rattle.nb_table.specs.Saved.{saved as saved_bytes};
 ghost use Rattle.nb_member.specs.Member.{contents, new_member};
 ghost use Rattle.std.specs.Int.{w32, to_be_bytes};
@@ -19,7 +20,8 @@ pub const LONGEST: u16 = 65_535;
 
 /// Makes a station with these names and an empty table, and answers the pointer to it.
 ///
-/// No clause says what the pointer leads to. The form of names is our choice.
+/// No clause says what the pointer leads to; what is boxed is what [`member_of`] answers of the
+/// names. The form of names is our choice.
 #[unsafe(no_mangle)]
 pub extern "C" fn nbt_station_create(
     alloc: Global,
@@ -30,7 +32,10 @@ pub extern "C" fn nbt_station_create(
     per_source: u32,
     station: &mut *mut (),
     at: &mut usize,
-) -> u32 {
+) -> u32
+    ensures answer { Creates names.now at.old at.new result }
+    ensures kept { result ≢ DONE → station.new ≡ station.old }
+{
     match names_of(alloc, names) {
         Ok(names) => {
             let member = member_of(alloc, names, address, port, keys, per_source);
@@ -69,7 +74,10 @@ fn member_of(
 }
 
 /// Makes the station that this member is, and answers the pointer to it.
-fn create(alloc: Global, member: Member, station: &mut *mut ()) -> u32 {
+fn create(alloc: Global, member: Member, station: &mut *mut ()) -> u32
+    ensures status { (result ≡ DONE) ⊎ (result ≡ NO_MEMORY) }
+    ensures kept { result ≢ DONE → station.new ≡ station.old }
+{
     match Box::new(alloc, Kept { member }) {
         Ok(kept) => {
             *station = Box::into_raw(kept) as *mut ();
@@ -112,7 +120,8 @@ pub extern "C" fn nbt_station_save(
     used: &mut usize,
 ) -> u32
     ensures saved { Does none_late (λ answer. answer ≡ Ok (saved_bytes (contents station.old.value.member)))
-        into.old into.new used.old used.new 0 0 result }
+        (record { buffer = into.old; used = used.old; place = 0 })
+        (record { buffer = into.new; used = used.new; place = 0 }) result }
     ensures stays { station.new.value ≡ station.old.value }
 {
     let Ok(spare) = spare(alloc) else {

@@ -34,7 +34,9 @@ pub extern "C" fn nbt_table_merge(
       keys = keys;
       per_source = per_source;
       longest = 65535;
-    })) into.old into.new used.old used.new at.old at.new result }
+    }))
+        (record { buffer = into.old; used = used.old; place = at.old })
+        (record { buffer = into.new; used = used.new; place = at.new }) result }
 {
     // For the clause; the call does nothing.
     a_merge_has_one_answer();
@@ -95,7 +97,8 @@ pub extern "C" fn nbt_table_list(
     at: &mut usize,
 ) -> u32
     ensures { Does none_late (Lists table.now)
-        into.old into.new used.old used.new at.old at.new result }
+        (record { buffer = into.old; used = used.old; place = at.old })
+        (record { buffer = into.new; used = used.new; place = at.new }) result }
 {
     // For the clause; the call does nothing.
     a_table_has_one_list();

@@ -25,7 +25,8 @@ pub extern "C" fn nbt_station_take(
     used: &mut usize,
 ) -> u32
     ensures { Took station.old.value.member moment payload.now station.new.value.member
-        taken.old taken.new into.old into.new used.old used.new result }
+        (record { taken = taken.old; buffer = into.old; used = used.old })
+        (record { taken = taken.new; buffer = into.new; used = used.new }) result }
 {
     if into.len() < TAKE_ROOM {
         *used = TAKE_ROOM;
@@ -51,7 +52,8 @@ fn take_in(
 ) -> u32
     requires { TAKE_ROOM ≤ length into.old }
     ensures { Took member.old moment payload.now member.new
-        taken.old taken.new into.old into.new used.old used.new result }
+        (record { taken = taken.old; buffer = into.old; used = used.old })
+        (record { taken = taken.new; buffer = into.new; used = used.new }) result }
 {
     let answer = member.take(moment, payload);
     tell_answer(&answer, taken, into, used)
@@ -65,8 +67,9 @@ fn tell_answer(
     used: &mut usize,
 ) -> u32
     requires { TAKE_ROOM ≤ length into.old }
-    ensures { Tells (answer_told answer.now) taken.old taken.new into.old into.new
-        used.old used.new result }
+    ensures { Tells (answer_told answer.now)
+        (record { taken = taken.old; buffer = into.old; used = used.old })
+        (record { taken = taken.new; buffer = into.new; used = used.new }) result }
 {
     match answer {
         Ok(outcome) => *used = tell(outcome, taken, into),

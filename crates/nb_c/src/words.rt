@@ -23,7 +23,9 @@ use crate::statuses::{
 /// A number that is no status is answered by [`UNKNOWN_STATUS`]. The words are our choice.
 #[unsafe(no_mangle)]
 pub extern "C" fn nbt_status_text(status: u32, into: &mut [u8], used: &mut usize) -> u32
-    ensures { Answers (status_answer status) into.old into.new used.old used.new 0 0 result }
+    ensures { Answers (status_answer status)
+        (record { buffer = into.old; used = used.old; place = 0 })
+        (record { buffer = into.new; used = used.new; place = 0 }) result }
 {
     match status_words(status) {
         Some(words) => put(words.as_bytes(), into, used),

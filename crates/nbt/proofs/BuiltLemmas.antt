@@ -1,6 +1,6 @@
 -- Packets that words name, from what the calls that make them answer.
-use Rattle.std.proofs.Common.{◌≡◌, ℕ, Bool, List, [], ◌∷◌, map, ap, ap₂, ◌∙◌, Result, Ok, Err}
-use Rattle.std.specs.Prelude.{IfOk, codes}
+use Rattle.std.proofs.Common.{◌≡◌, ℕ, Bool, List, [], ◌∷◌, map, ap, ap₂, ◌∙◌, refl, Result, Ok, Err}
+use Rattle.std.specs.Prelude.{IfErr, IfOk, codes}
 use Rattle.nb_names.specs.Hexadecimal.{DataText}
 use Rattle.nb_names.specs.Name.{NetbiosName, labels_of_name}
 use Rattle.nb_names.specs.NameText.{IsText}
@@ -12,6 +12,7 @@ use Rattle.nb_service.specs.Encoding as service
 use Rattle.nb_session.specs.declared.packet.Packet as session
 use Rattle.nb_session.specs.Packet.{IsPacket}
 use Rattle.nbt.specs.Built.{IsServiceBuilt, IsSessionBuilt, NamesDatagrams, NamesService, NamesSession, NumberText, WordText, response}
+use Rattle.nbt.specs.TooMuchData.{GiveTooMuch}
 use Rattle.nbt.specs.Responses.{HasRdata, response_packet, with_flag}
 
 -- what is answered where a packet was made and encoded
@@ -71,3 +72,17 @@ pub datagrams_named : {F : Type 0} (what word : List ℕ) (words texts q : List 
     → what ≡ word → words ≡ texts → NamesDatagrams word texts q → IfOk out (λ payloads. payloads ≡ q) → IfOk out (NamesDatagrams what words)
 datagrams_named what word words texts q (Ok payloads) is_what are named is = rw (is_what, are, is) named
 datagrams_named what word words texts q (Err fault) is_what are named is = tt
+
+-- words that give too much, one by one
+pub too_much : (what word : List ℕ) (words texts : List (List ℕ)) → what ≡ word → words ≡ texts → GiveTooMuch word texts → GiveTooMuch what words
+too_much what word words texts is_what are much = rw (is_what, are) much
+
+-- the same, where a call tells it by its fault
+pub tells_too_much : {A E : Type 0} (P : Type 0) (what word : List ℕ) (words texts : List (List ℕ)) (fault : E) (r : Result A E) → what ≡ word
+    → words ≡ texts → (P → GiveTooMuch word texts) → IfErr r (λ e. e ≡ fault → P) → IfErr r (λ e. e ≡ fault → GiveTooMuch what words)
+tells_too_much P what word words texts fault (Ok a) is_what are much h = tt
+tells_too_much P what word words texts fault (Err e) is_what are much h = λ is. too_much what word words texts is_what are (much (h is))
+
+-- what a fault tells, where that is it
+pub told_of : {A E : Type 0} {P : Type 0} (fault : E) (r : Result A E) → r ≡ Err fault → IfErr r (λ e. e ≡ fault → P) → P
+told_of {P = P} fault r is h = let told : fault ≡ fault → P = rw is at h in told refl

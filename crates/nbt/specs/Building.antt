@@ -5,6 +5,7 @@ use Rattle.clap.specs.Words.{first_value, found_of, matched_of, one_text, raw_va
 use Rattle.clap.specs.declared.parser.matches.ArgMatches.{ArgMatches}
 use Rattle.nb_names.specs.Hexadecimal.{digits_text}
 use Rattle.nbt.specs.Built.{Names}
+use Rattle.nbt.specs.TooMuchData.{GiveTooMuch}
 use Rattle.nbt.specs.Printing.{line}
 
 -- payload_line port payload: the line of a capture for the payload, at moment 0
@@ -41,6 +42,14 @@ pub record AreBuilt (matches : ArgMatches) (bytes : List ℕ) : Type 0 where
   pub words : List (List ℕ)
   pub given : AreWords matches broadcast what words
   pub built : AreLinesOf broadcast what words bytes
+
+-- AreTooMuch matches: the matches' words give a packet more data than it may have
+pub record AreTooMuch (matches : ArgMatches) : Type 0 where
+  pub broadcast : Bool
+  pub what : List ℕ
+  pub words : List (List ℕ)
+  pub given : AreWords matches broadcast what words
+  pub too_much : GiveTooMuch what words
 
 -- Builds matches IsPrinted: the lines of the packets that the matches' words name were printed, as IsPrinted says of
 -- the bytes

@@ -24,7 +24,7 @@ use Rattle.nb_datagram.specs.declared.packet.Packet.TheVariants.{Direct, Error, 
 use Rattle.nb_datagram.specs.declared.packet.QueryKind.{QueryKind}
 use Rattle.nb_datagram.specs.Datagram.{DatagramParts}
 use Rattle.nb_datagram.specs.Packet as datagram
-use Rattle.nb_datagram.specs.Pieces.{pieces}
+use Rattle.nb_datagram.specs.Pieces.{AreTooLong, pieces}
 use Rattle.nb_datagram.specs.Texts.{kind_text}
 use Rattle.nb_text.specs.Words.{query_word}
 use Rattle.nbt.specs.Responses.{HasRdata, response_packet, with_flag}
@@ -112,10 +112,11 @@ pub record IsSessionBuilt (what : List ℕ) (words : List (List ℕ)) (bytes : L
 
 -- ---- packets of port 138
 
--- NamesDatagrams what words payloads: these words name packets, whose bytes these are, in order
+-- NamesDatagrams what words payloads: these words name packets, whose bytes these are, in order; a datagram has at most
+-- 65,535 bytes of data, and so has each fragment, with its names
 pub data NamesDatagrams : List ℕ → List (List ℕ) → List (List ℕ) → Type 0 where
   fragments : (d : DatagramParts) (most : ℕ) (a b c e f : List ℕ) → KeyText d.key a → IsText d.source b → IsText d.destination c
-      → DataText d.bytes e → NumberText 65535 most f → 1 ≤ most
+      → DataText d.bytes e → NumberText 65535 most f → 1 ≤ most → length d.bytes ≤ 65535 → ¬ AreTooLong d most
       → NamesDatagrams (kind_text d.kind) (a ∷ b ∷ c ∷ e ∷ f ∷ []) (map (λ p. datagram.packet_bytes (Direct p)) (pieces d most))
   error : (key : Key) (code : ℕ) (a b : List ℕ) → KeyText key a → CodeText code b
       → NamesDatagrams (codes "error") (a ∷ b ∷ []) (datagram.packet_bytes (Error (record { flags = 2; key = key; code = code })) ∷ [])

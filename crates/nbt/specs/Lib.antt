@@ -19,4 +19,5 @@ pub mod Code
 pub mod Showing
 pub mod Telling
 pub mod Built
+pub mod TooMuchData
 pub mod Refusals

@@ -3,7 +3,8 @@ ghost use Rattle.std.specs.Prelude.{◌≡◌, ◌≢◌, ◌++◌, Bool, [], ma
 ghost use Rattle.std.specs.Io.KnownBytes.{Appends, Keeps};
 ghost use Rattle.clap.specs.Words.{found_of, matched_of, raw_values};
 ghost use Rattle.nb_names.specs.Devices.{AppendsFront, ShowsWriteFault};
-ghost use Rattle.nbt.specs.Building.{AreBuilt, AreLinesOf, Builds, IsBroadcast, payload_line, payload_lines};
+ghost use Rattle.nbt.specs.Building.{AreBuilt, AreLinesOf, AreTooMuch, Builds, IsBroadcast, payload_line, payload_lines};
+ghost use Rattle.nbt.specs.TooMuchData.{GiveTooMuch};
 
 mod arguments;
 mod build_fault;
@@ -43,6 +44,7 @@ pub fn run_build<W: Write>(
         Keeps (W.contents output.old.inner) (W.contents output.new.inner)) }
     ensures why { IfErr result (λ fault. fault ≡ Fault.Write →
         ShowsWriteFault output.old.counts output.new.counts) }
+    ensures too_long { IfErr result (λ fault. fault ≡ Fault.TooLong → AreTooMuch matches.now) }
 {
     match lines_of(alloc, matches) {
         Ok(lines) => output.print(lines.as_bytes()),
@@ -56,7 +58,8 @@ pub fn run_build<W: Write>(
 
 /// The lines of the packets that the matches' words name.
 fn lines_of(alloc: Global, matches: &ArgMatches<'_>) -> Result<String, BuildFault>
-    ensures { IfOk result (λ lines. AreBuilt matches.now (string_bytes lines)) }
+    ensures built { IfOk result (λ lines. AreBuilt matches.now (string_bytes lines)) }
+    ensures too_long { IfErr result (λ fault. fault ≡ BuildFault.TooLong → AreTooMuch matches.now) }
 {
     match matches.get_str("WHAT") {
         Some(what) => build(alloc, what, words_of(matches), is_broadcast(matches)),
@@ -81,8 +84,10 @@ fn is_broadcast(matches: &ArgMatches<'_>) -> bool
 
 /// The lines of the packets that the words name.
 fn build(alloc: Global, what: &str, words: &[&str], broadcast: bool) -> Result<String, BuildFault>
-    ensures { IfOk result (λ lines. AreLinesOf broadcast what.now (map (λ w. w.now) words.now)
+    ensures built { IfOk result (λ lines. AreLinesOf broadcast what.now (map (λ w. w.now) words.now)
         (string_bytes lines)) }
+    ensures too_long { IfErr result (λ fault. fault ≡ BuildFault.TooLong →
+        GiveTooMuch what.now (map (λ w. w.now) words.now)) }
 {
     match what {
         "query" | "status" | "registration" | "refresh" | "release" | "response" => {
@@ -102,8 +107,10 @@ fn service_line(
     words: &[&str],
     broadcast: bool,
 ) -> Result<String, BuildFault>
-    ensures { IfOk result (λ lines. AreLinesOf broadcast what.now (map (λ w. w.now) words.now)
+    ensures built { IfOk result (λ lines. AreLinesOf broadcast what.now (map (λ w. w.now) words.now)
         (string_bytes lines)) }
+    ensures too_long { IfErr result (λ fault. fault ≡ BuildFault.TooLong →
+        GiveTooMuch what.now (map (λ w. w.now) words.now)) }
 {
     let packet = service::build(alloc, what, words, broadcast)?;
     Ok(line(alloc, 137, &packet)?)
@@ -111,8 +118,10 @@ fn service_line(
 
 /// The line of a session packet.
 fn session_line(alloc: Global, what: &str, words: &[&str]) -> Result<String, BuildFault>
-    ensures { IfOk result (λ lines. (broadcast : Bool) →
+    ensures built { IfOk result (λ lines. (broadcast : Bool) →
         AreLinesOf broadcast what.now (map (λ w. w.now) words.now) (string_bytes lines)) }
+    ensures too_long { IfErr result (λ fault. fault ≡ BuildFault.TooLong →
+        GiveTooMuch what.now (map (λ w. w.now) words.now)) }
 {
     let packet = session::build(alloc, what, words)?;
     Ok(line(alloc, 139, &packet)?)
@@ -120,8 +129,10 @@ fn session_line(alloc: Global, what: &str, words: &[&str]) -> Result<String, Bui
 
 /// The lines of the packets of a datagram, or of one that is no fragment.
 fn datagram_lines(alloc: Global, what: &str, words: &[&str]) -> Result<String, BuildFault>
-    ensures { IfOk result (λ lines. (broadcast : Bool) →
+    ensures built { IfOk result (λ lines. (broadcast : Bool) →
         AreLinesOf broadcast what.now (map (λ w. w.now) words.now) (string_bytes lines)) }
+    ensures too_long { IfErr result (λ fault. fault ≡ BuildFault.TooLong →
+        GiveTooMuch what.now (map (λ w. w.now) words.now)) }
 {
     let packets = datagram::build(alloc, what, words)?;
     Ok(lines(alloc, 138, packets.as_slice())?)

@@ -1,6 +1,6 @@
 //! The arguments of `nbt build`. Decimal numbers have no leading zeros; hexadecimal digits are read
 //! in either case.
-ghost use Rattle.std.specs.Prelude.{◌≡◌, ◌<◌, ◌++◌, ◌∷◌, IfOk, IsTrue, true, length, slice_index};
+ghost use Rattle.std.specs.Prelude.{◌≡◌, ◌≢◌, ◌<◌, ◌++◌, ◌∷◌, IsTrue, MatchResult, true, length, slice_index};
 ghost use Rattle.std.specs.List.{list_all};
 ghost use Rattle.std.specs.Char.{is_ascii_digit};
 ghost use Rattle.nb_names.specs.Hexadecimal.{DataText, HexText};
@@ -14,7 +14,8 @@ use std::alloc::Global;
 
 /// A word of a packet, as an identifier or flags: four hexadecimal digits.
 pub fn word(alloc: Global, text: &str) -> Result<u16, BuildFault>
-    ensures { IfOk result (λ number. WordText number text.now) }
+    ensures { MatchResult result (λ number. WordText number text.now)
+        (λ fault. fault ≢ BuildFault.TooLong) }
 {
     let digits = digits(alloc, text)?;
     match digits.as_slice() {
@@ -25,7 +26,8 @@ pub fn word(alloc: Global, text: &str) -> Result<u16, BuildFault>
 
 /// A code: two hexadecimal digits.
 pub fn code(alloc: Global, text: &str) -> Result<u8, BuildFault>
-    ensures { IfOk result (λ code. CodeText code text.now) }
+    ensures { MatchResult result (λ code. CodeText code text.now)
+        (λ fault. fault ≢ BuildFault.TooLong) }
 {
     let digits = digits(alloc, text)?;
     match digits.as_slice() {
@@ -36,7 +38,8 @@ pub fn code(alloc: Global, text: &str) -> Result<u8, BuildFault>
 
 /// A decimal number to 4,294,967,295.
 pub fn long_number(text: &str) -> Result<u32, BuildFault>
-    ensures { IfOk result (λ number. NumberText 4294967295 number text.now) }
+    ensures { MatchResult result (λ number. NumberText 4294967295 number text.now)
+        (λ fault. fault ≢ BuildFault.TooLong) }
 {
     if !is_decimal(text) {
         return Err(BuildFault::Arguments);
@@ -49,7 +52,8 @@ pub fn long_number(text: &str) -> Result<u32, BuildFault>
 
 /// A decimal number to 65,535.
 pub fn number(text: &str) -> Result<u16, BuildFault>
-    ensures { IfOk result (λ number. NumberText 65535 number text.now) }
+    ensures { MatchResult result (λ number. NumberText 65535 number text.now)
+        (λ fault. fault ≢ BuildFault.TooLong) }
 {
     match u16::try_from(long_number(text)?) {
         Ok(number) => Ok(number),
@@ -59,7 +63,8 @@ pub fn number(text: &str) -> Result<u16, BuildFault>
 
 /// An IPv4 address: four decimal numbers to 255, with dots between them.
 pub fn address(text: &str) -> Result<[u8; 4], BuildFault>
-    ensures { IfOk result (λ address. AddressText address text.now) }
+    ensures { MatchResult result (λ address. AddressText address text.now)
+        (λ fault. fault ≢ BuildFault.TooLong) }
 {
     let (first, rest) = parts(text, '.')?;
     let (second, rest) = parts(rest, '.')?;
@@ -74,7 +79,8 @@ pub fn address(text: &str) -> Result<[u8; 4], BuildFault>
 
 /// An address entry of a packet, of its flags and its address.
 pub fn entry(alloc: Global, flags: &str, place: &str) -> Result<AddressEntry, BuildFault>
-    ensures { IfOk result (λ entry. EntryTexts entry flags.now place.now) }
+    ensures { MatchResult result (λ entry. EntryTexts entry flags.now place.now)
+        (λ fault. fault ≢ BuildFault.TooLong) }
 {
     Ok(AddressEntry {
         flags: word(alloc, flags)?,
@@ -84,7 +90,8 @@ pub fn entry(alloc: Global, flags: &str, place: &str) -> Result<AddressEntry, Bu
 
 /// A datagram's key: its sender's address and port, and the identifier, as `10.0.0.5:138/0001`.
 pub fn key(alloc: Global, text: &str) -> Result<Key, BuildFault>
-    ensures { IfOk result (λ key. KeyText key text.now) }
+    ensures { MatchResult result (λ key. KeyText key text.now)
+        (λ fault. fault ≢ BuildFault.TooLong) }
 {
     let (place, id) = parts(text, '/')?;
     let (ip, port) = parts(place, ':')?;
@@ -97,7 +104,8 @@ pub fn key(alloc: Global, text: &str) -> Result<Key, BuildFault>
 
 /// Data: hexadecimal digits, two a byte and at least two, or `empty`.
 pub fn data(alloc: Global, text: &str) -> Result<Bytes, BuildFault>
-    ensures { IfOk result (λ bytes. DataText bytes text.now) }
+    ensures { MatchResult result (λ bytes. DataText bytes text.now)
+        (λ fault. fault ≢ BuildFault.TooLong) }
 {
     match data_of_text(alloc, text.as_bytes()) {
         Ok(bytes) => Ok(bytes),
@@ -108,7 +116,8 @@ pub fn data(alloc: Global, text: &str) -> Result<Bytes, BuildFault>
 
 /// The bytes that hexadecimal digits give, two a byte.
 fn digits(alloc: Global, text: &str) -> Result<Bytes, BuildFault>
-    ensures { IfOk result (λ bytes. HexText bytes text.now) }
+    ensures { MatchResult result (λ bytes. HexText bytes text.now)
+        (λ fault. fault ≢ BuildFault.TooLong) }
 {
     match bytes_of_digits(alloc, text.as_bytes()) {
         Ok(bytes) => Ok(bytes),
@@ -120,7 +129,8 @@ fn digits(alloc: Global, text: &str) -> Result<Bytes, BuildFault>
 /// What stands before the first of these marks, which is ASCII, and what stands behind it.
 fn parts(text: &str, mark: char) -> Result<(&str, &str), BuildFault>
     requires { mark < 128 }
-    ensures { IfOk result (λ parts. text.now ≡ parts.0.now ++ mark ∷ parts.1.now) }
+    ensures { MatchResult result (λ parts. text.now ≡ parts.0.now ++ mark ∷ parts.1.now)
+        (λ fault. fault ≢ BuildFault.TooLong) }
 {
     match text.split_once(mark) {
         Some(parts) => Ok(parts),
@@ -130,7 +140,8 @@ fn parts(text: &str, mark: char) -> Result<(&str, &str), BuildFault>
 
 /// A decimal number to 255.
 fn small_number(text: &str) -> Result<u8, BuildFault>
-    ensures { IfOk result (λ number. NumberText 255 number text.now) }
+    ensures { MatchResult result (λ number. NumberText 255 number text.now)
+        (λ fault. fault ≢ BuildFault.TooLong) }
 {
     match u8::try_from(long_number(text)?) {
         Ok(number) => Ok(number),

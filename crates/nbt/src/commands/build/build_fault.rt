@@ -20,30 +20,56 @@ pub enum BuildFault {
 }
 
 impl From<TextFault> for BuildFault {
+    ghost use Rattle.std.specs.Prelude.{◌≡◌};
+    ghost use Rattle.nbt.specs.declared.commands.build.build_fault.BuildFault.TheVariants.{Text};
+
+    ghost from_gives = { λ fault made. made ≡ Text fault };
+
     fn from(fault: TextFault) -> BuildFault {
         BuildFault::Text(fault)
     }
 }
 
 impl From<NoMemory> for BuildFault {
+    ghost use Rattle.std.specs.Prelude.{◌≡◌};
+    ghost use Rattle.nbt.specs.declared.commands.build.build_fault.BuildFault.TheVariants.{Memory};
+
+    ghost from_gives = { λ _ made. made ≡ Memory };
+
     fn from(_fault: NoMemory) -> BuildFault {
         BuildFault::Memory
     }
 }
 
 impl From<AllocError> for BuildFault {
+    ghost use Rattle.std.specs.Prelude.{◌≡◌};
+    ghost use Rattle.nbt.specs.declared.commands.build.build_fault.BuildFault.TheVariants.{Memory};
+
+    ghost from_gives = { λ _ made. made ≡ Memory };
+
     fn from(_fault: AllocError) -> BuildFault {
         BuildFault::Memory
     }
 }
 
 impl<T: Drop> From<AllocFailed<T>> for BuildFault {
+    ghost use Rattle.std.specs.Prelude.{◌≡◌};
+    ghost use Rattle.nbt.specs.declared.commands.build.build_fault.BuildFault.TheVariants.{Memory};
+
+    ghost from_gives = { λ _ made. made ≡ Memory };
+
     fn from(_fault: AllocFailed<T>) -> BuildFault {
         BuildFault::Memory
     }
 }
 
 impl From<CutFault> for BuildFault {
+    ghost use Rattle.std.specs.Prelude.{◌≡◌};
+    ghost use Rattle.nb_datagram.specs.declared.cut_fault.CutFault.TheVariants as cut_fault;
+    ghost use Rattle.nbt.specs.declared.commands.build.build_fault.BuildFault.TheVariants.{TooLong};
+
+    ghost from_gives = { λ fault made. made ≡ TooLong → fault ≡ cut_fault.TooLong };
+
     fn from(fault: CutFault) -> BuildFault {
         match fault {
             CutFault::ZeroPiece => BuildFault::ZeroPiece,

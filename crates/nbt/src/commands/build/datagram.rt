@@ -1,10 +1,11 @@
 //! Datagram service packets from arguments.
-ghost use Rattle.std.specs.Prelude.{◌≡◌, ◌≤◌, ◌++◌, [], ◌∷◌, map, codes, IfOk, OnOk};
+ghost use Rattle.std.specs.Prelude.{◌≡◌, ◌≢◌, ◌≤◌, ◌++◌, [], ◌∷◌, map, codes, IfErr, IfOk, OnOk};
 ghost use Rattle.nb_datagram.specs.Packet.{packet_bytes};
-ghost use Rattle.nb_datagram.specs.Pieces.{pieces};
+ghost use Rattle.nb_datagram.specs.Pieces.{AreTooLong, pieces};
 ghost use Rattle.nb_datagram.specs.Texts.{kind_text};
 ghost use Rattle.nb_text.specs.Words.{query_word};
 ghost use Rattle.nbt.specs.Built.{NamesDatagrams};
+ghost use Rattle.nbt.specs.TooMuchData.{GiveTooMuch};
 
 use crate::commands::build::arguments::{code, data, key, number};
 use crate::commands::build::build_fault::BuildFault;
@@ -22,7 +23,9 @@ const FLAGS: u8 = 0x02;
 /// `unique`, `group` and `broadcast` take KEY SOURCE DESTINATION HEX MOST and give a packet for
 /// each piece; `error` takes KEY CODE; `find`, `found` and `missing` take KEY NAME.
 pub fn build(alloc: Global, what: &str, words: &[&str]) -> Result<Items<Bytes>, BuildFault>
-    ensures { IfOk result (NamesDatagrams what.now (map (λ w. w.now) words.now)) }
+    ensures built { IfOk result (NamesDatagrams what.now (map (λ w. w.now) words.now)) }
+    ensures too_long { IfErr result (λ fault. fault ≡ BuildFault.TooLong →
+        GiveTooMuch what.now (map (λ w. w.now) words.now)) }
 {
     match what {
         "unique" => fragments(alloc, Kind::Unique, words),
@@ -38,7 +41,9 @@ pub fn build(alloc: Global, what: &str, words: &[&str]) -> Result<Items<Bytes>, 
 
 /// The packets of the pieces of a datagram, from KEY SOURCE DESTINATION HEX MOST.
 fn fragments(alloc: Global, kind: Kind, words: &[&str]) -> Result<Items<Bytes>, BuildFault>
-    ensures { IfOk result (NamesDatagrams (kind_text kind) (map (λ w. w.now) words.now)) }
+    ensures built { IfOk result (NamesDatagrams (kind_text kind) (map (λ w. w.now) words.now)) }
+    ensures too_long { IfErr result (λ fault. fault ≡ BuildFault.TooLong →
+        GiveTooMuch (kind_text kind) (map (λ w. w.now) words.now)) }
 {
     let [place, source, destination, digits, most] = words else {
         return Err(BuildFault::Arguments);
@@ -56,8 +61,10 @@ fn fragments(alloc: Global, kind: Kind, words: &[&str]) -> Result<Items<Bytes>, 
 
 /// The packets of the pieces of a datagram, of so many bytes of data at most.
 fn fragments_of(alloc: Global, datagram: &Datagram, most: u16) -> Result<Items<Bytes>, BuildFault>
-    ensures { IfOk result (λ packets. (1 ≤ most) × (packets ≡
+    ensures built { IfOk result (λ packets. ((1 ≤ most) × ¬ AreTooLong datagram.now most) × (packets ≡
         map (λ piece. packet_bytes (Packet.Direct piece)) (pieces datagram.now most))) }
+    ensures too_long { IfErr result (λ fault. fault ≡ BuildFault.TooLong →
+        (1 ≤ most) × AreTooLong datagram.now most) }
 {
     let pieces = cut(alloc, datagram, most)?;
     encoded_pieces(alloc, pieces)
@@ -65,8 +72,9 @@ fn fragments_of(alloc: Global, datagram: &Datagram, most: u16) -> Result<Items<B
 
 /// The packets of these pieces.
 fn encoded_pieces(alloc: Global, pieces: Pieces<'_>) -> Result<Items<Bytes>, BuildFault>
-    ensures { IfOk result (λ packets. packets ≡
+    ensures built { IfOk result (λ packets. packets ≡
         map (λ piece. packet_bytes (Packet.Direct piece)) pieces.entry) }
+    ensures too_long { IfErr result (λ fault. fault ≢ BuildFault.TooLong) }
 {
     let mut packets = Items::from_vec(Vec::new(alloc));
     for piece in pieces.into_vec() {
@@ -77,7 +85,8 @@ fn encoded_pieces(alloc: Global, pieces: Pieces<'_>) -> Result<Items<Bytes>, Bui
 
 /// An error packet, from KEY CODE.
 fn error(alloc: Global, words: &[&str]) -> Result<Items<Bytes>, BuildFault>
-    ensures { IfOk result (NamesDatagrams (codes "error") (map (λ w. w.now) words.now)) }
+    ensures built { IfOk result (NamesDatagrams (codes "error") (map (λ w. w.now) words.now)) }
+    ensures too_long { IfErr result (λ fault. fault ≢ BuildFault.TooLong) }
 {
     let [place, digits] = words else {
         return Err(BuildFault::Arguments);
@@ -90,7 +99,8 @@ fn error(alloc: Global, words: &[&str]) -> Result<Items<Bytes>, BuildFault>
 
 /// A query packet, from KEY NAME.
 fn query(alloc: Global, kind: QueryKind, words: &[&str]) -> Result<Items<Bytes>, BuildFault>
-    ensures { IfOk result (NamesDatagrams (query_word kind) (map (λ w. w.now) words.now)) }
+    ensures built { IfOk result (NamesDatagrams (query_word kind) (map (λ w. w.now) words.now)) }
+    ensures too_long { IfErr result (λ fault. fault ≢ BuildFault.TooLong) }
 {
     let [place, name] = words else {
         return Err(BuildFault::Arguments);
@@ -111,7 +121,8 @@ fn query(alloc: Global, kind: QueryKind, words: &[&str]) -> Result<Items<Bytes>,
 
 /// The bytes of one packet.
 fn alone(alloc: Global, packet: Packet<'_>) -> Result<Items<Bytes>, BuildFault>
-    ensures { IfOk result (λ packets. packets ≡ packet_bytes packet.entry ∷ []) }
+    ensures built { IfOk result (λ packets. packets ≡ packet_bytes packet.entry ∷ []) }
+    ensures too_long { IfErr result (λ fault. fault ≢ BuildFault.TooLong) }
 {
     let mut packets = Items::from_vec(Vec::new(alloc));
     push(alloc, packet, &mut packets)?;
@@ -120,7 +131,8 @@ fn alone(alloc: Global, packet: Packet<'_>) -> Result<Items<Bytes>, BuildFault>
 
 /// Adds the bytes of a packet after those of the others.
 fn push(alloc: Global, packet: Packet<'_>, packets: &mut Items<Bytes>) -> Result<(), BuildFault>
-    ensures { OnOk result (packets.new ≡ packets.old ++ packet_bytes packet.entry ∷ []) }
+    ensures added { OnOk result (packets.new ≡ packets.old ++ packet_bytes packet.entry ∷ []) }
+    ensures too_long { IfErr result (λ fault. fault ≢ BuildFault.TooLong) }
 {
     packets.push(encode(alloc, &packet)?)?;
     Ok(())

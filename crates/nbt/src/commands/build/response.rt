@@ -1,15 +1,17 @@
 //! A response of the name service from arguments.
-ghost use Rattle.std.specs.Prelude.{◌≡◌, ℕ, List, [], ◌∷◌, map, codes, IfOk, Ok, length};
+ghost use Rattle.std.specs.Prelude.{◌≡◌, ◌≢◌, ◌<◌, ℕ, List, [], ◌∷◌, map, codes, Err, IfErr, IfOk, MatchResult, Ok, length};
 ghost use Rattle.nb_names.specs.declared.pointers.Pointers.TheVariants.{Refused};
 ghost use Rattle.nb_names.specs.Hexadecimal.{DataText};
 ghost use Rattle.nb_names.specs.Labels.{NameAt};
 ghost use Rattle.nb_names.specs.Name.{labels_of_name};
 ghost use Rattle.nb_service.specs.declared.classes.TheConstants.{IN};
+ghost use Rattle.nb_service.specs.declared.kinds.TheConstants.{NS};
 ghost use Rattle.nb_service.specs.Building.{packet_of};
 ghost use Rattle.nb_service.specs.Encoding.{packet_bytes};
 ghost use Rattle.nb_service.specs.Record.{ResourceData, ResourceRecord, record_of};
 ghost use Rattle.nbt.specs.Built.{IsServiceBuilt, NumberText, WordText};
 ghost use Rattle.nbt.specs.Responses.{HasRdata, response_packet, with_flag};
+ghost use Rattle.nbt.specs.TooMuchData.{GiveTooMuch};
 
 use crate::commands::build::arguments::{data, long_number, word};
 use crate::commands::build::build_fault::BuildFault;
@@ -30,8 +32,10 @@ use std::alloc::Global;
 ///
 /// RFC 1002 section 4.2.1.3.
 pub fn build(alloc: Global, words: &[&str], broadcast: bool) -> Result<Bytes, BuildFault>
-    ensures { IfOk result
+    ensures built { IfOk result
         (IsServiceBuilt broadcast (codes "response") (map (λ w. w.now) words.now)) }
+    ensures too_long { IfErr result (λ fault. fault ≡ BuildFault.TooLong →
+        GiveTooMuch (codes "response") (map (λ w. w.now) words.now)) }
 {
     let [id, flags, name, kind, ttl, digits] = words else {
         return Err(BuildFault::Arguments);
@@ -46,8 +50,9 @@ pub fn build(alloc: Global, words: &[&str], broadcast: bool) -> Result<Bytes, Bu
 
 /// The flag word of these digits, with B set where the packet is broadcast.
 fn flag_word(alloc: Global, digits: &str, broadcast: bool) -> Result<u16, BuildFault>
-    ensures { IfOk result (λ made. (number : ℕ) × WordText number digits.now
-        × (made ≡ with_flag number broadcast)) }
+    ensures { MatchResult result (λ made. (number : ℕ) × WordText number digits.now
+        × (made ≡ with_flag number broadcast))
+        (λ fault. fault ≢ BuildFault.TooLong) }
 {
     let flags = word(alloc, digits)?;
     Ok(if broadcast {
@@ -59,16 +64,19 @@ fn flag_word(alloc: Global, digits: &str, broadcast: bool) -> Result<u16, BuildF
 
 /// The type of a record, and its time to live.
 fn kind_and_ttl(alloc: Global, kind: &str, ttl: &str) -> Result<(u16, u32), BuildFault>
-    ensures { IfOk result (λ both. WordText both.0 kind.now
-        × NumberText 4294967295 both.1 ttl.now) }
+    ensures { MatchResult result (λ both. WordText both.0 kind.now
+        × NumberText 4294967295 both.1 ttl.now)
+        (λ fault. fault ≢ BuildFault.TooLong) }
 {
     Ok((word(alloc, kind)?, long_number(ttl)?))
 }
 
 /// The record of a name, with these bytes as RDATA.
 fn answer<'a>(name: &Name, kind: u16, ttl: u32, bytes: &'a [u8]) -> Result<Record<'a>, BuildFault>
-    ensures { IfOk result (λ made. (rdata : ResourceData) × HasRdata kind bytes.entry.now rdata
+    ensures made { IfOk result (λ made. (rdata : ResourceData) × HasRdata kind bytes.entry.now rdata
         × (made ≡ record_of (labels_of_name name.now) kind IN ttl rdata)) }
+    ensures too_long { IfErr result (λ fault. fault ≡ BuildFault.TooLong →
+        (kind ≢ NS) × (65535 < length bytes.entry.now)) }
 {
     match Record::bytes(name.to_domain(), kind, IN, ttl, bytes) {
         Ok(answer) => Ok(answer),
@@ -82,7 +90,8 @@ fn answer<'a>(name: &Name, kind: u16, ttl: u32, bytes: &'a [u8]) -> Result<Recor
 
 /// The domain name whose spelling the bytes are.
 fn domain_of(bytes: &[u8]) -> Result<DomainName, BuildFault>
-    ensures { IfOk result (λ labels. NameAt bytes.now Refused 0 labels (length bytes.now)) }
+    ensures { MatchResult result (λ labels. NameAt bytes.now Refused 0 labels (length bytes.now))
+        (λ fault. fault ≢ BuildFault.TooLong) }
 {
     match read_domain(bytes, 0, Pointers::Refused) {
         Ok((domain, next)) if next == bytes.len() => Ok(domain),
@@ -97,8 +106,10 @@ fn answered(
     word: u16,
     answer: Result<Record<'_>, BuildFault>,
 ) -> Result<Bytes, BuildFault>
-    ensures { IfOk result (λ bytes. (made : ResourceRecord) × (answer.entry ≡ Ok made)
+    ensures built { IfOk result (λ bytes. (made : ResourceRecord) × (answer.entry ≡ Ok made)
         × (bytes ≡ packet_bytes (packet_of id word [] (made ∷ []) [] []))) }
+    ensures too_long { IfErr result (λ fault. fault ≡ BuildFault.TooLong →
+        answer.entry ≡ Err BuildFault.TooLong) }
 {
     match answer {
         Ok(answer) => encoded(alloc, id, word, answer),
@@ -108,8 +119,9 @@ fn answered(
 
 /// The bytes of a packet with this answer, and nothing else.
 fn encoded(alloc: Global, id: u16, word: u16, answer: Record<'_>) -> Result<Bytes, BuildFault>
-    ensures { IfOk result (λ bytes.
-        bytes ≡ packet_bytes (packet_of id word [] (answer.entry ∷ []) [] [])) }
+    ensures { MatchResult result (λ bytes.
+        bytes ≡ packet_bytes (packet_of id word [] (answer.entry ∷ []) [] []))
+        (λ fault. fault ≢ BuildFault.TooLong) }
 {
     let packet = response(alloc, id, word, answer)?;
     Ok(encode(alloc, &packet)?)

@@ -1,8 +1,9 @@
 //! Name service packets from arguments.
-ghost use Rattle.std.specs.Prelude.{◌≡◌, ℕ, map, codes, IfOk, Ok};
+ghost use Rattle.std.specs.Prelude.{◌≡◌, ◌≢◌, ℕ, map, codes, IfErr, IfOk, MatchResult, Ok};
 ghost use Rattle.nb_service.specs.Packet.{ServicePacket};
 ghost use Rattle.nb_service.specs.Encoding.{packet_bytes};
 ghost use Rattle.nbt.specs.Built.{EntryTexts, IsServiceBuilt, NumberText};
+ghost use Rattle.nbt.specs.TooMuchData.{GiveTooMuch};
 
 use crate::commands::build::arguments::{entry, long_number, word};
 use crate::commands::build::build_fault::BuildFault;
@@ -23,7 +24,9 @@ pub fn build(
     words: &[&str],
     broadcast: bool,
 ) -> Result<Bytes, BuildFault>
-    ensures { IfOk result (IsServiceBuilt broadcast what.now (map (λ w. w.now) words.now)) }
+    ensures built { IfOk result (IsServiceBuilt broadcast what.now (map (λ w. w.now) words.now)) }
+    ensures too_long { IfErr result (λ fault. fault ≡ BuildFault.TooLong →
+        GiveTooMuch what.now (map (λ w. w.now) words.now)) }
 {
     match what {
         "query" | "status" => question(alloc, what, words, broadcast),
@@ -36,7 +39,8 @@ pub fn build(
 
 /// A packet that asks for a name, or for a node's status, from ID NAME.
 fn question(alloc: Global, what: &str, words: &[&str], broadcast: bool) -> Result<Bytes, BuildFault>
-    ensures { IfOk result (IsServiceBuilt broadcast what.now (map (λ w. w.now) words.now)) }
+    ensures built { IfOk result (IsServiceBuilt broadcast what.now (map (λ w. w.now) words.now)) }
+    ensures too_long { IfErr result (λ fault. fault ≢ BuildFault.TooLong) }
 {
     let [id, name] = words else {
         return Err(BuildFault::Arguments);
@@ -52,7 +56,8 @@ fn question(alloc: Global, what: &str, words: &[&str], broadcast: bool) -> Resul
 
 /// A packet that registers a name, or refreshes it, from ID NAME TTL FLAGS ADDRESS.
 fn claim(alloc: Global, what: &str, words: &[&str], broadcast: bool) -> Result<Bytes, BuildFault>
-    ensures { IfOk result (IsServiceBuilt broadcast what.now (map (λ w. w.now) words.now)) }
+    ensures built { IfOk result (IsServiceBuilt broadcast what.now (map (λ w. w.now) words.now)) }
+    ensures too_long { IfErr result (λ fault. fault ≢ BuildFault.TooLong) }
 {
     let [id, name, ttl, flags, place] = words else {
         return Err(BuildFault::Arguments);
@@ -75,8 +80,9 @@ fn claim(alloc: Global, what: &str, words: &[&str], broadcast: bool) -> Result<B
 
 /// A packet that gives a name up, from ID NAME FLAGS ADDRESS.
 fn withdrawal(alloc: Global, words: &[&str], broadcast: bool) -> Result<Bytes, BuildFault>
-    ensures { IfOk result
+    ensures built { IfOk result
         (IsServiceBuilt broadcast (codes "release") (map (λ w. w.now) words.now)) }
+    ensures too_long { IfErr result (λ fault. fault ≢ BuildFault.TooLong) }
 {
     let [id, name, flags, place] = words else {
         return Err(BuildFault::Arguments);
@@ -94,16 +100,18 @@ fn claimed(
     flags: &str,
     place: &str,
 ) -> Result<(u32, AddressEntry), BuildFault>
-    ensures { IfOk result (λ claim. NumberText 4294967295 claim.0 ttl.now
-        × EntryTexts claim.1 flags.now place.now) }
+    ensures { MatchResult result (λ claim. NumberText 4294967295 claim.0 ttl.now
+        × EntryTexts claim.1 flags.now place.now)
+        (λ fault. fault ≢ BuildFault.TooLong) }
 {
     Ok((long_number(ttl)?, entry(alloc, flags, place)?))
 }
 
 /// The bytes of a packet, where there was memory to make it.
 fn encoded(alloc: Global, made: Result<Packet<'_>, NoMemory>) -> Result<Bytes, BuildFault>
-    ensures { IfOk result (λ bytes. (packet : ServicePacket) × (made.entry ≡ Ok packet)
+    ensures built { IfOk result (λ bytes. (packet : ServicePacket) × (made.entry ≡ Ok packet)
         × (bytes ≡ packet_bytes packet)) }
+    ensures too_long { IfErr result (λ fault. fault ≢ BuildFault.TooLong) }
 {
     match made {
         Ok(packet) => Ok(encode(alloc, &packet)?),

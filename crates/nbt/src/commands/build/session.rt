@@ -1,7 +1,8 @@
 //! Session packets from arguments.
-ghost use Rattle.std.specs.Prelude.{◌≡◌, [], map, codes, IfOk};
+ghost use Rattle.std.specs.Prelude.{◌≡◌, ◌≢◌, [], map, codes, IfErr, IfOk};
 ghost use Rattle.nb_session.specs.Packet.{IsPacket};
 ghost use Rattle.nbt.specs.Built.{IsSessionBuilt};
+ghost use Rattle.nbt.specs.TooMuchData.{GiveTooMuch};
 
 use crate::commands::build::arguments::{address, code, data, number};
 use crate::commands::build::build_fault::BuildFault;
@@ -14,7 +15,9 @@ use std::alloc::Global;
 /// `request` takes CALLED CALLING, `message` HEX, `negative` CODE, `retarget` ADDRESS PORT, and
 /// `positive` and `keepalive` take none.
 pub fn build(alloc: Global, what: &str, words: &[&str]) -> Result<Bytes, BuildFault>
-    ensures { IfOk result (IsSessionBuilt what.now (map (λ w. w.now) words.now)) }
+    ensures built { IfOk result (IsSessionBuilt what.now (map (λ w. w.now) words.now)) }
+    ensures too_long { IfErr result (λ fault. fault ≡ BuildFault.TooLong →
+        GiveTooMuch what.now (map (λ w. w.now) words.now)) }
 {
     match what {
         "request" => request(alloc, words),
@@ -29,7 +32,8 @@ pub fn build(alloc: Global, what: &str, words: &[&str]) -> Result<Bytes, BuildFa
 
 /// The bytes of a request, from CALLED CALLING.
 fn request(alloc: Global, words: &[&str]) -> Result<Bytes, BuildFault>
-    ensures { IfOk result (IsSessionBuilt (codes "request") (map (λ w. w.now) words.now)) }
+    ensures built { IfOk result (IsSessionBuilt (codes "request") (map (λ w. w.now) words.now)) }
+    ensures too_long { IfErr result (λ fault. fault ≢ BuildFault.TooLong) }
 {
     let [called, calling] = words else {
         return Err(BuildFault::Arguments);
@@ -41,7 +45,9 @@ fn request(alloc: Global, words: &[&str]) -> Result<Bytes, BuildFault>
 
 /// The bytes of a message, from HEX.
 fn message(alloc: Global, words: &[&str]) -> Result<Bytes, BuildFault>
-    ensures { IfOk result (IsSessionBuilt (codes "message") (map (λ w. w.now) words.now)) }
+    ensures built { IfOk result (IsSessionBuilt (codes "message") (map (λ w. w.now) words.now)) }
+    ensures too_long { IfErr result (λ fault. fault ≡ BuildFault.TooLong →
+        GiveTooMuch (codes "message") (map (λ w. w.now) words.now)) }
 {
     let [digits] = words else {
         return Err(BuildFault::Arguments);
@@ -55,7 +61,8 @@ fn message(alloc: Global, words: &[&str]) -> Result<Bytes, BuildFault>
 
 /// The bytes of a negative response, from CODE.
 fn negative(alloc: Global, words: &[&str]) -> Result<Bytes, BuildFault>
-    ensures { IfOk result (IsSessionBuilt (codes "negative") (map (λ w. w.now) words.now)) }
+    ensures built { IfOk result (IsSessionBuilt (codes "negative") (map (λ w. w.now) words.now)) }
+    ensures too_long { IfErr result (λ fault. fault ≢ BuildFault.TooLong) }
 {
     let [digits] = words else {
         return Err(BuildFault::Arguments);
@@ -65,7 +72,8 @@ fn negative(alloc: Global, words: &[&str]) -> Result<Bytes, BuildFault>
 
 /// The bytes of a retarget response, from ADDRESS PORT.
 fn retarget(alloc: Global, words: &[&str]) -> Result<Bytes, BuildFault>
-    ensures { IfOk result (IsSessionBuilt (codes "retarget") (map (λ w. w.now) words.now)) }
+    ensures built { IfOk result (IsSessionBuilt (codes "retarget") (map (λ w. w.now) words.now)) }
+    ensures too_long { IfErr result (λ fault. fault ≢ BuildFault.TooLong) }
 {
     let [place, port] = words else {
         return Err(BuildFault::Arguments);
@@ -77,7 +85,8 @@ fn retarget(alloc: Global, words: &[&str]) -> Result<Bytes, BuildFault>
 
 /// The bytes of a packet that takes no arguments.
 fn bare(alloc: Global, words: &[&str], packet: &Packet<'_>) -> Result<Bytes, BuildFault>
-    ensures { IfOk result (λ bytes. (words.now ≡ []) × IsPacket packet.now bytes) }
+    ensures built { IfOk result (λ bytes. (words.now ≡ []) × IsPacket packet.now bytes) }
+    ensures too_long { IfErr result (λ fault. fault ≢ BuildFault.TooLong) }
 {
     match words {
         [] => encoded(alloc, packet),
@@ -87,7 +96,8 @@ fn bare(alloc: Global, words: &[&str], packet: &Packet<'_>) -> Result<Bytes, Bui
 
 /// The bytes of a packet.
 fn encoded(alloc: Global, packet: &Packet<'_>) -> Result<Bytes, BuildFault>
-    ensures { IfOk result (IsPacket packet.now) }
+    ensures built { IfOk result (IsPacket packet.now) }
+    ensures too_long { IfErr result (λ fault. fault ≢ BuildFault.TooLong) }
 {
     Ok(encode(alloc, packet)?)
 }

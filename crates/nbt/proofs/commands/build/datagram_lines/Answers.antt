@@ -3,10 +3,10 @@ use Rattle.nbt.specs.Building.{payload_lines}
 use Rattle.nbt.specs.Built.{of_datagrams}
 use Rattle.nbt.proofs.commands.build.datagram_lines.Goals as goal
 
-pub returns : goal.returns
-returns c broadcast = record {
+pub returns-clause-built : goal.returns-clause-built
+returns-clause-built c broadcast = record {
   port = 138;
   payloads = c.in_ok-packets.packets;
-  named = of_datagrams c.in_ok-packets.packets c.in_ok-packets.ensures;
+  named = of_datagrams c.in_ok-packets.packets c.in_ok-packets.ensures.built;
   lines = c.in_ok-lines.ensures ∙ ap (payload_lines 138) c.as_slice.ensures;
 }

@@ -1,10 +1,10 @@
 use Rattle.std.proofs.Common.{sym, ap, ◌∙◌}
 use Rattle.std.specs.Prelude.{option_map}
-use Rattle.std.proofs.lemmas.Result.{IfOk-weaker}
+use Rattle.std.proofs.lemmas.Result.{IfOk-weaker, MatchResult-weaker}
 use Rattle.nbt.proofs.commands.build.lines_of.Goals as goal
 
-pub returns-in-Some : goal.returns-in-Some
-returns-in-Some c =
+pub returns-in-Some-clause-built : goal.returns-in-Some-clause-built
+returns-in-Some-clause-built c =
     IfOk-weaker c.build.result _ _
     (λ lines built. record {
       broadcast = c.is_broadcast.result;
@@ -13,4 +13,15 @@ returns-in-Some c =
       given = record { has_flag = c.is_broadcast.ensures; has_what = sym c.get_str.ensures ∙ ap (option_map (λ s. s.now)) c.in-Some.is; has_words = sym c.words_of.ensures };
       built = built;
     })
-    c.build.ensures
+    c.build.ensures.built
+
+pub returns-in-Some-clause-too_long : goal.returns-in-Some-clause-too_long
+returns-in-Some-clause-too_long c =
+    MatchResult-weaker c.build.result c.build.ensures.too_long (λ lines t. t)
+    (λ fault why too. record {
+      broadcast = c.is_broadcast.result;
+      what = _;
+      words = _;
+      given = record { has_flag = c.is_broadcast.ensures; has_what = sym c.get_str.ensures ∙ ap (option_map (λ s. s.now)) c.in-Some.is; has_words = sym c.words_of.ensures };
+      too_much = why too;
+    })

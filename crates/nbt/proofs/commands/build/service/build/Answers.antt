@@ -1,7 +1,10 @@
 use Rattle.nbt.proofs.commands.build.service.build.Goals as goal
 
-pub returns-in-release : goal.returns-in-release
-returns-in-release c = rw c.in-release.is c.withdrawal.ensures
+pub returns-in-release-clause-built : goal.returns-in-release-clause-built
+returns-in-release-clause-built c = rw c.in-release.is c.withdrawal.ensures.built
 
-pub returns-in-response : goal.returns-in-response
-returns-in-response c = rw c.in-response.is c.build.ensures
+pub returns-in-response-clause-built : goal.returns-in-response-clause-built
+returns-in-response-clause-built c = rw c.in-response.is c.build.ensures.built
+
+pub returns-in-response-clause-too_long : goal.returns-in-response-clause-too_long
+returns-in-response-clause-too_long c = rw c.in-response.is c.build.ensures.too_long

@@ -4,8 +4,8 @@ use Rattle.nbt.proofs.ArgumentLemmas.{two_words}
 use Rattle.nbt.proofs.BuiltLemmas.{session_built}
 use Rattle.nbt.proofs.commands.build.session.request.Goals as goal
 
-pub returns : goal.returns
-returns c =
+pub returns-clause-built : goal.returns-clause-built
+returns-clause-built c =
     session_built _ _ _ _ _ c.encoded.result refl
     (two_words (λ w. w.now) _ c.args.words.now c.in-len2.len_at_least c.in-len2.len_below)
-    (request _ _ _ _ c.in_ok-called.ensures.found c.in_ok-calling.ensures.found) c.encoded.ensures
+    (request _ _ _ _ c.in_ok-called.ensures.found c.in_ok-calling.ensures.found) c.encoded.ensures.built

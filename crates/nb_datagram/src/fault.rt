@@ -1,4 +1,6 @@
 //! Why bytes begin with no packet.
+ghost use Rattle.std.specs.Prelude.{◌≡◌};
+ghost use Rattle.nb_datagram.specs.FaultTexts.{datagram_fault_place};
 
 use nb_names::NameFault;
 use std::error::Error;
@@ -20,6 +22,21 @@ pub enum DatagramFault {
     SourceName(NameFault),
     /// No NetBIOS name stands where the destination's is to stand.
     DestinationName(NameFault),
+}
+
+impl DatagramFault {
+    /// The number with which its text ends, where it ends with one.
+    pub fn place(self) -> Option<usize>
+        ensures { result ≡ datagram_fault_place self }
+    {
+        match self {
+            DatagramFault::Truncated(at) => Some(at),
+            DatagramFault::UnknownType => None,
+            DatagramFault::SourceName(fault) | DatagramFault::DestinationName(fault) => {
+                Some(fault.place())
+            }
+        }
+    }
 }
 
 impl fmt::Display for DatagramFault {

@@ -1,4 +1,6 @@
 //! Why no name was read.
+ghost use Rattle.std.specs.Prelude.{◌≡◌};
+ghost use Rattle.nb_names.specs.FaultTexts.{name_fault_place};
 
 use std::error::Error;
 use std::fmt;
@@ -26,6 +28,23 @@ pub enum NameFault {
     /// in the packet: 0 unless the first label has 32 bytes, and then that of its first byte that
     /// is none of `A` to `P`.
     NotNetbios(usize),
+}
+
+impl NameFault {
+    /// The number with which its text ends: an offset in bytes from the packet's start, but for
+    /// [`NameFault::NotNetbios`].
+    pub fn place(self) -> usize
+        ensures { result ≡ name_fault_place self }
+    {
+        match self {
+            NameFault::Truncated(at)
+            | NameFault::ReservedLabel(at)
+            | NameFault::PointerNotAllowed(at)
+            | NameFault::BadPointer(at)
+            | NameFault::TooLong(at)
+            | NameFault::NotNetbios(at) => at,
+        }
+    }
 }
 
 impl fmt::Display for NameFault {

@@ -1,7 +1,8 @@
--- The texts of faults (our choice). Each fault's number is written in decimal.
-use Rattle.std.specs.Prelude.{ℕ, List, ◌++◌, codes}
+-- The texts of faults (our choice). Each fault's number is written in decimal. A fault's place is the number with which its text
+-- ends, where it ends with one.
+use Rattle.std.specs.Prelude.{ℕ, List, ◌++◌, codes, Option, Some, None}
 use Rattle.std.specs.Fmt.{decimal}
-use Rattle.nb_names.specs.FaultTexts.{name_fault_text}
+use Rattle.nb_names.specs.FaultTexts.{name_fault_place, name_fault_text}
 use Rattle.nb_service.specs.declared.push_fault.PushFault.{PushFault}
 use Rattle.nb_service.specs.declared.push_fault.PushFault.TheVariants as pushing
 use Rattle.nb_service.specs.declared.record_fault.RecordFault.{RecordFault}
@@ -15,6 +16,13 @@ service_fault_text (Truncated at) = codes "truncated " ++ decimal at
 service_fault_text (Name fault) = codes "name: " ++ name_fault_text fault
 service_fault_text (NameRdata at) = codes "name rdata " ++ decimal at
 service_fault_text NoMemory = codes "memory"
+
+-- its place
+abbrev pub service_fault_place : ServiceFault → Option ℕ
+service_fault_place (Truncated at) = Some at
+service_fault_place (Name fault) = Some (name_fault_place fault)
+service_fault_place (NameRdata at) = Some at
+service_fault_place NoMemory = None
 
 -- what is reported of a record that could not be made
 abbrev pub record_fault_text : RecordFault → List ℕ

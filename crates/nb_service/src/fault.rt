@@ -1,4 +1,6 @@
 //! Why bytes could not be decoded.
+ghost use Rattle.std.specs.Prelude.{◌≡◌};
+ghost use Rattle.nb_service.specs.FaultTexts.{service_fault_place};
 
 use nb_names::NameFault;
 use std::alloc::{AllocError, AllocFailed};
@@ -21,6 +23,19 @@ pub enum ServiceFault {
     NameRdata(usize),
     /// Memory ran out. The bytes begin with a packet that has a question or a record.
     NoMemory,
+}
+
+impl ServiceFault {
+    /// The number with which its text ends, where it ends with one.
+    pub fn place(self) -> Option<usize>
+        ensures { result ≡ service_fault_place self }
+    {
+        match self {
+            ServiceFault::Truncated(at) | ServiceFault::NameRdata(at) => Some(at),
+            ServiceFault::Name(fault) => Some(fault.place()),
+            ServiceFault::NoMemory => None,
+        }
+    }
 }
 
 impl fmt::Display for ServiceFault {

@@ -1,4 +1,6 @@
 //! Why bytes are no session packet.
+ghost use Rattle.std.specs.Prelude.{◌≡◌};
+ghost use Rattle.nb_session.specs.FaultTexts.{session_fault_place};
 
 use nb_names::NameFault;
 use std::error::Error;
@@ -22,6 +24,21 @@ pub enum SessionFault {
     Name(NameFault),
     /// The calling name of a request ends at this offset, before the packet does.
     TrailingBytes(usize),
+}
+
+impl SessionFault {
+    /// The number with which its text ends, where it ends with one.
+    pub fn place(self) -> Option<usize>
+        ensures { result ≡ session_fault_place self }
+    {
+        match self {
+            SessionFault::UnknownType | SessionFault::ReservedFlags | SessionFault::BadLength => {
+                None
+            }
+            SessionFault::Name(fault) => Some(fault.place()),
+            SessionFault::TrailingBytes(at) => Some(at),
+        }
+    }
 }
 
 impl fmt::Display for SessionFault {

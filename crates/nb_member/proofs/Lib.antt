@@ -8,6 +8,8 @@ pub mod DeliveryLemmas
 pub mod RunLemmas
 pub mod AgreementLemmas
 pub mod ReplayLemmas
-pub mod ReportLemmas
 pub mod LineLemmas
+pub mod LineTakingLemmas
 pub mod ListingLemmas
+pub mod FieldTexts
+pub mod FieldMembers

@@ -5,3 +5,4 @@ pub mod Members
 pub mod RunEvents
 pub mod ReplayLines
 pub mod LineSteps
+pub mod LineTurns

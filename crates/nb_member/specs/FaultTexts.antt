@@ -1,5 +1,5 @@
 -- The texts of faults (our choice).
-use Rattle.std.specs.Prelude.{ℕ, List, ◌++◌, codes}
+use Rattle.std.specs.Prelude.{ℕ, List, ◌++◌, codes, Option, None}
 use Rattle.std.specs.Fmt.{decimal}
 use Rattle.nb_member.specs.declared.local_names.AddFault.{AddFault}
 use Rattle.nb_member.specs.declared.local_names.AddFault.TheVariants as adding
@@ -7,7 +7,7 @@ use Rattle.nb_member.specs.declared.line_fault.LineFault.{LineFault}
 use Rattle.nb_member.specs.declared.line_fault.LineFault.TheVariants.{BadLine, NoMemory}
 use Rattle.nb_member.specs.declared.replay_fault.ReplayFault.{ReplayFault}
 use Rattle.nb_member.specs.declared.replay_fault.ReplayFault.TheVariants as replaying
-use Rattle.nb_datagram.specs.FaultTexts.{datagram_fault_text}
+use Rattle.nb_datagram.specs.FaultTexts.{datagram_fault_place, datagram_fault_text}
 use Rattle.nb_table.specs.FaultTexts.{table_fault_text}
 use Rattle.nb_member.specs.declared.member_fault.MemberFault.{MemberFault}
 use Rattle.nb_member.specs.declared.member_fault.MemberFault.TheVariants.{Packet, Table}
@@ -27,6 +27,11 @@ add_fault_text adding.NoMemory = codes "memory"
 abbrev pub member_fault_text : MemberFault → List ℕ
 member_fault_text (Packet fault error) = datagram_fault_text fault
 member_fault_text (Table fault) = table_fault_text fault
+
+-- its place, the number with which the text ends; a table's fault has none
+abbrev pub member_fault_place : MemberFault → Option ℕ
+member_fault_place (Packet fault error) = datagram_fault_place fault
+member_fault_place (Table fault) = None
 
 -- the text of the fault that ended a replay
 abbrev pub replay_fault_text : ReplayFault → List ℕ

@@ -11,9 +11,13 @@ pub mod Agreement
 pub mod Comments
 pub mod Report
 pub mod Listing
+pub mod Keys
+pub mod ReportFields
+pub mod ListingFields
 pub mod LineRoom
 pub mod LineReading
 pub mod Replaying
 pub mod LinesCame
+pub mod LineTaking
 pub mod Code
 pub mod Shared

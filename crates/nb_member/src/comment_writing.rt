@@ -43,13 +43,18 @@ fn push_line(line: &[u8], text: &mut String) -> Result<(), NoMemory>
     if line.is_empty() {
         return Ok(());
     }
-    push_bytes(line, text)?;
+    push_comment_bytes(line, text)?;
     text.push('\n')?;
     Ok(())
 }
 
-/// Adds the bytes of a comment.
-fn push_bytes(bytes: &[u8], text: &mut String) -> Result<(), NoMemory>
+/// Adds the bytes of a comment, as [`push_comment`] has them, without a line feed.
+///
+/// # Errors
+///
+/// [`NoMemory`] where memory ran out. What stood in the text is still its front; some of the bytes
+/// may stand after it.
+pub fn push_comment_bytes(bytes: &[u8], text: &mut String) -> Result<(), NoMemory>
     ensures added { OnOk result
         (string_bytes text.new ≡ string_bytes text.old ++ flat_map byte_text bytes.now) }
     ensures front { OnlyAdds (string_bytes text.old) (string_bytes text.new) }

@@ -23,6 +23,7 @@ ghost use Rattle.nb_member.specs.Agreement.{valid, NoneDropped, GiveTheSame};
 
 mod deliveries;
 mod events;
+mod fields;
 mod lines;
 mod listings;
 mod merging;
@@ -32,6 +33,7 @@ pub use deliveries::{
     once_is_one_or_none,
 };
 pub use events::each_event_says_something;
+pub use fields::{fields_are_members, texts_of_listings, texts_of_reports};
 pub use lines::what_came_is_handed_out_or_held;
 pub use listings::a_key_that_is_absent_is_listed_as_spoilt;
 pub use merging::{

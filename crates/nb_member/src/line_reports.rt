@@ -1,57 +1,47 @@
 //! What a member does with one line of a capture.
-ghost use Rattle.std.specs.Prelude.{◌≡◌, ◌≢◌, List, true, false, Err, IfErr, IfOk, OnErr, string_bytes};
-ghost use Rattle.nb_member.specs.Code.ReplayLines.{ReportsLine, ReportsValue, MayReportValue, HasNoReport};
+ghost use Rattle.std.specs.Prelude.{◌≡◌, ◌≢◌, List, true, false, Ok, Err, IfOk, OnErr, string_bytes};
+ghost use Rattle.nb_member.specs.Capture.{Reads};
+ghost use Rattle.nb_member.specs.Code.ReplayLines.{ReportsLine, ReportsValue, MayReportLine, MayReportValue};
 ghost use Rattle.nb_member.specs.Code.Members.{KeepsStation};
 ghost use Rattle.nb_member.specs.Live.{Timed};
 ghost use Rattle.nb_member.specs.Member.{StandsOver};
 
-use crate::capture::capture_line;
 use crate::comments::Comments;
 use crate::laws;
 use crate::line::Line;
-use crate::line_fault::LineFault;
 use crate::member::Member;
 use crate::member_fault::MemberFault;
 use crate::outcome::Outcome;
-use crate::replay_fault::ReplayFault;
 use crate::report::{comment_line, dropped_line, passed_line, taken_line};
 use nb_names::NoMemory;
 use nb_table::TableFault;
 use std::alloc::Global;
 
-/// Acts on the line of a capture with this number, and answers its line of the report, which is
-/// empty where it has none: that of a comment is the comment, where comments are printed.
+/// Acts on the line of a capture with this number, which says this, or nothing, and answers its
+/// line of the report, which is empty where it has none: that of a comment is the comment, where
+/// comments are printed.
 ///
 /// # Errors
 ///
-/// [`ReplayFault::Line`] where the line is malformed, and the member is then as it was.
-/// [`ReplayFault::NoMemory`] where memory ran out, before the line was acted on or after.
+/// [`NoMemory`] where memory ran out, before the line was acted on or after.
 pub fn act_on(
     alloc: Global,
     number: u64,
     line: &[u8],
+    said: &Option<Line>,
     comments: Comments,
     member: &mut Member,
-) -> Result<String, ReplayFault>
-    ensures acted { IfOk result (λ text. (L : List Timed) → StandsOver member.old L →
+) -> Result<String, NoMemory>
+    ensures acted { IfOk result (λ text. Reads line.now (Ok said.now) → (L : List Timed) →
+        StandsOver member.old L →
         ReportsLine comments member.old L number line.now member.new (string_bytes text)) }
-    ensures fault { IfErr result (λ fault. (L : List Timed) → StandsOver member.old L →
-        HasNoReport comments member.old L number line.now member.new fault) }
-    ensures no_device { IfErr result (λ fault.
-        (fault ≢ ReplayFault.Read) × (fault ≢ ReplayFault.Write)) }
+    ensures fault { OnErr result (Reads line.now (Ok said.now) → (L : List Timed) →
+        StandsOver member.old L → MayReportLine comments member.old L number line.now member.new) }
     ensures kept { KeepsStation member.old member.new }
 {
-    match capture_line(alloc, line) {
-        Ok(None) => match comment_line(alloc, comments, line) {
-            Ok(text) => Ok(text),
-            Err(_) => Err(ReplayFault::NoMemory),
-        },
-        Ok(Some(said)) => match act(alloc, number, &said, member) {
-            Ok(text) => Ok(text),
-            Err(_) => Err(ReplayFault::NoMemory),
-        },
-        Err(LineFault::BadLine) => Err(ReplayFault::Line(number)),
-        Err(LineFault::NoMemory) => Err(ReplayFault::NoMemory),
+    match said {
+        None => comment_line(alloc, comments, line),
+        Some(said) => act(alloc, number, said, member),
     }
 }
 

@@ -1,4 +1,6 @@
 //! Why a member refuses a payload.
+ghost use Rattle.std.specs.Prelude.{◌≡◌};
+ghost use Rattle.nb_member.specs.FaultTexts.{member_fault_place};
 
 use nb_datagram::{DatagramFault, ErrorPacket};
 use nb_table::TableFault;
@@ -12,6 +14,18 @@ pub enum MemberFault {
     Packet(DatagramFault, Option<ErrorPacket>),
     /// The table refuses the fragment.
     Table(TableFault),
+}
+
+impl MemberFault {
+    /// The number with which its text ends, where it ends with one.
+    pub fn place(self) -> Option<usize>
+        ensures { result ≡ member_fault_place self }
+    {
+        match self {
+            MemberFault::Packet(fault, _) => fault.place(),
+            MemberFault::Table(_) => None,
+        }
+    }
 }
 
 impl fmt::Display for MemberFault {

@@ -1,27 +1,25 @@
 //! Replaying a capture in a member.
-ghost use Rattle.std.specs.Prelude.{◌≡◌, ◌≢◌, ◌≤◌, ℕ, List, length, IfErr, OnOk, Err};
+ghost use Rattle.std.specs.Prelude.{◌≡◌, ℕ, List, Err};
 ghost use Rattle.std.specs.Io.KnownBytes.{Consumes};
 ghost use Rattle.nb_names.specs.declared.limits.TheConstants.{MAX_INPUT};
-ghost use Rattle.nb_names.specs.Devices.{GrowTo, ShowsUnread, ShowsWriteFault};
+ghost use Rattle.nb_names.specs.Devices.{ShowsUnread, ShowsWriteFault};
 ghost use Rattle.nb_member.specs.declared.comments.Comments.TheVariants.{LeftOut};
 ghost use Rattle.nb_member.specs.declared.event.Event.{Event};
-ghost use Rattle.nb_member.specs.Code.ReplayLines.{HasNoWholeReport, WritesLine};
-ghost use Rattle.nb_member.specs.Code.Members.{KeepsStation};
-ghost use Rattle.nb_member.specs.Live.{Timed, live};
-ghost use Rattle.nb_member.specs.Member.{StandsOver, Stands};
+ghost use Rattle.nb_member.specs.Code.ReplayLines.{replay_answer};
+ghost use Rattle.nb_member.specs.Live.{live};
+ghost use Rattle.nb_member.specs.Member.{Stands};
 ghost use Rattle.nb_member.specs.Replaying.{Replays};
 
 use crate::capture_options::CaptureOptions;
 use crate::comments::Comments;
-use crate::line_read_fault::LineReadFault;
-use crate::line_reading::next_from;
-use crate::line_reports::act_on;
-use crate::line_room::LineRoom;
+use crate::line_taking::take_lines;
+use crate::lines_fault::LinesFault;
 use crate::member::Member;
 use crate::replay_fault::ReplayFault;
+use crate::replayer::Replayer;
+use crate::report_fault::ReportFault;
 use nb_names::Counted;
 use nb_names::limits::MAX_INPUT;
-use nb_names::output::write_whole;
 use std::alloc::Global;
 use std::io::{Read, Write};
 
@@ -146,50 +144,25 @@ pub fn replay_with<R: Read, W: Write>(
     ensures settings { member.new.settings ≡ member.old.settings }
     ensures names { member.new.names ≡ member.old.names }
 {
-    let mut room = LineRoom::within(alloc, options.most);
-    let mut number = 0;
-    'lines: loop {
-        match next_from(&mut room, reader) {
-            Ok(Some(line)) => {
-                number += 1;
-                replay_line(alloc, number, line, options.comments, writer, member)?;
-            }
-            Ok(None) => return Ok(number),
-            Err(LineReadFault::TooLong) => return Err(ReplayFault::Line(number + 1)),
-            Err(LineReadFault::Read) => return Err(ReplayFault::Read),
-            Err(LineReadFault::NoMemory) => return Err(ReplayFault::NoMemory),
-        }
-    }
+    let mut replayer = Replayer {
+        alloc,
+        comments: options.comments,
+        member,
+        writer,
+    };
+    answer_of(take_lines(alloc, options.most, reader, &mut replayer))
 }
 
-/// Acts on the line with this number, and writes its line of the report, if it has one.
-///
-/// # Errors
-///
-/// [`ReplayFault::Line`], [`ReplayFault::Write`] and [`ReplayFault::NoMemory`].
-fn replay_line<W: Write>(
-    alloc: Global,
-    number: u64,
-    line: &[u8],
-    comments: Comments,
-    writer: &mut Counted<W>,
-    member: &mut Member,
-) -> Result<(), ReplayFault>
-    ensures written { OnOk result ((L : List Timed) → StandsOver member.old L →
-        WritesLine comments member.old L number line.now member.new
-        (W.contents writer.old.inner) (W.contents writer.new.inner)) }
-    ensures fault { IfErr result (λ fault. (L : List Timed) → StandsOver member.old L →
-        HasNoWholeReport comments member.old L number line.now member.new
-        (W.contents writer.old.inner) (W.contents writer.new.inner) fault) }
-    ensures unread { IfErr result (λ fault. fault ≢ ReplayFault.Read) }
-    ensures why { IfErr result (λ fault. fault ≡ ReplayFault.Write →
-        ShowsWriteFault writer.old.counts writer.new.counts) }
-    ensures grow { GrowTo writer.old.counts writer.new.counts }
-    ensures kept { KeepsStation member.old member.new }
+/// What a replay answers where the taking of its lines ended so.
+fn answer_of(taken: Result<u64, LinesFault<ReportFault>>) -> Result<u64, ReplayFault>
+    ensures { result ≡ replay_answer taken }
 {
-    let text = act_on(alloc, number, line, comments, member)?;
-    match write_whole(writer, text.as_bytes()) {
-        Ok(()) => Ok(()),
-        Err(_) => Err(ReplayFault::Write),
+    match taken {
+        Ok(count) => Ok(count),
+        Err(LinesFault::Line(number)) => Err(ReplayFault::Line(number)),
+        Err(LinesFault::Read) => Err(ReplayFault::Read),
+        Err(LinesFault::NoMemory) => Err(ReplayFault::NoMemory),
+        Err(LinesFault::NotTaken(ReportFault::Write)) => Err(ReplayFault::Write),
+        Err(LinesFault::NotTaken(ReportFault::NoMemory)) => Err(ReplayFault::NoMemory),
     }
 }

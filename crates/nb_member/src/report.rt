@@ -5,6 +5,7 @@ ghost use Rattle.nb_datagram.specs.declared.limits.TheConstants.{MAX_LENGTH};
 ghost use Rattle.nb_member.specs.Comments.{blank_text};
 ghost use Rattle.nb_member.specs.Report.{numbered, result_text};
 
+pub(crate) mod outcomes;
 pub(crate) mod texts;
 
 use crate::comment_writing::push_comment;

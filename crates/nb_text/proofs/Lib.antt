@@ -1,9 +1,11 @@
 pub mod ShownLemmas
-pub mod SetLemmas
 pub mod RowLemmas
 pub mod WalkLemmas
 pub mod SectionRows
-pub mod PieceLemmas
+pub mod FieldTexts
+pub mod FieldMembers
+pub mod TellsLemmas
+pub mod PlaceLemmas
 pub mod FieldLemmas
 pub mod MidLemmas
 pub mod FaultLines

@@ -1,8 +1,6 @@
 -- Texts of payloads: one for each port.
-use Rattle.std.proofs.Common.{◌≡◌, ◌≢◌, ◌⊎◌, inl, inr, ℕ, List, ◌++◌, Result, refl, sym, ap, ap₂, ◌∙◌, subst, arith}
-use Rattle.std.specs.Prelude.{OnOk}
+use Rattle.std.proofs.Common.{◌≡◌, ◌≢◌, ◌⊎◌, inl, inr, ℕ, List, refl, sym, ap, ap₂, ◌∙◌, subst, arith}
 use Rattle.std.proofs.lemmas.Bool.{cases_eq}
-use Rattle.std.proofs.lemmas.Result.{on_ok_weaker}
 use Rattle.nb_service.specs.declared.fault.ServiceFault.{ServiceFault}
 use Rattle.nb_service.specs.FaultTexts.{service_fault_text}
 use Rattle.nb_service.specs.Packet as service
@@ -18,7 +16,7 @@ use Rattle.nb_text.specs.Lines.{refused_text}
 use Rattle.nb_text.specs.ServiceText.{service_text}
 use Rattle.nb_text.specs.DatagramText.{datagram_text}
 use Rattle.nb_text.specs.SessionText.{session_text}
-use Rattle.nb_text.specs.Shown.{Shown, AddsShown, names, no_names, datagram, no_datagram, session}
+use Rattle.nb_text.specs.Shown.{Shown, names, no_names, datagram, no_datagram, session}
 
 -- ---- the text by the port
 
@@ -154,38 +152,3 @@ some_shown payload port n d s =
         | inr b ↦ (session_text s.0, session port s.0 a b s.1)
       ]
     ]
-
--- ---- what is added
-
--- AddsNames payload used old new: the text of a packet that takes up so many bytes of the payload was added
-abbrev pub AddsNames : List ℕ → ℕ → List ℕ → List ℕ → Type 0
-AddsNames payload used old new =
-    (packet : service.ServicePacket) × service.IsPacket payload packet used × (new ≡ old ++ service_text packet used)
-
-pub adds_names : {E : Type 0} (payload : List ℕ) (used : ℕ) (old new : List ℕ) (r : Result (Unit {0}) E)
-    → OnOk r (AddsNames payload used old new) → OnOk r (AddsShown payload 137 old new)
-adds_names payload used old new r added =
-    on_ok_weaker r (λ e. record { text = service_text e.0 used; shown = names e.0 used e.1; added = e.2 }) added
-
-pub adds_no_names : {E : Type 0} (payload : List ℕ) (fault : ServiceFault) (old new : List ℕ) (r : Result (Unit {0}) E)
-    → service_faults.PacketFails payload fault → OnOk r (new ≡ old ++ refused_text (service_fault_text fault))
-    → OnOk r (AddsShown payload 137 old new)
-adds_no_names payload fault old new r fails added =
-    on_ok_weaker r (λ e. record { text = refused_text (service_fault_text fault); shown = no_names fault fails; added = e }) added
-
-pub adds_datagram : {E : Type 0} (payload : List ℕ) (packet : Packet) (used : ℕ) (old new : List ℕ) (r : Result (Unit {0}) E)
-    → datagrams.IsPacket payload packet used → OnOk r (new ≡ old ++ datagram_text packet used) → OnOk r (AddsShown payload 138 old new)
-adds_datagram payload packet used old new r stands added =
-    on_ok_weaker r (λ e. record { text = datagram_text packet used; shown = datagram packet used stands; added = e }) added
-
-pub adds_no_datagram : {E : Type 0} (payload : List ℕ) (fault : DatagramFault) (old new : List ℕ) (r : Result (Unit {0}) E)
-    → datagram_faults.PacketFails payload fault → OnOk r (new ≡ old ++ refused_text (datagram_fault_text fault))
-    → OnOk r (AddsShown payload 138 old new)
-adds_no_datagram payload fault old new r fails added =
-    on_ok_weaker r (λ e. record { text = refused_text (datagram_fault_text fault); shown = no_datagram fault fails; added = e }) added
-
-pub adds_session : {E : Type 0} (payload : List ℕ) (parsed : Parsed) (old new : List ℕ) (r : Result (Unit {0}) E)
-    → Parses payload parsed → OnOk r (new ≡ old ++ session_text parsed)
-    → OnOk r ((port : ℕ) → port ≢ 137 → port ≢ 138 → AddsShown payload port old new)
-adds_session payload parsed old new r stands added =
-    on_ok_weaker r (λ e port a b. record { text = session_text parsed; shown = session port parsed a b stands; added = e }) added

@@ -5,4 +5,10 @@ pub mod DatagramText
 pub mod SessionText
 pub mod Shown
 pub mod Fields
-pub mod Code
+pub mod Keys
+pub mod FaultEnds
+pub mod LineFields
+pub mod ServiceFields
+pub mod DatagramFields
+pub mod SessionFields
+pub mod Tells

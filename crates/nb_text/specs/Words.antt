@@ -1,10 +1,10 @@
 -- The words for what stands in packets as numbers (our choice; the names are those of RFC 1002 sections 4.2.1.1, 4.2.6,
 -- 4.2.11, 4.2.14 and 4.2.18). Bits are numbered as in Flags of nb_service.
-use Rattle.std.specs.Prelude.{ℕ, ◌==◌, ◌^◌, Bool, not, List, [], ◌∷◌, ◌++◌, codes, Option, Some, None, bit_and, if◌then◌else◌}
+use Rattle.std.specs.Prelude.{ℕ, ◌==◌, ◌^◌, Bool, not, List, [], ◌∷◌, codes, Option, Some, None, bit_and, if◌then◌else◌}
 use Rattle.std.specs.Fmt.{decimal}
-use Rattle.std.specs.List.{flat_map}
 use Rattle.nb_datagram.specs.declared.packet.QueryKind.{QueryKind}
 use Rattle.nb_datagram.specs.declared.packet.QueryKind.TheVariants.{Request, Positive, Negative}
+use Rattle.nb_telling.specs.Sets.{joined}
 
 -- ---- numbers that have names
 
@@ -75,15 +75,6 @@ abbrev pub names_set : List Flag → ℕ → List (List ℕ)
 names_set [] word = []
 names_set (f ∷ flags) word = if is_set word f.bit then f.name ∷ names_set flags word else names_set flags word
 
--- each name after a `+`
-abbrev pub added_names : List (List ℕ) → List ℕ
-added_names = flat_map (λ name. codes "+" ++ name)
-
--- names with `+` between them, or `none` where there is none
-abbrev pub joined : List (List ℕ) → List ℕ
-joined [] = codes "none"
-joined (name ∷ names) = name ++ added_names names
-
--- the flags that are set in a word
+-- the flags that are set in a word, with `+` between their names, or `none`
 abbrev pub set_text : List Flag → ℕ → List ℕ
 set_text flags word = joined (names_set flags word)

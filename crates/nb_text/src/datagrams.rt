@@ -1,130 +1,109 @@
-//! The text of a datagram service packet.
-#![tactic(auto, using(nb_names::specs::GrowthFacts::front_stays))]
+//! A datagram service packet, told to a sink.
+#![tactic(auto, using(nb_telling::proofs::FoldLemmas::told_both))]
 
-ghost use Rattle.std.specs.Prelude.{◌≡◌, ◌++◌, OnOk, string_bytes};
-ghost use Rattle.nb_names.specs.Growth.{OnlyAdds};
-ghost use Rattle.nb_datagram.specs.FaultTexts.{datagram_fault_text};
+ghost use Rattle.std.specs.Prelude.{◌≡◌, ◌++◌, List, ℕ, OnOk, fold};
 ghost use Rattle.nb_datagram.specs.LentPacket.{packet_of};
-ghost use Rattle.nb_text.specs.DatagramText.{datagram_text, error_text, flags_text, fragment_text, parts_text, query_text};
-ghost use Rattle.nb_text.specs.Lines.{refused_text};
-ghost use Rattle.nb_text.specs.Shown.{AddsShown};
+ghost use Rattle.nb_telling.specs.Telling.{Grows};
+ghost use Rattle.nb_text.specs.DatagramFields.{begin_fields, datagram_fields, error_fields, fragment_fields, parts_fields, query_fields};
+ghost use Rattle.nb_text.specs.Tells.{IsTold};
 ghost use Rattle.nb_text.specs.Words.{query_word};
 
-use crate::words::push_used;
+use crate::faults::tell_refusal;
+use crate::keys::{CODE, DATA, DESTINATION, FLAGS, KEY, KIND, OFFSET, SOURCE};
+use crate::words::tell_used;
 use nb_datagram::{
-    DatagramFault, ErrorPacket, Key, LentFragment, LentPacket, LentQuery, QueryKind, decode_lent,
-    kind_name, push_key,
+    ErrorPacket, Key, LentFragment, LentPacket, LentQuery, QueryKind, decode_lent, kind_name,
 };
-use nb_names::{NoMemory, push_data, push_digits, push_lent_name, push_number, push_shown};
+use nb_names::NoMemory;
+use nb_telling::Sink;
 
-/// Adds the text of a payload of port 138.
-pub fn push_datagram(payload: &[u8], text: &mut String) -> Result<(), NoMemory>
-    ensures added { OnOk result
-        (AddsShown payload.now 138 (string_bytes text.old) (string_bytes text.new)) }
-    ensures front { OnlyAdds (string_bytes text.old) (string_bytes text.new) }
+/// Tells a payload of port 138.
+pub fn tell_datagram<S: Sink>(payload: &[u8], sink: &mut S) -> Result<(), NoMemory>
+    ensures told { OnOk result
+        (IsTold S.after payload.now 138 (S.seen sink.old) (S.seen sink.new)) }
+    ensures front { Grows S.is_front (S.seen sink.old) (S.seen sink.new) }
 {
     match decode_lent(payload) {
-        Ok((packet, used)) => push_whole(&packet, used, text),
-        Err(fault) => push_refusal(fault, text),
+        Ok((packet, used)) => tell_whole(&packet, used, sink),
+        Err(fault) => tell_refusal(fault, fault.place(), sink),
     }
 }
 
-/// Adds why a payload begins with no packet.
-fn push_refusal(fault: DatagramFault, text: &mut String) -> Result<(), NoMemory>
-    ensures added { OnOk result (string_bytes text.new
-        ≡ string_bytes text.old ++ refused_text (datagram_fault_text fault)) }
-    ensures front { OnlyAdds (string_bytes text.old) (string_bytes text.new) }
+/// Tells a packet that takes up so many bytes.
+fn tell_whole<S: Sink>(packet: &LentPacket<'_>, used: usize, sink: &mut S) -> Result<(), NoMemory>
+    ensures told { OnOk result (S.seen sink.new
+        ≡ fold S.after (S.seen sink.old) (datagram_fields (packet_of packet.now) used)) }
+    ensures front { Grows S.is_front (S.seen sink.old) (S.seen sink.new) }
 {
-    text.push_str("refused ")?;
-    push_shown(fault, text)?;
-    text.push_str("\n")?;
-    Ok(())
+    tell_parts(packet, sink)?;
+    tell_used(used, sink)
 }
 
-/// Adds the line of a packet that takes up so many bytes.
-fn push_whole(packet: &LentPacket<'_>, used: usize, text: &mut String) -> Result<(), NoMemory>
-    ensures added { OnOk result (string_bytes text.new
-        ≡ string_bytes text.old ++ datagram_text (packet_of packet.now) used) }
-    ensures front { OnlyAdds (string_bytes text.old) (string_bytes text.new) }
-{
-    push_parts(packet, text)?;
-    push_used(used, text)?;
-    Ok(())
-}
-
-/// Adds what the packet is, and its parts.
-fn push_parts(packet: &LentPacket<'_>, text: &mut String) -> Result<(), NoMemory>
-    ensures added { OnOk result
-        (string_bytes text.new ≡ string_bytes text.old ++ parts_text (packet_of packet.now)) }
-    ensures front { OnlyAdds (string_bytes text.old) (string_bytes text.new) }
+/// Tells what the packet is, and its parts.
+fn tell_parts<S: Sink>(packet: &LentPacket<'_>, sink: &mut S) -> Result<(), NoMemory>
+    ensures told { OnOk result (S.seen sink.new
+        ≡ fold S.after (S.seen sink.old) (parts_fields (packet_of packet.now))) }
+    ensures front { Grows S.is_front (S.seen sink.old) (S.seen sink.new) }
 {
     match packet {
-        LentPacket::Direct(fragment) => push_fragment(fragment, text),
-        LentPacket::Error(error) => push_error(*error, text),
-        LentPacket::Query(query) => push_query(query, text),
+        LentPacket::Direct(fragment) => tell_fragment(fragment, sink),
+        LentPacket::Error(error) => tell_error(*error, sink),
+        LentPacket::Query(query) => tell_query(query, sink),
     }
 }
 
-/// Adds FLAGS and the key.
-fn push_flags(flags: u8, key: Key, text: &mut String) -> Result<(), NoMemory>
-    ensures added { OnOk result
-        (string_bytes text.new ≡ string_bytes text.old ++ flags_text flags key) }
-    ensures front { OnlyAdds (string_bytes text.old) (string_bytes text.new) }
+/// Tells what a packet is, FLAGS and the key.
+fn tell_begin<S: Sink>(kind: &str, flags: u8, key: Key, sink: &mut S) -> Result<(), NoMemory>
+    ensures told { OnOk result
+        (S.seen sink.new ≡ fold S.after (S.seen sink.old) (begin_fields kind.now flags key)) }
+    ensures front { Grows S.is_front (S.seen sink.old) (S.seen sink.new) }
 {
-    text.push_str(" flags=")?;
-    push_digits(&[flags], text)?;
-    text.push_str(" key=")?;
-    push_key(key, text)?;
-    Ok(())
+    sink.text(KIND, kind)?;
+    sink.digits(FLAGS, &[flags])?;
+    sink.shown(KEY, &key)
 }
 
-/// Adds a fragment's parts.
-fn push_fragment(fragment: &LentFragment<'_>, text: &mut String) -> Result<(), NoMemory>
-    ensures added { OnOk result
-        (string_bytes text.new ≡ string_bytes text.old ++ fragment_text fragment.now) }
-    ensures front { OnlyAdds (string_bytes text.old) (string_bytes text.new) }
+/// Tells a fragment's parts.
+fn tell_fragment<S: Sink>(fragment: &LentFragment<'_>, sink: &mut S) -> Result<(), NoMemory>
+    ensures told { OnOk result
+        (S.seen sink.new ≡ fold S.after (S.seen sink.old) (fragment_fields fragment.now)) }
+    ensures front { Grows S.is_front (S.seen sink.old) (S.seen sink.new) }
 {
-    text.push_str(kind_name(fragment.kind()))?;
-    push_flags(fragment.flags(), fragment.key(), text)?;
-    text.push_str(" offset=")?;
-    push_number(u64::from(fragment.offset()), text)?;
-    text.push_str(" source=")?;
-    push_lent_name(text, fragment.source())?;
-    text.push_str(" destination=")?;
-    push_lent_name(text, fragment.destination())?;
-    text.push_str(" data=")?;
-    push_data(fragment.bytes(), text)?;
-    Ok(())
+    tell_begin(
+        kind_name(fragment.kind()),
+        fragment.flags(),
+        fragment.key(),
+        sink,
+    )?;
+    sink.number(OFFSET, u64::from(fragment.offset()))?;
+    sink.shown(SOURCE, fragment.source())?;
+    sink.shown(DESTINATION, fragment.destination())?;
+    sink.data(DATA, fragment.bytes())
 }
 
-/// Adds an error's parts.
-fn push_error(error: ErrorPacket, text: &mut String) -> Result<(), NoMemory>
-    ensures added { OnOk result
-        (string_bytes text.new ≡ string_bytes text.old ++ error_text error) }
-    ensures front { OnlyAdds (string_bytes text.old) (string_bytes text.new) }
+/// Tells an error's parts.
+fn tell_error<S: Sink>(error: ErrorPacket, sink: &mut S) -> Result<(), NoMemory>
+    ensures told { OnOk result
+        (S.seen sink.new ≡ fold S.after (S.seen sink.old) (error_fields error)) }
+    ensures front { Grows S.is_front (S.seen sink.old) (S.seen sink.new) }
 {
-    text.push_str("error")?;
-    push_flags(error.flags, error.key, text)?;
-    text.push_str(" code=")?;
-    push_digits(&[error.code], text)?;
-    Ok(())
+    tell_begin("error", error.flags, error.key, sink)?;
+    sink.digits(CODE, &[error.code])
 }
 
-/// Adds a query's parts.
-fn push_query(query: &LentQuery<'_>, text: &mut String) -> Result<(), NoMemory>
-    ensures added { OnOk result (string_bytes text.new ≡ string_bytes text.old ++ query_text (record {
-      kind = query.now.kind;
-      flags = query.now.flags;
-      key = query.now.key;
-      destination = query.now.destination;
-    })) }
-    ensures front { OnlyAdds (string_bytes text.old) (string_bytes text.new) }
+/// Tells a query's parts.
+fn tell_query<S: Sink>(query: &LentQuery<'_>, sink: &mut S) -> Result<(), NoMemory>
+    ensures told { OnOk result
+        (S.seen sink.new ≡ fold S.after (S.seen sink.old) (query_fields (record {
+          kind = query.now.kind;
+          flags = query.now.flags;
+          key = query.now.key;
+          destination = query.now.destination;
+        }))) }
+    ensures front { Grows S.is_front (S.seen sink.old) (S.seen sink.new) }
 {
-    text.push_str(query_name(query.kind))?;
-    push_flags(query.flags, query.key, text)?;
-    text.push_str(" destination=")?;
-    push_lent_name(text, &query.destination)?;
-    Ok(())
+    tell_begin(query_name(query.kind), query.flags, query.key, sink)?;
+    sink.shown(DESTINATION, &query.destination)
 }
 
 /// The word for a query packet.

@@ -1,5 +1,5 @@
 //! Laws of the definitions that the contracts cite. Each is proved; a call does nothing.
-ghost use Rattle.std.specs.Prelude.{◌≡◌, ◌≢◌, ◌≤◌, ◌/◌, ◌%◌, ℕ, List, [], ◌∷◌, ◌++◌, Some, None, codes};
+ghost use Rattle.std.specs.Prelude.{◌≡◌, ◌≢◌, ◌≤◌, ◌/◌, ◌%◌, ℕ, List, [], ◌∷◌, ◌++◌, Option, Some, None, codes};
 ghost use Rattle.std.specs.Fmt.{decimal};
 ghost use Rattle.nb_names.specs.DomainName.{IsDomain, AreByteLabels, AreBytes};
 ghost use Rattle.nb_names.specs.Hexadecimal.{data_text};
@@ -10,6 +10,7 @@ ghost use Rattle.nb_service.specs.declared.flags.TheConstants.NodeFlags.{G, DRG,
 ghost use Rattle.nb_service.specs.Flags.{nm_bits, node_bits, ont_of, opcode_of, rcode_of};
 ghost use Rattle.nb_service.specs.Packet.{ServicePacket, IsPacket as IsServicePacket};
 ghost use Rattle.nb_session.specs.declared.packet.Packet.{Packet as SessionPacket};
+ghost use Rattle.nb_session.specs.declared.parsing.Parsed.{Parsed};
 ghost use Rattle.nb_session.specs.declared.parsing.Parsed.TheVariants.{Whole};
 ghost use Rattle.nb_session.specs.Parsing.{Parses};
 ghost use Rattle.nb_datagram.specs.declared.key.Key.{Key};
@@ -18,11 +19,27 @@ ghost use Rattle.nb_datagram.specs.declared.packet.QueryKind.TheVariants.{Reques
 ghost use Rattle.nb_datagram.specs.Header.{IsKey};
 ghost use Rattle.nb_datagram.specs.Packet.{IsPacket as IsDatagramPacket};
 ghost use Rattle.nb_datagram.specs.Texts.{key_text};
+ghost use Rattle.nb_telling.specs.Fields.{Field};
+ghost use Rattle.nb_telling.specs.Members.{AreMembers};
+ghost use Rattle.nb_telling.specs.Texts.{text_of};
+ghost use Rattle.nb_text.specs.DatagramFields.{datagram_fields};
 ghost use Rattle.nb_text.specs.DatagramText.{datagram_text};
+ghost use Rattle.nb_service.specs.declared.fault.ServiceFault.{ServiceFault};
+ghost use Rattle.nb_service.specs.FaultTexts.{service_fault_place, service_fault_text};
+ghost use Rattle.nb_session.specs.declared.fault.SessionFault.{SessionFault};
+ghost use Rattle.nb_session.specs.FaultTexts.{session_fault_place, session_fault_text};
+ghost use Rattle.nb_datagram.specs.declared.fault.DatagramFault.{DatagramFault};
+ghost use Rattle.nb_datagram.specs.FaultTexts.{datagram_fault_place, datagram_fault_text};
+ghost use Rattle.nb_text.specs.FaultEnds.{IsPlaceIn};
 ghost use Rattle.nb_text.specs.Fields.{AreLines, IsWord};
+ghost use Rattle.nb_text.specs.LineFields.{refused_fields};
+ghost use Rattle.nb_text.specs.Lines.{refused_text};
+ghost use Rattle.nb_text.specs.ServiceFields.{service_fields};
 ghost use Rattle.nb_text.specs.ServiceText.{service_text};
+ghost use Rattle.nb_text.specs.SessionFields.{session_fields};
 ghost use Rattle.nb_text.specs.SessionText.{session_text};
 ghost use Rattle.nb_text.specs.Shown.{Shown};
+ghost use Rattle.nb_text.specs.Tells.{Tells};
 ghost use Rattle.nb_text.specs.Words.{flag, name_flags, operation_word, packet_flags, query_word, rcode_word, set_text};
 
 use nb_datagram::laws as datagrams;
@@ -56,6 +73,36 @@ pub fn some_text()
 pub fn a_text_is_lines()
     ensures { (payload : List ℕ) (port : ℕ) (text : List ℕ) → AreBytes payload →
         Shown payload port text → AreLines text }
+{}
+
+/// The text of a payload's fields is the payload's text: of a packet, and of a payload that begins
+/// with none.
+pub fn texts_of_fields()
+    ensures services { (packet : ServicePacket) (used : ℕ) →
+        text_of (service_fields packet used) ≡ service_text packet used }
+    ensures datagrams { (packet : DatagramPacket) (used : ℕ) →
+        text_of (datagram_fields packet used) ≡ datagram_text packet used }
+    ensures sessions { (parsed : Parsed) → text_of (session_fields parsed) ≡ session_text parsed }
+    ensures refusals { (fault : List ℕ) (place : Option ℕ) →
+        text_of (refused_fields fault place) ≡ refused_text fault }
+{}
+
+/// The fields of a payload are members of an object: each list in them ends, and each part of one,
+/// and lists stand in parts of lists at most.
+pub fn fields_are_members()
+    ensures { (payload : List ℕ) (port : ℕ) (fields : List Field) → Tells payload port fields →
+        AreMembers 2 fields }
+{}
+
+/// The place of a fault is the number with which the fault's text ends; a fault without a place has
+/// no digit in its text.
+pub fn places_end_texts()
+    ensures services { (fault : ServiceFault) →
+        IsPlaceIn (service_fault_place fault) (service_fault_text fault) }
+    ensures datagrams { (fault : DatagramFault) →
+        IsPlaceIn (datagram_fault_place fault) (datagram_fault_text fault) }
+    ensures sessions { (fault : SessionFault) →
+        IsPlaceIn (session_fault_place fault) (session_fault_text fault) }
 {}
 
 /// No field has a space: names, data, keys, numbers, and sets of flags are one word of printable
@@ -94,11 +141,12 @@ pub fn labels_of_one_name()
         name_of_labels labels ≡ None }
 {}
 
-/// Labels that spell a NetBIOS name are written as that name, with its scope, and others as a domain
-/// name. That is the text of a scope with these labels, without the `.` at its front, and `.` alone
-/// where there is no label.
+/// Labels that spell a NetBIOS name are written as that name, with its scope, and others as a
+/// domain name. That is the text of a scope with these labels, without the `.` at its front, and
+/// `.` alone where there is no label.
 ///
-/// The vectors are of the name that RFC 1001 section 14.1 spells, and of three labels that spell none.
+/// The vectors are of the name that RFC 1001 section 14.1 spells, and of three labels that spell
+/// none.
 pub fn labels_as_text()
     ensures names { (name : NetbiosName) → IsName name →
         labels_written (labels_of_name name) ≡ written name }

@@ -1,14 +1,18 @@
-//! The texts of packets, as `nbt show` prints them.
+//! Packets, told to a sink field by field, and their texts, as `nbt show` prints them.
 #![tactic(auto)]
 
 mod datagrams;
+mod faults;
 mod flags;
+pub mod keys;
 pub mod laws;
 mod names;
+mod objects;
 mod records;
 mod sessions;
 mod showing;
 mod statuses;
 mod words;
 
-pub use showing::push_packet;
+pub use objects::packet_object;
+pub use showing::{push_packet, tell_packet};

@@ -1,193 +1,199 @@
-//! The text of a name service packet.
-#![tactic(auto, using(nb_names::specs::GrowthFacts::front_stays))]
+//! A name service packet, told to a sink.
+#![tactic(auto, using(nb_telling::proofs::FoldLemmas::told_both))]
 
-ghost use Rattle.std.specs.Prelude.{◌≡◌, ◌++◌, ℕ, List, IfOk, OnOk, string_bytes};
+ghost use Rattle.std.specs.Prelude.{◌≡◌, ℕ, List, IfOk, OnOk, codes, fold};
 ghost use Rattle.std.specs.List.{flat_map};
-ghost use Rattle.nb_names.specs.Growth.{OnlyAdds};
 ghost use Rattle.nb_service.specs.declared.question.Question.{Question as QuestionValue};
 ghost use Rattle.nb_service.specs.Code.Steps.{HasRow, RowOf};
-ghost use Rattle.nb_service.specs.FaultTexts.{service_fault_text};
 ghost use Rattle.nb_service.specs.Header.{header_value};
 ghost use Rattle.nb_service.specs.Packet.{HasOutline, IsPacket, QuestionAt, ServicePacket};
-ghost use Rattle.nb_text.specs.Lines.{refused_text};
-ghost use Rattle.nb_text.specs.ServiceText.{counts_text, header_line, identity_text, question_line, service_text, state_text, type_text};
-ghost use Rattle.nb_text.specs.Shown.{AddsShown};
+ghost use Rattle.nb_telling.specs.Telling.{Grows};
+ghost use Rattle.nb_text.specs.LineFields.{list_fields};
+ghost use Rattle.nb_text.specs.ServiceFields.{count_fields, header_fields, named_fields, question_fields, service_fields, state_fields};
+ghost use Rattle.nb_text.specs.Tells.{IsTold};
 
-use crate::flags::push_packet_flags;
-use crate::records::push_records;
-use crate::words::{push_operation, push_rcode, push_used};
+use crate::faults::tell_refusal;
+use crate::flags::packet_flags_of;
+use crate::keys::{AN, AR, CLASS, FLAGS, ID, NAME, NS, OP, QD, RCODE, TYPE, WORD};
+use crate::records::tell_section;
+use crate::words::{operation_name, rcode_name, tell_named, tell_used};
 use nb_names::limits::POINTED_OFFSETS;
-use nb_names::{NameReader, NoMemory, push_domain, push_number, push_shown, push_word};
+use nb_names::{DomainName, NameReader, NoMemory};
 use nb_service::laws::sections_in_order;
 use nb_service::limits::{HEADER_LENGTH, SHORT_PACKET};
-use nb_service::{Header, Question, ServiceFault, opcode, outline, rcode, read_question};
+use nb_service::{Header, Question, opcode, outline, rcode, read_question};
+use nb_telling::Sink;
 
-/// Adds the text of a payload of port 137.
+/// Tells a payload of port 137.
 ///
 /// Of a packet of more than [`SHORT_PACKET`] bytes the ends of all chains of pointers are found
 /// first, as [`decode`](nb_service::decode) does.
-pub fn push_service(payload: &[u8], text: &mut String) -> Result<(), NoMemory>
-    ensures added { OnOk result
-        (AddsShown payload.now 137 (string_bytes text.old) (string_bytes text.new)) }
-    ensures front { OnlyAdds (string_bytes text.old) (string_bytes text.new) }
+pub fn tell_service<S: Sink>(payload: &[u8], sink: &mut S) -> Result<(), NoMemory>
+    ensures told { OnOk result
+        (IsTold S.after payload.now 137 (S.seen sink.old) (S.seen sink.new)) }
+    ensures front { Grows S.is_front (S.seen sink.old) (S.seen sink.new) }
 {
     if payload.len() <= SHORT_PACKET {
-        return push_judged(&NameReader::of(payload, &mut []), text);
+        return tell_judged(&NameReader::of(payload, &mut []), sink);
     }
     let mut ends = [0; POINTED_OFFSETS];
-    push_judged(&NameReader::of(payload, &mut ends), text)
+    tell_judged(&NameReader::of(payload, &mut ends), sink)
 }
 
-/// Adds the text of the payload whose names are read so.
-fn push_judged(names: &NameReader<'_, '_>, text: &mut String) -> Result<(), NoMemory>
-    ensures added { OnOk result
-        (AddsShown names.now 137 (string_bytes text.old) (string_bytes text.new)) }
-    ensures front { OnlyAdds (string_bytes text.old) (string_bytes text.new) }
+/// Tells the payload whose names are read so.
+fn tell_judged<S: Sink>(names: &NameReader<'_, '_>, sink: &mut S) -> Result<(), NoMemory>
+    ensures told { OnOk result
+        (IsTold S.after names.now 137 (S.seen sink.old) (S.seen sink.new)) }
+    ensures front { Grows S.is_front (S.seen sink.old) (S.seen sink.new) }
 {
     match outline(names) {
-        Ok((header, used)) => push_whole(names, &header, used, text),
-        Err(fault) => push_refusal(fault, text),
+        Ok((header, used)) => tell_whole(names, &header, used, sink),
+        Err(fault) => tell_refusal(fault, fault.place(), sink),
     }
 }
 
-/// Adds why a payload begins with no packet.
-fn push_refusal(fault: ServiceFault, text: &mut String) -> Result<(), NoMemory>
-    ensures added { OnOk result (string_bytes text.new
-        ≡ string_bytes text.old ++ refused_text (service_fault_text fault)) }
-    ensures front { OnlyAdds (string_bytes text.old) (string_bytes text.new) }
-{
-    text.push_str("refused ")?;
-    push_shown(fault, text)?;
-    text.push_str("\n")?;
-    Ok(())
-}
-
-/// Adds the lines of a packet that takes up so many bytes, each read where it stands.
-fn push_whole(
+/// Tells a packet that takes up so many bytes, each item read where it stands.
+fn tell_whole<S: Sink>(
     names: &NameReader<'_, '_>,
     header: &Header,
     used: usize,
-    text: &mut String,
+    sink: &mut S,
 ) -> Result<(), NoMemory>
     requires { HasOutline names.now (header_value header.now) used }
-    ensures added { OnOk result ((packet : ServicePacket) × IsPacket names.now packet used
-        × (string_bytes text.new ≡ string_bytes text.old ++ service_text packet used)) }
-    ensures front { OnlyAdds (string_bytes text.old) (string_bytes text.new) }
+    ensures told { OnOk result ((packet : ServicePacket) × IsPacket names.now packet used
+        × (S.seen sink.new ≡ fold S.after (S.seen sink.old) (service_fields packet used))) }
+    ensures front { Grows S.is_front (S.seen sink.old) (S.seen sink.new) }
 {
     // The law on which the order of the sections stands; the call does nothing.
     sections_in_order();
-    push_header(header, used, text)?;
-    let at = push_questions(names, HEADER_LENGTH, header.questions, text)?;
-    let at = push_records("answer", names, at, header.answers, text)?;
-    let at = push_records("authority", names, at, header.authorities, text)?;
-    push_records("additional", names, at, header.additional, text)?;
+    tell_header(header, used, sink)?;
+    let at = tell_questions(names, HEADER_LENGTH, header.questions, sink)?;
+    let at = tell_section("answers", "  answer", names, at, header.answers, sink)?;
+    let at = tell_section(
+        "authorities",
+        "  authority",
+        names,
+        at,
+        header.authorities,
+        sink,
+    )?;
+    tell_section(
+        "additional",
+        "  additional",
+        names,
+        at,
+        header.additional,
+        sink,
+    )?;
     Ok(())
 }
 
-/// Adds the line of the header.
-fn push_header(header: &Header, used: usize, text: &mut String) -> Result<(), NoMemory>
-    ensures added { OnOk result (string_bytes text.new
-        ≡ string_bytes text.old ++ header_line (header_value header.now) used) }
-    ensures front { OnlyAdds (string_bytes text.old) (string_bytes text.new) }
+/// Tells the header.
+fn tell_header<S: Sink>(header: &Header, used: usize, sink: &mut S) -> Result<(), NoMemory>
+    ensures told { OnOk result (S.seen sink.new
+        ≡ fold S.after (S.seen sink.old) (header_fields (header_value header.now) used)) }
+    ensures front { Grows S.is_front (S.seen sink.old) (S.seen sink.new) }
 {
-    push_identity(header, text)?;
-    push_state(header.word, text)?;
-    push_counts(header, text)?;
-    push_used(used, text)?;
-    Ok(())
+    sink.digits(ID, &header.id.to_be_bytes())?;
+    sink.digits(WORD, &header.word.to_be_bytes())?;
+    tell_state(header.word, sink)?;
+    tell_counts(header, sink)?;
+    tell_used(used, sink)
 }
 
-/// Adds the identifier and the flag word.
-fn push_identity(header: &Header, text: &mut String) -> Result<(), NoMemory>
-    ensures added { OnOk result (string_bytes text.new
-        ≡ string_bytes text.old ++ identity_text (header_value header.now)) }
-    ensures front { OnlyAdds (string_bytes text.old) (string_bytes text.new) }
+/// Tells what the flag word says.
+fn tell_state<S: Sink>(word: u16, sink: &mut S) -> Result<(), NoMemory>
+    ensures told { OnOk result
+        (S.seen sink.new ≡ fold S.after (S.seen sink.old) (state_fields word)) }
+    ensures front { Grows S.is_front (S.seen sink.old) (S.seen sink.new) }
 {
-    text.push_str("id=")?;
-    push_word(header.id, text)?;
-    text.push_str(" word=")?;
-    push_word(header.word, text)?;
-    Ok(())
+    let operation = opcode(word);
+    let outcome = rcode(word);
+    tell_named(OP, operation_name(operation), operation, sink)?;
+    sink.set(FLAGS, &packet_flags_of(word))?;
+    tell_named(RCODE, rcode_name(outcome), outcome, sink)
 }
 
-/// Adds what the flag word says.
-fn push_state(word: u16, text: &mut String) -> Result<(), NoMemory>
-    ensures added { OnOk result
-        (string_bytes text.new ≡ string_bytes text.old ++ state_text word) }
-    ensures front { OnlyAdds (string_bytes text.old) (string_bytes text.new) }
+/// Tells how many questions, answers, authorities and additional records there are.
+fn tell_counts<S: Sink>(header: &Header, sink: &mut S) -> Result<(), NoMemory>
+    ensures told { OnOk result (S.seen sink.new
+        ≡ fold S.after (S.seen sink.old) (count_fields (header_value header.now))) }
+    ensures front { Grows S.is_front (S.seen sink.old) (S.seen sink.new) }
 {
-    text.push_str(" op=")?;
-    push_operation(opcode(word), text)?;
-    text.push_str(" flags=")?;
-    push_packet_flags(word, text)?;
-    text.push_str(" rcode=")?;
-    push_rcode(rcode(word), text)?;
-    Ok(())
+    sink.number(QD, u64::from(header.questions))?;
+    sink.number(AN, u64::from(header.answers))?;
+    sink.number(NS, u64::from(header.authorities))?;
+    sink.number(AR, u64::from(header.additional))
 }
 
-/// Adds how many questions, answers, authorities and additional records there are.
-fn push_counts(header: &Header, text: &mut String) -> Result<(), NoMemory>
-    ensures added { OnOk result (string_bytes text.new
-        ≡ string_bytes text.old ++ counts_text (header_value header.now)) }
-    ensures front { OnlyAdds (string_bytes text.old) (string_bytes text.new) }
-{
-    text.push_str(" qd=")?;
-    push_number(u64::from(header.questions), text)?;
-    text.push_str(" an=")?;
-    push_number(u64::from(header.answers), text)?;
-    text.push_str(" ns=")?;
-    push_number(u64::from(header.authorities), text)?;
-    text.push_str(" ar=")?;
-    push_number(u64::from(header.additional), text)?;
-    Ok(())
-}
-
-/// Adds the lines of so many questions, which stand one after the other from an offset on, and
+/// Tells the list of so many questions, which stand one after the other from an offset on, and
 /// answers where they end.
-fn push_questions(
+fn tell_questions<S: Sink>(
     names: &NameReader<'_, '_>,
     at: usize,
     count: u16,
-    text: &mut String,
+    sink: &mut S,
 ) -> Result<usize, NoMemory>
     requires { (next : ℕ) × HasRow (QuestionAt names.now) at count next }
-    ensures added { (questions : List QuestionValue) (next : ℕ) →
+    ensures told { (questions : List QuestionValue) (next : ℕ) →
         RowOf (QuestionAt names.now) at count questions next → IfOk result (λ after.
-        (after ≡ next) × (string_bytes text.new
-        ≡ string_bytes text.old ++ flat_map question_line questions)) }
-    ensures front { OnlyAdds (string_bytes text.old) (string_bytes text.new) }
+        (after ≡ next) × (S.seen sink.new ≡ fold S.after (S.seen sink.old)
+        (list_fields (codes "questions") (flat_map question_fields questions)))) }
+    ensures front { Grows S.is_front (S.seen sink.old) (S.seen sink.new) }
+{
+    sink.begins("questions")?;
+    let next = tell_each_question(names, at, count, sink)?;
+    sink.ends()?;
+    Ok(next)
+}
+
+/// Tells so many questions.
+fn tell_each_question<S: Sink>(
+    names: &NameReader<'_, '_>,
+    at: usize,
+    count: u16,
+    sink: &mut S,
+) -> Result<usize, NoMemory>
+    requires { (next : ℕ) × HasRow (QuestionAt names.now) at count next }
+    ensures told { (questions : List QuestionValue) (next : ℕ) →
+        RowOf (QuestionAt names.now) at count questions next → IfOk result (λ after.
+        (after ≡ next) × (S.seen sink.new
+        ≡ fold S.after (S.seen sink.old) (flat_map question_fields questions))) }
+    ensures front { Grows S.is_front (S.seen sink.old) (S.seen sink.new) }
 {
     let mut next = at;
     for _ in 0..count {
         let (question, after) = read_question(names, next).unwrap();
-        push_question(&question, text)?;
+        tell_question(&question, sink)?;
         next = after;
     }
     Ok(next)
 }
 
-/// Adds the line of a question.
-fn push_question(question: &Question, text: &mut String) -> Result<(), NoMemory>
-    ensures added { OnOk result
-        (string_bytes text.new ≡ string_bytes text.old ++ question_line question.now) }
-    ensures front { OnlyAdds (string_bytes text.old) (string_bytes text.new) }
+/// Tells a question.
+fn tell_question<S: Sink>(question: &Question, sink: &mut S) -> Result<(), NoMemory>
+    ensures told { OnOk result
+        (S.seen sink.new ≡ fold S.after (S.seen sink.old) (question_fields question.now)) }
+    ensures front { Grows S.is_front (S.seen sink.old) (S.seen sink.new) }
 {
-    text.push_str("  question ")?;
-    push_domain(text, &question.name)?;
-    push_type(question.kind, question.class, text)?;
-    text.push_str("\n")?;
-    Ok(())
+    sink.part("  question")?;
+    tell_front(&question.name, question.kind, question.class, sink)?;
+    sink.line_ends()?;
+    sink.part_ends()
 }
 
-/// Adds the kind and the class of a question or a record.
-pub fn push_type(kind: u16, class: u16, text: &mut String) -> Result<(), NoMemory>
-    ensures added { OnOk result
-        (string_bytes text.new ≡ string_bytes text.old ++ type_text kind class) }
-    ensures front { OnlyAdds (string_bytes text.old) (string_bytes text.new) }
+/// Tells the name, the type and the class of a question or a record.
+pub fn tell_front<S: Sink>(
+    name: &DomainName,
+    kind: u16,
+    class: u16,
+    sink: &mut S,
+) -> Result<(), NoMemory>
+    ensures told { OnOk result
+        (S.seen sink.new ≡ fold S.after (S.seen sink.old) (named_fields name.now kind class)) }
+    ensures front { Grows S.is_front (S.seen sink.old) (S.seen sink.new) }
 {
-    text.push_str(" type=")?;
-    push_word(kind, text)?;
-    text.push_str(" class=")?;
-    push_word(class, text)?;
-    Ok(())
+    sink.shown(NAME, name)?;
+    sink.digits(TYPE, &kind.to_be_bytes())?;
+    sink.digits(CLASS, &class.to_be_bytes())
 }

@@ -1,151 +1,168 @@
-//! The text of a record.
-#![tactic(auto, using(nb_names::specs::GrowthFacts::front_stays))]
+//! The records of a name service packet, told to a sink.
+#![tactic(auto, using(nb_telling::proofs::FoldLemmas::told_both))]
 
-ghost use Rattle.std.specs.Prelude.{◌≡◌, ◌++◌, ℕ, List, IfOk, OnOk, string_bytes};
+ghost use Rattle.std.specs.Prelude.{◌≡◌, ℕ, List, IfOk, OnOk, codes, fold};
 ghost use Rattle.std.specs.List.{flat_map};
-ghost use Rattle.nb_names.specs.Growth.{OnlyAdds};
 ghost use Rattle.nb_service.specs.Code.Steps.{HasRow, RowOf};
 ghost use Rattle.nb_service.specs.Packet.{RecordAt};
 ghost use Rattle.nb_service.specs.Record.{ResourceRecord, rdata_of};
 ghost use Rattle.nb_service.specs.Views.{entries_in};
-ghost use Rattle.nb_text.specs.ServiceText.{entry_line, rdata_text, record_line, record_lines};
+ghost use Rattle.nb_telling.specs.Telling.{Grows};
+ghost use Rattle.nb_text.specs.LineFields.{list_fields};
+ghost use Rattle.nb_text.specs.ServiceFields.{entry_fields, rdata_field, record_fields, view_fields};
 
-use crate::names::push_type;
-use crate::statuses::push_status;
-use nb_names::{
-    NameReader, NoMemory, push_address, push_data, push_domain, push_number, push_word,
-};
+use crate::keys::{ADDRESS, DATA, DOMAIN, FLAGS, ONT, TTL};
+use crate::names::tell_front;
+use crate::statuses::tell_status;
+use nb_names::{NameReader, NoMemory};
+use nb_service::kinds::{NB, NBSTAT};
 use nb_service::{AddressEntries, AddressEntry, Rdata, Record, ont, read_record};
+use nb_telling::Sink;
 
-/// Adds the lines of so many records of a section with this name, which stand one after the other
-/// from an offset on, and answers where they end.
-pub fn push_records(
+/// Tells the list of so many records, a section of this name, which stand one after the other from
+/// an offset on, and answers where they end. In text each record begins with the lead.
+pub fn tell_section<S: Sink>(
     section: &str,
+    lead: &str,
     names: &NameReader<'_, '_>,
     at: usize,
     count: u16,
-    text: &mut String,
+    sink: &mut S,
 ) -> Result<usize, NoMemory>
     requires { (next : ℕ) × HasRow (RecordAt names.now) at count next }
-    ensures added { (records : List ResourceRecord) (next : ℕ) →
+    ensures told { (records : List ResourceRecord) (next : ℕ) →
         RowOf (RecordAt names.now) at count records next → IfOk result (λ after.
-        (after ≡ next) × (string_bytes text.new
-        ≡ string_bytes text.old ++ flat_map (record_lines section.now) records)) }
-    ensures front { OnlyAdds (string_bytes text.old) (string_bytes text.new) }
+        (after ≡ next) × (S.seen sink.new ≡ fold S.after (S.seen sink.old)
+        (list_fields section.now (flat_map (record_fields lead.now) records)))) }
+    ensures front { Grows S.is_front (S.seen sink.old) (S.seen sink.new) }
+{
+    sink.begins(section)?;
+    let next = tell_records(lead, names, at, count, sink)?;
+    sink.ends()?;
+    Ok(next)
+}
+
+/// Tells so many records.
+fn tell_records<S: Sink>(
+    lead: &str,
+    names: &NameReader<'_, '_>,
+    at: usize,
+    count: u16,
+    sink: &mut S,
+) -> Result<usize, NoMemory>
+    requires { (next : ℕ) × HasRow (RecordAt names.now) at count next }
+    ensures told { (records : List ResourceRecord) (next : ℕ) →
+        RowOf (RecordAt names.now) at count records next → IfOk result (λ after.
+        (after ≡ next) × (S.seen sink.new
+        ≡ fold S.after (S.seen sink.old) (flat_map (record_fields lead.now) records))) }
+    ensures front { Grows S.is_front (S.seen sink.old) (S.seen sink.new) }
 {
     let mut next = at;
     for _ in 0..count {
-        next = push_standing(section, names, next, text)?;
+        next = tell_standing(lead, names, next, sink)?;
     }
     Ok(next)
 }
 
-/// Adds the lines of the record that stands at an offset, and answers where it ends.
+/// Tells the record that stands at an offset, and answers where it ends.
 ///
 /// It is no part of the loop, so that a section without records makes no room for one.
 #[inline(never)]
-fn push_standing(
-    section: &str,
+fn tell_standing<S: Sink>(
+    lead: &str,
     names: &NameReader<'_, '_>,
     at: usize,
-    text: &mut String,
+    sink: &mut S,
 ) -> Result<usize, NoMemory>
     requires { (entry : ResourceRecord) × (next : ℕ) × RecordAt names.now at entry next }
-    ensures added { (entry : ResourceRecord) (next : ℕ) → RecordAt names.now at entry next →
-        IfOk result (λ after. (after ≡ next) × (string_bytes text.new
-        ≡ string_bytes text.old ++ record_lines section.now entry)) }
-    ensures front { OnlyAdds (string_bytes text.old) (string_bytes text.new) }
+    ensures told { (entry : ResourceRecord) (next : ℕ) → RecordAt names.now at entry next →
+        IfOk result (λ after. (after ≡ next) × (S.seen sink.new
+        ≡ fold S.after (S.seen sink.old) (record_fields lead.now entry))) }
+    ensures front { Grows S.is_front (S.seen sink.old) (S.seen sink.new) }
 {
     let (entry, after) = read_record(names, at).unwrap();
-    push_lines(section, &entry, text)?;
+    tell_record(lead, &entry, sink)?;
     Ok(after)
 }
 
-/// Adds the line of a record, and those of the parts of its RDATA.
-fn push_lines(section: &str, entry: &Record<'_>, text: &mut String) -> Result<(), NoMemory>
-    ensures added { OnOk result (string_bytes text.new
-        ≡ string_bytes text.old ++ record_lines section.now entry.now) }
-    ensures front { OnlyAdds (string_bytes text.old) (string_bytes text.new) }
+/// Tells a record, and the parts of its RDATA.
+fn tell_record<S: Sink>(lead: &str, entry: &Record<'_>, sink: &mut S) -> Result<(), NoMemory>
+    ensures told { OnOk result
+        (S.seen sink.new ≡ fold S.after (S.seen sink.old) (record_fields lead.now entry.now)) }
+    ensures front { Grows S.is_front (S.seen sink.old) (S.seen sink.new) }
 {
-    push_record(section, entry, text)?;
-    push_entries(entry, text)?;
-    push_status(entry, text)?;
-    Ok(())
+    sink.part(lead)?;
+    tell_front(entry.name(), entry.kind(), entry.class(), sink)?;
+    sink.number(TTL, u64::from(entry.ttl()))?;
+    tell_rdata(entry.rdata(), sink)?;
+    sink.line_ends()?;
+    tell_view(entry, sink)?;
+    sink.part_ends()
 }
 
-/// Adds the line of a record.
-fn push_record(section: &str, entry: &Record<'_>, text: &mut String) -> Result<(), NoMemory>
-    ensures added { OnOk result
-        (string_bytes text.new ≡ string_bytes text.old ++ record_line section.now entry.now) }
-    ensures front { OnlyAdds (string_bytes text.old) (string_bytes text.new) }
-{
-    text.push_str("  ")?;
-    text.push_str(section)?;
-    text.push_str(" ")?;
-    push_domain(text, entry.name())?;
-    push_type(entry.kind(), entry.class(), text)?;
-    text.push_str(" ttl=")?;
-    push_number(u64::from(entry.ttl()), text)?;
-    push_rdata(entry.rdata(), text)?;
-    text.push_str("\n")?;
-    Ok(())
-}
-
-/// Adds a record's RDATA.
-fn push_rdata(rdata: &Rdata<'_>, text: &mut String) -> Result<(), NoMemory>
-    ensures added { OnOk result
-        (string_bytes text.new ≡ string_bytes text.old ++ rdata_text (rdata_of rdata.now)) }
-    ensures front { OnlyAdds (string_bytes text.old) (string_bytes text.new) }
+/// Tells a record's RDATA.
+fn tell_rdata<S: Sink>(rdata: &Rdata<'_>, sink: &mut S) -> Result<(), NoMemory>
+    ensures told { OnOk result
+        (S.seen sink.new ≡ S.after (S.seen sink.old) (rdata_field (rdata_of rdata.now))) }
+    ensures front { Grows S.is_front (S.seen sink.old) (S.seen sink.new) }
 {
     match rdata {
-        Rdata::Bytes(bytes) => {
-            text.push_str(" data=")?;
-            push_data(bytes, text)
-        }
-        Rdata::Domain(domain) => {
-            text.push_str(" domain=")?;
-            push_domain(text, domain)
-        }
+        Rdata::Bytes(bytes) => sink.data(DATA, bytes),
+        Rdata::Domain(domain) => sink.shown(DOMAIN, domain),
     }
 }
 
-/// Adds a line for each address entry of a record.
-fn push_entries(entry: &Record<'_>, text: &mut String) -> Result<(), NoMemory>
-    ensures added { OnOk result (string_bytes text.new
-        ≡ string_bytes text.old ++ flat_map entry_line (entries_in entry.now)) }
-    ensures front { OnlyAdds (string_bytes text.old) (string_bytes text.new) }
+/// Tells what the RDATA of a record of kind NB or NBSTAT says.
+fn tell_view<S: Sink>(entry: &Record<'_>, sink: &mut S) -> Result<(), NoMemory>
+    ensures told { OnOk result
+        (S.seen sink.new ≡ fold S.after (S.seen sink.old) (view_fields entry.now)) }
+    ensures front { Grows S.is_front (S.seen sink.old) (S.seen sink.new) }
 {
-    match entry.address_entries() {
-        Some(entries) => push_each(&entries, text),
-        None => Ok(()),
+    if entry.kind() == NB {
+        return tell_entries(entry, sink);
     }
+    if entry.kind() == NBSTAT {
+        return tell_status(entry, sink);
+    }
+    Ok(())
 }
 
-/// Adds a line for each of these address entries.
-fn push_each(entries: &AddressEntries<'_>, text: &mut String) -> Result<(), NoMemory>
-    ensures added { OnOk result
-        (string_bytes text.new ≡ string_bytes text.old ++ flat_map entry_line entries.now) }
-    ensures front { OnlyAdds (string_bytes text.old) (string_bytes text.new) }
+/// Tells the list of a record's address entries.
+fn tell_entries<S: Sink>(entry: &Record<'_>, sink: &mut S) -> Result<(), NoMemory>
+    ensures told { OnOk result (S.seen sink.new ≡ fold S.after (S.seen sink.old)
+        (list_fields (codes "entries") (flat_map entry_fields (entries_in entry.now)))) }
+    ensures front { Grows S.is_front (S.seen sink.old) (S.seen sink.new) }
+{
+    sink.begins("entries")?;
+    if let Some(entries) = entry.address_entries() {
+        tell_each(&entries, sink)?;
+    }
+    sink.ends()
+}
+
+/// Tells each of these address entries.
+fn tell_each<S: Sink>(entries: &AddressEntries<'_>, sink: &mut S) -> Result<(), NoMemory>
+    ensures told { OnOk result
+        (S.seen sink.new ≡ fold S.after (S.seen sink.old) (flat_map entry_fields entries.now)) }
+    ensures front { Grows S.is_front (S.seen sink.old) (S.seen sink.new) }
 {
     for place in 0..entries.len() {
         let entry = entries.get(place).unwrap();
-        push_entry(entry, text)?;
+        tell_entry(entry, sink)?;
     }
     Ok(())
 }
 
-/// Adds the line of an address entry.
-fn push_entry(entry: AddressEntry, text: &mut String) -> Result<(), NoMemory>
-    ensures added { OnOk result
-        (string_bytes text.new ≡ string_bytes text.old ++ entry_line entry) }
-    ensures front { OnlyAdds (string_bytes text.old) (string_bytes text.new) }
+/// Tells an address entry.
+fn tell_entry<S: Sink>(entry: AddressEntry, sink: &mut S) -> Result<(), NoMemory>
+    ensures told { OnOk result
+        (S.seen sink.new ≡ fold S.after (S.seen sink.old) (entry_fields entry)) }
+    ensures front { Grows S.is_front (S.seen sink.old) (S.seen sink.new) }
 {
-    text.push_str("    entry flags=")?;
-    push_word(entry.flags, text)?;
-    text.push_str(" ont=")?;
-    push_number(u64::from(ont(entry.flags)), text)?;
-    text.push_str(" address=")?;
-    push_address(entry.address, text)?;
-    text.push_str("\n")?;
-    Ok(())
+    sink.part("    entry")?;
+    sink.digits(FLAGS, &entry.flags.to_be_bytes())?;
+    sink.number(ONT, u64::from(ont(entry.flags)))?;
+    sink.shown(ADDRESS, &entry.address)?;
+    sink.line_ends()?;
+    sink.part_ends()
 }

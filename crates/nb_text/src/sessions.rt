@@ -1,137 +1,95 @@
-//! The text of a session packet.
-#![tactic(auto, using(nb_names::specs::GrowthFacts::front_stays))]
+//! A session packet, told to a sink.
+#![tactic(auto, using(nb_telling::proofs::FoldLemmas::told_both))]
 
-ghost use Rattle.std.specs.Prelude.{◌≡◌, ◌≢◌, ◌++◌, ℕ, OnOk, string_bytes};
-ghost use Rattle.nb_names.specs.Growth.{OnlyAdds};
-ghost use Rattle.nb_session.specs.FaultTexts.{session_fault_text};
-ghost use Rattle.nb_text.specs.Lines.{refused_text};
-ghost use Rattle.nb_text.specs.SessionText.{parts_text, session_text};
-ghost use Rattle.nb_text.specs.Shown.{AddsShown};
+ghost use Rattle.std.specs.Prelude.{◌≡◌, ◌≢◌, ℕ, OnOk, fold};
+ghost use Rattle.nb_telling.specs.Telling.{Grows};
+ghost use Rattle.nb_text.specs.LineFields.{used_fields};
+ghost use Rattle.nb_text.specs.SessionFields.{parts_fields, session_fields};
+ghost use Rattle.nb_text.specs.Tells.{IsTold};
 
-use crate::words::push_used;
-use nb_names::{
-    Name, NoMemory, push_address, push_data, push_digits, push_name, push_number, push_shown,
-};
-use nb_session::{Packet, Parsed, SessionFault, parse};
+use crate::faults::tell_refusal;
+use crate::keys::{ADDRESS, CALLED, CALLING, CODE, DATA, KIND, LENGTH, MORE, TO_PORT};
+use crate::words::tell_used;
+use nb_names::{Name, NoMemory};
+use nb_session::{Packet, Parsed, parse};
+use nb_telling::Sink;
 
-/// Adds the text of a payload of port 139.
-pub fn push_session(payload: &[u8], text: &mut String) -> Result<(), NoMemory>
-    ensures added { OnOk result ((port : ℕ) → port ≢ 137 → port ≢ 138 →
-        AddsShown payload.now port (string_bytes text.old) (string_bytes text.new)) }
-    ensures front { OnlyAdds (string_bytes text.old) (string_bytes text.new) }
+/// Tells a payload of port 139.
+pub fn tell_session<S: Sink>(payload: &[u8], sink: &mut S) -> Result<(), NoMemory>
+    ensures told { OnOk result ((port : ℕ) → port ≢ 137 → port ≢ 138 →
+        IsTold S.after payload.now port (S.seen sink.old) (S.seen sink.new)) }
+    ensures front { Grows S.is_front (S.seen sink.old) (S.seen sink.new) }
 {
-    push_parsed(&parse(payload), text)
+    tell_parsed(&parse(payload), sink)
 }
 
-/// Adds what stands at the front of a payload.
-fn push_parsed(parsed: &Parsed<'_>, text: &mut String) -> Result<(), NoMemory>
-    ensures added { OnOk result
-        (string_bytes text.new ≡ string_bytes text.old ++ session_text parsed.now) }
-    ensures front { OnlyAdds (string_bytes text.old) (string_bytes text.new) }
+/// Tells what stands at the front of a payload.
+fn tell_parsed<S: Sink>(parsed: &Parsed<'_>, sink: &mut S) -> Result<(), NoMemory>
+    ensures told { OnOk result
+        (S.seen sink.new ≡ fold S.after (S.seen sink.old) (session_fields parsed.now)) }
+    ensures front { Grows S.is_front (S.seen sink.old) (S.seen sink.new) }
 {
     match parsed {
-        Parsed::Whole(packet, used) => push_whole(packet, *used, text),
-        Parsed::More(needed) => {
-            text.push_str("more ")?;
-            push_number(*needed as u64, text)?;
-            text.push_str("\n")?;
-            Ok(())
+        Parsed::Whole(packet, used) => {
+            tell_parts(packet, sink)?;
+            tell_used(*used, sink)
         }
-        Parsed::Refused(fault) => push_refusal(*fault, text),
+        Parsed::More(needed) => {
+            sink.number(MORE, *needed as u64)?;
+            sink.line_ends()
+        }
+        Parsed::Refused(fault) => tell_refusal(*fault, fault.place(), sink),
     }
 }
 
-/// Adds why a payload begins with no packet.
-fn push_refusal(fault: SessionFault, text: &mut String) -> Result<(), NoMemory>
-    ensures added { OnOk result (string_bytes text.new
-        ≡ string_bytes text.old ++ refused_text (session_fault_text fault)) }
-    ensures front { OnlyAdds (string_bytes text.old) (string_bytes text.new) }
-{
-    text.push_str("refused ")?;
-    push_shown(fault, text)?;
-    text.push_str("\n")?;
-    Ok(())
-}
-
-/// Adds the line of a packet that takes up so many bytes.
-fn push_whole(packet: &Packet<'_>, used: usize, text: &mut String) -> Result<(), NoMemory>
-    ensures added { OnOk result (string_bytes text.new
-        ≡ string_bytes text.old ++ session_text (Parsed.Whole packet.now used)) }
-    ensures front { OnlyAdds (string_bytes text.old) (string_bytes text.new) }
-{
-    push_parts(packet, text)?;
-    push_used(used, text)?;
-    Ok(())
-}
-
-/// Adds what the packet is, and its parts.
-fn push_parts(packet: &Packet<'_>, text: &mut String) -> Result<(), NoMemory>
-    ensures added { OnOk result
-        (string_bytes text.new ≡ string_bytes text.old ++ parts_text packet.now) }
-    ensures front { OnlyAdds (string_bytes text.old) (string_bytes text.new) }
+/// Tells what the packet is, and its parts.
+fn tell_parts<S: Sink>(packet: &Packet<'_>, sink: &mut S) -> Result<(), NoMemory>
+    ensures told { OnOk result
+        (S.seen sink.new ≡ fold S.after (S.seen sink.old) (parts_fields packet.now)) }
+    ensures front { Grows S.is_front (S.seen sink.old) (S.seen sink.new) }
 {
     match packet {
-        Packet::Message(message) => push_message(message.bytes(), text),
-        Packet::Request { called, calling } => push_request(called, calling, text),
-        Packet::Positive => {
-            text.push_str("positive")?;
-            Ok(())
+        Packet::Message(message) => tell_message(message.bytes(), sink),
+        Packet::Request { called, calling } => tell_request(called, calling, sink),
+        Packet::Positive => sink.text(KIND, "positive"),
+        Packet::Negative(code) => {
+            sink.text(KIND, "negative")?;
+            sink.digits(CODE, &[*code])
         }
-        Packet::Negative(code) => push_negative(*code, text),
-        Packet::Retarget { address, port } => push_retarget(*address, *port, text),
-        Packet::Keepalive => {
-            text.push_str("keepalive")?;
-            Ok(())
-        }
+        Packet::Retarget { address, port } => tell_retarget(*address, *port, sink),
+        Packet::Keepalive => sink.text(KIND, "keepalive"),
     }
 }
 
-/// Adds a message's parts.
-fn push_message(bytes: &[u8], text: &mut String) -> Result<(), NoMemory>
-    ensures added { OnOk result (string_bytes text.new
-        ≡ string_bytes text.old ++ parts_text (Packet.Message bytes.now)) }
-    ensures front { OnlyAdds (string_bytes text.old) (string_bytes text.new) }
+/// Tells a message's parts.
+fn tell_message<S: Sink>(bytes: &[u8], sink: &mut S) -> Result<(), NoMemory>
+    ensures told { OnOk result (S.seen sink.new
+        ≡ fold S.after (S.seen sink.old) (parts_fields (Packet.Message bytes.now))) }
+    ensures front { Grows S.is_front (S.seen sink.old) (S.seen sink.new) }
 {
-    text.push_str("message length=")?;
-    push_number(bytes.len() as u64, text)?;
-    text.push_str(" data=")?;
-    push_data(bytes, text)?;
-    Ok(())
+    sink.text(KIND, "message")?;
+    sink.number(LENGTH, bytes.len() as u64)?;
+    sink.data(DATA, bytes)
 }
 
-/// Adds a request's parts.
-fn push_request(called: &Name, calling: &Name, text: &mut String) -> Result<(), NoMemory>
-    ensures added { OnOk result (string_bytes text.new
-        ≡ string_bytes text.old ++ parts_text (Packet.Request called.now calling.now)) }
-    ensures front { OnlyAdds (string_bytes text.old) (string_bytes text.new) }
+/// Tells a request's parts.
+fn tell_request<S: Sink>(called: &Name, calling: &Name, sink: &mut S) -> Result<(), NoMemory>
+    ensures told { OnOk result (S.seen sink.new
+        ≡ fold S.after (S.seen sink.old) (parts_fields (Packet.Request called.now calling.now))) }
+    ensures front { Grows S.is_front (S.seen sink.old) (S.seen sink.new) }
 {
-    text.push_str("request called=")?;
-    push_name(text, called)?;
-    text.push_str(" calling=")?;
-    push_name(text, calling)?;
-    Ok(())
+    sink.text(KIND, "request")?;
+    sink.shown(CALLED, called)?;
+    sink.shown(CALLING, calling)
 }
 
-/// Adds a negative response's parts.
-fn push_negative(code: u8, text: &mut String) -> Result<(), NoMemory>
-    ensures added { OnOk result
-        (string_bytes text.new ≡ string_bytes text.old ++ parts_text (Packet.Negative code)) }
-    ensures front { OnlyAdds (string_bytes text.old) (string_bytes text.new) }
+/// Tells a retarget response's parts.
+fn tell_retarget<S: Sink>(address: [u8; 4], port: u16, sink: &mut S) -> Result<(), NoMemory>
+    ensures told { OnOk result (S.seen sink.new
+        ≡ fold S.after (S.seen sink.old) (parts_fields (Packet.Retarget address port))) }
+    ensures front { Grows S.is_front (S.seen sink.old) (S.seen sink.new) }
 {
-    text.push_str("negative code=")?;
-    push_digits(&[code], text)?;
-    Ok(())
-}
-
-/// Adds a retarget response's parts.
-fn push_retarget(address: [u8; 4], port: u16, text: &mut String) -> Result<(), NoMemory>
-    ensures added { OnOk result (string_bytes text.new
-        ≡ string_bytes text.old ++ parts_text (Packet.Retarget address port)) }
-    ensures front { OnlyAdds (string_bytes text.old) (string_bytes text.new) }
-{
-    text.push_str("retarget address=")?;
-    push_address(address, text)?;
-    text.push_str(" port=")?;
-    push_number(u64::from(port), text)?;
-    Ok(())
+    sink.text(KIND, "retarget")?;
+    sink.shown(ADDRESS, &address)?;
+    sink.number(TO_PORT, u64::from(port))
 }

@@ -1,14 +1,45 @@
-//! The text of a payload.
+//! A payload told to a sink, and its text.
 #![tactic(auto, using(nb_names::specs::GrowthFacts::front_stays))]
 
 ghost use Rattle.std.specs.Prelude.{OnOk, string_bytes};
 ghost use Rattle.nb_names.specs.Growth.{OnlyAdds};
+ghost use Rattle.nb_telling.specs.Telling.{Grows};
 ghost use Rattle.nb_text.specs.Shown.{AddsShown};
+ghost use Rattle.nb_text.specs.Tells.{IsTold};
 
-use crate::datagrams::push_datagram;
-use crate::names::push_service;
-use crate::sessions::push_session;
+use crate::datagrams::tell_datagram;
+use crate::laws::texts_of_fields;
+use crate::names::tell_service;
+use crate::sessions::tell_session;
 use nb_names::NoMemory;
+use nb_telling::Sink;
+
+/// Tells a payload that came to a port to a sink, field by field: the packet that it begins with,
+/// or why it begins with none.
+///
+/// Port 137 is the name service, 138 the datagram service; a payload of any other port is taken for
+/// a session packet, port 139. Bytes after the packet aren't told. No memory is taken but by the
+/// sink.
+///
+/// # Errors
+///
+/// [`NoMemory`] where the sink ran out of memory. What it had is still its front; some of the
+/// payload's fields may be told after it.
+///
+/// The fields are our choice.
+pub fn tell_packet<S: Sink>(port: u16, payload: &[u8], sink: &mut S) -> Result<(), NoMemory>
+    ensures told { OnOk result
+        (IsTold S.after payload.now port (S.seen sink.old) (S.seen sink.new)) }
+    ensures front { Grows S.is_front (S.seen sink.old) (S.seen sink.new) }
+{
+    if port == 137 {
+        return tell_service(payload, sink);
+    }
+    if port == 138 {
+        return tell_datagram(payload, sink);
+    }
+    tell_session(payload, sink)
+}
 
 /// Adds the text of a payload that came to a port: the packet that it begins with, in a line and
 /// lines of its parts, or why it begins with none. Each line ends with a line feed.
@@ -29,11 +60,7 @@ pub fn push_packet(port: u16, payload: &[u8], text: &mut String) -> Result<(), N
         (AddsShown payload.now port (string_bytes text.old) (string_bytes text.new)) }
     ensures front { OnlyAdds (string_bytes text.old) (string_bytes text.new) }
 {
-    if port == 137 {
-        return push_service(payload, text);
-    }
-    if port == 138 {
-        return push_datagram(payload, text);
-    }
-    push_session(payload, text)
+    // The law that the fields' text is the packet's; the call does nothing.
+    texts_of_fields();
+    tell_packet(port, payload, text)
 }

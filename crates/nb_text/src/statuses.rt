@@ -1,94 +1,76 @@
-//! The text of a node status.
-#![tactic(auto, using(nb_names::specs::GrowthFacts::front_stays))]
+//! A node status, told to a sink.
+#![tactic(auto, using(nb_telling::proofs::FoldLemmas::told_both))]
 
-ghost use Rattle.std.specs.Prelude.{◌≡◌, ◌++◌, [], OnOk, string_bytes};
+ghost use Rattle.std.specs.Prelude.{◌≡◌, OnOk, fold};
 ghost use Rattle.std.specs.List.{flat_map};
-ghost use Rattle.nb_names.specs.Growth.{OnlyAdds};
-ghost use Rattle.nb_names.specs.NameText.{written};
 ghost use Rattle.nb_service.specs.Views.{status_in};
-ghost use Rattle.nb_text.specs.ServiceText.{node_name_line, status_lines, unit_line};
+ghost use Rattle.nb_telling.specs.Telling.{Grows};
+ghost use Rattle.nb_text.specs.ServiceFields.{node_name_fields, status_fields, unit_fields};
 
-use crate::flags::push_name_flags;
-use nb_names::{Name, NoMemory, Scope, push_digits, push_name, push_number, push_word};
+use crate::flags::name_flags_of;
+use crate::keys::{FLAGS, NAME, ONT, SET, UNIT};
+use nb_names::{Name, NoMemory, Scope};
 use nb_service::{NodeName, NodeStatus, Record, ont};
+use nb_telling::Sink;
 
-/// Adds the lines of a record's node status.
-pub fn push_status(entry: &Record<'_>, text: &mut String) -> Result<(), NoMemory>
-    ensures added { OnOk result (string_bytes text.new
-        ≡ string_bytes text.old ++ status_lines (status_in entry.now)) }
-    ensures front { OnlyAdds (string_bytes text.old) (string_bytes text.new) }
+/// Tells the node status of a record: a list of its names, which is empty where the RDATA hasn't
+/// the form, and the unit where there is one.
+pub fn tell_status<S: Sink>(entry: &Record<'_>, sink: &mut S) -> Result<(), NoMemory>
+    ensures told { OnOk result (S.seen sink.new
+        ≡ fold S.after (S.seen sink.old) (status_fields (status_in entry.now))) }
+    ensures front { Grows S.is_front (S.seen sink.old) (S.seen sink.new) }
 {
+    sink.begins("names")?;
     match entry.node_status() {
-        Some(status) => push_lines(&status, text),
-        None => Ok(()),
+        Some(status) => {
+            tell_names(&status, sink)?;
+            sink.ends()?;
+            tell_unit(&status, sink)
+        }
+        None => sink.ends(),
     }
 }
 
-/// Adds a line for each name of a node, and one for its unit where there is one.
-fn push_lines(status: &NodeStatus<'_>, text: &mut String) -> Result<(), NoMemory>
-    ensures added { OnOk result
-        (string_bytes text.new ≡ string_bytes text.old ++ status_lines status.now) }
-    ensures front { OnlyAdds (string_bytes text.old) (string_bytes text.new) }
-{
-    push_names(status, text)?;
-    push_unit(status, text)?;
-    Ok(())
-}
-
-/// Adds a line for each name of a node.
-fn push_names(status: &NodeStatus<'_>, text: &mut String) -> Result<(), NoMemory>
-    ensures added { OnOk result (string_bytes text.new
-        ≡ string_bytes text.old ++ flat_map node_name_line status.now.names) }
-    ensures front { OnlyAdds (string_bytes text.old) (string_bytes text.new) }
+/// Tells each name of a node.
+fn tell_names<S: Sink>(status: &NodeStatus<'_>, sink: &mut S) -> Result<(), NoMemory>
+    ensures told { OnOk result (S.seen sink.new
+        ≡ fold S.after (S.seen sink.old) (flat_map node_name_fields status.now.names)) }
+    ensures front { Grows S.is_front (S.seen sink.old) (S.seen sink.new) }
 {
     for place in 0..status.len() {
         let name = status.get(place).unwrap();
-        push_node_name(name, text)?;
+        tell_node_name(name, sink)?;
     }
     Ok(())
 }
 
-/// Adds the line of the unit, where there is one.
-fn push_unit(status: &NodeStatus<'_>, text: &mut String) -> Result<(), NoMemory>
-    ensures added { OnOk result
-        (string_bytes text.new ≡ string_bytes text.old ++ unit_line status.now.statistics) }
-    ensures front { OnlyAdds (string_bytes text.old) (string_bytes text.new) }
+/// Tells the unit, where there is one.
+fn tell_unit<S: Sink>(status: &NodeStatus<'_>, sink: &mut S) -> Result<(), NoMemory>
+    ensures told { OnOk result
+        (S.seen sink.new ≡ fold S.after (S.seen sink.old) (unit_fields status.now.statistics)) }
+    ensures front { Grows S.is_front (S.seen sink.old) (S.seen sink.new) }
 {
     match status.unit_id() {
         Some(unit) => {
-            text.push_str("    unit=")?;
-            push_digits(&unit, text)?;
-            text.push_str("\n")?;
-            Ok(())
+            sink.digits(UNIT, &unit)?;
+            sink.line_ends()
         }
         None => Ok(()),
     }
 }
 
-/// Adds the line of one of a node's names.
-fn push_node_name(name: NodeName, text: &mut String) -> Result<(), NoMemory>
-    ensures added { OnOk result
-        (string_bytes text.new ≡ string_bytes text.old ++ node_name_line name) }
-    ensures front { OnlyAdds (string_bytes text.old) (string_bytes text.new) }
+/// Tells one of a node's names, which has no scope.
+fn tell_node_name<S: Sink>(name: NodeName, sink: &mut S) -> Result<(), NoMemory>
+    ensures told { OnOk result
+        (S.seen sink.new ≡ fold S.after (S.seen sink.old) (node_name_fields name)) }
+    ensures front { Grows S.is_front (S.seen sink.old) (S.seen sink.new) }
 {
-    text.push_str("    name ")?;
-    push_plain_name(name.bytes, text)?;
-    text.push_str(" flags=")?;
-    push_word(name.flags, text)?;
-    text.push_str(" ont=")?;
-    push_number(u64::from(ont(name.flags)), text)?;
-    text.push_str(" set=")?;
-    push_name_flags(name.flags, text)?;
-    text.push_str("\n")?;
-    Ok(())
-}
-
-/// Adds the text of a name without a scope.
-fn push_plain_name(bytes: [u8; 16], text: &mut String) -> Result<(), NoMemory>
-    ensures added { OnOk result (string_bytes text.new
-        ≡ string_bytes text.old ++ written (record { bytes = bytes; scope = [] })) }
-    ensures front { OnlyAdds (string_bytes text.old) (string_bytes text.new) }
-{
-    let name = Name::new(bytes, Scope::empty());
-    push_name(text, &name)
+    let plain = Name::new(name.bytes, Scope::empty());
+    sink.part("    name")?;
+    sink.shown(NAME, &plain)?;
+    sink.digits(FLAGS, &name.flags.to_be_bytes())?;
+    sink.number(ONT, u64::from(ont(name.flags)))?;
+    sink.set(SET, &name_flags_of(name.flags))?;
+    sink.line_ends()?;
+    sink.part_ends()
 }

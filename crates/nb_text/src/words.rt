@@ -1,15 +1,18 @@
-//! The words for numbers, and what texts end with.
-#![tactic(auto, using(nb_names::specs::GrowthFacts::front_stays))]
+//! The words for numbers, and what lines end with.
+#![tactic(auto, using(nb_telling::proofs::FoldLemmas::told_both))]
 
-ghost use Rattle.std.specs.Prelude.{◌≡◌, ◌++◌, option_map, OnOk, string_bytes};
-ghost use Rattle.nb_names.specs.Growth.{OnlyAdds};
-ghost use Rattle.nb_text.specs.Lines.{used_text};
-ghost use Rattle.nb_text.specs.Words.{named_text, operation_word, rcode_word};
+ghost use Rattle.std.specs.Prelude.{◌≡◌, ◌∷◌, [], OnOk, fold, option_map};
+ghost use Rattle.nb_telling.specs.Telling.{Grows, key_of};
+ghost use Rattle.nb_text.specs.LineFields.{used_fields};
+ghost use Rattle.nb_text.specs.ServiceFields.{named_field};
+ghost use Rattle.nb_text.specs.Words.{operation_word, rcode_word};
 
-use nb_names::{NoMemory, push_number};
+use crate::keys::USED;
+use nb_names::NoMemory;
+use nb_telling::{FieldKey, Sink};
 
 /// The name of an operation (RFC 1002 section 4.2.1.1; that 8 is a refresh too is our choice).
-fn operation_name(opcode: u8) -> Option<&'static str>
+pub fn operation_name(opcode: u8) -> Option<&'static str>
     ensures { option_map (λ name. name.now) result ≡ operation_word opcode }
 {
     match opcode {
@@ -23,7 +26,7 @@ fn operation_name(opcode: u8) -> Option<&'static str>
 }
 
 /// The name of a result.
-fn rcode_name(rcode: u8) -> Option<&'static str>
+pub fn rcode_name(rcode: u8) -> Option<&'static str>
     ensures { option_map (λ name. name.now) result ≡ rcode_word rcode }
 {
     match rcode {
@@ -39,46 +42,29 @@ fn rcode_name(rcode: u8) -> Option<&'static str>
     }
 }
 
-/// Adds an operation.
-pub fn push_operation(opcode: u8, text: &mut String) -> Result<(), NoMemory>
-    ensures added { OnOk result (string_bytes text.new
-        ≡ string_bytes text.old ++ named_text (operation_word opcode) opcode) }
-    ensures front { OnlyAdds (string_bytes text.old) (string_bytes text.new) }
-{
-    push_named(operation_name(opcode), opcode, text)
-}
-
-/// Adds a result.
-pub fn push_rcode(rcode: u8, text: &mut String) -> Result<(), NoMemory>
-    ensures added { OnOk result (string_bytes text.new
-        ≡ string_bytes text.old ++ named_text (rcode_word rcode) rcode) }
-    ensures front { OnlyAdds (string_bytes text.old) (string_bytes text.new) }
-{
-    push_named(rcode_name(rcode), rcode, text)
-}
-
-/// Adds a number by its name, or in decimal where it has none.
-fn push_named(name: Option<&'static str>, number: u8, text: &mut String) -> Result<(), NoMemory>
-    ensures added { OnOk result (string_bytes text.new
-        ≡ string_bytes text.old ++ named_text (option_map (λ word. word.now) name.entry) number) }
-    ensures front { OnlyAdds (string_bytes text.old) (string_bytes text.new) }
+/// Tells a number by its name, where it has one.
+pub fn tell_named<S: Sink>(
+    key: FieldKey,
+    name: Option<&'static str>,
+    number: u8,
+    sink: &mut S,
+) -> Result<(), NoMemory>
+    ensures told { OnOk result (S.seen sink.new ≡ S.after (S.seen sink.old)
+        (named_field (key_of key) (option_map (λ word. word.now) name.entry) number)) }
+    ensures front { Grows S.is_front (S.seen sink.old) (S.seen sink.new) }
 {
     match name {
-        Some(word) => {
-            text.push_str(word)?;
-            Ok(())
-        }
-        None => push_number(u64::from(number), text),
+        Some(word) => sink.text(key, word),
+        None => sink.number(key, u64::from(number)),
     }
 }
 
-/// Adds how many bytes a packet takes up, with which its line ends.
-pub fn push_used(used: usize, text: &mut String) -> Result<(), NoMemory>
-    ensures added { OnOk result (string_bytes text.new ≡ string_bytes text.old ++ used_text used) }
-    ensures front { OnlyAdds (string_bytes text.old) (string_bytes text.new) }
+/// Tells how many bytes a packet takes up, with which its line ends.
+pub fn tell_used<S: Sink>(used: usize, sink: &mut S) -> Result<(), NoMemory>
+    ensures told { OnOk result
+        (S.seen sink.new ≡ fold S.after (S.seen sink.old) (used_fields used)) }
+    ensures front { Grows S.is_front (S.seen sink.old) (S.seen sink.new) }
 {
-    text.push_str(" used=")?;
-    push_number(used as u64, text)?;
-    text.push_str("\n")?;
-    Ok(())
+    sink.number(USED, used as u64)?;
+    sink.line_ends()
 }

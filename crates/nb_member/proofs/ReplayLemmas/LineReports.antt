@@ -1,5 +1,5 @@
 -- What acting on one line comes to.
-use Rattle.std.proofs.Common.{◌≡◌, ◌≢◌, ◌+◌, ◌++◌, ◌∷◌, ℕ, List, [], Option, Result, Ok, Err, OnErr, sym, subst, ap, arith}
+use Rattle.std.proofs.Common.{◌≡◌, ◌≢◌, ◌+◌, ◌++◌, ◌∷◌, ℕ, List, [], Result, Ok, Err, OnErr, sym, subst, ap, arith}
 use Rattle.std.specs.Prelude.{codes}
 use Rattle.std.specs.FinMap as maps
 use Rattle.std.specs.Fmt.{decimal}
@@ -10,10 +10,7 @@ use Rattle.nb_member.specs.declared.member_fault.MemberFault.{MemberFault}
 use Rattle.nb_member.specs.declared.member_fault.MemberFault.TheVariants as member_fault
 use Rattle.nb_datagram.specs.Fragment.{FragmentParts}
 use Rattle.nb_member.specs.declared.outcome.Outcome.{Outcome}
-use Rattle.nb_member.specs.declared.replay_fault.ReplayFault.{ReplayFault}
-use Rattle.nb_member.specs.declared.replay_fault.ReplayFault.TheVariants as fault
-use Rattle.nb_names.specs.DeviceFacts.{Keeps-same}
-use Rattle.nb_member.specs.Code.ReplayLines.{ReportsLine, HasNoReport, HasNoWholeReport}
+use Rattle.nb_member.specs.Code.ReplayLines.{ReportsLine}
 use Rattle.nb_member.specs.Taking.{Does, Takes, TakesFragment, fragment, error, query, no_packet}
 use Rattle.nb_member.specs.Code.Members.{KeepsStation}
 use Rattle.nb_member.specs.Capture.{HasValue, SaysNothing}
@@ -65,14 +62,6 @@ took comments m L n moment payload new result said line says does h = record {
   acts = taken line payload moment said result h says does.answers;
   stands = does.stands;
 }
-
--- a line that has no report leaves the writer as it was
-pub unwritten : (comments : Comments) (m : MemberValue) (L : List Timed) (n : ℕ) (line : List ℕ) (new : MemberValue) (known : Option (List ℕ))
-    (why : ReplayFault) → HasNoReport comments m L n line new why → HasNoWholeReport comments m L n line new known known why
-unwritten comments m L n line new known (fault.Line k) e = (e.0, e.1, e.2, Keeps-same known)
-unwritten comments m L n line new known fault.Read e = absurd e
-unwritten comments m L n line new known fault.Write e = absurd e
-unwritten comments m L n line new known fault.NoMemory e = (e, Keeps-same known)
 
 -- ---- what stays
 

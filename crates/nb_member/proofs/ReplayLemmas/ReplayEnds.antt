@@ -1,27 +1,25 @@
 -- How a replay ends.
-use Rattle.std.proofs.Common.{◌≡◌, ◌⊎◌, ◌+◌, ◌++◌, ℕ, List, [], ◌∷◌, length, take, drop, Option, Some, None, Result, Ok, Err, ◌≢◌, refl, sym, subst, ◌∙◌, ap, inl, inr, append_assoc, arith}
+use Rattle.std.proofs.Common.{◌≡◌, ◌+◌, ◌++◌, ℕ, List, [], ◌∷◌, length, take, drop, Option, Result, Ok, Err, refl, sym, subst, ◌∙◌, inl, inr, append_assoc, arith}
 use Rattle.std.specs.Io.KnownBytes.{Appends, Consumes}
 use Rattle.std.proofs.lemmas.List.{append-nil, take-append-drop}
+use Rattle.nb_names.specs.DeviceFacts.{Appends-more, Appends-kept, fails_from}
 use Rattle.nb_names.specs.Counted.{Counts}
-use Rattle.nb_names.specs.Devices.{ShowsUnread}
-use Rattle.nb_names.specs.DeviceFacts.{Appends-more, Appends-kept}
-use Rattle.nb_names.specs.LineFacts.{any_cut}
-use Rattle.nb_names.specs.Lines.{CutInto, rest, with_rest}
+use Rattle.nb_names.specs.Devices.{ShowsUnread, ShowsWriteFault}
 use Rattle.nb_member.specs.declared.comments.Comments.{Comments}
 use Rattle.nb_member.specs.declared.event.Event.{Event}
-use Rattle.nb_member.specs.declared.line_read_fault.LineReadFault.TheVariants as fault
+use Rattle.nb_member.specs.declared.lines_fault.LinesFault.{LinesFault}
+use Rattle.nb_member.specs.declared.lines_fault.LinesFault.TheVariants as lines
 use Rattle.nb_member.specs.declared.replay_fault.ReplayFault.{ReplayFault}
-use Rattle.nb_member.specs.declared.replay_fault.ReplayFault.TheVariants.{Line, Read, Write, NoMemory}
-use Rattle.nb_member.specs.Code.ReplayLines.{HasNoWholeReport}
+use Rattle.nb_member.specs.declared.replay_fault.ReplayFault.TheVariants as replay
+use Rattle.nb_member.specs.declared.report_fault.ReportFault.{ReportFault}
+use Rattle.nb_member.specs.declared.report_fault.ReportFault.TheVariants.{Write, NoMemory}
+use Rattle.nb_member.specs.Code.ReplayLines.{ReplayState, ReplaysLine, FailsReport, HasNoWholeReport, replay_answer}
 use Rattle.nb_member.specs.Code.Members.{KeepsStation}
-use Rattle.nb_member.specs.LineReading.{ReadsLine}
-use Rattle.nb_member.specs.LineRoom.{RoomValue}
-use Rattle.nb_member.specs.Shared.LinesSoFar.{cut_both, was_reading, came, kept_are, none_over, handed_more, handed_all, shows_unread, long_first}
+use Rattle.nb_member.specs.LineTaking.{TakesEach, TakesLines, StopsAt}
 use Rattle.nb_member.specs.Live.{Timed, live_from, live}
-use Rattle.nb_member.specs.Member.{MemberValue, StandsOver, Stands}
-use Rattle.nb_member.specs.Replaying.{Replayed, Writes, Stops, Replays, AreLines, finished, ComesMalformed, ended, looked_at}
-use Rattle.nb_member.specs.LinesCame.{lines_held, comes_malformed}
-use Rattle.nb_member.proofs.ReplayLemmas.ReplaySoFar.{SoFar, with_line, report_of, replayed, IsReplaying}
+use Rattle.nb_member.specs.Member.{MemberValue, Stands}
+use Rattle.nb_member.specs.Replaying.{Replayed, Writes, Stops, Replays, AreLines}
+use Rattle.nb_member.proofs.ReplayLemmas.ReplaySoFar.{SoFar, Turn, all_turns, all_kept, kept_on, with_line, report_of, replayed}
 
 -- ---- where it ends
 
@@ -84,198 +82,139 @@ stops_within comments most m H s came left before after done more l text front l
   written = written;
 }
 
--- the replay ended at this line
-pub ends_at : (comments : Comments) (most : ℕ) (m : MemberValue) (H : List Event) (s : Stands m H) (came : List ℕ) (left : Option (List ℕ)) (before mid after : Option (List ℕ))
-    (done more : List (List ℕ)) (l text : List ℕ) (new newer : MemberValue) (number : ℕ)
-    (t : SoFar comments m (live m.settings s.sayings) done text new) → KeepsStation m new
-    → newer.settings ≡ m.settings → Appends before mid text → number ≡ length done + 1 → AreLines most came left (done ++ l ∷ more)
-    → (fault : ReplayFault)
-    → HasNoWholeReport comments new (live_from m.settings (live m.settings s.sayings) t.sayings) number l newer mid after fault
-    → Replays comments most m H (live m.settings s.sayings) came left newer before after (Err fault)
-ends_at comments most m H s came left before mid after done more l text new newer number t same still written at are (Line k) p =
-    let u = stays comments m (live m.settings s.sayings) done text new newer t p.2 in (
-      done,
-      ended done more l are p.1,
-      p.0 ∙ at,
-      writes comments m H s before after done text newer u still (Appends-kept before mid after text written p.3),
-    )
-ends_at comments most m H s came left before mid after done more l text new newer number t same still written at are Read p = absurd p
-ends_at comments most m H s came left before mid after done more l text new newer number t same still written at are Write p =
+-- the replay stopped at this line, whose report isn't written whole
+stops_at : (comments : Comments) (most : ℕ) (m : MemberValue) (H : List Event) (s : Stands m H) (came : List ℕ) (left before mid after : Option (List ℕ))
+    (done more : List (List ℕ)) (l : List ℕ) (new newer : MemberValue) (t : Turn comments m (live m.settings s.sayings) before mid done new)
+    → KeepsStation m new → newer.settings ≡ m.settings → AreLines most came left (done ++ l ∷ more) → (fault : ReportFault)
+    → HasNoWholeReport comments new (live_from m.settings (live m.settings s.sayings) t.so_far.sayings) (length done + 1) l newer mid after fault
+    → Stops comments most m H (live m.settings s.sayings) came left newer before after
+stops_at comments most m H s came left before mid after done more l new newer t same still are Write p =
     let front = take p.front.0 p.text in
     let later = drop p.front.0 p.text in
-    let u = with_line comments m (live m.settings s.sayings) done l text new newer t same number at p.text p.acted in
-    stops_within comments most m H s came left before after done more l text front later new newer t
-    (subst (λ (bs : List ℕ). SoFar comments m (live m.settings s.sayings) (done ++ l ∷ []) (text ++ bs) newer) (sym (take-append-drop p.front.0 p.text)) u)
-    still (Appends-more before mid after text front written p.front.2) are
-ends_at comments most m H s came left before mid after done more l text new newer number t same still written at are NoMemory p =
+    let u = with_line comments m (live m.settings s.sayings) done l t.text new newer t.so_far same (length done + 1) refl p.text p.acted in
+    stops_within comments most m H s came left before after done more l t.text front later new newer t.so_far
+    (subst (λ (bs : List ℕ). SoFar comments m (live m.settings s.sayings) (done ++ l ∷ []) (t.text ++ bs) newer) (sym (take-append-drop p.front.0 p.text)) u)
+    still (Appends-more before mid after t.text front t.appends p.front.2) are
+stops_at comments most m H s came left before mid after done more l new newer t same still are NoMemory p =
+    let written = Appends-kept before mid after t.text t.appends p.1 in
     elim (p.0) [
       | inl stayed ↦
-          stops_after comments most m H s came left before after done (l ∷ more) text newer
-          (stays comments m (live m.settings s.sayings) done text new newer t stayed) still
-          (Appends-kept before mid after text written p.1) are
+          stops_after comments most m H s came left before after done (l ∷ more) t.text newer
+          (stays comments m (live m.settings s.sayings) done t.text new newer t.so_far stayed) still written are
       | inr acted ↦
-          stops_within comments most m H s came left before after done more l text [] acted.0 new newer t
-          (with_line comments m (live m.settings s.sayings) done l text new newer t same number at acted.0 acted.1)
-          still (subst (λ (bs : List ℕ). Appends before after bs) (sym (append-nil text)) (Appends-kept before mid after text written p.1)) are
+          stops_within comments most m H s came left before after done more l t.text [] acted.0 new newer t.so_far
+          (with_line comments m (live m.settings s.sayings) done l t.text new newer t.so_far same (length done + 1) refl acted.0 acted.1)
+          still (subst (λ (bs : List ℕ). Appends before after bs) (sym (append-nil t.text)) written) are
     ]
 
--- ---- the lines among the bytes that came
+-- these lines were replayed
+writes_all : {W : Type 0} (C : W → Option (List ℕ)) (comments : Comments) (ls : List (List ℕ)) (old new : ReplayState W) (H : List Event) (s : Stands old.member H)
+    → TakesEach (ReplaysLine C comments) 1 ls old new
+    → Writes comments old.member H (live old.member.settings s.sayings) ls new.member (C old.writer.inner) (C new.writer.inner)
+writes_all C comments ls old new H s each =
+    let t = all_turns C comments (live old.member.settings s.sayings) ls old new s.over each in
+    writes comments old.member H s (C old.writer.inner) (C new.writer.inner) ls t.text new.member t.so_far (all_kept C comments 1 ls old new each).kept.0 t.appends
 
--- EndsReplay comments most m first left counts later new before after result: what a replay says of the bytes that it took
-abbrev pub EndsReplay : Comments → ℕ → MemberValue → Option (List ℕ) → Option (List ℕ) → Counts → Counts → MemberValue
-    → Option (List ℕ) → Option (List ℕ) → Result ℕ ReplayFault → Type 0
-EndsReplay comments most m first left counts later new before after result =
+-- a line's report isn't written whole
+stopped : {W : Type 0} (C : W → Option (List ℕ)) (comments : Comments) (most : ℕ) (bytes : List ℕ) (left : Option (List ℕ)) (old new : ReplayState W) (fault : ReportFault)
+    → StopsAt (ReplaysLine C comments) (FailsReport C comments) most bytes left old new fault → (H : List Event) (s : Stands old.member H)
+    → Stops comments most old.member H (live old.member.settings s.sayings) bytes left new.member (C old.writer.inner) (C new.writer.inner)
+stopped C comments most bytes left old new fault t H s =
+    let L = live old.member.settings s.sayings in
+    let u = all_turns C comments L t.done old t.between s.over t.taken in
+    let kept = (all_kept C comments 1 t.done old t.between t.taken).kept in
+    stops_at comments most old.member H s bytes left (C old.writer.inner) (C t.between.writer.inner) (C new.writer.inner) t.done t.more_lines t.line
+    t.between.member new.member u kept (t.fails.kept.0 ∙ kept.0) t.are_lines fault
+    (t.fails.unwritten t.reads (live_from old.member.settings L u.so_far.sayings) u.so_far.stands)
+
+-- what was made of the lines is what a replay answers
+replays_lines : {W : Type 0} (C : W → Option (List ℕ)) (comments : Comments) (most : ℕ) (bytes : List ℕ) (left : Option (List ℕ)) (old new : ReplayState W)
+    (answer : Result ℕ (LinesFault ReportFault)) → TakesLines (ReplaysLine C comments) (FailsReport C comments) most bytes left old new answer
+    → (H : List Event) (s : Stands old.member H)
+    → Replays comments most old.member H (live old.member.settings s.sayings) bytes left new.member (C old.writer.inner) (C new.writer.inner) (replay_answer answer)
+replays_lines C comments most bytes left old new (Ok n) t H s =
+    (t.0, t.1, t.2, t.3, t.4, writes_all C comments _ old new H s t.5)
+replays_lines C comments most bytes left old new (Err (lines.Line n)) t H s =
+    (t.0, t.1, t.2, writes_all C comments _ old new H s t.3)
+replays_lines C comments most bytes left old new (Err lines.Read) t H s =
+    (t.0, t.1, t.2, t.3, writes_all C comments _ old new H s t.4)
+replays_lines C comments most bytes left old new (Err lines.NoMemory) t H s =
+    let u = all_turns C comments (live old.member.settings s.sayings) t.0 old new s.over t.3 in
+    stops_after comments most old.member H s bytes left (C old.writer.inner) (C new.writer.inner) t.0 t.1 u.text new.member u.so_far
+    (all_kept C comments 1 t.0 old new t.3).kept.0 u.appends t.2
+replays_lines C comments most bytes left old new (Err (lines.NotTaken Write)) t H s = stopped C comments most bytes left old new Write t H s
+replays_lines C comments most bytes left old new (Err (lines.NotTaken NoMemory)) t H s = stopped C comments most bytes left old new NoMemory t H s
+
+-- ---- what stays
+
+-- the settings and the names stay
+replay_keeps : {W : Type 0} (C : W → Option (List ℕ)) (comments : Comments) (most : ℕ) (bytes : List ℕ) (left : Option (List ℕ)) (old new : ReplayState W)
+    (answer : Result ℕ (LinesFault ReportFault)) → TakesLines (ReplaysLine C comments) (FailsReport C comments) most bytes left old new answer
+    → KeepsStation old.member new.member
+replay_keeps C comments most bytes left old new (Ok n) t = (all_kept C comments 1 _ old new t.5).kept
+replay_keeps C comments most bytes left old new (Err (lines.Line n)) t = (all_kept C comments 1 _ old new t.3).kept
+replay_keeps C comments most bytes left old new (Err lines.Read) t = (all_kept C comments 1 _ old new t.4).kept
+replay_keeps C comments most bytes left old new (Err lines.NoMemory) t = (all_kept C comments 1 _ old new t.3).kept
+replay_keeps C comments most bytes left old new (Err (lines.NotTaken fault)) t =
+    kept_on old.member t.between.member new.member (all_kept C comments 1 t.done old t.between t.taken).kept t.fails.kept
+
+-- a write is at fault only where the calls of the writer show it
+replay_shows : {W : Type 0} (C : W → Option (List ℕ)) (comments : Comments) (most : ℕ) (bytes : List ℕ) (left : Option (List ℕ)) (old new : ReplayState W)
+    (answer : Result ℕ (LinesFault ReportFault)) → TakesLines (ReplaysLine C comments) (FailsReport C comments) most bytes left old new answer
+    → replay_answer answer ≡ Err replay.Write → ShowsWriteFault old.writer.counts new.writer.counts
+replay_shows C comments most bytes left old new (Ok n) t is = absurd (cc is)
+replay_shows C comments most bytes left old new (Err (lines.Line n)) t is = absurd (cc is)
+replay_shows C comments most bytes left old new (Err lines.Read) t is = absurd (cc is)
+replay_shows C comments most bytes left old new (Err lines.NoMemory) t is = absurd (cc is)
+replay_shows C comments most bytes left old new (Err (lines.NotTaken Write)) t is =
+    fails_from old.writer.counts t.between.writer.counts new.writer.counts (all_kept C comments 1 t.done old t.between t.taken).grow (t.fails.why refl)
+replay_shows C comments most bytes left old new (Err (lines.NotTaken NoMemory)) t is = absurd (cc is)
+
+-- the input is at fault only where the lines couldn't be read
+unread_so : (answer : Result ℕ (LinesFault ReportFault)) → replay_answer answer ≡ Err replay.Read → answer ≡ Err lines.Read
+unread_so (Ok n) is = absurd (cc is)
+unread_so (Err (lines.Line n)) is = absurd (cc is)
+unread_so (Err lines.Read) is = refl
+unread_so (Err lines.NoMemory) is = absurd (cc is)
+unread_so (Err (lines.NotTaken Write)) is = absurd (cc is)
+unread_so (Err (lines.NotTaken NoMemory)) is = absurd (cc is)
+
+-- ---- the bytes that came
+
+-- TakesBytes C comments most first left counts later old new taken: what is said of the bytes that were read, and of their lines
+abbrev pub TakesBytes : {W : Type 0} → (W → Option (List ℕ)) → Comments → ℕ → Option (List ℕ) → Option (List ℕ) → Counts → Counts → ReplayState W → ReplayState W
+    → Result ℕ (LinesFault ReportFault) → Type 0
+TakesBytes C comments most first left counts later old new taken =
     (bytes : List ℕ) × Consumes first left bytes
-    × ((result ≡ Err Read → ShowsUnread most bytes counts later)
-    × ((H : List Event) (s : Stands m H) → Replays comments most m H (live m.settings s.sayings) bytes left new before after result))
+    × ((taken ≡ Err lines.Read → ShowsUnread most bytes counts later)
+    × TakesLines (ReplaysLine C comments) (FailsReport C comments) most bytes left old new taken)
 
-plus_one : (n k : ℕ) → n ≡ k → n + 1 ≡ k + 1
-plus_one n k same = ap (λ (x : ℕ). x + 1) same
+-- the member and the writer are what the replay left
+pub replays_bytes : {W : Type 0} (C : W → Option (List ℕ)) (comments : Comments) (most : ℕ) (first left : Option (List ℕ)) (counts later : Counts) (old new : ReplayState W)
+    (m : MemberValue) (w : W) (taken : Result ℕ (LinesFault ReportFault)) (answer : Result ℕ ReplayFault) → m ≡ new.member → w ≡ new.writer.inner → answer ≡ replay_answer taken
+    → TakesBytes C comments most first left counts later old new taken
+    → (bytes : List ℕ) × Consumes first left bytes × ((answer ≡ Err replay.Read → ShowsUnread most bytes counts later)
+    × ((H : List Event) (s : Stands old.member H)
+    → Replays comments most old.member H (live old.member.settings s.sayings) bytes left m (C old.writer.inner) (C w) answer))
+replays_bytes {W} C comments most first left counts later old new m w taken answer left_member left_writer is t = (
+  t.0,
+  t.1,
+  (
+    (λ read. t.2.0 (unread_so taken (sym is ∙ read))),
+    (λ H s. subst (λ (r : Result ℕ ReplayFault). Replays comments most old.member H (live old.member.settings s.sayings) t.0 left m (C old.writer.inner) (C w) r)
+        (sym is)
+        (subst (λ (x : MemberValue). Replays comments most old.member H (live old.member.settings s.sayings) t.0 left x (C old.writer.inner) (C w) (replay_answer taken)) (sym left_member)
+        (subst (λ (x : W). Replays comments most old.member H (live old.member.settings s.sayings) t.0 left new.member (C old.writer.inner) (C x) (replay_answer taken)) (sym left_writer)
+        (replays_lines C comments most t.0 left old new taken t.2.1 H s)))),
+  ),
+)
 
--- ---- how the loop ends
+pub shows_write : {W : Type 0} (C : W → Option (List ℕ)) (comments : Comments) (most : ℕ) (first left : Option (List ℕ)) (counts later : Counts) (old new : ReplayState W)
+    (taken : Result ℕ (LinesFault ReportFault)) (answer : Result ℕ ReplayFault) → answer ≡ replay_answer taken
+    → TakesBytes C comments most first left counts later old new taken → answer ≡ Err replay.Write → ShowsWriteFault old.writer.counts new.writer.counts
+shows_write C comments most first left counts later old new taken answer is t write =
+    replay_shows C comments most t.0 left old new taken t.2.1 (sym is ∙ write)
 
--- the replay ended at a line
-pub ends_at_line : (comments : Comments) (most : ℕ) (m : MemberValue) (first now next : Option (List ℕ)) (counts_in later_in after_in : Counts)
-    (before mid after : Option (List ℕ)) (old counts : Counts) (room left : RoomValue) (l : List ℕ)
-    (number : ℕ) (new newer : MemberValue) (fault : ReplayFault)
-    → IsReplaying comments most m first now counts_in later_in before mid old counts room number new
-    → ReadsLine room now next later_in after_in (Ok (Some l)) left → KeepsStation new newer
-    → ((L : List Timed) → StandsOver new L → HasNoWholeReport comments new L (number + 1) l newer mid after fault)
-    → fault ≢ Read → EndsReplay comments most m first next counts_in after_in newer before after (Err fault)
-ends_at_line comments most m first now next counts_in later_in after_in before mid after old counts room left l number new newer fault t r kept stops unread =
-    let o = handed_more most first now next counts_in later_in after_in room left t.lines t.last l t.handed r in
-    let acted = with_rest t.lines t.last in
-    let held = lines_held most first next counts_in after_in left o.lines o.last o.handed in
-    let bytes = o.handed.passed ++ left.rest in
-    let are : AreLines most bytes next (acted ++ l ∷ held.more) =
-    subst (λ (ls : List (List ℕ)). AreLines most bytes next ls) (append_assoc acted (l ∷ []) held.more)
-    (subst (λ (ls : List (List ℕ)). AreLines most bytes next (ls ++ held.more)) o.are held.are) in (
-      bytes,
-      o.handed.consumes,
-      (
-        (λ e. let same : fault ≡ Read = cc e in absurd (unread same)),
-        (λ H s.
-            let L = live m.settings s.sayings in
-            let was = t.turn L s.over in
-            ends_at comments most m H s bytes next before mid after acted held.more l was.text new newer (number + 1) was.so_far
-            t.kept (kept.0 ∙ t.kept.0) was.appends (plus_one number (length acted) t.counted) are fault
-            (stops (live_from m.settings L was.so_far.sayings) was.so_far.stands)),
-      ),
-    )
-
--- the next line is too long
-pub ends_too_long : (comments : Comments) (most : ℕ) (m : MemberValue) (first now next : Option (List ℕ)) (counts_in later_in after_in : Counts)
-    (before after : Option (List ℕ)) (old counts : Counts) (room left : RoomValue) (number : ℕ) (new : MemberValue)
-    → IsReplaying comments most m first now counts_in later_in before after old counts room number new
-    → ReadsLine room now next later_in after_in (Err fault.TooLong) left
-    → EndsReplay comments most m first next counts_in after_in new before after (Err (Line (number + 1)))
-ends_too_long comments most m first now next counts_in later_in after_in before after old counts room left number new t r =
-    let was = was_reading most first now counts_in later_in room t.lines t.last (Err fault.TooLong) t.handed r.again (λ e. absurd (cc e)) in
-    let c = came most first now next counts_in later_in after_in room left t.lines t.last (Err fault.TooLong) t.handed was.1 r in
-    let none = none_over room now next later_in after_in (Err fault.TooLong) left r (λ e. absurd (cc e)) in
-    let held = room.rest ++ r.got in
-    let acted : t.lines ≡ with_rest t.lines t.last = ap (with_rest t.lines) (sym was.1) in
-    let bytes = (c.passed ++ held) ++ r.over in (
-      bytes,
-      c.consumes,
-      (
-        (λ e. absurd (cc e)),
-        (λ H s.
-            let turn = t.turn (live m.settings s.sayings) s.over in (
-              with_rest t.lines t.last,
-              subst (λ (ls : List (List ℕ)). ComesMalformed most bytes next ls) acted
-                  (comes_malformed most bytes next c.passed held t.lines c.cut
-                  (kept_are most first next counts_in after_in t.lines held r.over left.taken c (inl none)) (long_first held r.answers.0)),
-              plus_one number (length (with_rest t.lines t.last)) t.counted,
-              writes comments m H s before after (with_rest t.lines t.last) turn.text new turn.so_far t.kept.0 turn.appends,
-            )),
-      ),
-    )
-
--- the input can't be read further
-pub ends_unread : (comments : Comments) (most : ℕ) (m : MemberValue) (first now next : Option (List ℕ)) (counts_in later_in after_in : Counts)
-    (before after : Option (List ℕ)) (old counts : Counts) (room left : RoomValue) (number : ℕ) (new : MemberValue)
-    → IsReplaying comments most m first now counts_in later_in before after old counts room number new
-    → ReadsLine room now next later_in after_in (Err fault.Read) left
-    → EndsReplay comments most m first next counts_in after_in new before after (Err Read)
-ends_unread comments most m first now next counts_in later_in after_in before after old counts room left number new t r =
-    let was = was_reading most first now counts_in later_in room t.lines t.last (Err fault.Read) t.handed r.again (λ e. absurd (cc e)) in
-    let c = came most first now next counts_in later_in after_in room left t.lines t.last (Err fault.Read) t.handed was.1 r in
-    let held = room.rest ++ r.got in
-    let over : (r.over ≡ []) ⊎ (left.taken ≡ most) = elim (r.kept) [
-      | inl none ↦ inl none
-      | inr full ↦ inr (full.1 ∙ t.handed.limit)
-    ] in
-    let acted : t.lines ≡ with_rest t.lines t.last = ap (with_rest t.lines) (sym was.1) in
-    let cut : CutInto (c.passed ++ held) t.lines held =
-    subst (λ (ls : List (List ℕ)). CutInto (c.passed ++ held) ls held) (append-nil t.lines)
-    (cut_both c.passed held t.lines [] [] held refl c.cut (rest held r.answers.0.1)) in (
-      (c.passed ++ held) ++ r.over,
-      c.consumes,
-      (
-        (λ e. shows_unread most first now next counts_in later_in after_in room left t.lines t.last t.handed r c was.0),
-        (λ H s.
-            let turn = t.turn (live m.settings s.sayings) s.over in (
-              with_rest t.lines t.last,
-              held,
-              subst (λ (ls : List (List ℕ)). CutInto (looked_at most ((c.passed ++ held) ++ r.over)) ls held) acted
-                  (subst (λ (bs : List ℕ). CutInto bs t.lines held)
-                  (sym (kept_are most first next counts_in after_in t.lines held r.over left.taken c over)) cut),
-              r.answers.0.0,
-              writes comments m H s before after (with_rest t.lines t.last) turn.text new turn.so_far t.kept.0 turn.appends,
-            )),
-      ),
-    )
-
--- there is no memory for the next line
-pub ends_unheld : (comments : Comments) (most : ℕ) (m : MemberValue) (first now next : Option (List ℕ)) (counts_in later_in after_in : Counts)
-    (before after : Option (List ℕ)) (old counts : Counts) (room left : RoomValue) (number : ℕ) (new : MemberValue)
-    → IsReplaying comments most m first now counts_in later_in before after old counts room number new
-    → ReadsLine room now next later_in after_in (Err fault.NoMemory) left
-    → EndsReplay comments most m first next counts_in after_in new before after (Err NoMemory)
-ends_unheld comments most m first now next counts_in later_in after_in before after old counts room left number new t r =
-    let was = was_reading most first now counts_in later_in room t.lines t.last (Err fault.NoMemory) t.handed r.again (λ e. absurd (cc e)) in
-    let c = came most first now next counts_in later_in after_in room left t.lines t.last (Err fault.NoMemory) t.handed was.1 r in
-    let none = none_over room now next later_in after_in (Err fault.NoMemory) left r (λ e. absurd (cc e)) in
-    let held = room.rest ++ r.got in
-    let cut = any_cut held in
-    let acted : t.lines ≡ with_rest t.lines t.last = ap (with_rest t.lines) (sym was.1) in
-    let bytes = (c.passed ++ held) ++ r.over in
-    let are : AreLines most bytes next (t.lines ++ cut.lines) =
-    finished (t.lines ++ cut.lines) cut.left (subst (λ (bs : List ℕ). CutInto bs (t.lines ++ cut.lines) cut.left)
-    (sym (kept_are most first next counts_in after_in t.lines held r.over left.taken c (inl none)))
-    (cut_both c.passed held t.lines cut.lines [] cut.left refl c.cut cut.cut)) in (
-      bytes,
-      c.consumes,
-      (
-        (λ e. absurd (cc e)),
-        (λ H s.
-            let turn = t.turn (live m.settings s.sayings) s.over in
-            stops_after comments most m H s bytes next before after (with_rest t.lines t.last) cut.lines turn.text new turn.so_far t.kept.0 turn.appends
-            (subst (λ (ls : List (List ℕ)). AreLines most bytes next (ls ++ cut.lines)) acted are)),
-      ),
-    )
-
--- the input is at its end
-pub ends_at_end : (comments : Comments) (most : ℕ) (m : MemberValue) (first now next : Option (List ℕ)) (counts_in later_in after_in : Counts)
-    (before after : Option (List ℕ)) (old counts : Counts) (room left : RoomValue) (number : ℕ) (new : MemberValue)
-    → IsReplaying comments most m first now counts_in later_in before after old counts room number new
-    → ReadsLine room now next later_in after_in (Ok None) left
-    → EndsReplay comments most m first next counts_in after_in new before after (Ok number)
-ends_at_end comments most m first now next counts_in later_in after_in before after old counts room left number new t r =
-    let a = handed_all most first now next counts_in later_in after_in room left t.lines t.last t.handed r in (
-      a.bytes,
-      a.consumes,
-      (
-        (λ e. absurd (cc e)),
-        (λ H s.
-            let turn = t.turn (live m.settings s.sayings) s.over in (
-              t.lines,
-              t.last,
-              a.cut,
-              record { at_end = a.at_end; within = a.within },
-              t.counted,
-              writes comments m H s before after (with_rest t.lines t.last) turn.text new turn.so_far t.kept.0 turn.appends,
-            )),
-      ),
-    )
+pub keeps_station : {W : Type 0} (C : W → Option (List ℕ)) (comments : Comments) (most : ℕ) (first left : Option (List ℕ)) (counts later : Counts) (old new : ReplayState W)
+    (taken : Result ℕ (LinesFault ReportFault)) → TakesBytes C comments most first left counts later old new taken → KeepsStation old.member new.member
+keeps_station C comments most first left counts later old new taken t = replay_keeps C comments most t.0 left old new taken t.2.1

@@ -1,28 +1,24 @@
--- What a replay keeps from line to line.
-use Rattle.std.proofs.Common.{◌≡◌, ◌+◌, ◌≤◌, ◌++◌, ℕ, List, [], ◌∷◌, length, Option, Some, Ok, refl, sym, subst, ◌∙◌, ap, append_assoc, arith}
+-- What the lines of a replay come to, one after another.
+use Rattle.std.proofs.Common.{◌≡◌, ◌+◌, ◌++◌, ℕ, List, [], ◌∷◌, length, Option, refl, sym, subst, ◌∙◌, append_assoc, arith}
 use Rattle.std.specs.Io.KnownBytes.{Appends}
 use Rattle.std.proofs.lemmas.List.{append-nil, length-append}
 use Rattle.std.proofs.lemmas.List.Sums.{fold-append}
-use Rattle.nb_names.specs.Counted.{Counts}
 use Rattle.nb_names.specs.Name.{NetbiosName}
 use Rattle.nb_member.specs.declared.comments.Comments.{Comments}
 use Rattle.nb_member.specs.declared.event.Event.{Event}
 use Rattle.nb_member.specs.declared.settings.Settings.{Settings}
 use Rattle.nb_names.specs.Devices.{GrowTo}
-use Rattle.nb_names.specs.Lines.{with_rest}
 use Rattle.nb_member.specs.Report as reports
 use Rattle.nb_member.specs.Events as saying
 use Rattle.nb_names.specs.DeviceFacts.{Appends-nil, Appends-more, grows_on}
-use Rattle.nb_member.specs.Code.ReplayLines.{ReportsLine, WritesLine}
+use Rattle.nb_member.specs.Code.ReplayLines.{ReplayState, ReplaysLine, ReportsLine, WritesLine}
 use Rattle.nb_member.specs.Code.Members.{KeepsStation}
 use Rattle.nb_member.specs.Events.{Saying, clock, Say}
 use Rattle.nb_member.specs.Live.{Timed, live_after, live_from, live}
 use Rattle.nb_member.specs.Member.{MemberValue, StandsOver, Stands}
 use Rattle.nb_member.specs.Report.{ReportOfLine, nothing, passed, taken, tick, ReportOf}
 use Rattle.nb_member.specs.Replaying.{Replayed}
-use Rattle.nb_member.specs.LineReading.{ReadsLine}
-use Rattle.nb_member.specs.LineRoom.{RoomValue, nothing_within}
-use Rattle.nb_member.specs.Shared.LinesSoFar.{HandedOut, nothing_handed, handed_more, bytes_less}
+use Rattle.nb_member.specs.LineTaking.{TakesEach, none, more}
 
 -- ---- sayings
 
@@ -127,7 +123,7 @@ replayed comments m H s done text new t same = record {
   };
 }
 
--- ---- turns of the loop
+-- ---- lines in a row
 
 -- Turn comments m L before after acted new: these lines were acted on, and their report is written
 pub record Turn (comments : Comments) (m : MemberValue) (L : List Timed) (before after : Option (List ℕ)) (acted : List (List ℕ)) (new : MemberValue) : Type 0 where
@@ -135,73 +131,61 @@ pub record Turn (comments : Comments) (m : MemberValue) (L : List Timed) (before
   pub so_far : SoFar comments m L acted text new
   pub appends : Appends before after text
 
--- IsReplaying comments most m first now counts_in later_in before after counts later room number new: so many lines of what was
--- read were handed out and acted on, for whatever fragments m stands over, and their report is written
-pub record IsReplaying (comments : Comments) (most : ℕ) (m : MemberValue) (first now : Option (List ℕ)) (counts_in later_in : Counts)
-    (before after : Option (List ℕ)) (counts later : Counts) (room : RoomValue) (number : ℕ) (new : MemberValue) : Type 0 where
-  pub lines : List (List ℕ)
-  pub last : List ℕ
-  pub handed : HandedOut most first now counts_in later_in room lines last
-  pub counted : number ≡ length (with_rest lines last)
-  pub within : number + length room.rest ≤ room.taken
-  pub turn : (L : List Timed) → StandsOver m L → Turn comments m L before after (with_rest lines last) new
-  pub kept : KeepsStation m new
-  pub grow : GrowTo counts later
-
-pub nothing_yet : (comments : Comments) (m : MemberValue) (L : List Timed) → StandsOver m L → SoFar comments m L [] [] m
+nothing_yet : (comments : Comments) (m : MemberValue) (L : List Timed) → StandsOver m L → SoFar comments m L [] [] m
 nothing_yet comments m L s = record {
   events = [];
   sayings = [];
   said = saying.none;
   stands = s;
-  reported = λ more others report r. r;
-}
-
--- before the first line
-pub first_turn : (comments : Comments) (most : ℕ) (m : MemberValue) (known before : Option (List ℕ)) (counts_in counts : Counts) (room : RoomValue) → room ≡ nothing_within most
-    → IsReplaying comments most m known known counts_in counts_in before before counts counts room 0 m
-first_turn comments most m known before counts_in counts room is = record {
-  lines = [];
-  last = [];
-  handed = nothing_handed most known counts_in room is;
-  counted = refl;
-  within = rw is (omega arith);
-  turn = λ L s. record { text = []; so_far = nothing_yet comments m L s; appends = Appends-nil before };
-  kept = (refl, refl);
-  grow = record { empty = omega arith; interrupted = omega arith; failed = omega arith };
+  reported = λ more_lines others report r. r;
 }
 
 -- a line more, and its report
-pub turn_more : (comments : Comments) (m : MemberValue) (L : List Timed) (before mid after : Option (List ℕ)) (acted : List (List ℕ)) (l : List ℕ)
-    (number : ℕ) (new newer : MemberValue) → StandsOver m L → Turn comments m L before mid acted new → KeepsStation m new → number ≡ length acted
-    → ((M : List Timed) → StandsOver new M → WritesLine comments new M (number + 1) l newer mid after)
+turn_more : (comments : Comments) (m : MemberValue) (L : List Timed) (before mid after : Option (List ℕ)) (acted : List (List ℕ)) (l : List ℕ)
+    (number : ℕ) (new newer : MemberValue) → Turn comments m L before mid acted new → KeepsStation m new → number ≡ length acted + 1
+    → ((M : List Timed) → StandsOver new M → WritesLine comments new M number l newer mid after)
     → Turn comments m L before after (acted ++ l ∷ []) newer
-turn_more comments m L before mid after acted l number new newer s t kept counted w =
-    let wrote = w (live_from m.settings L t.so_far.sayings) t.so_far.stands in
-    let at : number + 1 ≡ length acted + 1 = ap (λ (n : ℕ). n + 1) counted in record {
+turn_more comments m L before mid after acted l number new newer t kept at w =
+    let wrote = w (live_from m.settings L t.so_far.sayings) t.so_far.stands in record {
       text = t.text ++ wrote.text;
-      so_far = with_line comments m L acted l t.text new newer t.so_far kept (number + 1) at wrote.text wrote.acted;
+      so_far = with_line comments m L acted l t.text new newer t.so_far kept number at wrote.text wrote.acted;
       appends = Appends-more before mid after t.text wrote.text t.appends wrote.written;
     }
 
--- after one more line
-pub next_turn : (comments : Comments) (most : ℕ) (m : MemberValue) (first now next : Option (List ℕ)) (counts_in later_in after_in : Counts)
-    (before mid after : Option (List ℕ)) (old counts later : Counts) (room left : RoomValue) (l : List ℕ)
-    (number : ℕ) (new newer : MemberValue) → IsReplaying comments most m first now counts_in later_in before mid old counts room number new
-    → ReadsLine room now next later_in after_in (Ok (Some l)) left → KeepsStation new newer → GrowTo counts later
-    → ((L : List Timed) → StandsOver new L → WritesLine comments new L (number + 1) l newer mid after)
-    → IsReplaying comments most m first next counts_in after_in before after old later left (number + 1) newer
-next_turn comments most m first now next counts_in later_in after_in before mid after old counts later room left l number new newer t r kept grow w =
-    let o = handed_more most first now next counts_in later_in after_in room left t.lines t.last l t.handed r in
-    let size : length (with_rest t.lines t.last ++ l ∷ []) ≡ length (with_rest t.lines t.last) + 1 =
-    length-append (with_rest t.lines t.last) (l ∷ []) in record {
-      lines = o.lines;
-      last = o.last;
-      handed = o.handed;
-      counted = ap (λ (n : ℕ). n + 1) t.counted ∙ sym size ∙ ap length (sym o.are);
-      within = omega (arith, t.within, bytes_less room left now next later_in after_in l r);
-      turn = λ L s. subst (λ (ls : List (List ℕ)). Turn comments m L before after ls newer) (sym o.are)
-          (turn_more comments m L before mid after (with_rest t.lines t.last) l number new newer s (t.turn L s) t.kept t.counted w);
-      kept = kept_on m new newer t.kept kept;
-      grow = grows_on old counts later t.grow grow;
+-- lines more, one after another
+turns_more : {W : Type 0} (C : W → Option (List ℕ)) (comments : Comments) (m : MemberValue) (L : List Timed) (before : Option (List ℕ)) (n : ℕ)
+    (done ls : List (List ℕ)) (mid new : ReplayState W) → Turn comments m L before (C mid.writer.inner) done mid.member → KeepsStation m mid.member
+    → n ≡ length done + 1 → TakesEach (ReplaysLine C comments) n ls mid new → Turn comments m L before (C new.writer.inner) (done ++ ls) new.member
+turns_more C comments m L before _ done _ _ _ t kept at (none n s) =
+    subst (λ (ls : List (List ℕ)). Turn comments m L before (C s.writer.inner) ls s.member) (sym (append-nil done)) t
+turns_more C comments m L before _ done _ _ _ t kept at (more n l ls mid between new first others) =
+    let size : length (done ++ l ∷ []) ≡ length done + 1 = length-append done (l ∷ []) in
+    subst (λ (all : List (List ℕ)). Turn comments m L before (C new.writer.inner) all new.member) (append_assoc done (l ∷ []) ls)
+    (turns_more C comments m L before (n + 1) (done ++ l ∷ []) ls between new
+    (turn_more comments m L before (C mid.writer.inner) (C between.writer.inner) done l n mid.member between.member t kept at (first.takes.writes first.reads))
+    (kept_on m mid.member between.member kept first.takes.kept) (omega (arith, at, size)) others)
+
+-- the lines of a replay
+pub all_turns : {W : Type 0} (C : W → Option (List ℕ)) (comments : Comments) (L : List Timed) (ls : List (List ℕ)) (old new : ReplayState W)
+    → StandsOver old.member L → TakesEach (ReplaysLine C comments) 1 ls old new
+    → Turn comments old.member L (C old.writer.inner) (C new.writer.inner) ls new.member
+all_turns C comments L ls old new s each =
+    turns_more C comments old.member L (C old.writer.inner) 1 [] ls old new
+    (record { text = []; so_far = nothing_yet comments old.member L s; appends = Appends-nil (C old.writer.inner) }) (refl, refl) refl each
+
+-- ---- what stays
+
+-- KeepsAll old new: the settings and the names are the same, and calls were counted
+pub record KeepsAll {W : Type 0} (old new : ReplayState W) : Type 0 where
+  pub kept : KeepsStation old.member new.member
+  pub grow : GrowTo old.writer.counts new.writer.counts
+
+pub all_kept : {W : Type 0} (C : W → Option (List ℕ)) (comments : Comments) (n : ℕ) (ls : List (List ℕ)) (old new : ReplayState W)
+    → TakesEach (ReplaysLine C comments) n ls old new → KeepsAll old new
+all_kept C comments _ _ _ _ (none n s) =
+    record { kept = (refl, refl); grow = record { empty = omega arith; interrupted = omega arith; failed = omega arith } }
+all_kept C comments _ _ _ _ (more n l ls old between new first others) =
+    let later = all_kept C comments (n + 1) ls between new others in record {
+      kept = kept_on old.member between.member new.member first.takes.kept later.kept;
+      grow = grows_on old.writer.counts between.writer.counts new.writer.counts first.takes.grow later.grow;
     }

@@ -1,16 +1,22 @@
 -- What a replay makes of one line of a capture, and of the writer that its report goes to (our choice).
-use Rattle.std.specs.Prelude.{ℕ, List, ◌≡◌, ◌⊎◌, Option}
+use Rattle.std.specs.Prelude.{ℕ, List, ◌≡◌, ◌⊎◌, Option, Result, Ok, Err}
 use Rattle.std.specs.Io.KnownBytes.{Appends, Keeps}
+use Rattle.nb_names.specs.Counted.{CountedOf}
+use Rattle.nb_names.specs.Devices.{AppendsFront, GrowTo, ShowsWriteFault}
 use Rattle.nb_member.specs.declared.comments.Comments.{Comments}
 use Rattle.nb_member.specs.declared.event.Event.{Event}
-use Rattle.nb_member.specs.declared.replay_fault.ReplayFault.{ReplayFault}
-use Rattle.nb_member.specs.declared.replay_fault.ReplayFault.TheVariants.{Line, Read, Write, NoMemory}
 use Rattle.nb_member.specs.declared.line.Line.{Line as Value}
+use Rattle.nb_member.specs.declared.lines_fault.LinesFault.{LinesFault}
+use Rattle.nb_member.specs.declared.lines_fault.LinesFault.TheVariants as lines
+use Rattle.nb_member.specs.declared.replay_fault.ReplayFault.{ReplayFault}
+use Rattle.nb_member.specs.declared.replay_fault.ReplayFault.TheVariants as replay
+use Rattle.nb_member.specs.declared.report_fault.ReportFault.{ReportFault}
+use Rattle.nb_member.specs.declared.report_fault.ReportFault.TheVariants.{Write, NoMemory}
 use Rattle.nb_member.specs.Live.{Timed}
 use Rattle.nb_member.specs.Member.{MemberValue, StandsOver}
 use Rattle.nb_member.specs.Report.{ReportOfLine}
-use Rattle.nb_member.specs.Capture.{IsMalformed, HasValue}
-use Rattle.nb_names.specs.Devices.{AppendsFront}
+use Rattle.nb_member.specs.Capture.{HasValue, Reads}
+use Rattle.nb_member.specs.Code.Members.{KeepsStation}
 
 -- ReportsLine comments m L n line new text: the member m, which stands for the fragments L, acted on line n of a capture
 -- and became new; text is the line's report
@@ -23,13 +29,6 @@ pub record ReportsLine (comments : Comments) (m : MemberValue) (L : List Timed) 
 -- MayReportLine comments m L n line new: the same, or the member stayed as it was
 abbrev pub MayReportLine : Comments → MemberValue → List Timed → ℕ → List ℕ → MemberValue → Type 0
 MayReportLine comments m L n line new = (new ≡ m) ⊎ ((text : List ℕ) × ReportsLine comments m L n line new text)
-
--- HasNoReport comments m L n line new fault: the line has no report for this fault
-abbrev pub HasNoReport : Comments → MemberValue → List Timed → ℕ → List ℕ → MemberValue → ReplayFault → Type 0
-HasNoReport comments m L n line new (Line k) = (k ≡ n) × IsMalformed line × (new ≡ m)
-HasNoReport comments m L n line new Read = ⊥
-HasNoReport comments m L n line new Write = ⊥
-HasNoReport comments m L n line new NoMemory = MayReportLine comments m L n line new
 
 -- WritesLine comments m L n line new before after: the member acted on the line, and the writer has its report
 pub record WritesLine (comments : Comments) (m : MemberValue) (L : List Timed) (n : ℕ) (line : List ℕ) (new : MemberValue) (before after : Option (List ℕ)) : Type 0 where
@@ -44,9 +43,7 @@ pub record WritesFront (comments : Comments) (m : MemberValue) (L : List Timed) 
   pub front : AppendsFront before after text
 
 -- HasNoWholeReport comments m L n line new before after fault: the line's report isn't written whole, for this fault
-abbrev pub HasNoWholeReport : Comments → MemberValue → List Timed → ℕ → List ℕ → MemberValue → Option (List ℕ) → Option (List ℕ) → ReplayFault → Type 0
-HasNoWholeReport comments m L n line new before after (Line k) = (k ≡ n) × IsMalformed line × (new ≡ m) × Keeps before after
-HasNoWholeReport comments m L n line new before after Read = ⊥
+abbrev pub HasNoWholeReport : Comments → MemberValue → List Timed → ℕ → List ℕ → MemberValue → Option (List ℕ) → Option (List ℕ) → ReportFault → Type 0
 HasNoWholeReport comments m L n line new before after Write = WritesFront comments m L n line new before after
 HasNoWholeReport comments m L n line new before after NoMemory = MayReportLine comments m L n line new × Keeps before after
 
@@ -58,3 +55,34 @@ ReportsValue m L n value new text = (comments : Comments) (line : List ℕ) → 
 -- MayReportValue m L n value new: the same, or the member stayed as it was
 abbrev pub MayReportValue : MemberValue → List Timed → ℕ → Value → MemberValue → Type 0
 MayReportValue m L n value new = (comments : Comments) (line : List ℕ) → HasValue line value → MayReportLine comments m L n line new
+
+-- ---- lines that are given to a replay
+
+-- a member, and the writer that its report goes to
+pub record ReplayState (W : Type 0) : Type 0 where
+  pub member : MemberValue
+  pub writer : CountedOf W
+
+-- ReplaysLine C comments n line said old new: the member acted on line n, which says this, and its report is written; C says
+-- what a writer has
+pub record ReplaysLine {W : Type 0} (C : W → Option (List ℕ)) (comments : Comments) (n : ℕ) (line : List ℕ) (said : Option Value) (old new : ReplayState W) : Type 0 where
+  pub writes : Reads line (Ok said) → (L : List Timed) → StandsOver old.member L
+      → WritesLine comments old.member L n line new.member (C old.writer.inner) (C new.writer.inner)
+  pub kept : KeepsStation old.member new.member
+  pub grow : GrowTo old.writer.counts new.writer.counts
+
+-- FailsReport C comments n line said old new fault: the report of line n, which says this, isn't written whole, for this fault
+pub record FailsReport {W : Type 0} (C : W → Option (List ℕ)) (comments : Comments) (n : ℕ) (line : List ℕ) (said : Option Value) (old new : ReplayState W) (fault : ReportFault) : Type 0 where
+  pub unwritten : Reads line (Ok said) → (L : List Timed) → StandsOver old.member L
+      → HasNoWholeReport comments old.member L n line new.member (C old.writer.inner) (C new.writer.inner) fault
+  pub kept : KeepsStation old.member new.member
+  pub why : fault ≡ Write → ShowsWriteFault old.writer.counts new.writer.counts
+
+-- what a replay answers where the taking of its lines ended so
+abbrev pub replay_answer : Result ℕ (LinesFault ReportFault) → Result ℕ ReplayFault
+replay_answer (Ok n) = Ok n
+replay_answer (Err (lines.Line n)) = Err (replay.Line n)
+replay_answer (Err lines.Read) = Err replay.Read
+replay_answer (Err lines.NoMemory) = Err replay.NoMemory
+replay_answer (Err (lines.NotTaken Write)) = Err replay.Write
+replay_answer (Err (lines.NotTaken NoMemory)) = Err replay.NoMemory

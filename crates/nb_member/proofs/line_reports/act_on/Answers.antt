@@ -1,18 +1,30 @@
-use Rattle.std.proofs.Common.{Option, Ok, List, ℕ, subst, sym}
+use Rattle.std.proofs.Common.{Option, Ok, List, ℕ, refl, subst, sym, inl}
+use Rattle.std.proofs.lemmas.Result.{IfOk-weaker, on_err_weaker}
 use Rattle.nb_member.specs.declared.line.Line.{Line}
-use Rattle.nb_member.proofs.ReplayLemmas.LineReports.{quiet}
+use Rattle.nb_member.proofs.ReplayLemmas.LineReports.{always_on_err, quiet}
 use Rattle.nb_member.proofs.line_reports.act_on.Goals as goal
 use Rattle.nb_member.specs.Code.ReplayLines.{ReportsLine}
 use Rattle.nb_member.specs.Capture.{Reads}
 
-pub returns-in-Ok-clause-acted : goal.returns-in-Ok-clause-acted
-returns-in-Ok-clause-acted c =
+pub returns-in-None-clause-acted : goal.returns-in-None-clause-acted
+returns-in-None-clause-acted c =
     let m = c.args.member.now in
-    let says = subst (λ (said : Option Line). Reads c.args.line.now (Ok said)) c.in-Ok-None.field-0-is c.in-Ok-None.ensures in
-    λ L s. subst (λ (bytes : List ℕ). ReportsLine c.args.comments m L c.args.number c.args.line.now m bytes) (sym c.in-Ok.ensures.written)
-    (quiet c.args.comments m L c.args.number c.args.line.now s says)
+    IfOk-weaker c.comment_line.result _ _
+    (λ text is reads L s. subst (λ (bytes : List ℕ). ReportsLine c.args.comments m L c.args.number c.args.line.now m bytes) (sym is)
+    (quiet c.args.comments m L c.args.number c.args.line.now s (subst (λ (said : Option Line). Reads c.args.line.now (Ok said)) c.in-None.is reads)))
+    c.comment_line.ensures.written
 
-pub returns-in-Ok-Some-clause-fault : goal.returns-in-Ok-Some-clause-fault
-returns-in-Ok-Some-clause-fault c =
-    let says = subst (λ (said : Option Line). Reads c.args.line.now (Ok said)) c.in-Ok-Some.field-0-is c.in-Ok-Some.ensures in
-    λ L s. c.in-Err-act.ensures.fault L s c.args.comments c.args.line.now says
+pub returns-in-None-clause-fault : goal.returns-in-None-clause-fault
+returns-in-None-clause-fault c = always_on_err c.comment_line.result (λ reads L s. inl refl)
+
+pub returns-in-Some-clause-acted : goal.returns-in-Some-clause-acted
+returns-in-Some-clause-acted c =
+    IfOk-weaker c.act.result _ _
+    (λ text acted reads L s. acted L s c.args.comments c.args.line.now (subst (λ (said : Option Line). Reads c.args.line.now (Ok said)) c.in-Some.is reads))
+    c.act.ensures.acted
+
+pub returns-in-Some-clause-fault : goal.returns-in-Some-clause-fault
+returns-in-Some-clause-fault c =
+    on_err_weaker c.act.result
+    (λ acted reads L s. acted L s c.args.comments c.args.line.now (subst (λ (said : Option Line). Reads c.args.line.now (Ok said)) c.in-Some.is reads))
+    c.act.ensures.fault

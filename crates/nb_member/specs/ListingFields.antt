@@ -1,0 +1,51 @@
+-- The fields of what a table knows of a key (our choice). Their texts are the lines of `nbt list`.
+use Rattle.std.specs.Prelude.{ℕ, List, [], ◌∷◌, ◌++◌, map, codes, Option, None, Some}
+use Rattle.nb_names.specs.NameText.{written}
+use Rattle.nb_datagram.specs.declared.key.Key.{Key}
+use Rattle.nb_datagram.specs.Datagram.{DatagramParts}
+use Rattle.nb_datagram.specs.Texts.{key_text, kind_text}
+use Rattle.nb_table.specs.declared.outline.Outline.{Outline}
+use Rattle.nb_table.specs.declared.ranges.PlaceRange.{PlaceRange}
+use Rattle.nb_table.specs.Contents.{Contents}
+use Rattle.nb_table.specs.Outline.{outline_at}
+use Rattle.nb_table.specs.Ranges.{ranges_at}
+use Rattle.nb_table.specs.Whole.{datagram_at}
+use Rattle.nb_telling.specs.Fields.{Field, Text, Number, Known, Range, Words, Begins, Ends, LineEnds}
+use Rattle.nb_member.specs.Keys.{kind_key, source_key, destination_key, listed_key, state_key, held_key, end_key, runs_key, more_key}
+use Rattle.nb_member.specs.ReportFields.{parts_fields}
+
+-- a further range
+abbrev pub further_range : PlaceRange → Field
+further_range r = Range (codes ",") r.from r.to
+
+-- ranges: the first of the places of each, and the one after its last
+abbrev pub ranges_fields : List PlaceRange → List Field
+ranges_fields [] = Words (codes " -") ∷ []
+ranges_fields (r ∷ rs) = Range (codes " ") r.from r.to ∷ map further_range rs
+
+-- the list of them
+abbrev pub places_fields : List PlaceRange → List Field
+places_fields rs = Begins (codes "places") ∷ (ranges_fields rs ++ Ends ∷ [])
+
+-- the place of a promise that reaches past all that is known, where there is one
+abbrev pub more_fields : Option ℕ → List Field
+more_fields None = []
+more_fields (Some place) = Number more_key place ∷ []
+
+-- kind, source and destination, how many bytes are held of how many, and in how many runs
+abbrev pub outline_fields : Outline → List Field
+outline_fields o =
+    Text kind_key (kind_text o.kind) ∷ Text source_key (written o.source) ∷ Text destination_key (written o.destination)
+    ∷ Number held_key o.held ∷ Known end_key o.end ∷ Number runs_key o.runs ∷ []
+
+-- what is said of a key that is held: its datagram, if it is whole, or what is known of it, or else that it is spoilt
+abbrev pub known_fields : Option DatagramParts → Option Outline → List PlaceRange → List Field
+known_fields (Some d) o rs = Text state_key (codes "whole") ∷ parts_fields d
+known_fields None (Some o) rs =
+    Text state_key (codes "partial") ∷ (outline_fields o ++ (places_fields rs ++ more_fields o.awaited))
+known_fields None None rs = Text state_key (codes "spoilt") ∷ []
+
+-- key_fields t k: of a key k that the table t holds
+abbrev pub key_fields : Contents → Key → List Field
+key_fields t k =
+    Text listed_key (key_text k) ∷ (known_fields (datagram_at t k) (outline_at t k) (ranges_at t k) ++ LineEnds ∷ [])

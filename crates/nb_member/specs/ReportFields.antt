@@ -1,0 +1,52 @@
+-- The fields of what a member makes of a line of a capture (our choice). Their texts are those of the report.
+use Rattle.std.specs.Prelude.{ℕ, List, [], ◌∷◌, ◌++◌, codes, Option, Some, None, Result, Ok, Err}
+use Rattle.nb_names.specs.NameText.{written}
+use Rattle.nb_datagram.specs.declared.packet.ErrorPacket.{ErrorPacket}
+use Rattle.nb_datagram.specs.declared.packet.Packet.TheVariants.{Error}
+use Rattle.nb_datagram.specs.Datagram.{DatagramParts}
+use Rattle.nb_datagram.specs.Texts.{key_text, kind_text}
+use Rattle.nb_datagram.specs.Packet.{packet_bytes}
+use Rattle.nb_telling.specs.Fields.{Field, Text, Number, Digits, Data, place_fields}
+use Rattle.nb_member.specs.declared.outcome.Outcome.{Outcome}
+use Rattle.nb_member.specs.declared.outcome.Outcome.TheVariants.{Kept, Spoilt, Delivered, Unheard, Other}
+use Rattle.nb_member.specs.declared.member_fault.MemberFault.{MemberFault}
+use Rattle.nb_member.specs.FaultTexts.{member_fault_place, member_fault_text}
+use Rattle.nb_member.specs.Deliveries.{error_of}
+use Rattle.nb_member.specs.Keys.{outcome_key, count_key, refused_key, error_key, key_key, kind_key, source_key, destination_key, data_key}
+
+-- a datagram's kind, source, destination and data
+abbrev pub parts_fields : DatagramParts → List Field
+parts_fields d =
+    Text kind_key (kind_text d.kind) ∷ Text source_key (written d.source) ∷ Text destination_key (written d.destination)
+    ∷ Data data_key d.bytes ∷ []
+
+-- the bytes of the error packet that is answered, if there is one
+abbrev pub error_fields : Option ErrorPacket → List Field
+error_fields None = []
+error_fields (Some e) = Digits error_key (packet_bytes (Error e)) ∷ []
+
+-- what became of a payload that was taken
+abbrev pub outcome_fields : Outcome → List Field
+outcome_fields (Kept k) = Text outcome_key (codes "kept") ∷ Text key_key (key_text k) ∷ []
+outcome_fields (Spoilt k) = Text outcome_key (codes "spoilt") ∷ Text key_key (key_text k) ∷ []
+outcome_fields (Delivered d) = Text outcome_key (codes "delivered") ∷ Text key_key (key_text d.key) ∷ parts_fields d
+outcome_fields (Unheard k error) = Text outcome_key (codes "unheard") ∷ Text key_key (key_text k) ∷ error_fields error
+outcome_fields Other = Text outcome_key (codes "other") ∷ []
+
+-- why it was refused, with the error packet that is answered
+abbrev pub refused_fields : MemberFault → List Field
+refused_fields fault =
+    Text refused_key (member_fault_text fault) ∷ (place_fields (member_fault_place fault) ++ error_fields (error_of fault))
+
+-- what became of a payload of port 138
+abbrev pub result_fields : Result Outcome MemberFault → List Field
+result_fields (Ok outcome) = outcome_fields outcome
+result_fields (Err fault) = refused_fields fault
+
+-- a payload of another port
+abbrev pub passed_fields : List Field
+passed_fields = Text outcome_key (codes "passed") ∷ []
+
+-- a look at the clock, which dropped so many keys
+abbrev pub dropped_fields : ℕ → List Field
+dropped_fields keys = Text outcome_key (codes "dropped") ∷ Number count_key keys ∷ []

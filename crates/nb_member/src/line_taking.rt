@@ -1,0 +1,97 @@
+//! Taking the lines of a capture.
+ghost use Rattle.std.specs.Prelude.{◌≡◌, ℕ, List, Err, OnOk, IfErr};
+ghost use Rattle.std.specs.Io.KnownBytes.{Consumes};
+ghost use Rattle.nb_names.specs.Devices.{ShowsUnread};
+ghost use Rattle.nb_member.specs.LineTaking.{TakesLine, TakesLines};
+ghost use Rattle.nb_member.specs.Code.LineTurns.{LineFails};
+
+use crate::capture::capture_line;
+use crate::line_fault::LineFault;
+use crate::line_read_fault::LineReadFault;
+use crate::line_reading::next_from;
+use crate::line_room::LineRoom;
+use crate::line_taker::LineTaker;
+use crate::lines_fault::LinesFault;
+use nb_names::Counted;
+use std::alloc::Global;
+use std::io::Read;
+
+/// Gives the lines of a capture to a taker in order, each as it comes, and answers their number. An
+/// input may have so many bytes.
+///
+/// A line feed ends each line; bytes after the last one are a line as well, where there are any. A
+/// line has at most [`MAX_LINE`](crate::limits::MAX_LINE) bytes, its line feed not counted. Lines
+/// are numbered from 1.
+///
+/// # Errors
+///
+/// The first that is met:
+///
+/// - [`LinesFault::Line`] for a malformed line. What neither a line feed nor the input's end has
+///   ended is judged by its length alone.
+/// - [`LinesFault::Read`] where the reader failed, was interrupted 1,024 times in a row, or gave
+///   more bytes than the input may have, and no line among the bytes that came is malformed.
+/// - [`LinesFault::NoMemory`] where memory ran out.
+/// - [`LinesFault::NotTaken`] where the taker doesn't take a line.
+///
+/// The lines before the one of the fault are taken.
+///
+/// The form of captures is our choice.
+pub fn take_lines<R: Read, T: LineTaker>(
+    alloc: Global,
+    most: u64,
+    reader: &mut Counted<R>,
+    taker: &mut T,
+) -> Result<u64, LinesFault<T::Fault>>
+    // The bytes that this call took from the reader, and what was made of them.
+    ensures taken { (bytes : List ℕ) ×
+        Consumes (R.remaining reader.old.inner) (R.remaining reader.new.inner) bytes ×
+        ((result ≡ Err LinesFault.Read →
+        ShowsUnread most bytes reader.old.counts reader.new.counts) ×
+        TakesLines (T.takes (T.beside taker.old)) (T.fails (T.beside taker.old)) most bytes
+        (R.remaining reader.new.inner) (T.state taker.old) (T.state taker.new) result) }
+    ensures beside { T.beside taker.new ≡ T.beside taker.old }
+{
+    let mut room = LineRoom::within(alloc, most);
+    let mut number = 0;
+    'lines: loop {
+        match next_from(&mut room, reader) {
+            Ok(Some(line)) => {
+                number += 1;
+                take_line(alloc, number, line, taker)?;
+            }
+            Ok(None) => return Ok(number),
+            Err(LineReadFault::TooLong) => return Err(LinesFault::Line(number + 1)),
+            Err(LineReadFault::Read) => return Err(LinesFault::Read),
+            Err(LineReadFault::NoMemory) => return Err(LinesFault::NoMemory),
+        }
+    }
+}
+
+/// Gives the line with this number to a taker.
+///
+/// # Errors
+///
+/// [`LinesFault::Line`], [`LinesFault::NoMemory`] and [`LinesFault::NotTaken`].
+fn take_line<T: LineTaker>(
+    alloc: Global,
+    number: u64,
+    line: &[u8],
+    taker: &mut T,
+) -> Result<(), LinesFault<T::Fault>>
+    ensures taken { OnOk result (TakesLine (T.takes (T.beside taker.old)) number line.now
+        (T.state taker.old) (T.state taker.new)) }
+    ensures fault { IfErr result (LineFails (T.fails (T.beside taker.old)) number line.now
+        (T.state taker.old) (T.state taker.new)) }
+    ensures beside { T.beside taker.new ≡ T.beside taker.old }
+{
+    let said = match capture_line(alloc, line) {
+        Ok(said) => said,
+        Err(LineFault::BadLine) => return Err(LinesFault::Line(number)),
+        Err(LineFault::NoMemory) => return Err(LinesFault::NoMemory),
+    };
+    match taker.take(number, line, &said) {
+        Ok(()) => Ok(()),
+        Err(fault) => Err(LinesFault::NotTaken(fault)),
+    }
+}

@@ -1,0 +1,136 @@
+//! What a member makes of a line of a capture, told to a sink.
+#![tactic(auto, using(nb_telling::proofs::FoldLemmas::told_both))]
+
+ghost use Rattle.std.specs.Prelude.{◌≡◌, OnOk, fold};
+ghost use Rattle.nb_telling.specs.Telling.{Grows};
+ghost use Rattle.nb_member.specs.ReportFields.{dropped_fields, error_fields, outcome_fields, parts_fields, passed_fields, refused_fields, result_fields};
+
+use crate::keys::{COUNT, DATA, DESTINATION, ERROR, KEY, KIND, OUTCOME, REFUSED, SOURCE};
+use crate::member_fault::MemberFault;
+use crate::outcome::{Dropped, Outcome};
+use nb_datagram::{Datagram, ErrorPacket, Packet, encode, kind_name};
+use nb_names::NoMemory;
+use nb_telling::{Sink, tell_place};
+use std::alloc::Global;
+
+/// Tells a sink what became of a payload of port 138 that a member took or refused. Memory is taken
+/// for the bytes of an error packet, and by the sink.
+///
+/// # Errors
+///
+/// [`NoMemory`] where memory ran out. What the sink had is still its front; some of the fields may
+/// be told after it.
+///
+/// The fields are our choice.
+pub fn tell_result<S: Sink>(
+    alloc: Global,
+    taken: &Result<Outcome, MemberFault>,
+    sink: &mut S,
+) -> Result<(), NoMemory>
+    ensures told { OnOk result
+        (S.seen sink.new ≡ fold S.after (S.seen sink.old) (result_fields taken.now)) }
+    ensures front { Grows S.is_front (S.seen sink.old) (S.seen sink.new) }
+{
+    match taken {
+        Ok(outcome) => tell_outcome(alloc, outcome, sink),
+        Err(fault) => tell_refused(alloc, *fault, sink),
+    }
+}
+
+/// Tells a sink that a payload isn't the member's to take.
+///
+/// # Errors
+///
+/// [`NoMemory`], as [`tell_result`] has it.
+pub fn tell_passed<S: Sink>(sink: &mut S) -> Result<(), NoMemory>
+    ensures told { OnOk result (S.seen sink.new ≡ fold S.after (S.seen sink.old) passed_fields) }
+    ensures front { Grows S.is_front (S.seen sink.old) (S.seen sink.new) }
+{
+    sink.text(OUTCOME, "passed")
+}
+
+/// Tells a sink what a look at the clock dropped.
+///
+/// # Errors
+///
+/// [`NoMemory`], as [`tell_result`] has it.
+pub fn tell_dropped<S: Sink>(dropped: Dropped, sink: &mut S) -> Result<(), NoMemory>
+    ensures told { OnOk result
+        (S.seen sink.new ≡ fold S.after (S.seen sink.old) (dropped_fields dropped.keys)) }
+    ensures front { Grows S.is_front (S.seen sink.old) (S.seen sink.new) }
+{
+    sink.text(OUTCOME, "dropped")?;
+    sink.number(COUNT, u64::from(dropped.keys))
+}
+
+/// Tells what became of a payload that was taken.
+fn tell_outcome<S: Sink>(alloc: Global, outcome: &Outcome, sink: &mut S) -> Result<(), NoMemory>
+    ensures told { OnOk result
+        (S.seen sink.new ≡ fold S.after (S.seen sink.old) (outcome_fields outcome.now)) }
+    ensures front { Grows S.is_front (S.seen sink.old) (S.seen sink.new) }
+{
+    match outcome {
+        Outcome::Kept(key) => {
+            sink.text(OUTCOME, "kept")?;
+            sink.shown(KEY, key)
+        }
+        Outcome::Spoilt(key) => {
+            sink.text(OUTCOME, "spoilt")?;
+            sink.shown(KEY, key)
+        }
+        Outcome::Delivered(datagram) => {
+            sink.text(OUTCOME, "delivered")?;
+            sink.shown(KEY, &datagram.key())?;
+            tell_parts(datagram, sink)
+        }
+        Outcome::Unheard(key, error) => {
+            sink.text(OUTCOME, "unheard")?;
+            sink.shown(KEY, key)?;
+            tell_error(alloc, *error, sink)
+        }
+        Outcome::Other => sink.text(OUTCOME, "other"),
+    }
+}
+
+/// Tells why a payload was refused.
+fn tell_refused<S: Sink>(alloc: Global, fault: MemberFault, sink: &mut S) -> Result<(), NoMemory>
+    ensures told { OnOk result
+        (S.seen sink.new ≡ fold S.after (S.seen sink.old) (refused_fields fault)) }
+    ensures front { Grows S.is_front (S.seen sink.old) (S.seen sink.new) }
+{
+    sink.displayed(REFUSED, fault)?;
+    tell_place(fault.place(), sink)?;
+    match fault {
+        MemberFault::Packet(_, error) => tell_error(alloc, error, sink),
+        MemberFault::Table(_) => Ok(()),
+    }
+}
+
+/// Tells a datagram's kind, source, destination and data.
+pub(crate) fn tell_parts<S: Sink>(datagram: &Datagram, sink: &mut S) -> Result<(), NoMemory>
+    ensures told { OnOk result
+        (S.seen sink.new ≡ fold S.after (S.seen sink.old) (parts_fields datagram.now)) }
+    ensures front { Grows S.is_front (S.seen sink.old) (S.seen sink.new) }
+{
+    sink.text(KIND, kind_name(datagram.kind()))?;
+    sink.shown(SOURCE, datagram.source())?;
+    sink.shown(DESTINATION, datagram.destination())?;
+    sink.data(DATA, datagram.bytes())
+}
+
+/// Tells the bytes of an error packet, if there is one.
+fn tell_error<S: Sink>(
+    alloc: Global,
+    error: Option<ErrorPacket>,
+    sink: &mut S,
+) -> Result<(), NoMemory>
+    ensures told { OnOk result
+        (S.seen sink.new ≡ fold S.after (S.seen sink.old) (error_fields error)) }
+    ensures front { Grows S.is_front (S.seen sink.old) (S.seen sink.new) }
+{
+    let Some(error) = error else {
+        return Ok(());
+    };
+    let bytes = encode(alloc, &Packet::Error(error))?;
+    sink.digits(ERROR, bytes.as_slice())
+}

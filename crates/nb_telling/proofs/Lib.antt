@@ -1,0 +1,3 @@
+pub mod FoldLemmas
+pub mod SetLemmas
+pub mod MemberLemmas

@@ -1,0 +1,6 @@
+pub mod Fields
+pub mod Sets
+pub mod Texts
+pub mod Tokens
+pub mod Telling
+pub mod Members

@@ -1,0 +1,31 @@
+-- Fields as text.
+use Rattle.std.specs.Prelude.{ℕ, List, [], ◌∷◌, ◌++◌, codes, Option, Some, None}
+use Rattle.std.specs.Fmt.{decimal}
+use Rattle.std.specs.List.{flat_map}
+use Rattle.nb_names.specs.Hexadecimal.{data_text, digits_text}
+use Rattle.nb_telling.specs.Fields.{Field, Text, Number, Digits, Data, Set, Known, Range, Words, At, Begins, Ends, Part, PartEnds, LineEnds}
+use Rattle.nb_telling.specs.Sets.{joined}
+
+-- a number, or `?` where it isn't known
+abbrev pub known_text : Option ℕ → List ℕ
+known_text None = codes "?"
+known_text (Some n) = decimal n
+
+abbrev pub field_text : Field → List ℕ
+field_text (Text key text) = key.lead ++ text
+field_text (Number key n) = key.lead ++ decimal n
+field_text (Digits key bytes) = key.lead ++ digits_text bytes
+field_text (Data key bytes) = key.lead ++ data_text bytes
+field_text (Set key names) = key.lead ++ joined names
+field_text (Known key n) = key.lead ++ known_text n
+field_text (Range lead from to) = lead ++ (decimal from ++ (codes "-" ++ decimal to))
+field_text (Words words) = words
+field_text (At n) = []
+field_text (Begins name) = []
+field_text Ends = []
+field_text (Part lead) = lead
+field_text PartEnds = []
+field_text LineEnds = 10 ∷ []
+
+abbrev pub text_of : List Field → List ℕ
+text_of = flat_map field_text

@@ -1,0 +1,118 @@
+//! What fields are told to.
+ghost use Rattle.std.specs.Prelude.{◌≡◌, IfSome, OnOk};
+ghost use Rattle.nb_telling.specs.Fields.{Field, Text, Number, Digits, Data, Set, Known, Range, Words, At, Begins, Ends, Part, PartEnds, LineEnds};
+ghost use Rattle.nb_telling.specs.Sets.{names_of};
+ghost use Rattle.nb_telling.specs.Telling.{Grows, key_of};
+
+use crate::field_key::FieldKey;
+use crate::flag::Flag;
+use crate::shows::Shows;
+use nb_names::NoMemory;
+use std::fmt::Display;
+
+/// What fields are told to, one after the other.
+///
+/// Each call answers [`NoMemory`] where memory ran out. Some of the field may then be told: what
+/// stood in the sink before is still its front.
+pub trait Sink {
+    /// What is seen of a sink: all that was told to it, in its form.
+    type Seen;
+
+    /// What is seen of it.
+    ghost seen: { Self → Self.Seen };
+
+    /// What is seen after a field was told.
+    ghost after: { Self.Seen → Field → Self.Seen };
+
+    /// Whether the first is a front of the second.
+    ghost is_front: { Self.Seen → Self.Seen → Type 0 };
+
+    /// Tells a text.
+    fn text(&mut self, key: FieldKey, value: &str) -> Result<(), NoMemory>
+        ensures told { OnOk result
+            (seen self.new ≡ after (seen self.old) (Text (key_of key) value.now)) }
+        ensures front { Grows is_front (seen self.old) (seen self.new) };
+
+    /// Tells the text of a value.
+    fn shown<T: Shows>(&mut self, key: FieldKey, value: &T) -> Result<(), NoMemory>
+        ensures told { OnOk result
+            (seen self.new ≡ after (seen self.old) (Text (key_of key) (T.shown value.now))) }
+        ensures front { Grows is_front (seen self.old) (seen self.new) };
+
+    /// Tells the text that a value is displayed as, of at most 128 bytes, such as a fault's.
+    fn displayed<D: Display + Drop>(&mut self, key: FieldKey, value: D) -> Result<(), NoMemory>
+        ensures told { OnOk result (IfSome (D.output value) (λ shown.
+            seen self.new ≡ after (seen self.old) (Text (key_of key) shown))) }
+        ensures front { Grows is_front (seen self.old) (seen self.new) };
+
+    /// Tells a number.
+    fn number(&mut self, key: FieldKey, value: u64) -> Result<(), NoMemory>
+        ensures told { OnOk result
+            (seen self.new ≡ after (seen self.old) (Number (key_of key) value)) }
+        ensures front { Grows is_front (seen self.old) (seen self.new) };
+
+    /// Tells bytes as hexadecimal digits.
+    fn digits(&mut self, key: FieldKey, value: &[u8]) -> Result<(), NoMemory>
+        ensures told { OnOk result
+            (seen self.new ≡ after (seen self.old) (Digits (key_of key) value.now)) }
+        ensures front { Grows is_front (seen self.old) (seen self.new) };
+
+    /// Tells data, which may have no byte.
+    fn data(&mut self, key: FieldKey, value: &[u8]) -> Result<(), NoMemory>
+        ensures told { OnOk result
+            (seen self.new ≡ after (seen self.old) (Data (key_of key) value.now)) }
+        ensures front { Grows is_front (seen self.old) (seen self.new) };
+
+    /// Tells the names of the flags that are set.
+    fn set(&mut self, key: FieldKey, flags: &[Flag]) -> Result<(), NoMemory>
+        ensures told { OnOk result
+            (seen self.new ≡ after (seen self.old) (Set (key_of key) (names_of flags.now))) }
+        ensures front { Grows is_front (seen self.old) (seen self.new) };
+
+    /// Tells a number, where it is known.
+    fn known(&mut self, key: FieldKey, value: Option<u64>) -> Result<(), NoMemory>
+        ensures told { OnOk result
+            (seen self.new ≡ after (seen self.old) (Known (key_of key) value)) }
+        ensures front { Grows is_front (seen self.old) (seen self.new) };
+
+    /// Tells a part of a list that is two numbers, which begins so in text.
+    fn range(&mut self, lead: &str, from: u64, to: u64) -> Result<(), NoMemory>
+        ensures told { OnOk result
+            (seen self.new ≡ after (seen self.old) (Range lead.now from to)) }
+        ensures front { Grows is_front (seen self.old) (seen self.new) };
+
+    /// Tells words that stand in text alone.
+    fn words(&mut self, words: &str) -> Result<(), NoMemory>
+        ensures told { OnOk result (seen self.new ≡ after (seen self.old) (Words words.now)) }
+        ensures front { Grows is_front (seen self.old) (seen self.new) };
+
+    /// Tells the place of a fault.
+    fn at(&mut self, place: u64) -> Result<(), NoMemory>
+        ensures told { OnOk result (seen self.new ≡ after (seen self.old) (At place)) }
+        ensures front { Grows is_front (seen self.old) (seen self.new) };
+
+    /// Begins a list of this name.
+    fn begins(&mut self, name: &str) -> Result<(), NoMemory>
+        ensures told { OnOk result (seen self.new ≡ after (seen self.old) (Begins name.now)) }
+        ensures front { Grows is_front (seen self.old) (seen self.new) };
+
+    /// Ends a list.
+    fn ends(&mut self) -> Result<(), NoMemory>
+        ensures told { OnOk result (seen self.new ≡ after (seen self.old) Ends) }
+        ensures front { Grows is_front (seen self.old) (seen self.new) };
+
+    /// Begins a part of a list, which begins so in text.
+    fn part(&mut self, lead: &str) -> Result<(), NoMemory>
+        ensures told { OnOk result (seen self.new ≡ after (seen self.old) (Part lead.now)) }
+        ensures front { Grows is_front (seen self.old) (seen self.new) };
+
+    /// Ends a part of a list.
+    fn part_ends(&mut self) -> Result<(), NoMemory>
+        ensures told { OnOk result (seen self.new ≡ after (seen self.old) PartEnds) }
+        ensures front { Grows is_front (seen self.old) (seen self.new) };
+
+    /// Ends a line of text.
+    fn line_ends(&mut self) -> Result<(), NoMemory>
+        ensures told { OnOk result (seen self.new ≡ after (seen self.old) LineEnds) }
+        ensures front { Grows is_front (seen self.old) (seen self.new) };
+}

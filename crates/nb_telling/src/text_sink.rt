@@ -1,0 +1,136 @@
+//! Fields as text.
+#![tactic(auto, using(nb_names::specs::GrowthFacts::front_stays))]
+
+ghost use Rattle.std.specs.Prelude.{◌≡◌, ◌++◌, OnOk, string_bytes};
+ghost use Rattle.nb_names.specs.Growth.{OnlyAdds};
+ghost use Rattle.nb_telling.specs.Sets.{joined, names_of};
+
+use crate::field_key::FieldKey;
+use crate::flag::Flag;
+use crate::shows::Shows;
+use crate::sink::Sink;
+use nb_names::{Bytes, NoMemory, push_data, push_digits, push_number, push_shown};
+use std::fmt::Display;
+
+/// Adds each field's text. Nothing is there of the places of faults, which the faults' texts have,
+/// and of where lists begin and end.
+impl Sink for String {
+    type Seen = Bytes;
+
+    ghost use Rattle.std.specs.Prelude.{◌++◌, string_bytes};
+    ghost use Rattle.nb_names.specs.Growth.{IsFrontOf};
+    ghost use Rattle.nb_telling.specs.Texts.{field_text};
+
+    ghost seen = { λ text. string_bytes text };
+
+    ghost after = { λ bytes field. bytes ++ field_text field };
+
+    ghost is_front = { IsFrontOf };
+
+    fn text(&mut self, key: FieldKey, value: &str) -> Result<(), NoMemory> {
+        self.push_str(key.lead)?;
+        self.push_str(value)?;
+        Ok(())
+    }
+
+    fn shown<T: Shows>(&mut self, key: FieldKey, value: &T) -> Result<(), NoMemory> {
+        self.push_str(key.lead)?;
+        value.push_to(self)
+    }
+
+    fn displayed<D: Display + Drop>(&mut self, key: FieldKey, value: D) -> Result<(), NoMemory> {
+        self.push_str(key.lead)?;
+        push_shown(value, self)
+    }
+
+    fn number(&mut self, key: FieldKey, value: u64) -> Result<(), NoMemory> {
+        self.push_str(key.lead)?;
+        push_number(value, self)
+    }
+
+    fn digits(&mut self, key: FieldKey, value: &[u8]) -> Result<(), NoMemory> {
+        self.push_str(key.lead)?;
+        push_digits(value, self)
+    }
+
+    fn data(&mut self, key: FieldKey, value: &[u8]) -> Result<(), NoMemory> {
+        self.push_str(key.lead)?;
+        push_data(value, self)
+    }
+
+    fn set(&mut self, key: FieldKey, flags: &[Flag]) -> Result<(), NoMemory> {
+        self.push_str(key.lead)?;
+        push_names(flags, self)
+    }
+
+    fn known(&mut self, key: FieldKey, value: Option<u64>) -> Result<(), NoMemory> {
+        self.push_str(key.lead)?;
+        match value {
+            Some(value) => push_number(value, self),
+            None => {
+                self.push_str("?")?;
+                Ok(())
+            }
+        }
+    }
+
+    fn range(&mut self, lead: &str, from: u64, to: u64) -> Result<(), NoMemory> {
+        self.push_str(lead)?;
+        push_number(from, self)?;
+        self.push_str("-")?;
+        push_number(to, self)
+    }
+
+    fn words(&mut self, words: &str) -> Result<(), NoMemory> {
+        self.push_str(words)?;
+        Ok(())
+    }
+
+    fn at(&mut self, _place: u64) -> Result<(), NoMemory> {
+        Ok(())
+    }
+
+    fn begins(&mut self, _name: &str) -> Result<(), NoMemory> {
+        Ok(())
+    }
+
+    fn ends(&mut self) -> Result<(), NoMemory> {
+        Ok(())
+    }
+
+    fn part(&mut self, lead: &str) -> Result<(), NoMemory> {
+        self.push_str(lead)?;
+        Ok(())
+    }
+
+    fn part_ends(&mut self) -> Result<(), NoMemory> {
+        Ok(())
+    }
+
+    fn line_ends(&mut self) -> Result<(), NoMemory> {
+        self.push_str("\n")?;
+        Ok(())
+    }
+}
+
+/// Adds the names of the flags that are set, with `+` between them, or `none`.
+fn push_names(flags: &[Flag], text: &mut String) -> Result<(), NoMemory>
+    ensures added { OnOk result
+        (string_bytes text.new ≡ string_bytes text.old ++ joined (names_of flags.now)) }
+    ensures front { OnlyAdds (string_bytes text.old) (string_bytes text.new) }
+{
+    let mut none = true;
+    for flag in flags {
+        if flag.is_set {
+            if !none {
+                text.push_str("+")?;
+            }
+            text.push_str(flag.name)?;
+            none = false;
+        }
+    }
+    if none {
+        text.push_str("none")?;
+    }
+    Ok(())
+}

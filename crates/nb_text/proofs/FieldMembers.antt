@@ -1,0 +1,150 @@
+-- The fields of a payload are members of an object: each list and each part ends.
+use Rattle.std.proofs.Common.{ℕ, nat_lt, ◌==◌, Bool, true, false, List, [], ◌∷◌, ◌++◌, length, take, codes, flat_map, Option, Some, None, if◌then◌else◌}
+use Rattle.std.specs.List.{AllByRecursion}
+use Rattle.nb_names.specs.Addresses.{address_text}
+use Rattle.nb_names.specs.NameText.{written}
+use Rattle.nb_service.specs.declared.address_entry.AddressEntry.{AddressEntry}
+use Rattle.nb_service.specs.declared.kinds.TheConstants.{NB, NBSTAT}
+use Rattle.nb_service.specs.declared.node_name.NodeName.{NodeName}
+use Rattle.nb_service.specs.declared.question.Question.{Question}
+use Rattle.nb_service.specs.Flags.{opcode_of, rcode_of, ont_of}
+use Rattle.nb_service.specs.Header.{PacketHeader}
+use Rattle.nb_service.specs.Packet.{ServicePacket, header_of}
+use Rattle.nb_service.specs.Record.{ResourceData, of_bytes, of_domain, ResourceRecord}
+use Rattle.nb_service.specs.Views.{StatusParts, entries_in, status_in}
+use Rattle.nb_datagram.specs.declared.packet.Packet.{Packet}
+use Rattle.nb_datagram.specs.declared.packet.Packet.TheVariants.{Direct, Error, Query}
+use Rattle.nb_session.specs.declared.packet.Packet.{Packet as SessionPacket}
+use Rattle.nb_session.specs.declared.packet.Packet.TheVariants.{Message, Request, Positive, Negative, Retarget, Keepalive}
+use Rattle.nb_session.specs.declared.parsing.Parsed.{Parsed}
+use Rattle.nb_session.specs.declared.parsing.Parsed.TheVariants.{Whole, More, Refused}
+use Rattle.nb_telling.specs.Fields.{Field, FieldKey, Text, Number, Digits, Set, LineEnds}
+use Rattle.nb_telling.specs.Members.{AreMembers, AreParts, IsMember, nothing, member, list, both, no_part, part, parts}
+use Rattle.nb_text.specs.DatagramFields as datagrams
+use Rattle.nb_text.specs.Keys.{op_key, flags_key, rcode_key, name_key, ttl_key, ont_key, address_key, set_key, unit_key}
+use Rattle.nb_text.specs.LineFields.{used_fields, refused_fields, list_fields}
+use Rattle.nb_text.specs.ServiceFields.{word_field, named_field, named_fields, header_fields, question_fields, rdata_field, entry_fields, node_name_fields, unit_fields, status_fields, view_fields, record_fields, service_fields}
+use Rattle.nb_text.specs.SessionFields as sessions
+use Rattle.nb_text.specs.Tells.{Tells, names, no_names, datagram, no_datagram, session}
+use Rattle.nb_text.specs.Words.{operation_word, rcode_word, names_set, name_flags}
+
+-- fields each of which is a member
+all_members : {depth : ℕ} (fields : List Field) → AllByRecursion IsMember fields → AreMembers depth fields
+all_members [] h = nothing
+all_members (field ∷ fields) h = both (field ∷ []) fields (member field h.0) (all_members fields h.1)
+
+-- parts, one for each item
+each_part : {A : Type 0} {depth : ℕ} (fields : A → List Field) (xs : List A) → ((x : A) → AreParts depth (fields x))
+    → AreParts depth (flat_map fields xs)
+each_part fields [] each = no_part
+each_part fields (x ∷ xs) each = parts (fields x) (flat_map fields xs) (each x) (each_part fields xs each)
+
+-- ---- lines
+
+refused_members : {depth : ℕ} (fault : List ℕ) (place : Option ℕ) → AreMembers depth (refused_fields fault place)
+refused_members fault None = all_members (refused_fields fault None) (tt, (tt, tt))
+refused_members fault (Some at) = all_members (refused_fields fault (Some at)) (tt, (tt, (tt, tt)))
+
+used_members : {depth : ℕ} (used : ℕ) → AreMembers depth (used_fields used)
+used_members used = all_members (used_fields used) (tt, (tt, tt))
+
+-- ---- ports 139 and 138
+
+session_parts : {depth : ℕ} (packet : SessionPacket) → AreMembers depth (sessions.parts_fields packet)
+session_parts (Message bytes) = all_members (sessions.parts_fields (Message bytes)) (tt, (tt, (tt, tt)))
+session_parts (Request called calling) = all_members (sessions.parts_fields (Request called calling)) (tt, (tt, (tt, tt)))
+session_parts Positive = all_members (sessions.parts_fields Positive) (tt, tt)
+session_parts (Negative code) = all_members (sessions.parts_fields (Negative code)) (tt, (tt, tt))
+session_parts (Retarget address port) = all_members (sessions.parts_fields (Retarget address port)) (tt, (tt, (tt, tt)))
+session_parts Keepalive = all_members (sessions.parts_fields Keepalive) (tt, tt)
+
+session_members : {depth : ℕ} (parsed : Parsed) → AreMembers depth (sessions.session_fields parsed)
+session_members (Whole packet used) = both (sessions.parts_fields packet) (used_fields used) (session_parts packet) (used_members used)
+session_members (More needed) = all_members (sessions.session_fields (More needed)) (tt, (tt, tt))
+session_members (Refused fault) = refused_members _ _
+
+datagram_parts : {depth : ℕ} (packet : Packet) → AreMembers depth (datagrams.parts_fields packet)
+datagram_parts (Direct f) = all_members (datagrams.parts_fields (Direct f)) (tt, (tt, (tt, (tt, (tt, (tt, (tt, tt)))))))
+datagram_parts (Error e) = all_members (datagrams.parts_fields (Error e)) (tt, (tt, (tt, (tt, tt))))
+datagram_parts (Query q) = all_members (datagrams.parts_fields (Query q)) (tt, (tt, (tt, (tt, tt))))
+
+datagram_members : {depth : ℕ} (packet : Packet) (used : ℕ) → AreMembers depth (datagrams.datagram_fields packet used)
+datagram_members packet used = both (datagrams.parts_fields packet) (used_fields used) (datagram_parts packet) (used_members used)
+
+-- ---- port 137
+
+named_member : (key : FieldKey) (word : Option (List ℕ)) (n : ℕ) → IsMember (named_field key word n)
+named_member key None n = tt
+named_member key (Some word) n = tt
+
+header_members : {depth : ℕ} (header : PacketHeader) (used : ℕ) → AreMembers depth (header_fields header used)
+header_members header used =
+    let operation = named_member op_key (operation_word (opcode_of header.word)) (opcode_of header.word) in
+    let outcome = named_member rcode_key (rcode_word (rcode_of header.word)) (rcode_of header.word) in
+    all_members (header_fields header used)
+    (tt, (tt, (operation, (tt, (outcome, (tt, (tt, (tt, (tt, (tt, (tt, tt)))))))))))
+
+question_part : {depth : ℕ} (question : Question) → AreParts depth (question_fields question)
+question_part question =
+    let members = named_fields question.name question.kind question.class ++ LineEnds ∷ [] in
+    part (codes "  question") members (all_members members (tt, (tt, (tt, (tt, tt)))))
+
+entry_part : {depth : ℕ} (entry : AddressEntry) → AreParts depth (entry_fields entry)
+entry_part entry =
+    let members = word_field flags_key entry.flags ∷ Number ont_key (ont_of entry.flags)
+    ∷ Text address_key (address_text entry.address) ∷ LineEnds ∷ [] in
+    part (codes "    entry") members (all_members members (tt, (tt, (tt, (tt, tt)))))
+
+node_name_part : {depth : ℕ} (name : NodeName) → AreParts depth (node_name_fields name)
+node_name_part name =
+    let members = Text name_key (written (record { bytes = name.bytes; scope = [] })) ∷ word_field flags_key name.flags
+    ∷ Number ont_key (ont_of name.flags) ∷ Set set_key (names_set name_flags name.flags) ∷ LineEnds ∷ [] in
+    part (codes "    name") members (all_members members (tt, (tt, (tt, (tt, (tt, tt))))))
+
+unit_members : {depth : ℕ} (statistics : List ℕ) → AreMembers depth (unit_fields statistics)
+unit_members {depth} statistics = either (nat_lt (length statistics) 6) where
+  either : (short : Bool) → AreMembers depth (if short then [] else Digits unit_key (take 6 statistics) ∷ LineEnds ∷ [])
+  either true = nothing
+  either false = all_members _ (tt, (tt, tt))
+
+status_members : (status : StatusParts) → AreMembers 1 (status_fields status)
+status_members status =
+    both (list_fields (codes "names") (flat_map node_name_fields status.names)) (unit_fields status.statistics)
+    (list (codes "names") _ (each_part node_name_fields status.names node_name_part)) (unit_members status.statistics)
+
+view_members : (entry : ResourceRecord) → AreMembers 1 (view_fields entry)
+view_members entry = either (entry.kind == NB) (entry.kind == NBSTAT) where
+  either : (nb nbstat : Bool) → AreMembers 1
+      (if nb then list_fields (codes "entries") (flat_map entry_fields (entries_in entry))
+      else if nbstat then status_fields (status_in entry) else [])
+  either true nbstat = list (codes "entries") _ (each_part entry_fields (entries_in entry) entry_part)
+  either false true = status_members (status_in entry)
+  either false false = nothing
+
+rdata_member : (rdata : ResourceData) → IsMember (rdata_field rdata)
+rdata_member (of_bytes bytes) = tt
+rdata_member (of_domain labels) = tt
+
+record_part : (lead : List ℕ) (entry : ResourceRecord) → AreParts 1 (record_fields lead entry)
+record_part lead entry =
+    let line = named_fields entry.name entry.kind entry.class ++ Number ttl_key entry.ttl ∷ rdata_field entry.rdata ∷ LineEnds ∷ [] in
+    part lead (line ++ view_fields entry)
+    (both line (view_fields entry) (all_members line (tt, (tt, (tt, (tt, (rdata_member entry.rdata, (tt, tt))))))) (view_members entry))
+
+section_members : (name lead : List ℕ) (entries : List ResourceRecord) → AreMembers 2 (list_fields name (flat_map (record_fields lead) entries))
+section_members name lead entries = list name _ (each_part (record_fields lead) entries (record_part lead))
+
+service_members : (packet : ServicePacket) (used : ℕ) → AreMembers 2 (service_fields packet used)
+service_members packet used =
+    both _ _ (header_members (header_of packet) used)
+    (both _ _ (list (codes "questions") _ (each_part question_fields packet.questions question_part))
+    (both _ _ (section_members (codes "answers") (codes "  answer") packet.answers)
+    (both _ _ (section_members (codes "authorities") (codes "  authority") packet.authorities)
+    (section_members (codes "additional") (codes "  additional") packet.additional))))
+
+pub fields_members : (payload : List ℕ) (port : ℕ) (fields : List Field) → Tells payload port fields → AreMembers 2 fields
+fields_members payload _ _ (names packet used h) = service_members packet used
+fields_members payload _ _ (no_names fault h) = refused_members _ _
+fields_members payload _ _ (datagram packet used h) = datagram_members packet used
+fields_members payload _ _ (no_datagram fault h) = refused_members _ _
+fields_members payload _ _ (session port parsed a b h) = session_members parsed

@@ -1,0 +1,5 @@
+use Rattle.nb_text.proofs.FieldMembers.{fields_members}
+use Rattle.nb_text.proofs.laws.fields_are_members.Goals as goal
+
+pub returns : goal.returns
+returns c = fields_members

@@ -1,0 +1,10 @@
+use Rattle.std.proofs.Common.{◌≡◌, take, fold}
+use Rattle.std.specs.List.{flat_map}
+use Rattle.nb_telling.specs.Telling.{Grows}
+use Rattle.nb_text.specs.ServiceFields.{entry_fields}
+use Rattle.nb_text.proofs.records.tell_each.Given as goal
+
+abbrev pub invariant-loop-place : goal.invariant-loop-place
+invariant-loop-place g l =
+    (g.S.Sink.seen l.sink ≡ fold g.S.Sink.after (g.S.Sink.seen l.fn.sink) (flat_map entry_fields (take l.place l.entries)))
+    × Grows g.S.Sink.is_front (g.S.Sink.seen l.fn.sink) (g.S.Sink.seen l.sink)

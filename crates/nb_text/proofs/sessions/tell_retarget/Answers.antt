@@ -1,0 +1,14 @@
+use Rattle.std.proofs.Common.{ap, ap₂, ◌∙◌}
+use Rattle.std.proofs.lemmas.Result.{on_ok_weaker}
+use Rattle.nb_names.specs.Addresses.{address_text}
+use Rattle.nb_telling.specs.Fields.{Text, Number}
+use Rattle.nb_text.specs.Keys.{address_key, to_port_key}
+use Rattle.nb_text.proofs.sessions.tell_retarget.Goals as goal
+
+pub returns-clause-told : goal.returns-clause-told
+returns-clause-told g c =
+    on_ok_weaker c.number.result
+    (λ told. told ∙ ap₂ (λ s n. g.S.Sink.after s (Number to_port_key n))
+    (c.in_ok-shown.ensures.told ∙ ap (λ s. g.S.Sink.after s (Text address_key (address_text c.args.address))) c.in_ok-text.ensures.told)
+    c.from.ensures)
+    c.number.ensures.told

@@ -1,0 +1,113 @@
+-- The fields of a name service packet, port 137 (our choice): those of the header, then lists of the questions and of the
+-- records, each with the parts of its RDATA.
+use Rattle.std.specs.Prelude.{ℕ, nat_lt, ◌==◌, List, [], ◌∷◌, ◌++◌, length, take, codes, Option, Some, None, if◌then◌else◌}
+use Rattle.std.specs.Int.{w16, to_be_bytes}
+use Rattle.std.specs.List.{flat_map}
+use Rattle.nb_names.specs.Addresses.{address_text}
+use Rattle.nb_names.specs.NameText.{labels_written, written}
+use Rattle.nb_service.specs.declared.address_entry.AddressEntry.{AddressEntry}
+use Rattle.nb_service.specs.declared.kinds.TheConstants.{NB, NBSTAT}
+use Rattle.nb_service.specs.declared.node_name.NodeName.{NodeName}
+use Rattle.nb_service.specs.declared.question.Question.{Question}
+use Rattle.nb_service.specs.Flags.{opcode_of, rcode_of, ont_of}
+use Rattle.nb_service.specs.Header.{PacketHeader}
+use Rattle.nb_service.specs.Packet.{ServicePacket, header_of}
+use Rattle.nb_service.specs.Record.{ResourceData, of_bytes, of_domain, ResourceRecord}
+use Rattle.nb_service.specs.Views.{StatusParts, entries_in, status_in}
+use Rattle.nb_telling.specs.Fields.{Field, FieldKey, Text, Number, Digits, Data, Set, Part, PartEnds, LineEnds}
+use Rattle.nb_text.specs.Keys.{id_key, word_key, op_key, flags_key, rcode_key, qd_key, an_key, ns_key, ar_key, name_key, type_key, class_key, ttl_key, data_key, domain_key, ont_key, address_key, set_key, unit_key}
+use Rattle.nb_text.specs.LineFields.{used_fields, list_fields}
+use Rattle.nb_text.specs.Words.{operation_word, rcode_word, names_set, packet_flags, name_flags}
+
+-- ---- the header
+
+-- a number of sixteen bits, as four digits
+abbrev pub word_field : FieldKey → ℕ → Field
+word_field key n = Digits key (to_be_bytes w16 n)
+
+-- a number by its name, where it has one
+abbrev pub named_field : FieldKey → Option (List ℕ) → ℕ → Field
+named_field key (Some word) n = Text key word
+named_field key None n = Number key n
+
+-- what the flag word says
+abbrev pub state_fields : ℕ → List Field
+state_fields word =
+    named_field op_key (operation_word (opcode_of word)) (opcode_of word)
+    ∷ Set flags_key (names_set packet_flags word)
+    ∷ named_field rcode_key (rcode_word (rcode_of word)) (rcode_of word) ∷ []
+
+-- how many questions, answers, authorities and additional records there are
+abbrev pub count_fields : PacketHeader → List Field
+count_fields header =
+    Number qd_key header.questions ∷ Number an_key header.answers ∷ Number ns_key header.authorities
+    ∷ Number ar_key header.additional ∷ []
+
+-- header_fields header used: of a packet that takes up so many bytes
+abbrev pub header_fields : PacketHeader → ℕ → List Field
+header_fields header used =
+    word_field id_key header.id ∷ word_field word_key header.word
+    ∷ (state_fields header.word ++ (count_fields header ++ used_fields used))
+
+-- ---- questions and records
+
+-- named_fields labels kind class: what questions and records have
+abbrev pub named_fields : List (List ℕ) → ℕ → ℕ → List Field
+named_fields labels kind class =
+    Text name_key (labels_written labels) ∷ word_field type_key kind ∷ word_field class_key class ∷ []
+
+-- a question
+abbrev pub question_fields : Question → List Field
+question_fields question =
+    Part (codes "  question") ∷ (named_fields question.name question.kind question.class ++ LineEnds ∷ PartEnds ∷ [])
+
+-- RDATA: its bytes, or the name in a record of kind NS
+abbrev pub rdata_field : ResourceData → Field
+rdata_field (of_bytes bytes) = Data data_key bytes
+rdata_field (of_domain labels) = Text domain_key (labels_written labels)
+
+-- an address entry
+abbrev pub entry_fields : AddressEntry → List Field
+entry_fields entry =
+    Part (codes "    entry") ∷ word_field flags_key entry.flags ∷ Number ont_key (ont_of entry.flags)
+    ∷ Text address_key (address_text entry.address) ∷ LineEnds ∷ PartEnds ∷ []
+
+-- one of a node's names, which has no scope
+abbrev pub node_name_fields : NodeName → List Field
+node_name_fields name =
+    Part (codes "    name") ∷ Text name_key (written (record { bytes = name.bytes; scope = [] }))
+    ∷ word_field flags_key name.flags ∷ Number ont_key (ont_of name.flags)
+    ∷ Set set_key (names_set name_flags name.flags) ∷ LineEnds ∷ PartEnds ∷ []
+
+-- the unit that a node's statistics begin with, where there are as many bytes
+abbrev pub unit_fields : List ℕ → List Field
+unit_fields statistics =
+    if nat_lt (length statistics) 6 then [] else Digits unit_key (take 6 statistics) ∷ LineEnds ∷ []
+
+-- a node's names, and its unit
+abbrev pub status_fields : StatusParts → List Field
+status_fields status = list_fields (codes "names") (flat_map node_name_fields status.names) ++ unit_fields status.statistics
+
+-- what the RDATA of a record of kind NB or NBSTAT says; lists are empty where it hasn't the form
+abbrev pub view_fields : ResourceRecord → List Field
+view_fields entry =
+    if entry.kind == NB then list_fields (codes "entries") (flat_map entry_fields (entries_in entry))
+    else if entry.kind == NBSTAT then status_fields (status_in entry)
+    else []
+
+-- record_fields lead entry: a record, which begins so in text
+abbrev pub record_fields : List ℕ → ResourceRecord → List Field
+record_fields lead entry =
+    Part lead ∷ (named_fields entry.name entry.kind entry.class
+    ++ Number ttl_key entry.ttl ∷ rdata_field entry.rdata ∷ LineEnds ∷ (view_fields entry ++ PartEnds ∷ []))
+
+-- ---- the packet
+
+-- service_fields packet used: the packet, which takes up so many bytes
+abbrev pub service_fields : ServicePacket → ℕ → List Field
+service_fields packet used =
+    header_fields (header_of packet) used
+    ++ (list_fields (codes "questions") (flat_map question_fields packet.questions)
+    ++ (list_fields (codes "answers") (flat_map (record_fields (codes "  answer")) packet.answers)
+    ++ (list_fields (codes "authorities") (flat_map (record_fields (codes "  authority")) packet.authorities)
+    ++ list_fields (codes "additional") (flat_map (record_fields (codes "  additional")) packet.additional))))

@@ -1,7 +1,6 @@
 -- What `nbt merge` and `nbt agree` have done once the tables of the whole input are read.
-use Rattle.std.proofs.Common.{◌≡◌, ◌≢◌, ◌⊎◌, inl, inr, ◌≤◌, ◌<◌, ◌+◌, ◌++◌, [], ◌∷◌, ℕ, List, length, take, drop, get_or, slice_get, slice_index_or, Option, Some, refl, sym, ap, ◌∙◌, ap₂, subst, suc, arith, Result, Ok, Err, OnOk, IfErr}
-use Rattle.std.specs.Result.{IsErrAnd}
-use Rattle.std.specs.Io.KnownBytes.{Appends, Consumes, IsAtEnd, Keeps}
+use Rattle.std.proofs.Common.{◌≡◌, ◌≢◌, ◌≤◌, ◌<◌, ◌+◌, ◌++◌, [], ◌∷◌, ℕ, List, length, take, drop, get_or, slice_get, slice_index_or, Option, Some, refl, sym, ap, ◌∙◌, ap₂, subst, suc, arith, Result, Ok, Err}
+use Rattle.std.specs.Io.KnownBytes.{Appends, Consumes, IsAtEnd}
 use Rattle.std.specs.List.{AllZip}
 use Rattle.nb_names.specs.declared.limits.TheConstants.{MAX_INPUT}
 use Rattle.nb_names.specs.Devices.{AppendsFront}
@@ -14,10 +13,9 @@ use Rattle.nb_table.specs.declared.fault.TableFault.{TableFault}
 use Rattle.nbt.specs.declared.settings.Capacity.{Capacity}
 use Rattle.nbt.specs.declared.fault.Fault.{Fault}
 use Rattle.nbt.specs.declared.fault.Fault.TheVariants.{Memory, NoTables, TwoTablesWanted, Write}
-use Rattle.nbt.specs.Printing.{Leaves, PrintsFront}
-use Rattle.nbt.specs.Saved.{IsSavedOf, saved_digits}
+use Rattle.nbt.specs.Printing.{PrintsText}
 use Rattle.nbt.specs.Settings.{most_keys}
-use Rattle.nbt.specs.Tables.{AreTables, contents_of, fault_of_join, FailsOn, IsElsewhere, IsTableLine, JoinFails, MergeFails, MergeStops, input_fails, MergesTables, PrintsJoin, CompareFails, ComparesTables}
+use Rattle.nbt.specs.Tables.{AreTables, contents_of, fault_of_join, FailsOn, IsElsewhere, IsTableLine, JoinFails, MergeFails, input_fails, MergesTables, PrintsJoin, CompareFails, ComparesTables}
 use Rattle.nbt.specs.Tables.{TablesFail, line_fails, no_line, not_joined, not_two, one_fails}
 
 -- one of the tables isn't joined to those before it, and this is reported
@@ -98,13 +96,6 @@ pub first_taken : (ts others : List TableValue) (first : TableValue) → length 
 first_taken [] others first size is_first are_others = absurd (omega (arith, size))
 first_taken (t ∷ ts) others first size is_first are_others = ap₂ (λ (x : TableValue) (xs : List TableValue). x ∷ xs) (sym is_first) (sym are_others)
 
--- where a saved table can't be written, a front of its line is printed
-pub saved_front : (t : Contents) (old new : Option (List ℕ)) (fault : Fault) → Leaves (IsSavedOf t) old new fault → fault ≡ Write
-    → PrintsFront old new (saved_digits t)
-saved_front t old new fault leaves is =
-    let front : Leaves (IsSavedOf t) old new Write = subst (λ (f : Fault). Leaves (IsSavedOf t) old new f) is leaves in
-    subst (λ (digits : List ℕ). PrintsFront old new digits) front.1 front.2
-
 -- ---- faults
 
 not_memory : (fault : Fault) → ¬ IsElsewhere fault → fault ≢ Memory
@@ -114,45 +105,20 @@ not_memory fault here is = here (subst (λ (f : Fault). IsElsewhere f) (sym is) 
 pub elsewhere : (Fails : List ℕ → Fault → Type 0) (old_in new_in : Option (List ℕ)) (fault : Fault) → IsElsewhere fault → FailsOn Fails old_in new_in fault
 elsewhere Fails old_in new_in fault is here = absurd (here is)
 
-pub printing_fails : (Fails : List ℕ → Fault → Type 0) (old_in new_in : Option (List ℕ)) (fault : Fault) → (fault ≡ Memory) ⊎ (fault ≡ Write)
-    → FailsOn Fails old_in new_in fault
-printing_fails Fails old_in new_in fault (inl is) here = absurd (here (subst (λ (f : Fault). IsElsewhere f) (sym is) tt))
-printing_fails Fails old_in new_in fault (inr is) here = absurd (here (subst (λ (f : Fault). IsElsewhere f) (sym is) tt))
-
 -- ---- what is printed of the join
 
 pub join_prints : (IsGiven : Capacity → Type 0) (text_of : Contents → List ℕ) (old_in new_in old new : Option (List ℕ)) (t : Contents) (r : Result (Unit {0}) Fault)
-    → MergesTables IsGiven (λ contents. contents ≡ t) old_in new_in → OnOk r (Appends old new (text_of t)) → IfErr r (λ fault. (fault ≡ Memory) ⊎ (fault ≡ Write))
-    → IfErr r (λ fault. fault ≢ Write → Keeps old new) → IfErr r (λ fault. fault ≡ Write → AppendsFront old new (text_of t))
-    → PrintsJoin IsGiven text_of old_in new_in old new r
-join_prints IsGiven text_of old_in new_in old new t (Ok done) m printed fails keeps front =
-    join_printed IsGiven (λ contents. Appends old new (text_of contents)) old_in new_in t m printed
-join_prints IsGiven text_of old_in new_in old new t (Err fault) m printed fails keeps front = (
-  input_fails (printing_fails (MergeFails IsGiven) old_in new_in fault fails),
-  keeps,
-  λ write. join_printed IsGiven (λ contents. AppendsFront old new (text_of contents)) old_in new_in t m (front write),
+    → MergesTables IsGiven (λ contents. contents ≡ t) old_in new_in → PrintsText (text_of t) old new r → PrintsJoin IsGiven text_of old_in new_in old new r
+join_prints IsGiven text_of old_in new_in old new t (Ok done) m prints =
+    join_printed IsGiven (λ contents. Appends old new (text_of contents)) old_in new_in t m prints
+join_prints IsGiven text_of old_in new_in old new t (Err Write) m prints = (
+  input_fails (λ here. absurd (here tt)),
+  λ other. absurd (other refl),
+  λ write. join_printed IsGiven (λ contents. AppendsFront old new (text_of contents)) old_in new_in t m prints,
 )
-
--- where a saved table can't be written for another reason, the output is as it was
-pub saved_kept : (t : Contents) (old new : Option (List ℕ)) (r : Result (Unit {0}) Fault) → IfErr r (Leaves (IsSavedOf t) old new) → IfErr r (λ fault. (fault ≡ Memory) ⊎ (fault ≡ Write))
-    → IfErr r (λ fault. fault ≢ Write → Keeps old new)
-saved_kept t old new (Ok done) leaves fails = tt
-saved_kept t old new (Err fault) leaves (inl is) = λ other. subst (λ (f : Fault). Leaves (IsSavedOf t) old new f) is leaves
-saved_kept t old new (Err fault) leaves (inr is) = λ other. absurd (other is)
-
--- where the tables aren't joined, nothing is printed
-pub join_stops : (IsGiven : Capacity → Type 0) (text_of : Contents → List ℕ) (old_in new_in old new : Option (List ℕ)) (fault : Fault) (r : Result (Unit {0}) Fault)
-    → IsErrAnd r (λ e. e ≡ fault) → MergeStops IsGiven old_in new_in fault → fault ≢ Write → Keeps old new
-    → PrintsJoin IsGiven text_of old_in new_in old new r
-join_stops IsGiven text_of old_in new_in old new fault (Ok done) is stops never kept = absurd is
-join_stops IsGiven text_of old_in new_in old new fault (Err e) is stops never kept =
-    subst (λ (f : Fault). PrintsJoin IsGiven text_of old_in new_in old new (Err f)) (sym is) (stops, λ other. kept, λ write. absurd (never write))
-
--- what is printed, where all of it is
-pub printed_join : (IsGiven : Capacity → Type 0) (text_of : Contents → List ℕ) (old_in new_in old new : Option (List ℕ)) (r : Result (Unit {0}) Fault)
-    → PrintsJoin IsGiven text_of old_in new_in old new r → OnOk r (MergesTables IsGiven (λ contents. Appends old new (text_of contents)) old_in new_in)
-printed_join IsGiven text_of old_in new_in old new (Ok done) p = p
-printed_join IsGiven text_of old_in new_in old new (Err fault) p = tt
+join_prints IsGiven text_of old_in new_in old new t (Err Memory) m prints =
+    (input_fails (λ here. absurd (here tt)), λ other. prints, λ write. absurd (cc write))
+join_prints IsGiven text_of old_in new_in old new t (Err _) m prints = absurd prints
 
 -- there are as many lines as tables
 as_long : (c : Capacity) (lines : List (List ℕ)) (ts : List TableValue) → AllZip (IsTableLine c) lines ts → length lines ≡ length ts

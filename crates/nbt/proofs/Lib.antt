@@ -1,8 +1,6 @@
 mod CommandShapes
 pub mod AloneWords
-pub mod BuildingTurns
-pub mod ArgumentLemmas
-pub mod BuiltLemmas
+pub mod CommandRows
 pub mod SavingTurns
 pub mod ReplayingTurns
 pub mod TableTurns
@@ -10,4 +8,5 @@ pub mod JoinedLemmas
 pub mod CapacityGiven
 pub mod ShowingTurns
 pub mod DifferenceLemmas
-pub mod SavedCutLemmas
+pub mod PrintedLemmas
+pub mod ObjectLemmas

@@ -1,11 +1,12 @@
 -- What taking the names of words keeps from turn to turn, and how a replay ends.
-use Rattle.std.proofs.Common.{◌≡◌, ◌<◌, ◌+◌, ◌++◌, ◌∷◌, inl, ℕ, List, [], length, get_or, map, take, drop, Bor, Option, Result, Ok, Err, refl, sym, ap, subst, ◌∙◌}
+use Rattle.std.proofs.Common.{◌≡◌, ◌≢◌, ◌<◌, ◌+◌, ◌++◌, ◌∷◌, inl, inr, ℕ, List, [], length, get_or, map, take, drop, Bor, Option, Result, Ok, Err, IfErr, refl, sym, ap, subst, ◌∙◌}
 use Rattle.std.proofs.lemmas.List.{map-append, take_more, take-append-drop, drop_more}
 use Rattle.std.specs.FinMap as maps
 use Rattle.std.specs.Io.KnownBytes.{Consumes}
 use Rattle.nb_names.specs.Name.{NetbiosName}
 use Rattle.nb_member.specs.declared.event.Event.{Event}
 use Rattle.nb_member.specs.declared.replay_fault.ReplayFault.{ReplayFault}
+use Rattle.nb_member.specs.declared.replay_fault.ReplayFault.TheVariants as replay
 use Rattle.nb_member.specs.declared.capture_options.CaptureOptions.{CaptureOptions}
 use Rattle.nb_member.specs.Live.{live}
 use Rattle.nb_member.specs.Member.{MemberValue, new_member}
@@ -16,7 +17,11 @@ use Rattle.nb_datagram.specs.Key.{key_cmp}
 use Rattle.nbt.specs.declared.settings.Capacity.{Capacity}
 use Rattle.nbt.specs.declared.fault.Fault.{Fault}
 use Rattle.nbt.specs.declared.fault.Fault.TheVariants.{Text, Arguments, TooManyNames, Line, Read, Write, Memory}
-use Rattle.nbt.specs.Replaying.{AddsEach, AddsName, EndsWith, IsNamesFault, IsRefusedName, IsReplay, ReplaysCapture, ReplaysIn, none, more}
+use Rattle.nb_names.specs.Counted.{Counts}
+use Rattle.nb_names.specs.Devices.{ShowsUnread, ShowsWriteFault}
+use Rattle.nb_names.specs.DeviceFacts.{Keeps-same}
+use Rattle.nbt.specs.Input.{WasCut}
+use Rattle.nbt.specs.Replaying.{AddsEach, AddsName, Begins, EndsWith, IsNamesFault, IsRefusedName, IsReplay, IsUnbegun, ReplaysCapture, ReplaysIn, none, more}
 use Rattle.nbt.specs.Settings.{program_settings}
 
 -- ---- names
@@ -117,12 +122,59 @@ of_new IsGiven AreAsked AreWords old_in new_in old_out new_out options most word
   });
 }
 
-pub replays_capture : (IsGiven : Capacity → Type 0) (AreAsked : CaptureOptions → Type 0) (AreWords : List (List ℕ) → Type 0) (old_in new_in old_out new_out : Option (List ℕ)) (options : CaptureOptions) (most : Capacity)
-    (words : List (List ℕ)) (names : List NetbiosName) (m : MemberValue) (result : Result Unit Fault) → IsGiven most → AreAsked options → AreWords words
-    → AddsEach words names → m ≡ new_member (program_settings most) names → EndsWith (ReplaysIn options m old_in new_in old_out new_out) result
+pub replays_capture : (IsGiven : Capacity → Type 0) (AreAsked : CaptureOptions → Type 0) (AreWords : List (List ℕ) → Type 0) (old_in new_in old_out new_out : Option (List ℕ)) (options : CaptureOptions)
+    (m : MemberValue) (result : Result Unit Fault) → Begins IsGiven AreWords m → AreAsked options → EndsWith (ReplaysIn options m old_in new_in old_out new_out) result
     → IsReplay (ReplaysCapture IsGiven AreAsked AreWords old_in new_in old_out new_out) IsGiven AreWords old_in new_in old_out new_out result
-replays_capture IsGiven AreAsked AreWords old_in new_in old_out new_out options most words names m result given asked said named is ends =
+replays_capture IsGiven AreAsked AreWords old_in new_in old_out new_out options m result b asked ends =
     is_replay (ReplaysCapture IsGiven AreAsked AreWords old_in new_in old_out new_out) IsGiven AreWords old_in new_in old_out new_out result
     (ends_weaker (ReplaysIn options m old_in new_in old_out new_out) (ReplaysCapture IsGiven AreAsked AreWords old_in new_in old_out new_out) result (λ answer r.
-    of_new IsGiven AreAsked AreWords old_in new_in old_out new_out options most words names given asked said named answer
-    (subst (λ (first : MemberValue). ReplaysIn options first old_in new_in old_out new_out answer) is r)) ends)
+    of_new IsGiven AreAsked AreWords old_in new_in old_out new_out options b.capacity b.words b.names b.given asked b.said b.named answer
+    (subst (λ (first : MemberValue). ReplaysIn options first old_in new_in old_out new_out answer) b.is r)) ends)
+
+-- ---- what is answered before it
+
+-- the names of the words are at fault
+pub names_fail : (IsGiven : Capacity → Type 0) (AreWords : List (List ℕ) → Type 0) (words : List (List ℕ)) (fault : Fault) → AreWords words
+    → IsNamesFault words fault → IsUnbegun IsGiven AreWords fault
+names_fail IsGiven AreWords words (Text fault) said n = (words, said, n)
+names_fail IsGiven AreWords words TooManyNames said n = (words, said, n)
+names_fail IsGiven AreWords words Arguments said n = absurd n.refused
+names_fail IsGiven AreWords words Memory said n = tt
+names_fail IsGiven AreWords words _ said n = absurd n.refused
+
+-- nothing is read or printed
+pub not_begun : (P : Result ℕ ReplayFault → Type 0) (IsGiven : Capacity → Type 0) (AreWords : List (List ℕ) → Type 0) (input output : Option (List ℕ)) (fault : Fault)
+    → IsUnbegun IsGiven AreWords fault → IsReplay P IsGiven AreWords input input output output (Err fault)
+not_begun P IsGiven AreWords input output (Text fault) u = (u.0, u.1, u.2, Keeps-same input, Keeps-same output)
+not_begun P IsGiven AreWords input output TooManyNames u = (u.0, u.1, u.2, Keeps-same input, Keeps-same output)
+not_begun P IsGiven AreWords input output Arguments u = (u, Keeps-same input, Keeps-same output)
+not_begun P IsGiven AreWords input output Memory u = inr (Keeps-same input, Keeps-same output)
+not_begun P IsGiven AreWords input output _ u = absurd u
+
+-- a replay begins before the input is read
+pub not_cut : (IsGiven : Capacity → Type 0) (AreWords : List (List ℕ) → Type 0) (fault : Fault) → IsUnbegun IsGiven AreWords fault → fault ≢ Read
+not_cut IsGiven AreWords fault u is = let v = subst (λ (f : Fault). IsUnbegun IsGiven AreWords f) is u in v
+
+-- and before anything is printed
+pub not_written : (IsGiven : Capacity → Type 0) (AreWords : List (List ℕ) → Type 0) (fault : Fault) → IsUnbegun IsGiven AreWords fault → fault ≢ Write
+not_written IsGiven AreWords fault u is = let v = subst (λ (f : Fault). IsUnbegun IsGiven AreWords f) is u in v
+
+-- the input was cut where it couldn't be read
+pub unread_cut : (IsMost : ℕ → Type 0) (most : ℕ) (old_in new_in : Option (List ℕ)) (reads after : Counts) (bytes : List ℕ) (r : Result Unit Fault) → IsMost most → Consumes old_in new_in bytes
+    → (r ≡ Err Read → ShowsUnread most bytes reads after) → IfErr r (λ fault. fault ≡ Read → (n : ℕ) × IsMost n × WasCut n old_in new_in reads after)
+unread_cut IsMost most old_in new_in reads after bytes (Ok done) limited read cut = tt
+unread_cut IsMost most old_in new_in reads after bytes (Err fault) limited read cut = λ is. (most, limited, (bytes, read, cut (ap (λ (f : Fault). Err f) is)))
+
+-- the same where a replay ended so
+pub replay_cut : (IsMost : ℕ → Type 0) (most : ℕ) (old_in new_in : Option (List ℕ)) (reads after : Counts) (bytes : List ℕ) (answer : Result ℕ ReplayFault) (r : Result Unit Fault) → IsMost most
+    → Consumes old_in new_in bytes → (answer ≡ Err replay.Read → ShowsUnread most bytes reads after) → EndsWith (λ a. a ≡ answer) r
+    → IfErr r (λ fault. fault ≡ Read → (n : ℕ) × IsMost n × WasCut n old_in new_in reads after)
+replay_cut IsMost most old_in new_in reads after bytes answer (Ok done) limited read cut ends = tt
+replay_cut IsMost most old_in new_in reads after bytes answer (Err fault) limited read cut ends =
+    λ is. (most, limited, (bytes, read, cut (sym (subst (λ (f : Fault). EndsWith (λ a. a ≡ answer) (Err f)) is ends))))
+
+-- a write is at fault only where the calls of the output show it
+pub replay_writes : (answer : Result ℕ ReplayFault) (r : Result Unit Fault) (writes after : Counts) → (r ≡ Err Write → answer ≡ Err replay.Write)
+    → (answer ≡ Err replay.Write → ShowsWriteFault writes after) → IfErr r (λ fault. fault ≡ Write → ShowsWriteFault writes after)
+replay_writes answer (Ok done) writes after same shows = tt
+replay_writes answer (Err fault) writes after same shows = λ is. shows (same (ap (λ (f : Fault). Err f) is))

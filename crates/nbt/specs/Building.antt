@@ -1,28 +1,13 @@
 -- What `nbt build` prints: a line of a capture for each packet that its words name (our choice).
-use Rattle.std.specs.Prelude.{◌≡◌, ℕ, Bool, true, false, List, [], ◌∷◌, ◌++◌, Some, option_map, unwrap_or, codes}
-use Rattle.std.specs.Fmt.{decimal}
+use Rattle.std.specs.Prelude.{◌≡◌, ℕ, Bool, true, false, List, [], Some, option_map, unwrap_or, codes}
 use Rattle.clap.specs.Words.{first_value, found_of, matched_of, one_text, raw_values}
 use Rattle.clap.specs.declared.parser.matches.ArgMatches.{ArgMatches}
-use Rattle.nb_names.specs.Hexadecimal.{digits_text}
-use Rattle.nbt.specs.Built.{Names}
-use Rattle.nbt.specs.TooMuchData.{GiveTooMuch}
-use Rattle.nbt.specs.Printing.{line}
-
--- payload_line port payload: the line of a capture for the payload, at moment 0
-abbrev pub payload_line : ℕ → List ℕ → List ℕ
-payload_line port payload = line (decimal port ++ codes " 0 " ++ digits_text payload)
-
--- payload_lines port payloads: the same of each payload, in order
-abbrev pub payload_lines : ℕ → List (List ℕ) → List ℕ
-payload_lines port [] = []
-payload_lines port (payload ∷ payloads) = payload_line port payload ++ payload_lines port payloads
-
--- AreLinesOf broadcast what words bytes: these words name packets, and the bytes are their lines
-pub record AreLinesOf (broadcast : Bool) (what : List ℕ) (words : List (List ℕ)) (bytes : List ℕ) : Type 0 where
-  pub port : ℕ
-  pub payloads : List (List ℕ)
-  pub named : Names broadcast what words port payloads
-  pub lines : bytes ≡ payload_lines port payloads
+use Rattle.nb_building.specs.Building.{AreLinesOf}
+use Rattle.nb_building.specs.TooMuchData.{GiveTooMuch}
+use Rattle.nb_building.specs.declared.build_fault.BuildFault.{BuildFault}
+use Rattle.nb_building.specs.declared.build_fault.BuildFault.TheVariants as built
+use Rattle.nbt.specs.declared.fault.Fault.{Fault}
+use Rattle.nbt.specs.declared.fault.Fault.TheVariants.{Text, Arguments, TooLong, ZeroPiece, Memory}
 
 -- IsBroadcast matches broadcast: the matches hold this for `--broadcast`
 abbrev pub IsBroadcast : ArgMatches → Bool → Type 0
@@ -57,3 +42,11 @@ pub record Builds (matches : ArgMatches) (IsPrinted : List ℕ → Type 0) : Typ
   pub lines : List ℕ
   pub built : AreBuilt matches lines
   pub printed : IsPrinted lines
+
+-- reported fault: what the program reports where words are refused so
+abbrev pub reported : BuildFault → Fault
+reported (built.Text fault) = Text fault
+reported built.Arguments = Arguments
+reported built.TooLong = TooLong
+reported built.ZeroPiece = ZeroPiece
+reported built.Memory = Memory

@@ -1,2 +1,3 @@
 -- Words that private functions' contracts alone cite.
 pub mod Marks
+pub mod PrintedLines

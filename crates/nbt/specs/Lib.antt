@@ -5,10 +5,8 @@ pub mod ClapAnswer
 pub mod NameCommand
 pub mod Input
 pub mod CommandLine
-pub mod Lines
 pub mod Settings
 pub mod Building
-pub mod Responses
 pub mod Saved
 pub mod Saving
 pub mod SaveFaults
@@ -17,7 +15,6 @@ pub mod Differences
 pub mod Tables
 pub mod Code
 pub mod Showing
-pub mod Telling
-pub mod Built
-pub mod TooMuchData
+pub mod Objects
+pub mod Commands
 pub mod Refusals

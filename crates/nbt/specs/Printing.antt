@@ -1,5 +1,5 @@
 -- What the program prints for names, and why it refuses them (our choice). A line ends with a line feed, 10.
-use Rattle.std.specs.Prelude.{◌≡◌, ◌≢◌, ◌⊎◌, ◌<◌, ℕ, List, [], ◌∷◌, ◌++◌, length, Option}
+use Rattle.std.specs.Prelude.{◌≡◌, ◌≢◌, ◌⊎◌, ◌<◌, ℕ, List, [], ◌∷◌, ◌++◌, length, Option, Result, Ok, Err}
 use Rattle.std.specs.Io.KnownBytes.{Appends, Keeps}
 use Rattle.nb_names.specs.declared.pointers.Pointers.TheVariants.{Refused}
 use Rattle.nb_names.specs.Devices.{AppendsFront}
@@ -23,6 +23,13 @@ PrintsLine old new text = Appends old new (line text)
 -- PrintsFront old new text: an output that held the old bytes has a front of the line of the text after them now
 abbrev pub PrintsFront : Option (List ℕ) → Option (List ℕ) → List ℕ → Type 0
 PrintsFront old new text = AppendsFront old new (line text)
+
+-- PrintsText text old new result: the text is printed, a front of it where the output failed, or nothing where memory ran out
+abbrev pub PrintsText : List ℕ → Option (List ℕ) → Option (List ℕ) → Result Unit Fault → Type 0
+PrintsText text old new (Ok done) = Appends old new text
+PrintsText text old new (Err Write) = AppendsFront old new text
+PrintsText text old new (Err Memory) = Keeps old new
+PrintsText text old new (Err _) = ⊥
 
 -- IsSpellingOf text digits: the digits are the spelling, in hexadecimal, of the name that the text
 -- stands for

@@ -1,6 +1,6 @@
 -- What the program says of its refusals (our choice).
 use Rattle.std.specs.Borrow.{Bor}
-use Rattle.std.specs.Prelude.{◌≡◌, ◌≢◌, ◌==◌, ◌⊎◌, ℕ, List, [], ◌++◌, cond, All, Contains, Option, None, Some, codes}
+use Rattle.std.specs.Prelude.{◌≡◌, ◌≢◌, ◌==◌, ◌⊎◌, ℕ, List, [], ◌∷◌, ◌++◌, cond, All, Contains, Option, None, Some, codes}
 use Rattle.std.specs.Cmp.Lexicographic.{pointwise}
 use Rattle.std.specs.List.{flat_map, list_any}
 use Rattle.nbt.specs.declared.fault.Fault.{Fault}
@@ -31,3 +31,7 @@ lines_of_all command refusals = flat_map (lines_by command) refusals
 -- why the line of a refusal isn't printed
 abbrev pub IsPrintFault : Fault → Type 0
 IsPrintFault fault = (fault ≡ Write) ⊎ (fault ≡ Memory)
+
+-- the words are the program's name, `help`, and one word more, which may be a refusal's
+abbrev pub AsksRefusal : List (List ℕ) → Type 0
+AsksRefusal words = (program : List ℕ) × (text : List ℕ) × (words ≡ program ∷ codes "help" ∷ text ∷ [])

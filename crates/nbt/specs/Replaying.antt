@@ -55,6 +55,27 @@ pub record IsNamesFault (texts : List (List ℕ)) (fault : Fault) : Type 0 where
   pub added : AddsEach before names
   pub refused : IsRefusedName names text fault
 
+-- ---- the member that a replay begins with
+
+-- Begins IsGiven AreWords m: m is a new member that may hold as much as is given, with the names of the words
+pub record Begins (IsGiven : Capacity → Type 0) (AreWords : List (List ℕ) → Type 0) (m : MemberValue) : Type 0 where
+  pub capacity : Capacity
+  pub given : IsGiven capacity
+  pub words : List (List ℕ)
+  pub said : AreWords words
+  pub names : List NetbiosName
+  pub named : AddsEach words names
+  pub is : m ≡ new_member (program_settings capacity) names
+
+-- IsUnbegun IsGiven AreWords fault: why there is no such member: a word was refused, no capacity or no words are given, or
+-- memory ran out
+abbrev pub IsUnbegun : (Capacity → Type 0) → (List (List ℕ) → Type 0) → Fault → Type 0
+IsUnbegun IsGiven AreWords (Text fault) = (words : List (List ℕ)) × AreWords words × IsNamesFault words (Text fault)
+IsUnbegun IsGiven AreWords TooManyNames = (words : List (List ℕ)) × AreWords words × IsNamesFault words TooManyNames
+IsUnbegun IsGiven AreWords Arguments = HasNoCapacity IsGiven ⊎ ((words : List (List ℕ)) → ¬ AreWords words)
+IsUnbegun IsGiven AreWords Memory = Unit {0}
+IsUnbegun IsGiven AreWords _ = ⊥
+
 -- ---- the replay
 
 -- ReplaysIn options m old_in new_in old_out new_out answer: the member m replayed what was read of an input as the options

@@ -1,5 +1,5 @@
 -- What the program prints of tables (our choice).
-use Rattle.std.specs.Prelude.{◌≡◌, ℕ, List}
+use Rattle.std.specs.Prelude.{ℕ, List}
 use Rattle.nb_names.specs.Hexadecimal.{digits_text}
 use Rattle.nb_table.specs.Contents.{Contents}
 use Rattle.nb_table.specs.Saved.{saved}
@@ -12,7 +12,3 @@ saved_digits contents = digits_text (saved contents)
 -- the same, as a line
 abbrev pub saved_line : Contents → List ℕ
 saved_line contents = line (saved_digits contents)
-
--- IsSavedOf contents digits: the digits are the saved table, in hexadecimal
-abbrev pub IsSavedOf : Contents → List ℕ → Type 0
-IsSavedOf contents digits = digits ≡ saved_digits contents

@@ -1,6 +1,6 @@
 -- What `nbt save` makes of a capture: a member without names takes its payloads of port 138 and sets
 -- the clock at its ticks (our choice).
-use Rattle.std.specs.Prelude.{◌≡◌, ◌≢◌, ◌⊎◌, ◌≤◌, ℕ, List, [], ◌∷◌, length, Option, None, Some, Result, Ok, Err}
+use Rattle.std.specs.Prelude.{◌≡◌, ◌≢◌, ◌⊎◌, ◌≤◌, ℕ, List, [], length, Option, None, Some, Result, Ok, Err}
 use Rattle.std.specs.FinMap as maps
 use Rattle.std.specs.Io.KnownBytes.{Consumes, IsAtEnd}
 use Rattle.nb_names.specs.Lines.{HasLines}
@@ -10,7 +10,7 @@ use Rattle.nb_member.specs.declared.line.Line.TheVariants.{Packet as PacketLine,
 use Rattle.nb_member.specs.declared.member_fault.MemberFault.{MemberFault}
 use Rattle.nb_member.specs.declared.member_fault.MemberFault.TheVariants.{Packet, Table}
 use Rattle.nb_member.specs.declared.outcome.Outcome.{Outcome}
-use Rattle.nb_member.specs.Capture.{Reads}
+use Rattle.nb_member.specs.LineTaking.{TakesEach}
 use Rattle.nb_member.specs.Events.{limits_of}
 use Rattle.nb_member.specs.Member.{MemberValue, contents, with_timed}
 use Rattle.nb_member.specs.Taking.{Takes}
@@ -54,36 +54,29 @@ TakesSaid m (Some (Tick now)) new = new ≡ with_timed m (after_clock m.timed no
 TakesSaid m (Some (PacketLine port moment payload)) new =
     ((port ≡ 138) × TakesPayload m moment payload new) ⊎ ((port ≢ 138) × (new ≡ m))
 
--- TakesLine m line new: what the line says makes the member m the member new
-pub record TakesLine (m : MemberValue) (line : List ℕ) (new : MemberValue) : Type 0 where
-  pub said : Option Line
-  pub reads : Reads line (Ok said)
-  pub takes : TakesSaid m said new
+-- the same of line n
+abbrev pub SavesLine : ℕ → List ℕ → Option Line → MemberValue → MemberValue → Type 0
+SavesLine n line said m new = TakesSaid m said new
 
--- TakesEach m lines new: the lines, one after the other, make the member m the member new
-pub data TakesEach : MemberValue → List (List ℕ) → MemberValue → Type 0 where
-  none : {m : MemberValue} → TakesEach m [] m
-  more : {m between new : MemberValue} (line : List ℕ) (lines : List (List ℕ)) → TakesLine m line between
-      → TakesEach between lines new → TakesEach m (line ∷ lines) new
-
--- TakesLines m capture new: the lines of the capture make the member m the member new
-pub record TakesLines (m : MemberValue) (capture : List ℕ) (new : MemberValue) : Type 0 where
-  pub lines : List (List ℕ)
-  pub has : HasLines capture lines
-  pub takes : TakesEach m lines new
-
--- SavesCapture IsGiven IsMost IsPrinted old_in new_in: the whole input was read, which has at most as many bytes as is
--- said, a member that may hold as much as is given took its lines, and the table that it then has was printed, as
--- IsPrinted says of its digits
-pub record SavesCapture (IsGiven : Capacity → Type 0) (IsMost : ℕ → Type 0) (IsPrinted : List ℕ → Type 0) (old_in new_in : Option (List ℕ)) : Type 0 where
+-- TakesInput c most old_in new_in new: the whole input was read, which has so many bytes at most, and its lines made a member
+-- that may hold so much, without names, the member new
+pub record TakesInput (c : Capacity) (most : ℕ) (old_in new_in : Option (List ℕ)) (new : MemberValue) : Type 0 where
   pub capture : List ℕ
-  pub capacity : Capacity
-  pub most : ℕ
-  pub new : MemberValue
   pub read : Consumes old_in new_in capture
   pub ended : IsAtEnd new_in
-  pub limited : IsMost most
   pub within : length capture ≤ most
+  pub lines : List (List ℕ)
+  pub has : HasLines capture lines
+  pub took : TakesEach SavesLine 1 lines (new_saver c) new
+
+-- SavesCapture IsGiven IsMost IsPrinted old_in new_in: a member that may hold as much as is given took the lines of the input,
+-- which has at most as many bytes as is said, and the table that it then has was printed, as IsPrinted says of its
+-- digits
+pub record SavesCapture (IsGiven : Capacity → Type 0) (IsMost : ℕ → Type 0) (IsPrinted : List ℕ → Type 0) (old_in new_in : Option (List ℕ)) : Type 0 where
+  pub capacity : Capacity
   pub given : IsGiven capacity
-  pub took : TakesLines (new_saver capacity) capture new
+  pub most : ℕ
+  pub limited : IsMost most
+  pub new : MemberValue
+  pub took : TakesInput capacity most old_in new_in new
   pub printed : IsPrinted (saved_digits (contents new))

@@ -48,12 +48,12 @@ IsListed matches true = one_text (found_of matches) (codes "list") ≡ Some (cod
 IsListed matches false = one_text (found_of matches) (codes "list") ≡ Some (codes "false")
 
 -- the matches hold that `--json` isn't given
-abbrev pub IsText : ArgMatches → Type 0
-IsText matches = one_text (found_of matches) (codes "json") ≡ Some (codes "false")
+abbrev pub AsksText : ArgMatches → Type 0
+AsksText matches = one_text (found_of matches) (codes "json") ≡ Some (codes "false")
 
 -- the matches hold that `--json` is given
-abbrev pub IsJson : ArgMatches → Type 0
-IsJson matches = one_text (found_of matches) (codes "json") ≡ Some (codes "true")
+abbrev pub AsksJson : ArgMatches → Type 0
+AsksJson matches = one_text (found_of matches) (codes "json") ≡ Some (codes "true")
 
 -- AreComments matches comments: comments are printed where the matches hold `true` for `--comments`, and left out where
 -- they hold `false` or nothing

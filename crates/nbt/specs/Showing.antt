@@ -2,14 +2,16 @@
 -- printed, each in its place, or left out.
 use Rattle.std.specs.Prelude.{◌≡◌, ◌≤◌, ◌+◌, ◌++◌, ◌∷◌, ℕ, List, [], length, codes, Option, Some, None, Result, Ok, Err}
 use Rattle.std.specs.Fmt.{decimal}
-use Rattle.std.specs.Io.KnownBytes.{Appends, Keeps}
-use Rattle.nb_names.specs.Devices.{AppendsFront}
+use Rattle.std.specs.Io.KnownBytes.{Appends, Consumes}
+use Rattle.nb_names.specs.Counted.{Counts}
+use Rattle.nb_names.specs.Devices.{ShowsUnread}
 use Rattle.nb_names.specs.Lines.{CutInto, with_rest}
 use Rattle.nb_member.specs.declared.limits.TheConstants.{MAX_LINE}
+use Rattle.nb_member.specs.declared.capture_options.CaptureOptions.{CaptureOptions}
 use Rattle.nb_member.specs.declared.comments.Comments.{Comments}
 use Rattle.nb_member.specs.declared.line.Line as capture
 use Rattle.nb_member.specs.declared.line.Line.TheVariants.{Packet, Tick}
-use Rattle.nb_member.specs.Capture.{IsMalformed, Reads}
+use Rattle.nb_member.specs.Capture.{Reads}
 use Rattle.nb_member.specs.Comments.{blank_text}
 use Rattle.nb_member.specs.Replaying.{AreLines, ComesMalformed, IsWhole, looked_at}
 use Rattle.nb_text.specs.Lines.{line_end}
@@ -32,58 +34,76 @@ abbrev pub ShowsSaid : Comments → ℕ → List ℕ → Option capture.Line →
 ShowsSaid comments n l None text = text ≡ blank_text comments l
 ShowsSaid comments n l (Some value) text = ShowsValue n value text
 
--- ShowsLine comments n l text: the text of l, which is line n of a capture
-pub record ShowsLine (comments : Comments) (n : ℕ) (l text : List ℕ) : Type 0 where
+-- TellsLine IsText n l s t text: the text of l, which is line n of a capture, where s is what the lines before it left, and t
+-- what it leaves; IsText n l said s t text says which text that is where the line says this, or nothing
+pub record TellsLine {S : Type 0} (IsText : ℕ → List ℕ → Option capture.Line → S → S → List ℕ → Type 0) (n : ℕ) (l : List ℕ) (s t : S) (text : List ℕ) : Type 0 where
   pub said : Option capture.Line
   pub reads : Reads l (Ok said)
-  pub shows : ShowsSaid comments n l said text
+  pub tells : IsText n l said s t text
 
--- ShowsLines IsText n ls text: texts of these lines, the first of which is line n, one after the other; IsText n l text says
--- which text line n has, where it is l
-pub data ShowsLines (IsText : ℕ → List ℕ → List ℕ → Type 0) : ℕ → List (List ℕ) → List ℕ → Type 0 where
-  none : (n : ℕ) → ShowsLines IsText n [] []
-  more : (n : ℕ) (l text others : List ℕ) (ls : List (List ℕ)) → IsText n l text → ShowsLines IsText (n + 1) ls others
-      → ShowsLines IsText n (l ∷ ls) (text ++ others)
+-- the same, whatever stands before it
+abbrev pub Said : Comments → ℕ → List ℕ → Option capture.Line → Unit {0} → Unit {0} → List ℕ → Type 0
+Said comments n l said s t text = ShowsSaid comments n l said text
+
+-- the text that is shown of a line
+abbrev pub ShowsLine : Comments → ℕ → List ℕ → Unit {0} → Unit {0} → List ℕ → Type 0
+ShowsLine comments = TellsLine (Said comments)
+
+-- ShowsLines IsText n ls s t text: texts of these lines, the first of which is line n, one after the other, from s on; they leave
+-- t. IsText n l s t text says which text line n has, where it is l
+pub data ShowsLines {S : Type 0} (IsText : ℕ → List ℕ → S → S → List ℕ → Type 0) : ℕ → List (List ℕ) → S → S → List ℕ → Type 0 where
+  none : (n : ℕ) (s : S) → ShowsLines IsText n [] s s []
+  more : (n : ℕ) (l text others : List ℕ) (ls : List (List ℕ)) (s t u : S) → IsText n l s t text → ShowsLines IsText (n + 1) ls t u others
+      → ShowsLines IsText n (l ∷ ls) s u (text ++ others)
 
 -- ---- what is printed
 
--- Prints IsText ls before after: exactly the text of these lines of the capture, from the first, was printed
-pub record Prints (IsText : ℕ → List ℕ → List ℕ → Type 0) (ls : List (List ℕ)) (before after : Option (List ℕ)) : Type 0 where
+-- Prints IsText first ls before after: exactly the text of these lines of the capture, from the first, was printed
+pub record Prints {S : Type 0} (IsText : ℕ → List ℕ → S → S → List ℕ → Type 0) (first : S) (ls : List (List ℕ)) (before after : Option (List ℕ)) : Type 0 where
   pub text : List ℕ
-  pub shows : ShowsLines IsText 1 ls text
+  pub last : S
+  pub shows : ShowsLines IsText 1 ls first last text
   pub printed : Appends before after text
 
--- PrintsPart IsText most bytes left before after: of an input of so many bytes at most, the text of some first lines was printed,
--- and then a front of that of the next one
-pub record PrintsPart (IsText : ℕ → List ℕ → List ℕ → Type 0) (most : ℕ) (bytes : List ℕ) (left before after : Option (List ℕ)) : Type 0 where
+-- PrintsPart IsText most bytes left first before after: of an input of so many bytes at most, the text of some first lines was
+-- printed, and then a front of that of the next one
+pub record PrintsPart {S : Type 0} (IsText : ℕ → List ℕ → S → S → List ℕ → Type 0) (most : ℕ) (bytes : List ℕ) (left : Option (List ℕ)) (first : S)
+    (before after : Option (List ℕ)) : Type 0 where
   pub ready : List (List ℕ)
   pub next : List ℕ
   pub more : List (List ℕ)
   pub are_lines : AreLines most bytes left (ready ++ next ∷ more)
   pub text : List ℕ
-  pub shows : ShowsLines IsText 1 ready text
+  pub between : S
+  pub shows : ShowsLines IsText 1 ready first between text
   pub front : List ℕ
   pub later : List ℕ
-  pub shows_next : IsText (length ready + 1) next (front ++ later)
+  pub last : S
+  pub shows_next : IsText (length ready + 1) next between last (front ++ later)
   pub printed : Appends before after (text ++ front)
 
--- Shows IsText most bytes left before after result: what is answered where these bytes came from an input of so many bytes at
--- most, with those left, and what was printed then: at each fault but that of a write the text of whole lines
-abbrev pub Shows : (ℕ → List ℕ → List ℕ → Type 0) → ℕ → List ℕ → Option (List ℕ) → Option (List ℕ) → Option (List ℕ) → Result Unit Fault → Type 0
-Shows IsText most bytes left before after (Ok _) =
-    (lines : List (List ℕ)) × (rest : List ℕ) × CutInto bytes lines rest × IsWhole most bytes left × Prints IsText (with_rest lines rest) before after
-Shows IsText most bytes left before after (Err (Line n)) =
-    (lines : List (List ℕ)) × ComesMalformed most bytes left lines × (n ≡ length lines + 1) × Prints IsText lines before after
-Shows IsText most bytes left before after (Err Read) =
-    (lines : List (List ℕ)) × (rest : List ℕ) × CutInto (looked_at most bytes) lines rest × (length rest ≤ MAX_LINE) × Prints IsText lines before after
-Shows IsText most bytes left before after (Err Write) = PrintsPart IsText most bytes left before after
-Shows IsText most bytes left before after (Err Memory) =
-    (lines : List (List ℕ)) × (more : List (List ℕ)) × AreLines most bytes left (lines ++ more) × Prints IsText lines before after
-Shows IsText most bytes left before after (Err _) = ⊥
+-- Shows IsText most bytes left first before after result: what is answered where these bytes came from an input of so many
+-- bytes at most, with those left, and what was printed then, from `first` on: at each fault
+-- but that of a write the text of whole lines
+abbrev pub Shows : {S : Type 0} → (ℕ → List ℕ → S → S → List ℕ → Type 0) → ℕ → List ℕ → Option (List ℕ) → S → Option (List ℕ) → Option (List ℕ) → Result Unit Fault → Type 0
+Shows IsText most bytes left first before after (Ok _) =
+    (lines : List (List ℕ)) × (rest : List ℕ) × CutInto bytes lines rest × IsWhole most bytes left × Prints IsText first (with_rest lines rest) before after
+Shows IsText most bytes left first before after (Err (Line n)) =
+    (lines : List (List ℕ)) × ComesMalformed most bytes left lines × (n ≡ length lines + 1) × Prints IsText first lines before after
+Shows IsText most bytes left first before after (Err Read) =
+    (lines : List (List ℕ)) × (rest : List ℕ) × CutInto (looked_at most bytes) lines rest × (length rest ≤ MAX_LINE) × Prints IsText first lines before after
+Shows IsText most bytes left first before after (Err Write) = PrintsPart IsText most bytes left first before after
+Shows IsText most bytes left first before after (Err Memory) =
+    (lines : List (List ℕ)) × (more : List (List ℕ)) × AreLines most bytes left (lines ++ more) × Prints IsText first lines before after
+Shows IsText most bytes left first before after (Err _) = ⊥
 
--- IsUnshown IsText n l before after fault: why l, which is line n of the capture, isn't shown, or not whole
-abbrev pub IsUnshown : (ℕ → List ℕ → List ℕ → Type 0) → ℕ → List ℕ → Option (List ℕ) → Option (List ℕ) → Fault → Type 0
-IsUnshown IsText n l before after (Line m) = (m ≡ n) × IsMalformed l × Keeps before after
-IsUnshown IsText n l before after Memory = Keeps before after
-IsUnshown IsText n l before after Write = (text : List ℕ) × IsText n l text × AppendsFront before after text
-IsUnshown IsText n l before after _ = ⊥
+-- ShowsCapture AreAsked IsText first old_in new_in old new before after result: what is asked, the bytes that were read, and
+-- what was printed of their lines
+pub record ShowsCapture {S : Type 0} (AreAsked : CaptureOptions → Type 0) (IsText : CaptureOptions → ℕ → List ℕ → S → S → List ℕ → Type 0) (first : S)
+    (old_in new_in : Option (List ℕ)) (old new : Counts) (before after : Option (List ℕ)) (result : Result Unit Fault) : Type 0 where
+  pub options : CaptureOptions
+  pub asked : AreAsked options
+  pub bytes : List ℕ
+  pub read : Consumes old_in new_in bytes
+  pub cut : result ≡ Err Read → ShowsUnread options.most bytes old new
+  pub shows : Shows (IsText options) options.most bytes new_in first before after result

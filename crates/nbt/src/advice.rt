@@ -2,7 +2,7 @@
 ghost use Rattle.std.specs.Prelude.{◌≡◌, ◌⊎◌, ◌++◌, ◌∷◌, [], Contains, IfErr, IfNone, IfOk, IfSome, List, OnErr, OnOk, codes, map, string_bytes, ℕ};
 ghost use Rattle.std.specs.Io.KnownBytes.{Appends};
 ghost use Rattle.nb_names.specs.Devices.{AppendsFront};
-ghost use Rattle.nbt.specs.Refusals.{HasNone, IsFirstWith, IsPrintFault, advice_line, lines_by, lines_of_all};
+ghost use Rattle.nbt.specs.Refusals.{AsksRefusal, HasNone, IsFirstWith, IsPrintFault, advice_line, lines_by, lines_of_all};
 
 use crate::fault::Fault;
 use crate::output::Output;
@@ -14,6 +14,7 @@ use std::io::Write;
 /// The refusal of which help is asked for, where the words are the program's name, `help` and the
 /// text of one of these refusals.
 pub fn asked<'a>(refusals: &'a [Refusal], words: &[String]) -> Option<&'a Refusal>
+    ensures asks { IfSome result (λ refusal. AsksRefusal (map string_bytes words.now)) }
     ensures known { IfSome result (λ refusal. Contains refusals.now refusal.now) }
     ensures unknown { (program text : List ℕ)
         → map string_bytes words.now ≡ program ∷ codes "help" ∷ text ∷ []
@@ -29,7 +30,8 @@ pub fn asked<'a>(refusals: &'a [Refusal], words: &[String]) -> Option<&'a Refusa
     }
 }
 
-/// The refusal with this text: the words alone, or as the program prints them, in a line of its own or of a report.
+/// The refusal with this text: the words alone, or as the program prints them, in a line of its own
+/// or of a report.
 fn refusal_of<'a>(refusals: &'a [Refusal], text: &str) -> Option<&'a Refusal>
     ensures known { IfSome result (λ refusal. Contains refusals.now refusal.now) }
     ensures unknown { IfNone result (HasNone text.now refusals.now) }
@@ -62,7 +64,8 @@ fn reason_of(line: &str) -> &str {
     }
 }
 
-/// Whether this is the line of a report, or its end, that says of a key that its datagram isn't heard.
+/// Whether this is the line of a report, or its end, that says of a key that its datagram isn't
+/// heard.
 fn is_unheard(line: &str) -> bool {
     match line.split_once("unheard ") {
         Some((number, key)) => is_number(number.trim_end_matches(' ')) && !key.contains(' '),
@@ -75,7 +78,8 @@ fn is_number(text: &str) -> bool {
     text.bytes().all(|byte| byte.is_ascii_digit())
 }
 
-/// The first of these refusals that the program says so: its words, and the number after them where it has one.
+/// The first of these refusals that the program says so: its words, and the number after them where
+/// it has one.
 fn said_by<'a>(refusals: &'a [Refusal], reason: &str) -> Option<&'a Refusal>
     ensures { IfSome result (λ refusal. Contains refusals.now refusal.now) }
 {

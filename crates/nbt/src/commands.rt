@@ -2,7 +2,6 @@
 
 pub mod agree;
 pub mod build;
-pub mod forms;
 pub mod list;
 pub mod merge;
 pub mod name;

@@ -3,10 +3,11 @@ ghost use Rattle.std.specs.Prelude.{◌≡◌};
 ghost use Rattle.nbt.specs.FaultTexts.{status_of};
 
 use crate::status::Status;
+use nb_building::BuildFault;
 use nb_names::{NameFault, NoMemory, TextFault};
 use nb_table::LoadFault;
-use std::alloc::AllocFailed;
-use std::{fmt, io};
+use std::alloc::{AllocError, AllocFailed};
+use std::fmt;
 
 /// Why a command ended before it was done.
 #[derive(Clone, Copy, Debug, PartialEq, Eq)]
@@ -126,6 +127,23 @@ impl From<NameFault> for Fault {
     }
 }
 
+impl From<BuildFault> for Fault {
+    ghost use Rattle.std.specs.Prelude.{◌≡◌};
+    ghost use Rattle.nbt.specs.Building.{reported};
+
+    ghost from_gives = { λ fault made. made ≡ reported fault };
+
+    fn from(fault: BuildFault) -> Fault {
+        match fault {
+            BuildFault::Text(fault) => Fault::Text(fault),
+            BuildFault::Arguments => Fault::Arguments,
+            BuildFault::TooLong => Fault::TooLong,
+            BuildFault::ZeroPiece => Fault::ZeroPiece,
+            BuildFault::Memory => Fault::Memory,
+        }
+    }
+}
+
 impl From<NoMemory> for Fault {
     ghost use Rattle.std.specs.Prelude.{◌≡◌};
     ghost use Rattle.nbt.specs.declared.fault.Fault.TheVariants.{Memory};
@@ -137,14 +155,14 @@ impl From<NoMemory> for Fault {
     }
 }
 
-impl From<io::Error> for Fault {
+impl From<AllocError> for Fault {
     ghost use Rattle.std.specs.Prelude.{◌≡◌};
-    ghost use Rattle.nbt.specs.declared.fault.Fault.TheVariants.{Write};
+    ghost use Rattle.nbt.specs.declared.fault.Fault.TheVariants.{Memory};
 
-    ghost from_gives = { λ _ made. made ≡ Write };
+    ghost from_gives = { λ _ made. made ≡ Memory };
 
-    fn from(_error: io::Error) -> Fault {
-        Fault::Write
+    fn from(_fault: AllocError) -> Fault {
+        Fault::Memory
     }
 }
 

@@ -10,10 +10,9 @@ mod fault;
 mod flushing;
 mod help;
 mod joining_input;
-mod json_lines;
-mod lines;
-mod listing;
+mod objects;
 mod output;
+mod printing_lines;
 mod program;
 mod refusals;
 mod saved;
@@ -26,6 +25,7 @@ use crate::fault::Fault;
 use crate::flushing::{FlushingInput, SharedOutput};
 use crate::output::Output;
 use crate::program::{report, run};
+use nb_names::Counted;
 use std::alloc::Global;
 use std::cell::RefCell;
 use std::env;
@@ -51,8 +51,9 @@ fn main(rt: HostRuntime) -> ExitCode {
 fn run_buffered(rt: &HostRuntime) -> Result<u8, Fault> {
     let words = words_of(rt)?;
     let printed = RefCell::new(buffered(rt.alloc(), rt.stdout())?);
-    let mut errors = buffered(rt.alloc(), rt.stderr())?;
+    let mut errors = Output::new(buffered(rt.alloc(), rt.stderr())?);
     let answer = run_flushing(rt, words.as_slice(), &printed, &mut errors);
+    let mut errors = errors.into_inner();
     let mut output = printed.into_inner();
     let shown = match answer {
         Ok(code) => output.flush().map(|()| code).map_err(|_| Fault::Write),
@@ -77,15 +78,15 @@ fn run_flushing<W: Write, E: Write>(
     rt: &HostRuntime,
     words: &[String],
     printed: &RefCell<W>,
-    errors: &mut E,
+    errors: &mut Output<E>,
 ) -> Result<u8, Fault> {
-    let mut input = FlushingInput::new(rt.stdin(), printed);
-    let mut output = SharedOutput::new(printed);
-    let code = run(rt.alloc(), words, &mut input, &mut output, errors);
-    if input.flush_failed() {
+    let mut input = Counted::new(FlushingInput::new(rt.stdin(), printed));
+    let mut output = Output::new(SharedOutput::new(printed));
+    let status = run(rt.alloc(), words, &mut input, &mut output, errors);
+    if input.into_inner().flush_failed() {
         return Err(Fault::Write);
     }
-    Ok(code)
+    Ok(status.code())
 }
 
 /// A device with a buffer of fixed size before it.

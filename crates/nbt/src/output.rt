@@ -1,29 +1,22 @@
 //! The program's output: what is written, and whether a write came to nothing.
-ghost use Rattle.std.specs.Prelude.{◌≡◌, ◌<◌, ◌≤◌, length, take, string_bytes, OnOk, OnErr, IfOk, IfErr};
+ghost use Rattle.std.specs.Prelude.{◌≡◌, ◌<◌, ◌≤◌, length, take, OnOk, OnErr, IfOk, IfErr};
 ghost use Rattle.std.specs.Io.KnownBytes.{Appends};
 ghost use Rattle.nb_names.specs.Counted.{no_calls};
-ghost use Rattle.nb_names.specs.Hexadecimal.{digits_text};
 ghost use Rattle.nb_names.specs.Devices.{AppendsFront, GrowTo, ShowsWriteFault};
-ghost use Rattle.nbt.specs.Printing.{line};
-ghost use Rattle.nbt.specs.Replaying.{EndsWith, ReplaysIn};
 ghost use Rattle.nbt.specs.Saved.{saved_digits};
-ghost use Rattle.nbt.specs.Input.{WasCut};
 
-use crate::commands::replay::outcome_of;
 use crate::fault::Fault;
-use nb_member::{CaptureOptions, Member, replay_with};
+use nb_names::Counted;
 use nb_names::output::{write_some, write_whole};
-use nb_names::{Counted, NoMemory, push_digits};
 use nb_table::Table;
-use std::alloc::Global;
 use std::io;
-use std::io::{ErrorKind, Read, Write};
+use std::io::{ErrorKind, Write};
 use std::marker::Model;
 
 /// A device to write to, whose calls are counted for contracts.
 #[derive(Drop)]
 pub struct Output<W> {
-    device: Counted<W>,
+    pub(crate) device: Counted<W>,
 }
 
 impl<W> Model for Output<W> {
@@ -99,32 +92,6 @@ impl<W> Output<W> {
             Err(_) => Err(Fault::Write),
         }
     }
-
-    /// Replays an input in a member, as the options say, and writes the report.
-    ///
-    /// # Errors
-    ///
-    /// Those of [`replay_with`].
-    pub fn replay<R: Read>(
-        &mut self,
-        alloc: Global,
-        mut member: Member,
-        input: &mut Counted<R>,
-        options: CaptureOptions,
-    ) -> Result<(), Fault>
-    where
-        W: Write,
-        ensures replayed { EndsWith (ReplaysIn options member
-            (R.remaining input.old.inner) (R.remaining input.new.inner)
-            (W.contents self.old.inner) (W.contents self.new.inner)) result }
-        ensures cut { IfErr result (λ fault. fault ≡ Fault.Read →
-            WasCut options.most (R.remaining input.old.inner) (R.remaining input.new.inner)
-            input.old.counts input.new.counts) }
-        ensures why { IfErr result (λ fault. fault ≡ Fault.Write →
-            ShowsWriteFault self.old.counts self.new.counts) }
-    {
-        outcome_of(replay_with(alloc, input, &mut self.device, &mut member, options))
-    }
 }
 
 impl<W: Write> Write for Output<W> {
@@ -143,32 +110,4 @@ impl<W: Write> Write for Output<W> {
     fn flush(&mut self) -> io::Result<()> {
         Ok(())
     }
-}
-
-/// The text as a line.
-///
-/// # Errors
-///
-/// [`Fault::Memory`] where memory ran out.
-pub fn with_line_feed(mut text: String) -> Result<String, Fault>
-    ensures value { IfOk result (λ made. string_bytes made ≡ line (string_bytes text)) }
-    ensures fault { IfErr result (λ fault. fault ≡ Fault.Memory) }
-{
-    match text.push('\n') {
-        Ok(()) => Ok(text),
-        Err(_) => Err(Fault::Memory),
-    }
-}
-
-/// The hexadecimal digits of bytes.
-///
-/// # Errors
-///
-/// [`NoMemory`] where memory ran out.
-pub fn digits_of(alloc: Global, bytes: &[u8]) -> Result<String, NoMemory>
-    ensures { IfOk result (λ text. string_bytes text ≡ digits_text bytes.now) }
-{
-    let mut text = String::new(alloc);
-    push_digits(bytes, &mut text)?;
-    Ok(text)
 }

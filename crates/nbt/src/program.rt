@@ -1,22 +1,25 @@
 //! The program over any input and output.
-ghost use Rattle.std.specs.Prelude.{◌≡◌, ◌≢◌, ◌≤◌, map, string_bytes, Ok, Err, OnOk, IfOk, IfErr};
+ghost use Rattle.std.specs.Prelude.{◌≡◌, ◌≢◌, map, string_bytes, true, IfOk, IfErr};
 ghost use Rattle.std.specs.Io.KnownBytes.{Keeps};
-ghost use Rattle.clap.specs.Words.{kind_of, subcommand_name_of};
 ghost use Rattle.nb_names.specs.Devices.{ShowsWriteFault};
+ghost use Rattle.clap.specs.Words.{kind_of, subcommand_name_of, takes};
 ghost use Rattle.nbt.specs.FaultTexts.{status_after};
-ghost use Rattle.nbt.specs.CommandLine.{AreAlone, DoesRead};
+ghost use Rattle.nbt.specs.CommandLine.{AreAlone, DoesRead, nbt_app};
 ghost use Rattle.nbt.specs.ClapAnswer.{Reports, answer_to};
-ghost use Rattle.nbt.specs.Refusals.{IsPrintFault};
+ghost use Rattle.nbt.specs.Commands.{Ran, RanBy, streams, with_status};
+ghost use Rattle.nbt.specs.Refusals.{AsksRefusal, IsPrintFault};
 
 use crate::advice::{asked, helped_command, print_advice, refusal_lines};
 use crate::clap_answer::ClapAnswer;
 use crate::command_line::command;
 use crate::commands::agree::run_agree;
 use crate::commands::build::run_build;
-use crate::commands::forms::{list_in_form, replay_in_form, show_in_form};
+use crate::commands::list::run_list;
 use crate::commands::merge::run_merge;
 use crate::commands::name::run_name;
+use crate::commands::replay::run_replay;
 use crate::commands::save::run_save;
+use crate::commands::show::run_show;
 use crate::fault::Fault;
 use crate::output::Output;
 use crate::refusals::refusals;
@@ -30,38 +33,22 @@ use std::io::{Read, Write};
 ///
 /// The first of the words is the program's name. What is asked for goes to `output`, a fault to
 /// `errors` as one line after `nbt: `; a fault in writing that line changes nothing. The status is
-/// 0 where all was done, 1 where input was refused or two tables differ, 2 where the command line
-/// was bad (with `clap`'s text on `errors`), 3 where a device failed or memory ran out. `clap`'s
-/// help, with what the command may refuse, the line of a refusal after the word `help`, and the
-/// version go to `output`, with status 0.
+/// that all was done, that input was refused or two tables differ, that the command line was bad
+/// (with `clap`'s text on `errors`), or that a device failed or memory ran out. `clap`'s help, with
+/// what the command may refuse, the line of a refusal after the word `help`, and the version go to
+/// `output`, and all is done then.
 pub fn run<R: Read, W: Write, E: Write>(
-    alloc: Global,
-    words: &[String],
-    input: &mut R,
-    output: &mut W,
-    errors: &mut E,
-) -> u8
-    ensures within { result ≤ 3 }
-    ensures alone { AreAlone (map string_bytes words.now) → result ≢ 2 }
-{
-    let mut input = Counted::new(&mut *input);
-    let mut output = Output::new(&mut *output);
-    let mut errors = Output::new(&mut *errors);
-    let status = run_words(alloc, words, &mut input, &mut output, &mut errors);
-    let _ = errors.into_inner();
-    let _ = output.into_inner();
-    let _ = input.into_inner();
-    status.code()
-}
-
-/// Runs the program over streams whose calls are counted.
-fn run_words<R: Read, W: Write, E: Write>(
     alloc: Global,
     words: &[String],
     input: &mut Counted<R>,
     output: &mut Output<W>,
     errors: &mut Output<E>,
 ) -> Status
+    // Words that are a command with its own options and arguments, as clap takes them.
+    ensures ran { takes nbt_app (map string_bytes words.now) ≡ true →
+        ¬ AsksRefusal (map string_bytes words.now) →
+        RanBy (map string_bytes words.now) (streams R.remaining W.contents
+        input.old input.new output.old output.new) result }
     ensures alone { AreAlone (map string_bytes words.now) → result ≢ Status.BadUsage }
     ensures usage { result ≡ Status.BadUsage →
         Keeps (W.contents output.old.inner) (W.contents output.new.inner) }
@@ -89,6 +76,8 @@ fn run_command<R: Read, W: Write>(
     input: &mut Counted<R>,
     output: &mut Output<W>,
 ) -> Result<Status, Fault>
+    ensures ran { Ran matches.now (streams R.remaining W.contents
+        input.old input.new output.old output.new) result }
     ensures status { IfOk result (λ status. status ≢ Status.BadUsage) }
     ensures unread { ¬ DoesRead (subcommand_name_of matches.now) → input.new ≡ input.old }
     ensures why { IfErr result (λ fault. fault ≡ Fault.Write →
@@ -96,12 +85,12 @@ fn run_command<R: Read, W: Write>(
 {
     match matches.subcommand() {
         Some(("name", matches)) => done(run_name(alloc, matches, output)),
-        Some(("show", matches)) => done(show_in_form(alloc, matches, input, output)),
+        Some(("show", matches)) => done(run_show(alloc, matches, input, output)),
         Some(("build", matches)) => done(run_build(alloc, matches, output)),
-        Some(("replay", matches)) => done(replay_in_form(alloc, matches, input, output)),
+        Some(("replay", matches)) => done(run_replay(alloc, matches, input, output)),
         Some(("save", matches)) => done(run_save(alloc, matches, input, output)),
         Some(("merge", matches)) => done(run_merge(alloc, matches, input, output)),
-        Some(("list", matches)) => done(list_in_form(alloc, matches, input, output)),
+        Some(("list", matches)) => done(run_list(alloc, matches, input, output)),
         Some(("agree", matches)) => run_agree(alloc, matches, input, output),
         _ => Err(Fault::Arguments),
     }
@@ -109,8 +98,7 @@ fn run_command<R: Read, W: Write>(
 
 /// The outcome of a command that is done where it has no fault.
 fn done(outcome: Result<(), Fault>) -> Result<Status, Fault>
-    ensures ok { OnOk outcome (result ≡ Ok Status.Done) }
-    ensures err { IfErr outcome (λ fault. result ≡ Err fault) }
+    ensures { result ≡ with_status outcome }
 {
     match outcome {
         Ok(()) => Ok(Status::Done),

@@ -1,6 +1,6 @@
 //! What the program's members and tables are set up with.
 ghost use Rattle.std.specs.Prelude.{◌≡◌, Bool, true, false, IfOk, IfErr};
-ghost use Rattle.nbt.specs.Settings.{AreComments, AreOptions, HasNoCapacity, IsCapacity, IsInputLimit, IsJson, IsListed, IsText, program_settings};
+ghost use Rattle.nbt.specs.Settings.{AreComments, AreOptions, AsksJson, AsksText, HasNoCapacity, IsCapacity, IsInputLimit, IsListed, program_settings};
 
 use crate::fault::Fault;
 use clap::ArgMatches;
@@ -59,8 +59,8 @@ pub fn is_listed(matches: &ArgMatches<'_>) -> bool
 
 /// Whether `--json` is given.
 pub fn is_json(matches: &ArgMatches<'_>) -> bool
-    ensures text { IsText matches.now → result ≡ false }
-    ensures json { IsJson matches.now → result ≡ true }
+    ensures text { AsksText matches.now → result ≡ false }
+    ensures json { AsksJson matches.now → result ≡ true }
 {
     matches.get_flag("json")
 }

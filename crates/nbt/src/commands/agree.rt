@@ -1,10 +1,10 @@
 //! `nbt agree`: whether two saved tables are the same.
-ghost use Rattle.std.specs.Prelude.{◌≡◌, ◌≢◌, ◌⊎◌, Bool, IfOk, IfErr};
+ghost use Rattle.std.specs.Prelude.{◌≡◌, ◌≢◌, ◌⊎◌, IfOk, IfErr};
 ghost use Rattle.std.specs.Io.KnownBytes.{Keeps};
 ghost use Rattle.nb_names.specs.declared.limits.TheConstants.{MAX_INPUT};
 ghost use Rattle.nbt.specs.Input.{WasCut};
 ghost use Rattle.nb_names.specs.Devices.{ShowsWriteFault};
-ghost use Rattle.nbt.specs.Settings.{IsListed};
+ghost use Rattle.nbt.specs.Commands.{AgreeCommand, streams};
 ghost use Rattle.nbt.specs.Tables.{CompareFails, ComparesTables, FailsOn, Tells, TellsFront};
 
 use crate::differences::print_differences;
@@ -35,25 +35,8 @@ pub fn run_agree<R: Read, W: Write>(
     input: &mut Counted<R>,
     output: &mut Output<W>,
 ) -> Result<Status, Fault>
-    ensures printed { (list : Bool) → IsListed matches.now list →
-        IfOk result (λ status. ComparesTables (λ t u. Tells list t u status
-        (W.contents output.old.inner) (W.contents output.new.inner))
-        (R.remaining input.old.inner) (R.remaining input.new.inner)) }
-    ensures status { IfOk result (λ status. status ≢ Status.BadUsage) }
-    ensures err { IfErr result (λ fault. fault ≢ Fault.Write →
-        Keeps (W.contents output.old.inner) (W.contents output.new.inner)) }
-    ensures write { (list : Bool) → IsListed matches.now list →
-        IfErr result (λ fault. fault ≡ Fault.Write →
-        ComparesTables (λ t u. TellsFront list t u
-        (W.contents output.old.inner) (W.contents output.new.inner))
-        (R.remaining input.old.inner) (R.remaining input.new.inner)) }
-    ensures fault { IfErr result (FailsOn CompareFails
-        (R.remaining input.old.inner) (R.remaining input.new.inner)) }
-    ensures cut { IfErr result (λ fault. fault ≡ Fault.Read →
-        WasCut MAX_INPUT (R.remaining input.old.inner) (R.remaining input.new.inner)
-        input.old.counts input.new.counts) }
-    ensures why { IfErr result (λ fault. fault ≡ Fault.Write →
-        ShowsWriteFault output.old.counts output.new.counts) }
+    ensures { AgreeCommand matches.now (streams R.remaining W.contents
+        input.old input.new output.old output.new) result }
 {
     compare(alloc, is_listed(matches), input, output)
 }

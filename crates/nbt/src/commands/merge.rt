@@ -1,11 +1,5 @@
 //! `nbt merge`: saved tables, joined.
-ghost use Rattle.std.specs.Prelude.{◌≡◌, IfErr};
-ghost use Rattle.nb_names.specs.declared.limits.TheConstants.{MAX_INPUT};
-ghost use Rattle.nbt.specs.Input.{WasCut};
-ghost use Rattle.nb_names.specs.Devices.{ShowsWriteFault};
-ghost use Rattle.nbt.specs.Saved.{saved_line};
-ghost use Rattle.nbt.specs.Settings.{IsCapacity};
-ghost use Rattle.nbt.specs.Tables.{PrintsJoin};
+ghost use Rattle.nbt.specs.Commands.{MergeCommand, streams};
 
 use crate::fault::Fault;
 use crate::joining_input::joined_input;
@@ -29,14 +23,8 @@ pub fn run_merge<R: Read, W: Write>(
     input: &mut Counted<R>,
     output: &mut Output<W>,
 ) -> Result<(), Fault>
-    ensures prints { PrintsJoin (IsCapacity matches.now) saved_line
-        (R.remaining input.old.inner) (R.remaining input.new.inner)
-        (W.contents output.old.inner) (W.contents output.new.inner) result }
-    ensures cut { IfErr result (λ fault. fault ≡ Fault.Read →
-        WasCut MAX_INPUT (R.remaining input.old.inner) (R.remaining input.new.inner)
-        input.old.counts input.new.counts) }
-    ensures why { IfErr result (λ fault. fault ≡ Fault.Write →
-        ShowsWriteFault output.old.counts output.new.counts) }
+    ensures { MergeCommand matches.now (streams R.remaining W.contents
+        input.old input.new output.old output.new) result }
 {
     let table = joined_input(alloc, matches, input)?;
     print_saved(&table, output)

@@ -6,11 +6,11 @@ ghost use Rattle.nbt.specs.NameCommand.{IsValue, IsFlag, OutcomeOf};
 ghost use Rattle.nbt.specs.Printing.{Leaves, PrintsSpelling, PrintsName, IsSpellingOf, IsSpellingFault, IsNameOf, IsNameFault, IsDecodeFault, IsNoWrite};
 
 use crate::fault::Fault;
-use crate::output::{Output, digits_of, with_line_feed};
+use crate::output::Output;
 use clap::ArgMatches;
 use nb_names::{
-    Bytes, DigitsFault, Pointers, bytes_of_digits, name_from_text, name_text, read_name,
-    write_domain,
+    Bytes, DigitsFault, Pointers, bytes_of_digits, name_from_text, name_text, push_digits,
+    read_name, write_domain,
 };
 use std::alloc::Global;
 use std::io::Write;
@@ -66,7 +66,8 @@ pub fn print_spelling<W: Write>(
     ensures why { IfErr result (λ fault. fault ≡ Fault.Write →
         ShowsWriteFault output.old.counts output.new.counts) }
 {
-    let line = with_line_feed(spelling_of(alloc, text)?)?;
+    let mut line = spelling_of(alloc, text)?;
+    line.push('\n')?;
     output.print(line.as_bytes())
 }
 
@@ -90,7 +91,8 @@ pub fn print_name<W: Write>(
     ensures why { IfErr result (λ fault. fault ≡ Fault.Write →
         ShowsWriteFault output.old.counts output.new.counts) }
 {
-    let line = with_line_feed(name_of(alloc, digits)?)?;
+    let mut line = name_of(alloc, digits)?;
+    line.push('\n')?;
     output.print(line.as_bytes())
 }
 
@@ -101,7 +103,9 @@ fn spelling_of(alloc: Global, text: &str) -> Result<String, Fault>
 {
     let name = name_from_text(text)?;
     let spelling = write_domain(alloc, &name.to_domain())?;
-    Ok(digits_of(alloc, spelling.as_slice())?)
+    let mut digits = String::new(alloc);
+    push_digits(spelling.as_slice(), &mut digits)?;
+    Ok(digits)
 }
 
 /// The text of the name whose spelling the digits are.

@@ -1,23 +1,25 @@
 //! `nbt replay`: the report of a capture, in a member with names.
-ghost use Rattle.std.specs.Prelude.{◌≡◌, ◌≢◌, ℕ, map, Err, OnOk, IfOk, IfErr};
+ghost use Rattle.std.specs.Prelude.{◌≡◌, map, Err, OnOk, IfOk, IfErr};
 ghost use Rattle.nb_names.specs.NameText.{IsFaultOf};
-ghost use Rattle.nb_names.specs.Devices.{ShowsWriteFault};
-ghost use Rattle.nbt.specs.Replaying.{AddsEach, AddsName, AreTexts, EndsWith, IsNamesFault, IsRefusedName, IsReplay, ReplaysCapture};
-ghost use Rattle.nbt.specs.Input.{WasCut};
-ghost use Rattle.nbt.specs.Settings.{AreOptions, IsCapacity, IsInputLimit};
+ghost use Rattle.nbt.specs.Commands.{ReplayCommand, streams};
+ghost use Rattle.nbt.specs.Replaying.{AddsEach, AddsName, AreTexts, Begins, EndsWith, IsNamesFault, IsRefusedName, IsUnbegun};
+ghost use Rattle.nbt.specs.Settings.{IsCapacity};
 
 use crate::fault::Fault;
 use crate::output::Output;
-use crate::settings::{capacity_of, options_of, settings_with};
+use crate::printing_lines::print_objects;
+use crate::settings::{capacity_of, is_json, options_of, settings_with};
+use crate::telling::Outcomes;
 use clap::ArgMatches;
-use nb_member::{AddFault, LocalNames, Member, ReplayFault};
+use nb_member::{AddFault, LocalNames, Member, ReplayFault, replay_with};
 use nb_names::{Counted, name_from_text};
 use std::alloc::Global;
 use std::io::{Read, Write};
 
-/// `nbt replay [--keys N] [--per-source N] [--input-limit BYTES] [--comments] NAME..`: replays the
-/// input in a member with these names, and prints the report, with `--comments` the comments of the
-/// capture in it. A name that is repeated is passed over.
+/// `nbt replay [--keys N] [--per-source N] [--input-limit BYTES] [--comments] [--json] NAME..`:
+/// replays the input in a member with these names, and prints the report, with `--comments` the
+/// comments of the capture in it, or an object for each line of the report. A name that is repeated
+/// is passed over.
 ///
 /// # Errors
 ///
@@ -32,27 +34,16 @@ pub fn run_replay<R: Read, W: Write>(
     input: &mut Counted<R>,
     output: &mut Output<W>,
 ) -> Result<(), Fault>
-    ensures printed { IsReplay (ReplaysCapture (IsCapacity matches.now)
-        (AreOptions matches.now) (AreTexts matches.now)
-        (R.remaining input.old.inner) (R.remaining input.new.inner)
-        (W.contents output.old.inner) (W.contents output.new.inner))
-        (IsCapacity matches.now) (AreTexts matches.now)
-        (R.remaining input.old.inner) (R.remaining input.new.inner)
-        (W.contents output.old.inner) (W.contents output.new.inner) result }
-    ensures cut { IfErr result (λ fault. fault ≡ Fault.Read →
-        (most : ℕ) × IsInputLimit matches.now most ×
-        WasCut most (R.remaining input.old.inner) (R.remaining input.new.inner)
-        input.old.counts input.new.counts) }
-    ensures why { IfErr result (λ fault. fault ≡ Fault.Write →
-        ShowsWriteFault output.old.counts output.new.counts) }
+    ensures { ReplayCommand matches.now (streams R.remaining W.contents
+        input.old input.new output.old output.new) result }
 {
-    let capacity = capacity_of(matches)?;
-    let Some(words) = matches.get_strs("NAME") else {
-        return Err(Fault::Arguments);
-    };
-    let names = names_of(alloc, words)?;
-    let member = Member::new(alloc, settings_with(capacity), names);
-    output.replay(alloc, member, input, options_of(matches))
+    let mut member = member_of(alloc, matches)?;
+    let options = options_of(matches);
+    if is_json(matches) {
+        let told = Outcomes { alloc, member };
+        return print_objects(alloc, told, options, input, &mut output.device);
+    }
+    outcome_of(replay_with(alloc, input, &mut output.device, &mut member, options))
 }
 
 /// The member that a replay begins with: new, with the names of the words.
@@ -60,8 +51,10 @@ pub fn run_replay<R: Read, W: Write>(
 /// # Errors
 ///
 /// Those of [`run_replay`] that come before any input is read.
-pub fn member_of(alloc: Global, matches: &ArgMatches<'_>) -> Result<Member, Fault>
-    ensures fault { IfErr result (λ fault. fault ≢ Fault.Write) }
+fn member_of(alloc: Global, matches: &ArgMatches<'_>) -> Result<Member, Fault>
+    ensures made { IfOk result (Begins (IsCapacity matches.now) (AreTexts matches.now)) }
+    ensures fault { IfErr result
+        (IsUnbegun (IsCapacity matches.now) (AreTexts matches.now)) }
 {
     let capacity = capacity_of(matches)?;
     let Some(words) = matches.get_strs("NAME") else {
@@ -72,7 +65,7 @@ pub fn member_of(alloc: Global, matches: &ArgMatches<'_>) -> Result<Member, Faul
 }
 
 /// What the program answers where a replay answers this.
-pub fn outcome_of(replayed: Result<u64, ReplayFault>) -> Result<(), Fault>
+fn outcome_of(replayed: Result<u64, ReplayFault>) -> Result<(), Fault>
     ensures ends { EndsWith (λ answer. answer ≡ replayed) result }
     ensures write { result ≡ Err Fault.Write → replayed ≡ Err ReplayFault.Write }
 {

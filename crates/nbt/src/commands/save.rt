@@ -1,22 +1,15 @@
 //! `nbt save`: what a capture says of datagrams, as a saved table.
-ghost use Rattle.std.specs.Prelude.{◌≡◌, ℕ, ◌≢◌, ◌⊎◌, IfOk, IfErr, OnOk};
-ghost use Rattle.std.specs.Io.KnownBytes.{Keeps};
-ghost use Rattle.nb_member.specs.Member.{contents};
-ghost use Rattle.nbt.specs.Input.{WasCut};
-ghost use Rattle.nb_names.specs.Devices.{ShowsWriteFault};
-ghost use Rattle.nbt.specs.Printing.{PrintsFront, PrintsLine};
-ghost use Rattle.nbt.specs.SaveFaults.{LineStops, PayloadStops, SaidStops, SaveFails, StopsSaving};
-ghost use Rattle.nbt.specs.Saved.{saved_digits};
-ghost use Rattle.nbt.specs.Saving.{SavesCapture, TakesLine, TakesPayload, TakesSaid};
-ghost use Rattle.nbt.specs.Settings.{IsCapacity, IsInputLimit};
+ghost use Rattle.std.specs.Prelude.{◌≡◌, Some, IfOk, IfErr, OnOk};
+ghost use Rattle.nbt.specs.Commands.{SaveCommand, streams};
+ghost use Rattle.nbt.specs.SaveFaults.{PayloadStops, SaidStops, StopsSaving, saving_fault};
+ghost use Rattle.nbt.specs.Saving.{TakesInput, TakesPayload, TakesSaid};
 
 use crate::fault::Fault;
-use crate::lines::said_by;
 use crate::output::Output;
 use crate::saved::print_saved;
 use crate::settings::{Capacity, PORT, capacity_of, input_limit_of, settings_with};
 use clap::ArgMatches;
-use nb_member::{Line, LineReadFault, LineRoom, LocalNames, Member, MemberFault, next_from};
+use nb_member::{Line, LineTaker, LinesFault, LocalNames, Member, MemberFault, take_lines};
 use nb_names::Counted;
 use nb_table::TableFault;
 use std::alloc::Global;
@@ -39,24 +32,8 @@ pub fn run_save<R: Read, W: Write>(
     input: &mut Counted<R>,
     output: &mut Output<W>,
 ) -> Result<(), Fault>
-    ensures printed { OnOk result (SavesCapture (IsCapacity matches.now) (IsInputLimit matches.now)
-        (PrintsLine (W.contents output.old.inner) (W.contents output.new.inner))
-        (R.remaining input.old.inner) (R.remaining input.new.inner)) }
-    ensures err { IfErr result (λ fault. fault ≢ Fault.Write →
-        Keeps (W.contents output.old.inner) (W.contents output.new.inner)) }
-    ensures write { IfErr result (λ fault. fault ≡ Fault.Write →
-        SavesCapture (IsCapacity matches.now) (IsInputLimit matches.now)
-        (PrintsFront (W.contents output.old.inner) (W.contents output.new.inner))
-        (R.remaining input.old.inner) (R.remaining input.new.inner)) }
-    ensures fault { IfErr result (SaveFails (IsCapacity matches.now) (IsInputLimit matches.now)
-        (R.remaining input.old.inner) (R.remaining input.new.inner)
-        input.old.counts input.new.counts) }
-    ensures cut { IfErr result (λ fault. fault ≡ Fault.Read →
-        (most : ℕ) × IsInputLimit matches.now most ×
-        WasCut most (R.remaining input.old.inner) (R.remaining input.new.inner)
-        input.old.counts input.new.counts) }
-    ensures why { IfErr result (λ fault. fault ≡ Fault.Write →
-        ShowsWriteFault output.old.counts output.new.counts) }
+    ensures { SaveCommand matches.now (streams R.remaining W.contents
+        input.old input.new output.old output.new) result }
 {
     let capacity = capacity_of(matches)?;
     let member = member_after(alloc, capacity, input_limit_of(matches), input)?;
@@ -71,66 +48,93 @@ fn member_after<R: Read>(
     most: u64,
     input: &mut Counted<R>,
 ) -> Result<Member, Fault>
-    ensures took { IfOk result (λ new. SavesCapture (λ given. given ≡ capacity)
-        (λ number. number ≡ most)
-        (λ digits. digits ≡ saved_digits (contents new))
+    ensures took { IfOk result (TakesInput capacity most
         (R.remaining input.old.inner) (R.remaining input.new.inner)) }
-    ensures fault { IfErr result (λ fault. fault ≢ Fault.Write) }
-    ensures stops { IfErr result (λ fault. (fault ≡ Fault.Memory) ⊎
-        StopsSaving (λ given. given ≡ capacity) (λ number. number ≡ most)
+    ensures stops { IfErr result (StopsSaving capacity most
         (R.remaining input.old.inner) (R.remaining input.new.inner)
-        input.old.counts input.new.counts fault) }
+        input.old.counts input.new.counts) }
 {
-    let mut member = Member::new(alloc, settings_with(capacity), LocalNames::new(alloc));
-    let mut room = LineRoom::within(alloc, most);
-    let mut number = 0;
-    'lines: loop {
-        match next_from(&mut room, input) {
-            Ok(Some(line)) => {
-                number += 1;
-                take_line(alloc, number, line, &mut member)?;
-            }
-            Ok(None) => return Ok(member),
-            Err(LineReadFault::TooLong) => return Err(Fault::Line(number + 1)),
-            Err(LineReadFault::Read) => return Err(Fault::Read),
-            Err(LineReadFault::NoMemory) => return Err(Fault::Memory),
-        }
+    let mut saver = Saver {
+        member: Member::new(alloc, settings_with(capacity), LocalNames::new(alloc)),
+    };
+    let taken = take_lines(alloc, most, input, &mut saver);
+    let Saver { member } = saver;
+    match taken {
+        Ok(_) => Ok(member),
+        Err(fault) => Err(fault_of(fault)),
     }
 }
 
-/// Has the member take what one line says.
-fn take_line(alloc: Global, number: usize, line: &[u8], member: &mut Member) -> Result<(), Fault>
-    ensures took { OnOk result (TakesLine member.old line.now member.new) }
-    ensures fault { IfErr result (λ fault. fault ≢ Fault.Write) }
-    ensures no_read { IfErr result (λ fault. fault ≢ Fault.Read) }
-    ensures stops { IfErr result (LineStops number member.old line.now) }
+/// What the program answers where the lines of an input weren't all taken, for this.
+fn fault_of(fault: LinesFault<Fault>) -> Fault
+    ensures { result ≡ saving_fault fault }
 {
-    let said = said_by(alloc, number, line)?;
-    take_said(said, member)
+    match fault {
+        LinesFault::Line(number) => Fault::Line(number as usize),
+        LinesFault::Read => Fault::Read,
+        LinesFault::NoMemory => Fault::Memory,
+        LinesFault::NotTaken(fault) => fault,
+    }
+}
+
+/// A member that takes the payloads of port 138, and sets its clock at the ticks.
+#[derive(Drop)]
+struct Saver {
+    member: Member,
+}
+
+impl LineTaker for Saver {
+    ghost use Rattle.nb_member.specs.Member.{MemberValue};
+    ghost use Rattle.nbt.specs.SaveFaults.{UnsavedLine};
+    ghost use Rattle.nbt.specs.Saving.{SavesLine};
+
+    type Fault = Fault;
+
+    ghost State = { MemberValue };
+
+    ghost state = { λ s. s.member };
+
+    ghost Beside = { Unit {0} };
+
+    ghost beside = { λ s. tt };
+
+    ghost takes = { λ kept. SavesLine };
+
+    ghost fails = { λ kept. UnsavedLine };
+
+    fn take(&mut self, _number: u64, _line: &[u8], said: &Option<Line>) -> Result<(), Fault> {
+        take_said(said, &mut self.member)
+    }
 }
 
 /// Has the member take a payload of port 138, or set its clock; all else is passed over.
-fn take_said(said: Option<Line>, member: &mut Member) -> Result<(), Fault>
-    ensures took { OnOk result (TakesSaid member.old said member.new) }
-    ensures fault { IfErr result (λ fault. fault ≢ Fault.Write) }
-    ensures no_read { IfErr result (λ fault. fault ≢ Fault.Read) }
-    ensures stops { IfErr result (SaidStops member.old said) }
+fn take_said(said: &Option<Line>, member: &mut Member) -> Result<(), Fault>
+    ensures took { OnOk result (TakesSaid member.old said.now member.new) }
+    ensures stops { IfErr result (SaidStops member.old said.now) }
 {
     match said {
+        Some(said) => take_value(said, member),
         None => Ok(()),
-        Some(Line::Tick { now }) => {
-            member.tick(now);
+    }
+}
+
+/// The same of what a line says.
+fn take_value(said: &Line, member: &mut Member) -> Result<(), Fault>
+    ensures took { OnOk result (TakesSaid member.old (Some said.now) member.new) }
+    ensures stops { IfErr result (SaidStops member.old (Some said.now)) }
+{
+    match said {
+        Line::Tick { now } => {
+            member.tick(*now);
             Ok(())
         }
-        Some(
-            Line::Packet {
-                port,
-                moment,
-                payload,
-            },
-        ) => {
-            if port == PORT {
-                take_payload(moment, payload.as_slice(), member)?;
+        Line::Packet {
+            port,
+            moment,
+            payload,
+        } => {
+            if *port == PORT {
+                take_payload(*moment, payload.as_slice(), member)?;
             }
             Ok(())
         }
@@ -140,8 +144,6 @@ fn take_said(said: Option<Line>, member: &mut Member) -> Result<(), Fault>
 /// Has the member take a payload. One that it refuses is passed over, unless its table is full.
 fn take_payload(moment: u64, payload: &[u8], member: &mut Member) -> Result<(), Fault>
     ensures took { OnOk result (TakesPayload member.old moment payload.now member.new) }
-    ensures fault { IfErr result (λ fault. fault ≢ Fault.Write) }
-    ensures no_read { IfErr result (λ fault. fault ≢ Fault.Read) }
     ensures stops { IfErr result (PayloadStops member.old moment payload.now) }
 {
     match member.hold(moment, payload) {

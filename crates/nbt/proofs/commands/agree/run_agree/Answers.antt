@@ -1,8 +1,13 @@
 use Rattle.std.proofs.Common.{sym}
 use Rattle.nbt.proofs.commands.agree.run_agree.Goals as goal
 
-pub returns-clause-printed : goal.returns-clause-printed
-returns-clause-printed g c list is = rw (sym (c.is_listed.ensures list is)) c.compare.ensures.printed
-
-pub returns-clause-write : goal.returns-clause-write
-returns-clause-write g c list is = rw (sym (c.is_listed.ensures list is)) c.compare.ensures.write
+pub returns : goal.returns
+returns g c = record {
+  printed = λ list is. rw (sym (c.is_listed.ensures list is)) c.compare.ensures.printed;
+  status = c.compare.ensures.status;
+  err = c.compare.ensures.err;
+  write = λ list is. rw (sym (c.is_listed.ensures list is)) c.compare.ensures.write;
+  fault = c.compare.ensures.fault;
+  cut = c.compare.ensures.cut;
+  why = c.compare.ensures.why;
+}

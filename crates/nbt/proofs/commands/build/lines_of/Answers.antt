@@ -5,7 +5,7 @@ use Rattle.nbt.proofs.commands.build.lines_of.Goals as goal
 
 pub returns-in-Some-clause-built : goal.returns-in-Some-clause-built
 returns-in-Some-clause-built c =
-    IfOk-weaker c.build.result _ _
+    IfOk-weaker c.capture_lines.result _ _
     (λ lines built. record {
       broadcast = c.is_broadcast.result;
       what = _;
@@ -13,11 +13,11 @@ returns-in-Some-clause-built c =
       given = record { has_flag = c.is_broadcast.ensures; has_what = sym c.get_str.ensures ∙ ap (option_map (λ s. s.now)) c.in-Some.is; has_words = sym c.words_of.ensures };
       built = built;
     })
-    c.build.ensures.built
+    c.capture_lines.ensures.built
 
 pub returns-in-Some-clause-too_long : goal.returns-in-Some-clause-too_long
 returns-in-Some-clause-too_long c =
-    MatchResult-weaker c.build.result c.build.ensures.too_long (λ lines t. t)
+    MatchResult-weaker c.capture_lines.result c.capture_lines.ensures.too_long (λ lines t. t)
     (λ fault why too. record {
       broadcast = c.is_broadcast.result;
       what = _;

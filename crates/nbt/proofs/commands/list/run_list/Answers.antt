@@ -1,15 +1,35 @@
+use Rattle.std.proofs.lemmas.Result.{err_from_is_err_and}
 use Rattle.nb_names.specs.DeviceFacts.{Keeps-same}
+use Rattle.nbt.specs.Objects.{listed_as}
 use Rattle.nbt.specs.Settings.{IsCapacity}
-use Rattle.nb_member.specs.Listing.{listing}
-use Rattle.nbt.proofs.JoinedLemmas.{join_prints, join_stops}
+use Rattle.nbt.proofs.JoinedLemmas.{join_prints}
+use Rattle.nbt.proofs.PrintedLemmas.{listed, prints_uncut}
 use Rattle.nbt.proofs.commands.list.run_list.Goals as goal
 
-pub returns-clause-prints : goal.returns-clause-prints
-returns-clause-prints g c =
-    let done = c.print_listing.ensures in
-    join_prints (IsCapacity c.args.matches.now) listing _ _ _ _ _ c.print_listing.result c.in_ok-table.ensures.joined done.printed done.fault done.err done.write
+pub returns : goal.returns
+returns g c =
+    let printed = c.print_keys.ensures.printed in
+    listed c.args.matches.now c.is_json-json.result _ c.print_keys.result c.is_json-json.ensures.text c.is_json-json.ensures.json (record {
+      prints = join_prints (IsCapacity c.args.matches.now) (listed_as c.is_json-json.result) _ _ _ _ _ c.print_keys.result
+          c.in_ok-table.ensures.joined printed;
+      cut = prints_uncut _ _ _ _ c.print_keys.result printed;
+      why = c.print_keys.ensures.why;
+    })
 
-pub returns-in_err-table-clause-prints : goal.returns-in_err-table-clause-prints
-returns-in_err-table-clause-prints g c =
+pub returns-in_err-table : goal.returns-in_err-table
+returns-in_err-table g c =
     let why = c.in_err-table.ensures in
-    join_stops (IsCapacity c.args.matches.now) listing _ _ _ _ _ c.from_residual.result c.from_residual.ensures.1 why.fault why.no_write (Keeps-same _)
+    let p = err_from_is_err_and c.from_residual.result c.from_residual.ensures.1 in
+    rw (p.1, p.2) (record {
+      text = λ asked. record {
+        prints = (why.fault, λ other. Keeps-same _, λ write. absurd (why.no_write write));
+        cut = why.cut;
+        why = λ write. absurd (why.no_write write);
+      };
+      json = λ asked. record {
+        prints = (why.fault, λ other. Keeps-same _, λ write. absurd (why.no_write write));
+        cut = why.cut;
+        why = λ write. absurd (why.no_write write);
+      };
+      why = λ write. absurd (why.no_write write);
+    })

@@ -1,14 +1,43 @@
-use Rattle.std.proofs.Common.{◌∙◌, ap, sym}
-use Rattle.std.proofs.lemmas.Result.{IfErr-weaker}
-use Rattle.nb_member.specs.Member.{new_member}
-use Rattle.nbt.proofs.ReplayingTurns.{replays_capture}
+use Rattle.nbt.specs.Replaying.{AreTexts, ReplaysCapture}
+use Rattle.nbt.specs.Settings.{AreOptions, IsCapacity}
+use Rattle.std.proofs.Common.{inl, inr}
+use Rattle.std.proofs.lemmas.Result.{err_from_is_err_and}
+use Rattle.nbt.proofs.ReplayingTurns.{not_begun, not_cut, not_written, replay_cut, replay_writes, replays_capture, replays_in, unread_cut}
+use Rattle.nb_names.specs.DeviceFacts.{Keeps-same}
+use Rattle.nbt.proofs.ShowingTurns.{shows_capture}
 use Rattle.nbt.proofs.commands.replay.run_replay.Goals as goal
 
-pub returns-clause-printed : goal.returns-clause-printed
-returns-clause-printed g c =
-    let new = c.new-member.ensures ∙ ap (λ settings. new_member settings c.in_ok-names.names) c.settings_with.ensures in
-    replays_capture _ _ _ _ _ _ _ _ c.in_ok-capacity.capacity _ c.in_ok-names.names _ _ c.in_ok-capacity.ensures.given c.options_of.ensures (sym c.in-Some.ensures) c.in_ok-names.ensures.named new c.replay.ensures.replayed
+pub returns-in_err-member : goal.returns-in_err-member
+returns-in_err-member g c =
+    let p = err_from_is_err_and c.from_residual.result c.from_residual.ensures.1 in
+    let why = c.in_err-member.ensures.fault in
+    rw (p.1, p.2) (record {
+      text = λ text. not_begun (ReplaysCapture (IsCapacity c.args.matches.now) (AreOptions c.args.matches.now) (AreTexts c.args.matches.now) _ _ _ _) _ _ _ _ _ why;
+      json = λ json. inr (why, Keeps-same _, Keeps-same _);
+      cut = λ read. absurd (not_cut _ _ _ why read);
+      why = λ write. absurd (not_written _ _ _ why write);
+    })
 
-pub returns-clause-cut : goal.returns-clause-cut
-returns-clause-cut g c =
-    IfErr-weaker c.replay.result _ _ (λ fault cut read. (c.options_of.result.most, c.options_of.ensures.limited, cut read)) c.replay.ensures.cut
+pub returns-then-is_json : goal.returns-then-is_json
+returns-then-is_json g c = rw (← c.output.view_is) (record {
+  text = λ text. absurd (cc (c.is_json.ensures.text text, c.if-is_json.true));
+  json = λ json. inl (record {
+    member = c.in_ok-member.member;
+    begins = c.in_ok-member.ensures.made;
+    tells = shows_capture _ _ _ c.options_of-options.result _ _ _ _ _ _ _ c.options_of-options.ensures c.print_objects.ensures.printed;
+  });
+  cut = unread_cut _ _ _ _ c.args.input.now.counts c.print_objects.new.input.counts _ c.print_objects.result c.options_of-options.ensures.limited c.print_objects.ensures.printed.1 c.print_objects.ensures.printed.2.0;
+  why = c.print_objects.ensures.why;
+})
+
+pub returns : goal.returns
+returns g c =
+    let r = c.replay_with.ensures.replays in
+    let asked = c.options_of-options.ensures in
+    let replayed = replays_in _ _ _ _ _ _ _ r.0 _ _ r.1 r.2.1 c.outcome_of.ensures.ends in
+    rw (← c.output.view_is) (record {
+      text = λ text. replays_capture _ _ _ _ _ _ _ _ _ _ c.in_ok-member.ensures.made asked replayed;
+      json = λ json. absurd (cc (c.is_json.ensures.json json, c.if-is_json.false));
+      cut = replay_cut _ _ _ _ c.args.input.now.counts c.replay_with.new.reader.counts r.0 c.replay_with.result c.outcome_of.result asked.limited r.1 r.2.0 c.outcome_of.ensures.ends;
+      why = replay_writes c.replay_with.result c.outcome_of.result c.output.inside.device.counts c.replay_with.new.writer.counts c.outcome_of.ensures.write c.replay_with.ensures.write;
+    })

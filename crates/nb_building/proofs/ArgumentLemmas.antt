@@ -1,0 +1,70 @@
+-- What the texts of arguments stand for, and words one by one.
+use Rattle.std.proofs.Common.{◌≡◌, ℕ, ◌≤◌, ◌<◌, true, List, [], ◌∷◌, length, get_or, map, refl, sym, ap, ◌∙◌, arith, Result, Ok}
+use Rattle.std.specs.List.{list_all}
+use Rattle.std.specs.Char.{is_ascii_digit, digit_value}
+use Rattle.std.specs.Fmt.{decimal}
+use Rattle.std.specs.Str.Parse.{AllDigits, ParsesUnsigned, digits_value}
+use Rattle.std.proofs.lemmas.Bool.{and_parts}
+use Rattle.std.proofs.lemmas.Bool.Decides.{nat_tests}
+use Rattle.std.proofs.lemmas.Fmt.{decimal-digits_value}
+use Rattle.std.proofs.lemmas.Str.Parse.{IsNumeralModel, parse_digits, numerals_by_value, tells_digits}
+use Rattle.nb_building.specs.Built.{NumberText}
+
+-- ---- decimal numbers
+
+digit_at : (c : ℕ) → is_ascii_digit c ≡ true → digit_value c < 10
+digit_at c h = grind (arith, nat_tests)
+
+-- a text of bytes that pass the test is digits
+AllDigits-from_test : (text : List ℕ) → list_all is_ascii_digit text ≡ true → AllDigits 10 text
+AllDigits-from_test [] h = tt
+AllDigits-from_test (c ∷ cs) h =
+    let parts = and_parts (is_ascii_digit c) (list_all is_ascii_digit cs) h in
+    (digit_at c parts.0, AllDigits-from_test cs parts.1)
+
+by_value : IsNumeralModel (AllDigits 10) (digits_value 10)
+by_value = numerals_by_value (AllDigits 10) tells_digits
+
+-- what is parsed of digits without leading zeros is the number that they are
+pub number_from_parse : {E : Type 0} (text : List ℕ) (r : Result ℕ E) (n : ℕ) → r ≡ Ok n → list_all is_ascii_digit text ≡ true
+    → (get_or text 0 0 ≡ 48 → length text < 2) → ParsesUnsigned 32 10 text r → NumberText 4294967295 n text
+number_from_parse {E} text r n is h shortest parsed =
+    let all = AllDigits-from_test text h in
+    let p = parse_digits by_value {E = E} 32 text (Ok n) (rw is at parsed) all in
+    let one : get_or text 0 0 ≡ 48 → length text ≡ 1 = λ zero. omega (arith, shortest zero, p.0.0) in
+    (rw p.1 (omega (arith, p.0.1)), sym (decimal-digits_value by_value text all p.0.0 one (omega (arith, p.0.1))) ∙ ap decimal (sym p.1))
+
+-- ---- words, one by one
+
+pub no_words : {A : Type 0} (f : A → List ℕ) (ws : List A) → length ws < 1 → map f ws ≡ []
+no_words f [] few = refl
+no_words f (a ∷ ws) few = absurd (omega (arith, few))
+
+pub one_word : {A : Type 0} (f : A → List ℕ) (d : A) (ws : List A) → 1 ≤ length ws → length ws < 2 → map f ws ≡ f (get_or ws 0 d) ∷ []
+one_word f d [] many few = absurd (omega (arith, many))
+one_word f d (a ∷ ws) many few = ap (λ l. f a ∷ l) (no_words f ws (omega (arith, few)))
+
+pub two_words : {A : Type 0} (f : A → List ℕ) (d : A) (ws : List A) → 2 ≤ length ws → length ws < 3
+    → map f ws ≡ f (get_or ws 0 d) ∷ f (get_or ws 1 d) ∷ []
+two_words f d [] many few = absurd (omega (arith, many))
+two_words f d (a ∷ ws) many few = ap (λ l. f a ∷ l) (one_word f d ws (omega (arith, many)) (omega (arith, few)))
+
+three_words : {A : Type 0} (f : A → List ℕ) (d : A) (ws : List A) → 3 ≤ length ws → length ws < 4
+    → map f ws ≡ f (get_or ws 0 d) ∷ f (get_or ws 1 d) ∷ f (get_or ws 2 d) ∷ []
+three_words f d [] many few = absurd (omega (arith, many))
+three_words f d (a ∷ ws) many few = ap (λ l. f a ∷ l) (two_words f d ws (omega (arith, many)) (omega (arith, few)))
+
+pub four_words : {A : Type 0} (f : A → List ℕ) (d : A) (ws : List A) → 4 ≤ length ws → length ws < 5
+    → map f ws ≡ f (get_or ws 0 d) ∷ f (get_or ws 1 d) ∷ f (get_or ws 2 d) ∷ f (get_or ws 3 d) ∷ []
+four_words f d [] many few = absurd (omega (arith, many))
+four_words f d (a ∷ ws) many few = ap (λ l. f a ∷ l) (three_words f d ws (omega (arith, many)) (omega (arith, few)))
+
+pub five_words : {A : Type 0} (f : A → List ℕ) (d : A) (ws : List A) → 5 ≤ length ws → length ws < 6
+    → map f ws ≡ f (get_or ws 0 d) ∷ f (get_or ws 1 d) ∷ f (get_or ws 2 d) ∷ f (get_or ws 3 d) ∷ f (get_or ws 4 d) ∷ []
+five_words f d [] many few = absurd (omega (arith, many))
+five_words f d (a ∷ ws) many few = ap (λ l. f a ∷ l) (four_words f d ws (omega (arith, many)) (omega (arith, few)))
+
+pub six_words : {A : Type 0} (f : A → List ℕ) (d : A) (ws : List A) → 6 ≤ length ws → length ws < 7
+    → map f ws ≡ f (get_or ws 0 d) ∷ f (get_or ws 1 d) ∷ f (get_or ws 2 d) ∷ f (get_or ws 3 d) ∷ f (get_or ws 4 d) ∷ f (get_or ws 5 d) ∷ []
+six_words f d [] many few = absurd (omega (arith, many))
+six_words f d (a ∷ ws) many few = ap (λ l. f a ∷ l) (five_words f d ws (omega (arith, many)) (omega (arith, few)))

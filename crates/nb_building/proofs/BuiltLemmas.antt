@@ -1,0 +1,88 @@
+-- Packets that words name, from what the calls that make them answer.
+use Rattle.std.proofs.Common.{◌≡◌, ℕ, Bool, List, [], ◌∷◌, map, ap, ap₂, ◌∙◌, refl, Result, Ok, Err}
+use Rattle.std.specs.Prelude.{IfErr, IfOk, codes}
+use Rattle.nb_names.specs.Hexadecimal.{DataText}
+use Rattle.nb_names.specs.Name.{NetbiosName, labels_of_name}
+use Rattle.nb_names.specs.NameText.{IsText}
+use Rattle.nb_service.specs.declared.classes.TheConstants.{IN}
+use Rattle.nb_service.specs.Building.{packet_of}
+use Rattle.nb_service.specs.Record.{ResourceData, ResourceRecord, record_of}
+use Rattle.nb_service.specs.Packet.{ServicePacket}
+use Rattle.nb_service.specs.Encoding as service
+use Rattle.nb_session.specs.declared.packet.Packet as session
+use Rattle.nb_session.specs.Packet.{IsPacket}
+use Rattle.nb_building.specs.Built.{IsServiceBuilt, IsSessionBuilt, NamesDatagrams, NamesService, NamesSession, NumberText, WordText, response}
+use Rattle.nb_building.specs.TooMuchData.{GiveTooMuch}
+use Rattle.nb_building.specs.Responses.{HasRdata, response_packet, with_flag}
+
+-- what is answered where a packet was made and encoded
+packet_of_ok : {E : Type 0} (r : Result ServicePacket E) (q p : ServicePacket) (bytes : List ℕ) → IfOk r (λ made. made ≡ q) → r ≡ Ok p
+    → bytes ≡ service.packet_bytes p → bytes ≡ service.packet_bytes q
+packet_of_ok r q p bytes h is e = e ∙ ap service.packet_bytes (rw is at h)
+
+pub service_built : {E F : Type 0} (broadcast : Bool) (what word : List ℕ) (words texts : List (List ℕ)) (r : Result ServicePacket E)
+    (q : ServicePacket) (out : Result (List ℕ) F) → what ≡ word → words ≡ texts → NamesService broadcast word texts q
+    → IfOk r (λ made. made ≡ q) → IfOk out (λ bytes. (p : ServicePacket) × (r ≡ Ok p) × (bytes ≡ service.packet_bytes p))
+    → IfOk out (IsServiceBuilt broadcast what words)
+service_built broadcast what word words texts r q (Ok bytes) is_what are named made (p, is, e) =
+    record { packet = q; named = rw (is_what, are) named; exact = packet_of_ok r q p bytes made is e }
+service_built broadcast what word words texts r q (Err fault) is_what are named made h = tt
+
+-- a response, whose answer has some RDATA
+pub response_built : {E F : Type 0} (broadcast : Bool) (words : List (List ℕ)) (id flags kind ttl : ℕ) (name : NetbiosName)
+    (bytes a b c d e f : List ℕ) (r : Result ResourceRecord E) (out : Result (List ℕ) F)
+    → words ≡ a ∷ b ∷ c ∷ d ∷ e ∷ f ∷ [] → WordText id a
+    → ((word : ℕ) × WordText word b × (flags ≡ with_flag word broadcast)) → IsText name c → WordText kind d
+    → NumberText 4294967295 ttl e → DataText bytes f
+    → IfOk r (λ made. (rdata : ResourceData) × HasRdata kind bytes rdata × (made ≡ record_of (labels_of_name name) kind IN ttl rdata))
+    → IfOk out (λ encoded. (made : ResourceRecord) × (r ≡ Ok made)
+    × (encoded ≡ service.packet_bytes (packet_of id flags [] (made ∷ []) [] [])))
+    → IfOk out (IsServiceBuilt broadcast (codes "response") words)
+response_built broadcast words id flags kind ttl name bytes a b c d e f r (Ok encoded) are is_id is_flags is_name is_kind is_ttl is_data answer (made, is, exact) =
+    let h = rw is at answer in
+    record {
+      packet = response_packet id (with_flag is_flags.0 broadcast) name kind ttl h.0;
+      named = rw are (response id is_flags.0 kind ttl name bytes h.0 a b c d e f is_id is_flags.1 is_name is_kind is_ttl is_data h.1);
+      exact = exact ∙ ap₂ (λ w x. service.packet_bytes (packet_of id w [] (x ∷ []) [] [])) is_flags.2 h.2;
+    }
+response_built broadcast words id flags kind ttl name bytes a b c d e f r (Err fault) are is_id is_flags is_name is_kind is_ttl is_data answer h = tt
+
+pub session_built : {F : Type 0} (what word : List ℕ) (words texts : List (List ℕ)) (packet : session.Packet) (out : Result (List ℕ) F)
+    → what ≡ word → words ≡ texts → NamesSession word texts packet → IfOk out (IsPacket packet) → IfOk out (IsSessionBuilt what words)
+session_built what word words texts packet (Ok bytes) is_what are named h =
+    record { packet = packet; named = rw (is_what, are) named; exact = h }
+session_built what word words texts packet (Err fault) is_what are named h = tt
+
+-- a packet without arguments
+pub bare_built : {A F : Type 0} (f : A → List ℕ) (what word : List ℕ) (words : List A) (packet : session.Packet) (out : Result (List ℕ) F)
+    → what ≡ word → NamesSession word [] packet → IfOk out (λ bytes. (words ≡ []) × IsPacket packet bytes)
+    → IfOk out (IsSessionBuilt what (map f words))
+bare_built f what word words packet (Ok bytes) is_what named (none, h) =
+    record { packet = packet; named = rw (is_what, none) named; exact = h }
+bare_built f what word words packet (Err fault) is_what named h = tt
+
+-- the pieces of a datagram, which were cut
+pub fragments_named : {F : Type 0} (P : Type 0) (what word : List ℕ) (words texts q : List (List ℕ)) (out : Result (List (List ℕ)) F)
+    → what ≡ word → words ≡ texts → (P → NamesDatagrams word texts q) → IfOk out (λ payloads. P × (payloads ≡ q))
+    → IfOk out (NamesDatagrams what words)
+fragments_named P what word words texts q (Ok payloads) is_what are named (cut, is) = rw (is_what, are, is) (named cut)
+fragments_named P what word words texts q (Err fault) is_what are named h = tt
+
+pub datagrams_named : {F : Type 0} (what word : List ℕ) (words texts q : List (List ℕ)) (out : Result (List (List ℕ)) F)
+    → what ≡ word → words ≡ texts → NamesDatagrams word texts q → IfOk out (λ payloads. payloads ≡ q) → IfOk out (NamesDatagrams what words)
+datagrams_named what word words texts q (Ok payloads) is_what are named is = rw (is_what, are, is) named
+datagrams_named what word words texts q (Err fault) is_what are named is = tt
+
+-- words that give too much, one by one
+pub too_much : (what word : List ℕ) (words texts : List (List ℕ)) → what ≡ word → words ≡ texts → GiveTooMuch word texts → GiveTooMuch what words
+too_much what word words texts is_what are much = rw (is_what, are) much
+
+-- the same, where a call tells it by its fault
+pub tells_too_much : {A E : Type 0} (P : Type 0) (what word : List ℕ) (words texts : List (List ℕ)) (fault : E) (r : Result A E) → what ≡ word
+    → words ≡ texts → (P → GiveTooMuch word texts) → IfErr r (λ e. e ≡ fault → P) → IfErr r (λ e. e ≡ fault → GiveTooMuch what words)
+tells_too_much P what word words texts fault (Ok a) is_what are much h = tt
+tells_too_much P what word words texts fault (Err e) is_what are much h = λ is. too_much what word words texts is_what are (much (h is))
+
+-- what a fault tells, where that is it
+pub told_of : {A E : Type 0} {P : Type 0} (fault : E) (r : Result A E) → r ≡ Err fault → IfErr r (λ e. e ≡ fault → P) → P
+told_of {P = P} fault r is h = let told : fault ≡ fault → P = rw is at h in told refl

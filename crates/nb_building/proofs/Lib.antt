@@ -1,0 +1,3 @@
+mod ArgumentLemmas
+mod BuiltLemmas
+mod BuildingTurns

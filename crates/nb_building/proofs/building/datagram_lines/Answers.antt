@@ -1,0 +1,12 @@
+use Rattle.std.proofs.Common.{◌∙◌, ap}
+use Rattle.nb_building.specs.Building.{payload_lines}
+use Rattle.nb_building.specs.Built.{of_datagrams}
+use Rattle.nb_building.proofs.building.datagram_lines.Goals as goal
+
+pub returns-clause-built : goal.returns-clause-built
+returns-clause-built c broadcast = record {
+  port = 138;
+  payloads = c.in_ok-packets.packets;
+  named = of_datagrams c.in_ok-packets.packets c.in_ok-packets.ensures.built;
+  lines = c.in_ok-lines.ensures ∙ ap (payload_lines 138) c.as_slice.ensures;
+}

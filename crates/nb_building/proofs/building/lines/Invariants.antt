@@ -1,0 +1,6 @@
+use Rattle.std.proofs.Common.{◌≡◌, string_bytes, take}
+use Rattle.nb_building.specs.Building.{payload_lines}
+use Rattle.nb_building.proofs.building.lines.Given as goal
+
+abbrev pub invariant-loop-payload : goal.invariant-loop-payload
+invariant-loop-payload l = string_bytes l.text ≡ payload_lines l.port (take l.payload-index l.payloads)

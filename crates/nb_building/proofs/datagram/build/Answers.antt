@@ -1,0 +1,31 @@
+use Rattle.nb_building.proofs.datagram.build.Goals as goal
+
+pub returns-in-unique-clause-built : goal.returns-in-unique-clause-built
+returns-in-unique-clause-built c = rw c.in-unique.is c.fragments.ensures.built
+
+pub returns-in-group-clause-built : goal.returns-in-group-clause-built
+returns-in-group-clause-built c = rw c.in-group.is c.fragments-in-group.ensures.built
+
+pub returns-in-broadcast-clause-built : goal.returns-in-broadcast-clause-built
+returns-in-broadcast-clause-built c = rw c.in-broadcast.is c.fragments-in-broadcast.ensures.built
+
+pub returns-in-error-clause-built : goal.returns-in-error-clause-built
+returns-in-error-clause-built c = rw c.in-error.is c.error.ensures.built
+
+pub returns-in-find-clause-built : goal.returns-in-find-clause-built
+returns-in-find-clause-built c = rw c.in-find.is c.query.ensures.built
+
+pub returns-in-found-clause-built : goal.returns-in-found-clause-built
+returns-in-found-clause-built c = rw c.in-found.is c.query-in-found.ensures.built
+
+pub returns-in-missing-clause-built : goal.returns-in-missing-clause-built
+returns-in-missing-clause-built c = rw c.in-missing.is c.query-in-missing.ensures.built
+
+pub returns-in-unique-clause-too_long : goal.returns-in-unique-clause-too_long
+returns-in-unique-clause-too_long c = rw c.in-unique.is c.fragments.ensures.too_long
+
+pub returns-in-group-clause-too_long : goal.returns-in-group-clause-too_long
+returns-in-group-clause-too_long c = rw c.in-group.is c.fragments-in-group.ensures.too_long
+
+pub returns-in-broadcast-clause-too_long : goal.returns-in-broadcast-clause-too_long
+returns-in-broadcast-clause-too_long c = rw c.in-broadcast.is c.fragments-in-broadcast.ensures.too_long

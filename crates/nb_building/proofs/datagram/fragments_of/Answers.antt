@@ -1,0 +1,15 @@
+use Rattle.std.proofs.Common.{◌≡◌, ap, ◌∙◌, arith, map}
+use Rattle.std.proofs.lemmas.Result.{IfOk-weaker}
+use Rattle.nb_datagram.specs.declared.packet.Packet.TheVariants.{Direct}
+use Rattle.nb_datagram.specs.Packet.{packet_bytes}
+use Rattle.nb_datagram.specs.Pieces.{AreTooLong}
+use Rattle.nb_building.proofs.datagram.fragments_of.Goals as goal
+
+pub returns-clause-built : goal.returns-clause-built
+returns-clause-built c =
+    let some : ¬ (c.args.most ≡ 0) = λ zero. let clash = c.cut.ensures.zero.1 zero in cc (clash, c.in_ok-pieces.was) in
+    let fit : ¬ AreTooLong c.args.datagram.now c.args.most =
+    λ long. let clash = c.cut.ensures.too_long.1 (omega (arith, some), long) in cc (clash, c.in_ok-pieces.was) in
+    IfOk-weaker c.encoded_pieces.result _ _
+    (λ packets is. ((omega (arith, some), fit), is ∙ ap (map (λ piece. packet_bytes (Direct piece))) c.in_ok-pieces.ensures.value))
+    c.encoded_pieces.ensures.built

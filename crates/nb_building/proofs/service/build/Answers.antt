@@ -1,0 +1,10 @@
+use Rattle.nb_building.proofs.service.build.Goals as goal
+
+pub returns-in-release-clause-built : goal.returns-in-release-clause-built
+returns-in-release-clause-built c = rw c.in-release.is c.withdrawal.ensures.built
+
+pub returns-in-response-clause-built : goal.returns-in-response-clause-built
+returns-in-response-clause-built c = rw c.in-response.is c.build.ensures.built
+
+pub returns-in-response-clause-too_long : goal.returns-in-response-clause-too_long
+returns-in-response-clause-too_long c = rw c.in-response.is c.build.ensures.too_long

@@ -1,0 +1,17 @@
+use Rattle.std.proofs.Common.{refl}
+use Rattle.nb_building.specs.Built.{message}
+use Rattle.nb_building.specs.TooMuchData.{message as much_message}
+use Rattle.nb_building.proofs.ArgumentLemmas.{one_word}
+use Rattle.nb_building.proofs.BuiltLemmas.{session_built, too_much}
+use Rattle.nb_building.proofs.session.message.Goals as goal
+
+pub returns-in-Ok-clause-built : goal.returns-in-Ok-clause-built
+returns-in-Ok-clause-built c =
+    session_built _ _ _ _ _ c.encoded.result refl
+    (one_word (λ w. w.now) _ c.args.words.now c.in-len1.len_at_least c.in-len1.len_below)
+    (message _ _ c.in_ok-bytes.ensures) (rw (c.in-Ok.ensures.0, c.as_slice.ensures) at c.encoded.ensures.built)
+
+pub returns-clause-too_long : goal.returns-clause-too_long
+returns-clause-too_long c too =
+    too_much _ _ _ _ refl (one_word (λ w. w.now) _ c.args.words.now c.in-len1.len_at_least c.in-len1.len_below)
+    (much_message _ (_, c.in_ok-bytes.ensures, rw c.as_slice.ensures at c.in-Err.ensures))

@@ -1,0 +1,4 @@
+pub mod Built
+pub mod Responses
+pub mod TooMuchData
+pub mod Building

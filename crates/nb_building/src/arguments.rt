@@ -1,0 +1,179 @@
+//! Words as the parts of packets. Decimal numbers have no leading zeros; hexadecimal digits are read
+//! in either case.
+ghost use Rattle.std.specs.Prelude.{◌≡◌, ◌≢◌, ◌<◌, ◌++◌, ◌∷◌, IsTrue, MatchResult, true, length, slice_index};
+ghost use Rattle.std.specs.List.{list_all};
+ghost use Rattle.std.specs.Char.{is_ascii_digit};
+ghost use Rattle.nb_names.specs.Hexadecimal.{DataText, HexText};
+ghost use Rattle.nb_building.specs.Built.{AddressText, CodeText, EntryTexts, KeyText, NumberText, WordText};
+
+use crate::build_fault::BuildFault;
+use nb_datagram::Key;
+use nb_names::{Bytes, DigitsFault, bytes_of_digits, data_of_text};
+use nb_service::AddressEntry;
+use std::alloc::Global;
+
+/// A word of a packet, as an identifier or flags: four hexadecimal digits.
+pub fn word(alloc: Global, text: &str) -> Result<u16, BuildFault>
+    ensures { MatchResult result (λ number. WordText number text.now)
+        (λ fault. fault ≢ BuildFault.TooLong) }
+{
+    let digits = digits(alloc, text)?;
+    match digits.as_slice() {
+        [high, low] => Ok(u16::from_be_bytes([*high, *low])),
+        _ => Err(BuildFault::Arguments),
+    }
+}
+
+/// A code: two hexadecimal digits.
+pub fn code(alloc: Global, text: &str) -> Result<u8, BuildFault>
+    ensures { MatchResult result (λ code. CodeText code text.now)
+        (λ fault. fault ≢ BuildFault.TooLong) }
+{
+    let digits = digits(alloc, text)?;
+    match digits.as_slice() {
+        [code] => Ok(*code),
+        _ => Err(BuildFault::Arguments),
+    }
+}
+
+/// A decimal number to 4,294,967,295.
+pub fn long_number(text: &str) -> Result<u32, BuildFault>
+    ensures { MatchResult result (λ number. NumberText 4294967295 number text.now)
+        (λ fault. fault ≢ BuildFault.TooLong) }
+{
+    if !is_decimal(text) {
+        return Err(BuildFault::Arguments);
+    }
+    match text.parse::<u32>() {
+        Ok(number) => Ok(number),
+        Err(_) => Err(BuildFault::Arguments),
+    }
+}
+
+/// A decimal number to 65,535.
+pub fn number(text: &str) -> Result<u16, BuildFault>
+    ensures { MatchResult result (λ number. NumberText 65535 number text.now)
+        (λ fault. fault ≢ BuildFault.TooLong) }
+{
+    match u16::try_from(long_number(text)?) {
+        Ok(number) => Ok(number),
+        Err(_) => Err(BuildFault::Arguments),
+    }
+}
+
+/// An IPv4 address: four decimal numbers to 255, with dots between them.
+pub fn address(text: &str) -> Result<[u8; 4], BuildFault>
+    ensures { MatchResult result (λ address. AddressText address text.now)
+        (λ fault. fault ≢ BuildFault.TooLong) }
+{
+    let (first, rest) = parts(text, '.')?;
+    let (second, rest) = parts(rest, '.')?;
+    let (third, fourth) = parts(rest, '.')?;
+    Ok([
+        small_number(first)?,
+        small_number(second)?,
+        small_number(third)?,
+        small_number(fourth)?,
+    ])
+}
+
+/// An address entry of a packet, of its flags and its address.
+pub fn entry(alloc: Global, flags: &str, place: &str) -> Result<AddressEntry, BuildFault>
+    ensures { MatchResult result (λ entry. EntryTexts entry flags.now place.now)
+        (λ fault. fault ≢ BuildFault.TooLong) }
+{
+    Ok(AddressEntry {
+        flags: word(alloc, flags)?,
+        address: address(place)?,
+    })
+}
+
+/// A datagram's key: its sender's address and port, and the identifier, as `10.0.0.5:138/0001`.
+pub fn key(alloc: Global, text: &str) -> Result<Key, BuildFault>
+    ensures { MatchResult result (λ key. KeyText key text.now)
+        (λ fault. fault ≢ BuildFault.TooLong) }
+{
+    let (place, id) = parts(text, '/')?;
+    let (ip, port) = parts(place, ':')?;
+    Ok(Key {
+        ip: address(ip)?,
+        port: number(port)?,
+        id: word(alloc, id)?,
+    })
+}
+
+/// Data: hexadecimal digits, two a byte and at least two, or `empty`.
+pub fn data(alloc: Global, text: &str) -> Result<Bytes, BuildFault>
+    ensures { MatchResult result (λ bytes. DataText bytes text.now)
+        (λ fault. fault ≢ BuildFault.TooLong) }
+{
+    match data_of_text(alloc, text.as_bytes()) {
+        Ok(bytes) => Ok(bytes),
+        Err(DigitsFault::BadDigits) => Err(BuildFault::Arguments),
+        Err(DigitsFault::NoMemory) => Err(BuildFault::Memory),
+    }
+}
+
+/// The bytes that hexadecimal digits give, two a byte.
+fn digits(alloc: Global, text: &str) -> Result<Bytes, BuildFault>
+    ensures { MatchResult result (λ bytes. HexText bytes text.now)
+        (λ fault. fault ≢ BuildFault.TooLong) }
+{
+    match bytes_of_digits(alloc, text.as_bytes()) {
+        Ok(bytes) => Ok(bytes),
+        Err(DigitsFault::BadDigits) => Err(BuildFault::Arguments),
+        Err(DigitsFault::NoMemory) => Err(BuildFault::Memory),
+    }
+}
+
+/// What stands before the first of these marks, which is ASCII, and what stands behind it.
+fn parts(text: &str, mark: char) -> Result<(&str, &str), BuildFault>
+    requires { mark < 128 }
+    ensures { MatchResult result (λ parts. text.now ≡ parts.0.now ++ mark ∷ parts.1.now)
+        (λ fault. fault ≢ BuildFault.TooLong) }
+{
+    match text.split_once(mark) {
+        Some(parts) => Ok(parts),
+        None => Err(BuildFault::Arguments),
+    }
+}
+
+/// A decimal number to 255.
+fn small_number(text: &str) -> Result<u8, BuildFault>
+    ensures { MatchResult result (λ number. NumberText 255 number text.now)
+        (λ fault. fault ≢ BuildFault.TooLong) }
+{
+    match u8::try_from(long_number(text)?) {
+        Ok(number) => Ok(number),
+        Err(_) => Err(BuildFault::Arguments),
+    }
+}
+
+/// Whether a text is decimal digits, none of them a leading zero.
+fn is_decimal(text: &str) -> bool
+    ensures leading { IsTrue result → slice_index text.now 0 ≡ 48 → length text.now < 2 }
+    ensures digits { IsTrue result → list_all is_ascii_digit text.now ≡ true }
+{
+    let digits = text.as_bytes();
+    if !has_no_leading_zero(digits) {
+        return false;
+    }
+    are_digits(digits)
+}
+
+/// Whether more than one digit don't begin with a zero.
+fn has_no_leading_zero(digits: &[u8]) -> bool
+    ensures { IsTrue result → slice_index digits.now 0 ≡ 48 → length digits.now < 2 }
+{
+    if digits.len() < 2 {
+        return true;
+    }
+    digits[0] != b'0'
+}
+
+/// Whether each byte is a decimal digit.
+fn are_digits(text: &[u8]) -> bool
+    ensures { result ≡ list_all is_ascii_digit text.now }
+{
+    text.iter().all(|digit| digit.is_ascii_digit())
+}

@@ -1,0 +1,80 @@
+//! Why no packet is built.
+
+use nb_datagram::CutFault;
+use nb_names::{NoMemory, TextFault};
+use std::alloc::{AllocError, AllocFailed};
+
+/// Why no packet is built.
+#[derive(Clone, Copy, Debug, PartialEq, Eq)]
+pub enum BuildFault {
+    /// The text of a name was refused.
+    Text(TextFault),
+    /// There is no such packet, or it takes other words.
+    Arguments,
+    /// The packet takes fewer bytes.
+    TooLong,
+    /// Pieces of no bytes were asked for.
+    ZeroPiece,
+    /// Memory ran out.
+    Memory,
+}
+
+impl From<TextFault> for BuildFault {
+    ghost use Rattle.std.specs.Prelude.{◌≡◌};
+    ghost use Rattle.nb_building.specs.declared.build_fault.BuildFault.TheVariants.{Text};
+
+    ghost from_gives = { λ fault made. made ≡ Text fault };
+
+    fn from(fault: TextFault) -> BuildFault {
+        BuildFault::Text(fault)
+    }
+}
+
+impl From<NoMemory> for BuildFault {
+    ghost use Rattle.std.specs.Prelude.{◌≡◌};
+    ghost use Rattle.nb_building.specs.declared.build_fault.BuildFault.TheVariants.{Memory};
+
+    ghost from_gives = { λ _ made. made ≡ Memory };
+
+    fn from(_fault: NoMemory) -> BuildFault {
+        BuildFault::Memory
+    }
+}
+
+impl From<AllocError> for BuildFault {
+    ghost use Rattle.std.specs.Prelude.{◌≡◌};
+    ghost use Rattle.nb_building.specs.declared.build_fault.BuildFault.TheVariants.{Memory};
+
+    ghost from_gives = { λ _ made. made ≡ Memory };
+
+    fn from(_fault: AllocError) -> BuildFault {
+        BuildFault::Memory
+    }
+}
+
+impl<T: Drop> From<AllocFailed<T>> for BuildFault {
+    ghost use Rattle.std.specs.Prelude.{◌≡◌};
+    ghost use Rattle.nb_building.specs.declared.build_fault.BuildFault.TheVariants.{Memory};
+
+    ghost from_gives = { λ _ made. made ≡ Memory };
+
+    fn from(_fault: AllocFailed<T>) -> BuildFault {
+        BuildFault::Memory
+    }
+}
+
+impl From<CutFault> for BuildFault {
+    ghost use Rattle.std.specs.Prelude.{◌≡◌};
+    ghost use Rattle.nb_datagram.specs.declared.cut_fault.CutFault.TheVariants as cut_fault;
+    ghost use Rattle.nb_building.specs.declared.build_fault.BuildFault.TheVariants.{TooLong};
+
+    ghost from_gives = { λ fault made. made ≡ TooLong → fault ≡ cut_fault.TooLong };
+
+    fn from(fault: CutFault) -> BuildFault {
+        match fault {
+            CutFault::ZeroPiece => BuildFault::ZeroPiece,
+            CutFault::TooLong => BuildFault::TooLong,
+            CutFault::NoMemory => BuildFault::Memory,
+        }
+    }
+}

@@ -1,0 +1,139 @@
+//! Datagram service packets from arguments.
+ghost use Rattle.std.specs.Prelude.{◌≡◌, ◌≢◌, ◌≤◌, ◌++◌, [], ◌∷◌, map, codes, IfErr, IfOk, OnOk};
+ghost use Rattle.nb_datagram.specs.Packet.{packet_bytes};
+ghost use Rattle.nb_datagram.specs.Pieces.{AreTooLong, pieces};
+ghost use Rattle.nb_datagram.specs.Texts.{kind_text};
+ghost use Rattle.nb_text.specs.Words.{query_word};
+ghost use Rattle.nb_building.specs.Built.{NamesDatagrams};
+ghost use Rattle.nb_building.specs.TooMuchData.{GiveTooMuch};
+
+use crate::arguments::{code, data, key, number};
+use crate::build_fault::BuildFault;
+use nb_datagram::{
+    Datagram, ErrorPacket, Kind, Packet, Pieces, QueryKind, QueryPacket, cut, encode,
+};
+use nb_names::{Bytes, Items, name_from_text};
+use std::alloc::Global;
+
+/// FLAGS of the packets that are no fragments: the first of its datagram, and the last.
+const FLAGS: u8 = 0x02;
+
+/// The bytes of the packets that WHAT and its arguments give.
+///
+/// `unique`, `group` and `broadcast` take KEY SOURCE DESTINATION HEX MOST and give a packet for
+/// each piece; `error` takes KEY CODE; `find`, `found` and `missing` take KEY NAME.
+pub fn build(alloc: Global, what: &str, words: &[&str]) -> Result<Items<Bytes>, BuildFault>
+    ensures built { IfOk result (NamesDatagrams what.now (map (λ w. w.now) words.now)) }
+    ensures too_long { IfErr result (λ fault. fault ≡ BuildFault.TooLong →
+        GiveTooMuch what.now (map (λ w. w.now) words.now)) }
+{
+    match what {
+        "unique" => fragments(alloc, Kind::Unique, words),
+        "group" => fragments(alloc, Kind::Group, words),
+        "broadcast" => fragments(alloc, Kind::Broadcast, words),
+        "error" => error(alloc, words),
+        "find" => query(alloc, QueryKind::Request, words),
+        "found" => query(alloc, QueryKind::Positive, words),
+        "missing" => query(alloc, QueryKind::Negative, words),
+        _ => Err(BuildFault::Arguments),
+    }
+}
+
+/// The packets of the pieces of a datagram, from KEY SOURCE DESTINATION HEX MOST.
+fn fragments(alloc: Global, kind: Kind, words: &[&str]) -> Result<Items<Bytes>, BuildFault>
+    ensures built { IfOk result (NamesDatagrams (kind_text kind) (map (λ w. w.now) words.now)) }
+    ensures too_long { IfErr result (λ fault. fault ≡ BuildFault.TooLong →
+        GiveTooMuch (kind_text kind) (map (λ w. w.now) words.now)) }
+{
+    let [place, source, destination, digits, most] = words else {
+        return Err(BuildFault::Arguments);
+    };
+    let key = key(alloc, place)?;
+    let source = name_from_text(source)?;
+    let destination = name_from_text(destination)?;
+    let data = data(alloc, digits)?;
+    let most = number(most)?;
+    match Datagram::new(key, kind, source, destination, data) {
+        Ok(datagram) => fragments_of(alloc, &datagram, most),
+        Err(_) => Err(BuildFault::TooLong),
+    }
+}
+
+/// The packets of the pieces of a datagram, of so many bytes of data at most.
+fn fragments_of(alloc: Global, datagram: &Datagram, most: u16) -> Result<Items<Bytes>, BuildFault>
+    ensures built { IfOk result (λ packets. ((1 ≤ most) × ¬ AreTooLong datagram.now most) × (packets ≡
+        map (λ piece. packet_bytes (Packet.Direct piece)) (pieces datagram.now most))) }
+    ensures too_long { IfErr result (λ fault. fault ≡ BuildFault.TooLong →
+        (1 ≤ most) × AreTooLong datagram.now most) }
+{
+    let pieces = cut(alloc, datagram, most)?;
+    encoded_pieces(alloc, pieces)
+}
+
+/// The packets of these pieces.
+fn encoded_pieces(alloc: Global, pieces: Pieces<'_>) -> Result<Items<Bytes>, BuildFault>
+    ensures built { IfOk result (λ packets. packets ≡
+        map (λ piece. packet_bytes (Packet.Direct piece)) pieces.entry) }
+    ensures too_long { IfErr result (λ fault. fault ≢ BuildFault.TooLong) }
+{
+    let mut packets = Items::from_vec(Vec::new(alloc));
+    for piece in pieces.into_vec() {
+        push(alloc, Packet::Direct(piece), &mut packets)?;
+    }
+    Ok(packets)
+}
+
+/// An error packet, from KEY CODE.
+fn error(alloc: Global, words: &[&str]) -> Result<Items<Bytes>, BuildFault>
+    ensures built { IfOk result (NamesDatagrams (codes "error") (map (λ w. w.now) words.now)) }
+    ensures too_long { IfErr result (λ fault. fault ≢ BuildFault.TooLong) }
+{
+    let [place, digits] = words else {
+        return Err(BuildFault::Arguments);
+    };
+    let key = key(alloc, place)?;
+    let code = code(alloc, digits)?;
+    let flags = FLAGS;
+    alone(alloc, Packet::Error(ErrorPacket { flags, key, code }))
+}
+
+/// A query packet, from KEY NAME.
+fn query(alloc: Global, kind: QueryKind, words: &[&str]) -> Result<Items<Bytes>, BuildFault>
+    ensures built { IfOk result (NamesDatagrams (query_word kind) (map (λ w. w.now) words.now)) }
+    ensures too_long { IfErr result (λ fault. fault ≢ BuildFault.TooLong) }
+{
+    let [place, name] = words else {
+        return Err(BuildFault::Arguments);
+    };
+    let key = key(alloc, place)?;
+    let destination = name_from_text(name)?;
+    let flags = FLAGS;
+    alone(
+        alloc,
+        Packet::Query(QueryPacket {
+            kind,
+            flags,
+            key,
+            destination,
+        }),
+    )
+}
+
+/// The bytes of one packet.
+fn alone(alloc: Global, packet: Packet<'_>) -> Result<Items<Bytes>, BuildFault>
+    ensures built { IfOk result (λ packets. packets ≡ packet_bytes packet.entry ∷ []) }
+    ensures too_long { IfErr result (λ fault. fault ≢ BuildFault.TooLong) }
+{
+    let mut packets = Items::from_vec(Vec::new(alloc));
+    push(alloc, packet, &mut packets)?;
+    Ok(packets)
+}
+
+/// Adds the bytes of a packet after those of the others.
+fn push(alloc: Global, packet: Packet<'_>, packets: &mut Items<Bytes>) -> Result<(), BuildFault>
+    ensures added { OnOk result (packets.new ≡ packets.old ++ packet_bytes packet.entry ∷ []) }
+    ensures too_long { IfErr result (λ fault. fault ≢ BuildFault.TooLong) }
+{
+    packets.push(encode(alloc, &packet)?)?;
+    Ok(())
+}

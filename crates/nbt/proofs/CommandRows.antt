@@ -1,0 +1,86 @@
+-- The subcommand that clap entered, by the rows of its matches.
+use Rattle.std.proofs.Common.{◌≡◌, ◌≤◌, ◌<◌, ℕ, [], ◌∷◌, length, map, codes, arith, true, refl, sym, ap, subst, ◌∙◌, Bor, List, Option, Some, None, IfSome, Result}
+use Rattle.clap.specs.Words.{HasMatchesOf, Row, Text, found_of, is_simple, rows_of, subcommand_name_of, subcommand_of, subcommand_rows_of}
+use Rattle.clap.proofs.OnLiterals.{clap_on_literals}
+use Rattle.clap.specs.Simple.{subcommand_rows}
+use Rattle.clap.specs.declared.parser.matches.ArgMatches.{ArgMatches}
+use Rattle.clap.specs.declared.parser.matches.ArgMatches.TheViews.{out-ArgMatches, out-SubCommand}
+use Rattle.clap.specs.declared.parser.matches.SubCommand.{SubCommand}
+use Rattle.std.specs.Box.{box_value}
+use Rattle.std.specs.Prelude.{Box, option_map}
+use Rattle.std.specs.Io.KnownBytes.{Keeps}
+use Rattle.clap.specs.Simple.{App}
+use Rattle.clap.specs.declared.error.kind.ErrorKind.{ErrorKind}
+use Rattle.clap.specs.declared.error.kind.ErrorKind.TheVariants.{OutOfMemory}
+use Rattle.nbt.specs.declared.fault.Fault.{Fault}
+use Rattle.nbt.specs.declared.status.Status.{Status}
+use Rattle.nbt.specs.ClapAnswer.{Reports, answer_to}
+use Rattle.nbt.specs.Commands.{Picks, Ran, RanBy, Streams, no_memory, ran, with_status}
+use Rattle.std.proofs.Math.ListN.{get_or}
+use Rattle.nbt.specs.FaultTexts.{status_after}
+use Rattle.nbt.specs.Refusals.{AsksRefusal}
+use Rattle.nbt.specs.CommandLine.{nbt_app}
+
+-- clap's functions say of this command line which subcommand is entered
+pub nbt_is_simple : is_simple nbt_app ≡ true
+unfolding clap_on_literals
+nbt_is_simple = refl
+
+pub rows_of_words : (words : List Text) (m : ArgMatches) → HasMatchesOf nbt_app words m → subcommand_rows_of m ≡ subcommand_of nbt_app words
+rows_of_words words m has = (has nbt_is_simple).1
+
+-- the name of the subcommand stands before its rows
+named_rows : {Z : Type 0} (found : Option (Box SubCommand Z)) → option_map (λ p. p.0) (subcommand_rows found) ≡ option_map (λ b. (out-SubCommand (box_value b)).name.now) found
+named_rows None = refl
+named_rows (Some b) = refl
+
+-- a subcommand, by its name and its rows
+pub both_parts : (found : Option (Text × List Row)) (name : Text) (rows : List Row) → option_map (λ p. p.0) found ≡ Some name → option_map (λ p. p.1) found ≡ Some rows
+    → found ≡ Some (name, rows)
+both_parts None name rows named with_rows = absurd (cc named)
+both_parts (Some (n, r)) name rows named with_rows =
+    let same : n ≡ name = cc named in let like : r ≡ rows = cc with_rows in rw (same, like) refl
+
+picks : (m : ArgMatches) (name : Text) (inner : ArgMatches) → subcommand_name_of m ≡ Some name → option_map (λ p. p.1) (subcommand_rows_of m) ≡ Some (rows_of (found_of inner))
+    → Picks m name inner
+picks m name inner named with_rows = both_parts (subcommand_rows_of m) name (rows_of (found_of inner)) (named_rows (out-ArgMatches m).subcommand ∙ named) with_rows
+
+-- what clap hands out as the subcommand is what it entered
+pub entered : (m : ArgMatches) (found : Option (Bor Text × Bor ArgMatches)) (p : Bor Text × Bor ArgMatches) (name : Text)
+    → option_map (λ q. q.0.now) found ≡ subcommand_name_of m → option_map (λ q. rows_of (found_of q.1.now)) found ≡ option_map (λ q. q.1) (subcommand_rows_of m)
+    → found ≡ Some p → p.0.now ≡ name → Picks m name p.1.now
+entered m found p name named with_rows is called =
+    picks m name p.1.now
+    (sym named ∙ ap (option_map (λ q. q.0.now)) is ∙ ap (λ (n : Text). Some n) called)
+    (sym with_rows ∙ ap (option_map (λ q. rows_of (found_of q.1.now))) is)
+
+-- the command that was entered is that of the words
+pub ran_words : (app : App) (words : List Text) (m : ArgMatches) (s : Streams) (outcome : Result Status Fault) (status : Status) → app ≡ nbt_app → HasMatchesOf app words m
+    → Ran m s outcome → status ≡ status_after outcome → RanBy words s status
+ran_words app words m s outcome status is has r same =
+    ran m outcome (rows_of_words words m (subst (λ (a : App). HasMatchesOf a words m) is has)) r same
+
+-- where clap takes the words, it fails for lack of memory alone
+pub lacked_memory : (words : List Text) (s : Streams) (kind : ErrorKind) (status : Status) → kind ≡ OutOfMemory → Reports (answer_to kind) status s.old_out s.new_out
+    → Keeps s.old_in s.new_in → RanBy words s status
+lacked_memory words s kind status is reported unread =
+    let said : Reports (answer_to OutOfMemory) status s.old_out s.new_out = subst (λ (k : ErrorKind). Reports (answer_to k) status s.old_out s.new_out) is reported in
+    no_memory said.0 unread said.1
+
+-- a command that is done where it has no fault
+pub ended_so : (m : ArgMatches) (s : Streams) (r : Result Unit Fault) (outcome : Result Status Fault) → outcome ≡ with_status r → Ran m s (with_status r) → Ran m s outcome
+ended_so m s r outcome is so = subst (Ran m s) (sym is) so
+
+-- three words, of which the second is this
+pub asks : {A : Type 0} (f : A → List ℕ) (words : List A) (help : A) → 3 ≤ length words → length words < 4 → help ≡ get_or words 1 help → f help ≡ codes "help"
+    → AsksRefusal (map f words)
+asks f [] help most less is said = absurd (omega (arith, most))
+asks f (a ∷ []) help most less is said = absurd (omega (arith, most))
+asks f (a ∷ b ∷ []) help most less is said = absurd (omega (arith, most))
+asks f (a ∷ b ∷ d ∷ []) help most less is said = (f a, f d, ap (λ (w : List ℕ). f a ∷ w ∷ f d ∷ []) (ap f (sym is) ∙ said))
+asks f (a ∷ b ∷ d ∷ e ∷ words) help most less is said = absurd (omega (arith, less))
+
+-- what holds anyway
+pub if_some : {A : Type 0} {P : Type 0} (found : Option A) → P → IfSome found (λ a. P)
+if_some None p = tt
+if_some (Some a) p = p

@@ -1,0 +1,162 @@
+-- The objects that are printed of lines of a capture and of keys of a table.
+use Rattle.std.proofs.Common.{◌≡◌, ◌≢◌, ◌≤◌, ◌+◌, Result, Err, ℕ, List, [], ◌∷◌, ◌++◌, fold, refl, ap, sym, subst, ◌∙◌, arith, codes}
+use Rattle.json.specs.Token.{Token, begin_object, end_object}
+use Rattle.json.specs.Print.{print}
+use Rattle.nb_telling.specs.Fields.{Field, Number, Text}
+use Rattle.nb_telling.specs.Members.{AreMembers, IsJson, nothing, member, both}
+use Rattle.nb_telling.specs.Tokens.{field_tokens, object_of, tokens_of}
+use Rattle.nb_telling.proofs.FoldLemmas.{and_then, appended}
+use Rattle.nb_text.specs.Keys.{kind_key}
+use Rattle.nb_text.specs.Tells.{IsTold, Tells}
+use Rattle.std.specs.FinMap as maps
+use Rattle.nb_table.specs.declared.fault.TableFault.TheVariants.{NoMemory}
+use Rattle.nb_member.specs.declared.member_fault.MemberFault.{MemberFault}
+use Rattle.nb_member.specs.declared.member_fault.MemberFault.TheVariants.{Table}
+use Rattle.nb_member.specs.declared.outcome.Outcome.{Outcome}
+use Rattle.nb_member.specs.Member.{MemberValue, after_clock, contents, with_timed}
+use Rattle.nb_member.specs.ReportFields.{dropped_fields, passed_fields, result_fields}
+use Rattle.nb_member.specs.Taking.{Takes}
+use Rattle.nb_member.specs.declared.line.Line as capture
+use Rattle.nb_member.specs.declared.line.Line.TheVariants.{Packet, Tick}
+use Rattle.nbt.specs.Objects.{IsObject, ObjectOf, OutcomeFields, PacketFields, PrintsComment, TellsFields, arrival_fields, comment_fields, comment_key, head_fields, line_key, object_line, packet, tick, dropped, passed, taken}
+
+-- what a field adds to an object
+abbrev pub adds : List Token → Field → List Token
+adds tokens field = tokens ++ field_tokens field
+
+-- the tokens of an object to which fields were told
+told_tokens : (old new : List Token) (fields : List Field) → old ≡ begin_object ∷ [] → new ≡ fold adds old fields
+    → new ≡ begin_object ∷ tokens_of fields
+told_tokens old new fields begun told =
+    told ∙ appended field_tokens old fields ∙ ap (λ (ts : List Token). ts ++ tokens_of fields) begun
+
+-- the object, as a line
+told_line : (old new : List Token) (fields : List Field) (ended made : List ℕ) → old ≡ begin_object ∷ [] → new ≡ fold adds old fields
+    → ended ≡ print (new ++ end_object ∷ []) → made ≡ ended ++ 10 ∷ [] → made ≡ object_line fields
+told_line old new fields ended made begun told is line =
+    line ∙ ap (λ (bs : List ℕ). bs ++ 10 ∷ []) (is ∙ ap (λ (ts : List Token). print (ts ++ end_object ∷ [])) (told_tokens old new fields begun told))
+
+-- it is a value
+told_json : (old new : List Token) (fields : List Field) (depth : ℕ) (ended : List ℕ) → old ≡ begin_object ∷ [] → new ≡ fold adds old fields
+    → ended ≡ print (new ++ end_object ∷ []) → AreMembers depth fields → depth ≤ 60
+    → ((d : ℕ) (fs : List Field) → AreMembers d fs → d ≤ 60 → new ≡ begin_object ∷ tokens_of fs → IsJson ended) → IsJson (object_of fields)
+told_json old new fields depth ended begun told is are low json =
+    let whole = told_tokens old new fields begun told in
+    subst IsJson (is ∙ ap (λ (ts : List Token). print (ts ++ end_object ∷ [])) whole) (json depth fields are low whole)
+
+-- both
+pub told_object : (old new : List Token) (fields : List Field) (depth : ℕ) (ended made : List ℕ) → old ≡ begin_object ∷ [] → new ≡ fold adds old fields
+    → ended ≡ print (new ++ end_object ∷ []) → AreMembers depth fields → depth ≤ 60
+    → ((d : ℕ) (fs : List Field) → AreMembers d fs → d ≤ 60 → new ≡ begin_object ∷ tokens_of fs → IsJson ended) → made ≡ ended ++ 10 ∷ []
+    → IsObject fields made
+told_object old new fields depth ended made begun told is are low json line = record {
+  json = told_json old new fields depth ended begun told is are low json;
+  is = told_line old new fields ended made begun told is line;
+}
+
+-- ---- what objects of lines begin with
+
+comment_members : {depth : ℕ} (comment : List ℕ) → AreMembers depth (comment_fields comment)
+comment_members [] = nothing
+comment_members (c ∷ cs) = member (Text comment_key (c ∷ cs)) tt
+
+arrival_members : {depth : ℕ} (value : capture.Line) → AreMembers depth (arrival_fields value)
+arrival_members (Packet port moment payload) = both (_ ∷ []) (_ ∷ []) (member _ tt) (member _ tt)
+arrival_members (Tick now) = member _ tt
+
+head_members : {depth : ℕ} (n : ℕ) (value : capture.Line) (comment : List ℕ) → AreMembers depth (head_fields n value comment)
+head_members n value comment =
+    both (Number line_key n ∷ []) (arrival_fields value ++ comment_fields comment) (member (Number line_key n) tt)
+    (both (arrival_fields value) (comment_fields comment) (arrival_members value) (comment_members comment))
+
+pub line_made : (AreFields : List Field → Type 0) (n : ℕ) (value : capture.Line) (comment : List ℕ) (begun headed told : List Token)
+    (ended made : List ℕ) → begun ≡ begin_object ∷ [] → headed ≡ fold adds begun (head_fields n value comment)
+    → TellsFields AreFields adds headed told → ended ≡ print (told ++ end_object ∷ [])
+    → ((d : ℕ) (fs : List Field) → AreMembers d fs → d ≤ 60 → told ≡ begin_object ∷ tokens_of fs → IsJson ended)
+    → made ≡ ended ++ 10 ∷ [] → ObjectOf AreFields n value comment made
+line_made AreFields n value comment begun headed told ended made begins head t is json line =
+    let front = head_fields n value comment in
+    let seen = and_then adds begun front t.fields head t.seen in record {
+      fields = t.fields;
+      are = t.are;
+      object = told_object begun told (front ++ t.fields) t.depth ended made begins seen is
+          (both front t.fields (head_members n value comment) t.members) t.low json line;
+    }
+
+pub comment_made : (n : ℕ) (comment : List ℕ) (begun told : List Token) (ended made : List ℕ) → begun ≡ begin_object ∷ []
+    → told ≡ fold adds begun (Number line_key n ∷ Text comment_key comment ∷ []) → ended ≡ print (told ++ end_object ∷ [])
+    → ((d : ℕ) (fs : List Field) → AreMembers d fs → d ≤ 60 → told ≡ begin_object ∷ tokens_of fs → IsJson ended)
+    → made ≡ ended ++ 10 ∷ [] → IsObject (Number line_key n ∷ Text comment_key comment ∷ []) made
+comment_made n comment begun told ended made begins seen is json line =
+    let members : AreMembers 0 (Number line_key n ∷ Text comment_key comment ∷ []) =
+    both (Number line_key n ∷ []) (Text comment_key comment ∷ []) (member (Number line_key n) tt) (member (Text comment_key comment) tt) in
+    told_object begun told (Number line_key n ∷ Text comment_key comment ∷ []) 0 ended made begins seen is members (omega arith) json line
+
+-- the comment, where it isn't empty
+pub comment_printed : (n : ℕ) (comment made : List ℕ) → ¬ (comment ≡ []) → IsObject (Number line_key n ∷ Text comment_key comment ∷ []) made
+    → PrintsComment n comment made
+comment_printed n [] made some object = absurd (some refl)
+comment_printed n (c ∷ cs) made some object = object
+
+-- ---- what is told of a line
+
+pub packet_told : {A : Type 0} (after : A → Field → A) (value : capture.Line) (s t : Unit {0}) (port moment : ℕ) (payload : List ℕ) (old new : A)
+    → value ≡ Packet port moment payload
+    → ((p : List ℕ) (n : ℕ) (fields : List Field) → Tells p n fields → AreMembers 2 fields)
+    → IsTold after payload port old new → TellsFields (PacketFields value s t) after old new
+packet_told after value s t port moment payload old new said are told = record {
+  fields = told.fields;
+  are = subst (λ (v : capture.Line). PacketFields v s t told.fields) (sym said) (packet port moment payload s t told.fields told.tells);
+  depth = 2;
+  low = omega arith;
+  members = are payload port told.fields told.tells;
+  seen = told.seen;
+}
+
+pub tick_told : {A : Type 0} (after : A → Field → A) (value : capture.Line) (s t : Unit {0}) (now : ℕ) (old new : A) → value ≡ Tick now
+    → new ≡ after old (Text kind_key (codes "tick")) → TellsFields (PacketFields value s t) after old new
+tick_told after value s t now old new said told = record {
+  fields = Text kind_key (codes "tick") ∷ [];
+  are = subst (λ (v : capture.Line). PacketFields v s t (Text kind_key (codes "tick") ∷ [])) (sym said) (tick now s t);
+  depth = 2;
+  low = omega arith;
+  members = member _ tt;
+  seen = told;
+}
+
+pub dropped_told : {A : Type 0} (after : A → Field → A) (value : capture.Line) (m new : MemberValue) (now keys : ℕ) (old seen : A) → value ≡ Tick now
+    → ((n : ℕ) → AreMembers 1 (dropped_fields n)) → new ≡ with_timed m (after_clock m.timed now) → keys + maps.len (contents new) ≡ maps.len (contents m)
+    → seen ≡ fold after old (dropped_fields keys) → TellsFields (OutcomeFields value m new) after old seen
+dropped_told after value m new now keys old seen said are is count told = record {
+  fields = dropped_fields keys;
+  are = subst (λ (v : capture.Line). OutcomeFields v m new (dropped_fields keys)) (sym said) (dropped now keys m new is count);
+  depth = 1;
+  low = omega arith;
+  members = are keys;
+  seen = told;
+}
+
+pub passed_told : {A : Type 0} (after : A → Field → A) (value : capture.Line) (m : MemberValue) (port moment : ℕ) (payload : List ℕ) (old seen : A)
+    → value ≡ Packet port moment payload → port ≢ 138 → AreMembers 1 passed_fields → seen ≡ fold after old passed_fields
+    → TellsFields (OutcomeFields value m m) after old seen
+passed_told after value m port moment payload old seen said other are told = record {
+  fields = passed_fields;
+  are = subst (λ (v : capture.Line). OutcomeFields v m m passed_fields) (sym said) (passed port moment payload m m other refl);
+  depth = 1;
+  low = omega arith;
+  members = are;
+  seen = told;
+}
+
+pub taken_told : {A : Type 0} (after : A → Field → A) (value : capture.Line) (m new : MemberValue) (port moment : ℕ) (payload : List ℕ)
+    (result : Result Outcome MemberFault) (old seen : A) → value ≡ Packet port moment payload → port ≡ 138
+    → ((r : Result Outcome MemberFault) → AreMembers 1 (result_fields r)) → Takes m moment payload new result
+    → (result ≢ Err (Table NoMemory)) × (seen ≡ fold after old (result_fields result)) → TellsFields (OutcomeFields value m new) after old seen
+taken_told after value m new port moment payload result old seen said is are takes told = record {
+  fields = result_fields result;
+  are = subst (λ (v : capture.Line). OutcomeFields v m new (result_fields result)) (sym said) (taken port moment payload m new result is told.0 takes);
+  depth = 1;
+  low = omega arith;
+  members = are result;
+  seen = told.1;
+}

@@ -1,5 +1,0 @@
-use Rattle.nbt.proofs.BuildingTurns.{session_lines}
-use Rattle.nbt.proofs.commands.build.session_line.Goals as goal
-
-pub returns-clause-built : goal.returns-clause-built
-returns-clause-built c broadcast = session_lines broadcast _ _ _ _ c.in_ok-packet.ensures.built c.in_ok-line.ensures

@@ -1,0 +1,141 @@
+-- The objects that `--json` prints (our choice): of a line of a capture, of a comment, and of a key of a table.
+use Rattle.std.specs.Prelude.{◌≡◌, ◌≢◌, ◌≤◌, ◌+◌, ℕ, Bool, true, false, List, [], ◌∷◌, ◌++◌, codes, Option, Some, None, Result, Err, fold}
+use Rattle.std.specs.FinMap as maps
+use Rattle.std.specs.List.{flat_map}
+use Rattle.nb_datagram.specs.declared.key.Key.{Key}
+use Rattle.nb_table.specs.Contents.{Contents}
+use Rattle.nb_table.specs.declared.fault.TableFault.TheVariants.{NoMemory}
+use Rattle.nb_telling.specs.Fields.{Field, FieldKey, Text, Number}
+use Rattle.nb_telling.specs.Members.{AreMembers, IsJson}
+use Rattle.nb_telling.specs.Tokens.{object_of}
+use Rattle.nb_text.specs.Keys.{kind_key}
+use Rattle.nb_text.specs.Lines.{line_end}
+use Rattle.nb_text.specs.Tells.{Tells}
+use Rattle.nb_member.specs.declared.comments.Comments.{Comments}
+use Rattle.nb_member.specs.declared.comments.Comments.TheVariants.{LeftOut, Printed}
+use Rattle.nb_member.specs.declared.line.Line as capture
+use Rattle.nb_member.specs.declared.line.Line.TheVariants.{Packet, Tick}
+use Rattle.nb_member.specs.declared.member_fault.MemberFault.{MemberFault}
+use Rattle.nb_member.specs.declared.member_fault.MemberFault.TheVariants.{Table}
+use Rattle.nb_member.specs.declared.outcome.Outcome.{Outcome}
+use Rattle.nb_member.specs.Comments.{byte_text}
+use Rattle.nb_member.specs.Member.{MemberValue, after_clock, contents, with_timed}
+use Rattle.nb_member.specs.Taking.{Takes}
+use Rattle.nb_member.specs.Listing.{listing}
+use Rattle.nb_member.specs.ListingFields.{key_fields}
+use Rattle.nb_member.specs.ReportFields.{dropped_fields, passed_fields, result_fields}
+
+-- ---- what objects of lines begin with
+
+-- a key of an object, which no text has
+abbrev pub bare_key : List ℕ → FieldKey
+bare_key name = record { name = name; lead = [] }
+
+-- the number of a line
+abbrev pub line_key : FieldKey
+line_key = bare_key (codes "line")
+
+-- the port to which a payload came
+abbrev pub port_key : FieldKey
+port_key = bare_key (codes "port")
+
+-- the moment of a line
+abbrev pub moment_key : FieldKey
+moment_key = bare_key (codes "moment")
+
+-- the comment that a line is, or that stands before it
+abbrev pub comment_key : FieldKey
+comment_key = bare_key (codes "comment")
+
+-- a comment, where there is one
+abbrev pub comment_fields : List ℕ → List Field
+comment_fields [] = []
+comment_fields (c ∷ cs) = Text comment_key (c ∷ cs) ∷ []
+
+-- the port to which a payload came, and the moment
+abbrev pub arrival_fields : capture.Line → List Field
+arrival_fields (Packet port moment payload) = Number port_key port ∷ Number moment_key moment ∷ []
+arrival_fields (Tick now) = Number moment_key now ∷ []
+
+-- head_fields n value comment: of line n, which says this, after this comment
+abbrev pub head_fields : ℕ → capture.Line → List ℕ → List Field
+head_fields n value comment = Number line_key n ∷ (arrival_fields value ++ comment_fields comment)
+
+-- an object with these members as a line
+abbrev pub object_line : List Field → List ℕ
+object_line fields = object_of fields ++ line_end
+
+-- ---- what is told of a line
+
+-- the fields that `show` tells; nothing is left from line to line
+pub data PacketFields : capture.Line → Unit {0} → Unit {0} → List Field → Type 0 where
+  packet : (port moment : ℕ) (payload : List ℕ) (s t : Unit {0}) (fields : List Field) → Tells payload port fields
+      → PacketFields (Packet port moment payload) s t fields
+  tick : (now : ℕ) (s t : Unit {0}) → PacketFields (Tick now) s t (Text kind_key (codes "tick") ∷ [])
+
+-- the fields that `replay` tells, by what its member m makes of the line; it becomes new. That memory ran out in it isn't told
+pub data OutcomeFields : capture.Line → MemberValue → MemberValue → List Field → Type 0 where
+  dropped : (now keys : ℕ) (m new : MemberValue) → new ≡ with_timed m (after_clock m.timed now)
+      → keys + maps.len (contents new) ≡ maps.len (contents m) → OutcomeFields (Tick now) m new (dropped_fields keys)
+  passed : (port moment : ℕ) (payload : List ℕ) (m new : MemberValue) → port ≢ 138 → new ≡ m
+      → OutcomeFields (Packet port moment payload) m new passed_fields
+  taken : (port moment : ℕ) (payload : List ℕ) (m new : MemberValue) (result : Result Outcome MemberFault) → port ≡ 138
+      → result ≢ Err (Table NoMemory) → Takes m moment payload new result → OutcomeFields (Packet port moment payload) m new (result_fields result)
+
+-- TellsFields AreFields after old new: what is seen of a sink after such fields
+pub record TellsFields {A : Type 0} (AreFields : List Field → Type 0) (after : A → Field → A) (old new : A) : Type 0 where
+  pub fields : List Field
+  pub are : AreFields fields
+  pub depth : ℕ
+  pub low : depth ≤ 60
+  pub members : AreMembers depth fields
+  pub seen : new ≡ fold after old fields
+
+-- IsObject fields text: the text is the object with these members as a line, one value of RFC 8259
+pub record IsObject (fields : List Field) (text : List ℕ) : Type 0 where
+  pub json : IsJson (object_of fields)
+  pub is : text ≡ object_line fields
+
+-- ObjectOf AreFields n value comment text: the object of line n, which says this, after this comment
+pub record ObjectOf (AreFields : List Field → Type 0) (n : ℕ) (value : capture.Line) (comment text : List ℕ) : Type 0 where
+  pub fields : List Field
+  pub are : AreFields fields
+  pub object : IsObject (head_fields n value comment ++ fields) text
+
+-- the comment that a line is, or nothing of an empty one
+abbrev pub comment_of : List ℕ → List ℕ
+comment_of line = flat_map byte_text line
+
+-- PrintsComment n comment text: what is printed of line n where it is this comment, or empty, and comments are printed
+abbrev pub PrintsComment : ℕ → List ℕ → List ℕ → Type 0
+PrintsComment n [] text = text ≡ []
+PrintsComment n (c ∷ cs) text = IsObject (Number line_key n ∷ Text comment_key (c ∷ cs) ∷ []) text
+
+-- the same, where comments are printed; nothing where they are left out
+abbrev pub CommentObject : Comments → ℕ → List ℕ → List ℕ → Type 0
+CommentObject LeftOut n comment text = text ≡ []
+CommentObject Printed n comment text = PrintsComment n comment text
+
+-- ObjectSaid AreFields comments n l said old new text: what is printed of l, which is line n and says this, or nothing. From
+-- line to line stand the comment that the line before is, and what AreFields goes by
+abbrev pub ObjectSaid : {S : Type 0} → (capture.Line → S → S → List Field → Type 0) → Comments → ℕ → List ℕ → Option capture.Line → List ℕ × S → List ℕ × S → List ℕ → Type 0
+ObjectSaid AreFields comments n l None old new text =
+    CommentObject comments n (comment_of l) text × (new ≡ (comment_of l, old.1))
+ObjectSaid AreFields comments n l (Some value) old new text =
+    ObjectOf (AreFields value old.1 new.1) n value old.0 text × (new.0 ≡ [])
+
+-- ---- keys of a table
+
+-- objects of such keys, in order
+abbrev pub key_objects : Contents → List Key → List ℕ
+key_objects t [] = []
+key_objects t (k ∷ ks) = object_line (key_fields t k) ++ key_objects t ks
+
+-- those of all keys of a table, ascending
+abbrev pub listed_objects : Contents → List ℕ
+listed_objects t = key_objects t (maps.keys t)
+
+-- listed_as json: what is printed of a table: its objects, or its lines
+abbrev pub listed_as : Bool → Contents → List ℕ
+listed_as true = listed_objects
+listed_as false = listing

@@ -23,6 +23,7 @@ fn say_answer(line: &mut Line<'_>, call: &str) {
         "service" => nb_examples_service::answer(line, call),
         "session" => nb_examples_session::answer(line, call),
         "datagram" => nb_examples_datagram::answer(line, call),
+        "telling" => nb_examples_telling::answer(line, call),
         "text" => nb_examples_service::shown::answer(line, call),
         "table" => nb_examples_table::answer(line, call),
         "member" => nb_examples_member::answer(line, call),

@@ -2,6 +2,7 @@
 #![tactic(auto)]
 
 pub mod cutting;
+mod lent;
 pub mod owned;
 pub mod packets;
 pub mod texts;
@@ -14,6 +15,9 @@ use nb_examples_words::line::Line;
 pub fn answer(line: &mut Line<'_>, call: &str) {
     match call {
         "decode" => packets::decoded(line),
+        "decode_lent" => lent::decoded(line),
+        "lent_parts" => lent::parts(line),
+        "kept" => lent::kept(line),
         "again" => packets::encoded_again(line),
         "encode" => packets::encoded(line),
         "parts" => packets::parts(line),

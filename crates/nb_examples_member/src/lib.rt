@@ -12,7 +12,9 @@ mod replays;
 mod running;
 mod stations;
 mod steps;
+mod taking;
 mod texts;
+mod told;
 mod values;
 
 use nb_examples_words::fault::ExampleFault;
@@ -29,11 +31,15 @@ pub fn answer(line: &mut Line<'_>, call: &str) {
         "run" => running::run_by_one(line),
         "two" => running::run_by_two(line),
         "many" => many::taken(line),
+        "take_lines" => taking::taken(line),
+        "told" => told::told(line),
         "next" => reading::each_line(line),
         "next_within" => reading::each_line_within(line),
         "datagram" => texts::parts(line),
+        "place" => values::placed(line),
+        "comment_bytes" => texts::comment_bytes(line),
         "comment" => texts::comment(line),
-        "report" | "replay" | "written" | "commented" => replays::replayed(line, call),
+        "report" | "replay" | "within" | "written" | "commented" => replays::replayed(line, call),
         "compare" => values::compared(line),
         "memory" => values::memory(line),
         _ => line.note(ExampleFault::NoSuchCall),

@@ -23,7 +23,7 @@ pub fn read(line: &mut Line<'_>) {
 }
 
 /// Says what a line of a capture says.
-fn say_read(line: &mut Line<'_>, read: &CaptureLine) {
+pub fn say_read(line: &mut Line<'_>, read: &CaptureLine) {
     match read {
         CaptureLine::Packet {
             port,

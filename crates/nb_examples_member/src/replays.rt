@@ -6,7 +6,9 @@
 use crate::stations::member_of;
 use nb_examples_words::devices::{Conduct, Sink, Source, WILLING};
 use nb_examples_words::line::Line;
-use nb_member::{CaptureOptions, Comments, Member, ReplayFault, replay, replay_with};
+use nb_member::{
+    CaptureOptions, Comments, Member, ReplayFault, replay, replay_with, replay_within,
+};
 use nb_names::Counted;
 use std::alloc::Global;
 
@@ -23,7 +25,8 @@ const WITH_COMMENTS: CaptureOptions = CaptureOptions {
 /// `replay STATION READER WRITER CAPTURE`: the same over a reader and a writer, each of which is
 /// three words, `MOST INTERRUPTS FAILING`. `written STATION READER WRITER CAPTURE`: the same, with
 /// what was written as bytes. `commented STATION CAPTURE`: as `report`, with the comments of the
-/// capture in the report.
+/// capture in the report. `within STATION MOST CAPTURE`: as `report`, of an input that may have
+/// MOST bytes.
 ///
 /// Where memory runs out, another new member replays the capture, and what was written before has
 /// to be a front of its report.
@@ -50,6 +53,8 @@ struct Replaying<'a> {
     capture: Vec<u8>,
     has_bytes: bool,
     has_comments: bool,
+    /// How many bytes the input may have, where that is said.
+    most: Option<u64>,
 }
 
 impl<'a> Replaying<'a> {
@@ -57,6 +62,10 @@ impl<'a> Replaying<'a> {
     fn of(line: &mut Line<'a>, call: &str) -> Replaying<'a> {
         let station = line.word();
         let (mut reading, mut writing) = (WILLING, WILLING);
+        let most = match call {
+            "within" => Some(line.number()),
+            _ => None,
+        };
         if call == "replay" || call == "written" {
             reading = line.conduct();
             writing = line.conduct();
@@ -68,6 +77,7 @@ impl<'a> Replaying<'a> {
             capture: rest_capture(line),
             has_bytes: call == "written",
             has_comments: call == "commented",
+            most,
         }
     }
 
@@ -92,6 +102,9 @@ impl<'a> Replaying<'a> {
         let writer = &mut Counted::new(sink);
         if self.has_comments {
             return replay_with(alloc, reader, writer, member, WITH_COMMENTS);
+        }
+        if let Some(most) = self.most {
+            return replay_within(alloc, reader, writer, member, most);
         }
         replay(alloc, reader, writer, member)
     }

@@ -4,7 +4,7 @@ use nb_datagram::{Datagram, kind_name};
 use nb_examples_datagram::values::datagram_of;
 use nb_examples_words::alone;
 use nb_examples_words::line::Line;
-use nb_member::{Comments, push_comment, push_parts};
+use nb_member::{Comments, push_comment, push_comment_bytes, push_parts};
 use std::alloc::Global;
 
 /// `datagram PARTS`: the word for a datagram's kind, and then all its parts as a report has them.
@@ -53,6 +53,23 @@ pub fn comment(line: &mut Line<'_>) {
 fn comment_text(alloc: Global, comments: Comments, comment: &[u8]) -> Option<String> {
     let mut text = String::new(alloc);
     match push_comment(comments, comment, &mut text) {
+        Ok(()) => Some(text),
+        Err(_) => None,
+    }
+}
+
+/// `comment_bytes BYTES`: bytes as a comment's text has them, a line feed not excepted.
+pub fn comment_bytes(line: &mut Line<'_>) {
+    let bytes = line.rest();
+    let bytes = line.bytes_of(bytes);
+    let text = alone!(line, None, bytes_text(line.alloc(), bytes.as_slice()));
+    line.say_made(text);
+}
+
+/// Bytes as a comment's text has them, or nothing where memory ran out.
+fn bytes_text(alloc: Global, bytes: &[u8]) -> Option<String> {
+    let mut text = String::new(alloc);
+    match push_comment_bytes(bytes, &mut text) {
         Ok(()) => Some(text),
         Err(_) => None,
     }

@@ -129,6 +129,19 @@ fn refused(line: &mut Line<'_>, text: &str) -> Option<MemberFault> {
     fault
 }
 
+/// `place STATION PAYLOAD`: why a new member refuses a payload, and the fault's place, where it has
+/// one.
+pub fn placed(line: &mut Line<'_>) {
+    let station = line.word();
+    let mut member = member_of(line, station);
+    let payload = line.bytes();
+    let Err(fault) = member.take(0, payload.as_slice()) else {
+        return line.bad_words();
+    };
+    write!(line, "{fault}");
+    line.say_place(fault.place());
+}
+
 /// Why a replay ended: `line NUMBER`, `read`, `write` or `memory`.
 fn replay_fault<'a>(line: &mut Line<'a>, text: &'a str) -> ReplayFault {
     let before = line.enter(text, " ");

@@ -1,9 +1,9 @@
 //! Counted readers and writers, and what is read and written of them.
 
-use nb_examples_words::devices::{Sink, Source};
+use nb_examples_words::devices::{Sink, Source, WILLING};
 use nb_examples_words::line::Line;
 use nb_names::input::{Input, read_input, read_some};
-use nb_names::output::{write_some, write_whole};
+use nb_names::output::{write_digits, write_some, write_whole};
 use nb_names::{Counted, DeviceFault, Told};
 
 /// `counted_read TIMES SIZE MOST INTERRUPTS FAILING BYTES`: what each of some reads answers, the
@@ -21,6 +21,20 @@ pub fn read(line: &mut Line<'_>, call: &str) {
         }
         Err(_) => line.no_memory(),
     }
+}
+
+/// `into_inner BYTES`: what is left in the device that a counted reader gives back, after a read of
+/// three bytes.
+pub fn given_back(line: &mut Line<'_>) {
+    let bytes = line.bytes();
+    let mut buffer = [0; 3];
+    let mut reader = Counted::new(Source::new(bytes.as_slice(), WILLING));
+    line.begin();
+    let told = reader.read(&mut buffer);
+    let source = reader.into_inner();
+    line.end();
+    write!(line, "{told:?} left ");
+    line.say_bytes(source.left());
 }
 
 /// Says what some reads answer, and what is left in the device.
@@ -112,8 +126,8 @@ fn say_input(line: &mut Line<'_>, input: &Input) {
 }
 
 /// `counted_write TIMES MOST INTERRUPTS FAILING BYTES`: what each of some writes of the same bytes
-/// answers, and what the device has taken. `write_some` and `write_whole` with the same words but
-/// TIMES: the same of what is written at once, and of all bytes.
+/// answers, and what the device has taken. `write_some`, `write_whole` and `write_digits` with the
+/// same words but TIMES: the same of what is written at once, of all bytes, and of their digits.
 pub fn written(line: &mut Line<'_>, call: &str) {
     let times = times(line, call == "counted_write");
     let conduct = line.conduct();
@@ -131,9 +145,9 @@ fn say_writes(line: &mut Line<'_>, call: &str, times: u64, bytes: &[u8], sink: &
     line.say_bytes(sink.taken());
 }
 
-/// Says what a write answers.
+/// Says what a write answers. The device has room for the bytes, and for their digits.
 fn say_write(line: &mut Line<'_>, call: &str, bytes: &[u8], sink: &mut Sink) {
-    if sink.make_room(bytes.len()).is_err() {
+    if sink.make_room(bytes.len().saturating_mul(2)).is_err() {
         line.no_memory();
     }
     line.begin();
@@ -143,7 +157,7 @@ fn say_write(line: &mut Line<'_>, call: &str, bytes: &[u8], sink: &mut Sink) {
     line.say("; ");
 }
 
-/// What a write answers. No bytes are written whole alone.
+/// What a write answers. No bytes are written whole alone, or as digits.
 fn write_by(
     call: &str,
     bytes: &[u8],
@@ -151,6 +165,10 @@ fn write_by(
 ) -> Result<Told, DeviceFault> {
     if call == "write_whole" {
         write_whole(writer, bytes)?;
+        return Ok(Told::Bytes(bytes.len()));
+    }
+    if call == "write_digits" {
+        write_digits(writer, bytes)?;
         return Ok(Told::Bytes(bytes.len()));
     }
     if bytes.is_empty() {

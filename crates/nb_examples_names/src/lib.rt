@@ -2,6 +2,7 @@
 #![tactic(auto)]
 
 mod devices;
+mod lent;
 mod pieces;
 mod reading;
 mod texts;
@@ -14,6 +15,9 @@ use nb_examples_words::line::Line;
 pub fn answer(line: &mut Line<'_>, call: &str) {
     match call {
         "read_domain" => reading::domain_read(line),
+        "lent" => lent::read(line),
+        "keep" => lent::kept(line),
+        "skip" => reading::skipped(line),
         "read_name" => reading::name_read(line),
         "reader" => reading::read_by_reader(line),
         "labels" => reading::labels(line),
@@ -25,6 +29,7 @@ pub fn answer(line: &mut Line<'_>, call: &str) {
         "name_text" => texts::name_written(line),
         "domain_text" => texts::domain_written(line),
         "spelling" => texts::spelled(line),
+        "ascii" => texts::ascii(line),
         "split_line" => texts::line_split(line),
         _ => answer_more(line, call),
     }
@@ -41,10 +46,14 @@ fn answer_more(line: &mut Line<'_>, call: &str) {
         | "push_word"
         | "push_number"
         | "push_address"
-        | "push_domain" => pieces::added(line, call),
+        | "push_domain"
+        | "push_shown" => pieces::added(line, call),
         "counted_read" | "read_some" => devices::read(line, call),
+        "into_inner" => devices::given_back(line),
         "read_input" => devices::input(line),
-        "counted_write" | "write_some" | "write_whole" => devices::written(line, call),
+        "counted_write" | "write_some" | "write_whole" | "write_digits" => devices::written(
+            line, call,
+        ),
         "order" => values::ordered(line),
         "same" => values::compared(line),
         "copy" => values::copied(line),

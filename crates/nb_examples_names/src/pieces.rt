@@ -5,8 +5,8 @@ use crate::reading::domain_of;
 use nb_examples_words::alone;
 use nb_examples_words::line::Line;
 use nb_names::{
-    Bytes, DigitsFault, DomainName, Name, bytes_of_digits, data_of_text, push_address, push_data,
-    push_digits, push_domain, push_name, push_number, push_word,
+    Bytes, DigitsFault, DomainName, Name, NameFault, bytes_of_digits, data_of_text, push_address,
+    push_data, push_digits, push_domain, push_name, push_number, push_shown, push_word,
 };
 use std::alloc::Global;
 
@@ -48,13 +48,15 @@ enum Piece {
     Number(u64),
     Address([u8; 4]),
     Domain(DomainName),
+    Fault(NameFault),
     Name(Name),
 }
 
 /// `push_digits TEXT BYTES`: the text with the bytes' digits after it; `push_data TEXT BYTES`: with
 /// the bytes as data is written; `push_word TEXT HEX`: with the four digits of a number;
 /// `push_number TEXT NUMBER`: with a number in decimal; `push_address TEXT ADDRESS`,
-/// `push_domain TEXT LABEL ..` and `push_name TEXT NAME`: with these.
+/// `push_domain TEXT LABEL ..` and `push_name TEXT NAME`: with these; `push_shown TEXT PLACE`: with
+/// the fault of a name that is cut short at a place.
 pub fn added(line: &mut Line<'_>, call: &str) {
     let front = line.word();
     let piece = match call {
@@ -63,6 +65,7 @@ pub fn added(line: &mut Line<'_>, call: &str) {
         "push_word" => Piece::Word(line.hex_16()),
         "push_number" => Piece::Number(line.number()),
         "push_address" => Piece::Address(line.address()),
+        "push_shown" => Piece::Fault(NameFault::Truncated(line.size())),
         "push_domain" => Piece::Domain(domain_of(line)),
         _ => Piece::Name(line.name()),
     };
@@ -82,6 +85,7 @@ fn with_piece(alloc: Global, front: &str, piece: &Piece) -> Option<String> {
         Piece::Number(number) => push_number(*number, &mut text),
         Piece::Address(address) => push_address(*address, &mut text),
         Piece::Domain(domain) => push_domain(&mut text, domain),
+        Piece::Fault(fault) => push_shown(*fault, &mut text),
         Piece::Name(name) => push_name(&mut text, name),
     };
     match added {

@@ -48,6 +48,23 @@ pub fn read_by_reader(line: &mut Line<'_>) {
     say_domain(line, read);
 }
 
+/// `skip POINTERS AT BYTES`: the offset after the domain name at an offset, or why there is none.
+pub fn skipped(line: &mut Line<'_>) {
+    let pointers = pointers(line);
+    let at = line.size();
+    let packet = line.bytes();
+    line.begin();
+    let skipped = NameReader::of(packet.as_slice(), &mut []).skip_domain(at, pointers);
+    line.end();
+    match skipped {
+        Ok(next) => write!(line, "next {next}"),
+        Err(fault) => {
+            write!(line, "{fault}");
+            line.say_place(Some(fault.place()));
+        }
+    }
+}
+
 /// Says the spelling of a name that was read and the offset after it, or why none was.
 fn say_domain(line: &mut Line<'_>, read: Result<(DomainName, usize), NameFault>) {
     match read {

@@ -4,7 +4,7 @@ use crate::reading::domain_of;
 use nb_examples_words::alone;
 use nb_examples_words::line::Line;
 use nb_names::lines::split_line;
-use nb_names::{Name, Scope, domain_text, name_from_text, name_text, write_domain};
+use nb_names::{Name, Scope, ascii_str, domain_text, name_from_text, name_text, write_domain};
 
 /// `from_text TEXT`: the sixteen bytes of the name that the text stands for, and the spelling of
 /// its scope. The text may have spaces.
@@ -88,5 +88,15 @@ pub fn line_split(line: &mut Line<'_>) {
             line.say_bytes(rest);
         }
         None => line.say("none"),
+    }
+}
+
+/// `ascii BYTES`: the text of these bytes, all of which have to be ASCII.
+pub fn ascii(line: &mut Line<'_>) {
+    let bytes = line.bytes();
+    if bytes.as_slice().is_ascii() {
+        line.say(ascii_str(bytes.as_slice()));
+    } else {
+        line.bad_words();
     }
 }

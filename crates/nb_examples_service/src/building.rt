@@ -1,12 +1,12 @@
 //! Packets that are built of parts, and the usual requests.
 
-use crate::parts::{Part, parts_of, section};
+use crate::parts::{Part, Row, parts_of, record_row, section};
 use nb_examples_words::alone;
 use nb_examples_words::line::Line;
 use nb_names::{Bytes, DomainName, Name, NoMemory};
 use nb_service::{
     AddressEntry, Packet, PushFault, Question, Record, Section, classes, encode, kinds,
-    node_status_request, query, refresh, registration, release,
+    node_status_request, query, refresh, registration, release, response,
 };
 use std::alloc::Global;
 
@@ -114,6 +114,26 @@ fn say_counts(line: &mut Line<'_>, packet: &Packet<'_>) {
     let additional = packet.additional().as_slice().len();
     line.end();
     write!(line, " {questions} {answers} {authorities} {additional}");
+}
+
+/// `response ID WORD RECORD`: the bytes of a packet that has this record as its answer.
+pub fn responded(line: &mut Line<'_>) {
+    let id = line.hex_16();
+    let word = line.hex_16();
+    let row = record_row(line);
+    match alone!(line, None, response_of(line.alloc(), id, word, &row)) {
+        Some(packet) => {
+            let bytes = encoded(line, &packet);
+            line.say_bytes(bytes.as_slice());
+        }
+        None => line.no_memory(),
+    }
+}
+
+/// The packet with the record of a row, or nothing where memory ran out, or there is none.
+fn response_of<'a>(alloc: Global, id: u16, word: u16, row: &'a Row) -> Option<Packet<'a>> {
+    let answer = row.record().ok()?;
+    response(alloc, id, word, answer).ok()
 }
 
 /// What a request says besides its name: whether it is broadcast, for how long, and the entry.

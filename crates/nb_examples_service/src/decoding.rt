@@ -24,6 +24,16 @@ pub fn decoded(line: &mut Line<'_>) {
     }
 }
 
+/// `place BYTES`: why the bytes begin with no packet, and the fault's place, where it has one.
+pub fn placed(line: &mut Line<'_>) {
+    let bytes = line.bytes();
+    let Err(fault) = front(line, bytes.as_slice()) else {
+        return line.bad_words();
+    };
+    write!(line, "{fault}");
+    line.say_place(fault.place());
+}
+
 /// `again BYTES`: the packet that the bytes begin with, encoded.
 pub fn encoded_again(line: &mut Line<'_>) {
     let bytes = line.bytes();

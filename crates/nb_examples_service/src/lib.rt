@@ -27,6 +27,8 @@ pub fn answer(line: &mut Line<'_>, call: &str) {
         "many" => building::pushed_often(line),
         "query" | "node_status_request" | "registration" | "refresh" | "release" =>
             building::requested(line, call),
+        "response" => building::responded(line),
+        "place" => decoding::placed(line),
         "record" => views::record(line),
         "entries" => views::entries(line),
         "status" => views::status(line),

@@ -12,6 +12,7 @@ use nb_examples_words::line::Line;
 pub fn answer(line: &mut Line<'_>, call: &str) {
     match call {
         "parse" => packets::parsed(line),
+        "place" => packets::placed(line),
         "fronts" => packets::fronts(line),
         "again" => packets::encoded_again(line),
         "encode" => packets::encoded(line),

@@ -45,6 +45,16 @@ pub fn parsed(line: &mut Line<'_>) {
     }
 }
 
+/// `place BYTES`: why the bytes begin with no packet, and the fault's place, where it has one.
+pub fn placed(line: &mut Line<'_>) {
+    let bytes = line.bytes();
+    let Parsed::Refused(fault) = parse(bytes.as_slice()) else {
+        return line.bad_words();
+    };
+    write!(line, "{fault}");
+    line.say_place(fault.place());
+}
+
 /// `fronts BYTES`: how many bytes each front lacks that is shorter than the packet: `K at N` says
 /// that N bytes lack K, and those after them one less with each byte.
 pub fn fronts(line: &mut Line<'_>) {

@@ -2,29 +2,32 @@
 
 use crate::reads::reads;
 use crate::steps::{lent, say_change, say_fault, step_of, table_of};
+use nb_datagram::Fragment;
 use nb_examples_words::asked;
 use nb_examples_words::line::Line;
-use nb_table::{Table, TableFault};
+use nb_table::{Change, Handing, Table, TableFault};
 
-/// `insert TABLE | STEP ..`: what the inserts of the steps into the table answer.
-pub fn inserts(line: &mut Line<'_>) {
+/// `insert TABLE | STEP ..`: what the inserts of the steps into the table answer. `insert_lent` and
+/// `insert_kept` with the same words: of fragments whose names are lent, and where no datagram is
+/// handed over.
+pub fn inserts(line: &mut Line<'_>, call: &str) {
     let (table, steps) = line.halves(" | ");
     let mut table = table_of(line, table);
-    say_inserts(line, &mut table, steps);
+    say_inserts(line, call, &mut table, steps);
 }
 
 /// Says what the inserts of steps into a table answer.
-pub fn say_inserts<'a>(line: &mut Line<'a>, table: &mut Table, steps: &'a str) {
+pub fn say_inserts<'a>(line: &mut Line<'a>, call: &str, table: &mut Table, steps: &'a str) {
     for (place, step) in steps.split_whitespace().enumerate() {
         if place > 0 {
             line.say(", ");
         }
-        say_insert(line, table, step);
+        say_insert(line, call, table, step);
     }
 }
 
 /// Says what the insert of a step answers.
-fn say_insert<'a>(line: &mut Line<'a>, table: &mut Table, step: &'a str) {
+fn say_insert<'a>(line: &mut Line<'a>, call: &str, table: &mut Table, step: &'a str) {
     let parts = step_of(line, step);
     let Some(fragment) = lent(line, &parts) else {
         return;
@@ -32,7 +35,7 @@ fn say_insert<'a>(line: &mut Line<'a>, table: &mut Table, step: &'a str) {
     let answer = asked!(
         line,
         Err(TableFault::NoMemory),
-        table.insert(&fragment),
+        insert_by(call, table, &fragment),
         reads(line, table)
     );
     match answer {
@@ -41,26 +44,43 @@ fn say_insert<'a>(line: &mut Line<'a>, table: &mut Table, step: &'a str) {
     }
 }
 
+/// What the insert of a fragment answers, by a call.
+fn insert_by(call: &str, table: &mut Table, fragment: &Fragment<'_>) -> Result<Change, TableFault> {
+    let answer = match call {
+        "insert_lent" => table.insert_lent(&fragment.lent()),
+        "insert_kept" => table.insert_with(&fragment.lent(), Handing::Kept),
+        _ => return table.insert(fragment),
+    };
+    match answer {
+        Ok(change) => Ok(change.into_change()),
+        Err(fault) => Err(fault),
+    }
+}
+
 /// `refusals TABLE | STEP ..`: why the table would refuse each of the steps, or `none`.
-pub fn refusals(line: &mut Line<'_>) {
+/// `refusals_lent` with the same words: of fragments whose names are lent.
+pub fn refusals(line: &mut Line<'_>, is_lent: bool) {
     let (table, steps) = line.halves(" | ");
     let table = table_of(line, table);
     for step in steps.split_whitespace() {
         if !line.is_silent() {
             line.say(", ");
         }
-        say_refusal(line, &table, step);
+        say_refusal(line, &table, is_lent, step);
     }
 }
 
 /// Says why the table would refuse a step, or `none`.
-fn say_refusal<'a>(line: &mut Line<'a>, table: &Table, step: &'a str) {
+fn say_refusal<'a>(line: &mut Line<'a>, table: &Table, is_lent: bool, step: &'a str) {
     let parts = step_of(line, step);
     let Some(fragment) = lent(line, &parts) else {
         return;
     };
     line.begin();
-    let refusal = table.refusal_of(&fragment);
+    let refusal = match is_lent {
+        true => table.refusal_of_lent(&fragment.lent()),
+        false => table.refusal_of(&fragment),
+    };
     line.end();
     match refusal {
         Some(fault) => say_fault(line, fault),

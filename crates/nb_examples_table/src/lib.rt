@@ -29,8 +29,9 @@ use nb_table::{Cover, Entry};
 /// Says what a call answers.
 pub fn answer(line: &mut Line<'_>, call: &str) {
     match call {
-        "insert" => inserting::inserts(line),
-        "refusals" => inserting::refusals(line),
+        "insert" | "insert_lent" | "insert_kept" => inserting::inserts(line, call),
+        "refusals" => inserting::refusals(line, false),
+        "refusals_lent" => inserting::refusals(line, true),
         "known" => reading::known(line),
         "states" => reading::compared_states(line),
         "ranges" => reading::ranges(line),

@@ -70,7 +70,7 @@ pub fn inserts_after_load(line: &mut Line<'_>) {
     let loaded = next_load(line);
     let steps = line.rest();
     match loaded {
-        Ok(mut table) => say_inserts(line, &mut table, steps),
+        Ok(mut table) => say_inserts(line, "insert", &mut table, steps),
         Err(LoadFault::NoMemory) => line.no_memory(),
         Err(_) => line.bad_words(),
     }

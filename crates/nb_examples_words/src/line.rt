@@ -334,6 +334,23 @@ impl<'a> Line<'a> {
         }
     }
 
+    /// Says the place of a fault after its text, `, at 12`, or that it has none.
+    pub fn say_place(&mut self, place: Option<usize>) {
+        match place {
+            Some(place) => write!(self, ", at {place}"),
+            None => self.say(", no place"),
+        }
+    }
+
+    /// Says bytes that are a text, whose lines end with `;` here.
+    pub fn say_lines(&mut self, text: &[u8]) {
+        let Ok(text) = str::from_utf8(text) else {
+            return self.bad_words();
+        };
+        let lines = text.replace(self.alloc, "\n", ";").ok();
+        self.say_made(lines);
+    }
+
     /// Says a text that a call made; none is made where memory ran out.
     pub fn say_made(&mut self, text: Option<String>) {
         match text {

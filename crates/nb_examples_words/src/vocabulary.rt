@@ -4,7 +4,8 @@
 //! has another byte at place 48, and `{NAME:81}` the first 81 bytes alone; changes may follow one
 //! another, the length comes last. In a line repeated for each n, `{n}` is the number itself, and
 //! `{72-n}` and `{4+n}` are numbers made of it; places and lengths may be such numbers too. A brace
-//! before a space stands for itself, as in what `Debug` prints.
+//! before a space stands for itself, as in what `Debug` prints, and so does one before `"` or `}`,
+//! as in JSON.
 
 use crate::byte_text::bytes_of;
 use crate::fault::ExampleFault;
@@ -66,7 +67,7 @@ impl Vocabulary {
         part: &str,
         n: Option<u64>,
     ) -> Result<(), ExampleFault> {
-        if part.starts_with(" ") {
+        if part.starts_with([' ', '"', '}']) {
             whole.push('{')?;
             return Ok(whole.push_str(part)?);
         }

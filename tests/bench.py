@@ -95,7 +95,8 @@ def measure(command, title, path, packets):
     counted = instructions(command, path)
     cost = None if counted is None else counted // packets
     rate = packets / min(seconds(command, path) for _ in range(3))
-    print('%-7s %-36s %8s %12d %9s' % (command[1], title, shown(cost), rate, shown(peak(command, path))), flush=True)
+    words = command[1] + ' --json' * ('--json' in command)
+    print('%-13s %-36s %8s %12d %9s' % (words, title, shown(cost), rate, shown(peak(command, path))), flush=True)
 
 
 def growth(program, folder):
@@ -114,7 +115,7 @@ def growth(program, folder):
 def fragments(program, folder):
     """The rows of captures of fragments, for each command."""
     for title, path, packets in workloads(folder):
-        for words in (REPLAY, SHOW, SAVE):
+        for words in (REPLAY, REPLAY + ['--json'], SHOW, SHOW + ['--json'], SAVE):
             measure([program] + words, title, path, packets)
         saved = saved_parts(program, folder, path)
         if os.path.getsize(saved) <= MOST_IN_A_CAPTURE:
@@ -122,10 +123,12 @@ def fragments(program, folder):
 
 
 def stations(program, folder):
-    """The rows of what an office's stations send to each port."""
+    """The rows of what an office's stations send to each port, as text and as objects."""
     for port, count in ((137, 50_000), (138, 40_000), (139, 40_000)):
         title = f'an office, port {port}'
-        measure([program] + SHOW, title, *written(folder, title, office(port, count)))
+        capture = written(folder, title, office(port, count))
+        measure([program] + SHOW, title, *capture)
+        measure([program] + SHOW + ['--json'], title, *capture)
 
 
 def longest(program, folder):
@@ -144,7 +147,7 @@ def flood(program, folder):
 
 def main():
     program = sys.argv[1] if len(sys.argv) > 1 else PROGRAM
-    print('%-7s %-36s %8s %12s %9s' % ('command', 'workload', 'a packet', 'packets a s', 'peak kB'))
+    print('%-13s %-36s %8s %12s %9s' % ('command', 'workload', 'a packet', 'packets a s', 'peak kB'))
     with tempfile.TemporaryDirectory() as folder:
         for rows in (fragments, stations, longest, flood, growth):
             rows(program, folder)

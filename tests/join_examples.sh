@@ -7,7 +7,7 @@ crate=$(cd "$(dirname "$0")/../crates/nb_examples" && pwd)
 
 joined() {
     local subject
-    for subject in names service session datagram text table member memory quiet; do
+    for subject in names service session datagram telling text table member memory quiet; do
         cat "$crate/examples/$subject.txt" || return
     done
 }

@@ -130,8 +130,8 @@ replays_alike() {
 
 # A capture, what `nbt replay` reports of it, but for why a payload is refused, and the same by a station in C.
 replayed() {
-    lines 1000 5
-    { cat "$top/examples/capture.txt"; sed 's/ / 2500 /' "$room/lines5"; echo tick 4000; } >"$room/capture"
+    lines 1000 9
+    { cat "$top/examples/capture.txt"; sed 's/ / 2500 /' "$room/lines9"; echo tick 4000; } >"$room/capture"
     ended "$program" replay 'FRED<20>' 'JOE<00>' <"$room/capture" | awk '
         $2 == "refused" { print $1, $2 ($(NF - 1) == "error" ? " error " $NF : ""); next }
         { print }' >"$room/replayed"

@@ -62,17 +62,28 @@ pages() {
     page docs/GUIDE.md
 }
 
-# What `--json` prints, and the text made anew from it.
-objects() {
-    local counts='^([0-9]{1,9}) passed, ([0-9]{1,9}) failed$'
-    "$here/lib/json_lines.py" "$program" >"$room/objects"
-    if [[ $(tail -n 1 "$room/objects") =~ $counts ]]; then
+# counted_by SCRIPT WORD..: the cases of a script of tests/lib, whose last line is 'N passed, M failed'.
+counted_by() {
+    local script=$1 counts='^([0-9]{1,9}) passed, ([0-9]{1,9}) failed$'
+    shift
+    "$here/lib/$script" "$@" >"$room/counted"
+    if [[ $(tail -n 1 "$room/counted") =~ $counts ]]; then
         passed=$((passed + BASH_REMATCH[1]))
         failed=$((failed + BASH_REMATCH[2]))
-        grep '^failed: ' "$room/objects"
+        grep '^failed: ' "$room/counted"
     else
-        count 1 "tests/lib/json_lines.py has no last line"
+        count 1 "tests/lib/$script has no last line"
     fi
+}
+
+# What `--json` prints, beside a model that makes the objects from payloads.
+objects() {
+    counted_by json_objects.py "$program"
+}
+
+# An output that has room for fewer bytes than there are.
+rooms() {
+    counted_by output_rooms.py "$program" "$room/devices.so"
 }
 
 # ---- Streams that can't be read or written; a closed standard error changes nothing.
@@ -311,6 +322,7 @@ part shims compile devices refuse_memory
 part cases cases
 part pages pages
 part objects objects
+part rooms rooms
 part streams streams
 part memory memory
 finish

@@ -23,7 +23,7 @@ def read_capture(given):
     """The lines of a capture that say something, up to the first malformed one, and that one's number or None. A tick
     has no port and no payload."""
     lines = []
-    for number, line in enumerate(cut_at_line_feeds(given), 1):
+    for number, line in numbered(given):
         found = LINE.fullmatch(line) if len(line) <= LONGEST_LINE else None
         if not found or int(found[2] or found[4] or 0) >= 1 << 64:
             return lines, number
@@ -33,6 +33,14 @@ def read_capture(given):
         elif found[4]:
             lines.append(Line(number, None, int(found[4]), None))
     return lines, None
+
+
+def numbered(given):
+    """The lines of an input that have bytes, with their numbers."""
+    number, end = 1, 0
+    for found in re.finditer(rb'[^\n]+', given):
+        number, end = number + given.count(b'\n', end, found.start()), found.start()
+        yield number, found[0]
 
 
 def cut_at_line_feeds(given):
@@ -58,19 +66,26 @@ def spelling_of(name):
     return b''.join(bytes([len(it)]) + it for it in (letters, *name.scope)) + b'\0'
 
 
-def read_labels(data, start):
-    """The labels that are spelled out at an offset of bytes which end where the name has to, and the offset after them."""
-    at, labels, spelled = start, [], 0
+def read_labels(data, start, pointers=False):
+    """The labels of the name at an offset of bytes which end where the name has to, and the offset after it. A pointer, where
+    there may be one, leads below the start of the row of labels that it ends."""
+    at, row, after, labels, spelled = start, start, None, [], 0
     while True:
         first = data[at] if at < len(data) else None
         if first is None or first < 64 and at + first >= len(data) or first >= 192 and at + 1 == len(data):
             raise Refused(f'truncated {max(start, len(data))}')
-        if first >= 192:
-            raise Refused(f'pointer not allowed {at}')
-        if first >= 64:
+        if 64 <= first < 192:
             raise Refused(f'reserved label {at}')
+        if first >= 192 and not pointers:
+            raise Refused(f'pointer not allowed {at}')
+        if first >= 192:
+            target = (first & 63) << 8 | data[at + 1]
+            if target >= row:
+                raise Refused(f'bad pointer {at}')
+            after, at, row = after or at + 2, target, target
+            continue
         if first == 0:
-            return labels, at + 1
+            return labels, after or at + 1
         if spelled + 1 + first + 1 > 255:
             raise Refused(f'too long {at}')
         labels.append(data[at + 1:at + 1 + first])
@@ -80,6 +95,11 @@ def read_labels(data, start):
 def read_name(data, at):
     """The name that is spelled out at an offset, and the offset after it."""
     labels, after = read_labels(data, at)
+    return name_of(labels), after
+
+
+def name_of(labels):
+    """The name whose labels these are."""
     letters = labels[0] if labels else b''
     if len(letters) != 32:
         raise Refused('not netbios 0')
@@ -87,7 +107,7 @@ def read_name(data, at):
         if not ord('A') <= letter <= ord('P'):
             raise Refused(f'not netbios {1 + place}')
     halves = [it - ord('A') for it in letters]
-    return Name(bytes(16 * high + low for high, low in zip(halves[::2], halves[1::2])), tuple(labels[1:])), after
+    return Name(bytes(16 * high + low for high, low in zip(halves[::2], halves[1::2])), tuple(labels[1:]))
 
 
 def read_name_of(role, data, at):

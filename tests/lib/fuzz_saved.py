@@ -59,8 +59,9 @@ class Reader:
         entry.names = {(self.name(), self.name())}
         entry.ends = self.optional()
         at = self.at
-        entry.promises = self.optional() if has_promises else set()
-        self.canonical(all(promise < end for promise in entry.promises for end in entry.ends), at)
+        for promise in self.optional() if has_promises else ():
+            self.canonical(all(promise < end for end in entry.ends), at)
+            entry.promise(promise)
         before = -1
         for _ in range(self.number(2)):
             before = self.run(entry, before)
@@ -73,8 +74,7 @@ class Reader:
         at, length = self.at, self.number(2)
         end = start + length
         self.canonical(length > 0 and end <= min({LONGEST} | entry.ends), at)
-        for place, byte in enumerate(self.bytes(length), start):
-            entry.bytes[place] = {byte}
+        entry.cover(start, self.bytes(length))
         return end
 
     def table(self, keys, per_source):

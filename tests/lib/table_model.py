@@ -1,7 +1,7 @@
 """A slow model of a table and of a station, from docs/FORMATS.md, GUIDE.md and REASSEMBLY.md, for tests/fuzz.py.
 
 A key has all that its fragments say, in sets: the bytes at each place, the ends, the promises, the kinds, the names. It
-is spoilt where they contradict each other, which is looked up anew each time, so the order of fragments can't matter."""
+is spoilt where they contradict each other; sets only grow, so the order of fragments can't matter."""
 import collections
 
 from fuzz_packets import KINDS, Refused, key_text, read_fragment, spelling_of, text_of
@@ -16,12 +16,13 @@ OWN_ADDRESS = bytes([0, 0, 0, 0, 0, 138])
 
 
 class Entry:
-    """What the fragments of a key say, and the moment of the first."""
+    """What the fragments of a key say, the last place that they know or promise, and the moment of the first."""
 
     def __init__(self, start=0, spoilt=False):
         self.start = start
         self.spoilt = spoilt
         self.bytes = collections.defaultdict(set)
+        self.last = -1
         self.ends = set()
         self.promises = set()
         self.kinds = set()
@@ -29,20 +30,33 @@ class Entry:
 
     def add(self, fragment):
         """Takes in what a fragment says."""
-        for place, byte in enumerate(fragment.data, fragment.offset):
-            self.bytes[place].add(byte)
+        self.cover(fragment.offset, fragment.data)
         reach = fragment.offset + len(fragment.data)
-        (self.promises if fragment.flags & MORE else self.ends).add(reach)
+        self.promise(reach) if fragment.flags & MORE else self.ends.add(reach)
         self.kinds.add(fragment.kind)
         self.names.add((fragment.source, fragment.destination))
+
+    def cover(self, start, data):
+        """Takes in a row of bytes."""
+        for place, byte in enumerate(data, start):
+            self.bytes[place].add(byte)
+            self.spoilt |= len(self.bytes[place]) > 1
+        self.last = max(self.last, start + len(data) - 1 if data else -1)
+
+    def promise(self, place):
+        """Takes in that a byte lies there or after it."""
+        self.promises.add(place)
+        self.last = max(self.last, place)
 
     def add_all(self, other):
         """Takes in what another entry of the key says."""
         self.spoilt |= other.spoilt
         for place, values in other.bytes.items():
             self.bytes[place] |= values
+            self.spoilt |= len(self.bytes[place]) > 1
         self.ends |= other.ends
         self.promises |= other.promises
+        self.last = max(self.last, other.last)
         self.kinds |= other.kinds
         self.names |= other.names
 
@@ -50,13 +64,11 @@ class Entry:
         """Whether two fragments contradict each other, or did where the entry was saved."""
         if self.spoilt or max(len(self.ends), len(self.kinds), len(self.names)) > 1:
             return True
-        if any(len(it) > 1 for it in self.bytes.values()):
-            return True
-        return any(end <= place for end in self.ends for place in (*self.bytes, *self.promises))
+        return any(end <= self.last for end in self.ends)
 
     def is_whole(self):
-        """Whether the end and each byte before it is known, and nothing is contradicted."""
-        return len(self.ends) == 1 and not self.is_spoilt() and all(it in self.bytes for it in range(*self.ends))
+        """Whether the end and each byte before it is known, and nothing is contradicted, so that no byte lies past it."""
+        return self.ends == {len(self.bytes)} and not self.is_spoilt()
 
     def data(self):
         """The known bytes, by ascending places."""
@@ -195,11 +207,22 @@ def hears(names, entry):
     return destination in names
 
 
-def error_text(payload, code):
-    """The error packet that answers a direct unique datagram, as a report has it; none answers another."""
+def error_packet(payload, code):
+    """The digits of the error packet that answers a direct unique datagram; none answers another."""
     if payload[:1] != b'\x10':
         return ''
-    return f' error {(bytes([0x13, 2]) + payload[2:4] + OWN_ADDRESS + bytes([code])).hex()}'
+    return (bytes([0x13, 2]) + payload[2:4] + OWN_ADDRESS + bytes([code])).hex()
+
+
+def error_text(payload, code):
+    """The same, as a report has it."""
+    digits = error_packet(payload, code)
+    return f' error {digits}' if digits else ''
+
+
+def refusal_code(fault):
+    """The code of the error packet that answers a packet which is refused for this, or None."""
+    return {'source name': 0x83, 'destination name': 0x84}.get(fault.split(':')[0])
 
 
 def taken(table, names, line):
@@ -210,8 +233,7 @@ def taken(table, names, line):
             return 'other'
         change = table.insert(fragment, line.moment)
     except Refused as refused:
-        front = str(refused).split(':')[0]
-        code = {'source name': 0x83, 'destination name': 0x84}.get(front)
+        code = refusal_code(str(refused))
         return f'refused {refused}' + (error_text(line.payload, code) if code else '')
     key = key_text(fragment.key)
     if change != 'whole':

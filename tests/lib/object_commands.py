@@ -1,0 +1,158 @@
+"""The objects that a command line of `nbt show`, `replay` or `list` prints of an input with `--json`, and how it ends, for
+tests/lib/json_objects.py: options, comments, malformed lines and limits, from docs/FORMATS.md."""
+import collections
+import re
+
+from fuzz_packets import LONGEST_LINE, Name, Refused, numbered, read_capture
+from fuzz_saved import joined
+from object_model import shown
+from object_station import listed, reported
+from table_model import KEYS, PER_SOURCE, Table
+
+LONGEST_INPUT = 16_777_216
+MOST_NAMES = 254
+LONGEST_LABEL = 63
+LONGEST_SCOPE = 222
+MOST = {'--keys': 65_535, '--per-source': 65_535, '--input-limit': (1 << 64) - 1}
+USUAL = {'--keys': KEYS, '--per-source': PER_SOURCE, '--input-limit': LONGEST_INPUT}
+OPTIONS = {
+    'show': ('--input-limit', '--comments', '--json'),
+    'replay': ('--keys', '--per-source', '--input-limit', '--comments', '--json'),
+    'list': ('--keys', '--per-source', '--json'),
+}
+ITEM = r'(?:[!-\-/-;=?-\[\]-~]|\\[0-9A-Fa-f]{2})'
+TEXT = re.compile(rf'({ITEM}*)<([0-9A-Fa-f]{{2}})>((?:\.{ITEM}+)*)')
+
+Wanted = collections.namedtuple('Wanted', 'objects status errors', defaults=(0, b''))
+
+
+class Unknown(Exception):
+    """A command line that clap answers."""
+
+
+def wanted(words, given):
+    """What a command prints of an input, as objects, its status, and what stands on standard error: of names that are refused
+    None, which is as without `--json`. Raises Unknown where clap answers."""
+    command, (options, names) = words[0], parsed(words)
+    if command == 'list':
+        return of_tables(options, given)
+    station = stationed(names)
+    if command == 'replay' and station is None:
+        return Wanted([], 1, None)
+    return of_capture(command, options, station, given)
+
+
+def parsed(words):
+    """The options of a command line with their values, and the words that aren't options."""
+    options, names, rest = {}, [], list(words[1:])
+    while rest:
+        word = rest.pop(0)
+        if word == '--':
+            names += rest
+            break
+        if word == '-' or not word.startswith('-'):
+            names.append(word)
+            continue
+        option, joined_by, value = word.partition('=')
+        if option not in OPTIONS[words[0]] or option in options:
+            raise Unknown(word)
+        options[option] = value_of(option, joined_by, value, rest)
+    if bool(names) != (words[0] == 'replay'):
+        raise Unknown('names')
+    return options, names
+
+
+def value_of(option, joined_by, value, rest):
+    """The value of an option, which may be the next word."""
+    if option not in MOST:
+        if joined_by:
+            raise Unknown(option)
+        return True
+    if not joined_by:
+        if not rest:
+            raise Unknown(option)
+        value = rest.pop(0)
+    if not re.fullmatch(r'\+?[0-9]+', value) or not 1 <= int(value) <= MOST[option]:
+        raise Unknown(value)
+    return int(value)
+
+
+def number_of(options, option):
+    """The number of an option, or that which stands for none."""
+    return options.get(option, USUAL[option])
+
+
+def stationed(texts):
+    """The names of a station; None where one is refused, or there are too many."""
+    names = {name_from(it) for it in texts}
+    return None if None in names or len(names) > MOST_NAMES else names
+
+
+def name_from(text):
+    """The name of a text, or None."""
+    found = TEXT.fullmatch(text)
+    if not found:
+        return None
+    front, labels = values(found[1]), tuple(values(it) for it in found[3].split('.')[1:])
+    if len(front) > 15 or any(len(it) > LONGEST_LABEL for it in labels) or sum(1 + len(it) for it in labels) + 1 > LONGEST_SCOPE:
+        return None
+    return Name(front.ljust(15) + bytes.fromhex(found[2]), labels)
+
+
+def values(text):
+    """The bytes that the items of a name's text stand for."""
+    return b''.join(bytes.fromhex(it[1:]) if it[0] == '\\' else it.encode() for it in re.findall(ITEM, text))
+
+
+def of_tables(options, given):
+    """What `nbt list` prints."""
+    if len(given) > LONGEST_INPUT:
+        return Wanted([], 3, b'nbt: read\n')
+    try:
+        return Wanted(listed(joined(given, number_of(options, '--keys'), number_of(options, '--per-source'))))
+    except Refused as refused:
+        return Wanted([], 1, f'nbt: {refused}\n'.encode())
+
+
+def of_capture(command, options, names, given):
+    """What `nbt show` and `nbt replay` print."""
+    finished, lines, *ending = read_within(given, number_of(options, '--input-limit'))
+    table = Table(number_of(options, '--keys'), number_of(options, '--per-source'))
+    said = {it.number: told(command, table, names, it) for it in lines}
+    comments = {number: line for number, line in finished if line.startswith(b'#')}
+    objects = []
+    for number in sorted(said.keys() | comments.keys() if '--comments' in options else said):
+        comment = comments.get(number if number in comments else number - 1)
+        moment, payload = said.get(number, ({}, {}))
+        said_before = {} if comment is None else {'comment': comment_text(comment)}
+        objects.append({'line': number} | moment | said_before | payload)
+    return Wanted(objects, *ending)
+
+
+def told(command, table, names, line):
+    """The port and the moment of a line, and what is said of it."""
+    moment = {'moment': line.moment}
+    if command == 'replay':
+        return ({} if line.port is None else {'port': line.port}) | moment, reported(table, names, line)
+    if line.port is None:
+        return moment, {'kind': 'tick'}
+    return {'port': line.port} | moment, shown(line.port, line.payload)
+
+
+def read_within(given, limit):
+    """The lines of an input that are answered, with their numbers, those of them that say something, the status and standard
+    error. In an input that is too long a line that isn't finished is malformed only by its length."""
+    whole, cut = given[:limit], len(given) > limit
+    finished = whole[:whole.rfind(b'\n') + 1] if cut else whole
+    lines, malformed = read_capture(finished)
+    if malformed is None and len(whole) - len(finished) > LONGEST_LINE:
+        malformed = finished.count(b'\n') + 1
+    if malformed is not None:
+        answered = [it for it in numbered(finished) if it[0] < malformed]
+        return answered, lines, 1, f'nbt: line {malformed}\n'.encode()
+    return numbered(finished), lines, *((3, b'nbt: read\n') if cut else (0, b''))
+
+
+def comment_text(line):
+    """A comment as it is printed."""
+    return ''.join(chr(it) if 0x20 <= it <= 0x7e else f'\\{it:02x}' for it in line)

@@ -77,12 +77,12 @@ datagrams_named what word words texts q (Err fault) is_what are named is = tt
 pub too_much : (what word : List ℕ) (words texts : List (List ℕ)) → what ≡ word → words ≡ texts → GiveTooMuch word texts → GiveTooMuch what words
 too_much what word words texts is_what are much = rw (is_what, are) much
 
--- the same, where a call tells it by its fault
+-- the same, where a call reports it by its fault
 pub tells_too_much : {A E : Type 0} (P : Type 0) (what word : List ℕ) (words texts : List (List ℕ)) (fault : E) (r : Result A E) → what ≡ word
     → words ≡ texts → (P → GiveTooMuch word texts) → IfErr r (λ e. e ≡ fault → P) → IfErr r (λ e. e ≡ fault → GiveTooMuch what words)
 tells_too_much P what word words texts fault (Ok a) is_what are much h = tt
 tells_too_much P what word words texts fault (Err e) is_what are much h = λ is. too_much what word words texts is_what are (much (h is))
 
--- what a fault tells, where that is it
+-- what a fault reports, where that is it
 pub told_of : {A E : Type 0} {P : Type 0} (fault : E) (r : Result A E) → r ≡ Err fault → IfErr r (λ e. e ≡ fault → P) → P
 told_of {P = P} fault r is h = let told : fault ≡ fault → P = rw is at h in told refl

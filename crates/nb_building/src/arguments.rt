@@ -1,5 +1,5 @@
-//! Words as the parts of packets. Decimal numbers have no leading zeros; hexadecimal digits are read
-//! in either case.
+//! Words as the parts of packets. Decimal numbers have no leading zeros; hexadecimal digits are
+//! read in either case.
 ghost use Rattle.std.specs.Prelude.{◌≡◌, ◌≢◌, ◌<◌, ◌++◌, ◌∷◌, IsTrue, MatchResult, true, length, slice_index};
 ghost use Rattle.std.specs.List.{list_all};
 ghost use Rattle.std.specs.Char.{is_ascii_digit};

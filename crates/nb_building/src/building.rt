@@ -27,15 +27,16 @@ use std::alloc::Global;
 /// | `find`, `found`, `missing` | KEY NAME |
 ///
 /// ID, WORD, TYPE and FLAGS are four hexadecimal digits, CODE two, and HEX two a byte, or `empty`;
-/// TTL, PORT and MOST are decimal without leading zeros; KEY is an address, a port and an identifier,
-/// as `10.0.0.5:138/0001`. `broadcast` sets B in a packet of port 137, and does nothing to others.
+/// TTL, PORT and MOST are decimal without leading zeros; KEY is an address, a port and an
+/// identifier, as `10.0.0.5:138/0001`. `broadcast` sets B in a packet of port 137, and does nothing
+/// to others.
 ///
 /// `what` is judged before the number of words, and that before each of them from left to right.
 ///
 /// # Errors
 ///
-/// [`BuildFault::Text`] for a bad name; [`BuildFault::Arguments`] for another `what`, another number
-/// of words, or another bad one; [`BuildFault::TooLong`] for more data than a packet takes;
+/// [`BuildFault::Text`] for a bad name; [`BuildFault::Arguments`] for another `what`, another
+/// number of words, or another bad one; [`BuildFault::TooLong`] for more data than a packet takes;
 /// [`BuildFault::ZeroPiece`] for pieces of no bytes; [`BuildFault::Memory`].
 ///
 /// The words and the form are our choice.

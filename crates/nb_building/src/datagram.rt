@@ -61,7 +61,8 @@ fn fragments(alloc: Global, kind: Kind, words: &[&str]) -> Result<Items<Bytes>, 
 
 /// The packets of the pieces of a datagram, of so many bytes of data at most.
 fn fragments_of(alloc: Global, datagram: &Datagram, most: u16) -> Result<Items<Bytes>, BuildFault>
-    ensures built { IfOk result (λ packets. ((1 ≤ most) × ¬ AreTooLong datagram.now most) × (packets ≡
+    ensures built { IfOk result (λ packets. ((1 ≤ most) × ¬ AreTooLong datagram.now most)
+        × (packets ≡
         map (λ piece. packet_bytes (Packet.Direct piece)) (pieces datagram.now most))) }
     ensures too_long { IfErr result (λ fault. fault ≡ BuildFault.TooLong →
         (1 ≤ most) × AreTooLong datagram.now most) }

@@ -83,7 +83,7 @@ NamesText place held word new (Err (FaultAt status at)) =
     (words : List (List ℕ)) → AreNames place held (word ∷ words) (Err (FaultAt status at))
 
 -- Names words answer: these are the names with the texts, in order, or the first fault; memory may run out instead of
--- either, but not where the first of the texts is no name's
+-- either, but not where the first text is invalid
 abbrev pub Names : List (List ℕ) → Result (List NetbiosName) Refusal → Type 0
 Names words (Ok names) = AreNames 0 [] words (Ok names)
 Names words (Err Memory) = BeginsWithName words
@@ -193,12 +193,12 @@ abbrev pub error_bytes : Option ErrorPacket → List ℕ
 error_bytes None = []
 error_bytes (Some error) = packet_bytes (Error error)
 
--- what is told of a payload: numbers, and bytes
+-- what is reported of a payload: numbers, and bytes
 pub record Told : Type 0 where
   pub numbers : NbtTaken
   pub bytes : List ℕ
 
--- what is told of each outcome
+-- what is reported of each outcome
 abbrev pub told_of : Outcome → Told
 told_of (Kept k) = record { numbers = of_key outcomes.KEPT k; bytes = [] }
 told_of (Spoilt k) = record { numbers = of_key outcomes.SPOILT k; bytes = [] }
@@ -206,7 +206,7 @@ told_of (Delivered d) = record { numbers = of_delivered d; bytes = delivered_byt
 told_of (Unheard k error) = record { numbers = of_unheard k (length (error_bytes error)); bytes = error_bytes error }
 told_of Other = record { numbers = of_other; bytes = [] }
 
--- told_refused fault error: what is told of a payload that begins with no packet
+-- told_refused fault error: what is reported of a payload that begins with no packet
 abbrev pub told_refused : DatagramFault → Option ErrorPacket → Told
 told_refused fault error =
     record { numbers = of_refused (datagram_refusal fault) (length (error_bytes error)); bytes = error_bytes error }
@@ -219,7 +219,7 @@ table_refusal (tables.FullSource key) = Fault statuses.FULL_SOURCE
 table_refusal (tables.Full key) = Fault statuses.FULL
 table_refusal tables.NoMemory = Memory
 
--- what is told of each answer of a member: of a payload that is no packet too; else why the fragment isn't taken in
+-- what is reported of each answer of a member: of a payload that is no packet too; else why the fragment isn't taken in
 abbrev pub answer_told : Result Outcome MemberFault → Result Told Refusal
 answer_told (Ok outcome) = Ok (told_of outcome)
 answer_told (Err (Packet fault error)) = Ok (told_refused fault error)

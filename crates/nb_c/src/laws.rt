@@ -115,7 +115,8 @@ pub fn each_fault_has_its_status()
         × (second_refusal loads.TooLong ≡ Fault 83) × (second_refusal loads.FullSource ≡ Fault 84)
         × (second_refusal loads.Full ≡ Fault 85) × (second_refusal loads.NoMemory ≡ Memory) }
     ensures joins { (key : Key) → (table_refusal joins.MisplacedFirst ≡ Fault 90)
-        × (table_refusal joins.TooLong ≡ Fault 91) × (table_refusal (joins.FullSource key) ≡ Fault 92)
+        × (table_refusal joins.TooLong ≡ Fault 91)
+        × (table_refusal (joins.FullSource key) ≡ Fault 92)
         × (table_refusal (joins.Full key) ≡ Fault 93) × (table_refusal joins.NoMemory ≡ Memory) }
 {}
 
@@ -159,8 +160,8 @@ pub fn a_table_has_one_list()
     saved_bytes_have_one_reading();
 }
 
-/// The names and the data of a fragment, the code of an error packet and the name of a query stand in
-/// the payload where they are said to stand.
+/// The names and the data of a fragment, the code of an error packet and the name of a query stand
+/// in the payload where they are said to stand.
 pub fn parts_stand_at_their_places()
     ensures source { (payload : List ℕ) (f : FragmentParts) (used : ℕ) →
         IsPacket payload (Direct f) used →
@@ -179,8 +180,8 @@ pub fn parts_stand_at_their_places()
         StandsAt payload (query_places q used).destination (name_bytes q.destination) }
 {}
 
-/// A datagram is too long exactly where the first of its packets, than which none is longer, has more
-/// than 65,535 bytes.
+/// A datagram is too long exactly where the first of its packets, than which none is longer, has
+/// more than 65,535 bytes.
 pub fn the_first_packet_is_the_longest()
     ensures long { (d : DatagramParts) (most : ℕ) → IsKey d.key →
         IsTrue (are_long d most) ↔ (65535 < length (packet_of (piece d most 0))) }

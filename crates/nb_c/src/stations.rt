@@ -119,7 +119,8 @@ pub extern "C" fn nbt_station_save(
     into: &mut [u8],
     used: &mut usize,
 ) -> u32
-    ensures saved { Does none_late (λ answer. answer ≡ Ok (saved_bytes (contents station.old.value.member)))
+    ensures saved { Does none_late
+        (λ answer. answer ≡ Ok (saved_bytes (contents station.old.value.member)))
         (record { buffer = into.old; used = used.old; place = 0 })
         (record { buffer = into.new; used = used.new; place = 0 }) result }
     ensures stays { station.new.value ≡ station.old.value }

@@ -1,7 +1,7 @@
 //! The calls of nb_member.
 //!
 //! A call of the library stands between marks (nb_examples_words::line). Where one that wants
-//! memory is refused it, the line's answer tells that, and what the same call answers then.
+//! memory is refused it, the line's answer reports that, and what the same call answers then.
 #![tactic(auto)]
 
 mod lines;

@@ -1,4 +1,4 @@
-//! What becomes of payloads, and keys, told to sinks.
+//! What becomes of payloads, and keys, reported to sinks.
 
 use crate::stations::member_of;
 use nb_datagram::Key;
@@ -23,7 +23,8 @@ enum News {
     Key(Key),
 }
 
-/// `told FORM STATION STEP, STEP ..`: what is told of each step of a new member, with `; ` between.
+/// `told FORM STATION STEP, STEP ..`: what is reported of each step of a new member, with `; `
+/// between.
 ///
 /// The form is `text`, `object`, or `pushed`, the text that `push_result` and `push_key_line` add.
 /// `take MOMENT PAYLOAD` is what became of a payload, `passed` that one isn't the member's to take,

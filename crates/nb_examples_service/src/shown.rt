@@ -1,4 +1,4 @@
-//! The calls of nb_text: payloads of any port, as text, as JSON objects, and told to a sink.
+//! The calls of nb_text: payloads of any port, as text, as JSON objects, and reported to a sink.
 
 use nb_examples_telling::counting_sink::CountingSink;
 use nb_examples_words::alone;
@@ -9,7 +9,7 @@ use nb_telling::{FieldKey, JsonRoom, JsonSink, Sink};
 use nb_text::{packet_object, push_packet, tell_packet};
 use std::alloc::Global;
 
-/// The port, which is told before a packet.
+/// The port, which is reported before a packet.
 const PORT: FieldKey = FieldKey {
     name: "port",
     lead: "port=",
@@ -131,7 +131,7 @@ fn object_of(alloc: Global, port: u16, payload: &[u8]) -> Result<JsonRoom, NoMem
     sink.end()
 }
 
-/// `count PORT BYTES`: how many fields are told of a payload that came to the port.
+/// `count PORT BYTES`: how many fields are reported of a payload that came to the port.
 fn count(line: &mut Line<'_>) {
     let port = line.number_16();
     let payload = line.bytes();

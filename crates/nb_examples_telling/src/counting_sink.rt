@@ -6,15 +6,15 @@ use nb_names::NoMemory;
 use nb_telling::{FieldKey, Flag, Shows, Sink};
 use std::fmt::Display;
 
-/// A sink that counts the fields that are told, and keeps nothing else of them.
+/// A sink that counts the fields that are reported, and keeps nothing else of them.
 #[derive(Drop)]
 pub struct CountingSink {
-    /// How many fields were told, up to the largest number.
+    /// How many fields were reported, up to the largest number.
     pub count: u64,
 }
 
 impl CountingSink {
-    /// A sink to which nothing was told.
+    /// A sink to which nothing was reported.
     pub fn new() -> CountingSink {
         CountingSink { count: 0 }
     }

@@ -1,11 +1,11 @@
-//! Fields, as words say them, each of which is told to a sink.
+//! Fields, as words say them, each of which is reported to a sink.
 //!
 //! Between two of them stands `, `. A field under a key is `text KEY BYTES`, `name KEY NAME`,
 //! `lent KEY SPELLING`, `domain KEY SPELLING`, `address KEY ADDRESS`, `key KEY KEY`,
 //! `number KEY NUMBER`, `digits KEY BYTES`, `data KEY BYTES`, `set KEY FLAGS` or
 //! `known KEY NUMBER`. A key is `one`, `two` or `bare`, whose value begins a text. FLAGS are three
 //! digits, 1 for each that is set of red, green and blue; a NUMBER that isn't known is `?`. A
-//! spelling at which no NetBIOS name stands is told as its fault, with the fault's place.
+//! spelling at which no NetBIOS name stands is reported as its fault, with the fault's place.
 //!
 //! The others are `range LEAD FROM TO`, `words WORD`, `at PLACE`, `begins NAME`, `ends`,
 //! `part LEAD`, `part_ends` and `line_ends`.

@@ -2,7 +2,7 @@
 //!
 //! What reads a line and says its answer has no way out but its end: a word that isn't what is
 //! asked for is noted as a fault, and another value stands in its place; so is a text for which
-//! memory ran out. [`Line::finish`] tells the first fault, whatever was said after it.
+//! memory ran out. [`Line::finish`] reports the first fault, whatever was said after it.
 
 use crate::byte_text::{bytes_of, text_of_bytes};
 use crate::devices::Conduct;

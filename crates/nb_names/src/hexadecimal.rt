@@ -91,7 +91,8 @@ fn are_digits(text: &[u8]) -> bool
     text.iter().all(|digit| digit.is_ascii_hexdigit())
 }
 
-/// The byte that two hexadecimal digits of either case give, the high half first; nothing where one of them is none.
+/// The byte that two hexadecimal digits of either case give, the high half first; nothing where one
+/// of them is none.
 pub(crate) fn byte_of_pair(high: u8, low: u8) -> Option<u8>
     ensures { result ≡ pair_byte high low }
 {

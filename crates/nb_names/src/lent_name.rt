@@ -181,7 +181,8 @@ pub fn read_lent_name<'a>(packet: &'a [u8], at: usize) -> Result<(LentName<'a>, 
 ///
 /// The form is our choice.
 pub fn push_lent_name(text: &mut String, name: &LentName<'_>) -> Result<(), NoMemory>
-    ensures added { OnOk result (string_bytes text.new ≡ string_bytes text.old ++ written name.now) }
+    ensures added { OnOk result
+        (string_bytes text.new ≡ string_bytes text.old ++ written name.now) }
     ensures front { OnlyAdds (string_bytes text.old) (string_bytes text.new) }
 {
     push_bytes(text, name.bytes())?;

@@ -48,7 +48,8 @@ pub fn name_text(alloc: Global, name: &Name) -> Result<String, NoMemory>
 ///
 /// The form is our choice.
 pub fn push_name(text: &mut String, name: &Name) -> Result<(), NoMemory>
-    ensures added { OnOk result (string_bytes text.new ≡ string_bytes text.old ++ written name.now) }
+    ensures added { OnOk result
+        (string_bytes text.new ≡ string_bytes text.old ++ written name.now) }
     ensures front { OnlyAdds (string_bytes text.old) (string_bytes text.new) }
 {
     push_bytes(text, name.bytes())?;

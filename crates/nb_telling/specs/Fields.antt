@@ -7,6 +7,7 @@ pub record FieldKey : Type 0 where
   pub name : List ℕ
   pub lead : List ℕ
 
+-- what is reported of a thing, piece by piece
 pub data Field : Type 0 where
   -- under a key: a text; a number; bytes as hexadecimal digits; data, which may be empty; the names of a set
   Text : FieldKey → List ℕ → Field

@@ -11,6 +11,7 @@ abbrev pub known_text : Option ℕ → List ℕ
 known_text None = codes "?"
 known_text (Some n) = decimal n
 
+-- the text of a field
 abbrev pub field_text : Field → List ℕ
 field_text (Text key text) = key.lead ++ text
 field_text (Number key n) = key.lead ++ decimal n
@@ -27,5 +28,6 @@ field_text (Part lead) = lead
 field_text PartEnds = []
 field_text LineEnds = 10 ∷ []
 
+-- the texts of fields, one after the other
 abbrev pub text_of : List Field → List ℕ
 text_of = flat_map field_text

@@ -12,6 +12,7 @@ abbrev pub known_token : Option ℕ → Token
 known_token None = null
 known_token (Some n) = number (decimal n)
 
+-- the tokens of a field
 abbrev pub field_tokens : Field → List Token
 field_tokens (Text k text) = key k.name ∷ string text ∷ []
 field_tokens (Number k n) = key k.name ∷ number (decimal n) ∷ []
@@ -28,6 +29,7 @@ field_tokens (Part lead) = begin_object ∷ []
 field_tokens PartEnds = end_object ∷ []
 field_tokens LineEnds = []
 
+-- the tokens of fields, one after the other
 abbrev pub tokens_of : List Field → List Token
 tokens_of = flat_map field_tokens
 

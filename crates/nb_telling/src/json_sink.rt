@@ -117,8 +117,9 @@ impl JsonSink {
     /// [`NoMemory`] where memory ran out.
     pub fn end(self) -> Result<JsonRoom, NoMemory>
         ensures bytes { IfOk result (λ room. room ≡ print (self ++ end_object ∷ [])) }
-        ensures json { IfOk result (λ room. (depth : ℕ) (fields : List Field) → AreMembers depth fields →
-            depth ≤ 60 → self ≡ begin_object ∷ tokens_of fields → IsJson room) }
+        ensures json { IfOk result (λ room. (depth : ℕ) (fields : List Field) →
+            AreMembers depth fields → depth ≤ 60 →
+            self ≡ begin_object ∷ tokens_of fields → IsJson room) }
     {
         let JsonSink {
             mut writer,
@@ -132,7 +133,8 @@ impl JsonSink {
     }
 }
 
-/// Adds each field's member. Nothing is there of the ends of lines, and of how a part begins in text.
+/// Adds each field's member. Nothing is there of the ends of lines, and of how a part begins in
+/// text.
 impl Sink for JsonSink {
     type Seen = JsonSink;
 

@@ -18,7 +18,8 @@ pub trait Shows {
     ///
     /// [`NoMemory`] where memory ran out; some of the text may then be added.
     fn push_to(&self, text: &mut String) -> Result<(), NoMemory>
-        ensures added { OnOk result (string_bytes text.new ≡ string_bytes text.old ++ shown self.now) }
+        ensures added { OnOk result
+            (string_bytes text.new ≡ string_bytes text.old ++ shown self.now) }
         ensures front { OnlyAdds (string_bytes text.old) (string_bytes text.new) };
 }
 

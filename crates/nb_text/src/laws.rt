@@ -190,7 +190,8 @@ pub fn words_for_numbers()
     ensures operations { (operation_word 0 ≡ Some (codes "query"))
         × (operation_word 5 ≡ Some (codes "registration"))
         × (operation_word 6 ≡ Some (codes "release")) × (operation_word 7 ≡ Some (codes "wack"))
-        × (operation_word 8 ≡ Some (codes "refresh")) × (operation_word 9 ≡ Some (codes "refresh")) }
+        × (operation_word 8 ≡ Some (codes "refresh"))
+        × (operation_word 9 ≡ Some (codes "refresh")) }
     ensures no_operations { (n : ℕ) → 1 ≤ n → n ≤ 4 → operation_word n ≡ None }
     ensures past_operations { (n : ℕ) → 10 ≤ n → operation_word n ≡ None }
     ensures results { (rcode_word 0 ≡ Some (codes "ok")) × (rcode_word 1 ≡ Some (codes "FMT_ERR"))

@@ -1,5 +1,5 @@
 -- The subcommand that clap entered, by the rows of its matches.
-use Rattle.std.proofs.Common.{◌≡◌, ◌≤◌, ◌<◌, ℕ, [], ◌∷◌, length, map, codes, arith, true, refl, sym, ap, subst, ◌∙◌, Bor, List, Option, Some, None, IfSome, Result}
+use Rattle.std.proofs.Common.{◌≡◌, ◌≢◌, ◌≤◌, ◌<◌, ℕ, [], ◌∷◌, inl, inr, length, map, codes, arith, true, refl, sym, ap, subst, ◌∙◌, Bor, List, Option, Some, None, IfSome, Result}
 use Rattle.clap.specs.Words.{HasMatchesOf, Row, Text, found_of, is_simple, rows_of, subcommand_name_of, subcommand_of, subcommand_rows_of}
 use Rattle.clap.proofs.OnLiterals.{clap_on_literals}
 use Rattle.clap.specs.Simple.{subcommand_rows}
@@ -19,7 +19,7 @@ use Rattle.nbt.specs.Commands.{Picks, Ran, RanBy, Streams, no_memory, ran, with_
 use Rattle.std.proofs.Math.ListN.{get_or}
 use Rattle.nbt.specs.FaultTexts.{status_after}
 use Rattle.nbt.specs.Refusals.{AsksRefusal}
-use Rattle.nbt.specs.CommandLine.{nbt_app}
+use Rattle.nbt.specs.CommandLine.{IsCommand, nbt_app}
 
 -- clap's functions say of this command line which subcommand is entered
 pub nbt_is_simple : is_simple nbt_app ≡ true
@@ -53,6 +53,45 @@ entered m found p name named with_rows is called =
     picks m name p.1.now
     (sym named ∙ ap (option_map (λ q. q.0.now)) is ∙ ap (λ (n : Text). Some n) called)
     (sym with_rows ∙ ap (option_map (λ q. rows_of (found_of q.1.now))) is)
+
+-- another word than the program's commands
+is_none : (word : Text) → word ≢ codes "name" → word ≢ codes "show" → word ≢ codes "build" → word ≢ codes "replay" → word ≢ codes "save" → word ≢ codes "merge"
+    → word ≢ codes "list" → word ≢ codes "agree" → ¬ IsCommand (Some word)
+is_none word name show build replay save merge list agree (inl is) = name (cc is)
+is_none word name show build replay save merge list agree (inr (inl is)) = build (cc is)
+is_none word name show build replay save merge list agree (inr (inr (inl is))) = show (cc is)
+is_none word name show build replay save merge list agree (inr (inr (inr (inl is)))) = replay (cc is)
+is_none word name show build replay save merge list agree (inr (inr (inr (inr (inl is))))) = save (cc is)
+is_none word name show build replay save merge list agree (inr (inr (inr (inr (inr (inl is)))))) = merge (cc is)
+is_none word name show build replay save merge list agree (inr (inr (inr (inr (inr (inr (inl is))))))) = list (cc is)
+is_none word name show build replay save merge list agree (inr (inr (inr (inr (inr (inr (inr is))))))) = agree (cc is)
+
+-- clap entered another command than these
+pub entered_another : (m : ArgMatches) (found : Option (Bor Text × Bor ArgMatches)) (p : Bor Text × Bor ArgMatches)
+    → option_map (λ q. q.0.now) found ≡ subcommand_name_of m → found ≡ Some p → p.0.now ≢ codes "name" → p.0.now ≢ codes "show" → p.0.now ≢ codes "build"
+    → p.0.now ≢ codes "replay" → p.0.now ≢ codes "save" → p.0.now ≢ codes "merge" → p.0.now ≢ codes "list" → p.0.now ≢ codes "agree"
+    → ¬ IsCommand (subcommand_name_of m)
+entered_another m found p named is name show build replay save merge list agree =
+    let same : Some p.0.now ≡ subcommand_name_of m = ap (option_map (λ q. q.0.now)) (sym is) ∙ named in
+    subst (λ (w : Option Text). ¬ IsCommand w) same (is_none p.0.now name show build replay save merge list agree)
+
+-- nothing is none of the program's commands
+is_nothing : ¬ IsCommand None
+is_nothing (inl is) = absurd (cc is)
+is_nothing (inr (inl is)) = absurd (cc is)
+is_nothing (inr (inr (inl is))) = absurd (cc is)
+is_nothing (inr (inr (inr (inl is)))) = absurd (cc is)
+is_nothing (inr (inr (inr (inr (inl is))))) = absurd (cc is)
+is_nothing (inr (inr (inr (inr (inr (inl is)))))) = absurd (cc is)
+is_nothing (inr (inr (inr (inr (inr (inr (inl is))))))) = absurd (cc is)
+is_nothing (inr (inr (inr (inr (inr (inr (inr is))))))) = absurd (cc is)
+
+-- clap entered no command
+pub entered_nothing : (m : ArgMatches) (found : Option (Bor Text × Bor ArgMatches)) → option_map (λ q. q.0.now) found ≡ subcommand_name_of m → found ≡ None
+    → ¬ IsCommand (subcommand_name_of m)
+entered_nothing m found named is =
+    let same : None ≡ subcommand_name_of m = ap (option_map (λ q. q.0.now)) (sym is) ∙ named in
+    subst (λ (w : Option Text). ¬ IsCommand w) same is_nothing
 
 -- the command that was entered is that of the words
 pub ran_words : (app : App) (words : List Text) (m : ArgMatches) (s : Streams) (outcome : Result Status Fault) (status : Status) → app ≡ nbt_app → HasMatchesOf app words m

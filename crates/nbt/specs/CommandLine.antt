@@ -112,6 +112,10 @@ DoesRead name =
     ⊎ ((name ≡ Some (codes "replay")) ⊎ ((name ≡ Some (codes "save"))
     ⊎ ((name ≡ Some (codes "merge")) ⊎ ((name ≡ Some (codes "list")) ⊎ (name ≡ Some (codes "agree"))))))
 
+-- the matches' subcommand is one of the program's
+abbrev pub IsCommand : Option Text → Type 0
+IsCommand name = (name ≡ Some (codes "name")) ⊎ ((name ≡ Some (codes "build")) ⊎ DoesRead name)
+
 -- the program's name and one word more, which is a subcommand that may stand alone
 abbrev pub AreAlone : List Text → Type 0
 AreAlone words = (program : Text) × (word : Text) × (words ≡ program ∷ word ∷ []) × IsAlone word

@@ -2,7 +2,7 @@
 use Rattle.std.specs.Prelude.{◌≡◌, ◌≢◌, ◌⊎◌, ℕ, Bool, List, [], codes, Some, Option, Result, Ok, Err, IfOk, IfErr, OnOk}
 use Rattle.std.specs.Io.KnownBytes.{Appends, Keeps}
 use Rattle.std.specs.Result.{IsErrAnd}
-use Rattle.clap.specs.Words.{Text, found_of, rows_of, subcommand_of, subcommand_rows_of}
+use Rattle.clap.specs.Words.{Text, found_of, rows_of, subcommand_name_of, subcommand_of, subcommand_rows_of}
 use Rattle.clap.specs.declared.parser.matches.ArgMatches.{ArgMatches}
 use Rattle.nb_names.specs.declared.limits.TheConstants.{MAX_INPUT}
 use Rattle.nb_names.specs.Counted.{Counts, CountedOf}
@@ -16,7 +16,7 @@ use Rattle.nbt.specs.declared.settings.Capacity.{Capacity}
 use Rattle.nbt.specs.declared.status.Status.{Status}
 use Rattle.nbt.specs.declared.status.Status.TheVariants.{BadUsage, Done, Failed}
 use Rattle.nbt.specs.Building.{Builds}
-use Rattle.nbt.specs.CommandLine.{nbt_app}
+use Rattle.nbt.specs.CommandLine.{IsCommand, nbt_app}
 use Rattle.nbt.specs.FaultTexts.{status_after}
 use Rattle.nbt.specs.Input.{WasCut}
 use Rattle.nbt.specs.NameCommand.{IsFlag, IsValue, OutcomeOf}
@@ -158,7 +158,7 @@ pub data Ran (matches : ArgMatches) (s : Streams) : Result Status Fault → Type
   merge : (inner : ArgMatches) (r : Result Unit Fault) → Picks matches (codes "merge") inner → MergeCommand inner s r → Ran matches s (with_status r)
   list : (inner : ArgMatches) (r : Result Unit Fault) → Picks matches (codes "list") inner → ListCommand inner s r → Ran matches s (with_status r)
   agree : (inner : ArgMatches) (r : Result Status Fault) → Picks matches (codes "agree") inner → AgreeCommand inner s r → Ran matches s r
-  other : Keeps s.old_in s.new_in → Keeps s.old_out s.new_out → Ran matches s (Err Arguments)
+  other : ¬ IsCommand (subcommand_name_of matches) → Keeps s.old_in s.new_in → Keeps s.old_out s.new_out → Ran matches s (Err Arguments)
 
 -- RanBy words s status: the command that clap takes the words for ended with this status, or memory ran out before it, and
 -- nothing was read or printed

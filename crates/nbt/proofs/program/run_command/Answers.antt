@@ -1,6 +1,6 @@
-use Rattle.std.proofs.Common.{codes}
+use Rattle.std.proofs.Common.{codes, rules}
 use Rattle.nb_names.specs.DeviceFacts.{Keeps-same}
-use Rattle.nbt.proofs.CommandRows.{ended_so, entered}
+use Rattle.nbt.proofs.CommandRows.{ended_so, entered, entered_another, entered_nothing}
 use Rattle.nbt.specs.Commands.{streams, name, show, build, replay, save, merge, list, agree, other}
 use Rattle.nbt.proofs.program.run_command.Goals as goal
 
@@ -68,7 +68,11 @@ returns-in-Some-agree-default-clause-ran g c =
     c.run_agree.ensures
 
 pub returns-in_default-clause-ran : goal.returns-in_default-clause-ran
-returns-in_default-clause-ran g c = other (Keeps-same _) (Keeps-same _)
+returns-in_default-clause-ran g c =
+    other (entered_another c.args.matches.now c.subcommand.result c.in_default.field-0 c.subcommand.ensures.name (search rules)
+    (search rules) (search rules) (search rules) (search rules) (search rules) (search rules) (search rules) (search rules))
+    (Keeps-same _) (Keeps-same _)
 
 pub returns-in_default-2-clause-ran : goal.returns-in_default-2-clause-ran
-returns-in_default-2-clause-ran g c = other (Keeps-same _) (Keeps-same _)
+returns-in_default-2-clause-ran g c =
+    other (entered_nothing c.args.matches.now c.subcommand.result c.subcommand.ensures.name c.in_default.is) (Keeps-same _) (Keeps-same _)

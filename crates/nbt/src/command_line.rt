@@ -220,10 +220,7 @@ fn taking<'a>(
 ) -> Result<Command<'a>, AllocError>
     ensures { IfOk result (λ whole. IsOkAnd command.entry (λ old. AddsArg old arg.entry whole)) }
 {
-    match command {
-        Ok(command) => command.arg(arg),
-        Err(error) => Err(error),
-    }
+    command?.arg(arg)
 }
 
 /// An option that is given or not.

@@ -10,7 +10,7 @@ use std::alloc::{AllocError, AllocFailed};
 use std::fmt;
 
 /// Why a command ended before it was done.
-#[derive(Clone, Copy, Debug, PartialEq, Eq)]
+#[derive(Clone, Copy)]
 pub enum Fault {
     /// The text of a name was refused.
     Text(TextFault),

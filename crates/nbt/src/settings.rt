@@ -14,7 +14,7 @@ pub const PORT: u16 = 138;
 pub const LONGEST: u16 = 65_535;
 
 /// How much a table may hold.
-#[derive(Clone, Copy, Debug)]
+#[derive(Clone, Copy)]
 pub struct Capacity {
     /// How many keys.
     pub keys: u32,

@@ -69,8 +69,10 @@ returns-in-Some-agree-default-clause-ran g c =
 
 pub returns-in_default-clause-ran : goal.returns-in_default-clause-ran
 returns-in_default-clause-ran g c =
-    other (entered_another c.args.matches.now c.subcommand.result c.in_default.field-0 c.subcommand.ensures.name (search rules)
-    (search rules) (search rules) (search rules) (search rules) (search rules) (search rules) (search rules) (search rules))
+    let d = c.in_default in
+    other (entered_another c.args.matches.now c.subcommand.result d.t13-1-own.given.0.0 c.subcommand.ensures.name (search rules)
+    d.if-str_eq-not-name d.if-str_eq-2-not-show d.if-str_eq-3-not-build d.if-str_eq-4-not-replay d.if-str_eq-5-not-save d.if-str_eq-6-not-merge
+    d.if-str_eq-7-not-list d.if-str_eq-8-not-agree)
     (Keeps-same _) (Keeps-same _)
 
 pub returns-in_default-2-clause-ran : goal.returns-in_default-2-clause-ran

@@ -1,5 +1,5 @@
 -- The subcommand that clap entered, by the rows of its matches.
-use Rattle.std.proofs.Common.{◌≡◌, ◌≢◌, ◌≤◌, ◌<◌, ℕ, [], ◌∷◌, inl, inr, length, map, codes, arith, true, refl, sym, ap, subst, ◌∙◌, Bor, List, Option, Some, None, IfSome, Result}
+use Rattle.std.proofs.Common.{◌≡◌, ◌≤◌, ◌<◌, ℕ, [], ◌∷◌, inl, inr, length, map, codes, arith, true, refl, sym, ap, subst, ◌∙◌, Bor, List, Option, Some, None, IfSome, Result}
 use Rattle.clap.specs.Words.{HasMatchesOf, Row, Text, found_of, is_simple, rows_of, subcommand_name_of, subcommand_of, subcommand_rows_of}
 use Rattle.clap.proofs.OnLiterals.{clap_on_literals}
 use Rattle.clap.specs.Simple.{subcommand_rows}
@@ -19,7 +19,8 @@ use Rattle.nbt.specs.Commands.{Picks, Ran, RanBy, Streams, no_memory, ran, with_
 use Rattle.std.proofs.Math.ListN.{get_or}
 use Rattle.nbt.specs.FaultTexts.{status_after}
 use Rattle.nbt.specs.Refusals.{AsksRefusal}
-use Rattle.nbt.specs.CommandLine.{IsCommand, nbt_app}
+use Rattle.nbt.specs.CommandLine.{IsCommand, nbt_app, word_of}
+use Rattle.nbt.specs.declared.subcommand.Subcommand.{Subcommand}
 
 -- clap's functions say of this command line which subcommand is entered
 pub nbt_is_simple : is_simple nbt_app ≡ true
@@ -54,26 +55,18 @@ entered m found p name named with_rows is called =
     (sym named ∙ ap (option_map (λ q. q.0.now)) is ∙ ap (λ (n : Text). Some n) called)
     (sym with_rows ∙ ap (option_map (λ q. rows_of (found_of q.1.now))) is)
 
--- another word than the program's commands
-is_none : (word : Text) → word ≢ codes "name" → word ≢ codes "show" → word ≢ codes "build" → word ≢ codes "replay" → word ≢ codes "save" → word ≢ codes "merge"
-    → word ≢ codes "list" → word ≢ codes "agree" → ¬ IsCommand (Some word)
-is_none word name show build replay save merge list agree (inl is) = name (cc is)
-is_none word name show build replay save merge list agree (inr (inl is)) = build (cc is)
-is_none word name show build replay save merge list agree (inr (inr (inl is))) = show (cc is)
-is_none word name show build replay save merge list agree (inr (inr (inr (inl is)))) = replay (cc is)
-is_none word name show build replay save merge list agree (inr (inr (inr (inr (inl is))))) = save (cc is)
-is_none word name show build replay save merge list agree (inr (inr (inr (inr (inr (inl is)))))) = merge (cc is)
-is_none word name show build replay save merge list agree (inr (inr (inr (inr (inr (inr (inl is))))))) = list (cc is)
-is_none word name show build replay save merge list agree (inr (inr (inr (inr (inr (inr (inr is))))))) = agree (cc is)
+-- the command that clap entered is this one, by the word that names it
+pub entered_as : (m : ArgMatches) (found : Option (Bor Text × Bor ArgMatches)) (p : Bor Text × Bor ArgMatches) (command which : Subcommand)
+    → option_map (λ q. q.0.now) found ≡ subcommand_name_of m → option_map (λ q. rows_of (found_of q.1.now)) found ≡ option_map (λ q. q.1) (subcommand_rows_of m)
+    → found ≡ Some p → p.0.now ≡ word_of command → command ≡ which → Picks m (word_of which) p.1.now
+entered_as m found p command which named with_rows is called so = entered m found p (word_of which) named with_rows is (called ∙ ap word_of so)
 
--- clap entered another command than these
+-- clap entered a command that isn't the program's
 pub entered_another : (m : ArgMatches) (found : Option (Bor Text × Bor ArgMatches)) (p : Bor Text × Bor ArgMatches)
-    → option_map (λ q. q.0.now) found ≡ subcommand_name_of m → found ≡ Some p → p.0.now ≢ codes "name" → p.0.now ≢ codes "show" → p.0.now ≢ codes "build"
-    → p.0.now ≢ codes "replay" → p.0.now ≢ codes "save" → p.0.now ≢ codes "merge" → p.0.now ≢ codes "list" → p.0.now ≢ codes "agree"
-    → ¬ IsCommand (subcommand_name_of m)
-entered_another m found p named is name show build replay save merge list agree =
+    → option_map (λ q. q.0.now) found ≡ subcommand_name_of m → found ≡ Some p → ¬ IsCommand (Some p.0.now) → ¬ IsCommand (subcommand_name_of m)
+entered_another m found p named is unknown =
     let same : Some p.0.now ≡ subcommand_name_of m = ap (option_map (λ q. q.0.now)) (sym is) ∙ named in
-    subst (λ (w : Option Text). ¬ IsCommand w) same (is_none p.0.now name show build replay save merge list agree)
+    subst (λ (w : Option Text). ¬ IsCommand w) same unknown
 
 -- nothing is none of the program's commands
 is_nothing : ¬ IsCommand None

@@ -1,5 +1,7 @@
 -- The program's command line, as clap reads it (our choice).
-use Rattle.std.specs.Prelude.{◌≡◌, ◌⊎◌, List, [], ◌∷◌, Option, Some, true, codes}
+use Rattle.std.specs.Prelude.{◌≡◌, ◌⊎◌, ℕ, List, [], ◌∷◌, Option, Some, true, codes}
+use Rattle.nbt.specs.declared.subcommand.Subcommand.{Subcommand}
+use Rattle.nbt.specs.declared.subcommand.Subcommand.TheVariants as commands
 use Rattle.clap.specs.Words.{App, Rule, Text, new_app, new_rule, with_rule, with_subcommand}
 use Rattle.clap.specs.Simple.{on_top}
 use Rattle.clap.specs.declared.builder.action.ArgAction.TheVariants.{Set, SetTrue, Append}
@@ -28,33 +30,26 @@ some_rule name = record (new_rule name) {
   range = Some (record { start_inclusive = 1; end_inclusive = 18446744073709551615 });
 }
 
--- `--keys N`, a decimal number from 1 to 65,535, and 1,024 where it isn't given
+-- an option that is a decimal number from 1 to the greatest that it may be; none where it isn't given
+abbrev pub number_rule : Text → ℕ → Rule
+number_rule name most = record (new_rule name) {
+  long = Some name;
+  action = Some Set;
+  value_names = 1;
+  parser = Some (Unsigned 1 most);
+}
+
+-- `--keys N`, to 65,535, and 1,024 where it isn't given
 abbrev pub keys_rule : Rule
-keys_rule = record (new_rule (codes "keys")) {
-  long = Some (codes "keys");
-  action = Some Set;
-  value_names = 1;
-  defaults = codes "1024" ∷ [];
-  parser = Some (Unsigned 1 65535);
-}
+keys_rule = record (number_rule (codes "keys") 65535) { defaults = codes "1024" ∷ [] }
 
--- `--per-source N`, a decimal number from 1 to 65,535; none where it isn't given
+-- `--per-source N`, to 65,535
 abbrev pub per_source_rule : Rule
-per_source_rule = record (new_rule (codes "per-source")) {
-  long = Some (codes "per-source");
-  action = Some Set;
-  value_names = 1;
-  parser = Some (Unsigned 1 65535);
-}
+per_source_rule = number_rule (codes "per-source") 65535
 
--- `--input-limit BYTES`, a decimal number from 1 to 18,446,744,073,709,551,615; none where it isn't given
+-- `--input-limit BYTES`, to 18,446,744,073,709,551,615
 abbrev pub input_limit_rule : Rule
-input_limit_rule = record (new_rule (codes "input-limit")) {
-  long = Some (codes "input-limit");
-  action = Some Set;
-  value_names = 1;
-  parser = Some (Unsigned 1 18446744073709551615);
-}
+input_limit_rule = number_rule (codes "input-limit") 18446744073709551615
 
 -- a command that makes a table, with the options for its limits
 abbrev pub limited_app : Text → App
@@ -115,6 +110,17 @@ DoesRead name =
 -- the matches' subcommand is one of the program's
 abbrev pub IsCommand : Option Text → Type 0
 IsCommand name = (name ≡ Some (codes "name")) ⊎ ((name ≡ Some (codes "build")) ⊎ DoesRead name)
+
+-- the word that names a command
+abbrev pub word_of : Subcommand → Text
+word_of commands.Name = codes "name"
+word_of commands.Show = codes "show"
+word_of commands.Build = codes "build"
+word_of commands.Replay = codes "replay"
+word_of commands.Save = codes "save"
+word_of commands.Merge = codes "merge"
+word_of commands.List = codes "list"
+word_of commands.Agree = codes "agree"
 
 -- the program's name and one word more, which is a subcommand that may stand alone
 abbrev pub AreAlone : List Text → Type 0

@@ -4,7 +4,6 @@ ghost use Rattle.std.specs.Prelude.{◌≡◌};
 use clap::error::ErrorKind;
 
 /// What is asked for, or wrong, where clap has no matches of the words.
-#[derive(Clone, Copy)]
 pub enum ClapAnswer {
     /// The help or the version is asked for: clap's text is the output.
     Asked,

@@ -2,7 +2,7 @@
 ghost use Rattle.std.specs.Prelude.{◌≡◌, IfOk, IsOkAnd, false, codes};
 ghost use Rattle.clap.specs.Words.{AddsArg, AddsSubcommand, app_of, new_app, rule_of};
 ghost use Rattle.clap.specs.declared.builder.command.Command.TheViews.{out-Command as fields_of};
-ghost use Rattle.nbt.specs.CommandLine.{name_app, show_app, build_app, replay_app, save_app, merge_app, list_app, agree_app, nbt_app, flag_rule, value_rule, list_rule, input_limit_rule, keys_rule, limited_app, per_source_rule, some_rule};
+ghost use Rattle.nbt.specs.CommandLine.{name_app, show_app, build_app, replay_app, save_app, merge_app, list_app, agree_app, nbt_app, flag_rule, value_rule, list_rule, number_rule, input_limit_rule, keys_rule, limited_app, per_source_rule, some_rule};
 
 use crate::help::{
     AGREE_HELP, BUILD_HELP, LIST_HELP, MERGE_HELP, NAME_HELP, REPLAY_HELP, SAVE_HELP, SHOW_HELP,
@@ -11,6 +11,12 @@ use crate::help::{
 use clap::builder::ValueParser;
 use clap::{Arg, ArgAction, Command};
 use std::alloc::{AllocError, Global};
+
+/// What the help says of `--comments`.
+const COMMENTS: &str = "Print the comments of the capture, each in its place";
+
+/// What the help says of `--json`.
+const JSON: &str = "Print JSON: an object for each line, in a line of its own";
 
 /// The program's version, as `--version` prints it.
 const VERSION: &str = "0.1.0";
@@ -90,8 +96,11 @@ fn show_command<'a>(alloc: Global) -> Result<Command<'a>, AllocError>
         "Show the packets of the capture on standard input",
         SHOW_HELP,
     );
-    let show = taking(taking(Ok(show), input_limit(alloc)), comments(alloc));
-    taking(show, json(alloc))
+    let show = taking(
+        taking(Ok(show), input_limit(alloc)),
+        flag(alloc, "comments", COMMENTS),
+    );
+    taking(show, flag(alloc, "json", JSON))
 }
 
 /// `build [--broadcast] WHAT ARG..`.
@@ -127,8 +136,11 @@ fn replay_command<'a>(alloc: Global) -> Result<Command<'a>, AllocError>
         "NAME",
         "A name of the station, such as 'FRED<20>.NETBIOS.COM'",
     );
-    let replay = taking(taking(replay, input_limit(alloc)), comments(alloc));
-    taking(taking(replay, json(alloc)), names)
+    let replay = taking(
+        taking(replay, input_limit(alloc)),
+        flag(alloc, "comments", COMMENTS),
+    );
+    taking(taking(replay, flag(alloc, "json", JSON)), names)
 }
 
 /// `save [--keys N] [--per-source N] [--input-limit BYTES]`.
@@ -169,7 +181,7 @@ fn list_command<'a>(alloc: Global) -> Result<Command<'a>, AllocError>
         "Print what the saved tables on standard input, a line each, know together of each key",
         LIST_HELP,
     );
-    taking(list, json(alloc))
+    taking(list, flag(alloc, "json", JSON))
 }
 
 /// `agree [--list]`.
@@ -234,30 +246,6 @@ fn flag<'a>(alloc: Global, name: &'a str, help: &'a str) -> Arg<'a>
         .action(ArgAction::SetTrue)
 }
 
-/// `--comments`.
-fn comments<'a>(alloc: Global) -> Arg<'a>
-    ensures rule { rule_of result ≡ flag_rule (codes "comments") }
-    ensures local { result.global ≡ false }
-{
-    flag(
-        alloc,
-        "comments",
-        "Print the comments of the capture, each in its place",
-    )
-}
-
-/// `--json`.
-fn json<'a>(alloc: Global) -> Arg<'a>
-    ensures rule { rule_of result ≡ flag_rule (codes "json") }
-    ensures local { result.global ≡ false }
-{
-    flag(
-        alloc,
-        "json",
-        "Print JSON: an object for each line, in a line of its own",
-    )
-}
-
 /// A word that is required.
 fn required<'a>(alloc: Global, name: &'a str, help: &'a str) -> Arg<'a>
     ensures rule { rule_of result ≡ value_rule name.entry.now }
@@ -292,18 +280,26 @@ fn at_least_one<'a>(alloc: Global, name: &'a str, help: &'a str) -> Arg<'a>
         .action(ArgAction::Append)
 }
 
+/// An option that is a decimal number from 1 to `most`, which the help calls by `value`.
+fn number<'a>(alloc: Global, name: &'a str, value: &'a str, help: &'a str, most: u64) -> Arg<'a>
+    ensures rule { rule_of result ≡ number_rule name.entry.now most }
+    ensures local { result.global ≡ false }
+{
+    Arg::new(alloc, name)
+        .long(name)
+        .value_name(value)
+        .help(help)
+        .value_parser(ValueParser::unsigned(1, most))
+        .action(ArgAction::Set)
+}
+
 /// `--keys N`.
 fn keys<'a>(alloc: Global) -> Arg<'a>
     ensures rule { rule_of result ≡ keys_rule }
     ensures local { result.global ≡ false }
 {
-    Arg::new(alloc, "keys")
-        .long("keys")
-        .value_name("N")
-        .help("How many keys a table may hold, 1 to 65535")
-        .value_parser(ValueParser::unsigned(1, 65_535))
-        .default_value("1024")
-        .action(ArgAction::Set)
+    let help = "How many keys a table may hold, 1 to 65535";
+    number(alloc, "keys", "N", help, 65_535).default_value("1024")
 }
 
 /// `--per-source N`.
@@ -311,12 +307,8 @@ fn per_source<'a>(alloc: Global) -> Arg<'a>
     ensures rule { rule_of result ≡ per_source_rule }
     ensures local { result.global ≡ false }
 {
-    Arg::new(alloc, "per-source")
-        .long("per-source")
-        .value_name("N")
-        .help("How many keys of one address a table may hold, 1 to 65535; no limit if not given")
-        .value_parser(ValueParser::unsigned(1, 65_535))
-        .action(ArgAction::Set)
+    let help = "How many keys of one address a table may hold, 1 to 65535; no limit if not given";
+    number(alloc, "per-source", "N", help, 65_535)
 }
 
 /// `--input-limit BYTES`.
@@ -324,10 +316,13 @@ fn input_limit<'a>(alloc: Global) -> Arg<'a>
     ensures rule { rule_of result ≡ input_limit_rule }
     ensures local { result.global ≡ false }
 {
-    Arg::new(alloc, "input-limit")
-        .long("input-limit")
-        .value_name("BYTES")
-        .help("How many bytes the input may have, 1 to 18446744073709551615; 16777216 if not given")
-        .value_parser(ValueParser::unsigned(1, 18_446_744_073_709_551_615))
-        .action(ArgAction::Set)
+    let help =
+        "How many bytes the input may have, 1 to 18446744073709551615; 16777216 if not given";
+    number(
+        alloc,
+        "input-limit",
+        "BYTES",
+        help,
+        18_446_744_073_709_551_615,
+    )
 }

@@ -15,9 +15,9 @@ mod output;
 mod printing_lines;
 mod program;
 mod refusals;
-mod saved;
 mod settings;
 mod status;
+mod subcommand;
 mod tables;
 mod telling;
 

@@ -3,7 +3,8 @@ ghost use Rattle.std.specs.Prelude.{◌≡◌, ◌<◌, ◌≤◌, length, take,
 ghost use Rattle.std.specs.Io.KnownBytes.{Appends};
 ghost use Rattle.nb_names.specs.Counted.{no_calls};
 ghost use Rattle.nb_names.specs.Devices.{AppendsFront, GrowTo, ShowsWriteFault};
-ghost use Rattle.nbt.specs.Saved.{saved_digits};
+ghost use Rattle.nbt.specs.Printing.{PrintsText};
+ghost use Rattle.nbt.specs.Saved.{saved_line};
 
 use crate::fault::Fault;
 use nb_names::Counted;
@@ -71,24 +72,22 @@ impl<W> Output<W> {
         }
     }
 
-    /// Writes a table as it is saved, in hexadecimal. No memory is taken.
+    /// Writes a table as it is saved, in hexadecimal, as a line. No memory is taken.
     ///
     /// # Errors
     ///
-    /// [`Fault::Write`], as [`Output::print`] has it. A front of the digits is written then.
-    pub fn print_table(&mut self, table: &Table) -> Result<(), Fault>
+    /// [`Fault::Write`], as [`Output::print`] has it. A front of the line is written then.
+    pub fn print_saved(&mut self, table: &Table) -> Result<(), Fault>
     where
         W: Write,
-        ensures printed { OnOk result (Appends (W.contents self.old.inner)
-            (W.contents self.new.inner) (saved_digits table.now.contents)) }
+        ensures prints { PrintsText (saved_line table.now.contents)
+            (W.contents self.old.inner) (W.contents self.new.inner) result }
         ensures fault { IfErr result (λ fault. fault ≡ Fault.Write) }
-        ensures err { OnErr result (AppendsFront (W.contents self.old.inner)
-            (W.contents self.new.inner) (saved_digits table.now.contents)) }
-        ensures grow { GrowTo self.old.counts self.new.counts }
-        ensures why { OnErr result (ShowsWriteFault self.old.counts self.new.counts) }
+        ensures why { IfErr result (λ fault. fault ≡ Fault.Write →
+            ShowsWriteFault self.old.counts self.new.counts) }
     {
         match table.write_saved(&mut self.device) {
-            Ok(()) => Ok(()),
+            Ok(()) => self.print(&[b'\n']),
             Err(_) => Err(Fault::Write),
         }
     }

@@ -24,6 +24,7 @@ use crate::fault::Fault;
 use crate::output::Output;
 use crate::refusals::refusals;
 use crate::status::Status;
+use crate::subcommand::Subcommand;
 use clap::{ArgMatches, Error};
 use nb_names::Counted;
 use std::alloc::Global;
@@ -69,7 +70,7 @@ pub fn run<R: Read, W: Write, E: Write>(
 ///
 /// # Errors
 ///
-/// Those of the subcommand, and [`Fault::Arguments`] for one that has no arm here.
+/// Those of the subcommand, and [`Fault::Arguments`] where the words name none.
 fn run_command<R: Read, W: Write>(
     alloc: Global,
     matches: &ArgMatches<'_>,
@@ -83,16 +84,21 @@ fn run_command<R: Read, W: Write>(
     ensures why { IfErr result (λ fault. fault ≡ Fault.Write →
         ShowsWriteFault output.old.counts output.new.counts) }
 {
-    match matches.subcommand() {
-        Some(("name", matches)) => done(run_name(alloc, matches, output)),
-        Some(("show", matches)) => done(run_show(alloc, matches, input, output)),
-        Some(("build", matches)) => done(run_build(alloc, matches, output)),
-        Some(("replay", matches)) => done(run_replay(alloc, matches, input, output)),
-        Some(("save", matches)) => done(run_save(alloc, matches, input, output)),
-        Some(("merge", matches)) => done(run_merge(alloc, matches, input, output)),
-        Some(("list", matches)) => done(run_list(alloc, matches, input, output)),
-        Some(("agree", matches)) => run_agree(alloc, matches, input, output),
-        _ => Err(Fault::Arguments),
+    let Some((word, matches)) = matches.subcommand() else {
+        return Err(Fault::Arguments);
+    };
+    let Some(command) = Subcommand::named(word) else {
+        return Err(Fault::Arguments);
+    };
+    match command {
+        Subcommand::Name => done(run_name(alloc, matches, output)),
+        Subcommand::Show => done(run_show(alloc, matches, input, output)),
+        Subcommand::Build => done(run_build(alloc, matches, output)),
+        Subcommand::Replay => done(run_replay(alloc, matches, input, output)),
+        Subcommand::Save => done(run_save(alloc, matches, input, output)),
+        Subcommand::Merge => done(run_merge(alloc, matches, input, output)),
+        Subcommand::List => done(run_list(alloc, matches, input, output)),
+        Subcommand::Agree => run_agree(alloc, matches, input, output),
     }
 }
 

@@ -17,6 +17,11 @@ pub fn refusals() -> &'static [Refusal] {
     &REFUSALS
 }
 
+/// All commands.
+const EACH: [&str; 8] = [
+    "name", "show", "build", "replay", "save", "merge", "list", "agree",
+];
+
 const REFUSALS: [Refusal; 29] = [
     Refusal {
         words: "truncated",
@@ -197,27 +202,21 @@ const REFUSALS: [Refusal; 29] = [
     Refusal {
         words: "read",
         number: "",
-        by: &[
-            "name", "show", "build", "replay", "save", "merge", "list", "agree",
-        ],
+        by: &EACH,
         advice: "the input failed, is a folder, or wants a larger --input-limit, as 99999999; or \
                  a word isn't UTF-8",
     },
     Refusal {
         words: "write",
         number: "",
-        by: &[
-            "name", "show", "build", "replay", "save", "merge", "list", "agree",
-        ],
+        by: &EACH,
         advice: "standard output is full or closed: perhaps what reads it ended first, as `head` \
                  does",
     },
     Refusal {
         words: "memory",
         number: "",
-        by: &[
-            "name", "show", "build", "replay", "save", "merge", "list", "agree",
-        ],
+        by: &EACH,
         advice: "memory ran out: allow fewer keys, as in `--keys 1024`, or save the capture in \
                  parts and merge them",
     },

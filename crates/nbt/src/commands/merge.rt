@@ -4,7 +4,6 @@ ghost use Rattle.nbt.specs.Commands.{MergeCommand, streams};
 use crate::fault::Fault;
 use crate::joining_input::joined_input;
 use crate::output::Output;
-use crate::saved::print_saved;
 use clap::ArgMatches;
 use nb_names::Counted;
 use std::alloc::Global;
@@ -27,5 +26,5 @@ pub fn run_merge<R: Read, W: Write>(
         input.old input.new output.old output.new) result }
 {
     let table = joined_input(alloc, matches, input)?;
-    print_saved(&table, output)
+    output.print_saved(&table)
 }

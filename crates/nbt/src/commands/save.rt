@@ -6,7 +6,6 @@ ghost use Rattle.nbt.specs.Saving.{TakesInput, TakesPayload, TakesSaid};
 
 use crate::fault::Fault;
 use crate::output::Output;
-use crate::saved::print_saved;
 use crate::settings::{Capacity, PORT, capacity_of, input_limit_of, settings_with};
 use clap::ArgMatches;
 use nb_member::{Line, LineTaker, LinesFault, LocalNames, Member, MemberFault, take_lines};
@@ -37,7 +36,7 @@ pub fn run_save<R: Read, W: Write>(
 {
     let capacity = capacity_of(matches)?;
     let member = member_after(alloc, capacity, input_limit_of(matches), input)?;
-    print_saved(member.table(), output)
+    output.print_saved(member.table())
 }
 
 /// A member without names that may hold so much, after the lines of an input of so many bytes at

@@ -4,5 +4,5 @@ use Rattle.nbt.proofs.command_line.list_command.Goals as goal
 pub returns : goal.returns
 returns c =
     let list : HasShape c.limited-list.result _ = record { app = c.limited-list.ensures.app; local = c.limited-list.ensures.local } in
-    let made = with_arg c.taking.result c.json.result _ list c.taking.ensures c.json.ensures.rule c.json.ensures.local in
+    let made = with_arg c.taking.result c.flag.result _ list c.taking.ensures c.flag.ensures.rule c.flag.ensures.local in
     record { app = made.app; local = made.local }

@@ -8,10 +8,10 @@ ghost use Rattle.nb_datagram.specs.Code.Reading.{HasHeader};
 
 use crate::fault::DatagramFault;
 use crate::form::Form;
+use crate::fragment::LentFragment;
 use crate::header::{Header, read_header};
 use crate::kind::Kind;
 use crate::laws::{one_datagram_fault, one_packet};
-use crate::lent_fragment::LentFragment;
 use crate::lent_packet::{LentPacket, LentQuery};
 use crate::limits::{DIRECT_HEADER_LENGTH, ERROR_LENGTH, HEADER_LENGTH};
 use crate::packet::{ErrorPacket, Packet, QueryKind};

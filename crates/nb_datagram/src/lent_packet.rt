@@ -2,8 +2,8 @@
 ghost use Rattle.std.specs.Prelude.{◌≡◌};
 ghost use Rattle.nb_datagram.specs.LentPacket.{packet_of};
 
+use crate::fragment::LentFragment;
 use crate::key::Key;
-use crate::lent_fragment::LentFragment;
 use crate::packet::{ErrorPacket, Packet, QueryKind, QueryPacket};
 use nb_names::LentName;
 

@@ -1,10 +1,10 @@
 //! The reassembly table.
 ghost use Rattle.std.specs.Prelude.{◌≡◌, ◌↔◌, IsTrue, IsOk, IfOk, IfErr, OnOk, OnErr};
 ghost use Rattle.std.specs.FinMap as maps;
+ghost use Rattle.nb_names.specs.Name.{NetbiosName};
 ghost use Rattle.nb_table.specs.Limits.{KeepsLimits};
 ghost use Rattle.nb_table.specs.Change.{IsChange};
-ghost use Rattle.nb_table.specs.Code.Change.{change_of, told_by};
-ghost use Rattle.nb_table.specs.declared.change.Change.{Change};
+ghost use Rattle.nb_table.specs.Code.Change.{told_by};
 ghost use Rattle.nb_table.specs.State.{IsState};
 ghost use Rattle.nb_table.specs.RunCount.{run_count_at};
 ghost use Rattle.nb_datagram.specs.Fragment.{core_of};
@@ -53,6 +53,7 @@ pub struct Table {
 
 impl Model for Table {
     ghost use Rattle.std.specs.FinMap as maps;
+    ghost use Rattle.nb_names.specs.Name.{NetbiosName};
     ghost use Rattle.nb_table.specs.Limits.{TableValue, KeepsLimits};
     ghost use Rattle.nb_table.specs.Codes.{table_code};
     ghost use Rattle.nb_table.specs.Code.SourceCounts.{AreCounted};
@@ -139,8 +140,8 @@ impl Table {
     pub fn insert_lent(&mut self, fragment: &LentFragment<'_>) -> Result<KeptChange, TableFault>
         ensures taken { OnOk result (Takes self.old fragment.now) }
         ensures joined { OnOk result (self.new ≡ with_fragment self.old fragment.now) }
-        ensures change { IfOk result (λ change.
-            IsChange self.old.contents self.new.contents fragment.now.key (change_of change)) }
+        ensures change { IfOk result
+            (IsChange self.old.contents self.new.contents fragment.now.key) }
         ensures refused { IfErr result (Refuses self.old fragment.now) }
         ensures kept { OnErr result (self.new ≡ self.old) }
         ensures without_memory { Passes self.old.limits fragment.now
@@ -163,9 +164,9 @@ impl Table {
     ) -> Result<KeptChange, TableFault>
         ensures taken { OnOk result (Takes self.old fragment.now) }
         ensures joined { OnOk result (self.new ≡ with_fragment self.old fragment.now) }
-        ensures change { IfOk result (λ told. (change : Change) ×
+        ensures change { IfOk result (λ told. (change : Change NetbiosName) ×
             IsChange self.old.contents self.new.contents fragment.now.key change ×
-            (change_of told ≡ told_by handing change)) }
+            (told ≡ told_by handing change)) }
         ensures refused { IfErr result (Refuses self.old fragment.now) }
         ensures kept { OnErr result (self.new ≡ self.old) }
         ensures without_memory { Passes self.old.limits fragment.now

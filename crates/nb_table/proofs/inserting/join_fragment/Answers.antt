@@ -9,7 +9,7 @@ use Rattle.nb_table.specs.Maps.{joined_onto}
 use Rattle.nb_table.specs.Slot.{Held}
 use Rattle.nb_table.specs.Entry.{EntryValue, facts_of, join_entry}
 use Rattle.nb_table.specs.declared.change.Handing.{Handing}
-use Rattle.nb_table.specs.declared.change.KeptChange.{KeptChange}
+use Rattle.nb_table.specs.Change.{Change}
 use Rattle.nb_table.specs.Code.Change.{KeyChange, Tells}
 use Rattle.nb_datagram.specs.KeyOrder.{key_cmp_total, key_cmp_exact}
 use Rattle.nb_table.specs.Shared.TreeLemmas.{get_is, changed_is, kept_is, insert_is}
@@ -20,7 +20,7 @@ use Rattle.nb_table.proofs.inserting.join_fragment.Goals as goal
 -- ---- a held key
 
 -- what changed at an entry is what changed at its key
-change_joined : (h : Handing) (r : Result KeptChange NoMemory) (k : Key) (e new b : EntryValue) (o : Option EntryValue) → o ≡ Some e → OnOk r (new ≡ join_entry e b)
+change_joined : (h : Handing) (r : Result Change NoMemory) (k : Key) (e new b : EntryValue) (o : Option EntryValue) → o ≡ Some e → OnOk r (new ≡ join_entry e b)
     → IfOk r (Tells h k (Some e) (Some new)) → IfOk r (Tells h k o (Some (joined_onto join_entry o b)))
 change_joined h (Err x) k e new b o at joined change = tt
 change_joined h (Ok c) k e new b o at joined change =

@@ -53,7 +53,6 @@ pub struct Table {
 
 impl Model for Table {
     ghost use Rattle.std.specs.FinMap as maps;
-    ghost use Rattle.nb_names.specs.Name.{NetbiosName};
     ghost use Rattle.nb_table.specs.Limits.{TableValue, KeepsLimits};
     ghost use Rattle.nb_table.specs.Codes.{table_code};
     ghost use Rattle.nb_table.specs.Code.SourceCounts.{AreCounted};

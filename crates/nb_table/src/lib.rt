@@ -3,6 +3,7 @@
 
 mod change;
 mod cover;
+mod entries;
 mod entry;
 mod fault;
 mod inserting;

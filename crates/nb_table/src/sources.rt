@@ -9,11 +9,10 @@ ghost use Rattle.nb_table.specs.Merging.{IsUnfitSource, SourcesFit, first_unfit}
 ghost use Rattle.nb_table.specs.Code.SourceCounts.{AreCounted};
 
 mod counting;
-mod counts;
 
+pub(crate) use crate::entries::SourceCounts;
 use crate::entry::Entry;
 pub(crate) use counting::{count_lacked, counts_of, no_counts, uncount};
-pub(crate) use counts::SourceCounts;
 use nb_datagram::Key;
 use std::collections::BTreeMap;
 
@@ -56,7 +55,7 @@ fn room_of(
         - held_keys (of_source ip) (maps.from_entries {R = key_cmp} entries.now.entries) }
 {
     match counts {
-        Some(counts) => most.saturating_sub(counts.of(ip)),
+        Some(counts) => u64::from(most).saturating_sub(counts.of(ip)) as u32,
         None => room_by_keys(entries, ip, most),
     }
 }

@@ -1,5 +1,5 @@
 -- Counts of the keys of each address, as they are kept: a key more, a key less, and the keys of a list.
-use Rattle.std.proofs.Common.{inl, inr, ◌≡◌, ◌≤◌, ◌<◌, ◌+◌, ◌-◌, ◌++◌, ◌==◌, ◌&&◌, ℕ, cond, Bool, true, false, List, [], ◌∷◌, filter, map, length, OnErr, OnOk, Result, Ok, Err, Option, Some, None, is_none, is_some, not, unwrap_or, refl, sym, ◌∙◌, ap, subst, arith}
+use Rattle.std.proofs.Common.{inl, inr, ◌≡◌, ◌≤◌, ◌<◌, ◌+◌, ◌-◌, ◌++◌, ◌==◌, ◌&&◌, ℕ, cond, Bool, true, false, List, [], ◌∷◌, filter, map, length, OnErr, OnOk, Result, Ok, Err, Option, Some, None, is_none, is_some, not, unwrap_or, IfSome, refl, sym, ◌∙◌, ap, subst, arith}
 use Rattle.std.proofs.lemmas.Bool.{cases_lt, true≢false}
 use Rattle.std.proofs.lemmas.List.{length-append}
 use Rattle.std.proofs.lemmas.List.Elements.{filter-append}
@@ -17,8 +17,8 @@ use Rattle.nb_table.specs.Join.{join}
 use Rattle.nb_table.specs.KeyCounts.{of_source, held_keys, FewOfEach}
 use Rattle.nb_table.specs.Limits.{Limits, IsFullSource}
 use Rattle.nb_table.specs.Merging.{new_keys}
-use Rattle.nb_table.specs.Code.SourceCounts.{ip_cmp, AreCounted, Counts, CountsKeys, LessOne, count_of, if_same, those_of, lacked}
-use Rattle.nb_table.proofs.Limits.GroupLemmas.{few_of_none, held_insert, held_join, held_without}
+use Rattle.nb_table.specs.Code.SourceCounts.{ip_cmp, Adds, AreCounted, Counts, CountsKeys, LessOne, Takes, count_of, if_same, those_of, lacked}
+use Rattle.nb_table.proofs.Limits.GroupLemmas.{few_of_none, held_at_most, held_insert, held_join, held_without}
 
 -- ---- addresses
 
@@ -241,3 +241,32 @@ room_of_one l t k none free = elim (cases_lt (held_keys (of_source k.ip) t) l.pe
 pub not_counted : (o : Option Counts) (s : Contents) → is_some o ≡ false → AreCounted o s
 not_counted None s h = tt
 not_counted (Some m) s h = absurd (true≢false h)
+
+-- ---- what is kept of entries of which one is put in, or taken out
+
+pub kept_none : (o : Option Counts) → IfSome o (λ m. m ≡ maps.empty) → AreCounted o maps.empty
+kept_none None h = tt
+kept_none (Some m) h = subst (λ n. CountsKeys n maps.empty) (sym h) counted_none
+
+-- there is room to count one more
+pub room_for_one : (o : Option Counts) (s : Contents) (ip : List ℕ) → maps.len s < 9223372036854775808 → AreCounted o s → IfSome o (λ m. count_of m ip < 9223372036854775808)
+room_for_one None s ip room kept = tt
+room_for_one (Some m) s ip room kept =
+    let most = held_at_most (of_source ip) s in
+    let is = kept ip in
+    omega (arith, room, most, is)
+
+pub kept_more : (o p : Option Counts) (s : Contents) (k : Key) (v : EntryValue) → maps.get s k ≡ None → Adds o p k.ip → AreCounted o s → AreCounted p (maps.insert s k v)
+kept_more None p s k v new adds kept = subst (λ q. AreCounted q (maps.insert s k v)) (sym adds) tt
+kept_more (Some m) None s k v new adds kept = tt
+kept_more (Some m) (Some n) s k v new adds kept = counted_new m n s k v (ap is_none new) kept adds
+
+pub kept_less : (o p : Option Counts) (s : Contents) (k : Key) → is_some (maps.get s k) ≡ true → Takes o p k.ip → AreCounted o s → AreCounted p (maps.remove s k)
+kept_less None p s k held takes kept = subst (λ q. AreCounted q (maps.remove s k)) (sym takes) tt
+kept_less (Some m) None s k held takes kept = tt
+kept_less (Some m) (Some n) s k held takes kept = counted_without m n s k held takes kept
+
+-- entries of the same keys are counted alike
+pub kept_keys : (o : Option Counts) (s t : Contents) → maps.keys s ≡ maps.keys t → AreCounted o s → AreCounted o t
+kept_keys None s t same kept = tt
+kept_keys (Some m) s t same kept = λ ip. kept ip ∙ ap (λ ks. length (filter (of_source ip) ks)) same

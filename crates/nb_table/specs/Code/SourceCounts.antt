@@ -1,6 +1,6 @@
 -- How many keys of each address a table holds, as it is kept beside the entries.
 use Rattle.std.specs.Coded.{Coded, coded_ℕ, coded_list}
-use Rattle.std.specs.Prelude.{◌≡◌, ◌==◌, ◌-◌, ℕ, List, cond, filter, length, is_none, unwrap_or, IfSome, Option, Some, None}
+use Rattle.std.specs.Prelude.{◌≡◌, ◌==◌, ◌+◌, ◌-◌, ℕ, List, cond, filter, length, is_none, unwrap_or, IfSome, Option, Some, None}
 use Rattle.std.specs.declared.cmp.Ordering.{Ordering}
 use Rattle.std.specs.Ordering.{nat_cmp}
 use Rattle.std.specs.Cmp.Lexicographic.{pointwise, slice_cmp}
@@ -49,3 +49,13 @@ AreCounted o s = IfSome o (λ m. CountsKeys m s)
 abbrev pub LessOne : Option Counts → Option Counts → List ℕ → Type 0
 LessOne None p ip = p ≡ None
 LessOne (Some m) p ip = IfSome p (λ n. (q : List ℕ) → count_of n q ≡ count_of m q - if_same ip q)
+
+-- Adds o p ip: the counts p are those of o, and one key more of this address; none are kept where none were
+abbrev pub Adds : Option Counts → Option Counts → List ℕ → Type 0
+Adds None p ip = p ≡ None
+Adds (Some m) p ip = IfSome p (λ n. (q : List ℕ) → count_of n q ≡ count_of m q + if_same ip q)
+
+-- Takes o p ip: the same, with one key less
+abbrev pub Takes : Option Counts → Option Counts → List ℕ → Type 0
+Takes None p ip = p ≡ None
+Takes (Some m) p ip = IfSome p (λ n. (q : List ℕ) → count_of n q ≡ count_of m q - if_same ip q)

@@ -4,7 +4,7 @@ ghost use Rattle.std.specs.FinMap as maps;
 ghost use Rattle.nb_datagram.specs.Key.{key_cmp};
 ghost use Rattle.nb_table.specs.Code.SourceCounts.{AreCounted, count_of, if_same, lacked, those_of};
 
-use super::counts::SourceCounts;
+use crate::entries::SourceCounts;
 use crate::entry::Entry;
 use nb_datagram::Key;
 use nb_names::NoMemory;

@@ -11,7 +11,7 @@ use std::marker::Model;
 /// How many keys of each address a table holds. An address without keys has no count.
 #[derive(Drop)]
 pub(crate) struct SourceCounts {
-    counts: BTreeMap<[u8; 4], u32>,
+    counts: BTreeMap<[u8; 4], u64>,
 }
 
 impl Model for SourceCounts {
@@ -36,7 +36,7 @@ impl SourceCounts {
     }
 
     /// How many keys have this address.
-    pub(crate) fn of(&self, ip: [u8; 4]) -> u32
+    pub(crate) fn of(&self, ip: [u8; 4]) -> u64
         ensures { result ≡ count_of self.now ip }
     {
         match self.counts.get(&ip) {
@@ -47,7 +47,7 @@ impl SourceCounts {
 
     /// Counts one key more of this address.
     pub(crate) fn add(&mut self, ip: [u8; 4]) -> Result<(), NoMemory>
-        requires { count_of self.old ip < 4294967295 }
+        requires { count_of self.old ip < 9223372036854775808 }
         ensures counted { OnOk result ((q : List ℕ) → count_of self.new q
             ≡ count_of self.old q + if_same ip q) }
         ensures kept { OnErr result (self.new ≡ self.old) }

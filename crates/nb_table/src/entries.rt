@@ -1,0 +1,186 @@
+//! A table's entries by key, which carry how many keys each address has.
+ghost use Rattle.std.specs.Prelude.{◌≡◌, ◌<◌, ◌-◌, None, IfOk, IfSome, OnOk, OnErr, is_some};
+ghost use Rattle.std.specs.Option.{option_copied, option_copied_mut};
+ghost use Rattle.std.specs.Borrow.{sem};
+ghost use Rattle.std.specs.BTreeMap.Range.{entries_between};
+ghost use Rattle.std.specs.declared.ops.Bound.TheVariants.{Included, Unbounded};
+ghost use Rattle.std.specs.FinMap as maps;
+ghost use Rattle.nb_datagram.specs.Key.{key_cmp};
+ghost use Rattle.nb_table.specs.KeyCounts.{held_keys, of_source};
+ghost use Rattle.nb_table.specs.Code.SourceCounts.{Adds, Takes, count_of};
+ghost use Rattle.nb_table.specs.Code.Lending.{LendsEntry};
+
+mod counts;
+
+use crate::entry::Entry;
+pub(crate) use counts::SourceCounts;
+use nb_datagram::Key;
+use nb_names::NoMemory;
+use std::alloc::Global;
+use std::collections::{BTreeMap, btree_map};
+use std::marker::Model;
+use std::mem;
+
+/// Entries by key, and how many keys each address has, where that is kept beside them.
+#[derive(Drop)]
+pub(crate) struct Entries {
+    map: BTreeMap<Key, Entry>,
+    counts: Option<SourceCounts>,
+}
+
+impl Model for Entries {
+    ghost use Rattle.std.specs.FinMap as maps;
+    ghost use Rattle.nb_datagram.specs.Key.{key_cmp};
+    ghost use Rattle.nb_table.specs.Contents.{Contents};
+    ghost use Rattle.nb_table.specs.Codes.{contents_code};
+    ghost use Rattle.nb_table.specs.Code.SourceCounts.{AreCounted};
+
+    ghost Value = { Contents };
+
+    ghost coded = { contents_code };
+
+    ghost view = { λ e. maps.from_entries {R = key_cmp} e.map.entries };
+
+    ghost invariant = { λ e.
+        AreCounted e.counts (maps.from_entries {R = key_cmp} e.map.entries) };
+}
+
+/// The counts of no key, if counts are to be kept. No memory is taken.
+fn no_counts(alloc: Global, are_counted: bool) -> Option<SourceCounts>
+    ensures { IfSome result (λ m. m ≡ maps.empty) }
+{
+    if !are_counted {
+        return None;
+    }
+    Some(SourceCounts::new(alloc))
+}
+
+/// Counts one key more of an address, if counts are kept.
+fn count_more(counts: &mut Option<SourceCounts>, ip: [u8; 4]) -> Result<(), NoMemory>
+    requires { IfSome counts.old (λ m. count_of m ip < 9223372036854775808) }
+    ensures counted { OnOk result (Adds counts.old counts.new ip) }
+    ensures kept { OnErr result (counts.new ≡ counts.old) }
+{
+    match counts {
+        Some(counts) => counts.add(ip),
+        None => Ok(()),
+    }
+}
+
+/// Counts one key less of an address, if counts are kept.
+fn count_less(counts: &mut Option<SourceCounts>, ip: [u8; 4])
+    ensures { Takes counts.old counts.new ip }
+{
+    if let Some(counts) = counts {
+        counts.take(ip);
+    }
+}
+
+impl Entries {
+    /// No entry. No memory is taken.
+    pub(crate) fn new(alloc: Global, are_counted: bool) -> Entries
+        ensures { result ≡ maps.empty }
+    {
+        Entries {
+            map: BTreeMap::new(alloc),
+            counts: no_counts(alloc, are_counted),
+        }
+    }
+
+    /// How many there are.
+    pub(crate) fn len(&self) -> usize
+        ensures { result ≡ maps.len self.now }
+    {
+        self.map.len()
+    }
+
+    /// Whether a key is held.
+    pub(crate) fn contains_key(&self, key: &Key) -> bool
+        ensures { result ≡ maps.contains_key self.now key.now }
+    {
+        self.map.contains_key(key)
+    }
+
+    /// The entry of a key.
+    pub(crate) fn get(&self, key: &Key) -> Option<&Entry>
+        ensures { option_copied result ≡ maps.get self.now key.now }
+    {
+        self.map.get(key)
+    }
+
+    /// The entry of a key, to be changed in place. The keys, and so what is counted, stay.
+    pub(crate) fn get_mut(&mut self, key: &Key) -> Option<&mut Entry>
+        ensures* writes_back { sem 𝓛 (LendsEntry self.entry key.now result) }
+        ensures value { option_copied_mut result ≡ maps.get self.old key.now }
+    {
+        self.map.get_mut(key)
+    }
+
+    /// Puts in the entry of a new key. Where memory runs out, the entries stay as they were.
+    pub(crate) fn insert(&mut self, key: Key, entry: Entry) -> Result<(), NoMemory>
+        requires { maps.get self.old key ≡ None }
+        ensures inserted { OnOk result (self.new ≡ maps.insert self.old key entry) }
+        ensures kept { OnErr result (self.new ≡ self.old) }
+    {
+        // For the proof alone: a map's length is below 2^63, and so is each count.
+        let _len = self.map.len();
+        self.map.insert(key, entry)?;
+        match count_more(&mut self.counts, key.ip) {
+            Ok(()) => Ok(()),
+            Err(fault) => {
+                self.map.remove(&key);
+                Err(fault)
+            }
+        }
+    }
+
+    /// Puts in the entry of a key, in the place of the one that is held. The one that was held.
+    /// Where memory runs out, the entries stay as they were.
+    pub(crate) fn put(&mut self, key: Key, entry: Entry) -> Result<Option<Entry>, NoMemory>
+        ensures before { IfOk result (λ before. before ≡ maps.get self.old key) }
+        ensures put { OnOk result (self.new ≡ maps.insert self.old key entry) }
+        ensures kept { OnErr result (self.new ≡ self.old) }
+    {
+        match self.get_mut(&key) {
+            Some(held) => Ok(Some(mem::replace(held, entry))),
+            None => {
+                self.insert(key, entry)?;
+                Ok(None)
+            }
+        }
+    }
+
+    /// Takes a key's entry out. No memory is taken.
+    pub(crate) fn remove(&mut self, key: &Key) -> Option<Entry>
+        ensures value { result ≡ maps.get self.old key.now }
+        ensures removed { self.new ≡ maps.remove self.old key.now }
+    {
+        let entry = self.map.remove(key);
+        if entry.is_some() {
+            count_less(&mut self.counts, key.ip);
+        }
+        entry
+    }
+
+    /// The keys and their entries, ascending.
+    pub(crate) fn iter(&self) -> btree_map::Iter<'_, Key, Entry>
+        ensures { result ≡ maps.entries self.now }
+    {
+        self.map.iter()
+    }
+
+    /// The keys from this one on and their entries, ascending.
+    pub(crate) fn range_from(&self, key: Key) -> btree_map::Range<'_, Key, Entry>
+        ensures { result
+            ≡ entries_between key_cmp (Included key) Unbounded (maps.entries self.now) }
+    {
+        self.map.range(key..)
+    }
+
+    /// The entries as a map, to be read.
+    pub(crate) fn as_map(&self) -> &BTreeMap<Key, Entry>
+        ensures { maps.from_entries {R = key_cmp} result.now.entries ≡ self.now }
+    {
+        &self.map
+    }
+}

@@ -1,5 +1,6 @@
-//! A table's entries by key, which carry how many keys each address has.
-ghost use Rattle.std.specs.Prelude.{◌≡◌, ◌<◌, ◌-◌, None, IfOk, IfSome, OnOk, OnErr, is_some};
+//! A table's entries by key, which carry how many keys each address has. Where that isn't kept, the
+//! keys are looked at: they ascend by address first, so those of one address stand together.
+ghost use Rattle.std.specs.Prelude.{◌≡◌, ◌↔◌, ◌<◌, ◌-◌, IsTrue, None, IfOk, IfSome, OnOk, OnErr};
 ghost use Rattle.std.specs.Option.{option_copied, option_copied_mut};
 ghost use Rattle.std.specs.Borrow.{sem};
 ghost use Rattle.std.specs.BTreeMap.Range.{entries_between};
@@ -76,6 +77,43 @@ fn count_less(counts: &mut Option<SourceCounts>, ip: [u8; 4])
     }
 }
 
+/// The key before which no key of this address stands.
+pub(crate) fn first_of(ip: [u8; 4]) -> Key
+    ensures { result ≡ record { ip = ip; port = 0; id = 0 } }
+{
+    Key { ip, port: 0, id: 0 }
+}
+
+/// How many keys of this address may still be added, where `most` may be held. Those that are held
+/// are looked at.
+fn room_by_keys(map: &BTreeMap<Key, Entry>, ip: [u8; 4], most: u32) -> u32
+    ensures { result ≡ most
+        - held_keys (of_source ip) (maps.from_entries {R = key_cmp} map.now.entries) }
+{
+    let mut room = most;
+    for (key, _entry) in map.range(first_of(ip)..) {
+        if key.ip != ip {
+            return room;
+        }
+        if room == 0 {
+            return 0;
+        }
+        room -= 1;
+    }
+    room
+}
+
+/// Whether the two maps have the same entries at the same keys.
+fn are_equal(one: &BTreeMap<Key, Entry>, other: &BTreeMap<Key, Entry>) -> bool
+    ensures { IsTrue result ↔ (maps.from_entries {R = key_cmp} one.now.entries
+        ≡ maps.from_entries {R = key_cmp} other.now.entries) }
+{
+    if one.len() != other.len() {
+        return false;
+    }
+    one == other
+}
+
 impl Entries {
     /// No entry. No memory is taken.
     pub(crate) fn new(alloc: Global, are_counted: bool) -> Entries
@@ -89,7 +127,8 @@ impl Entries {
 
     /// How many there are.
     pub(crate) fn len(&self) -> usize
-        ensures { result ≡ maps.len self.now }
+        ensures count { result ≡ maps.len self.now }
+        ensures small { result < 9223372036854775808 }
     {
         self.map.len()
     }
@@ -160,6 +199,38 @@ impl Entries {
             count_less(&mut self.counts, key.ip);
         }
         entry
+    }
+
+    /// How many keys of this address may still be added, where `most` may be held: by the counts,
+    /// where they are kept.
+    pub(crate) fn room_of(&self, ip: [u8; 4], most: u32) -> u32
+        ensures { result ≡ most - held_keys (of_source ip) self.now }
+    {
+        match &self.counts {
+            Some(counts) => u64::from(most).saturating_sub(counts.of(ip)) as u32,
+            None => room_by_keys(&self.map, ip, most),
+        }
+    }
+
+    /// Whether the others have the same entries at the same keys.
+    pub(crate) fn same(&self, others: &Entries) -> bool
+        ensures { IsTrue result ↔ (self.now ≡ others.now) }
+    {
+        are_equal(&self.map, &others.map)
+    }
+
+    /// The keys, ascending.
+    pub(crate) fn keys(&self) -> btree_map::Keys<'_, Key, Entry>
+        ensures { result ≡ maps.keys self.now }
+    {
+        self.map.keys()
+    }
+
+    /// The keys and their entries, ascending, taken out.
+    pub(crate) fn into_iter(self) -> btree_map::IntoIter<Key, Entry>
+        ensures { result ≡ maps.entries self }
+    {
+        self.map.into_iter()
     }
 
     /// The keys and their entries, ascending.

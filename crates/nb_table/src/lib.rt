@@ -15,7 +15,6 @@ mod outline;
 mod parties;
 pub mod plain;
 mod ranges;
-mod removing;
 mod saved;
 mod slot;
 mod sources;

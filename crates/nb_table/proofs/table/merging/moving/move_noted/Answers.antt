@@ -1,6 +1,5 @@
 use Rattle.std.proofs.Common.{◌∙◌, ◌++◌, ◌∷◌, [], ap}
 use Rattle.std.specs.FinMap as maps
-use Rattle.nb_datagram.specs.Key.{key_cmp}
 use Rattle.nb_table.specs.Maps.{joined_onto}
 use Rattle.nb_table.specs.Entry.{join_entry}
 use Rattle.nb_datagram.specs.KeyOrder.{key_cmp_total, key_cmp_exact}
@@ -9,9 +8,9 @@ use Rattle.nb_table.proofs.table.merging.moving.move_noted.Goals as goal
 
 pub returns-clause-noted : goal.returns-clause-noted
 returns-clause-noted c =
-    let t = maps.from_entries {R = key_cmp} c.args.entries.now.entries in
+    let t = c.args.entries.now in
     let pushed = rw c.unwrap.ensures at c.push.ensures.items in
-    noted key_cmp_total key_cmp_exact t (maps.from_entries {R = key_cmp} c.move_at.new.entries.entries) c.args.key
+    noted key_cmp_total key_cmp_exact t c.move_at.new.entries c.args.key
     (joined_onto join_entry (maps.get t c.args.key) c.args.other) c.in_ok-before.before c.args.changes.now.items c.push.new.self.items
     c.in_ok-before.ensures.joined c.in_ok-before.ensures.before
     (pushed ∙ ap (λ es. es ++ (c.args.key, c.in_ok-before.before) ∷ []) c.reserve.ensures.items)

@@ -8,12 +8,12 @@ use Rattle.nb_table.specs.KeyCounts.{of_source}
 use Rattle.nb_datagram.specs.KeyOrder.{key_cmp_total, key_cmp_exact}
 use Rattle.nb_table.specs.Shared.TreeLemmas.{entries_are, sorted_is}
 use Rattle.nb_table.proofs.Limits.SourceLemmas.{Left, onward, onward_all, left_begun, left_next, none_counts, one_counts, not_true, not_false}
-use Rattle.nb_table.proofs.sources.room_by_keys.Goals as goal
+use Rattle.nb_table.proofs.entries.room_by_keys.Goals as goal
 
 pub loop-key-init : goal.loop-key-init
 loop-key-init c =
     let ip = c.args.ip in
-    let es = c.args.entries.now.entries in
+    let es = c.args.map.now.entries in
     let is : c.into_iter-key-iterator.result ≡ onward ip es = c.into_iter-key-iterator.ensures.into_iter_gives ∙ c.range-key-items.ensures.between tt ∙ ap (λ k. entries_between key_cmp (Included k) Unbounded es) c.first_of.ensures in (
       ap (λ r. c.args.most - length r) (ap (λ fs. filter (of_source ip) (map (λ e. e.0) fs)) is ∙ onward_all ip es),
       subst (Left ip) (sym is) (left_begun ip es (sorted_is key_cmp es c.range-key-items.ensures.ordered)),
@@ -22,7 +22,7 @@ loop-key-init c =
 pub returns-then-ne : goal.returns-then-ne
 returns-then-ne c =
     let ip = c.args.ip in
-    let held = entries_are key_cmp_total key_cmp_exact c.args.entries.now c.range-key-items.ensures.ordered in
+    let held = entries_are key_cmp_total key_cmp_exact c.args.map.now c.range-key-items.ensures.ordered in
     let same = ap (λ fs. length (filter (of_source ip) (map (λ e. e.0) fs))) held in
     let is = c.in-Some.ensures.steps in
     let e : Key × EntryValue = (c.in-Some.key.now, c.in-Some._entry.now) in
@@ -33,7 +33,7 @@ returns-then-ne c =
 
 pub returns-then-room-eq0 : goal.returns-then-room-eq0
 returns-then-room-eq0 c =
-    let held = entries_are key_cmp_total key_cmp_exact c.args.entries.now c.range-key-items.ensures.ordered in
+    let held = entries_are key_cmp_total key_cmp_exact c.args.map.now c.range-key-items.ensures.ordered in
     let same = ap (λ fs. length (filter (of_source c.args.ip) (map (λ e. e.0) fs))) held in
     let now = c.loop-key.invariant.0 in
     let zero = c.if-room-eq0.true in
@@ -41,7 +41,7 @@ returns-then-room-eq0 c =
 
 pub returns : goal.returns
 returns c =
-    let held = entries_are key_cmp_total key_cmp_exact c.args.entries.now c.range-key-items.ensures.ordered in
+    let held = entries_are key_cmp_total key_cmp_exact c.args.map.now c.range-key-items.ensures.ordered in
     let same = ap (λ fs. length (filter (of_source c.args.ip) (map (λ e. e.0) fs))) held in
     let none = ap (λ fs. length (filter (of_source c.args.ip) (map (λ f. f.0) fs))) c.in-None.ensures.steps.0 in
     let now = c.loop-key.invariant.0 in

@@ -12,7 +12,7 @@ ghost use Rattle.nb_table.specs.Code.Each.{joined_each};
 ghost use Rattle.nb_table.specs.Code.Handed.{handed, handed_at, with_entry};
 ghost use Rattle.nb_table.specs.Code.TakenBack.{taken_back};
 
-use super::taking_back::take_back;
+use super::taking_back::{put_noted, take_back};
 use crate::entries::Entries;
 use crate::entry::Entry;
 use nb_datagram::{Datagram, Datagrams, Key};
@@ -44,28 +44,6 @@ fn joined_at(
     }
 }
 
-/// Joins another entry to that of its key. What stood there before, and the datagram, if the key
-/// becomes whole by this.
-fn join_at(
-    alloc: Global,
-    entries: &mut Entries,
-    key: Key,
-    other: &Entry,
-) -> Result<(Option<Entry>, Option<Datagram>), NoMemory>
-    requires own { AllShort MAX_LENGTH entries.old }
-    requires other { IsShort MAX_LENGTH other.now }
-    ensures joined { OnOk result (entries.new ≡ with_entry entries.old key other.now) }
-    ensures before { IfOk result (λ made. made.0 ≡ maps.get entries.old key) }
-    ensures datagram { IfOk result (λ made. made.1 ≡ handed_at entries.old key other.now) }
-    ensures err { OnErr result (entries.new ≡ entries.old) }
-{
-    let (joined, datagram) = joined_at(alloc, entries, key, other)?;
-    match entries.put(key, joined) {
-        Ok(before) => Ok((before, datagram)),
-        Err(fault) => Err(fault),
-    }
-}
-
 /// Adds the datagram, if there is one.
 fn push_some(datagrams: &mut Vec<Datagram>, datagram: Option<Datagram>) -> Result<(), NoMemory>
     ensures { OnOk result (datagrams.new.items ≡ datagrams.old.items ++ cons_option datagram []) }
@@ -94,9 +72,8 @@ fn join_noted(
         ≡ taken_back entries.old changes.old.items }
 {
     let alloc = *datagrams.allocator();
-    changes.reserve(1)?;
-    let (before, datagram) = join_at(alloc, entries, key, other)?;
-    changes.push((key, before)).unwrap();
+    let (joined, datagram) = joined_at(alloc, entries, key, other)?;
+    put_noted(entries, key, joined, changes)?;
     push_some(datagrams, datagram)
 }
 
@@ -117,7 +94,8 @@ pub(super) fn join_in_place(
     match entries.get_mut(&key) {
         Some(entry) => entry.grow_by(alloc, key, other),
         None => {
-            let (_, datagram) = join_at(alloc, entries, key, other)?;
+            let (joined, datagram) = joined_at(alloc, entries, key, other)?;
+            entries.insert(key, joined)?;
             Ok(datagram)
         }
     }

@@ -13,7 +13,7 @@ ghost use Rattle.nb_table.specs.Code.Handed.{with_entry};
 ghost use Rattle.nb_table.specs.Code.TakenBack.{taken_back};
 
 use super::merging_entries::join_in_place;
-use super::taking_back::take_back;
+use super::taking_back::{put_noted, take_back};
 use crate::entries::Entries;
 use crate::entry::Entry;
 use nb_datagram::Key;
@@ -32,19 +32,6 @@ fn united_at(entries: &Entries, key: Key, other: Entry) -> Result<Entry, NoMemor
     }
 }
 
-/// Joins another entry to that of its key. What stood there before.
-fn move_at(entries: &mut Entries, key: Key, other: Entry) -> Result<Option<Entry>, NoMemory>
-    ensures joined { OnOk result (entries.new ≡ with_entry entries.old key other) }
-    ensures before { IfOk result (λ before. before ≡ maps.get entries.old key) }
-    ensures err { OnErr result (entries.new ≡ entries.old) }
-{
-    let joined = united_at(entries, key, other)?;
-    match entries.put(key, joined) {
-        Ok(before) => Ok(before),
-        Err(fault) => Err(fault),
-    }
-}
-
 /// Joins another entry to that of its key, and notes what stood there before.
 fn move_noted(
     entries: &mut Entries,
@@ -56,10 +43,8 @@ fn move_noted(
     ensures noted { taken_back entries.new changes.new.items
         ≡ taken_back entries.old changes.old.items }
 {
-    changes.reserve(1)?;
-    let before = move_at(entries, key, other)?;
-    changes.push((key, before)).unwrap();
-    Ok(())
+    let joined = united_at(entries, key, other)?;
+    put_noted(entries, key, joined, changes)
 }
 
 /// Joins another entry to that of its key, in place where the key is held.
@@ -73,8 +58,7 @@ fn move_last(alloc: Global, entries: &mut Entries, key: Key, other: Entry) -> Re
         join_in_place(alloc, entries, key, &other)?;
         return Ok(());
     }
-    move_at(entries, key, other)?;
-    Ok(())
+    entries.insert(key, other)
 }
 
 /// Joins each of the others to the entry of its key, and notes what stood there before.

@@ -1,10 +1,30 @@
-//! Changes of entries, taken back.
-ghost use Rattle.std.specs.Prelude.{◌≡◌};
+//! Changes of entries, noted and taken back.
+ghost use Rattle.std.specs.Prelude.{◌≡◌, OnOk};
+ghost use Rattle.std.specs.FinMap as maps;
 ghost use Rattle.nb_table.specs.Code.TakenBack.{put_back as with_before, taken_back};
 
 use crate::entries::Entries;
 use crate::entry::Entry;
 use nb_datagram::Key;
+use nb_names::NoMemory;
+
+/// Puts in the entry of a key, and notes what stood there before. Where memory runs out, nothing
+/// changes.
+pub(super) fn put_noted(
+    entries: &mut Entries,
+    key: Key,
+    entry: Entry,
+    changes: &mut Vec<(Key, Option<Entry>)>,
+) -> Result<(), NoMemory>
+    ensures put { OnOk result (entries.new ≡ maps.insert entries.old key entry) }
+    ensures noted { taken_back entries.new changes.new.items
+        ≡ taken_back entries.old changes.old.items }
+{
+    changes.reserve(1)?;
+    let before = entries.put(key, entry)?;
+    changes.push((key, before)).unwrap();
+    Ok(())
+}
 
 /// Puts back what stood at a key before: no entry, or this one in the place of that which stands
 /// there. No memory is taken.

@@ -1,4 +1,4 @@
-use Rattle.std.proofs.Common.{◌≡◌, ◌<◌, ◌∙◌, None, sym, ap, subst, arith}
+use Rattle.std.proofs.Common.{◌≡◌, ◌∙◌, None, sym, ap, subst, arith}
 use Rattle.std.specs.FinMap as maps
 use Rattle.nb_datagram.specs.Key.{key_cmp}
 use Rattle.nb_table.specs.Contents.{Contents}

@@ -42,3 +42,8 @@ returns-in-Some-clause-err c =
     on_err_weaker c.grow_by.result
     (λ same. put_same key_cmp_total key_cmp_exact c.args.entries.now (c.get_mut.follows.lender c.grow_by.new.self) c.args.key c.in-Some.entry.now c.grow_by.new.self c.in-Some.ensures.value same lent)
     c.grow_by.ensures.err
+
+pub returns-in_ok-insert-in-None-clause-joined : goal.returns-in_ok-insert-in-None-clause-joined
+returns-in_ok-insert-in-None-clause-joined c =
+    let put = rw c.get_mut.follows.holds-at-none at c.in_ok-insert-in-None.ensures.inserted in
+    put ∙ ap (maps.insert c.args.entries.now c.args.key) (rw c.get_mut.follows.holds-at-none at c.in_ok-joined-in-None.ensures.entry)

@@ -1,6 +1,6 @@
 //! A table's entries by key, which carry how many keys each address has. Where that isn't kept, the
 //! keys are looked at: they ascend by address first, so those of one address stand together.
-ghost use Rattle.std.specs.Prelude.{◌≡◌, ◌↔◌, ◌<◌, ◌-◌, IsTrue, None, IfOk, IfSome, OnOk, OnErr};
+ghost use Rattle.std.specs.Prelude.{◌≡◌, ◌↔◌, ◌<◌, ◌-◌, IsTrue, IfOk, IfSome, OnOk, OnErr};
 ghost use Rattle.std.specs.Option.{option_copied, option_copied_mut};
 ghost use Rattle.std.specs.Borrow.{sem};
 ghost use Rattle.std.specs.BTreeMap.Range.{entries_between};
@@ -20,7 +20,6 @@ use nb_names::NoMemory;
 use std::alloc::Global;
 use std::collections::{BTreeMap, btree_map};
 use std::marker::Model;
-use std::mem;
 
 /// Entries by key, and how many keys each address has, where that is kept beside them.
 #[derive(Drop)]
@@ -155,24 +154,6 @@ impl Entries {
         self.map.get_mut(key)
     }
 
-    /// Puts in the entry of a new key. Where memory runs out, the entries stay as they were.
-    pub(crate) fn insert(&mut self, key: Key, entry: Entry) -> Result<(), NoMemory>
-        requires { maps.get self.old key ≡ None }
-        ensures inserted { OnOk result (self.new ≡ maps.insert self.old key entry) }
-        ensures kept { OnErr result (self.new ≡ self.old) }
-    {
-        // For the proof alone: a map's length is below 2^63, and so is each count.
-        let _len = self.map.len();
-        self.map.insert(key, entry)?;
-        match count_more(&mut self.counts, key.ip) {
-            Ok(()) => Ok(()),
-            Err(fault) => {
-                self.map.remove(&key);
-                Err(fault)
-            }
-        }
-    }
-
     /// Puts in the entry of a key, in the place of the one that is held. The one that was held.
     /// Where memory runs out, the entries stay as they were.
     pub(crate) fn put(&mut self, key: Key, entry: Entry) -> Result<Option<Entry>, NoMemory>
@@ -180,13 +161,28 @@ impl Entries {
         ensures put { OnOk result (self.new ≡ maps.insert self.old key entry) }
         ensures kept { OnErr result (self.new ≡ self.old) }
     {
-        match self.get_mut(&key) {
-            Some(held) => Ok(Some(mem::replace(held, entry))),
-            None => {
-                self.insert(key, entry)?;
-                Ok(None)
+        // For the proof alone: a map's length is below 2^63, and so is each count.
+        let _len = self.map.len();
+        let before = self.map.insert(key, entry)?;
+        if before.is_some() {
+            return Ok(before);
+        }
+        match count_more(&mut self.counts, key.ip) {
+            Ok(()) => Ok(None),
+            Err(fault) => {
+                self.map.remove(&key);
+                Err(fault)
             }
         }
+    }
+
+    /// Puts in the entry of a new key. Where memory runs out, the entries stay as they were.
+    pub(crate) fn insert(&mut self, key: Key, entry: Entry) -> Result<(), NoMemory>
+        ensures inserted { OnOk result (self.new ≡ maps.insert self.old key entry) }
+        ensures kept { OnErr result (self.new ≡ self.old) }
+    {
+        self.put(key, entry)?;
+        Ok(())
     }
 
     /// Takes a key's entry out. No memory is taken.

@@ -126,6 +126,27 @@ kept_more None p s k v new adds kept = subst (λ q. AreCounted q (maps.insert s 
 kept_more (Some m) None s k v new adds kept = tt
 kept_more (Some m) (Some n) s k v new adds kept = counted_new m n s k v (ap is_none new) kept adds
 
+counted_held : (m : Counts) (s : Contents) (k : Key) (v : EntryValue) → is_none (maps.get s k) ≡ false → CountsKeys m s → CountsKeys m (maps.insert s k v)
+counted_held m s k v old counted ip = counted ip ∙ sym (held_insert (of_source ip) s k v ∙ ap (λ b. cond (of_source ip k && b) (held_keys (of_source ip) s + 1) (held_keys (of_source ip) s)) old ∙ step (of_source ip k))
+  where
+    step : (b : Bool) → cond (b && false) (held_keys (of_source ip) s + 1) (held_keys (of_source ip) s) ≡ held_keys (of_source ip) s
+    step true = refl
+    step false = refl
+
+has_some : {X : Type 0} (o : Option X) → is_some o ≡ true → is_none o ≡ false
+has_some None h = absurd (true≢false (sym h))
+has_some (Some x) h = refl
+
+-- an entry in the place of another changes no count
+pub kept_held : (o : Option Counts) (s : Contents) (k : Key) (v : EntryValue) → is_some (maps.get s k) ≡ true → AreCounted o s → AreCounted o (maps.insert s k v)
+kept_held None s k v held kept = tt
+kept_held (Some m) s k v held kept = counted_held m s k v (has_some (maps.get s k) held) kept
+
+-- a key that isn't held has no entry
+pub none_at : (o : Option EntryValue) → is_some o ≡ false → o ≡ None
+none_at None h = refl
+none_at (Some x) h = absurd (true≢false h)
+
 pub kept_less : (o p : Option Counts) (s : Contents) (k : Key) → is_some (maps.get s k) ≡ true → Takes o p k.ip → AreCounted o s → AreCounted p (maps.remove s k)
 kept_less None p s k held takes kept = subst (λ q. AreCounted q (maps.remove s k)) (sym takes) tt
 kept_less (Some m) None s k held takes kept = tt

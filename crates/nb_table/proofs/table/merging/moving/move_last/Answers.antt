@@ -1,17 +1,10 @@
-use Rattle.std.proofs.Common.{◌≡◌, ◌∙◌, sym, ap, refl, false, Option, Some, None, is_some}
-use Rattle.std.proofs.lemmas.Bool.{true≢false}
+use Rattle.std.proofs.Common.{◌∙◌, sym, ap}
 use Rattle.std.proofs.lemmas.Result.{on_ok_weaker}
 use Rattle.std.specs.FinMap as maps
 use Rattle.nb_table.specs.Maps.{joined_onto}
 use Rattle.nb_table.specs.Entry.{join_entry}
+use Rattle.nb_table.proofs.Limits.CountLemmas.{none_at}
 use Rattle.nb_table.proofs.table.merging.moving.move_last.Goals as goal
-
-none_at : {X : Type 0} (o : Option X) → is_some o ≡ false → o ≡ None
-none_at None h = refl
-none_at (Some x) h = absurd (true≢false h)
-
-pub insert-requires : goal.insert-requires
-insert-requires c = none_at (maps.get c.args.entries.now c.args.key) (sym c.contains_key.ensures ∙ c.if-contains_key.false)
 
 pub returns-clause-joined : goal.returns-clause-joined
 returns-clause-joined c =

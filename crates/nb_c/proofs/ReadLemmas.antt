@@ -1,9 +1,8 @@
 -- A payload of port 138 and a stream of port 139 have one answer each.
 use Rattle.std.proofs.Common.{◌≡◌, ℕ, List, Result, Ok, Err, refl}
 use Rattle.nb_datagram.specs.declared.fault.DatagramFault.{DatagramFault}
-use Rattle.nb_datagram.specs.declared.packet.Packet.{Packet}
 use Rattle.nb_datagram.specs.DatagramFaults.{PacketFails}
-use Rattle.nb_datagram.specs.Packet.{IsPacket}
+use Rattle.nb_datagram.specs.Packet.{Packet, IsPacket}
 use Rattle.nb_session.specs.declared.parsing.Parsed.{Parsed}
 use Rattle.nb_session.specs.Parsing.{Parses}
 use Rattle.nb_c.specs.declared.datagrams.NbtDatagram.{NbtDatagram}

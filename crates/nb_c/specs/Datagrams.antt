@@ -6,14 +6,12 @@ use Rattle.nb_datagram.specs.declared.fault.DatagramFault.{DatagramFault}
 use Rattle.nb_datagram.specs.declared.key.Key.{Key}
 use Rattle.nb_datagram.specs.declared.limits.TheConstants.{HEADER_LENGTH, DIRECT_HEADER_LENGTH}
 use Rattle.nb_datagram.specs.declared.packet.ErrorPacket.{ErrorPacket}
-use Rattle.nb_datagram.specs.declared.packet.QueryPacket.{QueryPacket}
-use Rattle.nb_datagram.specs.declared.packet.Packet.{Packet}
 use Rattle.nb_datagram.specs.declared.packet.Packet.TheVariants.{Direct, Error, Query}
 use Rattle.nb_datagram.specs.DatagramFaults.{PacketFails}
 use Rattle.nb_datagram.specs.Fragment.{FragmentParts}
 use Rattle.nb_datagram.specs.Header.{error_type, query_type}
 use Rattle.nb_datagram.specs.Kind.{type_of}
-use Rattle.nb_datagram.specs.Packet.{IsPacket, name_bytes}
+use Rattle.nb_datagram.specs.Packet.{Packet, QueryPacket, IsPacket, name_bytes}
 use Rattle.nb_c.specs.declared.datagrams.NbtDatagram.{NbtDatagram}
 use Rattle.nb_c.specs.declared.refusal.Refusal.{Refusal}
 use Rattle.nb_c.specs.Statuses.{datagram_refusal}

@@ -14,9 +14,8 @@ ghost use Rattle.nb_datagram.specs.declared.fault.DatagramFault.TheVariants.{Sou
 ghost use Rattle.nb_datagram.specs.declared.key.Key.{Key};
 ghost use Rattle.nb_datagram.specs.declared.packet.Packet.TheVariants.{Direct, Error, Query};
 ghost use Rattle.nb_datagram.specs.declared.packet.ErrorPacket.{ErrorPacket};
-ghost use Rattle.nb_datagram.specs.declared.packet.QueryPacket.{QueryPacket};
 ghost use Rattle.nb_datagram.specs.Fragment.{FragmentParts};
-ghost use Rattle.nb_datagram.specs.Packet.{IsPacket, name_bytes};
+ghost use Rattle.nb_datagram.specs.Packet.{QueryPacket, IsPacket, name_bytes};
 ghost use Rattle.nb_datagram.specs.Datagram.{DatagramParts};
 ghost use Rattle.nb_datagram.specs.Header.{IsKey};
 ghost use Rattle.nb_datagram.specs.Pieces.{piece};

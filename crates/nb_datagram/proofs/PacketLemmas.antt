@@ -14,16 +14,13 @@ use Rattle.nb_datagram.specs.DatagramFaults.{PacketFails}
 use Rattle.nb_datagram.specs.declared.key.Key.{Key}
 use Rattle.nb_datagram.specs.declared.kind.Kind.{Kind}
 use Rattle.nb_datagram.specs.declared.kind.Kind.TheVariants.{Unique, Group, Broadcast}
-use Rattle.nb_datagram.specs.declared.packet.Packet.{Packet}
 use Rattle.nb_datagram.specs.declared.packet.Packet.TheVariants.{Direct, Error, Query}
 use Rattle.nb_datagram.specs.declared.packet.QueryKind.{QueryKind}
 use Rattle.nb_datagram.specs.declared.packet.QueryKind.TheVariants.{Request, Positive, Negative}
 use Rattle.nb_datagram.specs.Fragment.{FragmentParts, named_length}
 use Rattle.nb_datagram.specs.Kind.{type_of, kind_of, kind_back}
 use Rattle.nb_datagram.specs.Header.{header_bytes, IsKey, error_type, query_type}
-use Rattle.nb_datagram.specs.LentPacket.{packet_of}
-use Rattle.nb_datagram.specs.declared.lent_packet.LentPacket.{LentPacket}
-use Rattle.nb_datagram.specs.Packet.{name_bytes, direct_bytes, packet_bytes, FitsDirect, Fits, IsPacket}
+use Rattle.nb_datagram.specs.Packet.{Packet, name_bytes, direct_bytes, packet_bytes, FitsDirect, Fits, IsPacket}
 use Rattle.nb_datagram.proofs.ReadingLemmas.{header_long}
 
 -- what the laws of nb_names say of names whose pointers are refused
@@ -187,10 +184,10 @@ pub packet_within : (bytes : List ℕ) (v : Packet) (n : ℕ) → IsPacket bytes
 packet_within bytes v n a = omega (arith, a.counted, ap length a.whole, length-append (packet_bytes v) a.rest)
 
 -- what a reading answers is the packet that stands there
-pub only_one : (bytes : List ℕ) (result : Result (LentPacket × ℕ) DatagramFault) (packet : Packet) (used : ℕ)
+pub only_one : (bytes : List ℕ) (result : Result (Packet × ℕ) DatagramFault) (packet : Packet) (used : ℕ)
     → ((b : List ℕ) (v w : Packet) (m n : ℕ) → IsPacket b v m → IsPacket b w n → (v ≡ w) × (m ≡ n))
     → ((b : List ℕ) (f : DatagramFault) (v : Packet) (n : ℕ) → PacketFails b f → IsPacket b v n → ⊥)
-    → IfOk result (λ read. IsPacket bytes (packet_of read.0) read.1) → IfErr result (PacketFails bytes) → IsPacket bytes packet used
-    → IsOkAnd result (λ read. (packet_of read.0 ≡ packet) × (read.1 ≡ used))
-only_one bytes (Ok read) packet used one alone found fails h = one bytes (packet_of read.0) packet read.1 used found h
+    → IfOk result (λ read. IsPacket bytes read.0 read.1) → IfErr result (PacketFails bytes) → IsPacket bytes packet used
+    → IsOkAnd result (λ read. (read.0 ≡ packet) × (read.1 ≡ used))
+only_one bytes (Ok read) packet used one alone found fails h = one bytes read.0 packet read.1 used found h
 only_one bytes (Err fault) packet used one alone found fails h = absurd (alone bytes fault packet used fails h)

@@ -20,10 +20,9 @@ use Rattle.nb_datagram.specs.declared.header.Header.{Header}
 use Rattle.nb_datagram.specs.declared.key.Key.{Key}
 use Rattle.nb_datagram.specs.declared.kind.Kind.{Kind}
 use Rattle.nb_datagram.specs.declared.kind.Kind.TheVariants.{Unique, Group, Broadcast}
-use Rattle.nb_datagram.specs.declared.packet.Packet.{Packet}
 use Rattle.nb_datagram.specs.declared.packet.QueryKind.TheVariants.{Request, Positive, Negative}
 use Rattle.nb_datagram.specs.Header.{header_bytes}
-use Rattle.nb_datagram.specs.Packet.{IsPacket}
+use Rattle.nb_datagram.specs.Packet.{Packet, IsPacket}
 use Rattle.nb_datagram.specs.DatagramFaults.{HasType, in_source, in_destination, no_fields, no_data, in_names, PacketFails, no_header, no_type, no_code}
 use Rattle.nb_datagram.specs.Code.Reading.{number_of, HasHeader}
 use Rattle.nb_datagram.proofs.StandsLemmas.{stands_first, stands_one, stands_then, spelled_at}

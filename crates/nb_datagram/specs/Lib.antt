@@ -1,7 +1,6 @@
 pub mod Key
 pub mod KeyOrder
 pub mod Kind
-pub mod LentPacket
 pub mod Fragment
 pub mod Datagram
 pub mod Equality

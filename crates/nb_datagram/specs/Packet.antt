@@ -8,11 +8,20 @@ use Rattle.std.specs.Int.{w16, to_be_bytes}
 use Rattle.nb_names.specs.DomainName.{spelling}
 use Rattle.nb_names.specs.Name.{NetbiosName, IsName, labels_of_name}
 use Rattle.nb_datagram.specs.declared.limits.TheConstants.{MAX_LENGTH}
-use Rattle.nb_datagram.specs.declared.packet.Packet.{Packet}
+use Rattle.nb_datagram.specs.declared.packet.Packet.{Packet as PacketOf}
 use Rattle.nb_datagram.specs.declared.packet.Packet.TheVariants.{Direct, Error, Query}
+use Rattle.nb_datagram.specs.declared.packet.QueryPacket.{QueryPacket as QueryPacketOf}
 use Rattle.nb_datagram.specs.Kind.{type_of}
 use Rattle.nb_datagram.specs.Fragment.{FragmentParts, named_length}
 use Rattle.nb_datagram.specs.Header.{header_bytes, IsKey, error_type, query_type}
+
+-- a packet, whatever the form of its names
+abbrev pub Packet : Type 0
+Packet = PacketOf NetbiosName
+
+-- a query packet, whatever the form of its name
+abbrev pub QueryPacket : Type 0
+QueryPacket = QueryPacketOf NetbiosName
 
 -- the bytes of a name: its letters and its scope's labels, each after its length, then a zero
 abbrev pub name_bytes : NetbiosName → List ℕ

@@ -6,9 +6,10 @@ ghost use Rattle.nb_datagram.specs.declared.limits.TheConstants.{MAX_LENGTH};
 
 use crate::cut_fault::CutFault;
 use crate::datagram::Datagram;
-use crate::fragment::{Fragment, spelled_len};
+use crate::fragment::Fragment;
 use crate::limits::{FIRST, MAX_LENGTH, MORE};
 use crate::lists::Pieces;
+use nb_names::NameForm;
 use std::alloc::Global;
 
 /// How many pieces of `most` bytes so many bytes have: at least one.
@@ -70,7 +71,7 @@ pub fn cut(alloc: Global, datagram: &Datagram, most: u16) -> Result<Pieces<'_>, 
     }
     let most = most as usize;
     let size = datagram.bytes().len();
-    let names = spelled_len(datagram.source()) + spelled_len(datagram.destination());
+    let names = datagram.source().spelled_len() + datagram.destination().spelled_len();
     if names + size.min(most) > MAX_LENGTH {
         return Err(CutFault::TooLong);
     }

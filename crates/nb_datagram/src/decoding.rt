@@ -1,20 +1,18 @@
 //! Packets, decoded.
 ghost use Rattle.std.specs.Prelude.{◌≡◌, ◌≤◌, ℕ, length, IfOk, IfErr, IsOkAnd};
-ghost use Rattle.nb_datagram.specs.declared.packet.Packet.{Packet};
+ghost use Rattle.nb_names.specs.Name.{NetbiosName};
 ghost use Rattle.nb_datagram.specs.DatagramFaults.{DirectFails, PacketFails};
-ghost use Rattle.nb_datagram.specs.LentPacket.{packet_of};
 ghost use Rattle.nb_datagram.specs.Packet.{IsPacket};
 ghost use Rattle.nb_datagram.specs.Code.Reading.{HasHeader};
 
 use crate::fault::DatagramFault;
 use crate::form::Form;
+use crate::fragment::LentFragment;
 use crate::header::{Header, read_header};
 use crate::kind::Kind;
 use crate::laws::{one_datagram_fault, one_packet};
-use crate::lent_fragment::LentFragment;
-use crate::lent_packet::{LentPacket, LentQuery};
 use crate::limits::{DIRECT_HEADER_LENGTH, ERROR_LENGTH, HEADER_LENGTH};
-use crate::packet::{ErrorPacket, Packet, QueryKind};
+use crate::packet::{ErrorPacket, LentPacket, LentQuery, Packet, QueryKind};
 use nb_names::numbers::number_16;
 use nb_names::read_lent_name;
 
@@ -26,7 +24,7 @@ fn read_direct<'a>(
 ) -> Result<(LentPacket<'a>, usize), DatagramFault>
     requires header { HasHeader bytes.now header.now }
     requires form { header.now.form ≡ Form.Direct kind }
-    ensures found { IfOk result (λ read. IsPacket bytes.now (packet_of read.0) read.1) }
+    ensures found { IfOk result (λ read. IsPacket bytes.now read.0 read.1) }
     ensures fault { IfErr result (DirectFails bytes.now) }
 {
     if bytes.len() < DIRECT_HEADER_LENGTH {
@@ -64,7 +62,7 @@ fn read_error<'a>(
 ) -> Result<(LentPacket<'a>, usize), DatagramFault>
     requires header { HasHeader bytes.now header.now }
     requires form { header.now.form ≡ Form.Error }
-    ensures found { IfOk result (λ read. IsPacket bytes.now (packet_of read.0) read.1) }
+    ensures found { IfOk result (λ read. IsPacket bytes.now read.0 read.1) }
     ensures fault { IfErr result (PacketFails bytes.now) }
 {
     if bytes.len() < ERROR_LENGTH {
@@ -86,7 +84,7 @@ fn read_query<'a>(
 ) -> Result<(LentPacket<'a>, usize), DatagramFault>
     requires header { HasHeader bytes.now header.now }
     requires form { header.now.form ≡ Form.Query kind }
-    ensures found { IfOk result (λ read. IsPacket bytes.now (packet_of read.0) read.1) }
+    ensures found { IfOk result (λ read. IsPacket bytes.now read.0 read.1) }
     ensures fault { IfErr result (PacketFails bytes.now) }
 {
     match read_lent_name(bytes, HEADER_LENGTH) {
@@ -113,9 +111,9 @@ fn read_query<'a>(
 /// RFC 1002 sections 4.4.1 to 4.4.4.
 pub fn decode_lent<'a>(bytes: &'a [u8]) -> Result<(LentPacket<'a>, usize), DatagramFault>
     // What is answered stands there, and what stands there is answered, whatever follows.
-    ensures found { IfOk result (λ read. IsPacket bytes.now (packet_of read.0) read.1) }
-    ensures only { (packet : Packet) (used : ℕ) → IsPacket bytes.now packet used →
-        IsOkAnd result (λ read. (packet_of read.0 ≡ packet) × (read.1 ≡ used)) }
+    ensures found { IfOk result (λ read. IsPacket bytes.now read.0 read.1) }
+    ensures only { (packet : Packet NetbiosName) (used : ℕ) → IsPacket bytes.now packet used →
+        IsOkAnd result (λ read. (read.0 ≡ packet) × (read.1 ≡ used)) }
     ensures within { IfOk result (λ read. read.1 ≤ length bytes.now) }
 
     // Which fault it is, and where.
@@ -149,7 +147,7 @@ pub fn decode_lent<'a>(bytes: &'a [u8]) -> Result<(LentPacket<'a>, usize), Datag
 pub fn decode<'a>(bytes: &'a [u8]) -> Result<(Packet<'a>, usize), DatagramFault>
     // What is answered stands there, and what stands there is answered, whatever follows.
     ensures found { IfOk result (λ read. IsPacket bytes.now read.0 read.1) }
-    ensures only { (packet : Packet) (used : ℕ) → IsPacket bytes.now packet used →
+    ensures only { (packet : Packet NetbiosName) (used : ℕ) → IsPacket bytes.now packet used →
         IsOkAnd result (λ read. (read.0 ≡ packet) × (read.1 ≡ used)) }
     ensures within { IfOk result (λ read. read.1 ≤ length bytes.now) }
 

@@ -1,8 +1,5 @@
 //! Fragments of datagrams, which borrow their data.
 ghost use Rattle.std.specs.Prelude.{◌≡◌, ◌≤◌, ◌<◌, ◌+◌, length, MatchResult};
-ghost use Rattle.nb_names.specs.DomainName.{spelling};
-ghost use Rattle.nb_names.specs.Name.{labels_of_name};
-ghost use Rattle.nb_names.specs.declared.limits.TheConstants.{MAX_SPELLING};
 ghost use Rattle.nb_datagram.specs.Fragment.{named_length, has_more, is_first};
 ghost use Rattle.nb_datagram.specs.declared.limits.TheConstants.{MAX_LENGTH};
 
@@ -10,25 +7,30 @@ use crate::key::Key;
 use crate::kind::Kind;
 use crate::limits::{FIRST, MAX_LENGTH, MORE};
 use crate::too_long::TooLong;
-use nb_names::Name;
+use nb_names::{LentName, Name, NameForm};
 use std::marker::Model;
 
 /// A part of a datagram's data, as one packet carries it, and what says which datagram it is of.
+/// Its names stand in the form `N`.
 ///
 /// The data is lent. Both names, spelled plainly, and the data have at most 65,535 bytes together.
 /// RFC 1002 section 4.4.2; that each fragment carries both names is our choice.
 #[derive(Drop)]
-pub struct Fragment<'a> {
+pub struct Fragment<'a, N: NameForm = Name> {
     kind: Kind,
     flags: u8,
     key: Key,
     offset: u16,
-    source: Name,
-    destination: Name,
+    source: N,
+    destination: N,
     bytes: &'a [u8],
 }
 
-impl<'a> Model for Fragment<'a> {
+/// A fragment whose names are lent too. It takes a few words, where one whose names stand in place
+/// has room for both scopes.
+pub type LentFragment<'a> = Fragment<'a, LentName<'a>>;
+
+impl<'a, N: NameForm> Model for Fragment<'a, N> {
     ghost use Rattle.std.specs.Prelude.{◌≤◌};
     ghost use Rattle.nb_datagram.specs.Fragment.{FragmentParts, named_length};
     ghost use Rattle.nb_datagram.specs.declared.limits.TheConstants.{MAX_LENGTH};
@@ -40,23 +42,16 @@ impl<'a> Model for Fragment<'a> {
       flags = f.flags;
       key = f.key;
       offset = f.offset;
-      source = f.source;
-      destination = f.destination;
+      source = N.name f.source;
+      destination = N.name f.destination;
       bytes = f.bytes.now;
     } };
 
-    ghost invariant = { λ f. named_length f.source f.destination f.bytes.now ≤ MAX_LENGTH };
+    ghost invariant = { λ f. named_length (N.name f.source) (N.name f.destination) f.bytes.now
+        ≤ MAX_LENGTH };
 }
 
-/// How many bytes the plain spelling of a name has, its zero byte included.
-pub(crate) fn spelled_len(name: &Name) -> usize
-    ensures value { result ≡ length (spelling (labels_of_name name.now)) }
-    ensures short { result ≤ MAX_SPELLING }
-{
-    name.to_domain().spelled_len()
-}
-
-impl<'a> Fragment<'a> {
+impl<'a, N: NameForm> Fragment<'a, N> {
     /// A fragment of these parts. `flags` is the packet's FLAGS, of which any bits may be set, and
     /// `offset` the place of the first byte of `bytes` in the datagram's data.
     ///
@@ -68,26 +63,28 @@ impl<'a> Fragment<'a> {
         flags: u8,
         key: Key,
         offset: u16,
-        source: Name,
-        destination: Name,
+        source: N,
+        destination: N,
         bytes: &'a [u8],
-    ) -> Result<Fragment<'a>, TooLong>
+    ) -> Result<Fragment<'a, N>, TooLong>
         ensures { MatchResult result
             (λ fragment. (fragment ≡ record {
               kind = kind;
               flags = flags;
               key = key;
               offset = offset;
-              source = source;
-              destination = destination;
+              source = N.name source;
+              destination = N.name destination;
               bytes = bytes.entry.now;
-            }) × (named_length source destination bytes.entry.now ≤ MAX_LENGTH))
-            (λ _. MAX_LENGTH < named_length source destination bytes.entry.now) }
+            }) × (named_length (N.name source) (N.name destination) bytes.entry.now
+            ≤ MAX_LENGTH))
+            (λ _. MAX_LENGTH
+            < named_length (N.name source) (N.name destination) bytes.entry.now) }
     {
         if bytes.len() > MAX_LENGTH {
             return Err(TooLong);
         }
-        if spelled_len(&source) + spelled_len(&destination) + bytes.len() > MAX_LENGTH {
+        if source.spelled_len() + destination.spelled_len() + bytes.len() > MAX_LENGTH {
             return Err(TooLong);
         }
         Ok(Fragment {
@@ -107,18 +104,18 @@ impl<'a> Fragment<'a> {
         flags: u8,
         key: Key,
         offset: u16,
-        source: Name,
-        destination: Name,
+        source: N,
+        destination: N,
         bytes: &'a [u8],
-    ) -> Fragment<'a>
-        requires { named_length source destination bytes.now ≤ MAX_LENGTH }
+    ) -> Fragment<'a, N>
+        requires { named_length (N.name source) (N.name destination) bytes.now ≤ MAX_LENGTH }
         ensures { result ≡ record {
           kind = kind;
           flags = flags;
           key = key;
           offset = offset;
-          source = source;
-          destination = destination;
+          source = N.name source;
+          destination = N.name destination;
           bytes = bytes.entry.now;
         } }
     {
@@ -162,15 +159,15 @@ impl<'a> Fragment<'a> {
     }
 
     /// The sender's name.
-    pub fn source(&self) -> &Name
-        ensures { result.now ≡ self.now.source }
+    pub fn source(&self) -> &N
+        ensures { N.name result.now ≡ self.now.source }
     {
         &self.source
     }
 
     /// The name that the datagram is for.
-    pub fn destination(&self) -> &Name
-        ensures { result.now ≡ self.now.destination }
+    pub fn destination(&self) -> &N
+        ensures { N.name result.now ≡ self.now.destination }
     {
         &self.destination
     }
@@ -188,7 +185,7 @@ impl<'a> Fragment<'a> {
     pub(crate) fn named_length(&self) -> u16
         ensures { result ≡ named_length self.now.source self.now.destination self.now.bytes }
     {
-        let names = spelled_len(&self.source) + spelled_len(&self.destination);
+        let names = self.source.spelled_len() + self.destination.spelled_len();
         (names + self.bytes.len()) as u16
     }
 
@@ -212,9 +209,39 @@ impl<'a> Fragment<'a> {
     {
         u32::from(self.offset) + self.bytes.len() as u32
     }
+
+    /// The same fragment, with its names in place. No memory is taken.
+    pub fn to_fragment(&self) -> Fragment<'a>
+        ensures { result ≡ self.now }
+    {
+        Fragment::with_parts(
+            self.kind,
+            self.flags,
+            self.key,
+            self.offset,
+            self.source.lent().to_name(),
+            self.destination.lent().to_name(),
+            self.bytes,
+        )
+    }
+
+    /// The same fragment, with its names lent. No memory is taken.
+    pub fn lent(&self) -> LentFragment<'_>
+        ensures { result ≡ self.now }
+    {
+        Fragment::with_parts(
+            self.kind,
+            self.flags,
+            self.key,
+            self.offset,
+            self.source.lent(),
+            self.destination.lent(),
+            self.bytes,
+        )
+    }
 }
 
-impl PartialEq for Fragment<'_> {
+impl<N: NameForm> PartialEq for Fragment<'_, N> {
     ghost use Rattle.std.specs.Prelude.{◌≡◌};
     ghost use Rattle.std.specs.Cmp.{decided, partial_equiv_from_equiv};
     ghost use Rattle.nb_datagram.specs.Equality.{fragment_eq};
@@ -231,13 +258,13 @@ impl PartialEq for Fragment<'_> {
             && self.flags == other.flags
             && self.key == other.key
             && self.offset == other.offset
-            && self.source == other.source
-            && self.destination == other.destination
+            && self.source.is_same(&other.source)
+            && self.destination.is_same(&other.destination)
             && self.bytes == other.bytes
     }
 }
 
-impl Eq for Fragment<'_> {
+impl<N: NameForm> Eq for Fragment<'_, N> {
     ghost use Rattle.std.specs.Cmp.{decided};
     ghost use Rattle.nb_datagram.specs.Equality.{fragment_eq};
     ghost use Rattle.nb_datagram.specs.EqualityFacts.{fragment_eq_decides};

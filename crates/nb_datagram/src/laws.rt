@@ -12,13 +12,12 @@ ghost use Rattle.nb_datagram.specs.declared.packet.QueryKind.TheVariants.{Reques
 ghost use Rattle.nb_datagram.specs.Header.{error_type, query_type};
 ghost use Rattle.nb_datagram.specs.Kind.{type_of};
 ghost use Rattle.nb_datagram.specs.declared.key.Key.{Key};
-ghost use Rattle.nb_datagram.specs.declared.packet.Packet.{Packet};
 ghost use Rattle.nb_datagram.specs.DatagramFaults.{PacketFails};
 ghost use Rattle.nb_datagram.specs.Datagram.{DatagramParts};
 ghost use Rattle.nb_datagram.specs.Equality.{fragment_eq, datagram_eq};
 ghost use Rattle.nb_datagram.specs.Fragment.{FragmentParts, Core, Covers, cores_of};
 ghost use Rattle.nb_datagram.specs.Key.{key_cmp, same_key};
-ghost use Rattle.nb_datagram.specs.Packet.{IsPacket};
+ghost use Rattle.nb_datagram.specs.Packet.{Packet, IsPacket};
 ghost use Rattle.nb_datagram.specs.Pieces.{IsPart, pieces};
 
 use nb_names::laws::{

@@ -8,10 +8,9 @@ use Rattle.std.specs.Prelude.{ℕ, ◌≡◌, ◌==◌, ◌<◌, List, [], ◌�
 use Rattle.nb_names.specs.DomainName.{AreBytes}
 use Rattle.nb_datagram.specs.declared.fault.DatagramFault.{DatagramFault}
 use Rattle.nb_datagram.specs.declared.packet.ErrorPacket.{ErrorPacket}
-use Rattle.nb_datagram.specs.declared.packet.QueryPacket.{QueryPacket}
 use Rattle.nb_datagram.specs.declared.packet.Packet.TheVariants.{Direct, Error, Query}
 use Rattle.nb_datagram.specs.Fragment.{FragmentParts, core_of, reach, is_first}
-use Rattle.nb_datagram.specs.Packet.{IsPacket}
+use Rattle.nb_datagram.specs.Packet.{QueryPacket, IsPacket}
 use Rattle.nb_datagram.specs.DatagramFaults.{PacketFails}
 use Rattle.nb_table.specs.declared.fault.TableFault.TheVariants.{MisplacedFirst, TooLong}
 use Rattle.nb_table.specs.Limits.{Limits}

@@ -6,17 +6,15 @@ use Rattle.nb_names.specs.Name.{NetbiosName}
 use Rattle.nb_datagram.specs.declared.key.Key.{Key}
 use Rattle.nb_datagram.specs.declared.fault.DatagramFault.{DatagramFault}
 use Rattle.nb_datagram.specs.declared.packet.ErrorPacket.{ErrorPacket}
-use Rattle.nb_datagram.specs.declared.packet.QueryPacket.{QueryPacket}
 use Rattle.nb_datagram.specs.declared.packet.Packet.TheVariants.{Direct, Error, Query}
 use Rattle.nb_datagram.specs.Datagram.{DatagramParts}
 use Rattle.nb_datagram.specs.Fragment.{FragmentParts}
 use Rattle.nb_datagram.specs.DatagramFaults.{PacketFails}
-use Rattle.nb_datagram.specs.Packet.{IsPacket}
-use Rattle.nb_table.specs.declared.change.Change.{Change}
+use Rattle.nb_datagram.specs.Packet.{QueryPacket, IsPacket}
 use Rattle.nb_table.specs.declared.change.Change.TheVariants as change
 use Rattle.nb_table.specs.declared.fault.TableFault.{TableFault}
 use Rattle.nb_table.specs.declared.fault.TableFault.TheVariants.{Full, FullSource}
-use Rattle.nb_table.specs.Change.{IsChange}
+use Rattle.nb_table.specs.Change.{Change, IsChange}
 use Rattle.nb_table.specs.Insert.{Takes as TableTakes, Refuses}
 use Rattle.nb_table.specs.Maps.{first_of}
 use Rattle.nb_table.specs.Contents.{Contents}

@@ -1,7 +1,6 @@
 //! Members.
 ghost use Rattle.std.specs.Prelude.{◌≡◌, ◌+◌, Ok, Err, OnOk, IfErr, MatchOption};
 ghost use Rattle.std.specs.FinMap as maps;
-ghost use Rattle.nb_table.specs.Code.Change.{change_of};
 ghost use Rattle.nb_member.specs.Events.{limits_of};
 ghost use Rattle.nb_member.specs.Member.{contents, new_member, with_timed, after_clock};
 ghost use Rattle.nb_member.specs.Taking.{Takes, TakesFragment, handed, outcome_of};
@@ -194,7 +193,7 @@ fn limit_of(refusal: Option<TableFault>) -> Option<RunStop>
 
 /// What is answered where this changed at the key.
 fn outcome_of(settings: &Settings, names: &LocalNames, key: Key, change: KeptChange) -> Outcome
-    ensures { result ≡ outcome_of settings.now names.now key (change_of change) }
+    ensures { result ≡ outcome_of settings.now names.now key change }
 {
     match change {
         KeptChange::Spoilt => Outcome::Spoilt(key),

@@ -1,9 +1,8 @@
 //! A table whose keys have the moments at which they came.
 ghost use Rattle.std.specs.Prelude.{◌≡◌, false, IfOk, IfErr, OnOk, OnErr};
 ghost use Rattle.std.specs.FinMap as maps;
-ghost use Rattle.nb_table.specs.Change.{IsChange};
-ghost use Rattle.nb_table.specs.Code.Change.{change_of, told_by};
-ghost use Rattle.nb_table.specs.declared.change.Change.{Change};
+ghost use Rattle.nb_table.specs.Change.{Change, IsChange};
+ghost use Rattle.nb_table.specs.Code.Change.{told_by};
 ghost use Rattle.nb_table.specs.Insert.{Takes as TableTakes, Refuses};
 ghost use Rattle.nb_member.specs.Member.{begun, after_fragment, after_clock};
 
@@ -76,7 +75,7 @@ impl TimedTable {
         ensures joined { OnOk result (self.new ≡ after_fragment self.old moment fragment.now) }
         ensures change { IfOk result (λ told. (change : Change) ×
             IsChange self.old.table.contents self.new.table.contents fragment.now.key change ×
-            (change_of told ≡ told_by handing change)) }
+            (told ≡ told_by handing change)) }
         ensures refused { IfErr result (Refuses self.old.table fragment.now) }
         ensures kept { OnErr result (self.new ≡ self.old) }
     {

@@ -6,6 +6,7 @@ ghost use Rattle.nb_names.specs.Name.{IsByteName};
 use crate::bytes::NoMemory;
 use crate::lent_name::LentName;
 use crate::limits::NAME_LENGTH;
+use crate::name_form::NameForm;
 use std::alloc::Global;
 use std::marker::Model;
 
@@ -68,9 +69,21 @@ impl KeptName {
         ensures value { result ≡ self.now }
         ensures name { IsByteName result }
     {
+        NameForm::lent(self)
+    }
+}
+
+impl NameForm for KeptName {
+    ghost name = { λ n. n };
+
+    fn bytes(&self) -> &[u8; NAME_LENGTH] {
+        &self.bytes
+    }
+
+    fn scope_spelling(&self) -> &[u8] {
         if self.scope.is_empty() {
-            return LentName::new(self.bytes, NO_LABEL);
+            return NO_LABEL;
         }
-        LentName::new(self.bytes, self.scope.as_slice())
+        self.scope.as_slice()
     }
 }

@@ -17,6 +17,7 @@ use crate::fault::NameFault;
 use crate::first_level::bytes_of;
 use crate::limits::{LETTERS, NAME_LENGTH};
 use crate::name::{Name, NotNetbios};
+use crate::name_form::NameForm;
 use crate::pointers::Pointers;
 use crate::scope::Scope;
 use crate::skipping::skip_along;
@@ -82,7 +83,7 @@ impl<'a> LentName<'a> {
     pub fn is(&self, other: &LentName<'_>) -> bool
         ensures { result ≡ name_eq self.now other.now }
     {
-        self.bytes == other.bytes && self.scope == other.scope
+        self.is_same(other)
     }
 
     /// The name, with its scope in place. No memory is taken.
@@ -108,7 +109,7 @@ impl<'a> LentName<'a> {
         ensures value { result ≡ length (spelling (labels_of_name self.now)) }
         ensures short { result ≤ 255 }
     {
-        1 + LETTERS + self.scope.len()
+        NameForm::spelled_len(self)
     }
 
     /// The name whose labels are spelled so.
@@ -133,12 +134,24 @@ impl<'a> LentName<'a> {
     }
 }
 
+impl<'a> NameForm for LentName<'a> {
+    ghost name = { λ n. n };
+
+    fn bytes(&self) -> &[u8; NAME_LENGTH] {
+        &self.bytes
+    }
+
+    fn scope_spelling(&self) -> &[u8] {
+        self.scope
+    }
+}
+
 impl Name {
     /// The same name, with its scope lent. No memory is taken.
     pub fn lent(&self) -> LentName<'_>
         ensures { result ≡ self.now }
     {
-        LentName::new(*self.bytes(), self.scope().as_domain().spelling())
+        NameForm::lent(self)
     }
 }
 

@@ -9,6 +9,7 @@ ghost use Rattle.nb_names.specs.Name.{NetbiosName, IsName, IsByteName, IsNoName,
 use crate::domain_name::DomainName;
 use crate::first_level::{bytes_of, letters_of};
 use crate::limits::{LETTERS, NAME_LENGTH};
+use crate::name_form::NameForm;
 use crate::scope::Scope;
 use crate::spellings::each_is_a_byte;
 use std::cmp::Ordering;
@@ -125,6 +126,18 @@ impl Name {
             }
             Err(place) => Err(NotNetbios { place: 1 + place }),
         }
+    }
+}
+
+impl NameForm for Name {
+    ghost name = { λ n. n };
+
+    fn bytes(&self) -> &[u8; NAME_LENGTH] {
+        &self.bytes
+    }
+
+    fn scope_spelling(&self) -> &[u8] {
+        self.scope.as_domain().spelling()
     }
 }
 

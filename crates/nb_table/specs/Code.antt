@@ -4,6 +4,7 @@ pub mod Change
 pub mod State
 pub mod Fitting
 pub mod SourceCounts
+pub mod Lending
 pub mod Parties
 pub mod CoverFacts
 pub mod Plain

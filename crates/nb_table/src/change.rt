@@ -1,35 +1,24 @@
 //! What an insert changed.
 ghost use Rattle.std.specs.Prelude.{◌≡◌};
-ghost use Rattle.nb_table.specs.Code.Change.{change_of};
 
-use nb_datagram::{Datagram, KeptDatagram};
+use nb_datagram::DatagramOf;
+use nb_names::{KeptName, Name, NameForm};
 
-/// What a fragment changed at its key.
+/// What a fragment changed at its key. The names of a datagram stand in the form `N`.
 #[derive(Drop)]
-pub enum Change {
+pub enum Change<N: NameForm = Name> {
     /// The key became spoilt: the fragment contradicts what was known.
     Spoilt,
     /// The key became whole; this is its datagram.
-    Whole(Datagram),
+    Whole(DatagramOf<N>),
     /// Nothing: all that the fragment says was known, or the key was spoilt before.
     Same,
     /// More is known; the key may have been whole before, and a promise is new.
     Grown,
 }
 
-/// A change, as [`Change`] has it, whose datagram keeps its names, so that handing it on moves few
-/// words.
-#[derive(Drop)]
-pub enum KeptChange {
-    /// The key became spoilt: the fragment contradicts what was known.
-    Spoilt,
-    /// The key became whole; this is its datagram.
-    Whole(KeptDatagram),
-    /// Nothing: all that the fragment says was known, or the key was spoilt before.
-    Same,
-    /// More is known; the key may have been whole before, and a promise is new.
-    Grown,
-}
+/// A change whose datagram keeps its names, so that handing it on moves few words.
+pub type KeptChange = Change<KeptName>;
 
 /// What an insert does with the datagram of a key that becomes whole.
 #[derive(Clone, Copy, Debug, PartialEq, Eq)]
@@ -43,13 +32,13 @@ pub enum Handing {
 impl KeptChange {
     /// The change, with the datagram's names in place. No memory is taken.
     pub fn into_change(self) -> Change
-        ensures { result ≡ change_of self }
+        ensures { result ≡ self }
     {
         match self {
-            KeptChange::Spoilt => Change::Spoilt,
-            KeptChange::Whole(datagram) => Change::Whole(datagram.into_datagram()),
-            KeptChange::Same => Change::Same,
-            KeptChange::Grown => Change::Grown,
+            Change::Spoilt => Change::Spoilt,
+            Change::Whole(datagram) => Change::Whole(datagram.into_datagram()),
+            Change::Same => Change::Same,
+            Change::Grown => Change::Grown,
         }
     }
 }

@@ -3,6 +3,7 @@
 
 mod change;
 mod cover;
+mod entries;
 mod entry;
 mod fault;
 mod inserting;
@@ -14,7 +15,6 @@ mod outline;
 mod parties;
 pub mod plain;
 mod ranges;
-mod removing;
 mod saved;
 mod slot;
 mod sources;

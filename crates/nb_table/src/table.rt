@@ -1,10 +1,10 @@
 //! The reassembly table.
 ghost use Rattle.std.specs.Prelude.{◌≡◌, ◌↔◌, IsTrue, IsOk, IfOk, IfErr, OnOk, OnErr};
 ghost use Rattle.std.specs.FinMap as maps;
+ghost use Rattle.nb_names.specs.Name.{NetbiosName};
 ghost use Rattle.nb_table.specs.Limits.{KeepsLimits};
 ghost use Rattle.nb_table.specs.Change.{IsChange};
-ghost use Rattle.nb_table.specs.Code.Change.{change_of, told_by};
-ghost use Rattle.nb_table.specs.declared.change.Change.{Change};
+ghost use Rattle.nb_table.specs.Code.Change.{told_by};
 ghost use Rattle.nb_table.specs.State.{IsState};
 ghost use Rattle.nb_table.specs.RunCount.{run_count_at};
 ghost use Rattle.nb_datagram.specs.Fragment.{core_of};
@@ -18,18 +18,15 @@ mod refusing;
 mod saving;
 
 use crate::change::{Change, Handing, KeptChange};
-use crate::entry::Entry;
+use crate::entries::Entries;
 use crate::fault::TableFault;
-use crate::inserting::{are_equal, join_counted};
+use crate::inserting::join_fragment;
 use crate::keys::Keys;
-use crate::removing::remove_counted;
-use crate::sources::{SourceCounts, no_counts};
 use crate::state::State;
 pub use loading::load;
 pub use merging::take_in_all;
 use nb_datagram::{Fragment, Key, LentFragment};
 use std::alloc::Global;
-use std::collections::BTreeMap;
 use std::marker::Model;
 
 /// What is known of the datagrams whose fragments came, by key, within limits.
@@ -42,9 +39,7 @@ use std::marker::Model;
 /// fragments and the limits are our choice.
 #[derive(Drop)]
 pub struct Table {
-    entries: BTreeMap<Key, Entry>,
-    /// How many keys each address has, where the limit for one can be met before that for all.
-    counts: Option<SourceCounts>,
+    entries: Entries,
     keys: u32,
     per_source: u32,
     longest: u16,
@@ -52,24 +47,28 @@ pub struct Table {
 }
 
 impl Model for Table {
-    ghost use Rattle.std.specs.FinMap as maps;
     ghost use Rattle.nb_table.specs.Limits.{TableValue, KeepsLimits};
     ghost use Rattle.nb_table.specs.Codes.{table_code};
-    ghost use Rattle.nb_table.specs.Code.SourceCounts.{AreCounted};
 
     ghost Value = { TableValue };
 
     ghost coded = { table_code };
 
     ghost view = { λ t. record {
-      contents = maps.from_entries t.entries.entries;
+      contents = t.entries;
       limits = record { keys = t.keys; per_source = t.per_source; longest = t.longest };
     } };
 
     ghost invariant = { λ t. KeepsLimits (record {
-      contents = maps.from_entries t.entries.entries;
+      contents = t.entries;
       limits = record { keys = t.keys; per_source = t.per_source; longest = t.longest };
-    }) × AreCounted t.counts (maps.from_entries t.entries.entries) };
+    }) };
+}
+
+/// Whether a table with these limits keeps how many keys each address has: where one address can
+/// have as many keys as it may before as many are held as may be in all.
+fn are_counted(keys: u32, per_source: u32) -> bool {
+    per_source <= keys
 }
 
 impl Table {
@@ -85,8 +84,7 @@ impl Table {
         } }
     {
         Table {
-            entries: BTreeMap::new(alloc),
-            counts: no_counts(alloc, keys, per_source),
+            entries: Entries::new(alloc, are_counted(keys, per_source)),
             keys,
             per_source,
             longest,
@@ -139,8 +137,8 @@ impl Table {
     pub fn insert_lent(&mut self, fragment: &LentFragment<'_>) -> Result<KeptChange, TableFault>
         ensures taken { OnOk result (Takes self.old fragment.now) }
         ensures joined { OnOk result (self.new ≡ with_fragment self.old fragment.now) }
-        ensures change { IfOk result (λ change.
-            IsChange self.old.contents self.new.contents fragment.now.key (change_of change)) }
+        ensures change { IfOk result
+            (IsChange self.old.contents self.new.contents fragment.now.key) }
         ensures refused { IfErr result (Refuses self.old fragment.now) }
         ensures kept { OnErr result (self.new ≡ self.old) }
         ensures without_memory { Passes self.old.limits fragment.now
@@ -163,9 +161,9 @@ impl Table {
     ) -> Result<KeptChange, TableFault>
         ensures taken { OnOk result (Takes self.old fragment.now) }
         ensures joined { OnOk result (self.new ≡ with_fragment self.old fragment.now) }
-        ensures change { IfOk result (λ told. (change : Change) ×
+        ensures change { IfOk result (λ told. (change : Change NetbiosName) ×
             IsChange self.old.contents self.new.contents fragment.now.key change ×
-            (change_of told ≡ told_by handing change)) }
+            (told ≡ told_by handing change)) }
         ensures refused { IfErr result (Refuses self.old fragment.now) }
         ensures kept { OnErr result (self.new ≡ self.old) }
         ensures without_memory { Passes self.old.limits fragment.now
@@ -174,13 +172,7 @@ impl Table {
         if let Some(fault) = self.refusal_of_lent(fragment) {
             return Err(fault);
         }
-        let change = join_counted(
-            &mut self.entries,
-            &mut self.counts,
-            self.alloc,
-            fragment,
-            handing,
-        )?;
+        let change = join_fragment(&mut self.entries, self.alloc, fragment, handing)?;
         Ok(change)
     }
 
@@ -192,7 +184,7 @@ impl Table {
           limits = self.old.limits;
         } }
     {
-        remove_counted(&mut self.entries, &mut self.counts, key)
+        self.entries.remove(key).is_some()
     }
 
     /// What is known of a key's datagram. No memory is taken.
@@ -232,7 +224,7 @@ impl Table {
     pub fn same(&self, other: &Table) -> bool
         ensures { IsTrue result ↔ (self.now.contents ≡ other.now.contents) }
     {
-        are_equal(&self.entries, &other.entries)
+        self.entries.same(&other.entries)
     }
 
     /// Whether the other table has the same at a key, whatever the limits of both: neither holds

@@ -9,13 +9,11 @@ use Rattle.nb_datagram.specs.declared.kind.Kind.TheVariants.{Unique, Group, Broa
 use Rattle.nb_datagram.specs.declared.packet.ErrorPacket.{ErrorPacket}
 use Rattle.nb_datagram.specs.declared.packet.QueryKind.{QueryKind}
 use Rattle.nb_datagram.specs.declared.packet.QueryKind.TheVariants.{Request, Positive, Negative}
-use Rattle.nb_datagram.specs.declared.packet.QueryPacket.{QueryPacket}
-use Rattle.nb_datagram.specs.declared.packet.Packet.{Packet}
 use Rattle.nb_datagram.specs.declared.packet.Packet.TheVariants.{Direct, Error, Query}
 use Rattle.nb_datagram.specs.Fragment.{FragmentParts, named_length}
 use Rattle.nb_datagram.specs.Header.{IsKey, header_bytes, error_type, query_type}
 use Rattle.nb_datagram.specs.Kind.{type_of}
-use Rattle.nb_datagram.specs.Packet.{IsPacket, Fits, FitsDirect, packet_bytes, direct_bytes, name_bytes}
+use Rattle.nb_datagram.specs.Packet.{Packet, QueryPacket, IsPacket, Fits, FitsDirect, packet_bytes, direct_bytes, name_bytes}
 use Rattle.nb_datagram.specs.Texts.{kind_text}
 use Rattle.nb_text.specs.Lines.{used_text}
 use Rattle.nb_text.specs.Words.{query_word}
@@ -109,7 +107,7 @@ fragment_stands f fits a =
       bytes = rest.1;
     }
 
-fragment_tells : (f g : FragmentParts) → IsByteFragment f → IsByteFragment g → Tells (parts_text (Direct f)) (parts_text (Direct g)) (Direct f ≡ Direct g)
+fragment_tells : (f g : FragmentParts) → IsByteFragment f → IsByteFragment g → Tells (parts_text (Direct f)) (parts_text (Direct g)) (◌≡◌ {A = Packet} (Direct f) (Direct g))
 fragment_tells f g a b =
     let low = a.offset in
     let small = b.offset in
@@ -136,7 +134,7 @@ IsByteError e = AreByteFlags e.flags e.key × (e.code < 256)
 abbrev pub IsByteQuery : QueryPacket → Type 0
 IsByteQuery q = AreByteFlags q.flags q.key × IsByteName q.destination
 
-error_tells : (e x : ErrorPacket) → IsByteError e → IsByteError x → Tells (parts_text (Error e)) (parts_text (Error x)) (Error e ≡ Error x)
+error_tells : (e x : ErrorPacket) → IsByteError e → IsByteError x → Tells (parts_text (Error e)) (parts_text (Error x)) (◌≡◌ {A = Packet} (Error e) (Error x))
 error_tells e x a b =
     let code = after_tells (codes " code=") (code_tells e.code x.code a.1 b.1) in
     tells_then (after_tells (codes "error") (both_tell (flags_tell e.flags x.flags e.key x.key a.0 b.0) (λ _. code) space space))

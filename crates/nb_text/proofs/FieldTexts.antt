@@ -16,7 +16,7 @@ use Rattle.nb_service.specs.Flags.{opcode_of, rcode_of, ont_of}
 use Rattle.nb_service.specs.Packet.{ServicePacket, header_of}
 use Rattle.nb_service.specs.Record.{ResourceData, of_bytes, of_domain, ResourceRecord}
 use Rattle.nb_service.specs.Views.{StatusParts, no_status, entries_of_data, entries_in, status_of_data, status_in}
-use Rattle.nb_datagram.specs.declared.packet.Packet.{Packet}
+use Rattle.nb_datagram.specs.Packet.{Packet}
 use Rattle.nb_datagram.specs.declared.packet.Packet.TheVariants.{Direct, Error, Query}
 use Rattle.nb_datagram.specs.Texts.{key_text, kind_text}
 use Rattle.nb_session.specs.declared.packet.Packet.{Packet as SessionPacket}

@@ -7,7 +7,7 @@ use Rattle.nb_service.specs.FaultTexts.{service_fault_place, service_fault_text}
 use Rattle.nb_service.specs.Packet as service
 use Rattle.nb_service.specs.ServiceFaults as service_faults
 use Rattle.nb_datagram.specs.declared.fault.DatagramFault.{DatagramFault}
-use Rattle.nb_datagram.specs.declared.packet.Packet.{Packet}
+use Rattle.nb_datagram.specs.Packet.{Packet}
 use Rattle.nb_datagram.specs.FaultTexts.{datagram_fault_place, datagram_fault_text}
 use Rattle.nb_datagram.specs.Packet as datagrams
 use Rattle.nb_datagram.specs.DatagramFaults as datagram_faults

@@ -3,8 +3,7 @@ use Rattle.std.specs.Prelude.{ℕ, List, [], ◌∷◌, ◌++◌, codes}
 use Rattle.nb_names.specs.NameText.{written}
 use Rattle.nb_datagram.specs.declared.key.Key.{Key}
 use Rattle.nb_datagram.specs.declared.packet.ErrorPacket.{ErrorPacket}
-use Rattle.nb_datagram.specs.declared.packet.QueryPacket.{QueryPacket}
-use Rattle.nb_datagram.specs.declared.packet.Packet.{Packet}
+use Rattle.nb_datagram.specs.Packet.{Packet, QueryPacket}
 use Rattle.nb_datagram.specs.declared.packet.Packet.TheVariants.{Direct, Error, Query}
 use Rattle.nb_datagram.specs.Fragment.{FragmentParts}
 use Rattle.nb_datagram.specs.Texts.{key_text, kind_text}

@@ -5,8 +5,7 @@ use Rattle.nb_names.specs.Hexadecimal.{data_text}
 use Rattle.nb_names.specs.NameText.{digits_of, written}
 use Rattle.nb_datagram.specs.declared.key.Key.{Key}
 use Rattle.nb_datagram.specs.declared.packet.ErrorPacket.{ErrorPacket}
-use Rattle.nb_datagram.specs.declared.packet.QueryPacket.{QueryPacket}
-use Rattle.nb_datagram.specs.declared.packet.Packet.{Packet}
+use Rattle.nb_datagram.specs.Packet.{Packet, QueryPacket}
 use Rattle.nb_datagram.specs.declared.packet.Packet.TheVariants.{Direct, Error, Query}
 use Rattle.nb_datagram.specs.Fragment.{FragmentParts}
 use Rattle.nb_datagram.specs.Texts.{key_text, kind_text}

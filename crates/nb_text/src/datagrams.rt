@@ -2,7 +2,6 @@
 #![tactic(auto, using(nb_telling::proofs::FoldLemmas::told_both))]
 
 ghost use Rattle.std.specs.Prelude.{◌≡◌, ◌++◌, List, ℕ, OnOk, fold};
-ghost use Rattle.nb_datagram.specs.LentPacket.{packet_of};
 ghost use Rattle.nb_telling.specs.Telling.{Grows};
 ghost use Rattle.nb_text.specs.DatagramFields.{begin_fields, datagram_fields, error_fields, fragment_fields, parts_fields, query_fields};
 ghost use Rattle.nb_text.specs.Tells.{IsTold};
@@ -32,7 +31,7 @@ pub fn tell_datagram<S: Sink>(payload: &[u8], sink: &mut S) -> Result<(), NoMemo
 /// Tells a packet that takes up so many bytes.
 fn tell_whole<S: Sink>(packet: &LentPacket<'_>, used: usize, sink: &mut S) -> Result<(), NoMemory>
     ensures told { OnOk result (S.seen sink.new
-        ≡ fold S.after (S.seen sink.old) (datagram_fields (packet_of packet.now) used)) }
+        ≡ fold S.after (S.seen sink.old) (datagram_fields packet.now used)) }
     ensures front { Grows S.is_front (S.seen sink.old) (S.seen sink.new) }
 {
     tell_parts(packet, sink)?;
@@ -42,7 +41,7 @@ fn tell_whole<S: Sink>(packet: &LentPacket<'_>, used: usize, sink: &mut S) -> Re
 /// Tells what the packet is, and its parts.
 fn tell_parts<S: Sink>(packet: &LentPacket<'_>, sink: &mut S) -> Result<(), NoMemory>
     ensures told { OnOk result (S.seen sink.new
-        ≡ fold S.after (S.seen sink.old) (parts_fields (packet_of packet.now))) }
+        ≡ fold S.after (S.seen sink.old) (parts_fields packet.now)) }
     ensures front { Grows S.is_front (S.seen sink.old) (S.seen sink.new) }
 {
     match packet {
@@ -94,12 +93,7 @@ fn tell_error<S: Sink>(error: ErrorPacket, sink: &mut S) -> Result<(), NoMemory>
 /// Tells a query's parts.
 fn tell_query<S: Sink>(query: &LentQuery<'_>, sink: &mut S) -> Result<(), NoMemory>
     ensures told { OnOk result
-        (S.seen sink.new ≡ fold S.after (S.seen sink.old) (query_fields (record {
-          kind = query.now.kind;
-          flags = query.now.flags;
-          key = query.now.key;
-          destination = query.now.destination;
-        }))) }
+        (S.seen sink.new ≡ fold S.after (S.seen sink.old) (query_fields query.now)) }
     ensures front { Grows S.is_front (S.seen sink.old) (S.seen sink.new) }
 {
     tell_begin(query_name(query.kind), query.flags, query.key, sink)?;

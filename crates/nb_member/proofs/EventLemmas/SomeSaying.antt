@@ -4,10 +4,9 @@ use Rattle.std.specs.List.{AllByRecursion}
 use Rattle.std.proofs.lemmas.Bool.{cases_lt, false≢true}
 use Rattle.nb_names.specs.DomainName.{AreBytes}
 use Rattle.nb_datagram.specs.declared.fault.DatagramFault.{DatagramFault}
-use Rattle.nb_datagram.specs.declared.packet.Packet.{Packet as AnyPacket}
 use Rattle.nb_datagram.specs.declared.packet.Packet.TheVariants.{Direct, Error, Query}
 use Rattle.nb_datagram.specs.Fragment.{FragmentParts, core_of, reach, is_first}
-use Rattle.nb_datagram.specs.Packet.{IsPacket}
+use Rattle.nb_datagram.specs.Packet.{Packet as AnyPacket, IsPacket}
 use Rattle.nb_datagram.specs.DatagramFaults.{PacketFails}
 use Rattle.nb_table.specs.declared.fault.TableFault.TheVariants.{MisplacedFirst, TooLong}
 use Rattle.nb_member.specs.declared.event.Event.{Event}

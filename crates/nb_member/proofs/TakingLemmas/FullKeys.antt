@@ -5,7 +5,7 @@ use Rattle.std.proofs.lemmas.Bool.{cases_Bool, false≢true}
 use Rattle.nb_datagram.specs.declared.key.Key.{Key}
 use Rattle.nb_datagram.specs.declared.packet.Packet.TheVariants.{Direct}
 use Rattle.nb_datagram.specs.Fragment.{FragmentParts}
-use Rattle.nb_datagram.specs.Packet.{IsPacket}
+use Rattle.nb_datagram.specs.Packet.{Packet as AnyPacket, IsPacket}
 use Rattle.nb_table.specs.declared.fault.TableFault.{TableFault}
 use Rattle.nb_table.specs.declared.fault.TableFault.TheVariants as table_fault
 use Rattle.nb_table.specs.Insert.{Passes, Takes as TableTakes, Refuses}
@@ -108,7 +108,7 @@ met_by m f (Some table_fault.NoMemory) refuses some = absurd (some refl)
 -- a payload begins with one fragment
 pub begins_by : (m : MemberValue) (payload : List ℕ) (f : FragmentParts) (used : ℕ) (met : Option RunStop)
     → IsPacket payload (Direct f) used
-    → ((g : FragmentParts) (behind : ℕ) → IsPacket payload (Direct g) behind → Direct f ≡ Direct g)
+    → ((g : FragmentParts) (behind : ℕ) → IsPacket payload (Direct g) behind → ◌≡◌ {A = AnyPacket} (Direct f) (Direct g))
     → MatchOption met ((stop : RunStop) → ¬ MeetsFull m f stop) (MeetsFull m f)
     → MatchOption met ((stop : RunStop) → ¬ BeginsFull m payload stop) (BeginsFull m payload)
 begins_by m payload f used None found only h = λ stop b.

@@ -10,7 +10,6 @@ use Rattle.std.specs.FinMap as maps
 use Rattle.nb_datagram.specs.declared.key.Key.{Key}
 use Rattle.nb_datagram.specs.Key.{same_key}
 use Rattle.nb_datagram.specs.Fragment.{FragmentParts, Core, core_of, reach}
-use Rattle.nb_table.specs.declared.change.Change.{Change}
 use Rattle.nb_table.specs.declared.change.Change.TheVariants.{Whole, Same, Grown}
 use Rattle.nb_table.specs.declared.change.Change.TheVariants.{Spoilt as Spoils}
 use Rattle.nb_table.specs.Maps.{joined_onto}
@@ -21,7 +20,7 @@ use Rattle.nb_table.specs.Join.{IsTable}
 use Rattle.nb_table.specs.Limits.{TableValue, AreShort, IsShort, IsFull, IsFullSource, KeepsLimits}
 use Rattle.nb_table.specs.KeyCounts.{held_keys, of_source}
 use Rattle.nb_table.proofs.Limits.GroupLemmas.{few_insert}
-use Rattle.nb_table.specs.Change.{IsChange}
+use Rattle.nb_table.specs.Change.{Change, IsChange}
 use Rattle.nb_table.specs.Code.Change.{KeyChange}
 use Rattle.nb_table.specs.Insert.{NeedsNoMemory, spoilt, contradicts, held, Passes, Refuses}
 use Rattle.nb_datagram.specs.KeyOrder.{key_cmp_total, key_cmp_exact, same_key_decides}

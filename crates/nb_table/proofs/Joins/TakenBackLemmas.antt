@@ -44,3 +44,11 @@ put_held m k o v w was held = sym (ap (put_back m k) was ∙ ap (λ g. cond (is_
 
 pub put_missing : {K X : Type 0} {R : K → K → Ordering} (m : map.FinMap R X) (k : K) (o : Option X) (w : X) → o ≡ Some w → map.get m k ≡ None → m ≡ put_back m k o
 put_missing m k o w was missing = sym (ap (put_back m k) was ∙ ap (λ g. cond (is_some g) (map.insert m k w) m) missing)
+
+-- what a key has, put in again, changes nothing
+pub put_same : {K X : Type 0} {R : K → K → Ordering} (o : IsTotalOrder R) (exact : map.IsAntisymmetric R) (m n : map.FinMap R X) (k : K) (v w : X) → Some v ≡ map.get m k → w ≡ v → n ≡ map.insert m k w → n ≡ m
+put_same {R = R} o exact m n k v w held same is = is ∙ ap (map.insert m k) same ∙ map.same_map o exact _ _ (λ q. map.get-insert o m k v q ∙ step q (eq_by_cmp R q k) refl)
+  where
+    step : (q : _) (b : Bool) → eq_by_cmp R q k ≡ b → cond b (Some v) (map.get m q) ≡ map.get m q
+    step q true e = held ∙ ap (map.get m) (sym (one_key exact q k e))
+    step q false e = refl

@@ -14,7 +14,7 @@ use Rattle.nb_table.specs.Contents.{Contents}
 use Rattle.nb_table.specs.Join.{join, IsTable}
 use Rattle.nb_table.specs.KeyCounts.{every_key}
 use Rattle.nb_table.specs.Limits.{TableValue, KeepsLimits, IsShort, with_contents}
-use Rattle.nb_table.specs.Merging.{AllShort, Fits, SourcesFit}
+use Rattle.nb_table.specs.Merging.{AllShort, Fits}
 use Rattle.nb_datagram.specs.KeyOrder.{key_cmp_total, key_cmp_exact}
 use Rattle.nb_table.specs.Shared.MapsLemmas.{one_key, tied_self, below_none, T_left, T_right}
 use Rattle.nb_table.specs.Shared.TableLemmas.{get-join, join_formed}
@@ -51,12 +51,6 @@ pub others_short : (inside now other others : TableValue) → inside ≡ now →
 others_short inside now other others seen seen_too fits =
     subst (λ (t : TableValue). AllShort inside.limits.longest t.contents) (sym seen_too)
     (subst (λ (t : TableValue). AllShort t.limits.longest others.contents) (sym seen) fits.short)
-
--- and each of its keys fits among those of its address
-pub others_fit : (inside now other others : TableValue) → inside ≡ now → other ≡ others → Fits now.limits now.contents others.contents → SourcesFit inside.limits.per_source inside.contents other.contents
-others_fit inside now other others seen seen_too fits =
-    subst (λ (t : TableValue). SourcesFit inside.limits.per_source inside.contents t.contents) (sym seen_too)
-    (subst (λ (t : TableValue). SourcesFit t.limits.per_source t.contents others.contents) (sym seen) fits.sources)
 
 -- ---- short entries of a table that another's are joined to
 

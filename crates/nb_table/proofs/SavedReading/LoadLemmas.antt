@@ -4,7 +4,6 @@ use Rattle.std.proofs.lemmas.Bool.{true≢false}
 use Rattle.std.specs.Prelude.{Decides}
 use Rattle.std.specs.FinMap as maps
 use Rattle.nb_datagram.specs.declared.key.Key.{Key}
-use Rattle.nb_datagram.specs.Key.{key_cmp}
 use Rattle.nb_table.specs.declared.load_fault.LoadFault.{LoadFault}
 use Rattle.nb_table.specs.declared.load_fault.LoadFault.TheVariants.{TooLong, FullSource, Full, NoMemory}
 use Rattle.nb_table.specs.declared.saved.form.SavedForm.{SavedForm}
@@ -86,21 +85,21 @@ judged_inside form input limit most count short few m j f h =
 -- ---- what is kept
 
 -- the map that is kept is the table of the entries that were judged
-pub kept_same : (form : SavedForm) (input : List ℕ) (limit most count : ℕ) (short few : Bool) (kept : List (Key × EntryValue)) → StandsAt input 0 (magic form) → (j : IsJudged input limit most count short few) → AreKept form input count 8 kept → maps.from_entries {R = key_cmp} kept ≡ table_with j.entries
+pub kept_same : (form : SavedForm) (input : List ℕ) (limit most count : ℕ) (short few : Bool) (kept : Contents) → StandsAt input 0 (magic form) → (j : IsJudged input limit most count short few) → AreKept form input count 8 kept → kept ≡ table_with j.entries
 kept_same form input limit most count short few kept m j k =
     let inside = judged_entries form input limit most count short few m j in
     let same = same_value k.entries j.entries k.next j.last (one_entries form input count None 8 (Ok (k.entries, k.next)) (Ok (j.entries, j.last)) k.read inside) in
     k.same ∙ ap (λ (v : List (Key × EntryValue) × ℕ). table_with v.0) same
 
-pub kept_read : (form : SavedForm) (input : List ℕ) (limit most count : ℕ) (short few : Bool) (kept : List (Key × EntryValue)) → StandsAt input 0 (magic form) → IsJudged input limit most count short few → AreKept form input count 8 kept → IsReadAs input (maps.from_entries {R = key_cmp} kept)
+pub kept_read : (form : SavedForm) (input : List ℕ) (limit most count : ℕ) (short few : Bool) (kept : Contents) → StandsAt input 0 (magic form) → IsJudged input limit most count short few → AreKept form input count 8 kept → IsReadAs input kept
 kept_read form input limit most count short few kept m j k = record { entries = j.entries; last = j.last; read = j.read; same = kept_same form input limit most count short few kept m j k }
 
-pub kept_saved : (form : SavedForm) (input : List ℕ) (limit most count : ℕ) (short few : Bool) (kept : List (Key × EntryValue)) → StandsAt input 0 (magic form) → IsJudged input limit most count short few → AreKept form input count 8 kept → IsSaved input (maps.from_entries {R = key_cmp} kept)
+pub kept_saved : (form : SavedForm) (input : List ℕ) (limit most count : ℕ) (short few : Bool) (kept : Contents) → StandsAt input 0 (magic form) → IsJudged input limit most count short few → AreKept form input count 8 kept → IsSaved input kept
 kept_saved form input limit most count short few kept m j k =
     subst (λ (t : Contents). IsSaved input t) (sym (kept_same form input limit most count short few kept m j k)) (read_saved input j.entries j.last j.read)
 
-pub kept_limits : (form : SavedForm) (input : List ℕ) (limits : Limits) (count : ℕ) (short few : Bool) (kept : List (Key × EntryValue)) → StandsAt input 0 (magic form) → IsJudged input limits.longest limits.per_source count short few → short ≡ true → few ≡ true → count ≤ limits.keys → AreKept form input count 8 kept
-    → KeepsLimits (record { contents = maps.from_entries {R = key_cmp} kept; limits = limits })
+pub kept_limits : (form : SavedForm) (input : List ℕ) (limits : Limits) (count : ℕ) (short few : Bool) (kept : Contents) → StandsAt input 0 (magic form) → IsJudged input limits.longest limits.per_source count short few → short ≡ true → few ≡ true → count ≤ limits.keys → AreKept form input count 8 kept
+    → KeepsLimits (record { contents = kept; limits = limits })
 kept_limits form input limits count short few kept m j is spread fits k =
     subst (λ (t : Contents). KeepsLimits (record { contents = t; limits = limits })) (sym (kept_same form input limits.longest limits.per_source count short few kept m j k))
     (record {

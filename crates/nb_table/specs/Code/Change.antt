@@ -2,12 +2,10 @@
 use Rattle.std.specs.Prelude.{◌≡◌, ◌≢◌, Option, Some, None, option_and_then}
 use Rattle.nb_datagram.specs.declared.key.Key.{Key}
 use Rattle.nb_datagram.specs.Datagram.{DatagramParts}
-use Rattle.nb_table.specs.declared.change.Change.{Change}
 use Rattle.nb_table.specs.declared.change.Change.TheVariants.{Spoilt, Whole, Same, Grown}
 use Rattle.nb_table.specs.declared.change.Handing.{Handing}
 use Rattle.nb_table.specs.declared.change.Handing.TheVariants.{Over, Kept}
-use Rattle.nb_table.specs.declared.change.KeptChange.{KeptChange}
-use Rattle.nb_table.specs.declared.change.KeptChange.TheVariants.{Spoilt as KeptSpoilt, Whole as KeptWhole, Same as KeptSame, Grown as KeptGrown}
+use Rattle.nb_table.specs.Change.{Change}
 use Rattle.nb_table.specs.Slot.{Spoilt as Clashed}
 use Rattle.nb_table.specs.Entry.{EntryValue}
 use Rattle.nb_table.specs.Whole.{datagram_of, newly}
@@ -26,13 +24,6 @@ abbrev pub grown_to : Option DatagramParts → Change
 grown_to None = Grown
 grown_to (Some d) = Whole d
 
--- the change, however its datagram keeps its names
-abbrev pub change_of : KeptChange → Change
-change_of KeptSpoilt = Spoilt
-change_of (KeptWhole d) = Whole d
-change_of KeptSame = Same
-change_of KeptGrown = Grown
-
 -- the datagram, if it is handed over
 abbrev pub handed_by : Handing → Option DatagramParts → Option DatagramParts
 handed_by Over d = d
@@ -47,8 +38,8 @@ told_by Kept Same = Same
 told_by Kept Grown = Grown
 
 -- Tells h k a b told: the key k had a before, if anything, and has b after; what that changed is told so
-abbrev pub Tells : Handing → Key → Option EntryValue → Option EntryValue → KeptChange → Type 0
-Tells h k a b told = (c : Change) × KeyChange k a b c × (change_of told ≡ told_by h c)
+abbrev pub Tells : Handing → Key → Option EntryValue → Option EntryValue → Change → Type 0
+Tells h k a b told = (c : Change) × KeyChange k a b c × (told ≡ told_by h c)
 
 -- the datagram of a key that became whole
 abbrev pub whole_by : Change → Option DatagramParts

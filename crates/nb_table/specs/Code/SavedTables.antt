@@ -11,6 +11,7 @@ use Rattle.nb_datagram.specs.Key.{key_cmp}
 use Rattle.nb_table.specs.declared.saved.form.SavedForm.{SavedForm}
 use Rattle.nb_table.specs.declared.saved.sources.Sources.{Sources}
 use Rattle.nb_table.specs.Entry.{EntryValue}
+use Rattle.nb_table.specs.Contents.{Contents}
 use Rattle.nb_table.specs.KeyCounts.{of_source}
 use Rattle.nb_table.specs.Code.Fitting.{is_short}
 use Rattle.nb_table.specs.SavedFits.{IsNamed}
@@ -51,9 +52,9 @@ pub record IsJudged (input : List ℕ) (limit most count : ℕ) (short few : Boo
   pub tested : short ≡ list_all (λ e. is_short limit e.1) entries
   pub few_counted : IsTrue few ↔ AreFew most (map (λ e. e.0) entries)
 
--- this many keys with their entries stand from `at` on, and make the map of the entries that are kept
-pub record AreKept (form : SavedForm) (input : List ℕ) (count at : ℕ) (kept : List (Key × EntryValue)) : Type 0 where
+-- this many keys with their entries stand from `at` on, and make what is kept
+pub record AreKept (form : SavedForm) (input : List ℕ) (count at : ℕ) (kept : Contents) : Type 0 where
   pub entries : List (Key × EntryValue)
   pub next : ℕ
   pub read : entries_at form input count None at (Ok (entries, next))
-  pub same : maps.from_entries {R = key_cmp} kept ≡ maps.from_entries {R = key_cmp} entries
+  pub same : kept ≡ maps.from_entries {R = key_cmp} entries

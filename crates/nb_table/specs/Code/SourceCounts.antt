@@ -1,11 +1,10 @@
 -- How many keys of each address a table holds, as it is kept beside the entries.
 use Rattle.std.specs.Coded.{Coded, coded_ℕ, coded_list}
-use Rattle.std.specs.Prelude.{◌≡◌, ◌==◌, ◌-◌, ℕ, List, cond, filter, length, is_none, unwrap_or, IfSome, Option, Some, None}
+use Rattle.std.specs.Prelude.{◌≡◌, ◌==◌, ◌+◌, ◌-◌, ℕ, List, cond, unwrap_or, IfSome, Option, Some, None}
 use Rattle.std.specs.declared.cmp.Ordering.{Ordering}
 use Rattle.std.specs.Ordering.{nat_cmp}
 use Rattle.std.specs.Cmp.Lexicographic.{pointwise, slice_cmp}
 use Rattle.std.specs.FinMap as maps
-use Rattle.nb_datagram.specs.declared.key.Key.{Key}
 use Rattle.nb_table.specs.Contents.{Contents}
 use Rattle.nb_table.specs.KeyCounts.{held_keys, of_source}
 
@@ -29,14 +28,6 @@ count_of m ip = unwrap_or (maps.get m ip) 0
 abbrev pub if_same : List ℕ → List ℕ → ℕ
 if_same a b = cond (pointwise ◌==◌ a b) 1 0
 
--- those_of ip ks: how many of these keys have the address
-abbrev pub those_of : List ℕ → List Key → ℕ
-those_of ip ks = length (filter (of_source ip) ks)
-
--- lacked s t: the keys of t that s lacks, ascending
-abbrev pub lacked : Contents → Contents → List Key
-lacked s t = filter (λ k. is_none (maps.get s k)) (maps.keys t)
-
 -- CountsKeys m s: m has the number of keys of each address in s
 abbrev pub CountsKeys : Counts → Contents → Type 0
 CountsKeys m s = (ip : List ℕ) → count_of m ip ≡ held_keys (of_source ip) s
@@ -45,7 +36,12 @@ CountsKeys m s = (ip : List ℕ) → count_of m ip ≡ held_keys (of_source ip) 
 abbrev pub AreCounted : Option Counts → Contents → Type 0
 AreCounted o s = IfSome o (λ m. CountsKeys m s)
 
--- LessOne o p ip: the counts p are those of o, and one key less of this address; none are kept where none were
-abbrev pub LessOne : Option Counts → Option Counts → List ℕ → Type 0
-LessOne None p ip = p ≡ None
-LessOne (Some m) p ip = IfSome p (λ n. (q : List ℕ) → count_of n q ≡ count_of m q - if_same ip q)
+-- Adds o p ip: the counts p are those of o, and one key more of this address; none are kept where none were
+abbrev pub Adds : Option Counts → Option Counts → List ℕ → Type 0
+Adds None p ip = p ≡ None
+Adds (Some m) p ip = IfSome p (λ n. (q : List ℕ) → count_of n q ≡ count_of m q + if_same ip q)
+
+-- Takes o p ip: the same, with one key less
+abbrev pub Takes : Option Counts → Option Counts → List ℕ → Type 0
+Takes None p ip = p ≡ None
+Takes (Some m) p ip = IfSome p (λ n. (q : List ℕ) → count_of n q ≡ count_of m q - if_same ip q)

@@ -1,5 +1,5 @@
 -- The entries of a tree map as a finite map: what a look-up, an insert and a loan do to it.
-use Rattle.std.proofs.Common.{◌≡◌, List, [], ◌∷◌, Bool, true, false, cond, Some, None, is_some, refl, sym, ◌∙◌, ap, subst, length, ◌&&◌}
+use Rattle.std.proofs.Common.{◌≡◌, List, [], ◌∷◌, Bool, true, false, cond, Option, Some, None, is_some, refl, sym, ◌∙◌, ap, subst, length, ◌&&◌}
 use Rattle.std.specs.Prelude.{T}
 use Rattle.std.specs.List.{AllByRecursion}
 use Rattle.std.specs.List.Sorted.{IsStrictlySortedBy}
@@ -10,7 +10,10 @@ use Rattle.std.proofs.lemmas.Map.Keys.{sorted_head, sorted_tail}
 use Rattle.std.specs.declared.cmp.Ordering.{Ordering}
 use Rattle.std.specs.declared.cmp.Ordering.TheVariants.{Less}
 use Rattle.std.specs.Ordering.{eq_by_cmp, is_lt}
-use Rattle.std.specs.Cmp.{IsTotalOrder, eq_by_cmp_equiv}
+use Rattle.std.specs.Cmp.{Equal-is, IsTotalOrder, eq_by_cmp_equiv}
+use Rattle.std.specs.Borrow.{MutBor}
+use Rattle.std.specs.Option.{OnSome, option_copied_mut}
+use Rattle.std.specs.Prelude.{map as list_map}
 use Rattle.std.specs.Map.{lookup}
 use Rattle.std.specs.BTreeMap as tree
 use Rattle.std.specs.BTreeMap.{BTreeMap}
@@ -80,3 +83,28 @@ len_is {R = R} o exact m h = map.len-entries (map.from_entries {R = R} m.entries
 -- trees of one finite map have the same entries
 pub same_list : {K X : Type 0} {R : K → K → Ordering} → IsTotalOrder R → map.IsAntisymmetric R → (m n : BTreeMap K X) → tree.IsOrdered R m → tree.IsOrdered R n → map.from_entries {R = R} m.entries ≡ map.from_entries n.entries → m.entries ≡ n.entries
 same_list o exact m n f g e = sym (entries_are o exact m f) ∙ ap map.entries e ∙ entries_are o exact n g
+
+-- ---- a loan
+
+-- to write through a loan leaves the keys
+pub written_keys : {K X : Type 0} {R : K → K → Ordering} → IsTotalOrder R → map.IsAntisymmetric R → (c : K → Ordering) (m n : BTreeMap K X) (w : X) → tree.IsOrdered R m → tree.WritesThrough R c m w n → map.keys (map.from_entries {R = R} m.entries) ≡ map.keys (map.from_entries {R = R} n.entries)
+written_keys {K = K} {X = X} o exact c m n w h t =
+    ap (list_map (λ (e : K × X). e.0)) (entries_are o exact m h)
+    ∙ sym (ap (list_map (λ (e : K × X). e.0)) (entries_are o exact n t.4) ∙ t.1)
+
+-- what was lent of a key is put in again as it was written, and nothing where nothing was lent
+pub lent_is : {K X : Type 0} {R : K → K → Ordering} → IsTotalOrder R → map.IsAntisymmetric R → (m n : BTreeMap K X) (k : K) (w : X) (r : Option (MutBor X)) → option_copied_mut r ≡ tree.get R m k → tree.WritesThrough R (R k) m w n → OnSome r (map.from_entries {R = R} n.entries ≡ map.insert (map.from_entries m.entries) k w)
+lent_is o exact m n k w None found t = tt
+lent_is o exact m n k w (Some x) found t = changed_is o exact m n k x.now w found t
+
+-- ---- a key put in and taken out again
+
+pub taken_back : {K X : Type 0} {R : K → K → Ordering} → IsTotalOrder R → map.IsAntisymmetric R → (s : map.FinMap R X) (k : K) (v : X) → map.get s k ≡ None → map.remove (map.insert s k v) k ≡ s
+taken_back {X = X} {R = R} o exact s k v none =
+    map.same_map o exact _ _ (λ q. map.get-remove o (map.insert s k v) k q
+    ∙ ap (cond (eq_by_cmp R q k) None) (map.get-insert o s k v q)
+    ∙ step q (eq_by_cmp R q k) refl)
+  where
+    step : (q : _) (b : Bool) → eq_by_cmp R q k ≡ b → cond b None (cond b (Some v) (map.get s q)) ≡ map.get s q
+    step q true h = sym none ∙ ap (map.get s) (sym (exact q k ((Equal-is (R q k)).0 h)))
+    step q false h = refl

@@ -8,7 +8,7 @@ ghost use Rattle.nb_table.specs.Cover.{CoversFit, cover_of, covers_together};
 ghost use Rattle.nb_table.specs.Code.CoverFacts.{Holds};
 ghost use Rattle.nb_table.specs.Whole.{bytes_to, datagram_with, newly};
 ghost use Rattle.nb_table.specs.Whole.{datagram_of as entry_datagram};
-ghost use Rattle.nb_table.specs.Code.Change.{Tells, change_of, handed_by};
+ghost use Rattle.nb_table.specs.Code.Change.{Tells, handed_by};
 ghost use Rattle.nb_table.specs.Code.Change.{grown_to as grown};
 
 use super::EntryFacts;
@@ -19,7 +19,7 @@ use std::alloc::Global;
 
 /// What facts that grow come to: the datagram, if they are whole.
 fn grown_to(datagram: Option<KeptDatagram>) -> KeptChange
-    ensures { change_of result ≡ grown datagram }
+    ensures { result ≡ grown datagram }
 {
     match datagram {
         Some(datagram) => KeptChange::Whole(datagram),

@@ -1,13 +1,12 @@
 //! What tests of equality and the changes of a table say.
 ghost use Rattle.std.specs.Prelude.{◌≡◌, ◌↔◌, IsTrue};
 ghost use Rattle.nb_datagram.specs.declared.key.Key.{Key};
-ghost use Rattle.nb_table.specs.declared.change.Change.{Change};
 ghost use Rattle.nb_table.specs.declared.state.State.{State};
 ghost use Rattle.nb_table.specs.Cover.{CoverValue};
 ghost use Rattle.nb_table.specs.Entry.{EntryValue};
 ghost use Rattle.nb_table.specs.Contents.{Contents};
 ghost use Rattle.nb_table.specs.Equal.{same_cover, same_entry};
-ghost use Rattle.nb_table.specs.Change.{IsChange};
+ghost use Rattle.nb_table.specs.Change.{Change, IsChange};
 ghost use Rattle.nb_table.specs.State.{IsState};
 
 /// Two covers are equal exactly where their contents are.

@@ -17,6 +17,7 @@ use super::fields::{push_key, put_key, read_key};
 use super::form::SavedForm;
 use super::part::Part;
 use super::sources::Sources;
+use crate::entries::Entries;
 use crate::entry::Entry;
 use crate::load_fault::LoadFault;
 use nb_datagram::Key;
@@ -72,27 +73,27 @@ pub(crate) fn judge_entries(
 }
 
 /// Puts an entry into the map.
-fn keep(map: &mut BTreeMap<Key, Entry>, key: Key, entry: Entry) -> Result<(), NoMemory>
-    ensures { OnOk result (maps.from_entries {R = key_cmp} map.new.entries
-        ≡ maps.insert (maps.from_entries {R = key_cmp} map.old.entries) key entry) }
+fn keep(map: &mut Entries, key: Key, entry: Entry) -> Result<(), NoMemory>
+    ensures { OnOk result (map.new ≡ maps.insert map.old key entry) }
 {
-    map.insert(key, entry)?;
+    map.put(key, entry)?;
     Ok(())
 }
 
 /// This many entries with their keys, from an offset on.
 pub(crate) fn load_entries(
     alloc: Global,
+    are_counted: bool,
     form: SavedForm,
     input: &[u8],
     count: u32,
     at: usize,
-) -> Result<BTreeMap<Key, Entry>, LoadFault>
-    ensures kept { IfOk result (λ map. AreKept form input.now count at map.entries) }
+) -> Result<Entries, LoadFault>
+    ensures kept { IfOk result (AreKept form input.now count at) }
     ensures fault { IfErr result (λ fault.
         (fault ≡ no_memory) ⊎ entries_at form input.now count None at (Err fault)) }
 {
-    let mut map = BTreeMap::new(alloc);
+    let mut map = Entries::new(alloc, are_counted);
     let mut before = None;
     let mut here = at;
     for _ in 0..count {

@@ -1,28 +1,24 @@
 //! Whether a table takes in another under its limits.
-ghost use Rattle.std.specs.Prelude.{◌≡◌, ◌≢◌, ◌↔◌, OnOk, IfErr, IsTrue, filter, map, slice_get, is_none};
+ghost use Rattle.std.specs.Prelude.{◌≡◌, ◌≢◌, ◌↔◌, OnOk, IfErr, IsTrue, filter, slice_get, is_none};
 ghost use Rattle.std.specs.List.{list_all};
-ghost use Rattle.std.specs.BTreeMap.{get, IsOrdered};
 ghost use Rattle.std.specs.FinMap as maps;
-ghost use Rattle.nb_datagram.specs.Key.{key_cmp};
 ghost use Rattle.nb_table.specs.KeyCounts.{every_key};
 ghost use Rattle.nb_table.specs.Merging.{AllShort, Fits, IsRefused};
 ghost use Rattle.nb_table.specs.Code.Fitting.{is_short};
 ghost use Rattle.nb_table.specs.Merging.{first_unfit as least_unfit};
 
 use super::Table;
-use crate::entry::Entry;
+use crate::entries::Entries;
 use crate::fault::TableFault;
 use crate::sources::unfit_source;
 use nb_datagram::Key;
-use std::collections::BTreeMap;
 
 /// Whether each entry is spoilt, or has its places below this one and ends and promises at most
 /// there.
-fn are_short(entries: &BTreeMap<Key, Entry>, longest: u16) -> bool
-    ensures value { result ≡ list_all (λ e. is_short longest e.1) entries.now.entries }
-    ensures ordered { IsOrdered key_cmp entries.now }
+fn are_short(entries: &Entries, longest: u16) -> bool
+    ensures { result ≡ list_all (λ e. is_short longest e.1) (maps.entries entries.now) }
 {
-    for (_key, entry) in entries {
+    for (_key, entry) in entries.iter() {
         if !entry.is_short(longest) {
             return false;
         }
@@ -31,17 +27,12 @@ fn are_short(entries: &BTreeMap<Key, Entry>, longest: u16) -> bool
 }
 
 /// The first key of the others that the entries lack, once there is no room for one more.
-fn first_without_room(
-    entries: &BTreeMap<Key, Entry>,
-    others: &BTreeMap<Key, Entry>,
-    room: usize,
-) -> Option<Key>
-    ensures value { result ≡ slice_get (filter (λ k. is_none (get key_cmp entries.now k))
-        (map (λ e. e.0) others.now.entries)) room }
-    ensures ordered { IsOrdered key_cmp others.now }
+fn first_without_room(entries: &Entries, others: &Entries, room: usize) -> Option<Key>
+    ensures value { result ≡ slice_get (filter (λ k. is_none (maps.get entries.now k))
+        (maps.keys others.now)) room }
 {
     let mut left = room;
-    for (key, _entry) in others {
+    for (key, _entry) in others.iter() {
         if entries.contains_key(key) {
             continue;
         }
@@ -90,7 +81,7 @@ impl Table {
         if !other.is_short(self.longest) {
             return Err(TableFault::TooLong);
         }
-        let unfit = unfit_source(&self.counts, &self.entries, &other.entries, self.per_source);
+        let unfit = unfit_source(&self.entries, &other.entries, self.per_source);
         if let Some(key) = unfit {
             return Err(TableFault::FullSource(key));
         }

@@ -5,11 +5,10 @@ ghost use Rattle.nb_table.specs.Saved.{IsSaved};
 ghost use Rattle.nb_table.specs.SavedReading.{IsRead};
 ghost use Rattle.nb_table.specs.declared.load_fault.LoadFault.{LoadFault};
 
-use super::Table;
+use super::{Table, are_counted};
 use crate::load_fault::LoadFault;
 use crate::saved::entries::load_entries;
 use crate::saved::tables::{form_of, judge};
-use crate::sources::counts_of;
 use std::alloc::Global;
 
 /// The table whose saved bytes these are, with these limits: how many keys it may hold, how many of
@@ -57,11 +56,9 @@ pub fn load(
     if count > keys {
         return Err(LoadFault::Full);
     }
-    let entries = load_entries(alloc, form, input, count, 8)?;
-    let counts = counts_of(alloc, &entries, keys, per_source)?;
+    let entries = load_entries(alloc, are_counted(keys, per_source), form, input, count, 8)?;
     Ok(Table {
         entries,
-        counts,
         keys,
         per_source,
         longest,

@@ -4,7 +4,6 @@ ghost use Rattle.nb_table.specs.Join.{join};
 ghost use Rattle.nb_table.specs.Limits.{with_contents};
 ghost use Rattle.nb_table.specs.Merging.{Fits, IsRefused, newly_handed};
 
-mod merging_counted;
 mod merging_entries;
 mod moving;
 mod taking_back;
@@ -13,7 +12,7 @@ mod taking_in;
 use super::Table;
 use crate::fault::TableFault;
 use crate::join::Join;
-use merging_counted::merge_counted;
+use merging_entries::merge_entries;
 use nb_datagram::Datagrams;
 pub use taking_in::take_in_all;
 
@@ -38,12 +37,7 @@ impl Table {
         ensures err { OnErr result (self.new ≡ self.old) }
     {
         self.fits(other)?;
-        Ok(merge_counted(
-            self.alloc,
-            &mut self.entries,
-            &mut self.counts,
-            &other.entries,
-        )?)
+        Ok(merge_entries(self.alloc, &mut self.entries, &other.entries)?)
     }
 }
 
@@ -89,12 +83,7 @@ impl Join for Table {
         ensures err { OnErr result (self.new ≡ self.old) }
     {
         self.fits(other)?;
-        merge_counted(
-            self.alloc,
-            &mut self.entries,
-            &mut self.counts,
-            &other.entries,
-        )?;
+        merge_entries(self.alloc, &mut self.entries, &other.entries)?;
         Ok(())
     }
 }

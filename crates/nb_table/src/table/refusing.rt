@@ -44,7 +44,7 @@ impl Table {
         if self.entries.contains_key(&key) {
             return None;
         }
-        if is_full_of(&self.counts, &self.entries, key.ip, self.per_source) {
+        if is_full_of(&self.entries, key.ip, self.per_source) {
             return Some(TableFault::FullSource(key));
         }
         if self.entries.len() >= self.keys as usize {

@@ -36,7 +36,7 @@ impl Table {
         // types.
         let _keys = self.keys;
         let _longest = self.longest;
-        let saved = save_entries(self.alloc, &self.entries)?;
+        let saved = save_entries(self.alloc, self.entries.as_map())?;
         Ok(saved)
     }
 
@@ -56,6 +56,6 @@ impl Table {
             (W.contents writer.new.inner) (digits_text (saved_bytes self.now.contents))) }
         ensures why { OnErr result (ShowsWriteFault writer.old.counts writer.new.counts) }
     {
-        write_saved(writer, &self.entries)
+        write_saved(writer, self.entries.as_map())
     }
 }

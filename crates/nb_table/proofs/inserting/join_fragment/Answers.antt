@@ -3,16 +3,15 @@ use Rattle.std.proofs.lemmas.Result.{on_ok_weaker, on_err_weaker}
 use Rattle.std.specs.FinMap as maps
 use Rattle.nb_names.specs.declared.bytes.NoMemory.{NoMemory}
 use Rattle.nb_datagram.specs.declared.key.Key.{Key}
-use Rattle.nb_datagram.specs.Key.{key_cmp}
 use Rattle.nb_datagram.specs.Fragment.{core_of}
 use Rattle.nb_table.specs.Maps.{joined_onto}
 use Rattle.nb_table.specs.Slot.{Held}
 use Rattle.nb_table.specs.Entry.{EntryValue, facts_of, join_entry}
 use Rattle.nb_table.specs.declared.change.Handing.{Handing}
-use Rattle.nb_table.specs.declared.change.KeptChange.{KeptChange}
+use Rattle.nb_table.specs.Change.{Change}
 use Rattle.nb_table.specs.Code.Change.{KeyChange, Tells}
 use Rattle.nb_datagram.specs.KeyOrder.{key_cmp_total, key_cmp_exact}
-use Rattle.nb_table.specs.Shared.TreeLemmas.{get_is, changed_is, kept_is, insert_is}
+use Rattle.nb_table.proofs.Joins.TakenBackLemmas.{put_same}
 use Rattle.nb_table.proofs.Changes.InsertLemmas.{needs_more, on_err_both, on_any_err}
 use Rattle.nb_table.specs.Shared.FragmentLemmas.{needs_new}
 use Rattle.nb_table.proofs.inserting.join_fragment.Goals as goal
@@ -20,7 +19,7 @@ use Rattle.nb_table.proofs.inserting.join_fragment.Goals as goal
 -- ---- a held key
 
 -- what changed at an entry is what changed at its key
-change_joined : (h : Handing) (r : Result KeptChange NoMemory) (k : Key) (e new b : EntryValue) (o : Option EntryValue) → o ≡ Some e → OnOk r (new ≡ join_entry e b)
+change_joined : (h : Handing) (r : Result Change NoMemory) (k : Key) (e new b : EntryValue) (o : Option EntryValue) → o ≡ Some e → OnOk r (new ≡ join_entry e b)
     → IfOk r (Tells h k (Some e) (Some new)) → IfOk r (Tells h k o (Some (joined_onto join_entry o b)))
 change_joined h (Err x) k e new b o at joined change = tt
 change_joined h (Ok c) k e new b o at joined change =
@@ -34,40 +33,42 @@ change_joined h (Ok c) k e new b o at joined change =
 pub add-requires-clause-entry : goal.add-requires-clause-entry
 add-requires-clause-entry c =
     let m = c.args.entries.now in
-    let at = ap (maps.get (maps.from_entries {R = key_cmp} m.entries)) (sym c.key-key.ensures) ∙ get_is key_cmp_total m c.key-key.result ∙ sym c.in-Some.ensures.value in
+    let at = ap (maps.get m) (sym c.key-key.ensures) ∙ sym c.in-Some.ensures.value in
     c.requires.entry c.in-Some.entry.now at
 
 pub returns-in-Some-clause-needed : goal.returns-in-Some-clause-needed
 returns-in-Some-clause-needed c =
     let m = c.args.entries.now in
-    let t = maps.from_entries {R = key_cmp} m.entries in
+    let t = m in
     let e = c.in-Some.entry.now in
-    let at = ap (maps.get t) (sym c.key-key.ensures) ∙ get_is key_cmp_total m c.key-key.result ∙ sym c.in-Some.ensures.value in
+    let at = ap (maps.get t) (sym c.key-key.ensures) ∙ sym c.in-Some.ensures.value in
     on_err_both c.add.result (needs_more t (core_of c.args.fragment.now) e at) c.add.ensures.not_spoilt c.add.ensures.more
 
 pub returns-in-Some-clause-kept : goal.returns-in-Some-clause-kept
 returns-in-Some-clause-kept c =
+    let lent = rw c.in-Some.is at c.get_mut.follows.holds c.add.new.self in
     on_err_weaker c.add.result
-    (kept_is c.args.entries.now (c.get_mut.follows.lender c.add.new.self) c.key-key.result c.in-Some.entry.now c.add.new.self c.in-Some.ensures.value (c.get_mut.follows.holds c.add.new.self)) c.add.ensures.kept
+    (λ same. put_same key_cmp_total key_cmp_exact c.args.entries.now (c.get_mut.follows.lender c.add.new.self) c.key-key.result c.in-Some.entry.now c.add.new.self c.in-Some.ensures.value same lent) c.add.ensures.kept
 
 pub returns-in-Some-clause-joined : goal.returns-in-Some-clause-joined
 returns-in-Some-clause-joined c =
     let m = c.args.entries.now in
-    let t = maps.from_entries {R = key_cmp} m.entries in
+    let t = m in
     let b = facts_of (core_of c.args.fragment.now) in
-    let at = ap (maps.get t) (sym c.key-key.ensures) ∙ get_is key_cmp_total m c.key-key.result ∙ sym c.in-Some.ensures.value in
+    let at = ap (maps.get t) (sym c.key-key.ensures) ∙ sym c.in-Some.ensures.value in
+    let lent = rw c.in-Some.is at c.get_mut.follows.holds c.add.new.self in
     on_ok_weaker c.add.result
     (λ joined.
-    changed_is key_cmp_total key_cmp_exact m (c.get_mut.follows.lender c.add.new.self) c.key-key.result c.in-Some.entry.now c.add.new.self c.in-Some.ensures.value (c.get_mut.follows.holds c.add.new.self)
+    lent
     ∙ ap₂ (maps.insert t) c.key-key.ensures (joined ∙ ap (λ o. joined_onto join_entry o (Held b)) (sym at))) c.add.ensures.joined
 
 pub returns-in-Some-clause-change : goal.returns-in-Some-clause-change
 returns-in-Some-clause-change c =
     let m = c.args.entries.now in
-    let t = maps.from_entries {R = key_cmp} m.entries in
+    let t = m in
     let k = c.args.fragment.now.key in
     let b = facts_of (core_of c.args.fragment.now) in
-    let at = ap (maps.get t) (sym c.key-key.ensures) ∙ get_is key_cmp_total m c.key-key.result ∙ sym c.in-Some.ensures.value in
+    let at = ap (maps.get t) (sym c.key-key.ensures) ∙ sym c.in-Some.ensures.value in
     change_joined c.args.handing c.add.result k c.in-Some.entry.now c.add.new.self (Held b) (maps.get t k) at c.add.ensures.joined c.add.ensures.change
 
 -- ---- a new key
@@ -75,27 +76,27 @@ returns-in-Some-clause-change c =
 pub returns-in_err-entry-in-None-clause-needed : goal.returns-in_err-entry-in-None-clause-needed
 returns-in_err-entry-in-None-clause-needed c =
     let m = c.args.entries.now in
-    let t = maps.from_entries {R = key_cmp} m.entries in
-    let none = ap (maps.get t) (sym c.key-key.ensures) ∙ get_is key_cmp_total m c.key-key.result ∙ sym c.in-None.ensures.value in
+    let t = m in
+    let none = ap (maps.get t) (sym c.key-key.ensures) ∙ sym c.in-None.ensures.value in
     on_any_err c.from_residual.result _ (needs_new t (core_of c.args.fragment.now) none)
 
 pub returns-in-Ok-clause-joined : goal.returns-in-Ok-clause-joined
 returns-in-Ok-clause-joined c =
     let m = c.args.entries.now in
-    let t = maps.from_entries {R = key_cmp} m.entries in
+    let t = m in
     let b = facts_of (core_of c.args.fragment.now) in
-    let none = ap (maps.get t) (sym c.key-key.ensures) ∙ get_is key_cmp_total m c.key-key.result ∙ sym c.in-None.ensures.value in
-    let updates = rw c.get_mut.follows.holds-at-none at c.in-Ok.ensures.updates in
-    insert_is key_cmp_total key_cmp_exact m c.insert.new.self c.key-key.result c.in_ok-entry-in-None.entry updates
+    let none = ap (maps.get t) (sym c.key-key.ensures) ∙ sym c.in-None.ensures.value in
+    let put = rw c.get_mut.follows.holds-at-none at c.in-Ok.ensures.inserted in
+    put
     ∙ ap₂ (maps.insert t) c.key-key.ensures (c.in_ok-entry-in-None.ensures.entry ∙ ap (λ o. joined_onto join_entry o (Held b)) (sym none))
 
 pub returns-in-Ok-clause-change : goal.returns-in-Ok-clause-change
 returns-in-Ok-clause-change c =
     let m = c.args.entries.now in
-    let t = maps.from_entries {R = key_cmp} m.entries in
+    let t = m in
     let k = c.args.fragment.now.key in
     let b = facts_of (core_of c.args.fragment.now) in
-    let none = ap (maps.get t) (sym c.key-key.ensures) ∙ get_is key_cmp_total m c.key-key.result ∙ sym c.in-None.ensures.value in
+    let none = ap (maps.get t) (sym c.key-key.ensures) ∙ sym c.in-None.ensures.value in
     let now = ap (λ (x : EntryValue). Some x) (c.in_ok-entry-in-None.ensures.entry ∙ ap (λ o. joined_onto join_entry o (Held b)) (sym none)) in
     let told = c.in_ok-entry-in-None.ensures.change in (
       told.0,
@@ -107,6 +108,6 @@ returns-in-Ok-clause-change c =
 pub returns-in-Err-clause-needed : goal.returns-in-Err-clause-needed
 returns-in-Err-clause-needed c =
     let m = c.args.entries.now in
-    let t = maps.from_entries {R = key_cmp} m.entries in
-    let none = ap (maps.get t) (sym c.key-key.ensures) ∙ get_is key_cmp_total m c.key-key.result ∙ sym c.in-None.ensures.value in
+    let t = m in
+    let none = ap (maps.get t) (sym c.key-key.ensures) ∙ sym c.in-None.ensures.value in
     needs_new t (core_of c.args.fragment.now) none

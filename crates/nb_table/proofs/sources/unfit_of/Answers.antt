@@ -6,27 +6,24 @@ use Rattle.nb_datagram.specs.declared.key.Key.{Key}
 use Rattle.nb_datagram.specs.Key.{key_cmp}
 use Rattle.nb_table.specs.Entry.{EntryValue}
 use Rattle.nb_table.specs.KeyCounts.{held_keys, of_source}
-use Rattle.nb_datagram.specs.KeyOrder.{key_cmp_total, key_cmp_exact}
-use Rattle.nb_table.specs.Shared.TreeLemmas.{entries_are, get_is, sorted_is}
 use Rattle.nb_table.proofs.Limits.SourceLemmas.{Left, onward, onward_new, left_begun, left_next, none_unfit, one_out, one_in, first_in, not_true, not_false}
 use Rattle.nb_table.proofs.sources.unfit_of.Goals as goal
 
 pub loop-key-init : goal.loop-key-init
 loop-key-init c =
     let ip = c.args.ip in
-    let es = c.args.others.now.entries in
-    let s = maps.from_entries {R = key_cmp} c.args.entries.now.entries in
+    let es = maps.entries c.args.others.now in
+    let s = c.args.entries.now in
     let p = λ (k : Key). of_source ip k && is_none (maps.get s k) in
-    let is : c.into_iter-key-iterator.result ≡ onward ip es = c.into_iter-key-iterator.ensures.into_iter_gives ∙ c.range-key-items.ensures.between tt ∙ ap (λ k. entries_between key_cmp (Included k) Unbounded es) c.first_of.ensures in
-    let held = entries_are key_cmp_total key_cmp_exact c.args.others.now c.range-key-items.ensures.ordered in (
-      ap₂ (slice_get {X = Key}) (ap (λ fs. filter p (map (λ e. e.0) fs)) is ∙ onward_new ip (λ k. is_none (maps.get s k)) es ∙ ap (λ fs. filter p (map (λ e. e.0) fs)) (sym held)) refl,
-      subst (Left ip) (sym is) (left_begun ip es (sorted_is key_cmp es c.range-key-items.ensures.ordered)),
+    let is : c.into_iter-key-iterator.result ≡ onward ip es = c.into_iter-key-iterator.ensures.into_iter_gives ∙ c.range_from-key-items.ensures ∙ ap (λ k. entries_between key_cmp (Included k) Unbounded es) c.first_of.ensures in (
+      ap₂ (slice_get {X = Key}) (ap (λ fs. filter p (map (λ e. e.0) fs)) is ∙ onward_new ip (λ k. is_none (maps.get s k)) es) refl,
+      subst (Left ip) (sym is) (left_begun ip es (maps.entries_sorted c.args.others.now)),
     )
 
 pub returns-then-ne : goal.returns-then-ne
 returns-then-ne c =
     let ip = c.args.ip in
-    let s = maps.from_entries {R = key_cmp} c.args.entries.now.entries in
+    let s = c.args.entries.now in
     let room = unwrap_or c.loop-key.known (c.args.most - held_keys (of_source ip) s) in
     let p = λ (k : Key). of_source ip k && is_none (maps.get s k) in
     let is = c.in-Some.ensures.steps in
@@ -46,14 +43,14 @@ lacked (Some x) true h = refl
 pub loop-key-preserved-then-contains_key : goal.loop-key-preserved-then-contains_key
 loop-key-preserved-then-contains_key c =
     let ip = c.args.ip in
-    let s = maps.from_entries {R = key_cmp} c.args.entries.now.entries in
+    let s = c.args.entries.now in
     let room = unwrap_or c.loop-key.known (c.args.most - held_keys (of_source ip) s) in
     let p = λ (k : Key). of_source ip k && is_none (maps.get s k) in
     let k = c.in-Some.key.now in
     let is = c.in-Some.ensures.steps in
     let e : Key × EntryValue = (k, c.in-Some._entry.now) in
     let left = subst (Left ip) is c.loop-key.invariant.1 in
-    let held : is_none (maps.get s k) ≡ false = lacked (maps.get s k) true (ap is_some (get_is key_cmp_total c.args.entries.now k) ∙ sym c.contains_key.ensures ∙ c.if-contains_key.true) in
+    let held : is_none (maps.get s k) ≡ false = lacked (maps.get s k) true (sym c.contains_key.ensures ∙ c.if-contains_key.true) in
     let out : p k ≡ false = ap (λ b. of_source ip k && b) held ∙ ap (λ b. b && false) (not_false _ (sym c.ne.ensures ∙ c.if-ne.false)) in (
       sym (ap (λ fs. slice_get (filter p (map (λ f. f.0) fs)) room) is ∙ one_out p e c.next.new.self room out) ∙ c.loop-key.invariant.0,
       left_next ip e c.next.new.self left,
@@ -62,12 +59,12 @@ loop-key-preserved-then-contains_key c =
 pub returns-then-room-eq0 : goal.returns-then-room-eq0
 returns-then-room-eq0 c =
     let ip = c.args.ip in
-    let s = maps.from_entries {R = key_cmp} c.args.entries.now.entries in
+    let s = c.args.entries.now in
     let p = λ (k : Key). of_source ip k && is_none (maps.get s k) in
     let k = c.in-Some.key.now in
     let is = c.in-Some.ensures.steps in
     let e : Key × EntryValue = (k, c.in-Some._entry.now) in
-    let new : is_none (maps.get s k) ≡ true = lacked (maps.get s k) false (ap is_some (get_is key_cmp_total c.args.entries.now k) ∙ sym c.contains_key.ensures ∙ c.if-contains_key.false) in
+    let new : is_none (maps.get s k) ≡ true = lacked (maps.get s k) false (sym c.contains_key.ensures ∙ c.if-contains_key.false) in
     let passes : p k ≡ true = ap₂ ◌&&◌ (not_false _ (sym c.ne.ensures ∙ c.if-ne.false)) new in
     sym (first_in p e c.next.new.self passes)
     ∙ sym (ap (λ fs. slice_get (filter p (map (λ f. f.0) fs)) 0) is)
@@ -77,14 +74,14 @@ returns-then-room-eq0 c =
 pub loop-key-preserved : goal.loop-key-preserved
 loop-key-preserved c =
     let ip = c.args.ip in
-    let s = maps.from_entries {R = key_cmp} c.args.entries.now.entries in
+    let s = c.args.entries.now in
     let room = unwrap_or c.loop-key.known (c.args.most - held_keys (of_source ip) s) in
     let p = λ (k : Key). of_source ip k && is_none (maps.get s k) in
     let k = c.in-Some.key.now in
     let is = c.in-Some.ensures.steps in
     let e : Key × EntryValue = (k, c.in-Some._entry.now) in
     let left = subst (Left ip) is c.loop-key.invariant.1 in
-    let new : is_none (maps.get s k) ≡ true = lacked (maps.get s k) false (ap is_some (get_is key_cmp_total c.args.entries.now k) ∙ sym c.contains_key.ensures ∙ c.if-contains_key.false) in
+    let new : is_none (maps.get s k) ≡ true = lacked (maps.get s k) false (sym c.contains_key.ensures ∙ c.if-contains_key.false) in
     let passes : p k ≡ true = ap₂ ◌&&◌ (not_false _ (sym c.ne.ensures ∙ c.if-ne.false)) new in (
       sym (ap (λ fs. slice_get (filter p (map (λ f. f.0) fs)) room) is
           ∙ ap (slice_get (filter p (map (λ f. f.0) (e ∷ c.next.new.self)))) (sym c.known_room-room.ensures)

@@ -1,66 +1,59 @@
 use Rattle.std.proofs.Common.{◌≡◌, ◌∙◌, sym, subst, arith}
-use Rattle.std.specs.Prelude.{[], Some, None}
+use Rattle.std.specs.Prelude.{Some, None}
 use Rattle.std.specs.FinMap as maps
 use Rattle.nb_datagram.specs.declared.key.Key.{Key}
-use Rattle.nb_datagram.specs.Key.{key_cmp}
 use Rattle.nb_table.specs.Entry.{EntryValue}
-use Rattle.nb_datagram.specs.KeyOrder.{key_cmp_total, key_cmp_exact}
-use Rattle.nb_table.specs.Shared.TreeLemmas.{entries_are, len_is, sorted_is}
 use Rattle.nb_table.proofs.Limits.UnfitLemmas.{Gone, few_fit, gone_begun, gone_turn, gone_same, gone_all, unfit_found}
 use Rattle.nb_table.proofs.sources.unfit_source.Goals as goal
 
 pub returns-then-len-from-clause-fit : goal.returns-then-len-from-clause-fit
 returns-then-len-from-clause-fit c _ =
-    let s = maps.from_entries {R = key_cmp} c.args.entries.now.entries in
-    let t = maps.from_entries {R = key_cmp} c.args.others.now.entries in
-    let own = len_is key_cmp_total key_cmp_exact c.args.entries.now c.len.ensures.ordered in
-    let others = len_is key_cmp_total key_cmp_exact c.args.others.now c.len-2.ensures.ordered in
-    let count = c.len.ensures.len in
-    let count_too = c.len-2.ensures.len in
+    let s = c.args.entries.now in
+    let t = c.args.others.now in
+    let count = c.len.ensures.count in
+    let count_too = c.len-2.ensures.count in
     let limit = c.from.ensures in
     let few = c.if-len-from.true in
-    few_fit c.args.most s t (omega (arith, own, others, count, count_too, limit, few))
+    few_fit c.args.most s t (omega (arith, count, count_too, limit, few))
 
 pub loop-key-init : goal.loop-key-init
 loop-key-init c =
-    let s = maps.from_entries {R = key_cmp} c.args.entries.now.entries in
-    let t = maps.from_entries {R = key_cmp} c.args.others.now.entries in
-    let es = c.args.others.now.entries in
-    let is : c.into_iter-key-iterator.result ≡ es = c.into_iter-key-iterator.ensures.into_iter_gives.0 in
-    subst (Gone c.args.most s t None es) (sym is) (gone_begun c.args.most s t es (sorted_is key_cmp es c.len-2.ensures.ordered))
+    let s = c.args.entries.now in
+    let t = c.args.others.now in
+    let es = maps.entries c.args.others.now in
+    let is : c.into_iter-key-iterator.result ≡ es = c.into_iter-key-iterator.ensures.into_iter_gives ∙ c.iter-key-items.ensures in
+    subst (Gone c.args.most s t None es) (sym is) (gone_begun c.args.most s t es (maps.entries_sorted c.args.others.now))
 
 pub loop-key-preserved-then-is_of_one : goal.loop-key-preserved-then-is_of_one
 loop-key-preserved-then-is_of_one c =
-    let s = maps.from_entries {R = key_cmp} c.args.entries.now.entries in
-    let t = maps.from_entries {R = key_cmp} c.args.others.now.entries in
-    let es = c.args.others.now.entries in
+    let s = c.args.entries.now in
+    let t = c.args.others.now in
+    let es = maps.entries c.args.others.now in
     let e : Key × EntryValue = (c.in-Some.key.now, c.in-Some._entry.now) in
     gone_same c.args.most s t c.loop-key.before es e c.next.new.self (subst (Gone c.args.most s t c.loop-key.before es) c.in-Some.ensures.steps c.loop-key.invariant) (c.is_of_one.ensures.0 c.if-is_of_one.true)
 
 pub returns-in-Some-unfit_of-clause-unfit : goal.returns-in-Some-unfit_of-clause-unfit
 returns-in-Some-unfit_of-clause-unfit c =
-    let s = maps.from_entries {R = key_cmp} c.args.entries.now.entries in
-    let t = maps.from_entries {R = key_cmp} c.args.others.now.entries in
-    let es = c.args.others.now.entries in
+    let s = c.args.entries.now in
+    let t = c.args.others.now in
+    let es = maps.entries c.args.others.now in
     let e : Key × EntryValue = (c.in-Some.key.now, c.in-Some._entry.now) in
     let gone = subst (Gone c.args.most s t c.loop-key.before es) c.in-Some.ensures.steps c.loop-key.invariant in
-    let all = entries_are key_cmp_total key_cmp_exact c.args.others.now c.len-2.ensures.ordered in
-    unfit_found c.args.most s t gone.done e c.next.new.self c.in-Some-unfit_of.unfit (all ∙ gone.is) gone.sorted gone.none (sym c.unfit_of.ensures ∙ c.in-Some-unfit_of.is)
+    unfit_found c.args.most s t gone.done e c.next.new.self c.in-Some-unfit_of.unfit gone.is gone.sorted gone.none (sym c.unfit_of.ensures ∙ c.in-Some-unfit_of.is)
 
 pub loop-key-preserved : goal.loop-key-preserved
 loop-key-preserved c =
-    let s = maps.from_entries {R = key_cmp} c.args.entries.now.entries in
-    let t = maps.from_entries {R = key_cmp} c.args.others.now.entries in
-    let es = c.args.others.now.entries in
+    let s = c.args.entries.now in
+    let t = c.args.others.now in
+    let es = maps.entries c.args.others.now in
     let e : Key × EntryValue = (c.in-Some.key.now, c.in-Some._entry.now) in
     let none = sym c.unfit_of.ensures ∙ c.in_default.is in
     gone_turn c.args.most s t c.loop-key.before (Some c.in-Some.key.now) es e c.next.new.self (subst (Gone c.args.most s t c.loop-key.before es) c.in-Some.ensures.steps c.loop-key.invariant) none none
 
 pub returns-clause-fit : goal.returns-clause-fit
 returns-clause-fit c _ =
-    let s = maps.from_entries {R = key_cmp} c.args.entries.now.entries in
-    let t = maps.from_entries {R = key_cmp} c.args.others.now.entries in
-    let es = c.args.others.now.entries in
-    let all = entries_are key_cmp_total key_cmp_exact c.args.others.now c.len-2.ensures.ordered in
+    let s = c.args.entries.now in
+    let t = c.args.others.now in
+    let es = maps.entries c.args.others.now in
     gone_all c.args.most s t c.loop-key.before
-    (subst (λ fs. Gone c.args.most s t c.loop-key.before fs []) (sym all) (subst (Gone c.args.most s t c.loop-key.before es) c.in-None.ensures.steps.0 c.loop-key.invariant))
+    (subst (Gone c.args.most s t c.loop-key.before es) c.in-None.ensures.steps.0 c.loop-key.invariant)

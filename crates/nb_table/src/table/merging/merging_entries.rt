@@ -2,7 +2,6 @@
 ghost use Rattle.std.specs.Prelude.{◌≡◌, ◌++◌, [], IfOk, OnOk, OnErr};
 ghost use Rattle.std.specs.List.{cons_option, AllByRecursion};
 ghost use Rattle.std.specs.FinMap as maps;
-ghost use Rattle.nb_datagram.specs.Key.{key_cmp};
 ghost use Rattle.nb_datagram.specs.declared.limits.TheConstants.{MAX_LENGTH};
 ghost use Rattle.nb_table.specs.Maps.{joined_onto};
 ghost use Rattle.nb_table.specs.Entry.{join_entry};
@@ -13,27 +12,27 @@ ghost use Rattle.nb_table.specs.Code.Each.{joined_each};
 ghost use Rattle.nb_table.specs.Code.Handed.{handed, handed_at, with_entry};
 ghost use Rattle.nb_table.specs.Code.TakenBack.{taken_back};
 
-use super::taking_back::take_back;
+use super::taking_back::{put_noted, take_back};
+use crate::entries::Entries;
 use crate::entry::Entry;
 use nb_datagram::{Datagram, Datagrams, Key};
 use nb_names::NoMemory;
 use std::alloc::Global;
-use std::collections::{BTreeMap, btree_map};
+use std::collections::btree_map;
 
 /// The join of another entry with that of its key, and the datagram, if the key becomes whole by
 /// this.
 fn joined_at(
     alloc: Global,
-    entries: &BTreeMap<Key, Entry>,
+    entries: &Entries,
     key: Key,
     other: &Entry,
 ) -> Result<(Entry, Option<Datagram>), NoMemory>
-    requires own { AllShort MAX_LENGTH (maps.from_entries {R = key_cmp} entries.now.entries) }
+    requires own { AllShort MAX_LENGTH entries.now }
     requires other { IsShort MAX_LENGTH other.now }
     ensures entry { IfOk result (λ made. made.0 ≡ joined_onto join_entry
-        (maps.get (maps.from_entries {R = key_cmp} entries.now.entries) key) other.now) }
-    ensures datagram { IfOk result (λ made. made.1 ≡ handed_at
-        (maps.from_entries {R = key_cmp} entries.now.entries) key other.now) }
+        (maps.get entries.now key) other.now) }
+    ensures datagram { IfOk result (λ made. made.1 ≡ handed_at entries.now key other.now) }
 {
     match entries.get(&key) {
         Some(entry) => entry.joined(alloc, key, other),
@@ -45,36 +44,9 @@ fn joined_at(
     }
 }
 
-/// Joins another entry to that of its key. What stood there before, and the datagram, if the key
-/// becomes whole by this.
-fn join_at(
-    alloc: Global,
-    entries: &mut BTreeMap<Key, Entry>,
-    key: Key,
-    other: &Entry,
-) -> Result<(Option<Entry>, Option<Datagram>), NoMemory>
-    requires own { AllShort MAX_LENGTH (maps.from_entries {R = key_cmp} entries.old.entries) }
-    requires other { IsShort MAX_LENGTH other.now }
-    ensures joined { OnOk result (maps.from_entries {R = key_cmp} entries.new.entries
-        ≡ with_entry (maps.from_entries {R = key_cmp} entries.old.entries) key other.now) }
-    ensures before { IfOk result (λ made.
-        made.0 ≡ maps.get (maps.from_entries {R = key_cmp} entries.old.entries) key) }
-    ensures datagram { IfOk result (λ made. made.1 ≡ handed_at
-        (maps.from_entries {R = key_cmp} entries.old.entries) key other.now) }
-    ensures err { OnErr result (maps.from_entries {R = key_cmp} entries.new.entries
-        ≡ maps.from_entries {R = key_cmp} entries.old.entries) }
-{
-    let (joined, datagram) = joined_at(alloc, entries, key, other)?;
-    match entries.insert(key, joined) {
-        Ok(before) => Ok((before, datagram)),
-        Err(_) => Err(NoMemory),
-    }
-}
-
 /// Adds the datagram, if there is one.
 fn push_some(datagrams: &mut Vec<Datagram>, datagram: Option<Datagram>) -> Result<(), NoMemory>
-    ensures { OnOk result
-        (datagrams.new.items ≡ datagrams.old.items ++ cons_option datagram []) }
+    ensures { OnOk result (datagrams.new.items ≡ datagrams.old.items ++ cons_option datagram []) }
 {
     if let Some(datagram) = datagram {
         datagrams.push(datagram)?;
@@ -85,26 +57,23 @@ fn push_some(datagrams: &mut Vec<Datagram>, datagram: Option<Datagram>) -> Resul
 /// Joins another entry to that of its key, and notes what stood there before, and the datagram, if
 /// the key becomes whole by this.
 fn join_noted(
-    entries: &mut BTreeMap<Key, Entry>,
+    entries: &mut Entries,
     key: Key,
     other: &Entry,
     changes: &mut Vec<(Key, Option<Entry>)>,
     datagrams: &mut Vec<Datagram>,
 ) -> Result<(), NoMemory>
-    requires own { AllShort MAX_LENGTH (maps.from_entries {R = key_cmp} entries.old.entries) }
+    requires own { AllShort MAX_LENGTH entries.old }
     requires other { IsShort MAX_LENGTH other.now }
-    ensures joined { OnOk result (maps.from_entries {R = key_cmp} entries.new.entries
-        ≡ with_entry (maps.from_entries {R = key_cmp} entries.old.entries) key other.now) }
+    ensures joined { OnOk result (entries.new ≡ with_entry entries.old key other.now) }
     ensures handed { OnOk result (datagrams.new.items ≡ datagrams.old.items ++ cons_option
-        (handed_at (maps.from_entries {R = key_cmp} entries.old.entries) key other.now) []) }
-    ensures noted { taken_back (maps.from_entries {R = key_cmp} entries.new.entries)
-        changes.new.items
-        ≡ taken_back (maps.from_entries {R = key_cmp} entries.old.entries) changes.old.items }
+        (handed_at entries.old key other.now) []) }
+    ensures noted { taken_back entries.new changes.new.items
+        ≡ taken_back entries.old changes.old.items }
 {
     let alloc = *datagrams.allocator();
-    changes.reserve(1)?;
-    let (before, datagram) = join_at(alloc, entries, key, other)?;
-    changes.push((key, before)).unwrap();
+    let (joined, datagram) = joined_at(alloc, entries, key, other)?;
+    put_noted(entries, key, joined, changes)?;
     push_some(datagrams, datagram)
 }
 
@@ -112,23 +81,21 @@ fn join_noted(
 /// key becomes whole by this.
 pub(super) fn join_in_place(
     alloc: Global,
-    entries: &mut BTreeMap<Key, Entry>,
+    entries: &mut Entries,
     key: Key,
     other: &Entry,
 ) -> Result<Option<Datagram>, NoMemory>
-    requires own { AllShort MAX_LENGTH (maps.from_entries {R = key_cmp} entries.old.entries) }
+    requires own { AllShort MAX_LENGTH entries.old }
     requires other { IsShort MAX_LENGTH other.now }
-    ensures joined { OnOk result (maps.from_entries {R = key_cmp} entries.new.entries
-        ≡ with_entry (maps.from_entries {R = key_cmp} entries.old.entries) key other.now) }
-    ensures datagram { IfOk result (λ datagram. datagram ≡ handed_at
-        (maps.from_entries {R = key_cmp} entries.old.entries) key other.now) }
-    ensures err { OnErr result (maps.from_entries {R = key_cmp} entries.new.entries
-        ≡ maps.from_entries {R = key_cmp} entries.old.entries) }
+    ensures joined { OnOk result (entries.new ≡ with_entry entries.old key other.now) }
+    ensures datagram { IfOk result (λ datagram. datagram ≡ handed_at entries.old key other.now) }
+    ensures err { OnErr result (entries.new ≡ entries.old) }
 {
     match entries.get_mut(&key) {
         Some(entry) => entry.grow_by(alloc, key, other),
         None => {
-            let (_, datagram) = join_at(alloc, entries, key, other)?;
+            let (joined, datagram) = joined_at(alloc, entries, key, other)?;
+            entries.insert(key, joined)?;
             Ok(datagram)
         }
     }
@@ -137,19 +104,17 @@ pub(super) fn join_in_place(
 /// Joins another entry to that of its key, in place where the key is held, and notes the datagram,
 /// if the key becomes whole by this.
 fn join_last(
-    entries: &mut BTreeMap<Key, Entry>,
+    entries: &mut Entries,
     key: Key,
     other: &Entry,
     datagrams: &mut Vec<Datagram>,
 ) -> Result<(), NoMemory>
-    requires own { AllShort MAX_LENGTH (maps.from_entries {R = key_cmp} entries.old.entries) }
+    requires own { AllShort MAX_LENGTH entries.old }
     requires other { IsShort MAX_LENGTH other.now }
-    ensures joined { OnOk result (maps.from_entries {R = key_cmp} entries.new.entries
-        ≡ with_entry (maps.from_entries {R = key_cmp} entries.old.entries) key other.now) }
+    ensures joined { OnOk result (entries.new ≡ with_entry entries.old key other.now) }
     ensures handed { OnOk result (datagrams.new.items ≡ datagrams.old.items ++ cons_option
-        (handed_at (maps.from_entries {R = key_cmp} entries.old.entries) key other.now) []) }
-    ensures err { OnErr result (maps.from_entries {R = key_cmp} entries.new.entries
-        ≡ maps.from_entries {R = key_cmp} entries.old.entries) }
+        (handed_at entries.old key other.now) []) }
+    ensures err { OnErr result (entries.new ≡ entries.old) }
 {
     let alloc = *datagrams.allocator();
     datagrams.reserve(1)?;
@@ -162,23 +127,19 @@ fn join_last(
 /// Joins each of the others to the entry of its key, and notes what stood there before, and the
 /// datagrams of the keys that become whole by this.
 fn join_rest(
-    entries: &mut BTreeMap<Key, Entry>,
+    entries: &mut Entries,
     others: btree_map::Iter<'_, Key, Entry>,
     changes: &mut Vec<(Key, Option<Entry>)>,
     datagrams: &mut Vec<Datagram>,
 ) -> Result<(), NoMemory>
-    requires own { AllShort MAX_LENGTH (maps.from_entries {R = key_cmp} entries.old.entries) }
+    requires own { AllShort MAX_LENGTH entries.old }
     requires other { AllByRecursion (λ e. IsShort MAX_LENGTH e.1) others }
-    ensures short { OnOk result
-        (AllShort MAX_LENGTH (maps.from_entries {R = key_cmp} entries.new.entries)) }
-    ensures joined { OnOk result (maps.from_entries {R = key_cmp} entries.new.entries
-        ≡ joined_each join_entry (maps.from_entries {R = key_cmp} entries.old.entries)
-        others.entry) }
+    ensures short { OnOk result (AllShort MAX_LENGTH entries.new) }
+    ensures joined { OnOk result (entries.new ≡ joined_each join_entry entries.old others.entry) }
     ensures handed { OnOk result (datagrams.new.items ≡ datagrams.old.items
-        ++ handed (maps.from_entries {R = key_cmp} entries.old.entries) others.entry) }
-    ensures noted { taken_back (maps.from_entries {R = key_cmp} entries.new.entries)
-        changes.new.items
-        ≡ taken_back (maps.from_entries {R = key_cmp} entries.old.entries) changes.old.items }
+        ++ handed entries.old others.entry) }
+    ensures noted { taken_back entries.new changes.new.items
+        ≡ taken_back entries.old changes.old.items }
 {
     for (key, other) in others {
         join_noted(entries, *key, other, changes, datagrams)?;
@@ -190,22 +151,17 @@ fn join_rest(
 /// at the others before. The datagrams of the keys that become whole by this, ascending.
 fn join_each(
     alloc: Global,
-    entries: &mut BTreeMap<Key, Entry>,
-    others: &BTreeMap<Key, Entry>,
+    entries: &mut Entries,
+    others: &Entries,
     changes: &mut Vec<(Key, Option<Entry>)>,
 ) -> Result<Vec<Datagram>, NoMemory>
-    requires own { AllShort MAX_LENGTH (maps.from_entries {R = key_cmp} entries.old.entries) }
-    requires other { AllShort MAX_LENGTH (maps.from_entries {R = key_cmp} others.now.entries) }
-    ensures joined { OnOk result (maps.from_entries {R = key_cmp} entries.new.entries
-        ≡ join (maps.from_entries {R = key_cmp} entries.old.entries)
-        (maps.from_entries {R = key_cmp} others.now.entries)) }
-    ensures handed { IfOk result (λ datagrams. datagrams.items
-        ≡ newly_handed (maps.from_entries {R = key_cmp} entries.old.entries)
-        (join (maps.from_entries {R = key_cmp} entries.old.entries)
-        (maps.from_entries {R = key_cmp} others.now.entries))) }
-    ensures noted { OnErr result (taken_back (maps.from_entries {R = key_cmp} entries.new.entries)
-        changes.new.items
-        ≡ taken_back (maps.from_entries {R = key_cmp} entries.old.entries) changes.old.items) }
+    requires own { AllShort MAX_LENGTH entries.old }
+    requires other { AllShort MAX_LENGTH others.now }
+    ensures joined { OnOk result (entries.new ≡ join entries.old others.now) }
+    ensures handed { IfOk result (λ datagrams. datagrams.items ≡ newly_handed entries.old
+        (join entries.old others.now)) }
+    ensures noted { OnErr result (taken_back entries.new changes.new.items
+        ≡ taken_back entries.old changes.old.items) }
 {
     let mut datagrams = Vec::new(alloc);
     let mut rest = others.iter();
@@ -221,20 +177,15 @@ fn join_each(
 /// of the keys that become whole by this, ascending.
 pub(super) fn merge_entries(
     alloc: Global,
-    entries: &mut BTreeMap<Key, Entry>,
-    others: &BTreeMap<Key, Entry>,
+    entries: &mut Entries,
+    others: &Entries,
 ) -> Result<Datagrams, NoMemory>
-    requires own { AllShort MAX_LENGTH (maps.from_entries {R = key_cmp} entries.old.entries) }
-    requires other { AllShort MAX_LENGTH (maps.from_entries {R = key_cmp} others.now.entries) }
-    ensures joined { OnOk result (maps.from_entries {R = key_cmp} entries.new.entries
-        ≡ join (maps.from_entries {R = key_cmp} entries.old.entries)
-        (maps.from_entries {R = key_cmp} others.now.entries)) }
-    ensures handed { IfOk result (λ datagrams. datagrams
-        ≡ newly_handed (maps.from_entries {R = key_cmp} entries.old.entries)
-        (join (maps.from_entries {R = key_cmp} entries.old.entries)
-        (maps.from_entries {R = key_cmp} others.now.entries))) }
-    ensures err { OnErr result (maps.from_entries {R = key_cmp} entries.new.entries
-        ≡ maps.from_entries {R = key_cmp} entries.old.entries) }
+    requires own { AllShort MAX_LENGTH entries.old }
+    requires other { AllShort MAX_LENGTH others.now }
+    ensures joined { OnOk result (entries.new ≡ join entries.old others.now) }
+    ensures handed { IfOk result (λ datagrams. datagrams ≡ newly_handed entries.old
+        (join entries.old others.now)) }
+    ensures err { OnErr result (entries.new ≡ entries.old) }
 {
     let mut changes = Vec::new(alloc);
     match join_each(alloc, entries, others, &mut changes) {

@@ -25,10 +25,6 @@ impl Table {
             other.contents) }
         ensures err { OnErr result (self.new ≡ self.old) }
     {
-        if self.counts.is_some() {
-            self.merge(&other)?;
-            return Ok(());
-        }
         self.fits(&other)?;
         Ok(move_entries(self.alloc, &mut self.entries, other.entries)?)
     }

@@ -1,9 +1,6 @@
 use Rattle.std.proofs.Common.{Ok, Err, refl, subst}
 use Rattle.std.proofs.lemmas.Result.{IfErr-weaker, on_ok_weaker}
-use Rattle.nb_datagram.specs.LentPacket.{packet_of}
-use Rattle.nb_datagram.specs.declared.packet.QueryPacket.{QueryPacket}
-use Rattle.nb_datagram.specs.declared.lent_packet.LentPacket.{LentPacket}
-use Rattle.nb_datagram.specs.Packet.{IsPacket}
+use Rattle.nb_datagram.specs.Packet.{Packet, IsPacket}
 use Rattle.nb_member.specs.declared.outcome.Outcome.TheVariants.{Other}
 use Rattle.nb_member.specs.declared.member_fault.MemberFault.{MemberFault}
 use Rattle.nb_member.proofs.member.Member.hold.Goals as goal
@@ -12,13 +9,13 @@ use Rattle.nb_member.specs.Taking.{Takes, TakesFragment, fragment, error, query,
 pub returns-in-Ok-Direct-default-clause-taken : goal.returns-in-Ok-Direct-default-clause-taken
 returns-in-Ok-Direct-default-clause-taken c =
     let d = c.in-Ok-Direct-default in
-    let found = subst (λ (p : LentPacket). IsPacket c.args.payload.now (packet_of p) d.field-0-1) d.field-0-0-is d.ensures.found in
+    let found = subst (λ (p : Packet). IsPacket c.args.payload.now p d.field-0-1) d.field-0-0-is d.ensures.found in
     on_ok_weaker c.hold_fragment.result (λ taken. (taken.0, fragment d.fragment d.field-0-1 (Ok taken.0) found taken.1)) c.hold_fragment.ensures.taken
 
 pub returns-in-Ok-Direct-default-clause-refused : goal.returns-in-Ok-Direct-default-clause-refused
 returns-in-Ok-Direct-default-clause-refused c =
     let d = c.in-Ok-Direct-default in
-    let found = subst (λ (p : LentPacket). IsPacket c.args.payload.now (packet_of p) d.field-0-1) d.field-0-0-is d.ensures.found in
+    let found = subst (λ (p : Packet). IsPacket c.args.payload.now p d.field-0-1) d.field-0-0-is d.ensures.found in
     IfErr-weaker c.hold_fragment.result
     (λ (fault : MemberFault). TakesFragment c.args.self.now c.args.moment d.fragment c.hold_fragment.new.self (Err fault))
     (λ fault. Takes c.args.self.now c.args.moment c.args.payload.now c.hold_fragment.new.self (Err fault))
@@ -27,15 +24,14 @@ returns-in-Ok-Direct-default-clause-refused c =
 pub returns-in-Ok-Error-default-clause-taken : goal.returns-in-Ok-Error-default-clause-taken
 returns-in-Ok-Error-default-clause-taken c =
     let d = c.in-Ok-Error-default in
-    let found = subst (λ (p : LentPacket). IsPacket c.args.payload.now (packet_of p) d.field-0-1) d.field-0-0-is d.ensures.found in
+    let found = subst (λ (p : Packet). IsPacket c.args.payload.now p d.field-0-1) d.field-0-0-is d.ensures.found in
     (Other, error d.field-0-0-0 d.field-0-1 found refl)
 
 pub returns-in-Ok-Query-default-clause-taken : goal.returns-in-Ok-Query-default-clause-taken
 returns-in-Ok-Query-default-clause-taken c =
     let d = c.in-Ok-Query-default in
-    let found = subst (λ (p : LentPacket). IsPacket c.args.payload.now (packet_of p) d.field-0-1) d.field-0-0-is d.ensures.found in
-    let asked : QueryPacket = record { kind = d.field-0-0-0.kind; flags = d.field-0-0-0.flags; key = d.field-0-0-0.key; destination = d.field-0-0-0.destination } in
-    (Other, query asked d.field-0-1 found refl)
+    let found = subst (λ (p : Packet). IsPacket c.args.payload.now p d.field-0-1) d.field-0-0-is d.ensures.found in
+    (Other, query d.field-0-0-0 d.field-0-1 found refl)
 
 pub returns-in-Err-clause-refused : goal.returns-in-Err-clause-refused
 returns-in-Err-clause-refused c =

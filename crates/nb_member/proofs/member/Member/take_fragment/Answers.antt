@@ -1,8 +1,6 @@
 use Rattle.std.proofs.Common.{ap, subst, sym, ◌∙◌}
 use Rattle.nb_datagram.specs.declared.key.Key.{Key}
-use Rattle.nb_table.specs.declared.change.Change.{Change}
-use Rattle.nb_table.specs.Change.{IsChange}
-use Rattle.nb_table.specs.Code.Change.{change_of}
+use Rattle.nb_table.specs.Change.{Change, IsChange}
 use Rattle.nb_member.proofs.member.Member.take_fragment.Goals as goal
 use Rattle.nb_member.proofs.member.Member.take_fragment.Goals.{in-Ok, in-Err}
 use Rattle.nb_member.specs.Member.{MemberValue, with_timed}
@@ -17,10 +15,10 @@ returns c =
           rw w.result-is (rw (← c.self.view_is) (record {
             takes = w.in-Ok.ensures.taken;
             joined = ap (with_timed m) w.in-Ok.ensures.joined;
-            change = change_of w.in-Ok.change;
+            change = w.in-Ok.change;
             changed = subst (λ (x : Change). IsChange c.self.inside.timed.table.contents c.insert.new.self.table.contents c.args.fragment.now.key x) (sym told.2) told.1;
             answered = w.outcome_of.ensures
-                ∙ ap (λ (k : Key). outcome_of m.settings m.names k (change_of w.in-Ok.change)) c.key-key.ensures;
+                ∙ ap (λ (k : Key). outcome_of m.settings m.names k w.in-Ok.change) c.key-key.ensures;
           }))
       | in-Err w ↦
           rw w.result-is (rw (← c.self.view_is) (w.in-Err.ensures.refused, ap (with_timed m) w.in-Err.ensures.kept))

@@ -1,7 +1,5 @@
 use Rattle.std.proofs.Common.{[], ◌∷◌, ◌++◌, ◌∙◌, inr, arith}
 use Rattle.std.proofs.lemmas.Result.{err_from_is_err_and}
-use Rattle.std.specs.FinMap as maps
-use Rattle.nb_datagram.specs.Key.{key_cmp}
 use Rattle.nb_datagram.specs.KeyOrder.{key_cmp_total, key_cmp_exact}
 use Rattle.nb_table.proofs.Runs.EachPutLemmas.{each_is, each_put}
 use Rattle.nb_table.proofs.SavedReading.LoadedLemmas.{entries_ascend}
@@ -36,5 +34,5 @@ loop-preserved c =
     record {
       done = done ++ (key, entry) ∷ [];
       so_far = entries_turn c.args.form _ _ _ _ _ _ _ _ _ _ _ c.loop.invariant.so_far c.in_ok-key.ensures c.in_ok-entry.ensures;
-      kept = each_put (maps.from_entries {R = key_cmp} c.loop.map.entries) _ done key entry _ c.loop.invariant.kept c.in_ok-keep.ensures c.in_ok-load.ensures;
+      kept = each_put c.loop.map _ done key entry _ c.loop.invariant.kept c.in_ok-keep.ensures c.in_ok-load.ensures;
     }

@@ -1,7 +1,6 @@
 use Rattle.std.proofs.Common.{◌≡◌, List}
 use Rattle.std.specs.FinMap as maps
 use Rattle.nb_datagram.specs.declared.key.Key.{Key}
-use Rattle.nb_datagram.specs.Key.{key_cmp}
 use Rattle.nb_table.specs.Code.Each.{with_each}
 use Rattle.nb_table.specs.Entry.{EntryValue}
 use Rattle.nb_table.proofs.SavedReading.TurnLemmas.{EntriesSoFar}
@@ -11,5 +10,5 @@ abbrev pub invariant-loop : goal.invariant-loop
 invariant-loop l = record {
   done : List (Key × EntryValue);
   so_far : EntriesSoFar l.form l.input l.count l.at l.counter l.before l.here done;
-  kept : maps.from_entries {R = key_cmp} l.map.entries ≡ with_each maps.empty done;
+  kept : l.map ≡ with_each maps.empty done;
 }

@@ -1,13 +1,9 @@
 use Rattle.std.proofs.Common.{◌≤◌, rules, sym, refl, ◌∙◌, ap}
 use Rattle.std.proofs.lemmas.Result.{IfOk-weaker}
 use Rattle.std.specs.Option.{option_and_then}
-use Rattle.std.specs.FinMap as maps
-use Rattle.nb_datagram.specs.Key.{key_cmp}
 use Rattle.nb_datagram.specs.declared.limits.TheConstants.{MAX_LENGTH}
 use Rattle.nb_table.specs.Limits.{TableValue}
 use Rattle.nb_table.specs.Whole.{datagram_of}
-use Rattle.nb_datagram.specs.KeyOrder.{key_cmp_total}
-use Rattle.nb_table.specs.Shared.TreeLemmas.{get_is}
 use Rattle.nb_table.proofs.SavedBytes.ShortLemmas.{all_short}
 use Rattle.nb_table.proofs.table.Table.datagram.Goals as goal
 
@@ -15,14 +11,14 @@ pub datagram_of-requires : goal.datagram_of-requires
 datagram_of-requires c =
     let m = c.self.inside.entries in
     let most : c.self.inside.longest ≤ MAX_LENGTH = search rules in
-    let t : TableValue = record { contents = maps.from_entries {R = key_cmp} m.entries; limits = record { keys = c.self.inside.keys; per_source = c.self.inside.per_source; longest = c.self.inside.longest } } in
-    all_short t c.self.invariant.0 most c.args.key.now c.in-Some.entry.now (get_is key_cmp_total m c.args.key.now ∙ sym c.in-Some.ensures.value)
+    let t : TableValue = record { contents = m; limits = record { keys = c.self.inside.keys; per_source = c.self.inside.per_source; longest = c.self.inside.longest } } in
+    all_short t c.self.invariant most c.args.key.now c.in-Some.entry.now (sym c.in-Some.ensures)
 
 pub returns-in-Some : goal.returns-in-Some
 returns-in-Some c =
     let m = c.self.inside.entries in
     let k = c.args.key.now in
-    let found = get_is key_cmp_total m k ∙ sym c.in-Some.ensures.value in
+    let found = sym c.in-Some.ensures in
     let there = ap (option_and_then (datagram_of k)) found in
     rw (← c.self.view_is) (record {
       value = IfOk-weaker c.datagram_of.result _ _ (λ datagram is. is ∙ sym there) c.datagram_of.ensures.value;
@@ -34,6 +30,6 @@ returns-in-None c =
     let m = c.self.inside.entries in
     let k = c.args.key.now in
     rw (← c.self.view_is) (record {
-      value = sym (ap (option_and_then (datagram_of k)) (get_is key_cmp_total m k ∙ sym c.in-None.ensures.value));
+      value = sym (ap (option_and_then (datagram_of k)) (sym c.in-None.ensures));
       no_memory_needed = λ none. refl;
     })

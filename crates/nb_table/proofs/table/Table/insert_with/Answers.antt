@@ -1,44 +1,29 @@
 use Rattle.std.proofs.Common.{◌≤◌, ◌∙◌, sym, ap, subst, arith, rules, Err}
 use Rattle.std.proofs.lemmas.Option.{MatchOption-at_none}
 use Rattle.std.specs.Result.{IfErr}
-use Rattle.std.specs.FinMap as maps
-use Rattle.nb_datagram.specs.Key.{key_cmp}
 use Rattle.nb_datagram.specs.Fragment.{core_of}
 use Rattle.nb_datagram.specs.declared.limits.TheConstants.{MAX_LENGTH}
-use Rattle.nb_table.specs.declared.change.Change.{Change}
 use Rattle.nb_table.specs.Contents.{Contents}
 use Rattle.nb_table.specs.Limits.{TableValue, KeepsLimits}
-use Rattle.nb_table.specs.Change.{IsChange}
+use Rattle.nb_table.specs.Change.{Change, IsChange}
 use Rattle.nb_table.specs.Insert.{Refuses, Takes}
 use Rattle.nb_table.specs.Shared.FragmentLemmas.{join_one}
 use Rattle.nb_table.proofs.Changes.InsertLemmas.{short_more, memory_alone, spared, insert_keeps, change_at}
-use Rattle.nb_table.proofs.Limits.CountLemmas.{room_of_one}
 use Rattle.nb_table.proofs.table.Table.insert_with.Goals.{After-from_residual}
 use Rattle.nb_table.proofs.table.Table.insert_with.Goals as goal
 
-pub join_counted-requires-clause-fragment : goal.join_counted-requires-clause-fragment
-join_counted-requires-clause-fragment c =
+pub join_fragment-requires-clause-fragment : goal.join_fragment-requires-clause-fragment
+join_fragment-requires-clause-fragment c =
     let most : c.self.inside.longest ≤ MAX_LENGTH = search rules in
     let takes = MatchOption-at_none (Takes c.args.self.now c.args.fragment.now) (Refuses c.args.self.now c.args.fragment.now) c.in_default.is c.refusal_of_lent.ensures.refusal in
     let short = takes.passes.short in
     let limit = ap (λ (t : TableValue). t.limits.longest) c.self.view_is in
     omega (arith, short, most, limit)
 
-pub join_counted-requires-clause-entry : goal.join_counted-requires-clause-entry
-join_counted-requires-clause-entry c e g =
+pub join_fragment-requires-clause-entry : goal.join_fragment-requires-clause-entry
+join_fragment-requires-clause-entry c e g =
     let most : c.self.inside.longest ≤ MAX_LENGTH = search rules in
-    short_more c.self.inside.longest MAX_LENGTH e most (c.self.invariant.0.short c.args.fragment.now.key e g)
-
-pub join_counted-requires-clause-counted : goal.join_counted-requires-clause-counted
-join_counted-requires-clause-counted c = c.self.invariant.1
-
-pub join_counted-requires-clause-room : goal.join_counted-requires-clause-room
-join_counted-requires-clause-room c none =
-    let old : TableValue = record { contents = maps.from_entries {R = key_cmp} c.self.inside.entries.entries; limits = record { keys = c.self.inside.keys; per_source = c.self.inside.per_source; longest = c.self.inside.longest } } in
-    let most : c.self.inside.per_source ≤ 4294967295 = search rules in
-    let takes : Takes old c.args.fragment.now = rw c.self.view_is (MatchOption-at_none (Takes c.args.self.now c.args.fragment.now) (Refuses c.args.self.now c.args.fragment.now) c.in_default.is c.refusal_of_lent.ensures.refusal) in
-    let room = room_of_one old.limits old.contents c.args.fragment.now.key none takes.source_room in
-    omega (arith, room, most)
+    short_more c.self.inside.longest MAX_LENGTH e most (c.self.invariant.short c.args.fragment.now.key e g)
 
 -- ---- refused
 
@@ -64,23 +49,21 @@ returns-in_err-change-clause-without_memory c passes spares =
 
 pub invariant_of-self-2 : goal.invariant_of-self-2
 invariant_of-self-2 c =
-    let old : TableValue = record { contents = maps.from_entries {R = key_cmp} c.self.inside.entries.entries; limits = record { keys = c.self.inside.keys; per_source = c.self.inside.per_source; longest = c.self.inside.longest } } in
+    let old : TableValue = record { contents = c.self.inside.entries; limits = record { keys = c.self.inside.keys; per_source = c.self.inside.per_source; longest = c.self.inside.longest } } in
     let f = c.args.fragment.now in
-    let takes : Takes old f = rw c.self.view_is (MatchOption-at_none (Takes c.args.self.now f) (Refuses c.args.self.now f) c.in_default.is c.refusal_of_lent.ensures.refusal) in (
-      subst (λ t. KeepsLimits (record { contents = t; limits = old.limits })) (sym c.in_ok-change.ensures.joined)
-          (insert_keeps old (core_of f) c.self.invariant.0 takes.passes.short takes.source_room takes.room),
-      c.join_counted.ensures.counted,
-    )
+    let takes : Takes old f = rw c.self.view_is (MatchOption-at_none (Takes c.args.self.now f) (Refuses c.args.self.now f) c.in_default.is c.refusal_of_lent.ensures.refusal) in
+    subst (λ t. KeepsLimits (record { contents = t; limits = old.limits })) (sym c.in_ok-change.ensures.joined)
+    (insert_keeps old (core_of f) c.self.invariant takes.passes.short takes.source_room takes.room)
 
 pub returns-clause-joined : goal.returns-clause-joined
 returns-clause-joined c =
     let limits = c.self.inside in
-    let contents = c.in_ok-change.ensures.joined ∙ sym (join_one (maps.from_entries {R = key_cmp} c.self.inside.entries.entries) (core_of c.args.fragment.now)) in
+    let contents = c.in_ok-change.ensures.joined ∙ sym (join_one c.self.inside.entries (core_of c.args.fragment.now)) in
     rw (← c.self.view_is) (λ i. record { contents = contents i; limits = record { keys = limits.keys; per_source = limits.per_source; longest = limits.longest } })
 
 pub returns-clause-change : goal.returns-clause-change
 returns-clause-change c =
-    let t : Contents = maps.from_entries {R = key_cmp} c.self.inside.entries.entries in
+    let t : Contents = c.self.inside.entries in
     let k = c.args.fragment.now.key in
     let told = c.in_ok-change.ensures.change in
     let at = change_at t k _ told.0 told.1 in

@@ -1,9 +1,5 @@
-use Rattle.std.proofs.Common.{ap, sym, ◌∙◌}
-use Rattle.std.specs.Map.{keys_of}
-use Rattle.nb_datagram.specs.KeyOrder.{key_cmp_total, key_cmp_exact}
-use Rattle.nb_table.specs.Shared.TreeLemmas.{entries_are}
+use Rattle.std.proofs.Common.{◌∙◌}
 use Rattle.nb_table.proofs.table.Table.keys.Goals as goal
 
 pub returns : goal.returns
-returns c =
-    rw (← c.self.view_is) (c.of.ensures ∙ c.keys.ensures.rest ∙ ap keys_of (sym (entries_are key_cmp_total key_cmp_exact c.self.inside.entries c.keys.ensures.ordered)))
+returns c = rw (← c.self.view_is) (c.of.ensures ∙ c.keys.ensures)

@@ -1,12 +1,8 @@
 use Rattle.std.proofs.Common.{◌≤◌, rules, sym, ◌∙◌, ap}
 use Rattle.std.specs.Option.{option_and_then}
-use Rattle.std.specs.FinMap as maps
-use Rattle.nb_datagram.specs.Key.{key_cmp}
 use Rattle.nb_datagram.specs.declared.limits.TheConstants.{MAX_LENGTH}
 use Rattle.nb_table.specs.Outline.{entry_outline}
 use Rattle.nb_table.specs.Limits.{TableValue}
-use Rattle.nb_datagram.specs.KeyOrder.{key_cmp_total}
-use Rattle.nb_table.specs.Shared.TreeLemmas.{get_is}
 use Rattle.nb_table.proofs.SavedBytes.ShortLemmas.{all_short}
 use Rattle.nb_table.proofs.table.Table.outline.Goals as goal
 
@@ -14,15 +10,15 @@ pub outline-requires : goal.outline-requires
 outline-requires c =
     let m = c.self.inside.entries in
     let most : c.self.inside.longest ≤ MAX_LENGTH = search rules in
-    let t : TableValue = record { contents = maps.from_entries {R = key_cmp} m.entries; limits = record { keys = c.self.inside.keys; per_source = c.self.inside.per_source; longest = c.self.inside.longest } } in
-    all_short t c.self.invariant.0 most c.args.key.now c.in-Some.entry.now (get_is key_cmp_total m c.args.key.now ∙ sym c.in-Some.ensures.value)
+    let t : TableValue = record { contents = m; limits = record { keys = c.self.inside.keys; per_source = c.self.inside.per_source; longest = c.self.inside.longest } } in
+    all_short t c.self.invariant most c.args.key.now c.in-Some.entry.now (sym c.in-Some.ensures)
 
 pub returns-in-Some : goal.returns-in-Some
 returns-in-Some c =
     let m = c.self.inside.entries in
-    rw (← c.self.view_is) (c.outline.ensures ∙ sym (ap (option_and_then entry_outline) (get_is key_cmp_total m c.args.key.now ∙ sym c.in-Some.ensures.value)))
+    rw (← c.self.view_is) (c.outline.ensures ∙ sym (ap (option_and_then entry_outline) (sym c.in-Some.ensures)))
 
 pub returns-in-None : goal.returns-in-None
 returns-in-None c =
     let m = c.self.inside.entries in
-    rw (← c.self.view_is) (sym (ap (option_and_then entry_outline) (get_is key_cmp_total m c.args.key.now ∙ sym c.in-None.ensures.value)))
+    rw (← c.self.view_is) (sym (ap (option_and_then entry_outline) (sym c.in-None.ensures)))

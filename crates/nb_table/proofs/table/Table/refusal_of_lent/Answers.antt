@@ -3,14 +3,11 @@ use Rattle.std.proofs.lemmas.Bool.{true≢false}
 use Rattle.std.specs.Bool.{beq}
 use Rattle.std.specs.FinMap as maps
 use Rattle.nb_datagram.specs.declared.key.Key.{Key}
-use Rattle.nb_datagram.specs.Key.{key_cmp}
 use Rattle.nb_datagram.specs.Fragment.{FragmentParts, core_of, reach, is_first}
 use Rattle.nb_table.specs.Limits.{Limits, IsFullSource}
 use Rattle.nb_table.specs.Contents.{Contents}
 use Rattle.nb_table.specs.KeyCounts.{held_keys, of_source}
 use Rattle.nb_table.specs.Insert.{Passes}
-use Rattle.nb_datagram.specs.KeyOrder.{key_cmp_total, key_cmp_exact}
-use Rattle.nb_table.specs.Shared.TreeLemmas.{get_is, len_is}
 use Rattle.nb_table.proofs.Limits.GroupLemmas.{held_at_most}
 use Rattle.nb_table.proofs.Changes.InsertLemmas.{same_test}
 use Rattle.nb_table.proofs.table.Table.refusal_of_lent.Goals as goal
@@ -41,28 +38,27 @@ pub returns-then-len-min-clause-refusal : goal.returns-then-len-min-clause-refus
 returns-then-len-min-clause-refusal c =
     let m = c.self.inside.entries in
     let f = c.args.fragment.now in
-    let t : Contents = maps.from_entries {R = key_cmp} m.entries in
+    let t : Contents = m in
     let l : Limits = record { keys = c.self.inside.keys; per_source = c.self.inside.per_source; longest = c.self.inside.longest } in
     let passes = passes_by l f _ _ _ _ c.is_first.ensures c.offset.ensures c.reach.ensures c.from.ensures c.if-is_first-offset.false c.if-reach-from.false in
-    let size = len_is key_cmp_total key_cmp_exact m c.len.ensures.ordered in
-    let count = c.len.ensures.len in
+    let count = c.len.ensures.count in
     let least = c.min.ensures in
     let fewer = c.if-len-min.true in
     let few = held_at_most (of_source f.key.ip) t in
     rw (← c.self.view_is) (record {
       passes = passes;
-      source_room = λ full. (let many = full.no_room in omega (arith, count, size, least, fewer, few, many));
-      room = λ full. (let many = full.no_room in omega (arith, count, size, least, fewer, many));
+      source_room = λ full. (let many = full.no_room in omega (arith, count, least, fewer, few, many));
+      room = λ full. (let many = full.no_room in omega (arith, count, least, fewer, many));
     })
 
 pub returns-then-contains_key-clause-refusal : goal.returns-then-contains_key-clause-refusal
 returns-then-contains_key-clause-refusal c =
     let m = c.self.inside.entries in
     let f = c.args.fragment.now in
-    let t : Contents = maps.from_entries {R = key_cmp} m.entries in
+    let t : Contents = m in
     let l : Limits = record { keys = c.self.inside.keys; per_source = c.self.inside.per_source; longest = c.self.inside.longest } in
     let passes = passes_by l f _ _ _ _ c.is_first.ensures c.offset.ensures c.reach.ensures c.from.ensures c.if-is_first-offset.false c.if-reach-from.false in
-    let held : is_some (maps.get t f.key) ≡ true = ap (λ k. is_some (maps.get t k)) (sym c.key-key.ensures) ∙ ap is_some (get_is key_cmp_total m c.key-key.result) ∙ sym c.contains_key.ensures ∙ c.if-contains_key.true in
+    let held : is_some (maps.get t f.key) ≡ true = ap (λ k. is_some (maps.get t k)) (sym c.key-key.ensures) ∙ sym c.contains_key.ensures ∙ c.if-contains_key.true in
     let old : maps.get t f.key ≡ None → ⊥ = (λ none. true≢false (sym held ∙ ap is_some none)) in
     rw (← c.self.view_is) (record { passes = passes; source_room = λ full. old full.is_new; room = λ full. old full.is_new })
 
@@ -70,37 +66,35 @@ pub returns-then-is_full_of-clause-refusal : goal.returns-then-is_full_of-clause
 returns-then-is_full_of-clause-refusal c =
     let m = c.self.inside.entries in
     let f = c.args.fragment.now in
-    let t : Contents = maps.from_entries {R = key_cmp} m.entries in
+    let t : Contents = m in
     let l : Limits = record { keys = c.self.inside.keys; per_source = c.self.inside.per_source; longest = c.self.inside.longest } in
     let passes = passes_by l f _ _ _ _ c.is_first.ensures c.offset.ensures c.reach.ensures c.from.ensures c.if-is_first-offset.false c.if-reach-from.false in
-    let none = none_at (maps.get t f.key) (ap (λ k. is_some (maps.get t k)) (sym c.key-key.ensures) ∙ ap is_some (get_is key_cmp_total m c.key-key.result) ∙ sym c.contains_key.ensures ∙ c.if-contains_key.false) in
+    let none = none_at (maps.get t f.key) (ap (λ k. is_some (maps.get t k)) (sym c.key-key.ensures) ∙ sym c.contains_key.ensures ∙ c.if-contains_key.false) in
     rw (← c.self.view_is) (passes, (c.key-key.ensures, source_full l t c.key-key.result f.key none c.key-key.ensures (c.is_full_of.ensures.0 c.if-is_full_of.true)))
 
 pub returns-then-len-self-clause-refusal : goal.returns-then-len-self-clause-refusal
 returns-then-len-self-clause-refusal c =
     let m = c.self.inside.entries in
     let f = c.args.fragment.now in
-    let t : Contents = maps.from_entries {R = key_cmp} m.entries in
+    let t : Contents = m in
     let l : Limits = record { keys = c.self.inside.keys; per_source = c.self.inside.per_source; longest = c.self.inside.longest } in
     let passes = passes_by l f _ _ _ _ c.is_first.ensures c.offset.ensures c.reach.ensures c.from.ensures c.if-is_first-offset.false c.if-reach-from.false in
-    let none = none_at (maps.get t f.key) (ap (λ k. is_some (maps.get t k)) (sym c.key-key.ensures) ∙ ap is_some (get_is key_cmp_total m c.key-key.result) ∙ sym c.contains_key.ensures ∙ c.if-contains_key.false) in
-    let size = len_is key_cmp_total key_cmp_exact m c.len.ensures.ordered in
-    let count = c.len.ensures.len in
+    let none = none_at (maps.get t f.key) (ap (λ k. is_some (maps.get t k)) (sym c.key-key.ensures) ∙ sym c.contains_key.ensures ∙ c.if-contains_key.false) in
+    let count = c.len.ensures.count in
     let most = c.if-len-self.true in
-    rw (← c.self.view_is) (passes, (c.key-key.ensures, record { is_new = none; no_room = omega (arith, count, size, most) }, source_free l t c.key-key.result f.key c.key-key.ensures (λ h. true≢false (sym (c.is_full_of.ensures.1 h) ∙ c.if-is_full_of.false))))
+    rw (← c.self.view_is) (passes, (c.key-key.ensures, record { is_new = none; no_room = omega (arith, count, most) }, source_free l t c.key-key.result f.key c.key-key.ensures (λ h. true≢false (sym (c.is_full_of.ensures.1 h) ∙ c.if-is_full_of.false))))
 
 pub returns-clause-refusal : goal.returns-clause-refusal
 returns-clause-refusal c =
     let m = c.self.inside.entries in
     let f = c.args.fragment.now in
-    let t : Contents = maps.from_entries {R = key_cmp} m.entries in
+    let t : Contents = m in
     let l : Limits = record { keys = c.self.inside.keys; per_source = c.self.inside.per_source; longest = c.self.inside.longest } in
     let passes = passes_by l f _ _ _ _ c.is_first.ensures c.offset.ensures c.reach.ensures c.from.ensures c.if-is_first-offset.false c.if-reach-from.false in
-    let size = len_is key_cmp_total key_cmp_exact m c.len.ensures.ordered in
-    let count = c.len.ensures.len in
+    let count = c.len.ensures.count in
     let fewer = c.if-len-self.false in
     rw (← c.self.view_is) (record {
       passes = passes;
       source_room = source_free l t c.key-key.result f.key c.key-key.ensures (λ h. true≢false (sym (c.is_full_of.ensures.1 h) ∙ c.if-is_full_of.false));
-      room = λ full. (let least = full.no_room in omega (arith, count, size, fewer, least));
+      room = λ full. (let least = full.no_room in omega (arith, count, fewer, least));
     })

@@ -1,7 +1,5 @@
 use Rattle.std.proofs.Common.{◌≤◌, ◌<◌, ◌^◌, rules, sym, subst}
-use Rattle.std.specs.FinMap as maps
 use Rattle.nb_datagram.specs.declared.limits.TheConstants.{MAX_LENGTH}
-use Rattle.nb_datagram.specs.Key.{key_cmp}
 use Rattle.nb_table.specs.Limits.{TableValue}
 use Rattle.nb_table.specs.LoadFaults.{IsReadAs}
 use Rattle.nb_table.specs.SavedFits.{FitsSaved}
@@ -12,12 +10,12 @@ pub returns-clause-fits : goal.returns-clause-fits
 returns-clause-fits c =
     let few : c.self.inside.keys < 2 ^ 32 = search rules in
     let most : c.self.inside.longest ≤ MAX_LENGTH = search rules in
-    let t : TableValue = record { contents = maps.from_entries {R = key_cmp} c.self.inside.entries.entries; limits = record { keys = c.self.inside.keys; per_source = c.self.inside.per_source; longest = c.self.inside.longest } } in
-    rw (← c.self.view_is) (table_fits t c.self.invariant.0 few most c.in_ok-saved.ensures.named)
+    let t : TableValue = record { contents = c.self.inside.entries; limits = record { keys = c.self.inside.keys; per_source = c.self.inside.per_source; longest = c.self.inside.longest } } in
+    rw (← c.self.view_is) (table_fits t c.self.invariant few most (rw c.as_map.ensures at c.in_ok-saved.ensures.named))
 
 pub returns-clause-read_again : goal.returns-clause-read_again
 returns-clause-read_again c =
     let most : c.self.inside.longest ≤ MAX_LENGTH = search rules in
-    let t : TableValue = record { contents = maps.from_entries {R = key_cmp} c.self.inside.entries.entries; limits = record { keys = c.self.inside.keys; per_source = c.self.inside.per_source; longest = c.self.inside.longest } } in
+    let t : TableValue = record { contents = c.self.inside.entries; limits = record { keys = c.self.inside.keys; per_source = c.self.inside.per_source; longest = c.self.inside.longest } } in
     let fits = subst (λ (x : TableValue). FitsSaved x.contents) (sym c.self.view_is) (returns-clause-fits c) in
-    rw (← c.self.view_is) (subst (λ b. IsReadAs b t.contents) (sym c.in_ok-saved.ensures.value) (table_read t c.self.invariant.0 most fits))
+    rw (← c.self.view_is) (subst (λ b. IsReadAs b t.contents) (sym (rw c.as_map.ensures at c.in_ok-saved.ensures.value)) (table_read t c.self.invariant most fits))

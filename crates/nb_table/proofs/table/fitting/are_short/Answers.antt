@@ -3,5 +3,5 @@ use Rattle.std.specs.List.{list_all}
 use Rattle.nb_table.specs.Code.Fitting.{is_short}
 use Rattle.nb_table.proofs.table.fitting.are_short.Goals as goal
 
-pub returns-clause-value : goal.returns-clause-value
-returns-clause-value c = sym (c.loop-key.invariant ∙ ap (list_all (λ e. is_short c.args.longest e.1)) c.in-None.ensures.steps.0)
+pub returns : goal.returns
+returns c = sym (c.loop-key.invariant ∙ ap (list_all (λ e. is_short c.args.longest e.1)) c.in-None.ensures.steps.0)

@@ -1,7 +1,8 @@
 use Rattle.std.proofs.Common.{◌≡◌}
 use Rattle.std.specs.List.{list_all}
+use Rattle.std.specs.FinMap as maps
 use Rattle.nb_table.specs.Code.Fitting.{is_short}
 use Rattle.nb_table.proofs.table.fitting.are_short.Given as goal
 
 abbrev pub invariant-loop-key : goal.invariant-loop-key
-invariant-loop-key l = list_all (λ e. is_short l.longest e.1) l.entries.entries ≡ list_all (λ e. is_short l.longest e.1) l._key-iterator
+invariant-loop-key l = list_all (λ e. is_short l.longest e.1) (maps.entries l.entries) ≡ list_all (λ e. is_short l.longest e.1) l._key-iterator

@@ -1,4 +1,4 @@
-use Rattle.std.proofs.Common.{◌≤◌, ap, arith, inl, refl, rules, Err}
+use Rattle.std.proofs.Common.{ap, arith, Err}
 use Rattle.std.proofs.lemmas.Result.{err_from_is_err_and}
 use Rattle.nb_table.specs.LoadFaults.{ill_formed}
 use Rattle.nb_table.proofs.SavedReading.LoadLemmas.{judged_sound, fault_same, judged_long, judged_crowded, judged_full, keeping_failed, kept_limits, kept_read, kept_saved}
@@ -49,23 +49,8 @@ returns-in_err-entries-clause-fault c =
 pub returns-in_err-entries-clause-only : goal.returns-in_err-entries-clause-only
 returns-in_err-entries-clause-only c fault h = absurd (judged_sound _ _ _ _ _ _ c.in_ok-count.ensures.found fault h)
 
-pub counts_of-requires : goal.counts_of-requires
-counts_of-requires c =
-    let kept = kept_limits c.in_ok-form.form _ (record { keys = c.args.keys; per_source = c.args.per_source; longest = c.args.longest }) _ _ _ _ c.in_ok-form.ensures.found c.in_ok-count.ensures.found (not_false _ c.if-not-within.false) (not_false _ c.if-not-within-2.false) (omega arith) c.in_ok-entries.ensures.kept in
-    let held = kept.count in
-    let most : c.args.keys ≤ 4294967295 = search rules in
-    omega (arith, held, most)
-
-pub returns-in_err-counts-clause-fault : goal.returns-in_err-counts-clause-fault
-returns-in_err-counts-clause-fault c =
-    let p = err_from_is_err_and c.from_residual-in_err-counts.result c.from_residual-in_err-counts.ensures.1 in
-    rw (p.1, p.2) (keeping_failed c.in_ok-form.form _ _ _ _ _ _ c.in_ok-form.ensures.found c.in_ok-count.ensures.found (not_false _ c.if-not-within.false) (not_false _ c.if-not-within-2.false) (omega arith) (inl refl))
-
-pub returns-in_err-counts-clause-only : goal.returns-in_err-counts-clause-only
-returns-in_err-counts-clause-only c fault h = absurd (judged_sound _ _ _ _ _ _ c.in_ok-count.ensures.found fault h)
-
 pub invariant_of-result : goal.invariant_of-result
-invariant_of-result c = (kept_limits c.in_ok-form.form _ (record { keys = c.args.keys; per_source = c.args.per_source; longest = c.args.longest }) _ _ _ _ c.in_ok-form.ensures.found c.in_ok-count.ensures.found (not_false _ c.if-not-within.false) (not_false _ c.if-not-within-2.false) (omega arith) c.in_ok-entries.ensures.kept, c.in_ok-counts.ensures)
+invariant_of-result c = kept_limits c.in_ok-form.form _ (record { keys = c.args.keys; per_source = c.args.per_source; longest = c.args.longest }) _ _ _ _ c.in_ok-form.ensures.found c.in_ok-count.ensures.found (not_false _ c.if-not-within.false) (not_false _ c.if-not-within-2.false) (omega arith) c.in_ok-entries.ensures.kept
 
 pub returns-clause-found : goal.returns-clause-found
 returns-clause-found c = kept_read c.in_ok-form.form _ _ _ _ _ _ _ c.in_ok-form.ensures.found c.in_ok-count.ensures.found c.in_ok-entries.ensures.kept

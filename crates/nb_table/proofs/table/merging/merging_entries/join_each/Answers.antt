@@ -1,7 +1,5 @@
 use Rattle.std.proofs.Common.{◌++◌, [], sym, ◌∙◌, ap, ap₂, subst}
 use Rattle.std.specs.List.{AllByRecursion, cons_option}
-use Rattle.std.specs.FinMap as maps
-use Rattle.nb_datagram.specs.Key.{key_cmp}
 use Rattle.nb_datagram.specs.declared.limits.TheConstants.{MAX_LENGTH}
 use Rattle.nb_table.specs.Entry.{join_entry}
 use Rattle.nb_table.specs.Limits.{IsShort}
@@ -9,7 +7,6 @@ use Rattle.nb_table.specs.Code.Each.{joined_each}
 use Rattle.nb_table.specs.Code.Handed.{handed, handed_at, with_entry}
 use Rattle.nb_table.specs.Code.TakenBack.{taken_back}
 use Rattle.nb_datagram.specs.KeyOrder.{key_cmp_total, key_cmp_exact}
-use Rattle.nb_table.specs.Shared.TreeLemmas.{entries_are}
 use Rattle.nb_table.proofs.Changes.InsertLemmas.{on_any_err}
 use Rattle.nb_table.proofs.Joins.EachLemmas.{joined_each-more, joined_each_is}
 use Rattle.nb_table.proofs.Limits.MergingLemmas.{entries_short, front_short}
@@ -18,29 +15,29 @@ use Rattle.nb_table.proofs.table.merging.merging_entries.join_each.Goals as goal
 
 pub returns-in_default-clause-joined : goal.returns-in_default-clause-joined
 returns-in_default-clause-joined c =
-    let m = maps.from_entries {R = key_cmp} c.args.entries.now.entries in
-    let n = maps.from_entries {R = key_cmp} c.args.others.now.entries in
-    let none = entries_are key_cmp_total key_cmp_exact c.args.others.now c.iter-rest.ensures.ordered ∙ sym c.iter-rest.ensures.rest ∙ c.in_default.ensures.steps.0 in
+    let m = c.args.entries.now in
+    let n = c.args.others.now in
+    let none = sym c.iter-rest.ensures ∙ c.in_default.ensures.steps.0 in
     ap (joined_each join_entry m) (sym none) ∙ joined_each_is key_cmp_total key_cmp_exact join_entry m n
 
 pub returns-in_default-clause-handed : goal.returns-in_default-clause-handed
 returns-in_default-clause-handed c =
-    let m = maps.from_entries {R = key_cmp} c.args.entries.now.entries in
-    let n = maps.from_entries {R = key_cmp} c.args.others.now.entries in
-    let none = entries_are key_cmp_total key_cmp_exact c.args.others.now c.iter-rest.ensures.ordered ∙ sym c.iter-rest.ensures.rest ∙ c.in_default.ensures.steps.0 in
+    let m = c.args.entries.now in
+    let n = c.args.others.now in
+    let none = sym c.iter-rest.ensures ∙ c.in_default.ensures.steps.0 in
     c.new-datagrams.ensures.items ∙ ap (handed m) (sym none) ∙ handed_all m n
 
 pub join_rest-requires-clause-other : goal.join_rest-requires-clause-other
 join_rest-requires-clause-other c =
-    let n = maps.from_entries {R = key_cmp} c.args.others.now.entries in
-    let order = entries_are key_cmp_total key_cmp_exact c.args.others.now c.iter-rest.ensures.ordered ∙ sym c.iter-rest.ensures.rest ∙ c.in-Some.ensures.steps in
+    let n = c.args.others.now in
+    let order = sym c.iter-rest.ensures ∙ c.in-Some.ensures.steps in
     (front_short MAX_LENGTH c.next_back.new.self c.in-Some.key.now c.in-Some.last.now
     (subst (AllByRecursion (λ e. IsShort MAX_LENGTH e.1)) order (entries_short MAX_LENGTH n c.requires.other))).0
 
 pub join_last-requires-clause-other : goal.join_last-requires-clause-other
 join_last-requires-clause-other c =
-    let n = maps.from_entries {R = key_cmp} c.args.others.now.entries in
-    let order = entries_are key_cmp_total key_cmp_exact c.args.others.now c.iter-rest.ensures.ordered ∙ sym c.iter-rest.ensures.rest ∙ c.in-Some.ensures.steps in
+    let n = c.args.others.now in
+    let order = sym c.iter-rest.ensures ∙ c.in-Some.ensures.steps in
     (front_short MAX_LENGTH c.next_back.new.self c.in-Some.key.now c.in-Some.last.now
     (subst (AllByRecursion (λ e. IsShort MAX_LENGTH e.1)) order (entries_short MAX_LENGTH n c.requires.other))).1
 
@@ -51,9 +48,9 @@ returns-in_err-join_last-clause-noted c =
 
 pub returns-clause-joined : goal.returns-clause-joined
 returns-clause-joined c =
-    let m = maps.from_entries {R = key_cmp} c.args.entries.now.entries in
-    let n = maps.from_entries {R = key_cmp} c.args.others.now.entries in
-    let order = entries_are key_cmp_total key_cmp_exact c.args.others.now c.iter-rest.ensures.ordered ∙ sym c.iter-rest.ensures.rest ∙ c.in-Some.ensures.steps in
+    let m = c.args.entries.now in
+    let n = c.args.others.now in
+    let order = sym c.iter-rest.ensures ∙ c.in-Some.ensures.steps in
     c.in_ok-join_last.ensures.joined
     ∙ ap (λ t. with_entry t c.in-Some.key.now c.in-Some.last.now) c.in_ok-join_rest.ensures.joined
     ∙ sym (joined_each-more join_entry m c.next_back.new.self c.in-Some.key.now c.in-Some.last.now)
@@ -62,9 +59,9 @@ returns-clause-joined c =
 
 pub returns-clause-handed : goal.returns-clause-handed
 returns-clause-handed c =
-    let m = maps.from_entries {R = key_cmp} c.args.entries.now.entries in
-    let n = maps.from_entries {R = key_cmp} c.args.others.now.entries in
-    let order = entries_are key_cmp_total key_cmp_exact c.args.others.now c.iter-rest.ensures.ordered ∙ sym c.iter-rest.ensures.rest ∙ c.in-Some.ensures.steps in
+    let m = c.args.entries.now in
+    let n = c.args.others.now in
+    let order = sym c.iter-rest.ensures ∙ c.in-Some.ensures.steps in
     let before = c.in_ok-join_rest.ensures.handed ∙ ap (λ ds. ds ++ handed m c.next_back.new.self) c.new-datagrams.ensures.items in
     c.in_ok-join_last.ensures.handed
     ∙ ap₂ (λ ds t. ds ++ cons_option (handed_at t c.in-Some.key.now c.in-Some.last.now) []) before c.in_ok-join_rest.ensures.joined

@@ -1,17 +1,10 @@
-use Rattle.std.proofs.Common.{◌∙◌, ◌++◌, ◌∷◌, [], ap}
+use Rattle.std.proofs.Common.{◌∙◌, ap}
+use Rattle.std.proofs.lemmas.Result.{on_ok_weaker}
 use Rattle.std.specs.FinMap as maps
-use Rattle.nb_datagram.specs.Key.{key_cmp}
-use Rattle.nb_table.specs.Maps.{joined_onto}
-use Rattle.nb_table.specs.Entry.{join_entry}
-use Rattle.nb_datagram.specs.KeyOrder.{key_cmp_total, key_cmp_exact}
-use Rattle.nb_table.proofs.Joins.TakenBackLemmas.{noted}
 use Rattle.nb_table.proofs.table.merging.merging_entries.join_noted.Goals as goal
 
-pub returns-clause-noted : goal.returns-clause-noted
-returns-clause-noted c =
-    let t = maps.from_entries {R = key_cmp} c.args.entries.now.entries in
-    let pushed = rw c.unwrap.ensures at c.push.ensures.items in
-    noted key_cmp_total key_cmp_exact t (maps.from_entries {R = key_cmp} c.join_at.new.entries.entries) c.args.key
-    (joined_onto join_entry (maps.get t c.args.key) c.args.other.now) c.in_ok-before.before c.args.changes.now.items c.push.new.self.items
-    c.in_ok-before.ensures.joined c.in_ok-before.ensures.before
-    (pushed ∙ ap (λ es. es ++ (c.args.key, c.in_ok-before.before) ∷ []) c.reserve.ensures.items)
+pub returns-clause-joined : goal.returns-clause-joined
+returns-clause-joined c =
+    on_ok_weaker c.push_some.result
+    (λ _. c.in_ok-put_noted.ensures.put ∙ ap (maps.insert c.args.entries.now c.args.key) c.in_ok-joined.ensures.entry)
+    c.push_some.ensures

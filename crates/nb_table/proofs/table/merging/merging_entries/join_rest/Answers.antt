@@ -1,7 +1,5 @@
 use Rattle.std.proofs.Common.{◌++◌, sym, ◌∙◌, ap, subst, append-nil}
 use Rattle.std.specs.List.{AllByRecursion}
-use Rattle.std.specs.FinMap as maps
-use Rattle.nb_datagram.specs.Key.{key_cmp}
 use Rattle.nb_datagram.specs.declared.limits.TheConstants.{MAX_LENGTH}
 use Rattle.nb_table.specs.Entry.{join_entry}
 use Rattle.nb_table.specs.Limits.{IsShort}
@@ -19,8 +17,8 @@ join_noted-requires-clause-other c = (subst (AllByRecursion (λ e. IsShort MAX_L
 
 pub loop-key-preserved : goal.loop-key-preserved
 loop-key-preserved c =
-    let t = maps.from_entries {R = key_cmp} c.loop-key.entries.entries in
-    let new = maps.from_entries {R = key_cmp} c.join_noted.new.entries.entries in
+    let t = c.loop-key.entries in
+    let new = c.join_noted.new.entries in
     let short = subst (AllByRecursion (λ e. IsShort MAX_LENGTH e.1)) c.in-Some.ensures.steps c.loop-key.invariant.others_short in
     record {
       short = one_more_short MAX_LENGTH t new c.in-Some.key.now c.in-Some.other.now c.loop-key.invariant.short short.0 c.in_ok-join_noted.ensures.joined;
@@ -42,13 +40,13 @@ returns-in_err-join_noted-clause-noted c = c.join_noted.ensures.noted ∙ c.loop
 
 pub returns-clause-joined : goal.returns-clause-joined
 returns-clause-joined c =
-    sym (ap (joined_each join_entry (maps.from_entries {R = key_cmp} c.loop-key.entries.entries)) c.in-None.ensures.steps.0)
+    sym (ap (joined_each join_entry c.loop-key.entries) c.in-None.ensures.steps.0)
     ∙ c.loop-key.invariant.joined
 
 pub returns-clause-handed : goal.returns-clause-handed
 returns-clause-handed c =
     sym (append-nil c.loop-key.datagrams.items)
-    ∙ sym (ap (λ es. c.loop-key.datagrams.items ++ handed (maps.from_entries {R = key_cmp} c.loop-key.entries.entries) es) c.in-None.ensures.steps.0)
+    ∙ sym (ap (λ es. c.loop-key.datagrams.items ++ handed c.loop-key.entries es) c.in-None.ensures.steps.0)
     ∙ c.loop-key.invariant.handed
 
 pub returns-clause-noted : goal.returns-clause-noted

@@ -1,8 +1,6 @@
 use Rattle.std.proofs.Common.{sym, ◌∙◌, ap, subst}
 use Rattle.std.proofs.lemmas.Result.{on_ok_weaker, on_err_weaker}
 use Rattle.std.specs.List.{AllByRecursion}
-use Rattle.std.specs.FinMap as maps
-use Rattle.nb_datagram.specs.Key.{key_cmp}
 use Rattle.nb_datagram.specs.declared.limits.TheConstants.{MAX_LENGTH}
 use Rattle.nb_table.specs.Entry.{join_entry}
 use Rattle.nb_table.specs.Limits.{IsShort}
@@ -10,41 +8,36 @@ use Rattle.nb_table.specs.Code.Each.{joined_each}
 use Rattle.nb_table.specs.Code.Handed.{with_entry}
 use Rattle.nb_table.specs.Code.TakenBack.{taken_back}
 use Rattle.nb_datagram.specs.KeyOrder.{key_cmp_total, key_cmp_exact}
-use Rattle.nb_table.specs.Shared.TreeLemmas.{entries_are}
 use Rattle.nb_table.proofs.Joins.EachLemmas.{joined_each-more, joined_each_is}
 use Rattle.nb_table.proofs.Limits.MergingLemmas.{entries_short, front_short}
 use Rattle.nb_table.proofs.table.merging.moving.move_each.Goals as goal
 
 pub returns-in_default-clause-joined : goal.returns-in_default-clause-joined
 returns-in_default-clause-joined c =
-    let m = maps.from_entries {R = key_cmp} c.args.entries.now.entries in
-    let n = maps.from_entries {R = key_cmp} c.args.others.entries in
-    let gives = c.into_iter-rest.ensures.into_iter_gives in
-    let none = entries_are key_cmp_total key_cmp_exact c.args.others gives.5 ∙ sym gives.0 ∙ c.in_default.ensures.steps.0 in
+    let m = c.args.entries.now in
+    let n = c.args.others in
+    let none = sym c.into_iter-rest.ensures ∙ c.in_default.ensures.steps.0 in
     ap (joined_each join_entry m) (sym none) ∙ joined_each_is key_cmp_total key_cmp_exact join_entry m n
 
 pub move_rest-requires-clause-other : goal.move_rest-requires-clause-other
 move_rest-requires-clause-other c =
-    let n = maps.from_entries {R = key_cmp} c.args.others.entries in
-    let gives = c.into_iter-rest.ensures.into_iter_gives in
-    let order = entries_are key_cmp_total key_cmp_exact c.args.others gives.5 ∙ sym gives.0 ∙ c.in-Some.ensures.steps in
+    let n = c.args.others in
+    let order = sym c.into_iter-rest.ensures ∙ c.in-Some.ensures.steps in
     (front_short MAX_LENGTH c.next_back.new.self c.in-Some.key c.in-Some.last
     (subst (AllByRecursion (λ e. IsShort MAX_LENGTH e.1)) order (entries_short MAX_LENGTH n c.requires.other))).0
 
 pub move_last-requires-clause-other : goal.move_last-requires-clause-other
 move_last-requires-clause-other c =
-    let n = maps.from_entries {R = key_cmp} c.args.others.entries in
-    let gives = c.into_iter-rest.ensures.into_iter_gives in
-    let order = entries_are key_cmp_total key_cmp_exact c.args.others gives.5 ∙ sym gives.0 ∙ c.in-Some.ensures.steps in
+    let n = c.args.others in
+    let order = sym c.into_iter-rest.ensures ∙ c.in-Some.ensures.steps in
     (front_short MAX_LENGTH c.next_back.new.self c.in-Some.key c.in-Some.last
     (subst (AllByRecursion (λ e. IsShort MAX_LENGTH e.1)) order (entries_short MAX_LENGTH n c.requires.other))).1
 
 pub returns-clause-joined : goal.returns-clause-joined
 returns-clause-joined c =
-    let m = maps.from_entries {R = key_cmp} c.args.entries.now.entries in
-    let n = maps.from_entries {R = key_cmp} c.args.others.entries in
-    let gives = c.into_iter-rest.ensures.into_iter_gives in
-    let order = entries_are key_cmp_total key_cmp_exact c.args.others gives.5 ∙ sym gives.0 ∙ c.in-Some.ensures.steps in
+    let m = c.args.entries.now in
+    let n = c.args.others in
+    let order = sym c.into_iter-rest.ensures ∙ c.in-Some.ensures.steps in
     on_ok_weaker c.move_last.result (λ joined.
     joined
     ∙ ap (λ t. with_entry t c.in-Some.key c.in-Some.last) c.in_ok-move_rest.ensures.joined

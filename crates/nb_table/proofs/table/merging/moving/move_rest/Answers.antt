@@ -1,7 +1,5 @@
 use Rattle.std.proofs.Common.{sym, ◌∙◌, ap, subst}
 use Rattle.std.specs.List.{AllByRecursion}
-use Rattle.std.specs.FinMap as maps
-use Rattle.nb_datagram.specs.Key.{key_cmp}
 use Rattle.nb_datagram.specs.declared.limits.TheConstants.{MAX_LENGTH}
 use Rattle.nb_table.specs.Entry.{join_entry}
 use Rattle.nb_table.specs.Limits.{IsShort}
@@ -11,8 +9,8 @@ use Rattle.nb_table.proofs.table.merging.moving.move_rest.Goals as goal
 
 pub loop-key-preserved : goal.loop-key-preserved
 loop-key-preserved c =
-    let t = maps.from_entries {R = key_cmp} c.loop-key.entries.entries in
-    let new = maps.from_entries {R = key_cmp} c.move_noted.new.entries.entries in
+    let t = c.loop-key.entries in
+    let new = c.move_noted.new.entries in
     let short = subst (AllByRecursion (λ e. IsShort MAX_LENGTH e.1)) c.in-Some.ensures.steps c.loop-key.invariant.others_short in
     record {
       short = one_more_short MAX_LENGTH t new c.in-Some.key c.in-Some.other c.loop-key.invariant.short short.0 c.in_ok-move_noted.ensures.joined;
@@ -29,7 +27,7 @@ returns-in_err-move_noted-clause-noted c = c.move_noted.ensures.noted ∙ c.loop
 
 pub returns-clause-joined : goal.returns-clause-joined
 returns-clause-joined c =
-    sym (ap (joined_each join_entry (maps.from_entries {R = key_cmp} c.loop-key.entries.entries)) c.in-None.ensures.steps.0)
+    sym (ap (joined_each join_entry c.loop-key.entries) c.in-None.ensures.steps.0)
     ∙ c.loop-key.invariant.joined
 
 pub returns-clause-noted : goal.returns-clause-noted

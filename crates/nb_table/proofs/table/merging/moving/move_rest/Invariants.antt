@@ -1,7 +1,5 @@
 use Rattle.std.proofs.Common.{◌≡◌}
 use Rattle.std.specs.List.{AllByRecursion}
-use Rattle.std.specs.FinMap as maps
-use Rattle.nb_datagram.specs.Key.{key_cmp}
 use Rattle.nb_datagram.specs.declared.limits.TheConstants.{MAX_LENGTH}
 use Rattle.nb_table.specs.Entry.{join_entry}
 use Rattle.nb_table.specs.Limits.{IsShort}
@@ -12,12 +10,12 @@ use Rattle.nb_table.proofs.table.merging.moving.move_rest.Given as goal
 
 abbrev pub invariant-loop-key : goal.invariant-loop-key
 invariant-loop-key l = record {
-  short : AllShort MAX_LENGTH (maps.from_entries {R = key_cmp} l.entries.entries);
+  short : AllShort MAX_LENGTH l.entries;
   others_short : AllByRecursion (λ e. IsShort MAX_LENGTH e.1) l.key-iterator;
   joined :
-      joined_each join_entry (maps.from_entries {R = key_cmp} l.entries.entries) l.key-iterator
-      ≡ joined_each join_entry (maps.from_entries {R = key_cmp} l.fn.entries.entries) l.fn.others;
+      joined_each join_entry l.entries l.key-iterator
+      ≡ joined_each join_entry l.fn.entries l.fn.others;
   noted :
-      taken_back (maps.from_entries {R = key_cmp} l.entries.entries) l.changes.items
-      ≡ taken_back (maps.from_entries {R = key_cmp} l.fn.entries.entries) l.fn.changes.items;
+      taken_back l.entries l.changes.items
+      ≡ taken_back l.fn.entries l.fn.changes.items;
 }

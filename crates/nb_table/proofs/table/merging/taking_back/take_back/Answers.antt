@@ -1,14 +1,12 @@
 use Rattle.std.proofs.Common.{◌∙◌, sym, ap}
 use Rattle.std.proofs.lemmas.List.{nil_from_length}
-use Rattle.std.specs.FinMap as maps
-use Rattle.nb_datagram.specs.Key.{key_cmp}
 use Rattle.nb_table.specs.Code.TakenBack.{taken_back}
 use Rattle.nb_table.proofs.Joins.TakenBackLemmas.{taken_back-more}
 use Rattle.nb_table.proofs.table.merging.taking_back.take_back.Goals as goal
 
 pub loop-key-preserved : goal.loop-key-preserved
 loop-key-preserved c =
-    let t = maps.from_entries {R = key_cmp} c.loop-key.entries.entries in
+    let t = c.loop-key.entries in
     ap (λ m. taken_back m c.pop.new.self.items) c.put_back.ensures
     ∙ sym (taken_back-more t c.pop.new.self.items c.in-Some.key c.in-Some.before)
     ∙ sym (ap (taken_back t) c.in-Some.ensures.items)
@@ -16,6 +14,6 @@ loop-key-preserved c =
 
 pub returns : goal.returns
 returns c =
-    let t = maps.from_entries {R = key_cmp} c.loop-key.entries.entries in
+    let t = c.loop-key.entries in
     let none = nil_from_length c.loop-key.changes.items (sym c.loop-key.changes.ok.0 ∙ c.in_default.ensures.cases.0) in
     sym (ap (taken_back t) none) ∙ c.loop-key.invariant

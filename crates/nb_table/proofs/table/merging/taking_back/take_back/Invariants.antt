@@ -1,13 +1,11 @@
 use Rattle.std.proofs.Common.{◌≡◌, length}
-use Rattle.std.specs.FinMap as maps
-use Rattle.nb_datagram.specs.Key.{key_cmp}
 use Rattle.nb_table.specs.Code.TakenBack.{taken_back}
 use Rattle.nb_table.proofs.table.merging.taking_back.take_back.Given as goal
 
 abbrev pub invariant-loop-key : goal.invariant-loop-key
 invariant-loop-key l =
-    taken_back (maps.from_entries {R = key_cmp} l.entries.entries) l.changes.items
-    ≡ taken_back (maps.from_entries {R = key_cmp} l.fn.entries.entries) l.fn.changes.items
+    taken_back l.entries l.changes.items
+    ≡ taken_back l.fn.entries l.fn.changes.items
 
 abbrev pub decreases-loop-key : goal.decreases-loop-key
 decreases-loop-key l = length l.changes.items

@@ -1,0 +1,7 @@
+use Rattle.std.proofs.Common.{◌∙◌, is_some, sym, ap}
+use Rattle.nb_datagram.specs.KeyOrder.{key_cmp_total}
+use Rattle.nb_table.specs.Shared.TreeLemmas.{get_is}
+use Rattle.nb_table.proofs.entries.Entries.contains_key.Goals as goal
+
+pub returns : goal.returns
+returns c = rw (← c.self.view_is) (c.contains_key.ensures ∙ ap is_some (sym (get_is key_cmp_total c.self.inside.map c.args.key.now)))

@@ -1,0 +1,7 @@
+use Rattle.std.proofs.Common.{◌∙◌, sym}
+use Rattle.nb_datagram.specs.KeyOrder.{key_cmp_total}
+use Rattle.nb_table.specs.Shared.TreeLemmas.{get_is}
+use Rattle.nb_table.proofs.entries.Entries.get.Goals as goal
+
+pub returns : goal.returns
+returns c = rw (← c.self.view_is) (c.get.ensures.value ∙ sym (get_is key_cmp_total c.self.inside.map c.args.key.now))

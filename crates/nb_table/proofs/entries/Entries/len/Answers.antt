@@ -1,0 +1,7 @@
+use Rattle.std.proofs.Common.{◌∙◌, sym}
+use Rattle.nb_datagram.specs.KeyOrder.{key_cmp_total, key_cmp_exact}
+use Rattle.nb_table.specs.Shared.TreeLemmas.{len_is}
+use Rattle.nb_table.proofs.entries.Entries.len.Goals as goal
+
+pub returns-clause-count : goal.returns-clause-count
+returns-clause-count c = rw (← c.self.view_is) (c.len.ensures.len ∙ sym (len_is key_cmp_total key_cmp_exact c.self.inside.map c.len.ensures.ordered))

@@ -1,7 +1,0 @@
-use Rattle.std.proofs.Common.{sym, ◌∙◌}
-use Rattle.nb_datagram.specs.KeyOrder.{key_cmp_total, key_cmp_exact}
-use Rattle.nb_table.specs.Shared.TreeLemmas.{len_is}
-use Rattle.nb_table.proofs.table.Table.len.Goals as goal
-
-pub returns-clause-count : goal.returns-clause-count
-returns-clause-count c = rw (← c.self.view_is) (c.len.ensures.len ∙ sym (len_is key_cmp_total key_cmp_exact c.self.inside.entries c.len.ensures.ordered))

@@ -17,3 +17,4 @@ pub mod RunSteps
 pub mod RangeSteps
 pub mod RunCodes
 pub mod Waiting
+pub mod Sinks

@@ -1,18 +1,13 @@
 -- Bytes that are put into a sink, one after the other.
 use Rattle.std.proofs.Common.{◌≡◌, ◌<◌, ◌+◌, ◌++◌, ◌∷◌, ℕ, List, [], Some, Result, Ok, Err, length, map, slice_get, drop, subst, ap, ◌∙◌}
-use Rattle.std.specs.Prelude.{OnErr}
+use Rattle.std.specs.Prelude.{IsErrAnd}
 use Rattle.std.specs.List.{concat}
 use Rattle.std.proofs.lemmas.List.{drop_more}
 use Rattle.std.proofs.lemmas.Option.{get_or_from_slice_get}
 use Rattle.nb_table.specs.declared.cover.runs.Run.{Run}
 use Rattle.nb_table.specs.Code.RunSteps.{value_of, values_of}
-use Rattle.nb_table.specs.Code.Sinks.{SinkLaws, ToPut}
+use Rattle.nb_table.specs.Code.Sinks.{SinkLaws, Puts, ToPut}
 use Rattle.nb_table.specs.Saved.{run_bytes}
-
--- what holds whatever was answered
-pub always : {T E P : Type 0} (r : Result T E) → P → OnErr r P
-always (Ok x) p = tt
-always (Err e) p = p
 
 -- the runs that are left, from one on
 pub runs_left : (runs : List Run) (i : ℕ) (run : Run) → i < length runs → slice_get runs i ≡ Some run → concat (map run_bytes (values_of (drop i runs))) ≡ run_bytes (value_of run) ++ concat (map run_bytes (values_of (drop (i + 1) runs)))
@@ -41,17 +36,18 @@ module _ {S : Type 0} {takes breaks : S → S → List ℕ → Type 0} where
         cut = λ last q. p.cut last (laws.later now new last first next put q);
       }
 
-  -- or break
-  pub stop : SinkLaws takes breaks → {old now new : S} {whole given : List ℕ} (first next : List ℕ) → ToPut takes breaks old whole now (first ++ next) → given ≡ first → breaks now new given → breaks old new whole
-  stop laws {old} {now} {new} {whole} {given} first next p e broke =
+  -- or break, and the function answers what broke
+  pub stop : SinkLaws takes breaks → {T F : Type 0} {old now new : S} {whole given : List ℕ} (first next : List ℕ) → ToPut takes breaks old whole now (first ++ next) → given ≡ first → breaks now new given
+      → (Q : F → Type 0) (result : Result T F) → IsErrAnd result Q → Puts takes breaks old new whole result
+  stop laws first next p e broke Q (Ok x) err = absurd err
+  stop laws {T} {F} {old} {now} {new} {whole} {given} first next p e broke Q (Err f) err =
       p.cut new (laws.wider now new first next (subst (breaks now new) e broke))
 
   -- the last of them are put, or break
-  pub done : SinkLaws takes breaks → {old now new : S} {whole given : List ℕ} (last : List ℕ) → ToPut takes breaks old whole now last → given ≡ last → takes now new given → takes old new whole
-  done laws {old} {now} {new} {whole} {given} last p e took = p.all new (subst (takes now new) e took)
-
-  pub broken : SinkLaws takes breaks → {old now new : S} {whole given : List ℕ} (last : List ℕ) → ToPut takes breaks old whole now last → given ≡ last → breaks now new given → breaks old new whole
-  broken laws {old} {now} {new} {whole} {given} last p e broke = p.cut new (subst (breaks now new) e broke)
+  pub done : SinkLaws takes breaks → {T F : Type 0} {old now : S} {whole given : List ℕ} (new : S) (last : List ℕ) → ToPut takes breaks old whole now last → given ≡ last
+      → (result : Result T F) → Puts takes breaks now new given result → Puts takes breaks old new whole result
+  done laws {T} {F} {old} {now} {whole} {given} new last p e (Ok x) took = p.all new (subst (takes now new) e took)
+  done laws {T} {F} {old} {now} {whole} {given} new last p e (Err f) broke = p.cut new (subst (breaks now new) e broke)
 
   -- none is left
   pub ended : SinkLaws takes breaks → {old now : S} {whole : List ℕ} → ToPut takes breaks old whole now [] → takes old now whole

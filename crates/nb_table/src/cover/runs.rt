@@ -10,6 +10,7 @@ ghost use Rattle.nb_table.specs.Runs.{AreApart, run_end, map_of_runs, runs_of_ma
 ghost use Rattle.nb_table.specs.Saved.{runs_bytes};
 ghost use Rattle.nb_table.specs.Whole.{bytes_below as map_below};
 ghost use Rattle.nb_table.specs.Code.RunSteps.{value_of, values_of, run_at};
+ghost use Rattle.nb_table.specs.Code.Sinks.{Puts};
 
 mod counting;
 mod growing;
@@ -232,10 +233,8 @@ impl Runs {
 
     /// Puts the maximal runs.
     pub(crate) fn put_to<S: ByteSink>(&self, sink: &mut S) -> Result<(), S::Fault>
-        ensures takes { OnOk result
-            (S.takes sink.old sink.new (runs_bytes (runs_of_map self.now))) }
-        ensures breaks { OnErr result
-            (S.breaks sink.old sink.new (runs_bytes (runs_of_map self.now))) }
+        ensures { Puts S.takes S.breaks sink.old sink.new
+            (runs_bytes (runs_of_map self.now)) result }
     {
         saving::put_runs(sink, &self.runs)
     }

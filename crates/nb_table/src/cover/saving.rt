@@ -1,5 +1,5 @@
 //! What is known of a datagram's data, saved.
-ghost use Rattle.std.specs.Prelude.{OnOk, OnErr};
+ghost use Rattle.nb_table.specs.Code.Sinks.{Puts};
 ghost use Rattle.nb_table.specs.Saved.{cover_bytes};
 ghost use Rattle.nb_table.specs.declared.saved.form.SavedForm.TheVariants.{Second};
 
@@ -10,8 +10,7 @@ use crate::saved::sink::ByteSink;
 impl CoverFacts {
     /// Puts the end, the promise and the maximal runs.
     pub(crate) fn put_to<S: ByteSink>(&self, sink: &mut S) -> Result<(), S::Fault>
-        ensures takes { OnOk result (S.takes sink.old sink.new (cover_bytes Second self.now)) }
-        ensures breaks { OnErr result (S.breaks sink.old sink.new (cover_bytes Second self.now)) }
+        ensures { Puts S.takes S.breaks sink.old sink.new (cover_bytes Second self.now) result }
     {
         put_end(sink, self.end)?;
         put_end(sink, self.promise)?;

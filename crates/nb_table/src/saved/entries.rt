@@ -1,11 +1,12 @@
 //! The keys of saved tables with their entries: judged, kept, and written.
-ghost use Rattle.std.specs.Prelude.{◌≡◌, ◌⊎◌, ◌&&◌, IfOk, IfErr, OnOk, OnErr};
+ghost use Rattle.std.specs.Prelude.{◌≡◌, ◌⊎◌, ◌&&◌, IfOk, IfErr, OnOk};
 ghost use Rattle.std.specs.BTreeMap.{IsOrdered};
 ghost use Rattle.std.specs.List.{AllByRecursion};
 ghost use Rattle.std.specs.FinMap as maps;
 ghost use Rattle.nb_datagram.specs.Key.{key_cmp};
 ghost use Rattle.nb_table.specs.Code.Fitting.{is_short as is_short_entry};
 ghost use Rattle.nb_table.specs.Code.SavedTables.{AreJudged, AreKept, HasNames};
+ghost use Rattle.nb_table.specs.Code.Sinks.{Puts};
 ghost use Rattle.nb_table.specs.Saved.{entries_bytes, keyed_bytes};
 ghost use Rattle.nb_table.specs.declared.saved.form.SavedForm.TheVariants.{Second};
 ghost use Rattle.nb_table.specs.SavedReading.{entries_at};
@@ -105,10 +106,8 @@ pub(crate) fn load_entries(
 
 /// Puts a key and its entry.
 fn put_entry<S: ByteSink>(sink: &mut S, key: Key, entry: &Entry) -> Result<(), S::Fault>
-    ensures takes { OnOk result
-        (S.takes sink.old sink.new (keyed_bytes Second (key, entry.now))) }
-    ensures breaks { OnErr result
-        (S.breaks sink.old sink.new (keyed_bytes Second (key, entry.now))) }
+    ensures puts { Puts S.takes S.breaks sink.old sink.new
+        (keyed_bytes Second (key, entry.now)) result }
     ensures named { OnOk result (HasNames (key, entry.now)) }
 {
     put_key(sink, key)?;
@@ -120,10 +119,8 @@ pub(crate) fn put_entries<S: ByteSink>(
     sink: &mut S,
     entries: &BTreeMap<Key, Entry>,
 ) -> Result<(), S::Fault>
-    ensures takes { OnOk result
-        (S.takes sink.old sink.new (entries_bytes Second entries.now.entries)) }
-    ensures breaks { OnErr result
-        (S.breaks sink.old sink.new (entries_bytes Second entries.now.entries)) }
+    ensures puts { Puts S.takes S.breaks sink.old sink.new
+        (entries_bytes Second entries.now.entries) result }
     ensures named { OnOk result (AllByRecursion HasNames entries.now.entries) }
     ensures ordered { IsOrdered key_cmp entries.now }
 {

@@ -1,7 +1,8 @@
 //! Saved entries, which borrow their runs: read, kept, and written.
-ghost use Rattle.std.specs.Prelude.{◌≡◌, IfOk, OnOk, OnErr};
+ghost use Rattle.std.specs.Prelude.{◌≡◌, IfOk, OnOk};
 ghost use Rattle.nb_table.specs.Code.Fitting.{is_short as is_short_entry};
 ghost use Rattle.nb_table.specs.Code.Fitting.{ends_by as ends_at_most};
+ghost use Rattle.nb_table.specs.Code.Sinks.{Puts};
 ghost use Rattle.nb_table.specs.Saved.{facts_bytes, entry_bytes};
 ghost use Rattle.nb_table.specs.SavedFits.{IsNamed};
 ghost use Rattle.nb_table.specs.SavedReading.{facts_at, entry_at};
@@ -120,8 +121,8 @@ impl<'a> SavedFacts<'a> {
 impl EntryFacts {
     /// Puts the kind, both names and the cover.
     fn put_to<S: ByteSink>(&self, sink: &mut S) -> Result<(), S::Fault>
-        ensures takes { OnOk result (S.takes sink.old sink.new (facts_bytes Second self.now)) }
-        ensures breaks { OnErr result (S.breaks sink.old sink.new (facts_bytes Second self.now)) }
+        ensures puts { Puts S.takes S.breaks sink.old sink.new
+            (facts_bytes Second self.now) result }
         ensures named { IsNamed self.now }
     {
         // For the clause `named`; the calls do nothing.
@@ -181,8 +182,8 @@ impl<'a> Slot<SavedFacts<'a>> {
 impl Slot<EntryFacts> {
     /// Puts whether the entry is held, and what is.
     pub(crate) fn put_to<S: ByteSink>(&self, sink: &mut S) -> Result<(), S::Fault>
-        ensures takes { OnOk result (S.takes sink.old sink.new (entry_bytes Second self.now)) }
-        ensures breaks { OnErr result (S.breaks sink.old sink.new (entry_bytes Second self.now)) }
+        ensures puts { Puts S.takes S.breaks sink.old sink.new
+            (entry_bytes Second self.now) result }
         ensures named { OnOk result (OnHeld IsNamed self.now) }
     {
         match self {

@@ -1,8 +1,9 @@
 //! The fields of saved tables: each read where it stands, and written.
-ghost use Rattle.std.specs.Prelude.{◌≡◌, ◌↔◌, IsTrue, MatchResult, OnOk, OnErr};
+ghost use Rattle.std.specs.Prelude.{◌≡◌, ◌↔◌, IsTrue, MatchResult};
 ghost use Rattle.std.specs.Int.{w16, w32, to_be_bytes};
 ghost use Rattle.nb_names.specs.Numbers.{NumberAt};
 ghost use Rattle.nb_datagram.specs.Header.{IsKey};
+ghost use Rattle.nb_table.specs.Code.Sinks.{Puts};
 ghost use Rattle.nb_table.specs.Saved.{end_bytes, key_bytes};
 ghost use Rattle.nb_table.specs.SavedReading.{Field, Then, Judged, KeyAt, IsAfter, PromisesBelow, fault_of_name};
 ghost use Rattle.nb_table.specs.SavedReading.{byte_at as byte_reading};
@@ -46,8 +47,7 @@ pub(crate) fn read_number(input: &[u8], at: usize) -> Result<(u16, usize), LoadF
 /// Puts the two low bytes of a number, the high one of them first.
 #[inline]
 pub(crate) fn put_number<S: ByteSink>(sink: &mut S, number: u64) -> Result<(), S::Fault>
-    ensures takes { OnOk result (S.takes sink.old sink.new (to_be_bytes w16 number)) }
-    ensures breaks { OnErr result (S.breaks sink.old sink.new (to_be_bytes w16 number)) }
+    ensures { Puts S.takes S.breaks sink.old sink.new (to_be_bytes w16 number) result }
 {
     let bytes = number.to_be_bytes();
     sink.put(&[bytes[6], bytes[7]])
@@ -65,8 +65,7 @@ pub(crate) fn read_count(input: &[u8], at: usize) -> Result<(u32, usize), LoadFa
 
 /// Puts the four low bytes of a number, the high one of them first.
 pub(crate) fn put_count<S: ByteSink>(sink: &mut S, count: u64) -> Result<(), S::Fault>
-    ensures takes { OnOk result (S.takes sink.old sink.new (to_be_bytes w32 count)) }
-    ensures breaks { OnErr result (S.breaks sink.old sink.new (to_be_bytes w32 count)) }
+    ensures { Puts S.takes S.breaks sink.old sink.new (to_be_bytes w32 count) result }
 {
     let bytes = count.to_be_bytes();
     sink.put(&[bytes[4], bytes[5], bytes[6], bytes[7]])
@@ -136,13 +135,13 @@ pub(crate) fn read_key(
 
 /// Puts a key.
 pub(crate) fn put_key<S: ByteSink>(sink: &mut S, key: Key) -> Result<(), S::Fault>
-    ensures takes { OnOk result (S.takes sink.old sink.new (key_bytes key)) }
-    ensures breaks { OnErr result (S.breaks sink.old sink.new (key_bytes key)) }
+    ensures puts { Puts S.takes S.breaks sink.old sink.new (key_bytes key) result }
     ensures key { IsKey key }
 {
-    sink.put(&key.ip)?;
-    sink.put(&key.port.to_be_bytes())?;
-    sink.put(&key.id.to_be_bytes())
+    let ip = key.ip;
+    let port = key.port.to_be_bytes();
+    let id = key.id.to_be_bytes();
+    sink.put(&[ip[0], ip[1], ip[2], ip[3], port[0], port[1], id[0], id[1]])
 }
 
 /// The kind at an offset.
@@ -260,13 +259,12 @@ pub(crate) fn read_promise(
 
 /// Puts an end or a promise, or that there is none.
 pub(crate) fn put_end<S: ByteSink>(sink: &mut S, end: Option<u32>) -> Result<(), S::Fault>
-    ensures takes { OnOk result (S.takes sink.old sink.new (end_bytes end)) }
-    ensures breaks { OnErr result (S.breaks sink.old sink.new (end_bytes end)) }
+    ensures { Puts S.takes S.breaks sink.old sink.new (end_bytes end) result }
 {
     match end {
         Some(end) => {
-            sink.put(&[1])?;
-            put_number(sink, u64::from(end))
+            let bytes = end.to_be_bytes();
+            sink.put(&[1, bytes[2], bytes[3]])
         }
         None => sink.put(&[0]),
     }

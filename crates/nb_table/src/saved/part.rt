@@ -40,7 +40,8 @@ impl<'a, W: Write> ByteSink for DigitsSink<'a, W> {
     ghost use Rattle.std.specs.Prelude.{◌≡◌, ◌++◌, refl};
     ghost use Rattle.std.proofs.Common.{◌∙◌};
     ghost use Rattle.nb_table.specs.Code.Waiting.{Passes, Breaks};
-    ghost use Rattle.nb_table.specs.Shared.WaitingLemmas.{passes_no_more, passes_more, breaks_first, breaks_later};
+    ghost use Rattle.nb_table.specs.Shared.WaitingLemmas.{passes_no_more, passes_more};
+    ghost use Rattle.nb_table.specs.Shared.WaitingLemmas.{breaks_first, breaks_later};
 
     ghost takes = { λ old new bytes.
         Passes W.contents old.writer.now new.writer.now (old.part.items ++ bytes) new.part.items

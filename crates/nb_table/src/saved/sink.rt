@@ -1,6 +1,6 @@
 //! What the bytes of saved tables are put into.
-ghost use Rattle.std.specs.Prelude.{ℕ, List, OnOk, OnErr};
-ghost use Rattle.nb_table.specs.Code.Sinks.{SinkLaws};
+ghost use Rattle.std.specs.Prelude.{ℕ, List};
+ghost use Rattle.nb_table.specs.Code.Sinks.{SinkLaws, Puts};
 
 use nb_names::NoMemory;
 
@@ -17,8 +17,7 @@ pub(crate) trait ByteSink {
 
     /// Puts bytes after those that were put before.
     fn put(&mut self, bytes: &[u8]) -> Result<(), Self::Fault>
-        ensures takes { OnOk result (takes self.old self.new bytes.now) }
-        ensures breaks { OnErr result (breaks self.old self.new bytes.now) };
+        ensures { Puts takes breaks self.old self.new bytes.now result };
 
     /// Bytes put one after the other.
     ghost laws: { SinkLaws takes breaks };

@@ -6,6 +6,7 @@ ghost use Rattle.std.specs.FinMap as maps;
 ghost use Rattle.nb_datagram.specs.Key.{key_cmp};
 ghost use Rattle.nb_table.specs.Code.SavedTables.{HasNames, IsJudged};
 ghost use Rattle.nb_names.specs.Labels.{StandsAt};
+ghost use Rattle.nb_table.specs.Code.Sinks.{Puts};
 ghost use Rattle.nb_table.specs.Code.Waiting.{Passes, Breaks};
 ghost use Rattle.nb_table.specs.Saved.{magic};
 ghost use Rattle.nb_table.specs.Saved.{saved as saved_bytes};
@@ -61,10 +62,8 @@ pub(crate) fn judge(
 
 /// Puts the saved bytes of entries with their keys.
 fn put_table<S: ByteSink>(sink: &mut S, entries: &BTreeMap<Key, Entry>) -> Result<(), S::Fault>
-    ensures takes { OnOk result (S.takes sink.old sink.new
-        (saved_bytes (maps.from_entries {R = key_cmp} entries.now.entries))) }
-    ensures breaks { OnErr result (S.breaks sink.old sink.new
-        (saved_bytes (maps.from_entries {R = key_cmp} entries.now.entries))) }
+    ensures puts { Puts S.takes S.breaks sink.old sink.new
+        (saved_bytes (maps.from_entries {R = key_cmp} entries.now.entries)) result }
     ensures named { OnOk result (AllByRecursion HasNames
         (maps.entries (maps.from_entries {R = key_cmp} entries.now.entries))) }
 {

@@ -1,6 +1,7 @@
 //! Rows of runs, saved, copied, and made of runs in order.
-ghost use Rattle.std.specs.Prelude.{◌≡◌, ◌++◌, ◌∷◌, [], IfOk, OnOk, OnErr};
+ghost use Rattle.std.specs.Prelude.{◌≡◌, ◌++◌, ◌∷◌, [], IfOk, OnOk};
 ghost use Rattle.nb_table.specs.Code.RunSteps.{value_of, values_of, run_at};
+ghost use Rattle.nb_table.specs.Code.Sinks.{Puts};
 ghost use Rattle.nb_table.specs.Saved.{run_bytes, runs_bytes};
 
 use super::Run;
@@ -11,18 +12,17 @@ use std::alloc::Global;
 
 /// Puts a run: its start, how many bytes it has, and these.
 fn put_run<S: ByteSink>(sink: &mut S, run: &Run) -> Result<(), S::Fault>
-    ensures takes { OnOk result (S.takes sink.old sink.new (run_bytes (value_of run.now))) }
-    ensures breaks { OnErr result (S.breaks sink.old sink.new (run_bytes (value_of run.now))) }
+    ensures { Puts S.takes S.breaks sink.old sink.new (run_bytes (value_of run.now)) result }
 {
-    put_number(sink, u64::from(run.start()))?;
-    put_number(sink, run.bytes().len() as u64)?;
+    let start = run.start().to_be_bytes();
+    let size = (run.bytes().len() as u64).to_be_bytes();
+    sink.put(&[start[2], start[3], size[6], size[7]])?;
     sink.put(run.bytes())
 }
 
 /// Puts runs, how many there are in front.
 pub(super) fn put_runs<S: ByteSink>(sink: &mut S, runs: &[Run]) -> Result<(), S::Fault>
-    ensures takes { OnOk result (S.takes sink.old sink.new (runs_bytes (values_of runs.now))) }
-    ensures breaks { OnErr result (S.breaks sink.old sink.new (runs_bytes (values_of runs.now))) }
+    ensures { Puts S.takes S.breaks sink.old sink.new (runs_bytes (values_of runs.now)) result }
 {
     put_number(sink, runs.len() as u64)?;
     for run in runs {

@@ -1,4 +1,4 @@
-//! Saved tables: what reads each part of them, and beside it what writes it.
+//! Saved tables: what reads each part of them, and beside it what puts it into a sink of bytes.
 //!
 //! An input is judged where it stands, before any memory is taken.
 

@@ -48,7 +48,3 @@ module _ {S : Type 0} {takes breaks : S → S → List ℕ → Type 0} where
       → (result : Result T F) → Puts takes breaks now new given result → Puts takes breaks old new whole result
   done laws {T} {F} {old} {now} {whole} {given} new last p e (Ok x) took = p.all new (subst (takes now new) e took)
   done laws {T} {F} {old} {now} {whole} {given} new last p e (Err f) broke = p.cut new (subst (breaks now new) e broke)
-
-  -- none is left
-  pub ended : SinkLaws takes breaks → {old now : S} {whole : List ℕ} → ToPut takes breaks old whole now [] → takes old now whole
-  ended laws {old} {now} {whole} p = p.all now (laws.none now)

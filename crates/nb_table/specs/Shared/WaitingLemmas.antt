@@ -44,7 +44,8 @@ module _ {W : Type 0} {C : W → Option (List ℕ)} where
   }
 
   -- those that waited are passed on
-  pub passes_on : (old mid new : CountedOf W) (whole bytes waiting : List ℕ) → Passes C old mid whole bytes → Passes C mid new bytes waiting → Passes C old new whole waiting
+  pub passes_on : (old mid new : CountedOf W) (whole bytes waiting : List ℕ) → Passes C old mid whole bytes → Passes C mid new bytes waiting
+      → Passes C old new whole waiting
   passes_on old mid new whole bytes waiting p q = record {
     gone = p.gone ++ q.gone;
     whole = p.whole ∙ ap (λ bs. p.gone ++ bs) q.whole ∙ sym (append_assoc p.gone q.gone waiting);
@@ -60,11 +61,13 @@ module _ {W : Type 0} {C : W → Option (List ℕ)} where
   }
 
   -- some bytes passed after those that waited, and then others
-  passes_first : (old new : CountedOf W) (held xs ys waiting : List ℕ) → Passes C old new (held ++ xs) waiting → Passes C old new (held ++ (xs ++ ys)) (waiting ++ ys)
+  passes_first : (old new : CountedOf W) (held xs ys waiting : List ℕ) → Passes C old new (held ++ xs) waiting
+      → Passes C old new (held ++ (xs ++ ys)) (waiting ++ ys)
   passes_first old new held xs ys waiting p =
       subst (λ (bs : List ℕ). Passes C old new bs (waiting ++ ys)) (append_assoc held xs ys) (passes_wider old new (held ++ xs) waiting ys p)
 
-  pub passes_more : (old mid new : CountedOf W) (held between waiting xs ys : List ℕ) → Passes C old mid (held ++ xs) between → Passes C mid new (between ++ ys) waiting → Passes C old new (held ++ (xs ++ ys)) waiting
+  pub passes_more : (old mid new : CountedOf W) (held between waiting xs ys : List ℕ) → Passes C old mid (held ++ xs) between
+      → Passes C mid new (between ++ ys) waiting → Passes C old new (held ++ (xs ++ ys)) waiting
   passes_more old mid new held between waiting xs ys p q =
       passes_on old mid new (held ++ (xs ++ ys)) (between ++ ys) waiting (passes_first old mid held xs ys between p) q
 
@@ -72,6 +75,7 @@ module _ {W : Type 0} {C : W → Option (List ℕ)} where
   pub breaks_first : (old new : CountedOf W) (held xs ys : List ℕ) → Breaks C old new (held ++ xs) → Breaks C old new (held ++ (xs ++ ys))
   breaks_first old new held xs ys b = subst (Breaks C old new) (append_assoc held xs ys) (breaks_wider old new (held ++ xs) ys b)
 
-  pub breaks_later : (old mid new : CountedOf W) (held between xs ys : List ℕ) → Passes C old mid (held ++ xs) between → Breaks C mid new (between ++ ys) → Breaks C old new (held ++ (xs ++ ys))
+  pub breaks_later : (old mid new : CountedOf W) (held between xs ys : List ℕ) → Passes C old mid (held ++ xs) between
+      → Breaks C mid new (between ++ ys) → Breaks C old new (held ++ (xs ++ ys))
   breaks_later old mid new held between xs ys p b =
       breaks_on old mid new (held ++ (xs ++ ys)) (between ++ ys) (passes_first old mid held xs ys between p) b

@@ -21,7 +21,8 @@ returns-in_err-put_end-2 g c =
     let rest = end_bytes cover.promise ++ runs in
     let none = begun_as laws c.args.sink.now _ (end_bytes cover.end ++ rest) (ap (cover_bytes Second) (sym c.self.view_is)) in
     let one = turn laws (end_bytes cover.end) rest none refl c.in_ok-put_end.ensures in
-    stop laws (end_bytes cover.promise) runs one refl c.in_err-put_end-2.ensures _ c.from_residual-in_err-put_end-2.result c.from_residual-in_err-put_end-2.ensures.1
+    stop laws (end_bytes cover.promise) runs one refl
+    c.in_err-put_end-2.ensures _ c.from_residual-in_err-put_end-2.result c.from_residual-in_err-put_end-2.ensures.1
 
 pub returns : goal.returns
 returns g c =

@@ -17,7 +17,8 @@ returns-in_err-put-clause-puts g c =
     let source = name_bytes facts.parties.source in
     let kind = type_of facts.kind ∷ [] in
     let none = begun_as laws c.args.sink.now _ (kind ++ (source ++ (destination ++ cover))) (ap (facts_bytes Second) (sym c.self.view_is)) in
-    stop laws kind (source ++ (destination ++ cover)) none (ap (λ n. n ∷ []) c.message_type.ensures) c.in_err-put.ensures _ c.from_residual.result c.from_residual.ensures.1
+    stop laws kind (source ++ (destination ++ cover)) none (ap (λ n. n ∷ []) c.message_type.ensures)
+    c.in_err-put.ensures _ c.from_residual.result c.from_residual.ensures.1
 
 pub returns-in_err-put-2-clause-puts : goal.returns-in_err-put-2-clause-puts
 returns-in_err-put-2-clause-puts g c =

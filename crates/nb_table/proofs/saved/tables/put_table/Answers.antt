@@ -31,7 +31,8 @@ returns-in_err-put_count-clause-puts g c =
     let none = begun laws c.args.sink.now (saved contents) in
     let one = turn laws (magic Second) (count ++ entries) none refl c.in_ok-put.ensures in
     let counted = c.len.ensures.len ∙ sym (len_is key_cmp_total key_cmp_exact m c.len.ensures.ordered) in
-    stop laws count entries one (ap (to_be_bytes w32) counted) c.in_err-put_count.ensures _ c.from_residual-in_err-put_count.result c.from_residual-in_err-put_count.ensures.1
+    stop laws count entries one (ap (to_be_bytes w32) counted)
+    c.in_err-put_count.ensures _ c.from_residual-in_err-put_count.result c.from_residual-in_err-put_count.ensures.1
 
 pub returns-clause-puts : goal.returns-clause-puts
 returns-clause-puts g c =

@@ -20,7 +20,8 @@ pub returns-clause-passes : goal.returns-clause-passes
 returns-clause-passes g c =
     let empty : c.new.result.items ≡ [] = c.new.ensures in
     let contents = maps.from_entries {R = key_cmp} c.args.entries.now.entries in
-    let put : Passes g.W.Write.contents c.args.writer.now c.put_table.new.sink.writer.now (saved contents) c.put_table.new.sink.part.items = rw empty at c.in_ok-put_table.ensures.puts.0 in
+    let put : Passes g.W.Write.contents c.args.writer.now c.put_table.new.sink.writer.now (saved contents) c.put_table.new.sink.part.items =
+    rw empty at c.in_ok-put_table.ensures.puts.0 in
     let all = on_ok_weaker c.write_out.result (passes_on _ _ c.write_out.new.self.writer.now _ _ [] put) c.write_out.ensures.passes in
     let kept = c.in_ok-put_table.ensures.puts.1 in
     let same = c.write_out.ensures.same in
@@ -30,7 +31,8 @@ pub returns-clause-breaks : goal.returns-clause-breaks
 returns-clause-breaks g c =
     let empty : c.new.result.items ≡ [] = c.new.ensures in
     let contents = maps.from_entries {R = key_cmp} c.args.entries.now.entries in
-    let put : Passes g.W.Write.contents c.args.writer.now c.put_table.new.sink.writer.now (saved contents) c.put_table.new.sink.part.items = rw empty at c.in_ok-put_table.ensures.puts.0 in
+    let put : Passes g.W.Write.contents c.args.writer.now c.put_table.new.sink.writer.now (saved contents) c.put_table.new.sink.part.items =
+    rw empty at c.in_ok-put_table.ensures.puts.0 in
     let all = on_err_weaker c.write_out.result (breaks_on _ _ c.write_out.new.self.writer.now _ _ put) c.write_out.ensures.breaks in
     let kept = c.in_ok-put_table.ensures.puts.1 in
     let same = c.write_out.ensures.same in

@@ -10,7 +10,9 @@ returns-in_err-put g c =
     let run = value_of c.args.run.now in
     let laws = g.met.S.ByteSink.laws in
     let front = to_be_bytes w16 run.start ++ to_be_bytes w16 (length run.bytes) in
-    let same = ap₂ (λ s n. get_or s 2 0 ∷ get_or s 3 0 ∷ get_or n 6 0 ∷ get_or n 7 0 ∷ []) (c.to_be_bytes-start.ensures ∙ ap (to_be_bytes w32) c.start.ensures) (c.to_be_bytes-size.ensures ∙ ap (λ bs. to_be_bytes w64 (length bs)) c.bytes.ensures) in
+    let same = ap₂ (λ s n. get_or s 2 0 ∷ get_or s 3 0 ∷ get_or n 6 0 ∷ get_or n 7 0 ∷ [])
+    (c.to_be_bytes-start.ensures ∙ ap (to_be_bytes w32) c.start.ensures)
+    (c.to_be_bytes-size.ensures ∙ ap (λ bs. to_be_bytes w64 (length bs)) c.bytes.ensures) in
     stop laws front run.bytes (begun laws c.args.sink.now (run_bytes run)) same c.in_err-put.ensures _ c.from_residual.result c.from_residual.ensures.1
 
 pub returns : goal.returns
@@ -18,6 +20,8 @@ returns g c =
     let run = value_of c.args.run.now in
     let laws = g.met.S.ByteSink.laws in
     let front = to_be_bytes w16 run.start ++ to_be_bytes w16 (length run.bytes) in
-    let same = ap₂ (λ s n. get_or s 2 0 ∷ get_or s 3 0 ∷ get_or n 6 0 ∷ get_or n 7 0 ∷ []) (c.to_be_bytes-start.ensures ∙ ap (to_be_bytes w32) c.start.ensures) (c.to_be_bytes-size.ensures ∙ ap (λ bs. to_be_bytes w64 (length bs)) c.bytes.ensures) in
+    let same = ap₂ (λ s n. get_or s 2 0 ∷ get_or s 3 0 ∷ get_or n 6 0 ∷ get_or n 7 0 ∷ [])
+    (c.to_be_bytes-start.ensures ∙ ap (to_be_bytes w32) c.start.ensures)
+    (c.to_be_bytes-size.ensures ∙ ap (λ bs. to_be_bytes w64 (length bs)) c.bytes.ensures) in
     let one = turn laws front run.bytes (begun laws c.args.sink.now (run_bytes run)) same c.in_ok-put.ensures in
     done laws _ run.bytes one c.bytes-2.ensures c.put-2.result c.put-2.ensures

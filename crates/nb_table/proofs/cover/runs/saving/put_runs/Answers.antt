@@ -14,7 +14,8 @@ returns-in_err-put_number g c =
     let laws = g.met.S.ByteSink.laws in
     let none = begun laws c.args.sink.now (runs_bytes runs) in
     let count = ap (to_be_bytes w16) (sym (length-map c.args.runs.now value_of)) in
-    stop laws (to_be_bytes w16 (length runs)) (concat (map run_bytes runs)) none count c.in_err-put_number.ensures _ c.from_residual.result c.from_residual.ensures.1
+    stop laws (to_be_bytes w16 (length runs)) (concat (map run_bytes runs)) none count
+    c.in_err-put_number.ensures _ c.from_residual.result c.from_residual.ensures.1
 
 pub loop-run-init : goal.loop-run-init
 loop-run-init g c =

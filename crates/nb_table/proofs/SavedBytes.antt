@@ -3,3 +3,4 @@ pub mod SavedLemmas
 pub mod ShortLemmas
 pub mod ExampleLemmas
 pub mod WritingLemmas
+pub mod PuttingLemmas

@@ -18,3 +18,4 @@ pub mod RunSteps
 pub mod RangeSteps
 pub mod RunCodes
 pub mod Waiting
+pub mod Sinks

@@ -1,4 +1,4 @@
--- What the laws of joins rest on, and what crates above cite. No clause cites a lemma of these files: they
+-- What the laws of joins and of sinks rest on, and what crates above cite. No clause cites a lemma of these files: they
 -- stand beside the definitions because the laws of a trait, and other crates, can cite nothing of `proofs/`.
 pub mod MapsLemmas
 pub mod SlotLemmas
@@ -10,3 +10,4 @@ pub mod EqualLemmas
 pub mod TreeLemmas
 pub mod FragmentLemmas
 pub mod KeyCountLemmas
+pub mod WaitingLemmas

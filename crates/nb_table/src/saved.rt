@@ -1,4 +1,4 @@
-//! Saved tables: what reads each part of them, and beside it what writes it.
+//! Saved tables: what reads each part of them, and beside it what puts it into a sink of bytes.
 //!
 //! An input is judged where it stands, before any memory is taken.
 
@@ -6,7 +6,8 @@ pub(crate) mod entries;
 mod facts;
 pub(crate) mod fields;
 pub(crate) mod form;
-pub(crate) mod part;
+mod part;
 pub(crate) mod runs;
+pub(crate) mod sink;
 mod sources;
 pub(crate) mod tables;

@@ -1,5 +1,5 @@
 //! Bytes by place, kept as runs: places that follow one another.
-ghost use Rattle.std.specs.Prelude.{◌≡◌, ◌↔◌, ◌+◌, ◌++◌, ◌<◌, ℕ, length, IsTrue, IfOk, OnOk, OnErr, Some, true, None, Ok};
+ghost use Rattle.std.specs.Prelude.{◌≡◌, ◌↔◌, ◌+◌, ◌<◌, ℕ, length, IsTrue, IfOk, OnOk, OnErr, Some, true, None, Ok};
 ghost use Rattle.std.specs.Ordering.{nat_cmp};
 ghost use Rattle.std.specs.List.{list_all};
 ghost use Rattle.std.specs.FinMap as maps;
@@ -10,7 +10,7 @@ ghost use Rattle.nb_table.specs.Runs.{AreApart, run_end, map_of_runs, runs_of_ma
 ghost use Rattle.nb_table.specs.Saved.{runs_bytes};
 ghost use Rattle.nb_table.specs.Whole.{bytes_below as map_below};
 ghost use Rattle.nb_table.specs.Code.RunSteps.{value_of, values_of, run_at};
-ghost use Rattle.nb_table.specs.Code.Waiting.{Passes, Breaks};
+ghost use Rattle.nb_table.specs.Code.Sinks.{Puts};
 
 mod counting;
 mod growing;
@@ -19,11 +19,10 @@ mod saving;
 mod searching;
 mod uniting;
 
-use crate::saved::part::Part;
-use nb_names::{Bytes, Counted, DeviceFault, NoMemory};
+use crate::saved::sink::ByteSink;
+use nb_names::{Bytes, NoMemory};
 pub(crate) use saving::add_run;
 use std::alloc::Global;
-use std::io::Write;
 use std::marker::Model;
 
 /// The place of the first of these bytes, and the bytes, in order.
@@ -232,25 +231,11 @@ impl Runs {
         Ok(Runs { runs })
     }
 
-    /// Adds the maximal runs after the bytes.
-    pub(crate) fn save(&self, saved: &mut Vec<u8>) -> Result<(), NoMemory>
-        ensures { OnOk result
-            (saved.new.items ≡ saved.old.items ++ runs_bytes (runs_of_map self.now)) }
+    /// Puts the maximal runs.
+    pub(crate) fn put_to<S: ByteSink>(&self, sink: &mut S) -> Result<(), S::Fault>
+        ensures { Puts S.takes S.breaks sink.old sink.new
+            (runs_bytes (runs_of_map self.now)) result }
     {
-        saving::push_runs(saved, &self.runs)
-    }
-
-    /// Puts the maximal runs after the bytes that wait.
-    pub(crate) fn write_saved<W: Write>(
-        &self,
-        writer: &mut Counted<W>,
-        part: &mut Part,
-    ) -> Result<(), DeviceFault>
-        ensures passes { OnOk result (Passes W.contents writer.old writer.new
-            (part.old.items ++ runs_bytes (runs_of_map self.now)) part.new.items) }
-        ensures breaks { OnErr result (Breaks W.contents writer.old writer.new
-            (part.old.items ++ runs_bytes (runs_of_map self.now))) }
-    {
-        saving::put_runs(writer, part, &self.runs)
+        saving::put_runs(sink, &self.runs)
     }
 }

@@ -1,30 +1,29 @@
 //! The keys of saved tables with their entries: judged, kept, and written.
-ghost use Rattle.std.specs.Prelude.{◌≡◌, ◌⊎◌, ◌&&◌, ◌++◌, IfOk, IfErr, OnOk, OnErr};
+ghost use Rattle.std.specs.Prelude.{◌≡◌, ◌⊎◌, ◌&&◌, IfOk, IfErr, OnOk};
 ghost use Rattle.std.specs.BTreeMap.{IsOrdered};
 ghost use Rattle.std.specs.List.{AllByRecursion};
 ghost use Rattle.std.specs.FinMap as maps;
 ghost use Rattle.nb_datagram.specs.Key.{key_cmp};
 ghost use Rattle.nb_table.specs.Code.Fitting.{is_short as is_short_entry};
 ghost use Rattle.nb_table.specs.Code.SavedTables.{AreJudged, AreKept, HasNames};
-ghost use Rattle.nb_table.specs.Code.Waiting.{Passes, Breaks};
+ghost use Rattle.nb_table.specs.Code.Sinks.{Puts};
 ghost use Rattle.nb_table.specs.Saved.{entries_bytes, keyed_bytes};
 ghost use Rattle.nb_table.specs.declared.saved.form.SavedForm.TheVariants.{Second};
 ghost use Rattle.nb_table.specs.SavedReading.{entries_at};
 ghost use Rattle.nb_table.specs.declared.load_fault.LoadFault.TheVariants.{NoMemory as no_memory};
 
 use super::facts::{SavedEntry, read_entry};
-use super::fields::{push_key, put_key, read_key};
+use super::fields::{put_key, read_key};
 use super::form::SavedForm;
-use super::part::Part;
+use super::sink::ByteSink;
 use super::sources::Sources;
 use crate::entries::Entries;
 use crate::entry::Entry;
 use crate::load_fault::LoadFault;
 use nb_datagram::Key;
-use nb_names::{Counted, DeviceFault, NoMemory};
+use nb_names::NoMemory;
 use std::alloc::Global;
 use std::collections::BTreeMap;
-use std::io::Write;
 
 /// Whether none so far passes the limit, and this entry neither.
 fn still_short(so_far: bool, entry: &SavedEntry<'_>, limit: u16) -> bool
@@ -106,54 +105,28 @@ pub(crate) fn load_entries(
     Ok(map)
 }
 
-/// Adds keys and their entries after the bytes.
-pub(crate) fn push_entries(
-    alloc: Global,
-    saved: &mut Vec<u8>,
+/// Puts a key and its entry.
+fn put_entry<S: ByteSink>(sink: &mut S, key: Key, entry: &Entry) -> Result<(), S::Fault>
+    ensures puts { Puts S.takes S.breaks sink.old sink.new
+        (keyed_bytes Second (key, entry.now)) result }
+    ensures named { OnOk result (HasNames (key, entry.now)) }
+{
+    put_key(sink, key)?;
+    entry.put_to(sink)
+}
+
+/// Puts keys and their entries.
+pub(crate) fn put_entries<S: ByteSink>(
+    sink: &mut S,
     entries: &BTreeMap<Key, Entry>,
-) -> Result<(), NoMemory>
-    ensures value { OnOk result
-        (saved.new.items ≡ saved.old.items ++ entries_bytes Second entries.now.entries) }
+) -> Result<(), S::Fault>
+    ensures puts { Puts S.takes S.breaks sink.old sink.new
+        (entries_bytes Second entries.now.entries) result }
     ensures named { OnOk result (AllByRecursion HasNames entries.now.entries) }
     ensures ordered { IsOrdered key_cmp entries.now }
 {
     for (key, entry) in entries {
-        push_key(saved, *key)?;
-        entry.save(alloc, saved)?;
-    }
-    Ok(())
-}
-
-/// Puts a key and its entry after the bytes that wait.
-fn put_entry<W: Write>(
-    writer: &mut Counted<W>,
-    part: &mut Part,
-    key: Key,
-    entry: &Entry,
-) -> Result<(), DeviceFault>
-    ensures passes { OnOk result (Passes W.contents writer.old writer.new
-        (part.old.items ++ keyed_bytes Second (key, entry.now)) part.new.items) }
-    ensures breaks { OnErr result (Breaks W.contents writer.old writer.new
-        (part.old.items ++ keyed_bytes Second (key, entry.now))) }
-{
-    put_key(writer, part, key)?;
-    entry.write_saved(writer, part)
-}
-
-/// Puts keys and their entries after the bytes that wait.
-pub(crate) fn put_entries<W: Write>(
-    writer: &mut Counted<W>,
-    part: &mut Part,
-    entries: &BTreeMap<Key, Entry>,
-) -> Result<(), DeviceFault>
-    ensures passes { OnOk result (Passes W.contents writer.old writer.new
-        (part.old.items ++ entries_bytes Second entries.now.entries) part.new.items) }
-    ensures breaks { OnErr result (Breaks W.contents writer.old writer.new
-        (part.old.items ++ entries_bytes Second entries.now.entries)) }
-    ensures ordered { IsOrdered key_cmp entries.now }
-{
-    for (key, entry) in entries {
-        put_entry(writer, part, *key, entry)?;
+        put_entry(sink, *key, entry)?;
     }
     Ok(())
 }

@@ -1,8 +1,8 @@
 //! Saved entries, which borrow their runs: read, kept, and written.
-ghost use Rattle.std.specs.Prelude.{◌≡◌, ◌++◌, IfOk, OnOk, OnErr};
+ghost use Rattle.std.specs.Prelude.{◌≡◌, IfOk, OnOk};
 ghost use Rattle.nb_table.specs.Code.Fitting.{is_short as is_short_entry};
 ghost use Rattle.nb_table.specs.Code.Fitting.{ends_by as ends_at_most};
-ghost use Rattle.nb_table.specs.Code.Waiting.{Passes, Breaks};
+ghost use Rattle.nb_table.specs.Code.Sinks.{Puts};
 ghost use Rattle.nb_table.specs.Saved.{facts_bytes, entry_bytes};
 ghost use Rattle.nb_table.specs.SavedFits.{IsNamed};
 ghost use Rattle.nb_table.specs.SavedReading.{facts_at, entry_at};
@@ -12,17 +12,16 @@ ghost use Rattle.nb_table.specs.declared.saved.form.SavedForm.TheVariants.{Secon
 
 use super::fields::{read_byte, read_end, read_kind, read_plain_name, read_promise};
 use super::form::SavedForm;
-use super::part::{Part, put};
 use super::runs::{SavedRuns, read_runs};
+use super::sink::ByteSink;
 use crate::cover::CoverFacts;
 use crate::entry::{Entry, EntryFacts};
 use crate::load_fault::LoadFault;
 use crate::slot::Slot;
 use nb_datagram::Kind;
 use nb_datagram::limits::MAX_LENGTH;
-use nb_names::{Counted, DeviceFault, LentName, NoMemory};
+use nb_names::{LentName, NoMemory};
 use std::alloc::Global;
-use std::io::Write;
 use std::marker::Model;
 
 /// What a saved entry holds.
@@ -120,40 +119,19 @@ impl<'a> SavedFacts<'a> {
 }
 
 impl EntryFacts {
-    /// Adds the kind, both names and the cover after the bytes.
-    pub(crate) fn save(&self, alloc: Global, saved: &mut Vec<u8>) -> Result<(), NoMemory>
-        ensures value { OnOk result
-            (saved.new.items ≡ saved.old.items ++ facts_bytes Second self.now) }
+    /// Puts the kind, both names and the cover.
+    fn put_to<S: ByteSink>(&self, sink: &mut S) -> Result<(), S::Fault>
+        ensures puts { Puts S.takes S.breaks sink.old sink.new
+            (facts_bytes Second self.now) result }
         ensures named { IsNamed self.now }
     {
         // For the clause `named`; the calls do nothing.
         let _ = self.parties.source().bytes();
         let _ = self.parties.destination().bytes();
-        saved.push(self.kind.message_type())?;
-        saved.extend_from_slice(self.parties.source().to_domain().spelling())?;
-        saved.extend_from_slice(self.parties.destination().to_domain().spelling())?;
-        self.cover.save(saved)
-    }
-
-    /// Puts the kind, both names and the cover after the bytes that wait.
-    fn write_saved<W: Write>(
-        &self,
-        writer: &mut Counted<W>,
-        part: &mut Part,
-    ) -> Result<(), DeviceFault>
-        ensures passes { OnOk result (Passes W.contents writer.old writer.new
-            (part.old.items ++ facts_bytes Second self.now) part.new.items) }
-        ensures breaks { OnErr result (Breaks W.contents writer.old writer.new
-            (part.old.items ++ facts_bytes Second self.now)) }
-    {
-        put(writer, part, &[self.kind.message_type()])?;
-        put(writer, part, self.parties.source().to_domain().spelling())?;
-        put(
-            writer,
-            part,
-            self.parties.destination().to_domain().spelling(),
-        )?;
-        self.cover.write_saved(writer, part)
+        sink.put(&[self.kind.message_type()])?;
+        sink.put(self.parties.source().to_domain().spelling())?;
+        sink.put(self.parties.destination().to_domain().spelling())?;
+        self.cover.put_to(sink)
     }
 }
 
@@ -202,39 +180,18 @@ impl<'a> Slot<SavedFacts<'a>> {
 }
 
 impl Slot<EntryFacts> {
-    /// Adds after the bytes whether the entry is held, and what is.
-    pub(crate) fn save(&self, alloc: Global, saved: &mut Vec<u8>) -> Result<(), NoMemory>
-        ensures value { OnOk result
-            (saved.new.items ≡ saved.old.items ++ entry_bytes Second self.now) }
+    /// Puts whether the entry is held, and what is.
+    pub(crate) fn put_to<S: ByteSink>(&self, sink: &mut S) -> Result<(), S::Fault>
+        ensures puts { Puts S.takes S.breaks sink.old sink.new
+            (entry_bytes Second self.now) result }
         ensures named { OnOk result (OnHeld IsNamed self.now) }
     {
         match self {
             Slot::Held(facts) => {
-                saved.push(1)?;
-                facts.save(alloc, saved)?;
+                sink.put(&[1])?;
+                facts.put_to(sink)
             }
-            Slot::Spoilt => saved.push(0)?,
-        }
-        Ok(())
-    }
-
-    /// Puts after the bytes that wait whether the entry is held, and what is.
-    pub(crate) fn write_saved<W: Write>(
-        &self,
-        writer: &mut Counted<W>,
-        part: &mut Part,
-    ) -> Result<(), DeviceFault>
-        ensures passes { OnOk result (Passes W.contents writer.old writer.new
-            (part.old.items ++ entry_bytes Second self.now) part.new.items) }
-        ensures breaks { OnErr result (Breaks W.contents writer.old writer.new
-            (part.old.items ++ entry_bytes Second self.now)) }
-    {
-        match self {
-            Slot::Held(facts) => {
-                put(writer, part, &[1])?;
-                facts.write_saved(writer, part)
-            }
-            Slot::Spoilt => put(writer, part, &[0]),
+            Slot::Spoilt => sink.put(&[0]),
         }
     }
 }

@@ -1,9 +1,9 @@
 //! The fields of saved tables: each read where it stands, and written.
-ghost use Rattle.std.specs.Prelude.{◌≡◌, ◌↔◌, ◌++◌, IsTrue, MatchResult, OnOk, OnErr};
+ghost use Rattle.std.specs.Prelude.{◌≡◌, ◌↔◌, IsTrue, MatchResult};
 ghost use Rattle.std.specs.Int.{w16, w32, to_be_bytes};
 ghost use Rattle.nb_names.specs.Numbers.{NumberAt};
 ghost use Rattle.nb_datagram.specs.Header.{IsKey};
-ghost use Rattle.nb_table.specs.Code.Waiting.{Passes, Breaks};
+ghost use Rattle.nb_table.specs.Code.Sinks.{Puts};
 ghost use Rattle.nb_table.specs.Saved.{end_bytes, key_bytes};
 ghost use Rattle.nb_table.specs.SavedReading.{Field, Then, Judged, KeyAt, IsAfter, PromisesBelow, fault_of_name};
 ghost use Rattle.nb_table.specs.SavedReading.{byte_at as byte_reading};
@@ -17,13 +17,12 @@ ghost use Rattle.nb_table.specs.SavedReading.{promise_at as promise_reading};
 ghost use Rattle.nb_table.specs.declared.saved.form.SavedForm.TheVariants.{Second};
 
 use super::form::SavedForm;
-use super::part::{Part, put};
+use super::sink::ByteSink;
 use crate::load_fault::LoadFault;
 use nb_datagram::{Key, Kind};
 use nb_names::numbers::{number_16, number_32};
-use nb_names::{Counted, DeviceFault, LentName, NameFault, NoMemory, read_lent_name};
+use nb_names::{LentName, NameFault, read_lent_name};
 use std::cmp::Ordering;
-use std::io::Write;
 
 /// The byte at an offset.
 pub(crate) fn read_byte(input: &[u8], at: usize) -> Result<(u8, usize), LoadFault>
@@ -45,29 +44,13 @@ pub(crate) fn read_number(input: &[u8], at: usize) -> Result<(u16, usize), LoadF
     Ok((number_16(input, at), at + 2))
 }
 
-/// Adds the two low bytes of a number after the bytes, the high one of them first.
-pub(crate) fn push_number(saved: &mut Vec<u8>, number: u64) -> Result<(), NoMemory>
-    ensures { OnOk result (saved.new.items ≡ saved.old.items ++ to_be_bytes w16 number) }
+/// Puts the two low bytes of a number, the high one of them first.
+#[inline]
+pub(crate) fn put_number<S: ByteSink>(sink: &mut S, number: u64) -> Result<(), S::Fault>
+    ensures { Puts S.takes S.breaks sink.old sink.new (to_be_bytes w16 number) result }
 {
     let bytes = number.to_be_bytes();
-    saved.push(bytes[6])?;
-    saved.push(bytes[7])?;
-    Ok(())
-}
-
-/// Puts the two low bytes of a number after the bytes that wait, the high one of them first.
-pub(crate) fn put_number<W: Write>(
-    writer: &mut Counted<W>,
-    part: &mut Part,
-    number: u64,
-) -> Result<(), DeviceFault>
-    ensures passes { OnOk result (Passes W.contents writer.old writer.new
-        (part.old.items ++ to_be_bytes w16 number) part.new.items) }
-    ensures breaks { OnErr result (Breaks W.contents writer.old writer.new
-        (part.old.items ++ to_be_bytes w16 number)) }
-{
-    let bytes = number.to_be_bytes();
-    put(writer, part, &[bytes[6], bytes[7]])
+    sink.put(&[bytes[6], bytes[7]])
 }
 
 /// The number in the four bytes at an offset.
@@ -80,19 +63,12 @@ pub(crate) fn read_count(input: &[u8], at: usize) -> Result<(u32, usize), LoadFa
     Ok((number_32(input, at), at + 4))
 }
 
-/// Puts the four low bytes of a number after the bytes that wait, the high one of them first.
-pub(crate) fn put_count<W: Write>(
-    writer: &mut Counted<W>,
-    part: &mut Part,
-    count: u64,
-) -> Result<(), DeviceFault>
-    ensures passes { OnOk result (Passes W.contents writer.old writer.new
-        (part.old.items ++ to_be_bytes w32 count) part.new.items) }
-    ensures breaks { OnErr result (Breaks W.contents writer.old writer.new
-        (part.old.items ++ to_be_bytes w32 count)) }
+/// Puts the four low bytes of a number, the high one of them first.
+pub(crate) fn put_count<S: ByteSink>(sink: &mut S, count: u64) -> Result<(), S::Fault>
+    ensures { Puts S.takes S.breaks sink.old sink.new (to_be_bytes w32 count) result }
 {
     let bytes = count.to_be_bytes();
-    put(writer, part, &[bytes[4], bytes[5], bytes[6], bytes[7]])
+    sink.put(&[bytes[4], bytes[5], bytes[6], bytes[7]])
 }
 
 /// This many bytes at an offset.
@@ -157,31 +133,15 @@ pub(crate) fn read_key(
     Ok((key, next))
 }
 
-/// Adds a key after the bytes.
-pub(crate) fn push_key(saved: &mut Vec<u8>, key: Key) -> Result<(), NoMemory>
-    ensures value { OnOk result (saved.new.items ≡ saved.old.items ++ key_bytes key) }
+/// Puts a key.
+pub(crate) fn put_key<S: ByteSink>(sink: &mut S, key: Key) -> Result<(), S::Fault>
+    ensures puts { Puts S.takes S.breaks sink.old sink.new (key_bytes key) result }
     ensures key { IsKey key }
 {
-    saved.extend_from_slice(&key.ip)?;
-    saved.extend_from_slice(&key.port.to_be_bytes())?;
-    saved.extend_from_slice(&key.id.to_be_bytes())?;
-    Ok(())
-}
-
-/// Puts a key after the bytes that wait.
-pub(crate) fn put_key<W: Write>(
-    writer: &mut Counted<W>,
-    part: &mut Part,
-    key: Key,
-) -> Result<(), DeviceFault>
-    ensures passes { OnOk result (Passes W.contents writer.old writer.new
-        (part.old.items ++ key_bytes key) part.new.items) }
-    ensures breaks { OnErr result (Breaks W.contents writer.old writer.new
-        (part.old.items ++ key_bytes key)) }
-{
-    put(writer, part, &key.ip)?;
-    put(writer, part, &key.port.to_be_bytes())?;
-    put(writer, part, &key.id.to_be_bytes())
+    let ip = key.ip;
+    let port = key.port.to_be_bytes();
+    let id = key.id.to_be_bytes();
+    sink.put(&[ip[0], ip[1], ip[2], ip[3], port[0], port[1], id[0], id[1]])
 }
 
 /// The kind at an offset.
@@ -297,36 +257,15 @@ pub(crate) fn read_promise(
     }
 }
 
-/// Adds an end or a promise after the bytes, or that there is none.
-pub(crate) fn push_end(saved: &mut Vec<u8>, end: Option<u32>) -> Result<(), NoMemory>
-    ensures { OnOk result (saved.new.items ≡ saved.old.items ++ end_bytes end) }
+/// Puts an end or a promise, or that there is none.
+pub(crate) fn put_end<S: ByteSink>(sink: &mut S, end: Option<u32>) -> Result<(), S::Fault>
+    ensures { Puts S.takes S.breaks sink.old sink.new (end_bytes end) result }
 {
     match end {
         Some(end) => {
-            saved.push(1)?;
-            push_number(saved, u64::from(end))?;
+            let bytes = end.to_be_bytes();
+            sink.put(&[1, bytes[2], bytes[3]])
         }
-        None => saved.push(0)?,
-    }
-    Ok(())
-}
-
-/// Puts an end or a promise after the bytes that wait, or that there is none.
-pub(crate) fn put_end<W: Write>(
-    writer: &mut Counted<W>,
-    part: &mut Part,
-    end: Option<u32>,
-) -> Result<(), DeviceFault>
-    ensures passes { OnOk result (Passes W.contents writer.old writer.new
-        (part.old.items ++ end_bytes end) part.new.items) }
-    ensures breaks { OnErr result (Breaks W.contents writer.old writer.new
-        (part.old.items ++ end_bytes end)) }
-{
-    match end {
-        Some(end) => {
-            put(writer, part, &[1])?;
-            put_number(writer, part, u64::from(end))
-        }
-        None => put(writer, part, &[0]),
+        None => sink.put(&[0]),
     }
 }

@@ -6,15 +6,17 @@ ghost use Rattle.std.specs.FinMap as maps;
 ghost use Rattle.nb_datagram.specs.Key.{key_cmp};
 ghost use Rattle.nb_table.specs.Code.SavedTables.{HasNames, IsJudged};
 ghost use Rattle.nb_names.specs.Labels.{StandsAt};
+ghost use Rattle.nb_table.specs.Code.Sinks.{Puts};
 ghost use Rattle.nb_table.specs.Code.Waiting.{Passes, Breaks};
 ghost use Rattle.nb_table.specs.Saved.{magic};
 ghost use Rattle.nb_table.specs.Saved.{saved as saved_bytes};
 ghost use Rattle.nb_table.specs.SavedReading.{IsRead};
 
-use super::entries::{Within, judge_entries, push_entries, put_entries};
+use super::entries::{Within, judge_entries, put_entries};
 use super::fields::{put_count, read_count};
 use super::form::SavedForm;
-use super::part::{Part, put, write_out};
+use super::part::{DigitsSink, Part};
+use super::sink::ByteSink;
 use crate::entry::Entry;
 use crate::load_fault::LoadFault;
 use nb_datagram::Key;
@@ -58,6 +60,18 @@ pub(crate) fn judge(
     Ok((count, within))
 }
 
+/// Puts the saved bytes of entries with their keys.
+fn put_table<S: ByteSink>(sink: &mut S, entries: &BTreeMap<Key, Entry>) -> Result<(), S::Fault>
+    ensures puts { Puts S.takes S.breaks sink.old sink.new
+        (saved_bytes (maps.from_entries {R = key_cmp} entries.now.entries)) result }
+    ensures named { OnOk result (AllByRecursion HasNames
+        (maps.entries (maps.from_entries {R = key_cmp} entries.now.entries))) }
+{
+    sink.put(b"NBT2")?;
+    put_count(sink, entries.len() as u64)?;
+    put_entries(sink, entries)
+}
+
 /// The saved bytes of entries with their keys.
 pub(crate) fn save_entries(alloc: Global, entries: &BTreeMap<Key, Entry>) -> Result<Bytes, NoMemory>
     ensures value { IfOk result (λ bytes.
@@ -66,10 +80,7 @@ pub(crate) fn save_entries(alloc: Global, entries: &BTreeMap<Key, Entry>) -> Res
         (maps.entries (maps.from_entries {R = key_cmp} entries.now.entries))) }
 {
     let mut saved = Vec::new(alloc);
-    saved.extend_from_slice(b"NBT2")?;
-    let count = (entries.len() as u64).to_be_bytes();
-    saved.extend_from_slice(&[count[4], count[5], count[6], count[7]])?;
-    push_entries(alloc, &mut saved, entries)?;
+    put_table(&mut saved, entries)?;
     Ok(Bytes::from_vec(saved))
 }
 
@@ -83,9 +94,10 @@ pub(crate) fn write_saved<W: Write>(
     ensures breaks { OnErr result (Breaks W.contents writer.old writer.new
         (saved_bytes (maps.from_entries {R = key_cmp} entries.now.entries))) }
 {
-    let mut part = Part::new();
-    put(writer, &mut part, b"NBT2")?;
-    put_count(writer, &mut part, entries.len() as u64)?;
-    put_entries(writer, &mut part, entries)?;
-    write_out(writer, &mut part)
+    let mut sink = DigitsSink {
+        writer,
+        part: Part::new(),
+    };
+    put_table(&mut sink, entries)?;
+    sink.write_out()
 }

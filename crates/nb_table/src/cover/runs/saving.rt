@@ -1,63 +1,32 @@
 //! Rows of runs, saved, copied, and made of runs in order.
-ghost use Rattle.std.specs.Prelude.{◌≡◌, ◌++◌, ◌∷◌, [], IfOk, OnOk, OnErr};
+ghost use Rattle.std.specs.Prelude.{◌≡◌, ◌++◌, ◌∷◌, [], IfOk, OnOk};
 ghost use Rattle.nb_table.specs.Code.RunSteps.{value_of, values_of, run_at};
-ghost use Rattle.nb_table.specs.Code.Waiting.{Passes, Breaks};
+ghost use Rattle.nb_table.specs.Code.Sinks.{Puts};
 ghost use Rattle.nb_table.specs.Saved.{run_bytes, runs_bytes};
 
 use super::Run;
-use crate::saved::fields::{push_number, put_number};
-use crate::saved::part::{Part, put};
-use nb_names::{Counted, DeviceFault, NoMemory};
+use crate::saved::fields::put_number;
+use crate::saved::sink::ByteSink;
+use nb_names::NoMemory;
 use std::alloc::Global;
-use std::io::Write;
 
-/// Adds a run after the bytes: its start, how many bytes it has, and these.
-fn push_run(saved: &mut Vec<u8>, run: &Run) -> Result<(), NoMemory>
-    ensures { OnOk result (saved.new.items ≡ saved.old.items ++ run_bytes (value_of run.now)) }
+/// Puts a run: its start, how many bytes it has, and these.
+fn put_run<S: ByteSink>(sink: &mut S, run: &Run) -> Result<(), S::Fault>
+    ensures { Puts S.takes S.breaks sink.old sink.new (run_bytes (value_of run.now)) result }
 {
-    push_number(saved, u64::from(run.start()))?;
-    push_number(saved, run.bytes().len() as u64)?;
-    saved.extend_from_slice(run.bytes())?;
-    Ok(())
+    let start = run.start().to_be_bytes();
+    let size = (run.bytes().len() as u64).to_be_bytes();
+    sink.put(&[start[2], start[3], size[6], size[7]])?;
+    sink.put(run.bytes())
 }
 
-/// Adds runs after the bytes, how many there are in front.
-pub(super) fn push_runs(saved: &mut Vec<u8>, runs: &[Run]) -> Result<(), NoMemory>
-    ensures { OnOk result (saved.new.items ≡ saved.old.items ++ runs_bytes (values_of runs.now)) }
+/// Puts runs, how many there are in front.
+pub(super) fn put_runs<S: ByteSink>(sink: &mut S, runs: &[Run]) -> Result<(), S::Fault>
+    ensures { Puts S.takes S.breaks sink.old sink.new (runs_bytes (values_of runs.now)) result }
 {
-    push_number(saved, runs.len() as u64)?;
+    put_number(sink, runs.len() as u64)?;
     for run in runs {
-        push_run(saved, run)?;
-    }
-    Ok(())
-}
-
-/// Puts a run after the bytes that wait: its start, how many bytes it has, and these.
-fn put_run<W: Write>(writer: &mut Counted<W>, part: &mut Part, run: &Run) -> Result<(), DeviceFault>
-    ensures passes { OnOk result (Passes W.contents writer.old writer.new
-        (part.old.items ++ run_bytes (value_of run.now)) part.new.items) }
-    ensures breaks { OnErr result (Breaks W.contents writer.old writer.new
-        (part.old.items ++ run_bytes (value_of run.now))) }
-{
-    put_number(writer, part, u64::from(run.start()))?;
-    put_number(writer, part, run.bytes().len() as u64)?;
-    put(writer, part, run.bytes())
-}
-
-/// Puts runs after the bytes that wait, how many there are in front.
-pub(super) fn put_runs<W: Write>(
-    writer: &mut Counted<W>,
-    part: &mut Part,
-    runs: &[Run],
-) -> Result<(), DeviceFault>
-    ensures passes { OnOk result (Passes W.contents writer.old writer.new
-        (part.old.items ++ runs_bytes (values_of runs.now)) part.new.items) }
-    ensures breaks { OnErr result (Breaks W.contents writer.old writer.new
-        (part.old.items ++ runs_bytes (values_of runs.now))) }
-{
-    put_number(writer, part, runs.len() as u64)?;
-    for run in runs {
-        put_run(writer, part, run)?;
+        put_run(sink, run)?;
     }
     Ok(())
 }

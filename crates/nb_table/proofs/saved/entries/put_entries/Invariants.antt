@@ -1,10 +1,13 @@
-use Rattle.std.proofs.Common.{◌++◌}
+use Rattle.std.specs.List.{AllByRecursion}
 use Rattle.nb_table.specs.declared.saved.form.SavedForm.TheVariants.{Second}
-use Rattle.nb_table.specs.Code.Waiting.{Passes}
+use Rattle.nb_table.specs.Code.SavedTables.{HasNames}
+use Rattle.nb_table.specs.Code.Sinks.{ToPut}
 use Rattle.nb_table.specs.Saved.{entries_bytes}
 use Rattle.nb_table.proofs.saved.entries.put_entries.Given as goal
 
 abbrev pub invariant-loop-key : goal.invariant-loop-key
-invariant-loop-key g l =
-    Passes g.W.Write.contents l.fn.writer l.writer (l.fn.part.items ++ entries_bytes Second l.entries.entries)
-    (l.part.items ++ entries_bytes Second l.key-iterator)
+invariant-loop-key g l = record {
+  left : ToPut g.S.ByteSink.takes g.S.ByteSink.breaks l.fn.sink (entries_bytes Second l.entries.entries)
+      l.sink (entries_bytes Second l.key-iterator);
+  named : AllByRecursion HasNames l.key-iterator → AllByRecursion HasNames l.entries.entries;
+}

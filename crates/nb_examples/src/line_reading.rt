@@ -1,0 +1,98 @@
+//! Lines of captures: what one says, and the lines of an input, read one after another.
+
+use nb_examples_words::alone;
+use nb_examples_words::devices::Source;
+use nb_examples_words::line::Line;
+use nb_member::{
+    Line as CaptureLine, LineFault, LineReadFault, LineRoom, capture_line, next_from, next_line,
+};
+use nb_names::Counted;
+
+/// `line BYTES`: the port, the moment and the payload that a line of a capture says, or what the
+/// clock shows, or `nothing`.
+pub fn read(line: &mut Line<'_>) {
+    let bytes = line.bytes();
+    let read = alone!(
+        line,
+        Err(LineFault::NoMemory),
+        capture_line(line.alloc(), bytes.as_slice())
+    );
+    match read {
+        Ok(Some(CaptureLine::Packet {
+            port,
+            moment,
+            payload,
+        })) => {
+            write!(line, "port {port}, moment {moment}, ");
+            line.say_bytes(payload.as_slice());
+        }
+        Ok(Some(CaptureLine::Tick { now })) => write!(line, "clock {now}"),
+        Ok(None) => line.say("nothing"),
+        Err(LineFault::NoMemory) => line.no_memory(),
+        Err(fault) => write!(line, "{fault}"),
+    }
+}
+
+/// `next MOST CALLS MOST INTERRUPTS FAILING BYTES`: how many bytes a new room has, whose input may
+/// have MOST bytes, what each of so many calls of `next_line` answers, over a device, and how many
+/// bytes the room has after it. `next_within` with the same words: of `next_from`.
+pub fn each_line(line: &mut Line<'_>, has_room_first: bool) {
+    let most = line.number();
+    let calls = line.number();
+    let conduct = line.conduct();
+    let capture = line.bytes();
+    line.begin();
+    let mut room = LineRoom::within(line.alloc(), most);
+    let held = room.held();
+    line.end();
+    write!(line, "held {held}");
+    let mut source = Source::new(capture.as_slice(), conduct);
+    let mut reader = Counted::new(&mut source);
+    for _ in 0..calls {
+        line.say(", ");
+        say_next(line, &mut reader, &mut room, has_room_first);
+    }
+}
+
+/// Says what one call answers, and what the room then has. Where memory runs out, the next call
+/// goes on.
+fn say_next(
+    line: &mut Line<'_>,
+    reader: &mut Counted<&mut Source<'_>>,
+    room: &mut LineRoom,
+    has_room_first: bool,
+) {
+    line.begin();
+    let answer = next_of(reader, room, has_room_first);
+    line.end();
+    if let Err(LineReadFault::NoMemory) = answer {
+        line.say("memory, ");
+        say_read(line, next_of(reader, room, has_room_first));
+    } else {
+        say_read(line, answer);
+    }
+    write!(line, " held {}", room.held());
+}
+
+/// The next line, by one of both calls.
+fn next_of<'a>(
+    reader: &mut Counted<&mut Source<'_>>,
+    room: &'a mut LineRoom,
+    has_room_first: bool,
+) -> Result<Option<&'a [u8]>, LineReadFault> {
+    match has_room_first {
+        true => next_from(room, reader),
+        false => next_line(reader, room),
+    }
+}
+
+/// Says a line that was read, or why none was.
+fn say_read(line: &mut Line<'_>, read: Result<Option<&[u8]>, LineReadFault>) {
+    match read {
+        Ok(Some(bytes)) => line.say_bytes(bytes),
+        Ok(None) => line.say("end"),
+        Err(LineReadFault::TooLong) => line.say("too long"),
+        Err(LineReadFault::Read) => line.say("read"),
+        Err(LineReadFault::NoMemory) => line.no_memory(),
+    }
+}

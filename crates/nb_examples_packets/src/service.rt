@@ -1,0 +1,232 @@
+//! Packets of port 137: read, encoded again, and made of the items of others.
+
+use crate::service_texts::say_packet;
+use nb_examples_words::line::Line;
+use nb_examples_words::{alone, asked};
+use nb_names::{Bytes, DomainName, Name, Scope, name_text};
+use nb_service::{
+    NodeStatus, Packet, PushFault, Question, Rdata, Record, Section, ServiceFault, decode, encode,
+    ont,
+};
+
+/// `decode BYTES`: the packet that the bytes begin with, part by part, and how many bytes it takes
+/// up. Of a list with more than four items only their number is said.
+pub fn decoded(line: &mut Line<'_>) {
+    let bytes = line.bytes();
+    let answer = alone!(
+        line,
+        Err(ServiceFault::NoMemory),
+        decode(line.alloc(), bytes.as_slice())
+    );
+    match answer {
+        Ok((packet, used)) => {
+            say_packet(line, &packet);
+            write!(line, "used {used}");
+        }
+        Err(ServiceFault::NoMemory) => line.no_memory(),
+        Err(fault) => write!(line, "{fault}"),
+    }
+}
+
+/// `place BYTES`: why the bytes begin with no packet, and the fault's place, where it has one.
+pub fn placed(line: &mut Line<'_>) {
+    let bytes = line.bytes();
+    match decode(line.alloc(), bytes.as_slice()) {
+        Err(fault) => {
+            write!(line, "{fault}");
+            line.say_place(fault.place());
+        }
+        Ok(_) => line.bad_words(),
+    }
+}
+
+/// The packet at the front; an empty one where there is none.
+fn front<'a>(line: &mut Line<'_>, bytes: &'a [u8]) -> Packet<'a> {
+    match decode(line.alloc(), bytes) {
+        Ok((packet, _)) => packet,
+        Err(_) => {
+            line.bad_words();
+            Packet::new(line.alloc(), 0, 0)
+        }
+    }
+}
+
+/// `again BYTES`: the packet that the bytes begin with, encoded.
+pub fn encoded_again(line: &mut Line<'_>) {
+    let bytes = line.bytes();
+    let packet = front(line, bytes.as_slice());
+    match alone!(line, Err(_), encode(line.alloc(), &packet)) {
+        Ok(bytes) => line.say_bytes(bytes.as_slice()),
+        Err(_) => line.no_memory(),
+    }
+}
+
+/// A packet's bytes.
+fn encoded(line: &mut Line<'_>, packet: &Packet<'_>) -> Bytes {
+    match encode(line.alloc(), packet) {
+        Ok(bytes) => bytes,
+        Err(_) => {
+            line.no_memory();
+            Bytes::from_vec(Vec::new(line.alloc()))
+        }
+    }
+}
+
+/// `push BYTES BYTES`: the first packet's bytes, after the questions and the records of the second
+/// were added to it, one after another; or the first fault of one that isn't, and how many
+/// questions, answers, authorities and additional records there are then.
+pub fn pushed(line: &mut Line<'_>) {
+    let (first, second) = (line.bytes(), line.bytes());
+    let mut packet = front(line, first.as_slice());
+    let added = front(line, second.as_slice());
+    let mut answer = Ok(());
+    for question in added.questions().as_slice() {
+        answer = answer.and(push_question(line, &mut packet, question));
+    }
+    for section in [Section::Answer, Section::Authority, Section::Additional] {
+        for record in records_of(&added, section) {
+            answer = answer.and(push_record(line, &mut packet, section, record));
+        }
+    }
+    match answer {
+        Ok(()) => {
+            let bytes = encoded(line, &packet);
+            line.say_bytes(bytes.as_slice());
+        }
+        Err(PushFault::NoMemory) => line.no_memory(),
+        Err(fault) => say_counts(line, fault, &packet),
+    }
+}
+
+/// The records of a section.
+fn records_of<'a, 'b>(packet: &'b Packet<'a>, section: Section) -> &'b [Record<'a>] {
+    match section {
+        Section::Answer => packet.answers().as_slice(),
+        Section::Authority => packet.authorities().as_slice(),
+        Section::Additional => packet.additional().as_slice(),
+    }
+}
+
+/// What a packet answers to a question.
+fn push_question(
+    line: &mut Line<'_>,
+    packet: &mut Packet<'_>,
+    question: &Question,
+) -> Result<(), PushFault> {
+    asked!(
+        line,
+        Err(PushFault::NoMemory),
+        packet.push_question(copy_of_question(question)),
+        encoded(line, packet)
+    )
+}
+
+/// The same question.
+fn copy_of_question(question: &Question) -> Question {
+    Question {
+        name: question.name.copied(),
+        kind: question.kind,
+        class: question.class,
+    }
+}
+
+/// What a packet answers to a record for a section.
+fn push_record<'a>(
+    line: &mut Line<'_>,
+    packet: &mut Packet<'a>,
+    section: Section,
+    record: &Record<'a>,
+) -> Result<(), PushFault> {
+    asked!(
+        line,
+        Err(PushFault::NoMemory),
+        packet.push(section, copy_of_record(record)),
+        encoded(line, packet)
+    )
+}
+
+/// The same record; the name of a record of bytes that can't be so is the root, which shows.
+fn copy_of_record<'a>(record: &Record<'a>) -> Record<'a> {
+    let (kind, class, ttl) = (record.kind(), record.class(), record.ttl());
+    match record.rdata() {
+        Rdata::Domain(target) => Record::ns(record.name().copied(), class, ttl, target.copied()),
+        Rdata::Bytes(bytes) => match Record::bytes(record.name().copied(), kind, class, ttl, bytes) {
+            Ok(record) => record,
+            Err(_) => Record::ns(DomainName::root(), class, ttl, DomainName::root()),
+        },
+    }
+}
+
+/// Says a fault, and how many items the lists of a packet have.
+fn say_counts(line: &mut Line<'_>, fault: PushFault, packet: &Packet<'_>) {
+    line.begin();
+    let questions = packet.questions().as_slice().len();
+    let answers = packet.answers().as_slice().len();
+    let authorities = packet.authorities().as_slice().len();
+    let additional = packet.additional().as_slice().len();
+    line.end();
+    write!(
+        line,
+        "{fault}; {questions} {answers} {authorities} {additional}"
+    );
+}
+
+/// `word ID WORD`: the numbers of a new packet, the opcode, the result code and the flags of its
+/// flag word.
+pub fn word(line: &mut Line<'_>) {
+    let id = line.hex_16();
+    let word = line.hex_16();
+    line.begin();
+    let packet = Packet::new(line.alloc(), id, word);
+    let (id, word) = (packet.id(), packet.word());
+    let (opcode, rcode, flags) = (packet.opcode(), packet.rcode(), packet.nm_flags());
+    line.end();
+    write!(
+        line,
+        "{id:04x} {word:04x} opcode {opcode} rcode {rcode} {flags:?}"
+    );
+}
+
+/// `status BYTES`: the node status of a packet's first answer: how many names it has, each with its
+/// flag word, ONT and flags, what stands after the last, the statistics and the unit's identifier.
+pub fn status(line: &mut Line<'_>) {
+    let bytes = line.bytes();
+    let packet = front(line, bytes.as_slice());
+    let Some(record) = packet.answers().as_slice().first() else {
+        return line.bad_words();
+    };
+    line.begin();
+    let status = record.node_status();
+    line.end();
+    match status {
+        Some(status) => say_status(line, &status),
+        None => line.say("none"),
+    }
+}
+
+/// Says a node's status.
+fn say_status(line: &mut Line<'_>, status: &NodeStatus<'_>) {
+    line.begin();
+    let (count, statistics, unit) = (status.len(), status.statistics(), status.unit_id());
+    line.end();
+    write!(line, "names {count}");
+    for place in 0..=count {
+        say_node_name(line, status, place);
+    }
+    line.say("; statistics ");
+    line.say_bytes(statistics);
+    write!(line, "; unit {unit:?}");
+}
+
+/// Says the name at a place of a node's status, and its flags.
+fn say_node_name(line: &mut Line<'_>, status: &NodeStatus<'_>, place: usize) {
+    let Some(name) = status.get(place) else {
+        return line.say("; none");
+    };
+    line.begin();
+    let (owner, flags) = (ont(name.flags), name.node_flags());
+    line.end();
+    line.say("; ");
+    line.say_made(name_text(line.alloc(), &Name::new(name.bytes, Scope::empty())).ok());
+    write!(line, " {:04x} ont {owner} {flags:?}", name.flags);
+}

@@ -33,16 +33,23 @@ pub fn read(line: &mut Line<'_>) {
     }
 }
 
-/// `next MOST CALLS MOST INTERRUPTS FAILING BYTES`: how many bytes a new room has, whose input may
-/// have MOST bytes, what each of so many calls of `next_line` answers, over a device, and how many
-/// bytes the room has after it. `next_within` with the same words: of `next_from`.
+/// `next CALLS DEVICE BYTES`: how many bytes a new room has, what each of so many calls of
+/// `next_line` answers, over a device, and how many bytes the room has after it.
+/// `next_within MOST CALLS DEVICE BYTES`: the same of `next_from`, where the input may have MOST
+/// bytes.
 pub fn each_line(line: &mut Line<'_>, has_room_first: bool) {
-    let most = line.number();
+    let most = match has_room_first {
+        true => line.number(),
+        false => 0,
+    };
     let calls = line.number();
     let conduct = line.conduct();
     let capture = line.bytes();
     line.begin();
-    let mut room = LineRoom::within(line.alloc(), most);
+    let mut room = match has_room_first {
+        true => LineRoom::within(line.alloc(), most),
+        false => LineRoom::new(line.alloc()),
+    };
     let held = room.held();
     line.end();
     write!(line, "held {held}");

@@ -25,6 +25,7 @@ pub fn answer(line: &mut Line<'_>, call: &str) {
         "names.from_bytes" => names::of_bytes(line),
         "names.name_text" => names::written(line),
         "names.order" => names::ordered(line),
+        "names.read_input" => names::input(line),
         "names.labels" => labels::labels(line),
         "names.push" => labels::pushed(line),
         "names.push_scope" => labels::pushed_to_scope(line),

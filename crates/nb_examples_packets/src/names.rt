@@ -1,11 +1,13 @@
-//! Names: as packets have them, and as text.
+//! Names: as packets have them, and as text; and an input.
 
 use crate::labels::scope_of;
 use nb_examples_words::alone;
+use nb_examples_words::devices::Source;
 use nb_examples_words::line::Line;
+use nb_names::input::read_input;
 use nb_names::{
-    LentName, Name, NoMemory, Pointers, name_from_text, name_text, push_lent_name, read_domain,
-    read_lent_name, read_name,
+    Counted, LentName, Name, NoMemory, Pointers, name_from_text, name_text, push_lent_name,
+    read_domain, read_lent_name, read_name,
 };
 use std::alloc::Global;
 
@@ -170,4 +172,21 @@ fn say_order<T: Ord>(line: &mut Line<'_>, first: &T, second: &T) {
     let is_equal = first == second;
     line.end();
     write!(line, "{order:?}, below {is_below}, equal {is_equal}");
+}
+
+/// `read_input MOST INTERRUPTS FAILING BYTES`: what is read of an input, whether that is all of it,
+/// and how many bytes are looked at.
+pub fn input(line: &mut Line<'_>) {
+    let conduct = line.conduct();
+    let bytes = line.bytes();
+    let mut source = Source::new(bytes.as_slice(), conduct);
+    let Ok(input) = read_input(line.alloc(), &mut Counted::new(&mut source)) else {
+        return line.no_memory();
+    };
+    line.say(match input.is_whole {
+        true => "whole ",
+        false => "cut ",
+    });
+    line.say_bytes(input.bytes.as_slice());
+    write!(line, ", looked at {}", input.front().len());
 }

@@ -18,18 +18,25 @@ pub fn read(line: &mut Line<'_>) {
         capture_line(line.alloc(), bytes.as_slice())
     );
     match read {
-        Ok(Some(CaptureLine::Packet {
-            port,
-            moment,
-            payload,
-        })) => {
-            write!(line, "port {port}, moment {moment}, ");
-            line.say_bytes(payload.as_slice());
-        }
-        Ok(Some(CaptureLine::Tick { now })) => write!(line, "clock {now}"),
+        Ok(Some(read)) => say_said(line, &read),
         Ok(None) => line.say("nothing"),
         Err(LineFault::NoMemory) => line.no_memory(),
         Err(fault) => write!(line, "{fault}"),
+    }
+}
+
+/// Says what a line of a capture says.
+fn say_said(line: &mut Line<'_>, read: &CaptureLine) {
+    match read {
+        CaptureLine::Packet {
+            port,
+            moment,
+            payload,
+        } => {
+            write!(line, "port {port}, moment {moment}, ");
+            line.say_bytes(payload.as_slice());
+        }
+        CaptureLine::Tick { now } => write!(line, "clock {now}"),
     }
 }
 

@@ -26,6 +26,7 @@ pub fn replayed(line: &mut Line<'_>, is_within: bool) {
         false => None,
     };
     let capture = line.bytes();
+    let capture = capture.as_slice();
     let (Ok(mut first), Ok(mut second)) = (
         Sink::with_room(line.alloc(), REPORT_ROOM),
         Sink::with_room(line.alloc(), REPORT_ROOM),
@@ -34,11 +35,11 @@ pub fn replayed(line: &mut Line<'_>, is_within: bool) {
     };
     let mut member = member_of(line, station);
     line.begin();
-    let answer = replay_by(line.alloc(), most, capture.as_slice(), &mut first, &mut member);
+    let answer = replay_by(line.alloc(), most, capture, &mut first, &mut member);
     line.end();
     if let Err(ReplayFault::NoMemory) = answer {
         let mut member = member_of(line, station);
-        let answer = replay_by(line.alloc(), most, capture.as_slice(), &mut second, &mut member);
+        let answer = replay_by(line.alloc(), most, capture, &mut second, &mut member);
         line.again(second.taken().starts_with(first.taken()));
         say_replayed(line, answer, second.taken());
     } else {

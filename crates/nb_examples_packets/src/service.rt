@@ -147,10 +147,11 @@ fn push_record<'a>(
 
 /// The same record; the name of a record of bytes that can't be so is the root, which shows.
 fn copy_of_record<'a>(record: &Record<'a>) -> Record<'a> {
+    let name = record.name().copied();
     let (kind, class, ttl) = (record.kind(), record.class(), record.ttl());
     match record.rdata() {
-        Rdata::Domain(target) => Record::ns(record.name().copied(), class, ttl, target.copied()),
-        Rdata::Bytes(bytes) => match Record::bytes(record.name().copied(), kind, class, ttl, bytes) {
+        Rdata::Domain(target) => Record::ns(name, class, ttl, target.copied()),
+        Rdata::Bytes(bytes) => match Record::bytes(name, kind, class, ttl, bytes) {
             Ok(record) => record,
             Err(_) => Record::ns(DomainName::root(), class, ttl, DomainName::root()),
         },

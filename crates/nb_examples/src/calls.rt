@@ -6,7 +6,7 @@
 
 use crate::{
     caller, comparing, definitions, events, hearing, inserting, joining, line_reading, reading,
-    replays, taking,
+    replays,
 };
 use nb_examples_words::line::Line;
 use nb_table::{Cover, Entry};
@@ -24,7 +24,6 @@ pub fn answer(line: &mut Line<'_>, call: &str) {
         "load" => reading::loaded(line),
         "fits" => joining::fits(line),
         "merge" => joining::merged(line),
-        "join" => joining::joined(line),
         "join_all" => joining::joined_all(line),
         "cover" => comparing::compared::<Cover>(line),
         "entry" => comparing::compared::<Entry>(line),
@@ -39,12 +38,10 @@ fn answer_of_stations(line: &mut Line<'_>, call: &str) {
     match call {
         "names" => hearing::held(line),
         "hears" => hearing::heard(line),
-        "take" => taking::taken(line),
         "run" => events::run_by_one(line),
         "two" => events::run_by_two(line),
         "line" => line_reading::read(line),
-        "next" => line_reading::each_line(line, false),
-        "next_within" => line_reading::each_line(line, true),
+        "next" => line_reading::each_line(line),
         "datagram" => replays::parts(line),
         "replay" => replays::replayed(line, false),
         "within" => replays::replayed(line, true),

@@ -1,8 +1,8 @@
 //! Runs of events.
 
-use crate::outcomes::{say_all_delivered, say_error, say_of_key};
 use crate::stations::{member_of, names_of, settings_of};
-use nb_datagram::ErrorPackets;
+use nb_datagram::{Datagrams, ErrorPackets, Packet, encode};
+use nb_examples_packets::fragments::{say_datagram, say_key};
 use nb_examples_words::line::Line;
 use nb_member::{Event, Member, RunReport, RunStop, run, two_members};
 use nb_names::Bytes;
@@ -103,17 +103,34 @@ fn say_reports(line: &mut Line<'_>, report: &RunReport, after: &RunReport) {
 /// Says why a run stopped, if it did.
 fn say_stop(line: &mut Line<'_>, stop: Option<RunStop>) {
     match stop {
-        Some(RunStop::Full(key)) => say_of_key(line, ", stopped full ", key),
-        Some(RunStop::FullSource(key)) => say_of_key(line, ", stopped full source ", key),
+        Some(RunStop::Full(key)) => {
+            line.say(", stopped full ");
+            say_key(line, key);
+        }
+        Some(RunStop::FullSource(key)) => {
+            line.say(", stopped full source ");
+            say_key(line, key);
+        }
         Some(RunStop::NoMemory) => line.no_memory(),
         None => {}
     }
 }
 
-/// Says error packets.
+/// Says datagrams that are handed over.
+fn say_all_delivered(line: &mut Line<'_>, datagrams: &Datagrams) {
+    for datagram in datagrams.as_slice() {
+        line.say(", delivered ");
+        say_datagram(line, datagram);
+    }
+}
+
+/// Says error packets that are answered.
 fn say_errors(line: &mut Line<'_>, errors: &ErrorPackets) {
     for error in errors.as_slice() {
-        line.say(",");
-        say_error(line, Some(*error));
+        line.say(", error ");
+        match encode(line.alloc(), &Packet::Error(*error)) {
+            Ok(bytes) => line.say_bytes(bytes.as_slice()),
+            Err(_) => line.no_memory(),
+        }
     }
 }

@@ -5,7 +5,7 @@ use nb_datagram::Datagrams;
 use nb_examples_packets::fragments::say_datagram;
 use nb_examples_words::asked;
 use nb_examples_words::line::Line;
-use nb_table::{Join, Table, TableFault, join_all};
+use nb_table::{Table, TableFault, join_all};
 
 /// `fits TABLE | TABLE`: whether both tables have the same contents, and whether the first takes in
 /// the second, as `Debug` prints it.
@@ -51,21 +51,6 @@ fn say_datagrams(line: &mut Line<'_>, datagrams: &Datagrams) {
             line.say(" and ");
         }
         say_datagram(line, datagram);
-    }
-}
-
-/// `join TABLE | TABLE`: what the first is saved as once it joined the second, or why it can't.
-pub fn joined(line: &mut Line<'_>) {
-    let (mut table, other) = two_tables(line);
-    let answer = asked!(
-        line,
-        Err(TableFault::NoMemory),
-        table.join(&other),
-        reads(line, &table)
-    );
-    match answer {
-        Ok(()) => say_saved(line, &table),
-        Err(fault) => say_fault(line, fault),
     }
 }
 

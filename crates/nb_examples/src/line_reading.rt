@@ -3,9 +3,7 @@
 use nb_examples_words::alone;
 use nb_examples_words::devices::Source;
 use nb_examples_words::line::Line;
-use nb_member::{
-    Line as CaptureLine, LineFault, LineReadFault, LineRoom, capture_line, next_from, next_line,
-};
+use nb_member::{Line as CaptureLine, LineFault, LineReadFault, LineRoom, capture_line, next_line};
 use nb_names::Counted;
 
 /// `line BYTES`: the port, the moment and the payload that a line of a capture says, or what the
@@ -40,23 +38,14 @@ fn say_said(line: &mut Line<'_>, read: &CaptureLine) {
     }
 }
 
-/// `next CALLS DEVICE BYTES`: how many bytes a new room has, what each of so many calls of
-/// `next_line` answers, over a device, and how many bytes the room has after it.
-/// `next_within MOST CALLS DEVICE BYTES`: the same of `next_from`, where the input may have MOST
-/// bytes.
-pub fn each_line(line: &mut Line<'_>, has_room_first: bool) {
-    let most = match has_room_first {
-        true => line.number(),
-        false => 0,
-    };
+/// `next CALLS DEVICE BYTES`: how many bytes a new room has, what each of so many calls for the
+/// next line answers, over a device, and how many bytes the room has after it.
+pub fn each_line(line: &mut Line<'_>) {
     let calls = line.number();
     let conduct = line.conduct();
     let capture = line.bytes();
     line.begin();
-    let mut room = match has_room_first {
-        true => LineRoom::within(line.alloc(), most),
-        false => LineRoom::new(line.alloc()),
-    };
+    let mut room = LineRoom::new(line.alloc());
     let held = room.held();
     line.end();
     write!(line, "held {held}");
@@ -64,40 +53,23 @@ pub fn each_line(line: &mut Line<'_>, has_room_first: bool) {
     let mut reader = Counted::new(&mut source);
     for _ in 0..calls {
         line.say(", ");
-        say_next(line, &mut reader, &mut room, has_room_first);
+        say_next(line, &mut reader, &mut room);
     }
 }
 
 /// Says what one call answers, and what the room then has. Where memory runs out, the next call
 /// goes on.
-fn say_next(
-    line: &mut Line<'_>,
-    reader: &mut Counted<&mut Source<'_>>,
-    room: &mut LineRoom,
-    has_room_first: bool,
-) {
+fn say_next(line: &mut Line<'_>, reader: &mut Counted<&mut Source<'_>>, room: &mut LineRoom) {
     line.begin();
-    let answer = next_of(reader, room, has_room_first);
+    let answer = next_line(reader, room);
     line.end();
     if let Err(LineReadFault::NoMemory) = answer {
         line.say("memory, ");
-        say_read(line, next_of(reader, room, has_room_first));
+        say_read(line, next_line(reader, room));
     } else {
         say_read(line, answer);
     }
     write!(line, " held {}", room.held());
-}
-
-/// The next line, by one of both calls.
-fn next_of<'a>(
-    reader: &mut Counted<&mut Source<'_>>,
-    room: &'a mut LineRoom,
-    has_room_first: bool,
-) -> Result<Option<&'a [u8]>, LineReadFault> {
-    match has_room_first {
-        true => next_from(room, reader),
-        false => next_line(reader, room),
-    }
 }
 
 /// Says a line that was read, or why none was.

@@ -12,12 +12,10 @@ mod hearing;
 mod inserting;
 mod joining;
 mod line_reading;
-mod outcomes;
 mod reading;
 mod replays;
 mod stations;
 mod steps;
-mod taking;
 
 use crate::examples::Examples;
 use nb_examples_words::fault::ExampleFault;

@@ -1,34 +1,20 @@
 //! What tables say of their keys, and tables saved and loaded.
 
 use crate::steps::{rest_table, say_saved};
-use nb_examples_packets::fragments::{kind_word, next_key, say_datagram, say_names};
+use nb_examples_packets::fragments::{next_key, say_datagram};
 use nb_examples_words::alone;
 use nb_examples_words::line::Line;
-use nb_table::{LoadFault, Outline, load};
+use nb_table::{LoadFault, load};
 
-/// `known KEY TABLE`: what the table knows of the key, how many runs its known bytes make up, and
-/// all but the bytes, `KIND SOURCE DESTINATION HELD of END in RUNS`, or `none`.
+/// `known KEY TABLE`: what the table knows of the key, and how many runs its known bytes make up.
 pub fn known(line: &mut Line<'_>) {
     let key = next_key(line);
     let table = rest_table(line);
     line.begin();
     let state = table.state(&key);
     let runs = table.run_count(&key);
-    let outline = table.outline(&key);
     line.end();
-    write!(line, "{state:?}, {runs:?}, ");
-    match outline {
-        Some(outline) => say_outline(line, &outline),
-        None => line.say("none"),
-    }
-}
-
-/// Says an outline but for its promises.
-fn say_outline(line: &mut Line<'_>, outline: &Outline) {
-    write!(line, "{} ", kind_word(outline.kind));
-    say_names(line, &outline.source, &outline.destination);
-    let (held, end, runs) = (outline.held, outline.end, outline.runs);
-    write!(line, " {held} of {end:?} in {runs}");
+    write!(line, "{state:?}, {runs:?}");
 }
 
 /// `datagram KEY TABLE`: the key's datagram, `KIND KEY SOURCE DESTINATION BYTES`, or `none`.

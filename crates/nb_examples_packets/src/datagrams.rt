@@ -1,10 +1,7 @@
-//! Packets of port 138, read and encoded again, and datagrams, cut into pieces.
+//! Packets of port 138, as they are said, and datagrams as words say them.
 
 use crate::fragments::{next_key, next_kind, say_fragment, say_key};
-use nb_datagram::{
-    CutFault, Datagram, Fragment, Packet, QueryKind, QueryPacket, cut, decode, encode,
-};
-use nb_examples_words::alone;
+use nb_datagram::{Datagram, Packet, QueryKind, QueryPacket, decode};
 use nb_examples_words::line::Line;
 use nb_names::{Bytes, name_text};
 
@@ -53,18 +50,6 @@ fn say_query(line: &mut Line<'_>, query: &QueryPacket) {
     line.say_made(name_text(line.alloc(), &query.destination).ok());
 }
 
-/// `again BYTES`: the packet at the front, encoded.
-pub fn encoded_again(line: &mut Line<'_>) {
-    let bytes = line.bytes();
-    let Ok((packet, _)) = decode(bytes.as_slice()) else {
-        return line.bad_words();
-    };
-    match alone!(line, Err(_), encode(line.alloc(), &packet)) {
-        Ok(bytes) => line.say_bytes(bytes.as_slice()),
-        Err(_) => line.no_memory(),
-    }
-}
-
 /// The datagram that the next words say: `KIND KEY SOURCE DESTINATION BYTES`.
 pub fn datagram_of(line: &mut Line<'_>) -> Option<Datagram> {
     let kind = next_kind(line);
@@ -77,34 +62,4 @@ pub fn datagram_of(line: &mut Line<'_>) -> Option<Datagram> {
         line.bad_words();
     }
     datagram.ok()
-}
-
-/// `cut MOST DATAGRAM`: the pieces of at most this many bytes, each as `FLAGS OFFSET BYTES`, or why
-/// there are none.
-pub fn cut_up(line: &mut Line<'_>) {
-    let most = line.number_16();
-    let Some(datagram) = datagram_of(line) else {
-        return;
-    };
-    let answer = alone!(
-        line,
-        Err(CutFault::NoMemory),
-        cut(line.alloc(), &datagram, most)
-    );
-    match answer {
-        Ok(pieces) => say_pieces(line, pieces.as_slice()),
-        Err(CutFault::NoMemory) => line.no_memory(),
-        Err(fault) => write!(line, "{fault}"),
-    }
-}
-
-/// Says pieces, one after another.
-fn say_pieces(line: &mut Line<'_>, pieces: &[Fragment<'_>]) {
-    for (place, piece) in pieces.iter().enumerate() {
-        if place > 0 {
-            line.say("; ");
-        }
-        write!(line, "{:02x} {} ", piece.flags(), piece.offset());
-        line.say_bytes(piece.bytes());
-    }
 }

@@ -20,7 +20,6 @@ pub fn answer(line: &mut Line<'_>, call: &str) {
     match call {
         "names.read_domain" => names::domain_read(line),
         "names.read_name" => names::name_read(line),
-        "names.lent" => names::lent(line),
         "names.from_text" => names::of_text(line),
         "names.from_bytes" => names::of_bytes(line),
         "names.name_text" => names::written(line),
@@ -39,20 +38,15 @@ pub fn answer(line: &mut Line<'_>, call: &str) {
 fn answer_of_packets(line: &mut Line<'_>, call: &str) {
     match call {
         "service.decode" => service::decoded(line),
-        "service.place" => service::placed(line),
-        "service.again" => service::encoded_again(line),
         "service.push" => service::pushed(line),
         "service.word" => service::word(line),
         "service.status" => service::status(line),
         "session.parse" => sessions::parsed(line),
-        "session.again" => sessions::encoded_again(line),
         "session.read" => sessions::read(line),
         "session.stream" => streams::streamed(line, true),
         "session.pieces" => streams::streamed(line, false),
         "datagram.decode" => datagrams::decoded(line),
-        "datagram.again" => datagrams::encoded_again(line),
         "datagram.parts" => fragments::parts(line),
-        "datagram.cut" => datagrams::cut_up(line),
         "text.object" => shown::object(line),
         "text.count" => shown::count(line),
         _ => line.note(ExampleFault::NoSuchCall),

@@ -2,14 +2,9 @@
 
 use crate::labels::scope_of;
 use nb_examples_words::alone;
-use nb_examples_words::devices::Source;
 use nb_examples_words::line::Line;
 use nb_names::input::read_input;
-use nb_names::{
-    Counted, LentName, Name, NoMemory, Pointers, name_from_text, name_text, push_lent_name,
-    read_domain, read_lent_name, read_name,
-};
-use std::alloc::Global;
+use nb_names::{Counted, Name, Pointers, name_from_text, name_text, read_domain, read_name};
 
 /// The next word, as what is done at pointers: `followed` or `refused`.
 fn pointers(line: &mut Line<'_>) -> Pointers {
@@ -54,54 +49,6 @@ pub fn name_read(line: &mut Line<'_>) {
         }
         Err(fault) => write!(line, "{fault}"),
     }
-}
-
-/// `lent AT BYTES`: the NetBIOS name at an offset, in which no pointer is allowed, and the offset
-/// after it; or why there is none, and the fault's place.
-///
-/// Of the name are said its text, its sixteen bytes, the spelling of its scope, in how many bytes
-/// it is spelled, and the spelling of its labels.
-pub fn lent(line: &mut Line<'_>) {
-    let at = line.size();
-    let packet = line.bytes();
-    line.begin();
-    let read = read_lent_name(packet.as_slice(), at);
-    line.end();
-    match read {
-        Ok((name, next)) => {
-            say_parts(line, &name);
-            write!(line, ", next {next}");
-        }
-        Err(fault) => {
-            write!(line, "{fault}");
-            line.say_place(Some(fault.place()));
-        }
-    }
-}
-
-/// Says the parts of a name.
-fn say_parts(line: &mut Line<'_>, name: &LentName<'_>) {
-    line.begin();
-    let (bytes, scope) = (name.bytes(), name.scope_spelling());
-    let (length, domain) = (name.spelled_len(), name.to_domain());
-    line.end();
-    match alone!(line, Err(_), text_of(line.alloc(), name)) {
-        Ok(text) => line.say(text.as_str()),
-        Err(_) => line.no_memory(),
-    }
-    line.say(" ");
-    line.say_bytes(bytes);
-    line.say(" scope ");
-    line.say_bytes(scope);
-    write!(line, ", in {length}: ");
-    line.say_bytes(domain.spelling());
-}
-
-/// A name's text.
-fn text_of(alloc: Global, name: &LentName<'_>) -> Result<String, NoMemory> {
-    let mut text = String::new(alloc);
-    push_lent_name(&mut text, name)?;
-    Ok(text)
 }
 
 /// `from_text TEXT`: the sixteen bytes of the name that the text stands for, and the spelling of
@@ -174,19 +121,13 @@ fn say_order<T: Ord>(line: &mut Line<'_>, first: &T, second: &T) {
     write!(line, "{order:?}, below {is_below}, equal {is_equal}");
 }
 
-/// `read_input MOST INTERRUPTS FAILING BYTES`: what is read of an input, whether that is all of it,
-/// and how many bytes are looked at.
+/// `read_input BYTES`: what is read of an input, whether that is all of it, and how many bytes are
+/// looked at.
 pub fn input(line: &mut Line<'_>) {
-    let conduct = line.conduct();
     let bytes = line.bytes();
-    let mut source = Source::new(bytes.as_slice(), conduct);
-    let Ok(input) = read_input(line.alloc(), &mut Counted::new(&mut source)) else {
+    let Ok(input) = read_input(line.alloc(), &mut Counted::new(bytes.as_slice())) else {
         return line.no_memory();
     };
-    line.say(match input.is_whole {
-        true => "whole ",
-        false => "cut ",
-    });
     line.say_bytes(input.bytes.as_slice());
-    write!(line, ", looked at {}", input.front().len());
+    write!(line, " {} {}", input.is_whole, input.front().len());
 }

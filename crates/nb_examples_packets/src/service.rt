@@ -1,4 +1,4 @@
-//! Packets of port 137: read, encoded again, and made of the items of others.
+//! Packets of port 137: read, and made of the items of others.
 
 use crate::service_texts::say_packet;
 use nb_examples_words::line::Line;
@@ -28,18 +28,6 @@ pub fn decoded(line: &mut Line<'_>) {
     }
 }
 
-/// `place BYTES`: why the bytes begin with no packet, and the fault's place, where it has one.
-pub fn placed(line: &mut Line<'_>) {
-    let bytes = line.bytes();
-    match decode(line.alloc(), bytes.as_slice()) {
-        Err(fault) => {
-            write!(line, "{fault}");
-            line.say_place(fault.place());
-        }
-        Ok(_) => line.bad_words(),
-    }
-}
-
 /// The packet at the front; an empty one where there is none.
 fn front<'a>(line: &mut Line<'_>, bytes: &'a [u8]) -> Packet<'a> {
     match decode(line.alloc(), bytes) {
@@ -48,16 +36,6 @@ fn front<'a>(line: &mut Line<'_>, bytes: &'a [u8]) -> Packet<'a> {
             line.bad_words();
             Packet::new(line.alloc(), 0, 0)
         }
-    }
-}
-
-/// `again BYTES`: the packet that the bytes begin with, encoded.
-pub fn encoded_again(line: &mut Line<'_>) {
-    let bytes = line.bytes();
-    let packet = front(line, bytes.as_slice());
-    match alone!(line, Err(_), encode(line.alloc(), &packet)) {
-        Ok(bytes) => line.say_bytes(bytes.as_slice()),
-        Err(_) => line.no_memory(),
     }
 }
 
@@ -73,28 +51,22 @@ fn encoded(line: &mut Line<'_>, packet: &Packet<'_>) -> Bytes {
 }
 
 /// `push BYTES BYTES`: the first packet's bytes, after the questions and the records of the second
-/// were added to it, one after another; or the first fault of one that isn't, and how many
-/// questions, answers, authorities and additional records there are then.
+/// were added to it, one after another; or the faults of those that aren't, and how many questions,
+/// answers, authorities and additional records there are then.
 pub fn pushed(line: &mut Line<'_>) {
     let (first, second) = (line.bytes(), line.bytes());
     let mut packet = front(line, first.as_slice());
     let added = front(line, second.as_slice());
-    let mut answer = Ok(());
-    for question in added.questions().as_slice() {
-        answer = answer.and(push_question(line, &mut packet, question));
+    let questions = push_questions(line, &mut packet, &added);
+    let answers = push_records(line, &mut packet, &added, Section::Answer);
+    let authorities = push_records(line, &mut packet, &added, Section::Authority);
+    let additional = push_records(line, &mut packet, &added, Section::Additional);
+    if !(questions && answers && authorities && additional) {
+        return say_counts(line, &packet);
     }
-    for section in [Section::Answer, Section::Authority, Section::Additional] {
-        for record in records_of(&added, section) {
-            answer = answer.and(push_record(line, &mut packet, section, record));
-        }
-    }
-    match answer {
-        Ok(()) => {
-            let bytes = encoded(line, &packet);
-            line.say_bytes(bytes.as_slice());
-        }
-        Err(PushFault::NoMemory) => line.no_memory(),
-        Err(fault) => say_counts(line, fault, &packet),
+    match alone!(line, Err(_), encode(line.alloc(), &packet)) {
+        Ok(bytes) => line.say_bytes(bytes.as_slice()),
+        Err(_) => line.no_memory(),
     }
 }
 
@@ -107,18 +79,31 @@ fn records_of<'a, 'b>(packet: &'b Packet<'a>, section: Section) -> &'b [Record<'
     }
 }
 
-/// What a packet answers to a question.
-fn push_question(
-    line: &mut Line<'_>,
-    packet: &mut Packet<'_>,
-    question: &Question,
-) -> Result<(), PushFault> {
-    asked!(
-        line,
-        Err(PushFault::NoMemory),
-        packet.push_question(copy_of_question(question)),
-        encoded(line, packet)
-    )
+/// Adds the questions of a packet to another: whether all were added.
+fn push_questions(line: &mut Line<'_>, packet: &mut Packet<'_>, added: &Packet<'_>) -> bool {
+    let mut is_whole = true;
+    for question in added.questions().as_slice() {
+        let answer = asked!(
+            line,
+            Err(PushFault::NoMemory),
+            packet.push_question(copy_of_question(question)),
+            encoded(line, packet)
+        );
+        if !is_pushed(line, answer) {
+            is_whole = false;
+        }
+    }
+    is_whole
+}
+
+/// Whether an item was added; where it wasn't, the fault is said.
+fn is_pushed(line: &mut Line<'_>, answer: Result<(), PushFault>) -> bool {
+    match answer {
+        Ok(()) => return true,
+        Err(PushFault::NoMemory) => line.no_memory(),
+        Err(fault) => write!(line, "{fault}; "),
+    }
+    false
 }
 
 /// The same question.
@@ -130,19 +115,26 @@ fn copy_of_question(question: &Question) -> Question {
     }
 }
 
-/// What a packet answers to a record for a section.
-fn push_record<'a>(
+/// Adds the records of a section of a packet to that of another: whether all were added.
+fn push_records<'a>(
     line: &mut Line<'_>,
     packet: &mut Packet<'a>,
+    added: &Packet<'a>,
     section: Section,
-    record: &Record<'a>,
-) -> Result<(), PushFault> {
-    asked!(
-        line,
-        Err(PushFault::NoMemory),
-        packet.push(section, copy_of_record(record)),
-        encoded(line, packet)
-    )
+) -> bool {
+    let mut is_whole = true;
+    for record in records_of(added, section) {
+        let answer = asked!(
+            line,
+            Err(PushFault::NoMemory),
+            packet.push(section, copy_of_record(record)),
+            encoded(line, packet)
+        );
+        if !is_pushed(line, answer) {
+            is_whole = false;
+        }
+    }
+    is_whole
 }
 
 /// The same record; the name of a record of bytes that can't be so is the root, which shows.
@@ -158,34 +150,25 @@ fn copy_of_record<'a>(record: &Record<'a>) -> Record<'a> {
     }
 }
 
-/// Says a fault, and how many items the lists of a packet have.
-fn say_counts(line: &mut Line<'_>, fault: PushFault, packet: &Packet<'_>) {
+/// Says how many items the lists of a packet have.
+fn say_counts(line: &mut Line<'_>, packet: &Packet<'_>) {
     line.begin();
     let questions = packet.questions().as_slice().len();
     let answers = packet.answers().as_slice().len();
     let authorities = packet.authorities().as_slice().len();
     let additional = packet.additional().as_slice().len();
     line.end();
-    write!(
-        line,
-        "{fault}; {questions} {answers} {authorities} {additional}"
-    );
+    write!(line, "{questions} {answers} {authorities} {additional}");
 }
 
-/// `word ID WORD`: the numbers of a new packet, the opcode, the result code and the flags of its
-/// flag word.
+/// `word WORD`: the opcode, the result code and the flags of a packet's flag word.
 pub fn word(line: &mut Line<'_>) {
-    let id = line.hex_16();
     let word = line.hex_16();
     line.begin();
-    let packet = Packet::new(line.alloc(), id, word);
-    let (id, word) = (packet.id(), packet.word());
+    let packet = Packet::new(line.alloc(), 0, word);
     let (opcode, rcode, flags) = (packet.opcode(), packet.rcode(), packet.nm_flags());
     line.end();
-    write!(
-        line,
-        "{id:04x} {word:04x} opcode {opcode} rcode {rcode} {flags:?}"
-    );
+    write!(line, "opcode {opcode} rcode {rcode} {flags:?}");
 }
 
 /// `status BYTES`: the node status of a packet's first answer: how many names it has, each with its

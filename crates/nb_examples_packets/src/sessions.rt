@@ -1,10 +1,9 @@
-//! Packets of port 139: parsed, encoded, and read from a device.
+//! Packets of port 139: parsed, and read from a device.
 
-use nb_examples_words::alone;
 use nb_examples_words::devices::{Source, WILLING};
 use nb_examples_words::line::Line;
 use nb_names::{Counted, name_text};
-use nb_session::{Packet, Parsed, ReadFault, Room, encode, parse, read_packet};
+use nb_session::{Packet, Parsed, ReadFault, Room, parse, read_packet};
 
 /// Says a packet.
 pub fn say_packet(line: &mut Line<'_>, packet: &Packet<'_>) {
@@ -42,18 +41,6 @@ pub fn parsed(line: &mut Line<'_>) {
         }
         Parsed::More(needed) => write!(line, "more {needed}"),
         Parsed::Refused(fault) => write!(line, "{fault}"),
-    }
-}
-
-/// `again BYTES`: the packet at the front, encoded.
-pub fn encoded_again(line: &mut Line<'_>) {
-    let bytes = line.bytes();
-    let Parsed::Whole(packet, _) = parse(bytes.as_slice()) else {
-        return line.bad_words();
-    };
-    match alone!(line, Err(_), encode(line.alloc(), &packet)) {
-        Ok(bytes) => line.say_bytes(bytes.as_slice()),
-        Err(_) => line.no_memory(),
     }
 }
 

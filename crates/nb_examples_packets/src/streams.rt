@@ -6,13 +6,16 @@ use nb_examples_words::line::Line;
 use nb_session::{FeedFault, Next, SessionFault, Stream};
 
 /// `stream PIECE ..`: what a stream answers after each piece that it is fed, up to what it needs or
-/// to its fault. `pieces PIECE ..`: the bytes of each packet that it hands out, and what it needs
-/// in the end.
+/// to its fault; the first piece alone isn't fed between marks. `pieces PIECE ..`: the bytes of
+/// each packet that it hands out, and what it needs in the end.
 pub fn streamed(line: &mut Line<'_>, has_all: bool) {
     let mut stream = Stream::new(line.alloc());
     for word in line.rest().split_whitespace() {
         let piece = line.bytes_of(word);
-        feed(line, &mut stream, piece.as_slice());
+        match has_all && line.is_silent() {
+            true => say_fed(line, stream.feed(piece.as_slice())),
+            false => feed(line, &mut stream, piece.as_slice()),
+        }
         for _ in 0..=piece.len() {
             if !is_packet(line, &mut stream, has_all) {
                 break;
@@ -36,6 +39,11 @@ fn feed(line: &mut Line<'_>, stream: &mut Stream, piece: &[u8]) {
         stream.feed(piece),
         lacks(stream)
     );
+    say_fed(line, answer);
+}
+
+/// Says why a piece wasn't taken, where it wasn't.
+fn say_fed(line: &mut Line<'_>, answer: Result<(), FeedFault>) {
     if let Err(fault) = answer {
         write!(line, "fed {fault}; ");
     }

@@ -1,6 +1,6 @@
 #!/usr/bin/env bash
-# The built program of nb_examples as a process of its own: examples made by a model, a wrong one, and each request for
-# memory refused in turn, of the whole program and of single calls. Usage: tests/examples.sh [PROGRAM]; its last line is 'N
+# The built program of nb_examples as a process of its own: examples made by models, wrong ones, and each request for memory
+# refused in turn, of the whole program and of single calls. Usage: tests/examples.sh [PROGRAM]; its last line is 'N
 # passed, M failed, K skipped'.
 set -uo pipefail
 . "$(dirname "$0")/lib/counting.sh"
@@ -8,20 +8,23 @@ program=$(realpath "${1:-$here/../crates/nb_examples/out/nb_examples}")
 examples=$here/../crates/nb_examples/examples
 
 ordinary() {
-    "$here/join_examples.sh" --check
-    count $? 'the examples are joined (tests/join_examples.sh)'
+    local each
+    "$here/join_examples.py" --check
+    count $? 'the examples are joined (tests/join_examples.py)'
     enough "$(sed 's/ .*//' "$examples/../stdout")" "$(least nb_examples lines)" 'crates/nb_examples/stdout'
     "$here/lib/rust_samples.py"
     count $? 'the Rust samples of the pages stand in the sources (tests/lib/rust_samples.py)'
 
-    # Names and texts by the thousand, whose answers a slow model finds.
-    "$here/lib/names_model.py" | ended "$program" >"$room/output"
-    [ $? -eq 0 ] && grep -qE '^[0-9]{5,} examples, 0 wrong$' "$room/output"
-    count $? "the examples of tests/lib/names_model.py: $(tail -n 1 "$room/output")"
+    # Names, texts and tables by the thousand, whose answers slow models find.
+    for each in names tables; do
+        "$here/lib/${each}_model.py" | ended "$program" >"$room/output"
+        [ $? -eq 0 ] && grep -qE '^[0-9]{5,} examples, 0 wrong$' "$room/output"
+        count $? "the examples of tests/lib/${each}_model.py: $(tail -n 1 "$room/output")"
+    done
 
     # Words that mean nothing have no answer, and an answer that differs is printed.
-    printf '%s\n' 'session.parse 0z = more 4' 'session.parse 00 00 = more 3' 'session.pares 00 = more 3' 'session.parse {X} = more 3' \
-        'session.parse 00' 'session.parse 00 = more 4' 'session.parse 00 = more 3' 'let X' | ended "$program" >"$room/output"
+    printf '%s\n' 'session.parse 0z = more 4' 'session.parse 00 00 = more 3' 'session.pares 00 = more 3' 'table.lode 9:9 9 00 = full' \
+        'session.parse 00' 'session.parse 00 = more 4' 'session.parse 00 = more 3' | ended "$program" >"$room/output"
     [ $? -eq 1 ] && cmp -s "$room/output" - <<'END'
 session.parse 0z = more 4
     bad words
@@ -29,17 +32,16 @@ session.parse 00 00 = more 3
     bad words
 session.pares 00 = more 3
     no such call
-session.parse {X} = more 3
-    bad words
+table.lode 9:9 9 00 = full
+    no such call
 session.parse 00
     no example
 session.parse 00 = more 4
     answered: more 3
-let X
-    no example
-7 examples, 7 wrong
+7 examples, 6 wrong
 END
     count $? 'wrong examples are printed'
+    changed
 
     # Streams that can't be read or written.
     ended "$program" <"$room" >"$room/output" 2>"$room/errors"
@@ -50,23 +52,23 @@ END
     count $? 'a full standard output'
 }
 
+# Of each call an example with another answer, one with a word more, and one without its last word: each is found wrong.
+changed() {
+    "$here/lib/changed_examples.py" <"$examples/../stdin" >"$room/input"
+    ended "$program" <"$room/input" >"$room/output"
+    [ $? -eq 1 ] && [ "$(grep -cE '^[a-z]+\.' "$room/output")" -eq "$(wc -l <"$room/input")" ]
+    count $? "each of $(wc -l <"$room/input") changed examples is found wrong: $(tail -n 1 "$room/output")"
+}
+
 # ---- The lines of examples/memory.txt, whose calls ask for memory, and of examples/quiet.txt, whose calls don't.
 
-# each_line FILE COMMAND: the command, with each example of a file, and with the program's input, $room/input: what the file
-# defines before the line, and the line.
+# each_line SUBJECT COMMAND: the command, with each example of a file, which is the program's input, $room/input.
 each_line() {
     local line
-    : >"$room/definitions"
     while IFS= read -r line; do
-        case $line in
-        'let '*) printf '%s\n' "$line" >>"$room/definitions" ;;
-        '' | '#'* | 'each '*) ;;
-        *)
-            printf '%s\n' "$line" | cat "$room/definitions" - >"$room/input"
-            "$2" "$line"
-            ;;
-        esac
-    done <"$examples/$1"
+        printf '%s\n' "$line" >"$room/input"
+        "$2" "$line"
+    done < <("$here/join_examples.py" "$1")
 }
 
 # calls NAME=VALUE..: runs the program on its input; $room/calls has how many requests each call between marks made.
@@ -116,15 +118,11 @@ wants_none() {
 
 # ---- The first example of each call, with each request of the whole program refused.
 
-# chosen FILE: the definitions of a file of examples, and the first example of each call.
-chosen() { awk '/^let / { print; next } /^[a-z]+\./ && !seen[$1]++' "$1"; }
-
-# subject FILE: the examples answer as ever, or one of them that memory ran out, or the program ends with status 3. Some
-# refusals are told, and with none the program answers as ever.
+# subject NAME: the first example of each call of a file answers as ever, or that memory ran out, or the program ends with
+# status 3. Some refusals are told, and with none the program answers as ever.
 subject() {
-    local name n told=0
-    name=$(basename "$1" .txt)
-    chosen "$1" >"$room/input"
+    local name=$1 n told=0
+    "$here/join_examples.py" "$name" | awk '!seen[$1]++' >"$room/input"
     requests "$program" <"$room/input" >"$room/ample"
     count $? "$name: the first example of each call"
     [ "$number" -gt 0 ]
@@ -154,18 +152,15 @@ lacks_one() {
 }
 
 subjects() {
-    local file
-    for file in "$examples"/*.txt; do
-        case $file in
-        */memory.txt | */quiet.txt) ;;
-        *) subject "$file" ;;
-        esac
+    local each
+    for each in names service session datagram text table member; do
+        subject "$each"
     done
 }
 
 part shims compile refuse_memory
 part ordinary ordinary
-part memory each_line memory.txt refuses
-part quiet each_line quiet.txt wants_none
+part memory each_line memory refuses
+part quiet each_line quiet wants_none
 part subjects subjects
 finish

@@ -1,6 +1,7 @@
 """Captures, saved tables and command lines made by chance, for tests/fuzz.py."""
 import os
-import re
+
+from example_lines import definitions
 
 HERE = os.path.dirname(os.path.abspath(__file__))
 ROOT = os.path.dirname(os.path.dirname(HERE))
@@ -10,39 +11,7 @@ NAMES = ['FRED<20>', 'JOE<00>', 'ANN<03>.A', '*<00>', r'\2d<20>', r'\00<ff>.NETB
 
 def example_bytes():
     """The words for bytes that the examples define."""
-    words = {}
-
-    def expanded(found):
-        base, *changes = found[1].split(':')[0].split('@')
-        if base not in words:
-            raise ValueError(base)
-        data = bytearray(words[base])
-        for change in changes:
-            place, byte = change.split('=')
-            data[int(place)] = int(byte, 16)
-        if ':' in found[1]:
-            del data[int(found[1].split(':')[1]):]
-        return data.hex() or 'empty'
-
-    for line in open(os.path.join(ROOT, 'crates', 'nb_examples', 'stdin'), encoding='utf-8'):
-        if not line.startswith('let '):
-            continue
-        name, text = line[4:].rstrip('\n').split(' = ', 1)
-        try:
-            words[name] = bytes_of(re.sub(r'\{([^}]*)\}', expanded, text))
-        except ValueError:
-            continue
-        yield words[name]
-
-
-def bytes_of(text):
-    """The bytes of parts joined by +: digits, letters in quotes or `empty`, each with *N after it."""
-    whole = b''
-    for part in text.split('+'):
-        once, _, times = part.partition('*')
-        piece = b'' if once == 'empty' else once[1:-1].encode() if once[0] == "'" else bytes.fromhex(once)
-        whole += piece * int(times or 1)
-    return whole
+    return definitions()
 
 
 def capture_lines():

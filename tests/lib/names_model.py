@@ -207,9 +207,7 @@ def main():
     texts = itertools.chain(short_texts(), made_texts(chance, 2000))
     packets = itertools.chain(small_packets(chance, 400), made_packets(chance, 1500), longest_way())
     for example in itertools.chain(texts, packets):
-        # A brace in an example stands for a word that was defined.
-        if "{" not in example:
-            print(example)
+        print(example)
 
 
 main()

@@ -1,9 +1,21 @@
 //! `nb_examples`: makes the calls that the lines of its input say, and prints each line that has
-//! another answer, then how many lines there were.
+//! another answer, then how many lines there were. The calls of tables and stations stand here.
 #![tactic(auto)]
 
-mod answers;
+mod caller;
+mod calls;
+mod comparing;
+mod definitions;
+mod events;
 mod examples;
+mod hearing;
+mod inserting;
+mod joining;
+mod line_reading;
+mod reading;
+mod replays;
+mod stations;
+mod steps;
 
 use crate::examples::Examples;
 use nb_examples_words::fault::ExampleFault;
@@ -28,7 +40,7 @@ fn main(rt: HostRuntime) -> ExitCode {
 /// Takes in each line of standard input, and answers how many examples were wrong.
 fn run(rt: &HostRuntime) -> Result<u64, ExampleFault> {
     let mut output = rt.stdout();
-    let mut examples = Examples::new(rt.alloc());
+    let mut examples = Examples { count: 0, wrong: 0 };
     for line in rt.lines(rt.alloc()) {
         take(rt.alloc(), line, &mut examples, &mut output)?;
     }

@@ -1,5 +1,5 @@
-//! Bytes as words. A word is parts joined by `+`. A part is hexadecimal digits, letters between
-//! `'` and `'`, or `empty`, and may have `*` and a number after it: it stands so often.
+//! Bytes as words. A word is parts joined by `+`. A part is hexadecimal digits or `empty`, and may
+//! have `*` and a number after it: it stands so often.
 
 use crate::fault::ExampleFault;
 use hex::FromHexError;
@@ -30,10 +30,6 @@ pub fn bytes_of(alloc: Global, word: &str) -> Result<Vec<u8>, ExampleFault> {
 fn bytes_once(alloc: Global, part: &str) -> Result<Vec<u8>, ExampleFault> {
     if part == "empty" {
         return Ok(Vec::new(alloc));
-    }
-    if let Some(quoted) = part.strip_prefix("'") {
-        let text = quoted.strip_suffix("'").ok_or(ExampleFault::BadWords)?;
-        return Ok(Vec::from_slice(alloc, text.as_bytes())?);
     }
     if part.is_empty() {
         return Err(ExampleFault::BadWords);

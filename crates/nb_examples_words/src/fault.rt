@@ -1,6 +1,5 @@
 //! Why a line has no answer.
 
-use nb_names::NoMemory;
 use std::alloc::{AllocError, AllocFailed};
 use std::{fmt, io};
 
@@ -34,12 +33,6 @@ impl fmt::Display for ExampleFault {
     }
 }
 
-impl From<NoMemory> for ExampleFault {
-    fn from(_fault: NoMemory) -> ExampleFault {
-        ExampleFault::NoMemory
-    }
-}
-
 impl From<AllocError> for ExampleFault {
     fn from(_fault: AllocError) -> ExampleFault {
         ExampleFault::NoMemory
@@ -48,12 +41,6 @@ impl From<AllocError> for ExampleFault {
 
 impl<T: Drop> From<AllocFailed<T>> for ExampleFault {
     fn from(_fault: AllocFailed<T>) -> ExampleFault {
-        ExampleFault::NoMemory
-    }
-}
-
-impl From<fmt::Error> for ExampleFault {
-    fn from(_fault: fmt::Error) -> ExampleFault {
         ExampleFault::NoMemory
     }
 }

@@ -1,5 +1,5 @@
-//! What the examples of every crate share: words, bytes as text, devices, faults, and the marks
-//! that stand round a call whose requests for memory are counted.
+//! What the examples of every crate share: the words of a line, bytes as text, a device, faults,
+//! and the marks that stand round a call whose requests for memory are counted.
 #![tactic(auto)]
 
 pub mod byte_text;
@@ -7,5 +7,3 @@ mod calls;
 pub mod devices;
 pub mod fault;
 pub mod line;
-pub mod vocabulary;
-pub mod words;

@@ -9,7 +9,7 @@ use crate::devices::Conduct;
 use crate::fault::ExampleFault;
 use nb_names::{DomainName, Name, Pointers, Scope, name_from_text, read_domain};
 use std::alloc::Global;
-use std::fmt::{Debug, Display};
+use std::fmt::Display;
 use std::mem::replace;
 
 /// For how many bytes the text has room that is made right before a call (tests/refuse_memory.c).
@@ -132,65 +132,55 @@ impl<'a> Line<'a> {
 
     /// The next word, as a decimal number.
     pub fn number(&mut self) -> u64 {
-        let Ok(number) = self.word().parse() else {
-            self.bad_words();
-            return 0;
-        };
-        number
+        let number = self.word().parse().ok();
+        self.or_bad(number, 0)
     }
 
     /// The next word, as a decimal number of at most 32 bits.
     pub fn number_32(&mut self) -> u32 {
-        let Ok(number) = self.word().parse() else {
-            self.bad_words();
-            return 0;
-        };
-        number
+        let number = self.word().parse().ok();
+        self.or_bad(number, 0)
     }
 
     /// The next word, as a decimal number of at most 16 bits.
     pub fn number_16(&mut self) -> u16 {
-        let Ok(number) = self.word().parse() else {
-            self.bad_words();
-            return 0;
-        };
-        number
+        let number = self.word().parse().ok();
+        self.or_bad(number, 0)
     }
 
     /// The next word, as a decimal number of at most 8 bits.
     pub fn number_8(&mut self) -> u8 {
-        let Ok(number) = self.word().parse() else {
-            self.bad_words();
-            return 0;
-        };
-        number
+        let number = self.word().parse().ok();
+        self.or_bad(number, 0)
     }
 
     /// The next word, as a length or an offset.
     pub fn size(&mut self) -> usize {
-        let Ok(number) = self.word().parse() else {
-            self.bad_words();
-            return 0;
-        };
-        number
+        let number = self.word().parse().ok();
+        self.or_bad(number, 0)
     }
 
     /// The next word, as a number of 16 bits in hexadecimal.
     pub fn hex_16(&mut self) -> u16 {
-        let Ok(number) = u16::from_str_radix(self.word(), 16) else {
-            self.bad_words();
-            return 0;
-        };
-        number
+        let number = u16::from_str_radix(self.word(), 16).ok();
+        self.or_bad(number, 0)
     }
 
     /// The next word, as a byte in hexadecimal.
     pub fn hex_8(&mut self) -> u8 {
-        let Ok(number) = u8::from_str_radix(self.word(), 16) else {
-            self.bad_words();
-            return 0;
-        };
-        number
+        let number = u8::from_str_radix(self.word(), 16).ok();
+        self.or_bad(number, 0)
+    }
+
+    /// A value that a word stands for; another one where it stands for none, which is a fault.
+    fn or_bad<T: Drop>(&mut self, value: Option<T>, other: T) -> T {
+        match value {
+            Some(value) => value,
+            None => {
+                self.bad_words();
+                other
+            }
+        }
     }
 
     /// The next word, as the bytes that it stands for.
@@ -253,17 +243,12 @@ impl<'a> Line<'a> {
         (ip, port, id)
     }
 
-    /// The next word, as how many keys a table may hold, and how many of one address: `8:2`, or `8`
-    /// for 4,294,967,295 of one address.
+    /// The next word, as how many keys a table may hold, and how many of one address: `8:2`.
     pub fn capacity(&mut self) -> (u32, u32) {
         let word = self.word();
         let before = self.enter(word, ":");
         let keys = self.number_32();
-        let per_source = if self.is_empty() {
-            u32::MAX
-        } else {
-            self.number_32()
-        };
+        let per_source = self.number_32();
         self.leave(before);
         (keys, per_source)
     }
@@ -306,24 +291,6 @@ impl<'a> Line<'a> {
         if write!(self.said, "{value}").is_err() {
             self.no_memory();
         }
-    }
-
-    /// Says two values as `Debug` prints them, and whether they are equal.
-    pub fn say_both<T: Debug + PartialEq>(&mut self, first: &T, second: &T) {
-        let is_equal = first == second;
-        write!(self, "{first:?} {second:?} {is_equal}");
-    }
-
-    /// Says two values as `Debug` prints them, and whether they are equal, `ONE == OTHER is true`.
-    pub fn say_comparison<T: Debug + PartialEq>(&mut self, one: &T, other: &T) {
-        let is_same = one == other;
-        write!(self, "{one:?} == {other:?} is {is_same}");
-    }
-
-    /// Says two faults as text, and then as [`Line::say_comparison`] does.
-    pub fn say_fault_comparison<F: Debug + Display + PartialEq>(&mut self, one: &F, other: &F) {
-        write!(self, "{one}, {other}: ");
-        self.say_comparison(one, other);
     }
 
     /// Says bytes as a word.

@@ -1,0 +1,66 @@
+//! Fragments inserted into tables.
+
+use crate::steps::{lent, reads, say_change, say_fault, step_of, table_of};
+use nb_datagram::Fragment;
+use nb_examples_words::asked;
+use nb_examples_words::line::Line;
+use nb_table::{Change, Handing, Table, TableFault};
+
+/// `insert TABLE | STEP ..`: what the inserts of the steps into the table answer. `insert_lent` and
+/// `insert_kept` with the same words: of fragments whose names are lent, and where no datagram is
+/// handed over. `refusals`: why the table would refuse each of the steps, or `none`.
+pub fn inserts(line: &mut Line<'_>, call: &str) {
+    let (table, steps) = line.halves(" | ");
+    let mut table = table_of(line, table);
+    for (place, step) in steps.split_whitespace().enumerate() {
+        if place > 0 {
+            line.say(", ");
+        }
+        let parts = step_of(line, step);
+        let Some(fragment) = lent(line, &parts) else {
+            return;
+        };
+        match call {
+            "refusals" => say_refusal(line, &table, &fragment),
+            _ => say_insert(line, call, &mut table, &fragment),
+        }
+    }
+}
+
+/// Says what the insert of a fragment answers, by a call.
+fn say_insert(line: &mut Line<'_>, call: &str, table: &mut Table, fragment: &Fragment<'_>) {
+    let answer = asked!(
+        line,
+        Err(TableFault::NoMemory),
+        insert_by(call, table, fragment),
+        reads(line, table)
+    );
+    match answer {
+        Ok(change) => say_change(line, &change),
+        Err(fault) => say_fault(line, fault),
+    }
+}
+
+/// What the insert of a fragment answers, by a call.
+fn insert_by(call: &str, table: &mut Table, fragment: &Fragment<'_>) -> Result<Change, TableFault> {
+    let answer = match call {
+        "insert_lent" => table.insert_lent(&fragment.lent()),
+        "insert_kept" => table.insert_with(&fragment.lent(), Handing::Kept),
+        _ => return table.insert(fragment),
+    };
+    match answer {
+        Ok(change) => Ok(change.into_change()),
+        Err(fault) => Err(fault),
+    }
+}
+
+/// Says why the table would refuse a fragment, or `none`.
+fn say_refusal(line: &mut Line<'_>, table: &Table, fragment: &Fragment<'_>) {
+    line.begin();
+    let refusal = table.refusal_of(fragment);
+    line.end();
+    match refusal {
+        Some(fault) => say_fault(line, fault),
+        None => line.say("none"),
+    }
+}

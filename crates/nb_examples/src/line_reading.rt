@@ -1,0 +1,84 @@
+//! Lines of captures: what one says, and the lines of an input, read one after another.
+
+use nb_examples_words::alone;
+use nb_examples_words::devices::Source;
+use nb_examples_words::line::Line;
+use nb_member::{Line as CaptureLine, LineFault, LineReadFault, LineRoom, capture_line, next_line};
+use nb_names::Counted;
+
+/// `line BYTES`: the port, the moment and the payload that a line of a capture says, or what the
+/// clock shows, or `nothing`.
+pub fn read(line: &mut Line<'_>) {
+    let bytes = line.bytes();
+    let read = alone!(
+        line,
+        Err(LineFault::NoMemory),
+        capture_line(line.alloc(), bytes.as_slice())
+    );
+    match read {
+        Ok(Some(read)) => say_said(line, &read),
+        Ok(None) => line.say("nothing"),
+        Err(LineFault::NoMemory) => line.no_memory(),
+        Err(fault) => write!(line, "{fault}"),
+    }
+}
+
+/// Says what a line of a capture says.
+fn say_said(line: &mut Line<'_>, read: &CaptureLine) {
+    match read {
+        CaptureLine::Packet {
+            port,
+            moment,
+            payload,
+        } => {
+            write!(line, "port {port}, moment {moment}, ");
+            line.say_bytes(payload.as_slice());
+        }
+        CaptureLine::Tick { now } => write!(line, "clock {now}"),
+    }
+}
+
+/// `next CALLS DEVICE BYTES`: how many bytes a new room has, what each of so many calls for the
+/// next line answers, over a device, and how many bytes the room has after it.
+pub fn each_line(line: &mut Line<'_>) {
+    let calls = line.number();
+    let conduct = line.conduct();
+    let capture = line.bytes();
+    line.begin();
+    let mut room = LineRoom::new(line.alloc());
+    let held = room.held();
+    line.end();
+    write!(line, "held {held}");
+    let mut source = Source::new(capture.as_slice(), conduct);
+    let mut reader = Counted::new(&mut source);
+    for _ in 0..calls {
+        line.say(", ");
+        say_next(line, &mut reader, &mut room);
+    }
+}
+
+/// Says what one call answers, and what the room then has. Where memory runs out, the next call
+/// goes on.
+fn say_next(line: &mut Line<'_>, reader: &mut Counted<&mut Source<'_>>, room: &mut LineRoom) {
+    line.begin();
+    let answer = next_line(reader, room);
+    line.end();
+    if let Err(LineReadFault::NoMemory) = answer {
+        line.say("memory, ");
+        say_read(line, next_line(reader, room));
+    } else {
+        say_read(line, answer);
+    }
+    write!(line, " held {}", room.held());
+}
+
+/// Says a line that was read, or why none was.
+fn say_read(line: &mut Line<'_>, read: Result<Option<&[u8]>, LineReadFault>) {
+    match read {
+        Ok(Some(bytes)) => line.say_bytes(bytes),
+        Ok(None) => line.say("end"),
+        Err(LineReadFault::TooLong) => line.say("too long"),
+        Err(LineReadFault::Read) => line.say("read"),
+        Err(LineReadFault::NoMemory) => line.no_memory(),
+    }
+}

@@ -1,0 +1,56 @@
+//! What tables say of their keys, and tables saved and loaded.
+
+use crate::steps::{rest_table, say_saved};
+use nb_examples_packets::fragments::{next_key, say_datagram};
+use nb_examples_words::alone;
+use nb_examples_words::line::Line;
+use nb_table::{LoadFault, load};
+
+/// `known KEY TABLE`: what the table knows of the key, and how many runs its known bytes make up.
+pub fn known(line: &mut Line<'_>) {
+    let key = next_key(line);
+    let table = rest_table(line);
+    line.begin();
+    let state = table.state(&key);
+    let runs = table.run_count(&key);
+    line.end();
+    write!(line, "{state:?}, {runs:?}");
+}
+
+/// `datagram KEY TABLE`: the key's datagram, `KIND KEY SOURCE DESTINATION BYTES`, or `none`.
+pub fn datagram(line: &mut Line<'_>) {
+    let key = next_key(line);
+    let table = rest_table(line);
+    match alone!(line, Err(_), table.datagram(&key)) {
+        Ok(Some(datagram)) => say_datagram(line, &datagram),
+        Ok(None) => line.say("none"),
+        Err(_) => line.no_memory(),
+    }
+}
+
+/// `save TABLE`: the bytes that the table is saved as.
+pub fn saved(line: &mut Line<'_>) {
+    let table = rest_table(line);
+    match alone!(line, Err(_), table.save()) {
+        Ok(bytes) => line.say_bytes(bytes.as_slice()),
+        Err(_) => line.no_memory(),
+    }
+}
+
+/// `load CAPACITY LONGEST BYTES`: what the table that is loaded from the bytes with these limits is
+/// saved as again, or why there is none.
+pub fn loaded(line: &mut Line<'_>) {
+    let (keys, per_source) = line.capacity();
+    let longest = line.number_16();
+    let bytes = line.bytes();
+    let loaded = alone!(
+        line,
+        Err(LoadFault::NoMemory),
+        load(line.alloc(), bytes.as_slice(), keys, per_source, longest)
+    );
+    match loaded {
+        Ok(table) => say_saved(line, &table),
+        Err(LoadFault::NoMemory) => line.no_memory(),
+        Err(fault) => write!(line, "{fault}"),
+    }
+}

@@ -1,0 +1,102 @@
+//! Steps: fragments in one word, and tables made of them.
+
+use nb_datagram::Fragment;
+use nb_examples_packets::fragments::{OwnedFragment, say_datagram, say_key};
+use nb_examples_words::line::Line;
+use nb_table::{Change, Table, TableFault};
+
+/// The fragment that a step says, `KIND,FLAGS,KEY,OFFSET,SOURCE,DESTINATION,BYTES`.
+pub fn step_of<'a>(line: &mut Line<'a>, step: &'a str) -> OwnedFragment {
+    let before = line.enter(step, ",");
+    let fragment = OwnedFragment::of(line);
+    line.leave(before);
+    fragment
+}
+
+/// The fragment of these parts.
+pub fn lent<'a>(line: &mut Line<'_>, parts: &'a OwnedFragment) -> Option<Fragment<'a>> {
+    let fragment = parts.fragment();
+    if fragment.is_err() {
+        line.bad_words();
+    }
+    fragment.ok()
+}
+
+/// The table of all words that are left, `CAPACITY LONGEST STEP ..`. A step that it refuses changes
+/// nothing.
+pub fn rest_table(line: &mut Line<'_>) -> Table {
+    let (keys, per_source) = line.capacity();
+    let longest = line.number_16();
+    let mut table = Table::new(line.alloc(), keys, per_source, longest);
+    for step in line.rest().split_whitespace() {
+        let parts = step_of(line, step);
+        if let Some(fragment) = lent(line, &parts) {
+            if let Err(TableFault::NoMemory) = table.insert(&fragment) {
+                line.no_memory();
+            }
+        }
+    }
+    table
+}
+
+/// The table of a text.
+pub fn table_of<'a>(line: &mut Line<'a>, text: &'a str) -> Table {
+    let before = line.enter(text, " ");
+    let table = rest_table(line);
+    line.leave(before);
+    table
+}
+
+/// The two tables of `TABLE | TABLE`.
+pub fn two_tables(line: &mut Line<'_>) -> (Table, Table) {
+    let (one, other) = line.halves(" | ");
+    let one = table_of(line, one);
+    (one, table_of(line, other))
+}
+
+/// Says a change: its word, and the datagram where there is one.
+pub fn say_change(line: &mut Line<'_>, change: &Change) {
+    match change {
+        Change::Spoilt => line.say("spoilt"),
+        Change::Same => line.say("same"),
+        Change::Grown => line.say("grown"),
+        Change::Whole(datagram) => {
+            line.say("whole ");
+            say_datagram(line, datagram);
+        }
+    }
+}
+
+/// Says a fault, with the key where there is one.
+pub fn say_fault(line: &mut Line<'_>, fault: TableFault) {
+    match fault {
+        TableFault::NoMemory => line.no_memory(),
+        TableFault::FullSource(key) | TableFault::Full(key) => {
+            write!(line, "{fault} ");
+            say_key(line, key);
+        }
+        _ => write!(line, "{fault}"),
+    }
+}
+
+/// Says the bytes that a table is saved as.
+pub fn say_saved(line: &mut Line<'_>, table: &Table) {
+    match table.save() {
+        Ok(bytes) => line.say_bytes(bytes.as_slice()),
+        Err(_) => line.no_memory(),
+    }
+}
+
+/// All that a table answers, as text: the bytes that it is saved as, and of each key what is known,
+/// `KEY STATE RUNS`.
+pub fn reads(line: &mut Line<'_>, table: &Table) -> String {
+    let before = line.aside();
+    say_saved(line, table);
+    write!(line, " {}", table.len());
+    for key in table.keys() {
+        line.say(" ");
+        say_key(line, key);
+        write!(line, " {:?} {:?}", table.state(&key), table.run_count(&key));
+    }
+    line.back_to(before)
+}

@@ -1,0 +1,75 @@
+//! Packets of port 137 as text.
+
+use nb_examples_words::line::Line;
+use nb_names::{DomainName, Name, domain_text, name_text};
+use nb_service::{Packet, Question, Rdata, Record};
+
+/// The most items of a list that are said.
+const MOST_ITEMS: usize = 4;
+
+/// Says all parts of a packet.
+pub fn say_packet(line: &mut Line<'_>, packet: &Packet<'_>) {
+    write!(line, "{:04x} {:04x}; ", packet.id(), packet.word());
+    say_questions(line, packet.questions().as_slice());
+    say_records(line, "answer", packet.answers().as_slice());
+    say_records(line, "authority", packet.authorities().as_slice());
+    say_records(line, "additional", packet.additional().as_slice());
+}
+
+/// Says a domain name: as the NetBIOS name, where it is one.
+fn say_name(line: &mut Line<'_>, domain: &DomainName) {
+    let text = match Name::from_domain(domain) {
+        Ok(name) => name_text(line.alloc(), &name),
+        Err(_) => domain_text(line.alloc(), domain),
+    };
+    line.say_made(text.ok());
+}
+
+/// Says questions.
+fn say_questions(line: &mut Line<'_>, questions: &[Question]) {
+    if questions.len() > MOST_ITEMS {
+        return write!(line, "{} questions; ", questions.len());
+    }
+    for question in questions {
+        say_question(line, question);
+    }
+}
+
+/// Says a question: name, kind and class.
+fn say_question(line: &mut Line<'_>, question: &Question) {
+    line.say("question ");
+    say_name(line, &question.name);
+    write!(line, " {:04x} {:04x}; ", question.kind, question.class);
+}
+
+/// Says the records of a section.
+fn say_records(line: &mut Line<'_>, section: &str, records: &[Record<'_>]) {
+    if records.len() > MOST_ITEMS {
+        return write!(line, "{} of {section}; ", records.len());
+    }
+    for record in records {
+        write!(line, "{section} ");
+        say_record(line, record);
+    }
+}
+
+/// Says a record: name, kind, class, time to live, and RDATA of bytes or of a name.
+fn say_record(line: &mut Line<'_>, record: &Record<'_>) {
+    line.begin();
+    let (name, kind, class, ttl) = (record.name(), record.kind(), record.class(), record.ttl());
+    let rdata = record.rdata();
+    line.end();
+    say_name(line, name);
+    write!(line, " {kind:04x} {class:04x} {ttl} ");
+    match rdata {
+        Rdata::Bytes(bytes) => {
+            line.say("bytes ");
+            line.say_bytes(bytes);
+        }
+        Rdata::Domain(domain) => {
+            line.say("name ");
+            say_name(line, domain);
+        }
+    }
+    line.say("; ");
+}

@@ -1,0 +1,101 @@
+//! Packets of port 139: parsed, and read from a device.
+
+use nb_examples_words::devices::{Source, WILLING};
+use nb_examples_words::line::Line;
+use nb_names::{Counted, name_text};
+use nb_session::{Packet, Parsed, ReadFault, Room, parse, read_packet};
+
+/// Says a packet.
+pub fn say_packet(line: &mut Line<'_>, packet: &Packet<'_>) {
+    match packet {
+        Packet::Message(data) => {
+            line.say("message ");
+            line.say_bytes(data.bytes());
+        }
+        Packet::Request { called, calling } => {
+            line.say("request ");
+            line.say_made(name_text(line.alloc(), called).ok());
+            line.say(" ");
+            line.say_made(name_text(line.alloc(), calling).ok());
+        }
+        Packet::Positive => line.say("positive"),
+        Packet::Negative(code) => write!(line, "negative {code:02x}"),
+        Packet::Retarget { address, port } => {
+            let [a, b, c, d] = *address;
+            write!(line, "retarget {a}.{b}.{c}.{d} {port}");
+        }
+        Packet::Keepalive => line.say("keepalive"),
+    }
+}
+
+/// `parse BYTES`: the packet at the front, and how many bytes it takes up.
+pub fn parsed(line: &mut Line<'_>) {
+    let bytes = line.bytes();
+    line.begin();
+    let answer = parse(bytes.as_slice());
+    line.end();
+    match answer {
+        Parsed::Whole(packet, used) => {
+            say_packet(line, &packet);
+            write!(line, ", used {used}");
+        }
+        Parsed::More(needed) => write!(line, "more {needed}"),
+        Parsed::Refused(fault) => write!(line, "{fault}"),
+    }
+}
+
+/// `read MOST INTERRUPTS FAILING BYTES`: the packets that are read from a device, up to its end or
+/// the first fault, and how many bytes are left then. The room is then used once more.
+pub fn read(line: &mut Line<'_>) {
+    let conduct = line.conduct();
+    let bytes = line.bytes();
+    let mut source = Source::new(bytes.as_slice(), conduct);
+    let mut room = Room::new(line.alloc());
+    for _ in 0..=bytes.len() {
+        if !is_packet(line, &mut source, &mut room) {
+            break;
+        }
+    }
+    write!(line, "left {}", source.left().len());
+    if !reads_a_keepalive(&mut room) {
+        line.say(", the room is spent");
+    }
+}
+
+/// Whether a keepalive can be read in a room, and is what the room then holds.
+fn reads_a_keepalive(room: &mut Room) -> bool {
+    let keepalive = b"\x85\x00\x00\x00".as_slice();
+    let mut reader = Counted::new(keepalive);
+    let is_read = matches!(read_packet(&mut reader, room), Ok(Some(Packet::Keepalive)));
+    is_read && room.as_slice() == keepalive
+}
+
+/// Reads a packet from a device and says it, or why there is none: whether there is one. Where
+/// memory ran out, the room is used for another device that gives the same bytes.
+fn is_packet(line: &mut Line<'_>, source: &mut Source<'_>, room: &mut Room) -> bool {
+    let before = source.left();
+    line.begin();
+    let answer = read_packet(&mut Counted::new(&mut *source), room);
+    line.end();
+    if !matches!(answer, Err(ReadFault::NoMemory)) {
+        return say_read(line, answer);
+    }
+    let taken = before.len().saturating_sub(source.left().len());
+    write!(line, "memory, {taken} bytes taken, ");
+    *source = Source::new(before, WILLING);
+    say_read(line, read_packet(&mut Counted::new(source), room))
+}
+
+/// Says what was read: whether it is a packet.
+fn say_read(line: &mut Line<'_>, answer: Result<Option<Packet<'_>>, ReadFault>) -> bool {
+    match answer {
+        Ok(Some(packet)) => {
+            say_packet(line, &packet);
+            line.say("; ");
+            return true;
+        }
+        Ok(None) => line.say("end; "),
+        Err(fault) => write!(line, "{fault}; "),
+    }
+    false
+}

@@ -52,7 +52,7 @@ END
     count $? 'a full standard output'
 }
 
-# Of each call an example with another answer, one with a word more, and one without its last word: each is found wrong.
+# Of each call an example with another answer, one with a word more, and one with another last word: each is found wrong.
 changed() {
     "$here/lib/changed_examples.py" <"$examples/../stdin" >"$room/input"
     ended "$program" <"$room/input" >"$room/output"

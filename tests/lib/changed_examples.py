@@ -1,6 +1,6 @@
 #!/usr/bin/env python3
 """Prints changed examples, of which none holds: of each call of those that standard input has, the first example with another
-answer, the same with a word more, and the same without its last word."""
+answer, the same with a word more that is none, and the same with such a word in the place of its last one."""
 import sys
 
 seen = set()
@@ -10,5 +10,5 @@ for line in sys.stdin:
     if call not in seen:
         seen.add(call)
         print(f'{question} = {answer}.')
-        print(f'{question} 00 = {answer}')
-        print(f'{question.rpartition(" ")[0] or question + "x"} = {answer}')
+        print(f'{question} zz = {answer}')
+        print(f'{question.rpartition(" ")[0] or question} zz = {answer}')

@@ -31,12 +31,11 @@ pub fn decoded(line: &mut Line<'_>) {
 /// The packet at the front; an empty one where there is none.
 fn front<'a>(line: &mut Line<'_>, bytes: &'a [u8]) -> Packet<'a> {
     match decode(line.alloc(), bytes) {
-        Ok((packet, _)) => packet,
-        Err(_) => {
-            line.bad_words();
-            Packet::new(line.alloc(), 0, 0)
-        }
+        Ok((packet, _)) => return packet,
+        Err(ServiceFault::NoMemory) => line.no_memory(),
+        Err(_) => line.bad_words(),
     }
+    Packet::new(line.alloc(), 0, 0)
 }
 
 /// A packet's bytes.

@@ -194,12 +194,12 @@ error_bytes None = []
 error_bytes (Some error) = packet_bytes (Error error)
 
 -- what is reported of a payload: numbers, and bytes
-pub record Told : Type 0 where
+pub record Reported : Type 0 where
   pub numbers : NbtTaken
   pub bytes : List ℕ
 
 -- what is reported of each outcome
-abbrev pub told_of : Outcome → Told
+abbrev pub told_of : Outcome → Reported
 told_of (Kept k) = record { numbers = of_key outcomes.KEPT k; bytes = [] }
 told_of (Spoilt k) = record { numbers = of_key outcomes.SPOILT k; bytes = [] }
 told_of (Delivered d) = record { numbers = of_delivered d; bytes = delivered_bytes d }
@@ -207,7 +207,7 @@ told_of (Unheard k error) = record { numbers = of_unheard k (length (error_bytes
 told_of Other = record { numbers = of_other; bytes = [] }
 
 -- told_refused fault error: what is reported of a payload that begins with no packet
-abbrev pub told_refused : DatagramFault → Option ErrorPacket → Told
+abbrev pub told_refused : DatagramFault → Option ErrorPacket → Reported
 told_refused fault error =
     record { numbers = of_refused (datagram_refusal fault) (length (error_bytes error)); bytes = error_bytes error }
 
@@ -220,7 +220,7 @@ table_refusal (tables.Full key) = Fault statuses.FULL
 table_refusal tables.NoMemory = Memory
 
 -- what is reported of each answer of a member: of a payload that is no packet too; else why the fragment isn't taken in
-abbrev pub answer_told : Result Outcome MemberFault → Result Told Refusal
+abbrev pub answer_told : Result Outcome MemberFault → Result Reported Refusal
 answer_told (Ok outcome) = Ok (told_of outcome)
 answer_told (Err (Packet fault error)) = Ok (told_refused fault error)
 answer_told (Err (Table fault)) = Err (table_refusal fault)
@@ -232,7 +232,7 @@ pub record LentToTake : Type 0 where
   pub used : ℕ
 
 -- Tells answer old new status: a call with this answer leaves what was lent so, and has this status
-abbrev pub Tells : Result Told Refusal → LentToTake → LentToTake → ℕ → Type 0
+abbrev pub Tells : Result Reported Refusal → LentToTake → LentToTake → ℕ → Type 0
 Tells (Ok told) old new status =
     (new.taken ≡ told.numbers) × (new.buffer ≡ told.bytes ++ drop (length told.bytes) old.buffer)
     × (new.used ≡ length told.bytes) × (status ≡ statuses.DONE)

@@ -7,7 +7,7 @@ ghost use Rattle.nb_datagram.specs.Texts.{key_text, kind_text};
 
 use crate::key::Key;
 use crate::kind::Kind;
-use nb_names::{NoMemory, push_address, push_number, push_word};
+use nb_names::{NoMemory, push_address, push_decimal, push_word_digits};
 
 /// Adds a key, `ADDRESS:PORT/ID`: the address with dots and the port in decimal, the identifier as
 /// four hexadecimal digits.
@@ -23,9 +23,9 @@ pub fn push_key(key: Key, text: &mut String) -> Result<(), NoMemory>
 {
     push_address(key.ip, text)?;
     text.push_str(":")?;
-    push_number(u64::from(key.port), text)?;
+    push_decimal(u64::from(key.port), text)?;
     text.push_str("/")?;
-    push_word(key.id, text)
+    push_word_digits(key.id, text)
 }
 
 /// The word for a kind: `unique`, `group` or `broadcast` (our choice).

@@ -13,7 +13,7 @@ use crate::comments::Comments;
 use crate::member_fault::MemberFault;
 use crate::outcome::{Dropped, Outcome};
 use crate::report::texts::push_result;
-use nb_names::{NoMemory, push_number};
+use nb_names::{NoMemory, push_decimal};
 use std::alloc::Global;
 
 /// The room that a line takes, in bytes, its data and long scopes aside.
@@ -35,7 +35,7 @@ pub fn passed_line(alloc: Global, number: u64) -> Result<String, NoMemory>
     ensures { IfOk result (λ text. string_bytes text ≡ numbered number (codes "passed")) }
 {
     let mut text = String::with_capacity(alloc, USUAL_ROOM)?;
-    push_number(number, &mut text)?;
+    push_decimal(number, &mut text)?;
     text.push_str(" passed\n")?;
     Ok(text)
 }
@@ -46,9 +46,9 @@ pub fn dropped_line(alloc: Global, number: u64, dropped: Dropped) -> Result<Stri
         numbered number (codes "dropped " ++ decimal dropped.keys)) }
 {
     let mut text = String::with_capacity(alloc, USUAL_ROOM)?;
-    push_number(number, &mut text)?;
+    push_decimal(number, &mut text)?;
     text.push_str(" dropped ")?;
-    push_number(u64::from(dropped.keys), &mut text)?;
+    push_decimal(u64::from(dropped.keys), &mut text)?;
     text.push_str("\n")?;
     Ok(text)
 }
@@ -62,7 +62,7 @@ pub fn taken_line(
     ensures { IfOk result (λ text. string_bytes text ≡ numbered number (result_text taken.now)) }
 {
     let mut text = String::with_capacity(alloc, room_for(taken))?;
-    push_number(number, &mut text)?;
+    push_decimal(number, &mut text)?;
     text.push_str(" ")?;
     push_result(alloc, taken, &mut text)?;
     text.push_str("\n")?;

@@ -55,7 +55,7 @@ pub fn push_data(bytes: &[u8], text: &mut String) -> Result<(), NoMemory>
 /// # Errors
 ///
 /// [`NoMemory`] where memory ran out; some of the digits may then be added.
-pub fn push_word(number: u16, text: &mut String) -> Result<(), NoMemory>
+pub fn push_word_digits(number: u16, text: &mut String) -> Result<(), NoMemory>
     ensures added { OnOk result
         (string_bytes text.new ≡ string_bytes text.old ++ word_text number) }
     ensures front { OnlyAdds (string_bytes text.old) (string_bytes text.new) }

@@ -13,7 +13,7 @@ use itoa::Buffer;
 /// # Errors
 ///
 /// [`NoMemory`] where memory ran out; some of the digits may then be added.
-pub fn push_number(number: u64, text: &mut String) -> Result<(), NoMemory>
+pub fn push_decimal(number: u64, text: &mut String) -> Result<(), NoMemory>
     ensures added { OnOk result (string_bytes text.new ≡ string_bytes text.old ++ decimal number) }
     ensures front { OnlyAdds (string_bytes text.old) (string_bytes text.new) }
 {

@@ -9,7 +9,7 @@ use crate::field_key::FieldKey;
 use crate::flag::Flag;
 use crate::shows::Shows;
 use crate::sink::Sink;
-use nb_names::{Bytes, NoMemory, push_data, push_digits, push_number, push_shown};
+use nb_names::{Bytes, NoMemory, push_data, push_digits, push_decimal, push_shown};
 use std::fmt::Display;
 
 /// Adds each field's text. Nothing is there of the places of faults, which the faults' texts have,
@@ -45,7 +45,7 @@ impl Sink for String {
 
     fn number(&mut self, key: FieldKey, value: u64) -> Result<(), NoMemory> {
         self.push_str(key.lead)?;
-        push_number(value, self)
+        push_decimal(value, self)
     }
 
     fn digits(&mut self, key: FieldKey, value: &[u8]) -> Result<(), NoMemory> {
@@ -66,7 +66,7 @@ impl Sink for String {
     fn known(&mut self, key: FieldKey, value: Option<u64>) -> Result<(), NoMemory> {
         self.push_str(key.lead)?;
         match value {
-            Some(value) => push_number(value, self),
+            Some(value) => push_decimal(value, self),
             None => {
                 self.push_str("?")?;
                 Ok(())
@@ -76,9 +76,9 @@ impl Sink for String {
 
     fn range(&mut self, lead: &str, from: u64, to: u64) -> Result<(), NoMemory> {
         self.push_str(lead)?;
-        push_number(from, self)?;
+        push_decimal(from, self)?;
         self.push_str("-")?;
-        push_number(to, self)
+        push_decimal(to, self)
     }
 
     fn words(&mut self, words: &str) -> Result<(), NoMemory> {

@@ -46,7 +46,7 @@ pub(crate) fn read_number(input: &[u8], at: usize) -> Result<(u16, usize), LoadF
 
 /// Puts the two low bytes of a number, the high one of them first.
 #[inline]
-pub(crate) fn put_number<S: ByteSink>(sink: &mut S, number: u64) -> Result<(), S::Fault>
+pub(crate) fn put_two_bytes<S: ByteSink>(sink: &mut S, number: u64) -> Result<(), S::Fault>
     ensures { Puts S.takes S.breaks sink.old sink.new (to_be_bytes w16 number) result }
 {
     let bytes = number.to_be_bytes();
@@ -64,7 +64,7 @@ pub(crate) fn read_count(input: &[u8], at: usize) -> Result<(u32, usize), LoadFa
 }
 
 /// Puts the four low bytes of a number, the high one of them first.
-pub(crate) fn put_count<S: ByteSink>(sink: &mut S, count: u64) -> Result<(), S::Fault>
+pub(crate) fn put_four_bytes<S: ByteSink>(sink: &mut S, count: u64) -> Result<(), S::Fault>
     ensures { Puts S.takes S.breaks sink.old sink.new (to_be_bytes w32 count) result }
 {
     let bytes = count.to_be_bytes();

@@ -13,7 +13,7 @@ ghost use Rattle.nb_table.specs.Saved.{saved as saved_bytes};
 ghost use Rattle.nb_table.specs.SavedReading.{IsRead};
 
 use super::entries::{Within, judge_entries, put_entries};
-use super::fields::{put_count, read_count};
+use super::fields::{put_four_bytes, read_count};
 use super::form::SavedForm;
 use super::part::{DigitsSink, Part};
 use super::sink::ByteSink;
@@ -68,7 +68,7 @@ fn put_table<S: ByteSink>(sink: &mut S, entries: &BTreeMap<Key, Entry>) -> Resul
         (maps.entries (maps.from_entries {R = key_cmp} entries.now.entries))) }
 {
     sink.put(b"NBT2")?;
-    put_count(sink, entries.len() as u64)?;
+    put_four_bytes(sink, entries.len() as u64)?;
     put_entries(sink, entries)
 }
 

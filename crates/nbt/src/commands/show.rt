@@ -11,7 +11,7 @@ use crate::settings::{is_json, options_of};
 use crate::telling::Packets;
 use clap::ArgMatches;
 use nb_member::{Comments, Line, push_comment};
-use nb_names::{Counted, NoMemory, push_number};
+use nb_names::{Counted, NoMemory, push_decimal};
 use nb_text::push_packet;
 use std::alloc::Global;
 use std::io::{Read, Write};
@@ -82,9 +82,9 @@ fn push_tick(number: u64, now: u64, text: &mut String) -> Result<(), NoMemory>
     ensures { OnOk result (string_bytes text.new ≡ string_bytes text.old
         ++ (decimal number ++ (codes " tick " ++ (decimal now ++ codes "\n")))) }
 {
-    push_number(number, text)?;
+    push_decimal(number, text)?;
     text.push_str(" tick ")?;
-    push_number(now, text)?;
+    push_decimal(now, text)?;
     text.push_str("\n")?;
     Ok(())
 }
@@ -94,9 +94,9 @@ fn push_front(number: u64, port: u16, text: &mut String) -> Result<(), NoMemory>
     ensures { OnOk result (string_bytes text.new ≡ string_bytes text.old
         ++ (decimal number ++ (codes " " ++ (decimal port ++ codes " ")))) }
 {
-    push_number(number, text)?;
+    push_decimal(number, text)?;
     text.push_str(" ")?;
-    push_number(u64::from(port), text)?;
+    push_decimal(u64::from(port), text)?;
     text.push_str(" ")?;
     Ok(())
 }

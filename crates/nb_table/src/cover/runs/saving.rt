@@ -5,7 +5,7 @@ ghost use Rattle.nb_table.specs.Code.Sinks.{Puts};
 ghost use Rattle.nb_table.specs.Saved.{run_bytes, runs_bytes};
 
 use super::Run;
-use crate::saved::fields::put_number;
+use crate::saved::fields::put_two_bytes;
 use crate::saved::sink::ByteSink;
 use nb_names::NoMemory;
 use std::alloc::Global;
@@ -24,7 +24,7 @@ fn put_run<S: ByteSink>(sink: &mut S, run: &Run) -> Result<(), S::Fault>
 pub(super) fn put_runs<S: ByteSink>(sink: &mut S, runs: &[Run]) -> Result<(), S::Fault>
     ensures { Puts S.takes S.breaks sink.old sink.new (runs_bytes (values_of runs.now)) result }
 {
-    put_number(sink, runs.len() as u64)?;
+    put_two_bytes(sink, runs.len() as u64)?;
     for run in runs {
         put_run(sink, run)?;
     }

@@ -21,8 +21,8 @@ returns-in_err-put-clause-puts g c =
     let none = begun laws c.args.sink.now (saved contents) in
     stop laws (magic Second) (count ++ entries) none refl c.in_err-put.ensures _ c.from_residual.result c.from_residual.ensures.1
 
-pub returns-in_err-put_count-clause-puts : goal.returns-in_err-put_count-clause-puts
-returns-in_err-put_count-clause-puts g c =
+pub returns-in_err-put_four_bytes-clause-puts : goal.returns-in_err-put_four_bytes-clause-puts
+returns-in_err-put_four_bytes-clause-puts g c =
     let m = c.args.entries.now in
     let contents = maps.from_entries {R = key_cmp} m.entries in
     let laws = g.met.S.ByteSink.laws in
@@ -32,7 +32,7 @@ returns-in_err-put_count-clause-puts g c =
     let one = turn laws (magic Second) (count ++ entries) none refl c.in_ok-put.ensures in
     let counted = c.len.ensures.len ∙ sym (len_is key_cmp_total key_cmp_exact m c.len.ensures.ordered) in
     stop laws count entries one (ap (to_be_bytes w32) counted)
-    c.in_err-put_count.ensures _ c.from_residual-in_err-put_count.result c.from_residual-in_err-put_count.ensures.1
+    c.in_err-put_four_bytes.ensures _ c.from_residual-in_err-put_four_bytes.result c.from_residual-in_err-put_four_bytes.ensures.1
 
 pub returns-clause-puts : goal.returns-clause-puts
 returns-clause-puts g c =
@@ -44,7 +44,7 @@ returns-clause-puts g c =
     let none = begun laws c.args.sink.now (saved contents) in
     let one = turn laws (magic Second) (count ++ entries) none refl c.in_ok-put.ensures in
     let counted = c.len.ensures.len ∙ sym (len_is key_cmp_total key_cmp_exact m c.len.ensures.ordered) in
-    let two = turn laws count entries one (ap (to_be_bytes w32) counted) c.in_ok-put_count.ensures in
+    let two = turn laws count entries one (ap (to_be_bytes w32) counted) c.in_ok-put_four_bytes.ensures in
     let same = ap (entries_bytes Second) (sym (entries_are key_cmp_total key_cmp_exact m c.put_entries.ensures.ordered)) in
     done laws _ entries two same c.put_entries.result c.put_entries.ensures.puts
 

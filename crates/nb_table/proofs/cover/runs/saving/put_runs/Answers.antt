@@ -8,14 +8,14 @@ use Rattle.nb_table.specs.Saved.{run_bytes, runs_bytes}
 use Rattle.nb_table.proofs.SavedBytes.PuttingLemmas.{begun, told, turn, stop, runs_left}
 use Rattle.nb_table.proofs.cover.runs.saving.put_runs.Goals as goal
 
-pub returns-in_err-put_number : goal.returns-in_err-put_number
-returns-in_err-put_number g c =
+pub returns-in_err-put_two_bytes : goal.returns-in_err-put_two_bytes
+returns-in_err-put_two_bytes g c =
     let runs = values_of c.args.runs.now in
     let laws = g.met.S.ByteSink.laws in
     let none = begun laws c.args.sink.now (runs_bytes runs) in
     let count = ap (to_be_bytes w16) (sym (length-map c.args.runs.now value_of)) in
     stop laws (to_be_bytes w16 (length runs)) (concat (map run_bytes runs)) none count
-    c.in_err-put_number.ensures _ c.from_residual.result c.from_residual.ensures.1
+    c.in_err-put_two_bytes.ensures _ c.from_residual.result c.from_residual.ensures.1
 
 pub loop-run-init : goal.loop-run-init
 loop-run-init g c =
@@ -23,7 +23,7 @@ loop-run-init g c =
     let laws = g.met.S.ByteSink.laws in
     let none = begun laws c.args.sink.now (runs_bytes runs) in
     let count = ap (to_be_bytes w16) (sym (length-map c.args.runs.now value_of)) in
-    turn laws (to_be_bytes w16 (length runs)) (concat (map run_bytes runs)) none count c.in_ok-put_number.ensures
+    turn laws (to_be_bytes w16 (length runs)) (concat (map run_bytes runs)) none count c.in_ok-put_two_bytes.ensures
 
 pub returns-in_err-put_run : goal.returns-in_err-put_run
 returns-in_err-put_run g c =

@@ -1,6 +1,6 @@
 use Rattle.std.proofs.Common.{◌≡◌, ℕ, ◌+◌, List, [], ◌∷◌, ◌++◌, string_bytes, ap, ◌∙◌, arith}
 use Rattle.std.proofs.lemmas.Fmt.{decimal_digit}
-use Rattle.nb_names.proofs.numbers_writing.push_number.Goals as goal
+use Rattle.nb_names.proofs.numbers_writing.push_decimal.Goals as goal
 
 pub returns-then-number-lt10-clause-added : goal.returns-then-number-lt10-clause-added
 returns-then-number-lt10-clause-added c =

@@ -7,10 +7,11 @@ SECONDS = 60
 PREFIX ?= /usr/local
 DEB = out
 LIBRARY = out/lib
+TARGETS = out
 # The shell is given what users choose in the environment, whatever characters it has.
-export PROGRAM DESTDIR PREFIX DEB LIBRARY
+export PROGRAM DESTDIR PREFIX DEB LIBRARY TARGETS
 
-.PHONY: run build try check test bench fuzz completions install uninstall deb lib install-lib uninstall-lib
+.PHONY: run build try check test bench fuzz completions install uninstall deb lib install-lib uninstall-lib targets
 
 # Prove and build the program, and replay a capture in a station with these names.
 run: build
@@ -78,3 +79,12 @@ install-lib: lib
 # Take away what install-lib put below the same PREFIX. What install put there stays.
 uninstall-lib:
 	@tools/installation take library
+
+# Prove the library once, and make it for every target of the module that the kit makes of it: LIBRARY as lib does; in TARGETS the
+# module, nbt.bc, the library for aarch64 in lib/aarch64, and nbt.wasm with nbt.mjs.
+targets:
+	@tools/pkgconfig "$$PREFIX" >/dev/null
+	@tools/targets check "$$TARGETS"
+	tools/module "$$TARGETS/nbt.bc"
+	tools/library crates/nb_c/out/libnb_c.a "$$LIBRARY" "$$PREFIX"
+	tools/targets make "$$TARGETS/nbt.bc" "$$TARGETS" "$$PREFIX"

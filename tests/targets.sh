@@ -32,6 +32,8 @@ files() {
     fi
     "$top/tools/targets" make "$module" "$out" "$room/root" >"$room/log" 2>&1
     count $? "tools/targets: $(tail -n 1 "$room/log")"
+    cp "$module" "$out/nbt.bc" && cp "$module.verdict" "$out/nbt.bc.verdict"
+    count $? 'the module and its verdict'
     # The library for x86-64, of the same module.
     "$here/lib/x86_64" "$module" "$out/lib" >"$room/log" 2>&1
     count $? "tests/lib/x86_64: $(tail -n 1 "$room/log")"
@@ -152,6 +154,24 @@ examples() {
     done
 }
 
+# What was found to reach the most of the library (tests/fuzz_coverage.py), once more: on x86-64 under sanitizers, and on aarch64.
+corpus() {
+    local wanted
+    wanted="$(wc -l <"$here/corpus.txt") inputs"
+    ${CC:-cc} "${strict[@]}" -DALONE -fsanitize=address,undefined -fno-sanitize-recover=all -o "$room/corpus" "$here/lib/fuzz_calls.c" \
+        -Wl,--wrap=malloc,--wrap=realloc "$out/lib/libnbt.a" >"$room/log" 2>&1
+    count $? "tests/lib/fuzz_calls.c for x86-64: $(head -n 1 "$room/log")"
+    ended "$room/corpus" <"$here/corpus.txt" 2>&1 | tail -n 1 | same "$wanted" 'the corpus on x86-64'
+    aarch64-linux-gnu-gcc "${strict[@]}" -DALONE -o "$room/corpus.arm" "$here/lib/fuzz_calls.c" -Wl,--wrap=malloc,--wrap=realloc \
+        "$out/lib/aarch64/libnbt.a" >"$room/log" 2>&1
+    count $? "tests/lib/fuzz_calls.c for aarch64: $(head -n 1 "$room/log")"
+    ended "${qemu[@]}" "$room/corpus.arm" <"$here/corpus.txt" 2>&1 | tail -n 1 | same "$wanted" 'the corpus on aarch64'
+    echo 01000411000001020003ff | ended "$room/corpus" print >"$room/output" 2>/dev/null
+    same $'138 0 11000001\n139 0 ff' 'an input as lines of a capture' <"$room/output"
+    [ "$(stat -c %s "$here/corpus.txt")" -lt 2000000 ]
+    count $? 'the corpus has less than 2 MB'
+}
+
 # block LANGUAGE FILE: the first block of a page in this language.
 block() { awk -v mark="\`\`\`$1" '/^```$/ { shown = 0 } shown; $0 == mark && !found { shown = found = 1 }' "$2"; }
 
@@ -164,6 +184,56 @@ javascript() {
     cp "$out/nbt.mjs" "$out/nbt.wasm" "$top/bindings/javascript/package.json" "$room/user/node_modules/nbt"
     block js "$top/bindings/javascript/README.md" >"$room/user/first.mjs"
     ended "${node[@]}" "$room/user/first.mjs" 2>&1 | same "$(block text "$top/bindings/javascript/README.md")" 'the program of bindings/javascript/README.md'
+}
+
+# What make dist makes: the same bytes twice, and each package does what its page says, where nothing else of the library is.
+packages() {
+    local dist=$room/dist page=$top/docs/CALLING.md
+    "$top/tools/dist" "$out" "$out/lib" "$program" "$dist" "$here/counts.txt" >"$room/log" 2>&1
+    count $? "tools/dist: $(tail -n 1 "$room/log")"
+    "$top/tools/dist" "$out" "$out/lib" "$program" "$room/dist2" "$here/counts.txt" >"$room/log" 2>&1 && diff -r "$dist" "$room/dist2" >"$room/log"
+    count $? "the same bytes once more: $(head -c 300 "$room/log")"
+    (cd "$dist" && sha256sum --quiet -c SHA256SUMS) >"$room/log" 2>&1
+    count $? "SHA256SUMS: $(head -n 1 "$room/log")"
+    grep -q "^The library: logic=proved " "$dist/PROOF" && (cd "$top" && grep -E '^[0-9a-f]{64}  crates/' "$dist/PROOF" | sha256sum --quiet -c) >"$room/log" 2>&1
+    count $? "the sources of PROOF: $(head -n 1 "$room/log")"
+    for each in amd64 arm64; do
+        dpkg-deb -x "$dist/libnbt0_"*"_$each.deb" "$room/root" && dpkg-deb -x "$dist/libnbt-dev_"*"_$each.deb" "$room/root" \
+            && dpkg-deb -x "$dist/python3-nbt_"*_all.deb "$room/root"
+        count $? "the packages of $each are unpacked"
+    done
+    block c "$page" >"$room/first.c"
+    ${CC:-cc} -std=c11 -I"$room/root/usr/include" -L"$room/root/usr/lib/x86_64-linux-gnu" -o "$room/first" "$room/first.c" -lnbt >"$room/log" 2>&1
+    LD_LIBRARY_PATH=$room/root/usr/lib/x86_64-linux-gnu ended "$room/first" | same 'negative code=82 used=5' 'libnbt-dev of amd64'
+    aarch64-linux-gnu-gcc -std=c11 -I"$room/root/usr/include" -L"$room/root/usr/lib/aarch64-linux-gnu" -o "$room/first" "$room/first.c" -lnbt >"$room/log" 2>&1
+    ended "${qemu[@]}" -E LD_LIBRARY_PATH="$room/root/usr/lib/aarch64-linux-gnu" "$room/first" | same 'negative code=82 used=5' 'libnbt-dev of arm64'
+    block python "$page" >"$room/first.py"
+    LD_LIBRARY_PATH=$room/root/usr/lib/x86_64-linux-gnu PYTHONPATH=$room/root/usr/lib/python3/dist-packages ended python3 "$room/first.py" 2>&1 \
+        | same $'JOE<00> FRED<20> hello\nTRUNCATED 60' 'python3-nbt'
+    if python3 -m pip --version >/dev/null 2>&1; then
+        ended python3 -m pip install -q --no-index --target "$room/wheel" "$dist"/*x86_64.whl >"$room/log" 2>&1
+        count $? "pip install of the wheel: $(tail -n 1 "$room/log")"
+        PYTHONPATH=$room/wheel ended python3 "$room/first.py" 2>&1 | same $'JOE<00> FRED<20> hello\nTRUNCATED 60' 'the wheel'
+    else
+        skipped=$((skipped + 2))
+        echo 'skipped: the wheel (pip is missing)'
+    fi
+    mkdir -p "$room/packed/node_modules" "$room/crate"
+    tar -xzf "$dist"/nbt-*.tgz -C "$room/packed/node_modules" && mv "$room/packed/node_modules/package" "$room/packed/node_modules/nbt"
+    block js "$room/packed/node_modules/nbt/README.md" >"$room/packed/first.mjs"
+    ended "${node[@]}" "$room/packed/first.mjs" 2>&1 | same "$(block text "$top/bindings/javascript/README.md")" 'the package for JavaScript'
+    if command -v cargo >/dev/null; then
+        tar -xzf "$dist"/nbt-*-rust.tar.gz -C "$room/crate" && mkdir -p "$room/crate/user/src" && block rust "$page" >"$room/crate/user/src/main.rs"
+        printf '[package]\nname = "first"\nversion = "0.1.0"\nedition = "2021"\n\n[dependencies]\nnbt = { path = "%s" }\n' \
+            "$(echo "$room"/crate/nbt-*)" >"$room/crate/user/Cargo.toml"
+        (cd "$room/crate/user" && PKG_CONFIG=/bin/false ended cargo run --quiet --offline) 2>&1 \
+            | same $'negative code=82 used=5\nbad text 4' 'the crate for Rust, without pkg-config'
+    else
+        skipped=$((skipped + 1))
+        echo 'skipped: the crate for Rust (cargo is missing)'
+    fi
+    says 'make dist, to a file' "can't be written to" "$top/tools/dist" "$out" "$out/lib" "$program" "$here/counts.txt/dist"
+    says 'make dist of nothing' 'run make build targets first' "$top/tools/dist" "$room/nowhere" "$out/lib" "$program" "$room/dist3"
 }
 
 # says NAME TEXT COMMAND..: a command fails, and says so in one line that has a text.
@@ -198,7 +268,7 @@ for tool in aarch64-linux-gnu-gcc qemu-aarch64 node; do
     command -v $tool >/dev/null || lacking=${lacking:-$tool}
 done
 [ -n "$lacking" ] || "${node[@]}" -e "$memory64" 2>/dev/null || lacking='a node with memory64'
-parts=(files calls memory worst stations examples javascript missing)
+parts=(files calls memory worst stations examples corpus javascript packages missing)
 if [ -n "$lacking" ]; then
     for each in "${parts[@]}"; do lacks "$each" "$lacking"; done
     finish
@@ -210,6 +280,8 @@ part memory refused
 part worst worst
 part stations stations
 part examples examples
+part corpus corpus
 part javascript javascript
+if command -v dpkg-deb >/dev/null; then part packages packages; else lacks packages dpkg-deb; fi
 part missing missing
 finish

@@ -186,6 +186,13 @@ javascript() {
     ended "${node[@]}" "$room/user/first.mjs" 2>&1 | same "$(block text "$top/bindings/javascript/README.md")" 'the program of bindings/javascript/README.md'
 }
 
+# The types of the package for JavaScript, and of calls that use them.
+types() {
+    (cd "$top/bindings/javascript" && ended tsc --strict --noEmit --module es2022 --moduleResolution nodenext --target es2022 --lib es2022,dom \
+        tests/typed_calls.mts) >"$room/log" 2>&1
+    count $? "tsc --strict: $(head -n 3 "$room/log")"
+}
+
 # What make dist makes: the same bytes twice, and each package does what its page says, where nothing else of the library is.
 packages() {
     local dist=$room/dist page=$top/docs/CALLING.md
@@ -268,7 +275,7 @@ for tool in aarch64-linux-gnu-gcc qemu-aarch64 node; do
     command -v $tool >/dev/null || lacking=${lacking:-$tool}
 done
 [ -n "$lacking" ] || "${node[@]}" -e "$memory64" 2>/dev/null || lacking='a node with memory64'
-parts=(files calls memory worst stations examples corpus javascript packages missing)
+parts=(files calls memory worst stations examples corpus javascript types packages missing)
 if [ -n "$lacking" ]; then
     for each in "${parts[@]}"; do lacks "$each" "$lacking"; done
     finish
@@ -282,6 +289,7 @@ part stations stations
 part examples examples
 part corpus corpus
 part javascript javascript
+if command -v tsc >/dev/null; then part types types; else lacks types tsc; fi
 if command -v dpkg-deb >/dev/null; then part packages packages; else lacks packages dpkg-deb; fi
 part missing missing
 finish

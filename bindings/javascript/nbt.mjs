@@ -350,6 +350,13 @@ async function bytesAt(place) {
 /** A module of one instruction, whose memory has addresses of 64 bits. */
 const MEMORY64 = Uint8Array.of(0, 97, 115, 109, 1, 0, 0, 0, 5, 3, 1, 4, 1);
 
+/** What a module has to have. */
+const CALLS = [
+    'heap_give_back', 'heap_limit', 'heap_take', 'nbt_datagram_read', 'nbt_datagram_write', 'nbt_name_spell', 'nbt_name_text',
+    'nbt_service_request', 'nbt_session_read', 'nbt_session_write', 'nbt_show', 'nbt_station_absorb', 'nbt_station_create',
+    'nbt_station_free', 'nbt_station_save', 'nbt_station_take', 'nbt_station_tick', 'nbt_status_text', 'nbt_table_list', 'nbt_table_merge',
+];
+
 /** Loads nbt.wasm: from beside this file, or what `module` is. Its memory grows to `limit` bytes at most. */
 export async function load({ module = new URL('nbt.wasm', import.meta.url), limit = 1 << 30 } = {}) {
     const most = numberOf(limit, 53, 'limit');
@@ -359,6 +366,8 @@ export async function load({ module = new URL('nbt.wasm', import.meta.url), limi
     const isPlace = typeof module === 'string' || module instanceof URL;
     const source = isPlace ? await bytesAt(new URL(module, import.meta.url)) : module;
     const isCompiled = source instanceof WebAssembly.Module;
-    const instance = await WebAssembly.instantiate(isCompiled ? source : bytesOf(source, 'module'), {});
-    return libraryOf(new Calls((isCompiled ? instance : instance.instance).exports, most));
+    const made = await WebAssembly.instantiate(isCompiled ? source : bytesOf(source, 'module'), {});
+    const { exports } = isCompiled ? made : made.instance, lacking = CALLS.find((name) => typeof exports[name] !== 'function');
+    if (lacking) throw new Error(`nbt.wasm is of another version than nbt.mjs and lacks ${lacking}: take both from one package`);
+    return libraryOf(new Calls(exports, most));
 }

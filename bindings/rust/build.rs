@@ -37,7 +37,9 @@ fn main() {
 fn link_own() -> bool {
     let of = |name| env::var(name).unwrap_or_default();
     let target = of("CARGO_CFG_TARGET_ARCH") + "-" + &of("CARGO_CFG_TARGET_OS");
-    let folder = Path::new(&of("CARGO_MANIFEST_DIR")).join("lib").join(target);
+    let folder = Path::new(&of("CARGO_MANIFEST_DIR"))
+        .join("lib")
+        .join(target);
     if !folder.join("libnbt.a").exists() {
         return false;
     }

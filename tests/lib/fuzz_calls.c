@@ -398,6 +398,43 @@ static void poor(struct nbt_station *station, size_t requests) {
     }
 }
 
+/* The next datagram that was handed over of a table is one of the table: where the one after it begins. */
+static size_t handed_over(struct bytes table, struct bytes all, size_t at) {
+    const uint8_t *key = all.at + at, *end = key + 9, *source;
+    struct bytes texts[2], data, packets, alone, both;
+    struct nbt_station station = station_of("");
+    static uint8_t into[NBT_TAKE_ROOM];
+    struct nbt_taken taken;
+    size_t used, place;
+    uint32_t status;
+    int i;
+    for (i = 0; i < 2; i++) {
+        for (source = end; *end != 0; end += 1 + *end)
+            ;
+        texts[i] = named(source, (size_t)(++end - source));
+    }
+    data = (struct bytes){(uint8_t *)end + 2, (size_t)end[0] << 8 | end[1]};
+    packets = room(data.length + 600);
+    status = nbt_datagram_write(key[8], (uint16_t)(key[6] << 8 | key[7]), (uint32_t)key[0] << 24 | (uint32_t)key[1] << 16 | (uint32_t)key[2] << 8 | key[3],
+                                (uint16_t)(key[4] << 8 | key[5]), texts[0].at, texts[0].length, texts[1].at, texts[1].length, data.at, data.length,
+                                65535, packets.at, packets.length, &used, &place);
+    if (status == NBT_DONE) {
+        EXPECT(nbt_station_take(&station, 0, packets.at + 2, used - 2, &taken, into, sizeof into, &place) == NBT_DONE);
+        alone = saved(&station);
+        both = joined(table, alone);
+        EXPECT(same(table, both));
+        free(alone.at);
+        free(both.at);
+    } else {
+        EXPECT(status == NBT_LONG_DATA);
+    }
+    nbt_station_free(station);
+    free(packets.at);
+    free(texts[0].at);
+    free(texts[1].at);
+    return (size_t)(data.at + data.length - all.at);
+}
+
 static void stations(size_t step) {
     struct nbt_station one = station_of("FRED<20> JOE<00>"), other = station_of("FRED<20>"), third = station_of("JOE<00> FRED<20>");
     size_t handed = 0, again = 0, full = given(&one, 0, 1, &handed), i;
@@ -413,6 +450,8 @@ static void stations(size_t step) {
     }
     delivered = once(absorb, &(struct asked){table, {NULL, 0}, 0, 0, &other}, 1);
     EXPECT(delivered.status == NBT_DONE);
+    for (i = 0; i < delivered.bytes.length;)
+        i = handed_over(table, delivered.bytes, i);
     taken_in = saved(&other);
     EXPECT(same(table, taken_in));
     for (i = 0; i < count; i++) {

@@ -2,6 +2,7 @@
 // files and include/nbt.h.
 import assert from 'node:assert/strict';
 import { readFileSync } from 'node:fs';
+import { createServer } from 'node:http';
 import { test } from 'node:test';
 import { pathToFileURL } from 'node:url';
 import vm from 'node:vm';
@@ -31,6 +32,16 @@ async function raw() {
     const { exports } = (await WebAssembly.instantiate(wasm, {})).instance;
     return { ...exports, size: () => exports.memory.buffer.byteLength };
 }
+
+test('a module has each call of nbt.h', async () => {
+    const { exports } = (await WebAssembly.instantiate(wasm, {})).instance;
+    const calls = new Set(Array.from(readFileSync(header, 'utf8').matchAll(/\b(nbt_[a-z_]+)\(/g), ([, name]) => name));
+    const source = readFileSync(`${folder}/nbt.mjs`, 'utf8');
+    for (const name of calls) {
+        assert.equal(typeof exports[name], 'function');
+        assert.equal(source.split(`'${name}'`).length, 3, `${name} is listed and called`);
+    }
+});
 
 test('the statuses are those of nbt.h', () => {
     const said = readFileSync(header, 'utf8').match(/enum nbt_status \{(.*?)\n\};/s)[1].matchAll(/^ +NBT_([A-Z_]+) = (\d+)/gm);
@@ -330,6 +341,16 @@ test('what is loaded', async () => {
     assert.equal((await load({ module: pathToFileURL(`${folder}/nbt.wasm`) })).text(nbt.spell('FRED<20>')), 'FRED<20>');
     await assert.rejects(load({ module: 'file:///nowhere/nbt.wasm' }), /ENOENT/);
     await assert.rejects(load({ module: new Uint8Array(8) }), WebAssembly.CompileError);
+    await assert.rejects(load({ module: Uint8Array.of(0, 97, 115, 109, 1, 0, 0, 0) }), /another version than nbt.mjs and lacks heap_give_back/);
+    const server = createServer((request, answer) => {
+        answer.writeHead(request.url === '/nbt.wasm' ? 200 : 404, { 'content-type': 'application/wasm' });
+        answer.end(request.url === '/nbt.wasm' ? wasm : '');
+    });
+    await new Promise((done) => server.listen(0, '127.0.0.1', done));
+    const place = `http://127.0.0.1:${server.address().port}`;
+    assert.equal((await load({ module: `${place}/nbt.wasm` })).text(nbt.spell('FRED<20>')), 'FRED<20>');
+    await assert.rejects(load({ module: `${place}/other` }), /status 404/);
+    await new Promise((done) => server.close(done).closeAllConnections());
     await assert.rejects(load({ module: 5 }), TypeError);
 });
 

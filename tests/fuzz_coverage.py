@@ -50,20 +50,23 @@ def fuzzing_clang(room):
 
 
 def built(room, module):
-    """The fuzzer, and the program that prints inputs. The kit's clang has no runtimes, but compiles for those of another."""
+    """The fuzzer, the program that prints inputs, and one whose functions have all their blocks, which says what was reached. The
+    kit's clang has no runtimes, but compiles for those of another."""
     if not shutil.which('rt'):
         fail("rt, the command of the Rattle kit, isn't on PATH: install the kit first")
     kit = os.path.dirname(run(['rt', 'doc']).splitlines()[0])
     clang, at = fuzzing_clang(room), lambda name: os.path.join(room, name)
+    words = [f'{kit}/toolchain/bin/clang', '--target=x86_64-unknown-linux-gnu', '-Wno-override-module', '-c', '-x', 'ir', module]
     # The functions of the module don't ask for AddressSanitizer, so they are made to.
-    run([f'{kit}/toolchain/bin/clang', '--target=x86_64-unknown-linux-gnu', '-Wno-override-module', '-O2', '-fsanitize=address,fuzzer-no-link',
-         '-mllvm', '-force-attribute=sanitize_address', '-c', '-x', 'ir', module, '-o', at('library.o')])
+    run([*words, '-O2', '-fsanitize=address,fuzzer-no-link', '-mllvm', '-force-attribute=sanitize_address', '-o', at('library.o')])
+    run([*words, '-O0', '-fsanitize=fuzzer-no-link', '-o', at('blocks.o')])
     words = [clang, '-std=c11', '-g', '-O1', '-fsanitize=address', f'-I{TOP}/include', f'{TOP}/tests/lib/fuzz_calls.c']
     heap = f'{TOP}/bindings/heaps/malloc.c'
     run([*words, '-c', '-o', at('calls.o')])
-    run([clang, '-fsanitize=address,fuzzer', WRAPPED, at('calls.o'), heap, at('library.o'), '-o', at('fuzz')])
+    for library, program in (('library.o', 'fuzz'), ('blocks.o', 'blocks')):
+        run([clang, '-fsanitize=address,fuzzer', WRAPPED, at('calls.o'), heap, at(library), '-o', at(program)])
     run([*words, '-DALONE', WRAPPED, '-fsanitize=fuzzer-no-link', heap, at('library.o'), '-o', at('alone')])
-    return at('fuzz'), at('alone')
+    return at('fuzz'), at('alone'), at('blocks')
 
 
 def read_corpus(folder):
@@ -113,7 +116,7 @@ def show_reached(said):
         if not reached and name.startswith('nb_'):
             print(f'not reached: {name}, {of} edges')
     for name, (reached, of) in sorted(edges.items()):
-        if reached and of - reached >= 12 and name.startswith('nb'):
+        if reached and of - reached >= 4 and name.startswith('nb'):
             print(f'reached in part: {name}, {reached} of {of} edges')
 
 
@@ -128,7 +131,7 @@ def main():
     symbolizer = shutil.which('llvm-symbolizer-22') or shutil.which('llvm-symbolizer') or fail('llvm-symbolizer is missing: install llvm')
     os.environ.update(ASAN_SYMBOLIZER_PATH=symbolizer, ASAN_OPTIONS='quarantine_size_mb=8:malloc_context_size=2')
     with tempfile.TemporaryDirectory() as room:
-        fuzz, alone = built(room, words.module)
+        fuzz, alone, blocks = built(room, words.module)
         corpus, least = os.path.join(room, 'corpus'), os.path.join(room, 'least')
         read_corpus(corpus)
         os.mkdir(least)
@@ -140,7 +143,7 @@ def main():
             show_failures(room, alone, done.stdout)
             return 1
         run([fuzz, *limits, '-merge=1', least, corpus])
-        show_reached(run([fuzz, *limits, '-runs=0', '-print_coverage=1', least]))
+        show_reached(run([blocks, *limits, '-runs=0', '-print_coverage=1', least]))
         if words.keep:
             write_corpus(least)
     return 0

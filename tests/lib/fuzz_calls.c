@@ -28,7 +28,7 @@ struct record {
 };
 
 static struct record records[MOST];
-static size_t count, granted = SIZE_MAX;
+static size_t count, granted = SIZE_MAX, few;
 
 void *__real_malloc(size_t);
 void *__real_realloc(void *, size_t);
@@ -116,6 +116,11 @@ static struct answer once(call *made, const struct asked *asked, int changing) {
     other = within(made, asked, wanted + 7);
     EXPECT(other.status == NBT_DONE && same(answer.bytes, other.bytes));
     free(other.bytes.at);
+    granted = few;
+    other = within(made, asked, wanted);
+    granted = SIZE_MAX;
+    EXPECT(other.status == NBT_NO_MEMORY || (other.status == NBT_DONE && same(answer.bytes, other.bytes)));
+    free(other.bytes.at);
     return answer;
 }
 
@@ -174,6 +179,13 @@ static uint32_t datagram_write(const struct asked *it, uint8_t *into, size_t int
     return nbt_datagram_write(read.type, read.identifier, read.address, read.port, it->second.at, it->limit, it->second.at + it->limit,
                               it->second.length - it->limit, it->first.at + read.data, read.data_length, (uint16_t)it->number, into, into_length,
                               used, at);
+}
+
+/* A datagram whose source, or whose destination, has a text of any bytes. */
+static uint32_t texts_write(const struct asked *it, uint8_t *into, size_t into_length, size_t *used, size_t *at) {
+    static const uint8_t name[] = {'A', '<', '0', '0', '>'};
+    struct bytes good = {(uint8_t *)name, sizeof name}, first = it->number == 0 ? it->first : good, second = it->number == 0 ? good : it->first;
+    return nbt_datagram_write(0x10, 1, 2, 3, first.at, first.length, second.at, second.length, name, 2, 1, into, into_length, used, at);
 }
 
 static void are_lines(struct bytes text) {
@@ -293,6 +305,8 @@ static void payload(uint32_t port, struct bytes it) {
     EXPECT((status == NBT_DONE) == (station.at != NULL));
     if (status == NBT_DONE)
         nbt_station_free(station);
+    for (asked.number = 0; port == 138 && asked.number < 2; asked.number++)
+        free(answered(texts_write, &asked).bytes.at);
     other = answered(name_spell, &asked);
     if (other.status == NBT_DONE)
         free(named(other.bytes.at, other.bytes.length).at);
@@ -322,11 +336,42 @@ static void stream(struct bytes all) {
     }
 }
 
-static struct nbt_station station_of(const char *names) {
+static struct bytes saved(struct nbt_station *station) {
+    struct answer answer = answered(save, &(struct asked){{NULL, 0}, {NULL, 0}, 0, 0, station});
+    EXPECT(answer.status == NBT_DONE);
+    return answer.bytes;
+}
+
+static struct nbt_station limited(const char *names, uint32_t keys, uint32_t per_source) {
     struct nbt_station made;
     size_t at;
-    EXPECT(nbt_station_create((const uint8_t *)names, strlen(names), 0x0a000009, 138, 40, 20, &made.at, &at) == NBT_DONE);
+    EXPECT(nbt_station_create((const uint8_t *)names, strlen(names), 0x0a000009, 138, keys, per_source, &made.at, &at) == NBT_DONE);
     return made;
+}
+
+static struct nbt_station station_of(const char *names) { return limited(names, 40, 20); }
+
+/* A clock that shows less than 2,000 milliseconds more drops nothing, and then everything: the table's keys, of which there are at
+ * most so many. */
+static void ticked(struct nbt_station *station, uint32_t keys) {
+    struct bytes before = saved(station), after;
+    uint32_t dropped = UNSAID;
+    EXPECT(nbt_station_tick(station, 7 + 1999, &dropped) == NBT_DONE && dropped == 0);
+    granted = few;
+    dropped = UNSAID;
+    if (nbt_station_tick(station, 7 + 2000, &dropped) == NBT_NO_MEMORY) {
+        granted = SIZE_MAX;
+        after = saved(station);
+        EXPECT(dropped == UNSAID && same(before, after));
+        free(after.at);
+        EXPECT(nbt_station_tick(station, 7 + 2000, &dropped) == NBT_DONE);
+    }
+    granted = SIZE_MAX;
+    EXPECT(dropped <= keys && dropped == before.at[7]);
+    after = saved(station);
+    EXPECT(after.length == 8);
+    free(before.at);
+    free(after.at);
 }
 
 /* The payloads of port 138 from one on, in an order, given to a station: how many were refused for want of room, what it handed over. */
@@ -347,12 +392,6 @@ static size_t given(struct nbt_station *station, size_t from, size_t step, size_
         }
     }
     return full;
-}
-
-static struct bytes saved(struct nbt_station *station) {
-    struct answer answer = answered(save, &(struct asked){{NULL, 0}, {NULL, 0}, 0, 0, station});
-    EXPECT(answer.status == NBT_DONE);
-    return answer.bytes;
 }
 
 static struct bytes joined(struct bytes first, struct bytes second) {
@@ -436,7 +475,7 @@ static size_t handed_over(struct bytes table, struct bytes all, size_t at) {
 }
 
 static void stations(size_t step) {
-    struct nbt_station one = station_of("FRED<20> JOE<00>"), other = station_of("FRED<20>"), third = station_of("JOE<00> FRED<20>");
+    struct nbt_station one = station_of("FRED<20> JOE<00>"), other = station_of("FRED<20>"), third = station_of("JOE<00> FRED<20>"), small = limited("FRED<20>", 3, step % 2 ? 9 : 2);
     size_t handed = 0, again = 0, full = given(&one, 0, 1, &handed), i;
     struct bytes table = saved(&one), reordered, taken_in;
     struct answer listed = answered(list, &(struct asked){table, {NULL, 0}, 0, 0, NULL}), delivered;
@@ -466,11 +505,16 @@ static void stations(size_t step) {
         free(lines.bytes.at);
     }
     poor(&other, step % 23);
+    given(&small, 0, 1, &handed);
+    poor(&small, step % 17);
+    ticked(&small, 3);
+    ticked(&one, 40);
     free(table.at);
     free(taken_in.at);
     free(listed.bytes.at);
     free(delivered.bytes.at);
     nbt_station_free(one);
+    nbt_station_free(small);
     nbt_station_free(other);
     nbt_station_free(third);
 }
@@ -490,6 +534,7 @@ static void cut(const uint8_t *data, size_t size) {
 int LLVMFuzzerTestOneInput(const uint8_t *data, size_t size) {
     struct bytes all = room(size);
     size_t i, length = 0, step = size | 1;
+    few = size % 29;
     cut(data, size);
     for (i = 0; i < count; i++) {
         struct bytes it = copy(records[i].at, records[i].length);

@@ -101,5 +101,5 @@ $(TARGETS)/nbt.bc:
 
 # Make packages for people who haven't the kit, in DIST: for Debian, Python, Rust and JavaScript. GATE names a file with what make test
 # printed, whose last lines go into PROOF.
-dist: $(PROGRAM) targets
+dist: targets $(PROGRAM)
 	tools/dist "$$TARGETS" "$$LIBRARY" "$$PROGRAM" "$$DIST" $(GATE)

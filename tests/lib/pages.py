@@ -29,6 +29,7 @@ FILE = re.compile(r'(?<![\w./-])(?:[\w.-]+/)*[\w-]+\.(?:antt|rt|py|sh|md|mjs|mts
 FOLDER = re.compile(r'(?<![\w./*-])(?:crates|docs|tests|tools|bindings|examples|include|man|completions|nb_\w+|nbt)/[\w./-]*\w')
 # What pages name without its being a file here: words for names, and what a command makes.
 ELSEWHERE = {'CALL-what_the_wrong_body_does.edit', 'proofs/SUBJECTLemmas.antt', 'crates/first', 'out/nbt.mjs', 'big.pcap', 'serde_json'}
+WITH_NAMES = re.compile(r'\.(?:antt|rt|py|sh|c|h|rs|mjs|mts|txt|edit|1|ts|toml)$|/Makefile$|/tools/[\w-]+$|/archive$|/x86_64$')
 LAWS = ROOT / 'docs' / 'LAWS.md'
 LAWS_HEAD = '''# Laws of the definitions
 
@@ -53,11 +54,11 @@ def endings():
 @functools.lru_cache(None)
 def named():
     """Each name that stands in a source, a script or a header."""
-    found = set()
-    for path in tracked():
-        if re.search(r'\.(?:antt|rt|py|sh|c|h|rs|mjs|mts|txt|edit|1|ts|toml)$|/Makefile$|/tools/[\w-]+$|/archive$|/x86_64$', path) and (ROOT / path[1:]).is_file():
-            found |= set(re.findall(r'\w+', (ROOT / path[1:]).read_text(encoding='utf-8', errors='replace')))
-    return found | {it[1:] for it in endings() if '/' not in it[1:]}
+    found = {it[1:] for it in endings() if '/' not in it[1:]}
+    for path in (ROOT / it[1:] for it in tracked() if WITH_NAMES.search(it)):
+        if path.is_file():
+            found |= set(re.findall(r'\w+', path.read_text(encoding='utf-8', errors='replace')))
+    return found
 
 
 def pages():

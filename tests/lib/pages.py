@@ -17,7 +17,7 @@ import re
 import subprocess
 import sys
 
-from sources import CRATES, ROOT, functions, ghosts, heading, law_files, public, sources
+from sources import CRATES, ROOT, aliases, functions, ghosts, heading, law_files, public, sources
 
 LISTED = re.findall(r'^(\w+)\b[^:#\n]*:', (ROOT / 'crates.txt').read_text(encoding='utf-8'), re.MULTILINE)
 LIBRARIES = [it for it in LISTED if it != 'nbt' and not it.startswith('nb_examples')]
@@ -108,12 +108,14 @@ def called(name):
 
 def calls_of(crate, ticked):
     """The functions that the first cell of a row names: `Table::merge`, then `fits`, or `plain::is_spoilt`."""
+    stands_for = aliases(crate)
     types = {each for it in ticked for each in it.split('::') if each[:1].isupper()}
+    types |= {stands_for[it] for it in types if it in stands_for}
     for path in sources(crate):
         for it in functions(path) if path not in law_files(crate) else ():
-            owner = it.owner.removesuffix('Of')
             for before, _, last in (name.replace('==', 'eq').rpartition('::') for name in ticked):
-                if last == it.name and (owner == before if before in types else not owner or not before and owner in types):
+                is_own = it.owner in (before, stands_for.get(before))
+                if last == it.name and (is_own if before in types else not it.owner or not before and it.owner in types):
                     yield it
 
 

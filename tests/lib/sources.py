@@ -125,6 +125,13 @@ def ghosts(crate):
 
 
 @functools.lru_cache(None)
+def aliases(crate):
+    """The types that names of types stand for, by these names."""
+    text = '\n'.join(it.read_text(encoding='utf-8') for it in sources(crate))
+    return dict(re.findall(r'^pub(?:\(\w+\))? type (\w+)[^=;]*= (\w+)', text, re.MULTILINE))
+
+
+@functools.lru_cache(None)
 def handed_out(crate):
     """The names that a crate hands out, and the files of its public modules."""
     top = next(it for it in (CRATES / crate / 'src' / 'lib.rt', CRATES / crate / 'src' / 'main.rt') if it.exists())

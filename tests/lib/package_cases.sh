@@ -8,6 +8,7 @@ packed() { "$top/tools/dist" "$out" "$out/lib" "$program" "$1" "$here/counts.txt
 
 # The same bytes twice, the second time over those of an older version; PROOF has each source, and no other file.
 made() {
+    local each
     packed "$dist"
     count $? "tools/dist: $(tail -n 1 "$room/log")"
     mkdir "$room/dist2" && touch "$room/dist2/nbt_0.0.9_amd64.deb"
@@ -19,14 +20,23 @@ made() {
     count $? "the sources of PROOF: $(head -n 1 "$room/log")"
     sed -nE 's/^[0-9a-f]{64}  (crates\/.*\.(rt|antt))$/\1/p' "$dist/PROOF" | sort \
         | same "$(git -C "$top" ls-files 'crates/*.rt' 'crates/*.antt' | grep -v /must-fail/ | sort)" 'PROOF has each source'
-    grep -q '^The kit: rattle-kit' "$dist/PROOF" && grep -q '^The library: logic=proved ' "$dist/PROOF" && grep -qxF "$(tail -n 1 "$here/counts.txt")" "$dist/PROOF"
+    grep -q '^The kit: rattle-kit' "$dist/PROOF" && grep -q '^The library: logic=proved ' "$dist/PROOF" \
+        && grep -qxF "$(tail -n 1 "$here/counts.txt")" "$dist/PROOF"
     count $? "PROOF has the kit's line, that of the library, and the gate's last ones: $(head -n 4 "$dist/PROOF")"
     (cd "$out" && grep -E '  nbt.bc$' "$dist/PROOF" | sha256sum --quiet -c) >"$room/log" 2>&1
     count $? "the module of PROOF: $(head -n 1 "$room/log")"
+    {
+        for each in "$dist"/*.deb; do dpkg-deb --ctrl-tarfile "$each" | tar -t; done | grep -E '(pre|post)(inst|rm)'
+        grep scripts "$top/bindings/javascript/package.json"
+    } >"$room/log"
+    [ ! -s "$room/log" ]
+    count $? "no package runs anything when it is installed: $(head -n 1 "$room/log")"
     says 'make dist, to a file' "can't be written to" "$top/tools/dist" "$out" "$out/lib" "$program" "$here/counts.txt/dist"
     says 'make dist of nothing' 'run make build targets first' "$top/tools/dist" "$room/nowhere" "$out/lib" "$program" "$room/dist3"
+    says "make dist, where the gate's lines aren't" 'run make test >' "$top/tools/dist" "$out" "$out/lib" "$program" "$room/dist3" "$room/gate.log"
     mkdir "$room/others" && touch "$room/others/letter.txt"
-    says 'make dist, into a folder with other files' "letter.txt, which make dist didn't make" "$top/tools/dist" "$out" "$out/lib" "$program" "$room/others"
+    says 'make dist, into a folder with other files' "letter.txt, which make dist didn't make" \
+        "$top/tools/dist" "$out" "$out/lib" "$program" "$room/others"
     [ -f "$room/others/letter.txt" ]
     count $? 'which are left there'
 }
@@ -40,10 +50,12 @@ lint() {
 
 # A root that has what each Debian system has, which may take packages of both machines, and the packages in it.
 installed() {
-    local mirror suite
-    read -r mirror suite < <(apt-get indextargets --format '$(REPO_URI) $(CODENAME)' 'Created-By: Packages' 'Origin: Debian')
-    "$timeout" -k 5 600 mmdebstrap --quiet --mode=root --variant=apt --architectures=amd64,arm64 --skip=cleanup/apt/lists "$suite" "$fresh" "$mirror" >"$room/log" 2>&1
-    count $? "a fresh root of $suite: $(tail -n 1 "$room/log")"
+    local mirror='' suite=''
+    # As this machine has it: the place of Debian's packages, and the release.
+    apt-get indextargets --format '$(REPO_URI) $(CODENAME)' 'Created-By: Packages' 'Label: Debian' 2>"$room/log" | grep -v -- - | read -r mirror suite
+    "$timeout" -k 5 600 mmdebstrap --quiet --mode=root --variant=apt --architectures=amd64,arm64 --skip=cleanup/apt/lists \
+        --aptopt='Acquire::Retries "3"' "${suite:-stable}" "$fresh" "${mirror:-http://deb.debian.org/debian}" >"$room/log" 2>&1
+    count $? "a fresh root: $(tail -n 1 "$room/log")"
     mkdir "$fresh/packages" && cp "$dist"/*.deb "$fresh/packages" && cp /etc/resolv.conf "$fresh/etc"
     in_root apt-get install -qq -y --no-install-recommends ./nbt_*_amd64.deb
     count $? "apt-get install ./nbt_..deb: $(tail -n 1 "$room/log")"
@@ -58,43 +70,51 @@ in_root() {
     "$timeout" -k 5 300 env DEBIAN_FRONTEND=noninteractive LC_ALL=C chroot "$fresh" sh -c "cd /packages && $*" >"$room/log" 2>&1
 }
 
+# in_c COMPILER PROGRAM OPTION..: the first program of docs/CALLING.md, compiled so. c_says COMMAND..: what it prints, by this command.
+in_c() {
+    block c "$top/docs/CALLING.md" >"$room/first.c"
+    "$1" -std=c11 -Wall -Wextra -Werror -o "$2" "$room/first.c" "${@:3}" >"$room/log" 2>&1
+    count $? "the program of docs/CALLING.md by $1: $(head -n 1 "$room/log")"
+}
+c_says() { ended "${@:2}" 2>&1 | same "$(block text "$top/docs/CALLING.md")" "$1"; }
+
 # Each package's example, in the fresh root: the samples of README.md by its program, and the first programs of docs/CALLING.md.
 debian() {
-    local page=$top/docs/CALLING.md each
+    local each
     installed
     mkdir "$room/bin"
     printf '#!/bin/sh\nexec chroot "%s" nbt "$@"\n' "$fresh" >"$room/bin/nbt" && chmod +x "$room/bin/nbt"
     ln -s "$fresh/usr/bin/nbt-pcap2cap" "$room/bin/nbt-pcap2cap"
     page README.md
-    block c "$page" >"$room/first.c"
-    ${CC:-cc} "${strict[@]}" -I"$fresh/usr/include" -L"$fresh/usr/lib/x86_64-linux-gnu" -o "$fresh/packages/first" "$room/first.c" -lnbt >"$room/log" 2>&1
-    ended chroot "$fresh" /packages/first 2>&1 | same "$(block text "$page")" 'libnbt-dev and libnbt0 of amd64'
-    aarch64-linux-gnu-gcc "${strict[@]}" -I"$fresh/usr/include" -L"$fresh/usr/lib/aarch64-linux-gnu" -o "$room/first.arm" "$room/first.c" -lnbt >"$room/log" 2>&1
-    ended qemu-aarch64 -L "$fresh" "$room/first.arm" 2>&1 | same "$(block text "$page")" 'libnbt-dev and libnbt0 of arm64'
+    in_c "${CC:-cc}" "$fresh/packages/first" -I"$fresh/usr/include" -L"$fresh/usr/lib/x86_64-linux-gnu" -lnbt
+    c_says 'libnbt-dev and libnbt0 of amd64' chroot "$fresh" /packages/first
+    in_c aarch64-linux-gnu-gcc "$room/first.arm" -I"$fresh/usr/include" -L"$fresh/usr/lib/aarch64-linux-gnu" -lnbt
+    c_says 'libnbt-dev and libnbt0 of arm64' qemu-aarch64 -L "$fresh" "$room/first.arm"
     each=$fresh/usr/share/doc/python3-nbt/README.md
     block python "$each" >"$fresh/packages/first.py"
     ended chroot "$fresh" python3 /packages/first.py 2>&1 | same "$(block text "$each")" 'python3-nbt'
     for each in amd64:x86_64-linux-gnu arm64:aarch64-linux-gnu; do
-        sha256sum <"$fresh/usr/lib/${each#*:}/libnbt.so.0" | cut -c 1-64 | same "$(sed -nE "s/^(.{64})  libnbt.so.0 of ${each%:*}\$/\1/p" "$dist/PROOF")" \
-            "the library for ${each%:*} that PROOF has"
+        grep -qx "$(sha256sum <"$fresh/usr/lib/${each#*:}/libnbt.so.0" | cut -c 1-64)  libnbt.so.0 of ${each%:*}" "$dist/PROOF"
+        count $? "PROOF has the library for ${each%:*}"
     done
 }
 
 # A wheel in an environment of its own, and the other machine's by pip's word for that machine.
 wheels() {
-    local page each glibc
-    ended python3 -m venv "$room/venv" >"$room/log" 2>&1 && ended "$room/venv/bin/pip" install -q --no-index "$dist"/*x86_64.whl >"$room/log" 2>&1
+    local page each glibc alone=(env -u PYTHONPATH -u NBT_LIBRARY -u LD_LIBRARY_PATH)
+    ended python3 -m venv "$room/venv" >"$room/log" 2>&1 \
+        && ended "$room/venv/bin/pip" install -q --no-index "$dist"/*x86_64.whl >"$room/log" 2>&1
     count $? "pip install of the wheel: $(tail -n 1 "$room/log")"
     page=$(echo "$room"/venv/lib/python3*/site-packages/nbt-*.dist-info/METADATA)
     block python "$page" >"$room/first.py"
-    (cd "$room" && ended env -u PYTHONPATH -u NBT_LIBRARY -u LD_LIBRARY_PATH "$room/venv/bin/python" first.py) 2>&1 | same "$(block text "$page")" 'the wheel'
+    (cd "$room" && ended "${alone[@]}" "$room/venv/bin/python" first.py) 2>&1 | same "$(block text "$page")" 'the wheel'
     ended "$room/venv/bin/pip" uninstall -q -y nbt >"$room/log" 2>&1 && [ ! -e "${page%/*}" ] && [ ! -e "${page%/*/*}/nbt" ]
     count $? "pip uninstall: $(tail -n 1 "$room/log")"
-    ended python3 -m pip install -q --no-index --only-binary :all: --platform manylinux_2_17_aarch64 --target "$room/wheel" "$dist"/*aarch64.whl >"$room/log" 2>&1
+    ended "$room/venv/bin/pip" install -q --no-index --only-binary :all: --platform manylinux_2_17_aarch64 --target "$room/wheel" \
+        "$dist"/*aarch64.whl >"$room/log" 2>&1
     count $? "pip install of the wheel for aarch64: $(tail -n 1 "$room/log")"
-    block c "$top/docs/CALLING.md" >"$room/first.c"
-    aarch64-linux-gnu-gcc "${strict[@]}" -o "$room/first.arm" "$room/first.c" "$room/wheel/nbt/libnbt.so.0" >"$room/log" 2>&1
-    ended "${qemu[@]}" -E LD_LIBRARY_PATH="$room/wheel/nbt" "$room/first.arm" 2>&1 | same "$(block text "$top/docs/CALLING.md")" 'the library in it'
+    in_c aarch64-linux-gnu-gcc "$room/first.arm" "-I$top/include" "$room/wheel/nbt/libnbt.so.0"
+    c_says 'the library in it' "${qemu[@]}" -E LD_LIBRARY_PATH="$room/wheel/nbt" "$room/first.arm"
     for each in x86_64 aarch64; do
         glibc=$(aarch64-linux-gnu-readelf -VW "$out/lib/${each/x86_64/}/libnbt.so.0" | grep -oE 'GLIBC_[0-9.]+' | sort -uV | tail -n 1)
         glibc=${glibc#GLIBC_}
@@ -123,7 +143,8 @@ crate() {
     (cd "$folder" && ended cargo new --quiet --vcs none first && cd first && ended cargo add --quiet --offline --path ../nbt) >"$room/log" 2>&1
     count $? "cargo add: $(tail -n 1 "$room/log")"
     block rust "$folder/nbt/README.md" >"$folder/first/src/main.rs"
-    (cd "$folder/first" && PKG_CONFIG=/bin/false ended cargo run --quiet --offline) 2>&1 | same "$(block text "$folder/nbt/README.md")" 'the crate for Rust'
+    (cd "$folder/first" && PKG_CONFIG=/bin/false ended cargo run --quiet --offline) 2>&1 \
+        | same "$(block text "$folder/nbt/README.md")" 'the crate for Rust'
 }
 
 # All of these, as parts.

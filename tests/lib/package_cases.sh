@@ -53,7 +53,9 @@ installed() {
     local mirror='' suite=''
     # As this machine has it: the place of Debian's packages, and the release.
     apt-get indextargets --format '$(REPO_URI) $(CODENAME)' 'Created-By: Packages' 'Label: Debian' 2>"$room/log" | grep -v -- - | read -r mirror suite
-    "$timeout" -k 5 600 mmdebstrap --quiet --mode=root --variant=apt --architectures=amd64,arm64 --skip=cleanup/apt/lists \
+    # What mmdebstrap mounts there, as /proc, nobody else sees: a script that is stopped meanwhile empties $room of files alone.
+    "$timeout" -k 5 600 unshare --mount --propagation private \
+        mmdebstrap --quiet --mode=root --variant=apt --architectures=amd64,arm64 --skip=cleanup/apt/lists \
         --aptopt='Acquire::Retries "3"' "${suite:-stable}" "$fresh" "${mirror:-http://deb.debian.org/debian}" >"$room/log" 2>&1
     count $? "a fresh root: $(tail -n 1 "$room/log")"
     mkdir "$fresh/packages" && cp "$dist"/*.deb "$fresh/packages" && cp /etc/resolv.conf "$fresh/etc"
@@ -156,12 +158,12 @@ packages() {
     fi
     part dist made
     if command -v lintian >/dev/null; then part lintian lint; else lacks lintian lintian; fi
-    if [ "$(id -u)" -ne 0 ]; then
-        skip debian 'root alone can make a root'
-    elif command -v mmdebstrap >/dev/null; then
+    if ! command -v mmdebstrap >/dev/null; then
+        lacks debian mmdebstrap
+    elif [ "$(id -u)" -eq 0 ] && unshare --mount true 2>/dev/null; then
         part debian debian
     else
-        lacks debian mmdebstrap
+        skip debian 'a root can be made by root alone, where it may mount'
     fi
     if python3 -c 'import ensurepip' 2>/dev/null; then part wheels wheels; else lacks wheels python3-venv; fi
     part npm node_package

@@ -211,6 +211,7 @@ missing() {
     python=$(python3 -c 'import sys; print(sys.executable)')
     mkdir "$few"
     for tool in awk basename dirname grep mktemp mkdir realpath rm rt sort tail timeout; do ln -s "$(command -v $tool)" "$few/$tool"; done
+    ln -s "$python" "$few/python3"
     says 'no cross compiler' 'install gcc-aarch64-linux-gnu' env PATH="$few" "$BASH" "$top/tools/targets" check "$room/out2"
     ln -s /bin/true "$few/llvm-symbolizer"
     says 'no clang with libFuzzer' 'no clang has libFuzzer: install ' env -u FUZZ_CLANG PATH="$few" "$python" "$here/fuzz_coverage.py" --module "$out/nbt.bc"

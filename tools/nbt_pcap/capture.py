@@ -34,7 +34,8 @@ class Output:
 class Capture:
     """The lines, with their ticks."""
 
-    def __init__(self, output):
+    def __init__(self, output, bare):
+        self.bare = bare             # whether payloads come without a comment on their frame
         self.line = output.lines.append
         self.next_second = 1_000     # the moment of the next tick
         self.latest = 0              # the latest moment of a payload

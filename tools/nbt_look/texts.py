@@ -1,0 +1,48 @@
+"""The packets of a capture that is text, with the frames that its comments name."""
+import calendar
+import re
+import sys
+
+from nbt_pcap import lines
+
+from .items import Frame, Packet
+
+PART = 1_000
+TIME = re.compile(r'([0-9]{4})-([0-9]{2})-([0-9]{2})T([0-9]{2}):([0-9]{2}):([0-9]{2})\.([0-9]{6})Z')
+
+
+def batches_of(path):
+    """The packets of a file, some at a time. Those before a malformed line come before its refusal."""
+    title = 'standard input' if path == '-' else path
+    with (sys.stdin.buffer if path == '-' else open(path, 'rb')) as file:
+        items = []
+        try:
+            for each in lines.payloads_of(lines.lines_of(file, title)):
+                items.append(packet_of(*each))
+                if len(items) == PART:
+                    yield items
+                    items = []
+        except lines.Refused:
+            yield items
+            raise
+        yield items
+
+
+def packet_of(number, service, moment, digits, comment):
+    """A packet; without a comment on its frame that is the number of its line, and its moment counts from 1970."""
+    size = len(digits) // 2
+    if comment is None:
+        return Packet(Frame(number, moment * 10**6, size=size, captured=size), service, moment, digits, '', '', '', '', None)
+    number, time, *ends = comment.groups()
+    source, source_port, target, target_port = (each.strip('[]') for each in ends)
+    frame = Frame(int(number), nanoseconds(time), source, source_port, target, target_port, size=size, captured=size)
+    return Packet(frame, service, moment, digits, source, source_port, target, target_port, None)
+
+
+def nanoseconds(text):
+    """A time in UTC, since 1970; None where it is none."""
+    match = TIME.fullmatch(text)
+    if not match:
+        return None
+    *parts, rest = map(int, match.groups())
+    return calendar.timegm((*parts, 0, 0, 0)) * 10**9 + rest * 1000

@@ -1,8 +1,6 @@
 """Fragments of IP whose others haven't come: which of them are of these ports."""
 import collections
 
-from nbt_pcap.report import CUT
-
 MISSING = 'fragments of IP whose others are missing'
 UNKNOWN = 'fragments of IP whose first one, with the ports, is missing'
 UDP, TCP = '17', '6'
@@ -34,14 +32,14 @@ class Unfinished:
         if ours is False:
             marks.clear()
         else:
-            marks.append((self.report.mark, bool(row.short)))
+            marks.append((self.report.mark, self.report.cut if row.short else None))
         self.waiting[key] = marks, ours
         if len(self.waiting) > MOST_WAITING:
             self.tell(*self.waiting.popitem(last=False)[1])
 
     def tell(self, marks, ours):
-        for mark, short in marks:
-            self.report.count(mark, CUT if short else MISSING if ours else UNKNOWN)
+        for mark, cut in marks:
+            self.report.count(mark, cut or (MISSING if ours else UNKNOWN))
 
     def finish(self):
         for marks, ours in self.waiting.values():

@@ -6,9 +6,10 @@ from nbt_pcap.rows import values_of
 from .fragments import Unfinished
 from .items import Frame, LeftOut, Packet
 from .others import STATISTIC, Others
+from .screen import safe
 
 # What a row has besides the fields that packets are made of.
-FIELDS = ('frame.len', 'frame.cap_len', 'frame.interface_name', 'frame.interface_id', 'vlan.id', 'eth.src', 'eth.dst', 'ip.id', 'ip.proto',
+FIELDS = ('frame.interface_name', 'frame.interface_id', 'vlan.id', 'eth.src', 'eth.dst', 'ip.id', 'ip.proto',
           'ip.frag_offset', 'ipv6.fraghdr.ident', 'ipv6.fraghdr.nxt', 'ipv6.fraghdr.offset', 'data.data')
 STATISTICS = (STATISTIC,)
 
@@ -54,18 +55,18 @@ class Frames(Reader):
     def frame(self, row, shape):
         self.report.mark = self.mark(row)
         if shape.is_fragment or row.fragments or row.fragments6:
-            self.unfinished.take(row, self.more[7:], shape.is_fragment)
+            self.unfinished.take(row, self.more[5:], shape.is_fragment)
         super().frame(row, shape)
 
     def mark(self, row):
         """The frame of a row."""
-        size, captured, name, number, vlans, source, target = self.more[:7]
+        name, number, vlans, source, target = self.more[:5]
         v4 = bool(row.source)
         tcp = bool(row.tcp_source)
         return Frame(int(row.number), self.clock.at if self.clock.first is not None else None,
                      last(row.source if v4 else row.source6), last(row.tcp_source if tcp else row.udp_source),
                      last(row.target if v4 else row.target6), last(row.tcp_target if tcp else row.udp_target),
-                     name or number, vlans, last(source), last(target), int(size or 0), int(captured or 0))
+                     safe(name or number), vlans, last(source), last(target), int(row.size), int(row.captured))
 
     def payload(self, row, service, digits, packet):
         host = packet.host

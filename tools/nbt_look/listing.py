@@ -1,10 +1,9 @@
 """A line for each packet, in columns."""
-from .kinds import kinds_of
 from .said import said
 
 # The least widths of the columns before the phrase, which grow with what stands in them.
 WIDTHS = (5, 9, 15, 15)
-ALARMS = ('refused', 'conflict')
+SERVICES = ('137', '138', '139')
 
 
 class Listing:
@@ -18,14 +17,13 @@ class Listing:
         self.interface = None
 
     def packet(self, item, shown, _text):
-        own = {'137': '137', '138': '138'}.get(str(item.service), '139')
-        style = next((each for each in ALARMS if each in kinds_of(shown)), None)
-        self.row(item.frame, ends(item, own), said(shown, len(item.digits) // 2), style)
+        style = 'refused' if 'refused' in shown else 'conflict' if shown.get('rcode') == 'CFT_ERR' else None
+        self.row(item.frame, ends(item, (str(item.service),)), said(shown, len(item.digits) // 2), style)
 
     def left_out(self, item):
         frame = item.frame
         sizes = ', %d of %d bytes' % (frame.captured, frame.size) if frame.captured < frame.size else ''
-        self.row(frame, ends(frame, None), 'left out: ' + item.reason + sizes, 'left out')
+        self.row(frame, ends(frame, SERVICES), 'left out: ' + item.reason + sizes, 'left out')
 
     def finish(self, tally, left_out):
         """All is listed."""
@@ -52,6 +50,6 @@ def ends(of, own):
 def place(address, port, own):
     if not address:
         return '-'
-    if not port or port == own:
+    if not port or port in own:
         return address
     return '[%s]:%s' % (address, port) if ':' in address else '%s:%s' % (address, port)

@@ -1,5 +1,7 @@
 """One pass over a capture: from packets to what is printed of them."""
+import collections
 import json
+import os
 
 from nbt_pcap import arguments as pcap_arguments
 from nbt_pcap import tshark
@@ -23,23 +25,26 @@ from .times import Times
 from .whole import Whole
 
 
-def at_text(options):
+def at_text(options, pipe):
     """Shows a capture that is text; answers the exit status."""
     look = Look(options)
     try:
-        for items in batches_of(options.file):
+        for items in batches_of(options.file, pipe):
             look.put(items)
     finally:
-        look.finish({})
+        look.finish(collections.Counter())
     look.end([])
     return look.sink.status
 
 
-def at_frames(options, settings, errors):
+def at_frames(options, settings, errors, pipe):
     """Shows what tshark reads; answers how tshark ended, and the exit status where that was well."""
     look = Look(options)
     frames = Frames(options, look.times)
-    child = tshark.start(options, settings, errors, FIELDS, STATISTICS)
+    child = tshark.start(options, settings, errors, FIELDS, STATISTICS, pipe is not None)
+    if pipe:
+        pipe.go_on_to(os.dup(child.stdin.fileno()))
+        child.stdin.close()
     progress = Progress(options, child)
     progress.wanted |= look.is_silent and not options.quiet
     stopping = tshark.Stopping(child, tshark.ENDING if options.live else ())
@@ -64,6 +69,7 @@ def at_frames(options, settings, errors):
     if status == 0 and not options.live and not frames.report.frames:
         raise Stopped(2, pcap_arguments.title_of(options.file) + ': the file holds no packets: it has no frame')
     if frames.report.frames:
+        look.tally.frames = frames.report.frames
         look.end(frames.notes())
     return status, look.sink.status
 
@@ -105,11 +111,11 @@ class Look:
             shown = json.loads(text) if self.reads_objects else None
         if self.filter.wants(item, shown):
             self.tally.shown += 1
-            self.ordering.put(item, (shown, text))
+            self.ordering.put(item, shown, text)
 
-    def show(self, item, told):
+    def show(self, item, shown, text):
         if isinstance(item, Packet):
-            self.sink.packet(item, *told)
+            self.sink.packet(item, shown, text)
         else:
             self.sink.left_out(item)
 

@@ -24,7 +24,7 @@ class Claim:
 
     def __init__(self, group, how, since):
         self.group, self.how, self.since = group, how, since
-        self.until, self.ended = None, False
+        self.until = None
 
 
 class Names:
@@ -51,7 +51,7 @@ class Names:
             for each in entries(shown):
                 claim = self.claims.entries.get((name, each['address']))
                 if claim:
-                    claim.until, claim.ended = item.frame.at, True
+                    claim.until, claim.how = item.frame.at, 'released'
 
     def answered(self, item, shown, name):
         if shown['rcode'] == 'ok':
@@ -71,9 +71,9 @@ class Names:
                 claim = self.claims.get((record['name'], each['address']), lambda group=group: Claim(group, how, at))
                 if claim is None:
                     continue
-                if how == 'claims':
+                if how == 'claims' or claim.how == 'released':
                     claim.how = how
-                claim.group, claim.ended = group, False
+                claim.group = group
                 claim.until = at + record['ttl'] * SECOND if record['ttl'] and at is not None else None
 
     def contested(self, item, shown, name):
@@ -91,7 +91,7 @@ class Names:
     def is_claimed(self, name, own):
         """Whether the claim of another address stands."""
         addresses = {each['address'] for each in own}
-        return any(key[0] == name and key[1] not in addresses and not claim.ended for key, claim in self.claims.entries.items())
+        return any(key[0] == name and key[1] not in addresses and claim.how != 'released' for key, claim in self.claims.entries.items())
 
     def rows(self, time):
         found = []

@@ -1,8 +1,8 @@
 """Rows by the number of their frames: what is known of a frame only later still comes to its place."""
 import heapq
 
-# How many rows are kept back. What is known later than that of a frame comes late.
-WINDOW = 4_096
+# How many rows are kept back, and how many bytes of their texts. What is known later than that of a frame comes late.
+WINDOW, MOST_BYTES = 4_096, 4_194_304
 
 
 class Ordering:
@@ -10,17 +10,20 @@ class Ordering:
 
     def __init__(self, take, window):
         self.take, self.window = take, window
-        self.heap, self.count = [], 0
+        self.heap, self.count, self.size = [], 0, 0
 
-    def put(self, item, text):
+    def put(self, item, shown, text):
+        """Takes an item, with its object of JSON and the text of that, where it has one."""
         self.count += 1
-        heapq.heappush(self.heap, (item.frame.number, self.count, item, text))
-        if len(self.heap) > self.window:
+        self.size += len(text or '')
+        heapq.heappush(self.heap, (item.frame.number, self.count, item, shown, text))
+        while len(self.heap) > self.window or self.size > MOST_BYTES:
             self.pop()
 
     def pop(self):
-        _, _, item, text = heapq.heappop(self.heap)
-        self.take(item, text)
+        _, _, item, shown, text = heapq.heappop(self.heap)
+        self.size -= len(text or '')
+        self.take(item, shown, text)
 
     def finish(self):
         while self.heap:

@@ -1,6 +1,5 @@
 """What is printed: lines, tables, and colours where python3-rich is there to make them."""
 import os
-import re
 
 from nbt_pcap.process import write_all
 
@@ -11,13 +10,12 @@ except ImportError:
     Style = None
 
 STYLES = {'refused': 'red', 'left out': 'yellow', 'conflict': 'magenta', 'head': 'bold', 'mark': 'reverse'}
-UNSAFE = re.compile('[^\x20-\x7e\xa1-\U0010ffff]')
 LEAST_WIDTH = 20
 
 
 def safe(text):
     """A text of which nothing acts on a terminal: a byte or character that might is an escape."""
-    return UNSAFE.sub(lambda match: escaped(ord(match[0])), text) if not text.isascii() or not text.isprintable() else text
+    return text if text.isprintable() else ''.join(each if each.isprintable() else escaped(ord(each)) for each in text)
 
 
 def escaped(number):

@@ -7,11 +7,13 @@ class Tally:
 
     def __init__(self):
         self.packets = self.refused = self.shown = 0
+        self.frames = None           # of a capture that has frames
 
     def take(self, text):
         self.packets += 1
         self.refused += b'"refused":' in text
 
     def text(self, left_out, is_all):
-        shown = '' if is_all else ', %d shown' % self.shown
-        return '%d packets%s, %d refused, %s' % (self.packets, shown, self.refused, left_out_text(left_out))
+        frames = '' if self.frames is None else '%d frames, ' % self.frames
+        shown = '' if is_all else '; %d shown' % self.shown
+        return '%s%d packets, %d refused, %s%s' % (frames, self.packets, self.refused, left_out_text(left_out), shown)

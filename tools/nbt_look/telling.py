@@ -5,6 +5,7 @@ import select
 import subprocess
 
 from nbt_pcap.process import Stopped
+from nbt_pcap.tshark import end_with_us
 
 from .items import Packet
 
@@ -19,7 +20,8 @@ class Telling:
 
     def __init__(self, program, take):
         self.child = subprocess.Popen([program, 'show', '--json', '--input-limit', NO_LIMIT], stdin=subprocess.PIPE,
-                                      stdout=subprocess.PIPE, stderr=subprocess.PIPE)
+                                      stdout=subprocess.PIPE, stderr=subprocess.PIPE, preexec_fn=end_with_us,
+                                      start_new_session=True)
         self.to, self.back = self.child.stdin.fileno(), self.child.stdout.fileno()
         for each in (self.to, self.back):
             os.set_blocking(each, False)

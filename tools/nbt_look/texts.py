@@ -1,9 +1,12 @@
 """The packets of a capture that is text, with the frames that its comments name."""
 import calendar
+import io
 import re
 import sys
 
 from nbt_pcap import lines
+from nbt_pcap.arguments import title_of
+from nbt_pcap.process import Stopped
 
 from .items import Frame, Packet
 
@@ -11,10 +14,10 @@ PART = 1_000
 TIME = re.compile(r'([0-9]{4})-([0-9]{2})-([0-9]{2})T([0-9]{2}):([0-9]{2}):([0-9]{2})\.([0-9]{6})Z')
 
 
-def batches_of(path):
+def batches_of(path, pipe):
     """The packets of a file, some at a time. Those before a malformed line come before its refusal."""
-    title = 'standard input' if path == '-' else path
-    with (sys.stdin.buffer if path == '-' else open(path, 'rb')) as file:
+    title = title_of(path)
+    with io.BufferedReader(pipe) if pipe else sys.stdin.buffer if path == '-' else open(path, 'rb') as file:
         items = []
         try:
             for each in lines.payloads_of(lines.lines_of(file, title)):
@@ -22,9 +25,9 @@ def batches_of(path):
                 if len(items) == PART:
                     yield items
                     items = []
-        except lines.Refused:
+        except lines.Refused as refused:
             yield items
-            raise
+            raise Stopped(1, '%s: %s is none of a capture' % (title, refused)) from refused
         yield items
 
 

@@ -21,7 +21,7 @@ class Whole:
     def packet(self, item, shown, _text):
         if item.frame.number != self.number:
             return
-        self.head(item.frame, ends(item, None))
+        self.head(item.frame, ends(item, ()))
         self.screen.line(said(shown, len(item.digits) // 2), 'refused' if 'refused' in shown else None)
         self.screen.line('')
         for line in self.asked(['show'], '%d %d %s\n' % (item.service, item.moment, item.digits or 'empty')):
@@ -38,7 +38,7 @@ class Whole:
 
     def left_out(self, item):
         if item.frame.number == self.number:
-            self.head(item.frame, ends(item.frame, None))
+            self.head(item.frame, ends(item.frame, ()))
             self.screen.line('left out: ' + item.reason, 'left out')
             self.screen.line('Wireshark: frame.number == %d' % self.number)
 

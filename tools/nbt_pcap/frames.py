@@ -36,7 +36,7 @@ class Reader:
         self.clock.read(row.time)
         if self.report.frames == 0:
             self.begin(row)
-        self.report.begin(row.number)
+        self.report.begin(row)
         shape = shape_of(row.protocols)
         if shape.is_fragment:
             self.fragments.keep(row, self.clock.at)
@@ -74,20 +74,20 @@ class Reader:
         if isinstance(packet, Segment):
             self.segment(row, packet)
         elif not packet.target:
-            self.report.leave_out(CUT, 'the file ends before its ports')
+            self.report.leave_out(self.report.cut, 'the file ends before its ports')
         else:
             self.datagram(row, packet)
 
     def datagram(self, row, packet):
         length, digits = packet.length, packet.payload
         if not length:
-            self.report.leave_out(CUT, 'the file ends inside its UDP header')
+            self.report.leave_out(self.report.cut, 'the file ends inside its UDP header')
             return
         if ':' in digits:
             digits = digits.replace(':', '')
         size = 2 * (int(length) - UDP_HEADER)
         if not 0 <= size <= len(digits):
-            reason = CUT if size > len(digits) and (packet.host.size or int(length)) >= int(length) else BAD_LENGTH
+            reason = CUT if size > len(digits) and self.report.cut is CUT else BAD_LENGTH
             self.report.leave_out(reason, 'its UDP length is %s, and the file has %d bytes of its payload' % (length, len(digits) // 2))
             return
         self.payload(row, self.services.get(packet.source) or self.services[packet.target], digits[:size], packet)
@@ -97,7 +97,7 @@ class Reader:
             for whole in self.sessions.segment(packet):
                 self.payload(row, 139, whole.hex(), packet)
         elif packet.host.size is None or packet.host.size > TCP_HEADER:
-            self.report.leave_out(CUT, 'the file ends ' + ('inside its TCP header' if packet.target else 'before its ports'))
+            self.report.leave_out(self.report.cut, 'the file ends ' + ('inside its TCP header' if packet.target else 'before its ports'))
 
     def payload(self, row, service, digits, packet):
         comment = None if self.capture.bare else '# frame %s %s %s:%s > %s:%s' % (

@@ -3,6 +3,7 @@ import collections
 
 # Why bytes of a frame are in no line.
 CUT = 'cut by the snap length'
+SHORT = 'shorter than its headers say'
 BAD_LENGTH = 'a length that the packet lacks'
 UNPAIRED = 'headers that do not pair'
 STOPPED = 'where tshark stopped'
@@ -31,11 +32,14 @@ class Report:
         self.comment = comment
         self.number = '0'            # the latest frame
         self.mark = Mark()           # its mark
+        self.cut = CUT               # why bytes are missing at its end
         self.frames = self.ours = 0
         self.left_out = collections.Counter()
 
-    def begin(self, number):
-        self.number = number
+    def begin(self, row):
+        """Takes the next frame."""
+        self.number = number = row.number
+        self.cut = CUT if row.captured != row.size else SHORT
         self.mark = Mark()
         self.frames = max(self.frames + 1, int(number))
 

@@ -2,7 +2,7 @@
 import collections
 
 from .direction import ALL, MOST_RECENT, Direction, Recent
-from .report import CUT, DIFFERING, NO_START, RESET
+from .report import DIFFERING, NO_START, RESET
 from .session import HEADER
 
 FIN, SYN, RST = 0x01, 0x02, 0x04
@@ -34,7 +34,7 @@ class Sessions:
             self.end((packet.stream, packet.host.target, packet.target))
             return
         if size > len(data):
-            self.report.note(CUT, 'frame %s: the file has %d of the %d bytes of its segment' % (self.report.number, len(data), size))
+            self.report.note(self.report.cut, 'frame %s: the file has %d of the %d bytes of its segment' % (self.report.number, len(data), size))
         direction = self.direction(key, flags, sequence, data)
         if direction:
             before = direction.size()

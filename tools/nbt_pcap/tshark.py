@@ -59,10 +59,10 @@ def wanted(udp, tcp):
             % (ports, HEADER_CUT, AGGREGATE, FRAGMENT, AGGREGATE))
 
 
-def start(options, settings, errors, fields=(), statistics=()):
+def start(options, settings, errors, fields=(), statistics=(), piped=False):
     """Starts it over a folder of settings, so that the user's own, and the user's plugins, aren't read. A row has these fields
-    after the ones that packets are made of, and these statistics come at the end."""
-    return subprocess.Popen(command_of(options, fields, statistics), stdin=None if options.file == '-' else subprocess.DEVNULL,
+    after the ones that packets are made of, and these statistics come at the end. With `piped` the file comes by a pipe of ours."""
+    return subprocess.Popen(command_of(options, fields, statistics), stdin=subprocess.PIPE if piped else None if options.file == '-' else subprocess.DEVNULL,
                             stdout=subprocess.PIPE, stderr=errors, preexec_fn=end_with_us, start_new_session=True,
                             env=environment(settings))
 
@@ -139,7 +139,7 @@ def rows_of(pipe, pause):
         if not data:
             return
         *rows, rest = (rest + data).split(b'\n')
-        yield b'\n'.join(rows).decode().split('\n')
+        yield b'\n'.join(rows).decode(errors='surrogateescape').split('\n')
 
 
 def reasons(errors):

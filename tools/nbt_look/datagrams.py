@@ -2,6 +2,7 @@
 import json
 import subprocess
 
+from nbt_pcap.capture import NO_LIMIT
 from nbt_pcap.process import Stopped
 
 from .kinds import FRAGMENTS
@@ -51,7 +52,7 @@ class Datagrams:
         held = {key: self.waiting.pop(key) for key in keys}
         lines = [line for each in held.values() for line in each[3]]
         self.size -= sum(map(len, lines))
-        table = self.asked(['save', '--keys', KEYS, '--input-limit', '18446744073709551615'], ''.join(lines).encode())
+        table = self.asked(['save', '--keys', KEYS, '--input-limit', str(NO_LIMIT)], ''.join(lines).encode())
         for line in self.asked(['list', '--json', '--keys', KEYS], table).splitlines():
             listed = json.loads(line)
             _, frame, names, _ = held[listed['key']]

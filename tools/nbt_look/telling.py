@@ -4,6 +4,7 @@ import os
 import select
 import subprocess
 
+from nbt_pcap.capture import NO_LIMIT
 from nbt_pcap.process import Stopped
 from nbt_pcap.tshark import end_with_us
 
@@ -12,14 +13,13 @@ from .items import Packet
 # How many bytes wait for the child before no more packets are read.
 MOST_WAITING = 1_048_576
 PART = 262_144
-NO_LIMIT = '18446744073709551615'
 
 
 class Telling:
     """Items on their way through the child. `take` is given them in order, with the object of JSON of each that is a packet."""
 
     def __init__(self, program, take):
-        self.child = subprocess.Popen([program, 'show', '--json', '--input-limit', NO_LIMIT], stdin=subprocess.PIPE,
+        self.child = subprocess.Popen([program, 'show', '--json', '--input-limit', str(NO_LIMIT)], stdin=subprocess.PIPE,
                                       stdout=subprocess.PIPE, stderr=subprocess.PIPE, preexec_fn=end_with_us,
                                       start_new_session=True)
         self.to, self.back = self.child.stdin.fileno(), self.child.stdout.fileno()

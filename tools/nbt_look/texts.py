@@ -1,7 +1,5 @@
 """The packets of a capture that is text, with the frames that its comments name."""
-import calendar
 import io
-import re
 import sys
 
 from nbt_pcap import lines
@@ -11,7 +9,6 @@ from nbt_pcap.process import Stopped
 from .items import Frame, Packet
 
 PART = 1_000
-TIME = re.compile(r'([0-9]{4})-([0-9]{2})-([0-9]{2})T([0-9]{2}):([0-9]{2}):([0-9]{2})\.([0-9]{6})Z')
 
 
 def batches_of(path, pipe):
@@ -36,16 +33,6 @@ def packet_of(number, service, moment, digits, comment):
     size = len(digits) // 2
     if comment is None:
         return Packet(Frame(number, moment * 10**6, size=size, captured=size), service, moment, digits, '', '', '', '', None)
-    number, time, *ends = comment.groups()
-    source, source_port, target, target_port = (each.strip('[]') for each in ends)
-    frame = Frame(int(number), nanoseconds(time), source, source_port, target, target_port, size=size, captured=size)
-    return Packet(frame, service, moment, digits, source, source_port, target, target_port, None)
-
-
-def nanoseconds(text):
-    """A time in UTC, since 1970; None where it is none."""
-    match = TIME.fullmatch(text)
-    if not match:
-        return None
-    *parts, rest = map(int, match.groups())
-    return calendar.timegm((*parts, 0, 0, 0)) * 10**9 + rest * 1000
+    at = comment.microseconds()
+    frame = Frame(comment.number, None if at is None else at * 1000, *comment.words, size=size, captured=size)
+    return Packet(frame, service, moment, digits, *comment.words, None)

@@ -98,7 +98,9 @@ built() {
 
 payloads() { awk '$1 ~ /^13/ { print $1, $3 }' "$1"; }
 
-summary='58 frames, 51 of these ports, 19 left out'
+summary='58 frames, 51 of these ports, 19 left out: 7 cut by the snap length, 3 a session packet whose rest is missing, 3 sent again '
+summary+='with other bytes, 2 of a TCP stream whose start is missing, 1 with RST, 1 after a gap in TCP, 1 where no session packet begins, '
+summary+='1 a length that the packet lacks'
 
 network() {
     "$here/lib/network.py" "$room/network.pcap" >"$room/expected"
@@ -109,6 +111,8 @@ network() {
     pcap2cap --bare --quiet "$room/network.pcap" 2>"$room/errors" | cmp -s - <(grep -v '^# frame [0-9]* 2023' "$room/expected") &&
         [ ! -s "$room/errors" ]
     count $? 'pcap2cap --bare --quiet'
+    pcap2cap --no-ticks --quiet "$room/network.pcap" | cmp -s - <(grep -v '^tick' "$room/expected")
+    count $? 'pcap2cap --no-ticks'
     pcap2cap - <"$room/network.pcap" 2>"$room/errors" | cmp -s - "$room/expected" && [ "$(cat "$room/errors")" = "$summary" ] &&
         cat "$room/network.pcap" | pcap2cap - 2>"$room/errors" | cmp -s - "$room/expected"
     count $? 'pcap2cap -, a file and a pipe'
@@ -255,7 +259,7 @@ long() {
     queries 100000 >"$room/long.pcap"
     pcap2cap "$room/long.pcap" >"$room/output" 2>"$room/errors"
     [ $? -eq 0 ] && diff - "$room/errors" <<'EOF'
-pcap2cap: more than 16777216 bytes are written now: nbt reads no more of one input without --input-limit
+pcap2cap: more than 16777216 bytes are written now: nbt reads them with --input-limit 18446744073709551615
 100000 frames, 100000 of these ports, 0 left out
 EOF
     count $? 'pcap2cap: more than one input'

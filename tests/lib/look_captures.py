@@ -95,6 +95,73 @@ def fragments():
     return pcap([(0, first, None), (1, other, None), (2, last, None), (3, query(FRED), None)])
 
 
+def address(last):
+    return bytes([10, 0, 0, last])
+
+
+def entry(last, flags=0):
+    """What an NB record of 300,000 seconds says of an address."""
+    return struct.pack('>HHLHH', 0x20, 1, 300_000, 6, flags) + address(last)
+
+
+def service(number, word, name, question=False, record=b'', kind=0x20):
+    """A packet of port 137 about one name: a question, or one record, or both."""
+    counts = (1, 0, 0, 1) if question and record else (1, 0, 0, 0) if question else (0, 1, 0, 0)
+    whole = struct.pack('>6H', number, word, *counts)
+    if question:
+        whole += name + struct.pack('>HH', kind, 1)
+    return whole + (name + record if record else b'')
+
+
+def life():
+    """A network in which much goes wrong: claims in conflict, refusals, queries without an answer, a call that is refused,
+    datagrams that are spoilt, incomplete, refused and cut."""
+    fred, joe, ann, work, nobody = FRED, JOE, first_level('ANN', 0), first_level('WORK', 0x1e), first_level('NOBODY', 0x20)
+    frames = []
+
+    def sends(at, source, target, packet, snap=None):
+        mac = b'\x02\0\0\0\0'
+        frames.append((at * 1000, ethernet(packet, mac + source[3:], mac + target[3:]), snap))
+
+    def says(at, source, target, port, payload, snap=None):
+        sends(at, address(source), address(target), ip(UDP, udp(port, port, payload), address(source), address(target)), snap)
+
+    says(0, 6, 255, 137, service(1, 0x2910, fred, True, entry(6)))
+    says(200, 8, 255, 137, service(2, 0x2910, fred, True, entry(8)))
+    says(250, 6, 8, 137, service(2, 0xad86, fred, record=entry(6)))
+    says(300, 7, 9, 137, service(3, 0x2900, ann, True, entry(7)))
+    says(350, 9, 7, 137, service(3, 0xad85, ann, record=entry(7)))
+    says(400, 6, 255, 137, service(4, 0x2910, work, True, entry(6, 0x8000)))
+    for at in (500, 750, 1000):
+        says(at, 5, 255, 137, service(5, 0x0110, nobody, True))
+    says(1100, 5, 255, 137, service(6, 0x0110, fred, True))
+    says(1150, 6, 5, 137, service(6, 0x8580, fred, record=entry(6)))
+    says(1200, 5, 6, 137, service(7, 0x0000, first_level('*', 0).replace(b'CA', b'AA'), True, kind=0x21))
+    names = b''.join(each.ljust(15) + bytes([last]) + struct.pack('>H', flags)
+                     for each, last, flags in ((b'FRED', 0x20, 0x0400), (b'FRED', 0, 0x0400), (b'WORK', 0x1e, 0x8400)))
+    status = b'\x03' + names + b'\x02\0\0\0\0\x06' + bytes(40)
+    says(1250, 6, 5, 137, service(7, 0x8400, first_level('*', 0).replace(b'CA', b'AA'),
+                                  record=struct.pack('>HHLH', 0x21, 1, 0, len(status)) + status))
+    call = struct.pack('>HHLLBBHHH', 1025, 139, 100, 1, 0x50, ACK, 65_535, 0, 0)
+    sends(1300, address(5), address(6), ip(TCP, call + REQUEST, address(5), address(6)))
+    pointer = bytes.fromhex('100200010a000005008a00240000') + joe + b'\xc0\x0e'
+    says(1400, 5, 6, 138, pointer)
+    says(1450, 5, 6, 138, datagram(9, bytes(600)), 96)
+
+    def fragment(at, number, offset, more, data):
+        header = struct.pack('>BBH4sHHH', 0x11, (0x02 if offset == 0 else 0) | more, number, address(5), 138, len(joe + fred) + len(data), offset)
+        says(at, 5, 6, 138, header + joe + fred + data)
+
+    fragment(1500, 1, 0, 1, b'abcd')
+    fragment(1510, 1, 0, 1, b'abcx')
+    fragment(1520, 2, 0, 1, b'abcd')
+    fragment(1530, 2, 8, 0, b'ijkl')
+    answer = struct.pack('>HHLLBBHHH', 139, 1025, 1, 200, 0x50, ACK, 65_535, 0, 0)
+    sends(1600, address(6), address(5), ip(TCP, answer + b'\x83\0\0\x01\x82', address(6), address(5)))
+    says(1700, 8, 6, 137, service(8, 0xad87, fred, record=entry(6)))
+    return pcap(frames)
+
+
 def chance():
     """Frames of any bytes."""
     rng = random.Random('look')

@@ -66,11 +66,11 @@ class Datagrams:
         return done.stdout
 
     def count(self, names, state, frame, lacking):
-        """Counts a datagram; of the first one that isn't whole stand its frame, and what is missing."""
+        """Counts a datagram; of the first one that is incomplete, or else spoilt, stand its frame, and what is missing."""
         found = self.room.get(names, lambda: {'whole': 0, 'incomplete': 0, 'spoilt': 0, 'missing': [], 'frame': None})
         if found:
             found[state] += 1
-            if state != 'whole' and found['frame'] is None:
+            if found['frame'] is None and state != 'whole' or lacking and not found['missing']:
                 found.update(missing=lacking, frame=frame)
 
     def rows(self, _time):

@@ -2,7 +2,7 @@
 import collections
 
 MISSING = 'fragments of IP whose others are missing'
-UNKNOWN = 'fragments of IP whose first one, with the ports, is missing'
+UNKNOWN = 'fragments of IP without the one that has the ports'
 UDP, TCP = '17', '6'
 # Of how many packets fragments wait.
 MOST_WAITING = 4_096

@@ -45,8 +45,7 @@ def at_frames(options, settings, errors, pipe):
     if pipe:
         pipe.go_on_to(os.dup(child.stdin.fileno()))
         child.stdin.close()
-    progress = Progress(options, child)
-    progress.wanted |= look.is_silent and not options.quiet
+    progress = Progress(options, child, look.is_silent)
     stopping = tshark.Stopping(child, tshark.ENDING if options.live else ())
     try:
         for rows in tshark.rows_of(child.stdout.fileno(), options.live):

@@ -10,6 +10,7 @@ KINDS = {'00': ('workstation', 'domain'), '01': ('messenger', 'master browser'),
          '1f': ('NetDDE', ''), '20': ('file server', ''), '21': ('remote access client', ''), 'be': ('network monitor', ''),
          'bf': ('network monitor application', '')}
 CLAIMS = ('registration', 'refresh', 15)
+ENDED = ('released', 'refused')
 SECOND = 10**9
 
 
@@ -61,6 +62,9 @@ class Names:
             fault = self.faults.get(name, lambda: [0, 0])
             if fault:
                 fault[shown['rcode'] != 'CFT_ERR'] += 1
+            claim = self.claims.entries.get((name, item.target))
+            if claim and shown['op'] != 'query' and shown['rcode'] != 'CFT_ERR':
+                claim.how = 'refused'
 
     def claimed(self, item, shown, how):
         """Takes the addresses of each record."""
@@ -71,7 +75,7 @@ class Names:
                 claim = self.claims.get((record['name'], each['address']), lambda group=group: Claim(group, how, at))
                 if claim is None:
                     continue
-                if how == 'claims' or claim.how == 'released':
+                if how == 'claims' or claim.how in ENDED:
                     claim.how = how
                 claim.group = group
                 claim.until = at + record['ttl'] * SECOND if record['ttl'] and at is not None else None
@@ -91,7 +95,7 @@ class Names:
     def is_claimed(self, name, own):
         """Whether the claim of another address stands."""
         addresses = {each['address'] for each in own}
-        return any(key[0] == name and key[1] not in addresses and claim.how != 'released' for key, claim in self.claims.entries.items())
+        return any(key[0] == name and key[1] not in addresses and claim.how not in ENDED for key, claim in self.claims.entries.items())
 
     def rows(self, time):
         found = []

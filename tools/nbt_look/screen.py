@@ -10,7 +10,8 @@ except ImportError:
     Style = None
 
 STYLES = {'refused': 'red', 'left out': 'yellow', 'conflict': 'magenta', 'head': 'bold', 'mark': 'reverse'}
-LEAST_WIDTH = 20
+# Of a terminal that doesn't say how wide it is, and the least that lines are cut to.
+USUAL_WIDTH, LEAST_WIDTH = 80, 20
 
 
 def safe(text):
@@ -27,7 +28,7 @@ class Screen:
 
     def __init__(self, colour):
         terminal = os.isatty(1)
-        self.width = max(os.get_terminal_size(1).columns, LEAST_WIDTH) if terminal else None
+        self.width = max(os.get_terminal_size(1).columns or USUAL_WIDTH, LEAST_WIDTH) if terminal else None
         plain = os.environ.get('NO_COLOR') or os.environ.get('TERM') == 'dumb' or not terminal
         wanted = colour == 'always' or (colour == 'auto' and not plain)
         self.styles = {name: Style.parse(each) for name, each in STYLES.items()} if wanted and Style else {}

@@ -17,11 +17,12 @@ def is_shown():
 class Progress:
     """A line on standard error that is written over, at most twice a second, and erased at the end."""
 
-    def __init__(self, options, process):
+    def __init__(self, options, process, silent=False):
+        """With `silent` nothing comes to standard output before the end."""
         self.shown = 0
         self.next = 0.0
         self.path, self.process, self.place = options.file, process, None
-        self.wanted = not options.quiet and os.isatty(2) and not is_shown()
+        self.wanted = not options.quiet and os.isatty(2) and (silent or not is_shown())
 
     def show(self, frames):
         if not self.wanted or time.monotonic() < self.next:

@@ -47,16 +47,16 @@ list() {
     2  0.250000 192.0.2.1       192.0.2.2       claims FRED<20> for 10.0.0.6, for 300000 s
     3  0.500000 192.0.2.1       192.0.2.2       claims FRED<20> for 10.0.0.6, for 300000 s
     4  1.200000 192.0.2.1       192.0.2.2       asks for FRED<20>
-    5  1.900000 192.0.2.1       192.0.2.2       datagram from JOE<00> to FRED<20>, bytes 8 to 10
-    6  1.900000 192.0.2.1       192.0.2.2       datagram from JOE<00> to FRED<20>, bytes 4 to 7 of one that goes on
-    7  1.900000 192.0.2.1       192.0.2.2       datagram from JOE<00> to FRED<20>, bytes 0 to 3 of one that goes on
-    8  1.900000 192.0.2.1       192.0.2.2       datagram from JOE<00> to FRED<20>, bytes 4 to 7 of one that goes on
-    9  2.400000 192.0.2.1       192.0.2.2       datagram from ANN<00> to JOE<00>, bytes 0 to 1
+    5  1.900000 192.0.2.1       192.0.2.2       group datagram from JOE<00> to FRED<20>, 3 bytes at offset 8, the last
+    6  1.900000 192.0.2.1       192.0.2.2       group datagram from JOE<00> to FRED<20>, 4 bytes at offset 4 of one that goes on
+    7  1.900000 192.0.2.1       192.0.2.2       group datagram from JOE<00> to FRED<20>, 4 bytes at offset 0 of one that goes on
+    8  1.900000 192.0.2.1       192.0.2.2       group datagram from JOE<00> to FRED<20>, 4 bytes at offset 4 of one that goes on
+    9  2.400000 192.0.2.1       192.0.2.2       datagram from ANN<00> to JOE<00>, 2 bytes
    11  3.000000 192.0.2.1:1024  192.0.2.2       calls FRED<20> as JOE<00>
-   12  3.005000 192.0.2.1:1024  192.0.2.2       accepts the call
+   12  3.005000 192.0.2.1:1024  192.0.2.2       accepts
    13  3.100000 192.0.2.1:1024  192.0.2.2       sends 5 bytes
-   14  3.200000 192.0.2.1:1024  192.0.2.2       keeps the connection alive
-   15  5.000000 192.0.2.1       192.0.2.2       datagram from JOE<00> to FRED<20>, bytes 0 to 3 of one that goes on
+   14  3.200000 192.0.2.1:1024  192.0.2.2       keeps the session alive
+   15  5.000000 192.0.2.1       192.0.2.2       group datagram from JOE<00> to FRED<20>, 4 bytes at offset 0 of one that goes on
    16  9.000000 192.0.2.1       192.0.2.2       releases FRED<20> for 10.0.0.6
 16 frames, 15 packets, 0 refused, 0 left out
 END
@@ -71,12 +71,12 @@ END
     look "$room/capture" | cmp -s - <(sed '$s/^16 frames, //' "$room/list") && cat "$room/capture" | look - | cmp -s - <(look "$room/capture")
     count $? 'the text of a capture'
     prints 'lines without a comment' "$here/../examples/capture.txt" <<'END'
-    3  0.000000 -               -               datagram from JOE<00> to FRED<20>, bytes 8 to 10
-    4  0.003000 -               -               datagram from JOE<00> to FRED<20>, bytes 4 to 7 of one that goes on
-    5  0.005000 -               -               datagram from JOE<00> to FRED<20>, bytes 4 to 7 of one that goes on
-    6  0.009000 -               -               datagram from JOE<00> to FRED<20>, bytes 0 to 3 of one that goes on
+    3  0.000000 -               -               group datagram from JOE<00> to FRED<20>, 3 bytes at offset 8, the last
+    4  0.003000 -               -               group datagram from JOE<00> to FRED<20>, 4 bytes at offset 4 of one that goes on
+    5  0.005000 -               -               group datagram from JOE<00> to FRED<20>, 4 bytes at offset 4 of one that goes on
+    6  0.009000 -               -               group datagram from JOE<00> to FRED<20>, 4 bytes at offset 0 of one that goes on
     8  0.040000 -               -               asks for FRED<20>
-    9  0.060000 -               -               datagram from JOE<00> to FRED<20>, bytes 0 to 3 of one that goes on
+    9  0.060000 -               -               group datagram from JOE<00> to FRED<20>, 4 bytes at offset 0 of one that goes on
 6 packets, 0 refused, 0 left out
 END
 }

@@ -1,112 +1,172 @@
-"""What a packet says, in words."""
+"""What a packet says, in words: the phrases of docs/FORMATS.md, which `nbt show --brief` prints."""
+from .kinds import is_response
 
-GROUP = 0x8000
-RESPONSE, NO_RECURSION = 0x8000, 0x0100
-RESULTS = {'NAM_ERR': 'no such name', 'RFS_ERR': 'refused', 'ACT_ERR': 'another one has it', 'CFT_ERR': 'in conflict',
-           'FMT_ERR': 'malformed', 'SRV_ERR': 'the server failed', 'IMP_ERR': 'not supported'}
-ERRORS = {'82': 'destination name not present', '83': 'source name malformed', '84': 'destination name malformed'}
+RECURSION_DESIRED, RECURSION_AVAILABLE, GROUP = 0x0100, 0x0080, 0x8000
+NB, NBSTAT, NS, A = '0020', '0021', '0002', '0001'
+SECTIONS = ('questions', 'answers', 'authorities', 'additional')
+REASONS = {'FMT_ERR': 'wrong form', 'SRV_ERR': 'server failure', 'NAM_ERR': 'no such name', 'IMP_ERR': 'not supported',
+           'RFS_ERR': 'refused by policy', 'ACT_ERR': 'owned by another node', 'CFT_ERR': 'in conflict'}
+ERRORS = {'82': 'no such destination name', '83': 'source name of a wrong form', '84': 'destination name of a wrong form'}
 REFUSALS = {'80': 'not listening on called name', '81': 'not listening for calling name', '82': 'called name not present',
-            '83': 'insufficient resources', '8f': 'unspecified error'}
-NAMES_SHOWN = 3
+            '83': 'called name present, but insufficient resources', '8f': 'unspecified error'}
+MOST_LISTED = 4
 
 
 def said(shown, size):
-    """The phrase of a packet of so many bytes, by its object of JSON.
+    """The phrase of a packet whose payload has so many bytes, by its object of JSON.
 
-    This is the one place that words stand in until `nbt show --brief` has them: then it is `return shown['brief']`.
+    With `nbt show --brief` this is `return shown['brief']`, and what stands below for phrases goes.
     """
     if 'refused' in shown:
         text = 'refused: ' + shown['refused']
-        return text.rpartition(' ')[0] + ', at byte %d' % shown['at'] if 'at' in shown else text
+        return '%s, at byte %d' % (text.rpartition(' ')[0], shown['at']) if 'at' in shown else text
     if 'more' in shown:
-        return 'the front of a packet, %d bytes missing' % shown['more']
+        return 'begins a packet that lacks %d bytes' % shown['more']
     phrase = (service if 'op' in shown else PHRASES[shown['kind']])(shown)
     follow = size - shown['used']
     return '%s, %d bytes follow' % (phrase, follow) if follow else phrase
 
 
-def service(shown):
-    word = int(shown['word'], 16)
-    name = subject(shown)
-    if word & RESPONSE:
-        return response(shown, name)
-    op = shown['op']
-    if op == 'query':
-        status = shown['questions'] and shown['questions'][0]['type'] == '0021'
-        return 'asks for the status of %s' % name if status else 'asks for %s' % name
-    if op == 'registration':
-        return ('claims %s' if word & NO_RECURSION else 'takes over %s') % name + places(shown, True)
-    if op == 'refresh':
-        return 'refreshes %s%s' % (name, places(shown, True))
-    if op == 'release':
-        return 'releases %s%s' % (name, places(shown, False))
-    if op == 15:
-        return 'claims %s%s' % (name, places(shown, True))
-    return 'operation %s about %s' % (op, name)
-
-
-def response(shown, name):
-    op, result = shown['op'], shown['rcode']
-    bad = None if result == 'ok' else '%s (%s)' % (RESULTS.get(result, 'an error'), result)
-    if op == 'wack':
-        return 'waits (WACK): %s' % name
-    if result == 'CFT_ERR':
-        return 'conflict about %s' % name
-    if op == 'query':
-        if bad:
-            return 'answers: %s: %s' % (bad, name)
-        names = [each for record in shown['answers'] for each in record.get('names', ())]
-        if any(record['type'] == '0021' for record in shown['answers']):
-            shown_names = ' '.join(each['name'] for each in names[:NAMES_SHOWN])
-            return 'answers with %d names: %s%s' % (len(names), shown_names, ' ..' if len(names) > NAMES_SHOWN else '')
-        held = entries(shown)
-        group = 'the group ' if any(int(each['flags'], 16) & GROUP for each in held) else ''
-        return 'answers: %s%s is at %s' % (group, name, ', '.join(each['address'] for each in held) or 'no address')
-    what = {'registration': 'claim', 'release': 'release', 'refresh': 'refresh'}.get(op, 'request')
-    return 'refuses the %s of %s: %s' % (what, name, bad) if bad else 'grants the %s of %s' % (what, name)
-
-
 def subject(shown):
-    """What a packet is about: the name of its first question, or else of its first record."""
-    for section in ('questions', 'answers', 'authorities', 'additional'):
-        if shown[section]:
-            return shown[section][0]['name']
-    return 'no name'
+    """The name of the first question, or else of the first record."""
+    return next((shown[section][0]['name'] for section in SECTIONS if shown[section]), 'no name')
+
+
+def type_of(shown):
+    return next((shown[section][0]['type'] for section in SECTIONS if shown[section]), None)
+
+
+def records_of(shown):
+    return shown['answers'] + shown['authorities'] + shown['additional']
 
 
 def entries(shown):
-    return [each for section in ('answers', 'authorities', 'additional') for record in shown[section]
-            for each in record.get('entries', ())]
+    """The entries of all NB records."""
+    return [each for record in records_of(shown) for each in record.get('entries', ())]
 
 
-def places(shown, lasting):
-    """For which addresses, as a group or not, and for how long."""
-    held = entries(shown)
-    text = ' as a group' if any(int(each['flags'], 16) & GROUP for each in held) else ''
-    if held:
-        text += ' for ' + ', '.join(each['address'] for each in held)
-    records = shown['additional'] + shown['answers']
-    return text + (', for %d s' % records[0]['ttl'] if lasting and records else '')
+def names_of(shown):
+    """The names of node statuses."""
+    return [each for record in records_of(shown) for each in record.get('names', ())]
+
+
+def service(shown):
+    about = {'name': subject(shown), 'holder': holder(shown), 'lasting': lasting(shown)}
+    word, op = int(shown['word'], 16), shown['op']
+    if is_response(shown):
+        return response(shown, word, about)
+    if op == 'query':
+        return ('asks for the node status of {name}' if type_of(shown) == NBSTAT else 'asks for {name}').format(**about)
+    claims = {'registration': 'claims' if word & RECURSION_DESIRED else 'overwrites', 'refresh': 'refreshes',
+              15: 'claims as one of several addresses'}
+    if op in claims:
+        return claims[op] + ' {name} {holder}{lasting}'.format(**about)
+    if op == 'release':
+        return 'releases {name} {holder}'.format(**about)
+    return 'makes another request about {name}, operation '.format(**about) + operation(word)
+
+
+def response(shown, word, about):
+    op, good = shown['op'], shown['rcode'] == 'ok'
+    if op == 'query':
+        return answer(shown, about['name'], good)
+    if op == 'registration' and shown['rcode'] == 'CFT_ERR':
+        return 'conflict about {name}'.format(**about)
+    if op == 'registration' and good and word & RECURSION_DESIRED and not word & RECURSION_AVAILABLE:
+        return 'asks to challenge {name} at '.format(**about) + addresses(shown)
+    if op in ('registration', 'refresh', 15):
+        return 'grants {name} {holder}{lasting}'.format(**about) if good else 'refuses {name}: '.format(**about) + reason(shown)
+    if op == 'release':
+        return ('grants the release of {name}' if good else 'refuses the release of {name}: ' + reason(shown)).format(**about)
+    if op == 'wack':
+        return 'asks to wait for {name}{lasting}'.format(**about)
+    return 'makes another response about {name}, operation '.format(**about) + operation(word)
+
+
+def answer(shown, name, good):
+    """What a response to a query says."""
+    if not good:
+        return 'answers: %s is not found: %s' % (name, reason(shown))
+    if type_of(shown) == NBSTAT:
+        return 'answers: %s has %s' % (name, status(shown))
+    if type_of(shown) == NS:
+        server = next((each['domain'] for each in records_of(shown) if 'domain' in each), 'no name')
+        return 'answers: %s is known to %s at %s' % (name, server, addresses(shown))
+    return 'answers: %s is %s %s' % (name, 'a group at' if is_group(shown) else 'at', addresses(shown))
+
+
+def status(shown):
+    names = [each['name'] for each in names_of(shown)]
+    if not names:
+        return 'no names'
+    unit = next((each['unit'] for each in records_of(shown) if 'unit' in each), None)
+    return '%d names: %s' % (len(names), listed(names)) + (', unit ' + unit if unit else '')
+
+
+def reason(shown):
+    rcode = shown['rcode']
+    return '%s (%s)' % (REASONS[rcode], rcode) if rcode in REASONS else 'error %s' % rcode
+
+
+def operation(word):
+    return str(word >> 11 & 15)
+
+
+def holder(shown):
+    return ('as a group for ' if is_group(shown) else 'for ') + addresses(shown)
+
+
+def is_group(shown):
+    """Whether the first flags of an address, or of a node's name, have G."""
+    flags = next((each['flags'] for record in records_of(shown) for part in ('entries', 'names') for each in record.get(part, ())), '0000')
+    return bool(int(flags, 16) & GROUP)
+
+
+def lasting(shown):
+    records = records_of(shown)
+    return ', for %d s' % records[0]['ttl'] if records else ''
+
+
+def addresses(shown):
+    """The addresses of all NB records, and of records of kind A; of a node status its names."""
+    if type_of(shown) == NBSTAT:
+        return listed([each['name'] for each in names_of(shown)])
+    found = []
+    for record in records_of(shown):
+        found += [each['address'] for each in record.get('entries', ())]
+        if record['type'] == A and len(record['data']) == 8:
+            found.append('.'.join(map(str, bytes.fromhex(record['data']))))
+    return listed(found)
+
+
+def listed(texts):
+    rest = len(texts) - MOST_LISTED
+    return (', '.join(texts[:MOST_LISTED]) or 'no address') + (' and %d more' % rest if rest > 0 else '')
 
 
 def datagram(shown):
     size, start, more = len(shown['data']) // 2, shown['offset'], int(shown['flags'], 16) & 1
-    kind = {'unique': 'datagram', 'group': 'datagram', 'broadcast': 'broadcast'}[shown['kind']]
-    text = '%s from %s to %s, ' % (kind, shown['source'], shown['destination'])
-    text += 'bytes %d to %d' % (start, start + size - 1) if size else 'without bytes'
-    return text + (' of one that goes on' if more else '')
+    kind = {'unique': '', 'group': 'group ', 'broadcast': 'broadcast '}[shown['kind']]
+    text = '%sdatagram from %s to %s, %d bytes' % (kind, shown['source'], shown['destination'], size)
+    if more:
+        return '%s at offset %d of one that goes on' % (text, start)
+    return '%s at offset %d, the last' % (text, start) if start else text
+
+
+def coded(words, code):
+    return '%s (%s)' % (words.get(code, 'unknown code'), code)
 
 
 PHRASES = {
     'unique': datagram, 'group': datagram, 'broadcast': datagram,
-    'error': lambda shown: 'error: ' + ERRORS.get(shown['code'], 'code ' + shown['code']),
-    'find': lambda shown: 'asks who has %s' % shown['destination'],
-    'found': lambda shown: 'answers: %s is here' % shown['destination'],
-    'missing': lambda shown: 'answers: %s is not here' % shown['destination'],
+    'error': lambda shown: 'error: ' + coded(ERRORS, shown['code']),
+    'find': lambda shown: 'asks whether datagrams are relayed to %s' % shown['destination'],
+    'found': lambda shown: 'answers: datagrams are relayed to %s' % shown['destination'],
+    'missing': lambda shown: 'answers: no datagrams are relayed to %s' % shown['destination'],
     'request': lambda shown: 'calls %s as %s' % (shown['called'], shown['calling']),
-    'positive': lambda shown: 'accepts the call',
-    'negative': lambda shown: 'refuses the call: %s (%s)' % (REFUSALS.get(shown['code'], 'an error'), shown['code']),
-    'retarget': lambda shown: 'sends the call on to %s port %d' % (shown['address'], shown['to_port']),
-    'keepalive': lambda shown: 'keeps the connection alive',
+    'positive': lambda shown: 'accepts',
+    'negative': lambda shown: 'refuses: ' + coded(REFUSALS, shown['code']),
+    'retarget': lambda shown: 'sends the caller to %s, port %d' % (shown['address'], shown['to_port']),
+    'keepalive': lambda shown: 'keeps the session alive',
     'message': lambda shown: 'sends %d bytes' % shown['length'],
 }

@@ -21,7 +21,7 @@ def options_of(words):
     parser.add_argument('--kind', dest='kinds', action='append', type=kinds_in, default=[])
     parser.add_argument('--port', dest='given_ports', action='append', type=port, default=[])
     parser.add_argument('--time', choices=('start', 'utc'), default='start')
-    parser.add_argument('--color', '--colour', choices=('auto', 'always', 'never'), default='auto')
+    parser.add_argument('--color', choices=('auto', 'always', 'never'), default='auto')
     parser.add_argument('--quiet', action='store_true')
     parser.add_argument('--live', action='store_true')
     parser.add_argument('-i', dest='interface')

@@ -97,10 +97,9 @@ def answer(shown, name, good):
 
 def status(shown):
     names = [each['name'] for each in names_of(shown)]
-    if not names:
-        return 'no names'
+    text = '%d names: %s' % (len(names), listed(names)) if names else 'no names'
     unit = next((each['unit'] for each in records_of(shown) if 'unit' in each), None)
-    return '%d names: %s' % (len(names), listed(names)) + (', unit ' + unit if unit else '')
+    return text + ', unit ' + unit if unit else text
 
 
 def reason(shown):

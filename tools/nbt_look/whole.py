@@ -32,9 +32,10 @@ class Whole:
             self.screen.line('')
             for line in self.asked(['help', shown['refused']], ''):
                 self.screen.line(line)
-        self.screen.line('')
-        self.screen.line('Wireshark: frame.number == %d' % self.number)
-        self.screen.line('of the same: ' + wireshark(item, shown))
+        if item.source:
+            self.screen.line('')
+            self.screen.line('Wireshark: frame.number == %d' % self.number)
+            self.screen.line('of the same: ' + wireshark(item, shown))
 
     def left_out(self, item):
         if item.frame.number == self.number:
@@ -66,7 +67,7 @@ class Whole:
             if mark == len(data) and at <= mark < at + ROW:
                 digits += '[  ]'
             text = ''.join(chr(byte) if 0x20 <= byte < 0x7f else '.' for byte in row)
-            self.screen.line('%05x  %-64s  %s' % (at, digits, text))
+            self.screen.line(('%05x  %-64s  %s' % (at, digits, text)).rstrip())
 
     def finish(self, _tally, _left_out):
         if self.status:

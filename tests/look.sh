@@ -358,6 +358,11 @@ growing() {
 
 # Packets of the loopback interface, as they come, and Ctrl-C.
 live() {
+    if ! ended tshark -i lo -a duration:0 >"$room/output" 2>&1; then
+        skipped=$((skipped + 1))
+        echo 'skipped: nbt-look -i lo, 1 case (tshark may not listen to lo here)'
+        return
+    fi
     (sleep 3; python3 -c 'import socket
 sent = socket.socket(socket.AF_INET, socket.SOCK_DGRAM)
 for port in (137, 138):

@@ -13,8 +13,6 @@ class Filter:
 
     def wants(self, item, shown):
         """Whether an item is wanted, by the object of a packet; None stands for what is left out."""
-        if self.is_all:
-            return True
         ends = item if isinstance(item, Packet) else item.frame
         if self.hosts and not self.hosts & {ends.source, ends.target}:
             return False

@@ -35,15 +35,16 @@ class Frames(Reader):
         super().__init__(options, None, Noted(self.items))
         self.times = times
         self.protocols = ''          # those of the first frame
+        self.named = '', ''          # the latest interface, and its name as it may be printed
         self.others = Others()
         self.unfinished = Unfinished(self.report, self.services, self.session_ports)
 
     def row(self, text):
-        base, *more = text.rsplit('\t', len(FIELDS))
-        if len(more) == len(FIELDS):
-            self.more = more
+        base, *self.more = text.rsplit('\t', len(FIELDS))
+        if len(self.more) == len(FIELDS):
             super().row(base)
-            self.times.see(self.clock.first)
+            if self.times.first is None:
+                self.times.see(self.clock.first)
         elif not self.others.take(text):
             super().row(text)
 
@@ -53,20 +54,25 @@ class Frames(Reader):
         self.protocols = row.protocols
 
     def frame(self, row, shape):
-        self.report.mark = self.mark(row)
+        self.report.mark = self.mark(row, shape)
         if shape.is_fragment or row.fragments or row.fragments6:
             self.unfinished.take(row, self.more[5:], shape.is_fragment)
         super().frame(row, shape)
 
-    def mark(self, row):
+    def mark(self, row, shape):
         """The frame of a row."""
-        name, number, vlans, source, target = self.more[:5]
-        v4 = bool(row.source)
-        tcp = bool(row.tcp_source)
-        return Frame(int(row.number), self.clock.at if self.clock.first is not None else None,
-                     last(row.source if v4 else row.source6), last(row.tcp_source if tcp else row.udp_source),
-                     last(row.target if v4 else row.target6), last(row.tcp_target if tcp else row.udp_target),
-                     safe(name or number), vlans, last(source), last(target), int(row.size), int(row.captured))
+        name, number, vlans, source_mac, target_mac = self.more[:5]
+        ends = (row.source or row.source6, row.tcp_source or row.udp_source, row.target or row.target6, row.tcp_target or row.udp_target)
+        if not shape.single:
+            ends, source_mac, target_mac = map(last, ends), last(source_mac), last(target_mac)
+        return Frame(int(row.number), self.clock.at if self.clock.first is not None else None, *ends, self.interface(name or number), vlans,
+                     source_mac, target_mac, int(row.size), int(row.captured))
+
+    def interface(self, name):
+        """The name of an interface, as it may be printed."""
+        if name != self.named[0]:
+            self.named = name, safe(name)
+        return self.named[1]
 
     def payload(self, row, service, digits, packet):
         host = packet.host

@@ -1,7 +1,8 @@
 """One pass over a capture: from packets to what is printed of them."""
 import collections
-import json
+import gc
 import os
+from json.decoder import JSONDecoder
 
 from nbt_pcap import arguments as pcap_arguments
 from nbt_pcap import tshark
@@ -73,10 +74,15 @@ def at_frames(options, settings, errors, pipe):
     return status, look.sink.status
 
 
+# The object of a text, and where it ends.
+READ = JSONDecoder().scan_once
+
+
 class Look:
     """What is done with items: each packet is told by nbt, filtered, counted, and shown in its place."""
 
     def __init__(self, options):
+        gc.disable()                 # nothing here has a cycle, and looking for some costs as much as reading objects
         self.options = options
         self.program = program()
         self.at_once = options.live or options.file == '-'
@@ -107,8 +113,8 @@ class Look:
         self.times.see(item.frame.at)
         if text is not None:
             self.tally.take(text)
-            shown = json.loads(text) if self.reads_objects else None
-        if self.filter.wants(item, shown):
+            shown = READ(text, 0)[0] if self.reads_objects else None
+        if self.filter.is_all or self.filter.wants(item, shown):
             self.tally.shown += 1
             self.ordering.put(item, shown, text)
 

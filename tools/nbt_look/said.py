@@ -51,12 +51,12 @@ def names_of(shown):
 
 
 def service(shown):
-    about = {'name': subject(shown), 'holder': holder(shown), 'lasting': lasting(shown)}
-    word, op = int(shown['word'], 16), shown['op']
+    word, op, name = int(shown['word'], 16), shown['op'], subject(shown)
+    if op == 'query' and not is_response(shown):
+        return ('asks for the node status of ' if type_of(shown) == NBSTAT else 'asks for ') + name
+    about = {'name': name, 'holder': holder(shown), 'lasting': lasting(shown)}
     if is_response(shown):
         return response(shown, word, about)
-    if op == 'query':
-        return ('asks for the node status of {name}' if type_of(shown) == NBSTAT else 'asks for {name}').format(**about)
     claims = {'registration': 'claims' if word & RECURSION_DESIRED else 'overwrites', 'refresh': 'refreshes',
               15: 'claims as one of several addresses'}
     if op in claims:

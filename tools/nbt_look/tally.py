@@ -11,7 +11,7 @@ class Tally:
 
     def take(self, text):
         self.packets += 1
-        self.refused += b'"refused":' in text
+        self.refused += '"refused":' in text
 
     def text(self, left_out, is_all):
         frames = '' if self.frames is None else '%d frames, ' % self.frames

@@ -27,8 +27,9 @@ class Telling:
             os.set_blocking(each, False)
         self.take = take
         self.items = collections.deque()     # what isn't handed on yet
-        self.waiting = bytearray()           # bytes for the child
-        self.rest = b''                      # the front of an answer
+        self.waiting = collections.deque()   # bytes for the child
+        self.size = 0                        # how many
+        self.rest = ''                       # the front of an answer
 
     def put(self, items, at_once):
         """Takes items, and hands on those that are ready, or with `at_once` all of them."""
@@ -37,10 +38,12 @@ class Telling:
             self.items.append(each)
             if isinstance(each, Packet):
                 lines.append('%d %d %s\n' % (each.service, each.moment, each.digits or 'empty'))
-        self.waiting += ''.join(lines).encode()
+        if lines:
+            self.waiting.append(memoryview(''.join(lines).encode()))
+            self.size += len(self.waiting[-1])
         self.pass_on(())
         self.exchange(0)
-        while len(self.waiting) > MOST_WAITING or (at_once and self.items):
+        while self.size > MOST_WAITING or (at_once and self.items):
             self.exchange(None)
 
     def exchange(self, timeout):
@@ -57,15 +60,19 @@ class Telling:
 
     def write(self):
         try:
-            del self.waiting[:os.write(self.to, self.waiting[:PART])]
+            written = os.write(self.to, self.waiting[0])
         except BrokenPipeError:
             self.failed()
+        self.size -= written
+        self.waiting[0] = self.waiting[0][written:]
+        if not self.waiting[0]:
+            self.waiting.popleft()
 
     def read(self):
         data = os.read(self.back, PART)
         if not data:
             self.failed()
-        *answers, self.rest = (self.rest + data).split(b'\n')
+        *answers, self.rest = (self.rest + data.decode('ascii')).split('\n')
         self.pass_on(answers)
 
     def pass_on(self, answers):

@@ -328,8 +328,11 @@ terminals() {
     count $? 'no colour where standard output is no terminal'
 }
 
+# By the system's Python, for which Debian has rich.
 colours() {
-    on_terminal 200 nbt-look "$room/life.pcap" | grep -q $'\x1b\[31m.*refused: .*\x1b\[0m'
+    mkdir "$room/system" && ln -s /usr/bin/python3 "$room/system"
+    local PATH=$room/system:$PATH
+    TERM=xterm on_terminal 200 nbt-look "$room/life.pcap" | grep -q $'\x1b\[31m.*refused: .*\x1b\[0m'
     count $? 'a refused packet is red on a terminal'
     look --color always "$room/life.pcap" | grep -q $'\x1b\[33m.*left out: .*\x1b\[0m'
     count $? 'nbt-look --color always'
@@ -382,7 +385,7 @@ part frames frames
 part bad bad
 part random random
 part terminals terminals
-if python3 -c 'import rich' 2>/dev/null; then part colours colours; else lacks colours python3-rich; fi
+if /usr/bin/python3 -c 'import rich' 2>/dev/null; then part colours colours; else lacks colours python3-rich; fi
 part growing growing
 part live live
 finish

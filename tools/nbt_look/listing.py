@@ -39,7 +39,7 @@ class Listing:
             if len(each) > self.widths[number]:
                 self.widths[number] = len(each)
         number, time, start, end = self.widths
-        self.screen.line('%*s %*s %-*s %-*s %s' % (number, cells[0], time, cells[1], start, source, end, target, phrase), style)
+        self.screen.line('%*s %*s %-*s %-*s %s' % (number, cells[0], time, cells[1], start, source, end, target, phrase), style, cut=True)
 
 
 def ends(of, own):

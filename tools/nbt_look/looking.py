@@ -6,6 +6,7 @@ from json.decoder import JSONDecoder
 
 from nbt_pcap import arguments as pcap_arguments
 from nbt_pcap import tshark
+from nbt_pcap.lines import Refused
 from nbt_pcap.process import Stopped, say
 from nbt_pcap.progress import Progress
 from nbt_shards import ending
@@ -32,8 +33,13 @@ def at_text(options, pipe):
     try:
         for items in batches_of(options.file, pipe):
             look.put(items)
-    finally:
         look.finish(collections.Counter())
+    except Refused:
+        look.finish(collections.Counter())
+        raise
+    except BaseException:
+        look.telling.end()
+        raise
     look.end([])
     return look.sink.status
 

@@ -5,10 +5,10 @@ from .said import GROUP, entries, subject
 
 HEAD = ('name', 'kind', 'address', 'group', 'how', 'since', 'until', 'conflicts', 'refusals')
 # What the last byte of a name says, where it is unique and where it is a group's.
-KINDS = {'00': ('workstation', 'domain'), '01': ('messenger', 'master browser'), '03': ('messenger', 'messenger'), '06': ('remote access server', ''),
-         '1b': ('domain master browser', ''), '1c': ('', 'domain controllers'), '1d': ('master browser', ''), '1e': ('', 'browser elections'),
-         '1f': ('NetDDE', ''), '20': ('file server', ''), '21': ('remote access client', ''), 'be': ('network monitor', ''),
-         'bf': ('network monitor application', '')}
+KINDS = {'00': ('workstation', 'domain'), '01': ('messenger', 'master browser'), '03': ('messenger', 'messenger'),
+         '06': ('remote access server', ''), '1b': ('domain master browser', ''), '1c': ('', 'domain controllers'),
+         '1d': ('master browser', ''), '1e': ('', 'browser elections'), '1f': ('NetDDE', ''), '20': ('file server', ''),
+         '21': ('remote access client', ''), 'be': ('network monitor', ''), 'bf': ('network monitor application', '')}
 CLAIMS = ('registration', 'refresh', 15)
 ENDED = ('released', 'refused')
 SECOND = 10**9
@@ -20,11 +20,15 @@ def kind_of(name, group):
     return pair[bool(group)] or pair[not group]
 
 
-class Claim:
-    """That an address has a name: as a group or not, since when, until when, and how it is known."""
+# How many claims of a name are looked at for conflicts.
+MOST_HOLDERS = 16
 
-    def __init__(self, group, how, since):
-        self.group, self.how, self.since = group, how, since
+
+class Claim:
+    """That an address has a name: by whom, as a group or not, since when, until when, and how it is known."""
+
+    def __init__(self, source, group, how, since):
+        self.source, self.group, self.how, self.since = source, group, how, since
         self.until = None
 
 
@@ -37,7 +41,7 @@ class Names:
     def __init__(self):
         self.claims = Room()         # by name and address
         self.faults = Room()         # conflicts and refusals, by name
-        self.holders = Room()        # the first unique claim of a name
+        self.holders = Room()        # the first claims of each name, by address
 
     def take(self, item, shown):
         if item.service != 137 or 'op' not in shown:
@@ -47,7 +51,6 @@ class Names:
             self.answered(item, shown, name)
         elif op in CLAIMS:
             self.claimed(item, shown, 'claims')
-            self.contested(item, shown, name)
         elif op == 'release':
             for each in entries(shown):
                 claim = self.claims.entries.get((name, each['address']))
@@ -72,30 +75,29 @@ class Names:
         for record in shown['answers'] + shown['additional']:
             for each in record.get('entries', ()):
                 group = bool(int(each['flags'], 16) & GROUP)
-                claim = self.claims.get((record['name'], each['address']), lambda group=group: Claim(group, how, at))
+                key = record['name'], each['address']
+                claim = self.claims.get(key, lambda group=group: Claim(item.source, group, how, at))
                 if claim is None:
                     continue
+                if how == 'claims':
+                    self.contest(item, key, claim, group)
                 if how == 'claims' or claim.how in ENDED:
                     claim.how = how
                 claim.group = group
                 claim.until = at + record['ttl'] * SECOND if record['ttl'] and at is not None else None
 
-    def contested(self, item, shown, name):
-        """Counts a claim of a unique name that another station claims."""
-        if any(int(each['flags'], 16) & GROUP for each in entries(shown)):
+    def contest(self, item, key, claim, group):
+        """Counts a claim of a unique name that another station claims, once for each of them."""
+        name, address = key
+        holders = self.holders.get(name, dict)
+        if holders is None or address in holders or len(holders) >= MOST_HOLDERS:
             return
-        holder = self.holders.get(name, lambda: {item.source})
-        if holder and item.source not in holder and len(holder) < 16:
-            if self.is_claimed(name, entries(shown)):
-                fault = self.faults.get(name, lambda: [0, 0])
-                if fault:
-                    fault[0] += 1
-            holder.add(item.source)
-
-    def is_claimed(self, name, own):
-        """Whether the claim of another address stands."""
-        addresses = {each['address'] for each in own}
-        return any(key[0] == name and key[1] not in addresses and claim.how not in ENDED for key, claim in self.claims.entries.items())
+        others = [each for each in holders.values() if each.source != item.source and each.how not in ENDED]
+        holders[address] = claim
+        if others and not group:
+            fault = self.faults.get(name, lambda: [0, 0])
+            if fault:
+                fault[0] += 1
 
     def rows(self, time):
         found = []

@@ -38,10 +38,10 @@ class Screen:
         found = self.styles.get(style)
         return found.render(text, color_system=ColorSystem.STANDARD) if found else text
 
-    def line(self, text, style=None):
-        """A line, cut to the width of a terminal."""
+    def line(self, text, style=None, cut=False):
+        """A line; with `cut` at most as long as a terminal is wide."""
         text = safe(text)
-        if self.width and len(text) > self.width:
+        if cut and self.width and len(text) > self.width:
             text = text[:self.width - 2] + '..'
         self.lines.append(self.styled(style, text))
 
@@ -67,4 +67,4 @@ def cell(value):
         return 'yes' if value else 'no'
     if isinstance(value, (list, tuple)):
         return ', '.join(map(cell, value)) or '-'
-    return '-' if value in (None, '') else safe(str(value))
+    return '-' if value in (None, '') else str(value)

@@ -4,7 +4,6 @@ import sys
 
 from nbt_pcap import lines
 from nbt_pcap.arguments import title_of
-from nbt_pcap.process import Stopped
 
 from .items import Frame, Packet
 
@@ -24,7 +23,7 @@ def batches_of(path, pipe):
                     items = []
         except lines.Refused as refused:
             yield items
-            raise Stopped(1, '%s: %s is none of a capture' % (title, refused)) from refused
+            raise lines.Refused('%s: %s is none of a capture' % (title, refused)) from refused
         yield items
 
 

@@ -34,7 +34,8 @@ class Sessions:
             self.end((packet.stream, packet.host.target, packet.target))
             return
         if size > len(data):
-            self.report.note(self.report.cut, 'frame %s: the file has %d of the %d bytes of its segment' % (self.report.number, len(data), size))
+            self.report.note(self.report.cut, 'frame %s: the file has %d of the %d bytes of its segment'
+                             % (self.report.number, len(data), size))
         direction = self.direction(key, flags, sequence, data)
         if direction:
             before = direction.size()

@@ -62,9 +62,9 @@ def wanted(udp, tcp):
 def start(options, settings, errors, fields=(), statistics=(), piped=False):
     """Starts it over a folder of settings, so that the user's own, and the user's plugins, aren't read. A row has these fields
     after the ones that packets are made of, and these statistics come at the end. With `piped` the file comes by a pipe of ours."""
-    return subprocess.Popen(command_of(options, fields, statistics), stdin=subprocess.PIPE if piped else None if options.file == '-' else subprocess.DEVNULL,
-                            stdout=subprocess.PIPE, stderr=errors, preexec_fn=end_with_us, start_new_session=True,
-                            env=environment(settings))
+    given = subprocess.PIPE if piped else None if options.file == '-' else subprocess.DEVNULL
+    return subprocess.Popen(command_of(options, fields, statistics), stdin=given, stdout=subprocess.PIPE, stderr=errors,
+                            preexec_fn=end_with_us, start_new_session=True, env=environment(settings))
 
 
 def environment(settings):

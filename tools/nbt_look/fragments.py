@@ -2,6 +2,7 @@
 import collections
 
 MISSING = 'fragments of IP whose others are missing'
+CUT = 'fragments of IP that are cut themselves'
 UNKNOWN = 'fragments of IP without the one that has the ports'
 UDP, TCP = '17', '6'
 # Of how many packets fragments wait.
@@ -32,14 +33,14 @@ class Unfinished:
         if ours is False:
             marks.clear()
         else:
-            marks.append((self.report.mark, self.report.cut if row.short else None))
+            marks.append((self.report.mark, bool(row.short)))
         self.waiting[key] = marks, ours
         if len(self.waiting) > MOST_WAITING:
             self.tell(*self.waiting.popitem(last=False)[1])
 
     def tell(self, marks, ours):
-        for mark, cut in marks:
-            self.report.count(mark, cut or (MISSING if ours else UNKNOWN))
+        for mark, is_cut in marks:
+            self.report.count(mark, CUT if is_cut else MISSING if ours else UNKNOWN)
 
     def finish(self):
         for marks, ours in self.waiting.values():

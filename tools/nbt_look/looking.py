@@ -81,7 +81,7 @@ def at_frames(options, settings, errors, pipe):
 
 
 # The object of a text, and where it ends.
-READ = JSONDecoder().scan_once
+READ = JSONDecoder().raw_decode
 
 
 class Look:
@@ -119,7 +119,7 @@ class Look:
         self.times.see(item.frame.at)
         if text is not None:
             self.tally.take(text)
-            shown = READ(text, 0)[0] if self.reads_objects else None
+            shown = READ(text)[0] if self.reads_objects else None
         if self.filter.is_all or self.filter.wants(item, shown):
             self.tally.shown += 1
             self.ordering.put(item, shown, text)

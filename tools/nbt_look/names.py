@@ -1,7 +1,7 @@
 """Who claims which name."""
 from .kinds import is_response
+from .parts import GROUP, entries, subject
 from .rooms import Room
-from .said import GROUP, entries, subject
 
 HEAD = ('name', 'kind', 'address', 'group', 'how', 'since', 'until', 'conflicts', 'refusals')
 # What the last byte of a name says, where it is unique and where it is a group's.

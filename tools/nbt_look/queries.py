@@ -2,8 +2,8 @@
 import collections
 
 from .kinds import is_response
+from .parts import NBSTAT, subject, type_of
 from .rooms import Room
-from .said import subject
 
 # How many queries wait for an answer; the one that came first is then taken for one without.
 MOST_WAITING = 4_096
@@ -27,7 +27,7 @@ class Queries:
             if shown['op'] == 'query':
                 self.waiting.pop((item.target, name, shown['id']), None)
             return
-        kind = 'status' if shown['questions'] and shown['questions'][0]['type'] == '0021' else 'query'
+        kind = 'status' if type_of(shown) == NBSTAT else 'query'
         entry = self.waiting.setdefault((item.source, name, shown['id']), [kind, 0, item.frame.number, item.frame.at])
         entry[1] += 1
         if len(self.waiting) > MOST_WAITING:

@@ -1,9 +1,9 @@
 """What a packet says, in words: the phrases of docs/FORMATS.md, which `nbt show --brief` prints."""
 from .kinds import is_response
+from .parts import GROUP, NBSTAT, names_of, records_of, subject, type_of
 
-RECURSION_DESIRED, RECURSION_AVAILABLE, GROUP = 0x0100, 0x0080, 0x8000
-NB, NBSTAT, NS, A = '0020', '0021', '0002', '0001'
-SECTIONS = ('questions', 'answers', 'authorities', 'additional')
+RECURSION_DESIRED, RECURSION_AVAILABLE = 0x0100, 0x0080
+NS, A = '0002', '0001'
 REASONS = {'FMT_ERR': 'wrong form', 'SRV_ERR': 'server failure', 'NAM_ERR': 'no such name', 'IMP_ERR': 'not supported',
            'RFS_ERR': 'refused by policy', 'ACT_ERR': 'owned by another node', 'CFT_ERR': 'in conflict'}
 ERRORS = {'82': 'no such destination name', '83': 'source name of a wrong form', '84': 'destination name of a wrong form'}
@@ -15,7 +15,7 @@ MOST_LISTED = 4
 def said(shown, size):
     """The phrase of a packet whose payload has so many bytes, by its object of JSON.
 
-    With `nbt show --brief` this is `return shown['brief']`, and what stands below for phrases goes.
+    With `nbt show --brief`, asked for in telling.py, this is `return shown['brief']`, and all the rest of this file goes.
     """
     if 'refused' in shown:
         text = 'refused: ' + shown['refused']
@@ -25,29 +25,6 @@ def said(shown, size):
     phrase = (service if 'op' in shown else PHRASES[shown['kind']])(shown)
     follow = size - shown['used']
     return '%s, %d bytes follow' % (phrase, follow) if follow else phrase
-
-
-def subject(shown):
-    """The name of the first question, or else of the first record."""
-    return next((shown[section][0]['name'] for section in SECTIONS if shown[section]), 'no name')
-
-
-def type_of(shown):
-    return next((shown[section][0]['type'] for section in SECTIONS if shown[section]), None)
-
-
-def records_of(shown):
-    return shown['answers'] + shown['authorities'] + shown['additional']
-
-
-def entries(shown):
-    """The entries of all NB records."""
-    return [each for record in records_of(shown) for each in record.get('entries', ())]
-
-
-def names_of(shown):
-    """The names of node statuses."""
-    return [each for record in records_of(shown) for each in record.get('names', ())]
 
 
 def service(shown):

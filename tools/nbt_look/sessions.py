@@ -2,7 +2,7 @@
 import collections
 
 from .rooms import Room
-from .said import REFUSALS
+from .said import said
 
 # How many streams are known; the one that was silent longest is let go.
 MOST_STREAMS = 16_384
@@ -40,7 +40,7 @@ class Sessions:
         self.streams.move_to_end(stream)
         calls = self.room.get((*self.streams[stream], stream[0], stream[2]), Calls)
         if calls:
-            count(calls, shown, is_answer)
+            count(calls, shown, is_answer, said(shown, len(item.digits) // 2))
 
     def open(self, stream, names):
         self.streams[stream] = names
@@ -58,14 +58,14 @@ class Sessions:
         return self.room.others
 
 
-def count(calls, shown, is_answer):
+def count(calls, shown, is_answer, phrase):
     kind = shown['kind']
     if kind == 'request':
         calls.calls += 1
     elif kind == 'positive':
         calls.accepted += 1
     elif kind == 'negative':
-        calls.refused[REFUSALS.get(shown['code'], shown['code'])] += 1
+        calls.refused[phrase.removeprefix('refuses: ')] += 1
     elif kind == 'message' and is_answer:
         calls.received += shown['length']
     elif kind == 'message':

@@ -1,7 +1,7 @@
 """The stations: who sends packets, and what they are called."""
 from .kinds import is_response
+from .parts import entries, subject
 from .rooms import Room
-from .said import entries, subject
 
 # How many names of a station are kept.
 MOST_NAMES = 64

@@ -155,4 +155,4 @@ def program():
     try:
         return local_program(None)
     except ending.Stopped as why:
-        raise Stopped(3, str(why)) from why
+        raise Stopped(3, "nbt isn't there: make build builds it, make install puts it beside this tool") from why

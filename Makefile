@@ -36,9 +36,10 @@ check:
 test:
 	tests/all.sh
 
-# Build the program, and print what its commands cost: instructions, packets a second, memory.
+# Build the program, and print what its commands cost: instructions, packets a second, memory; and what nbt-look costs.
 bench: build
 	tests/bench.py
+	tests/bench_look.py
 
 # Build the program, and give it random and changed inputs: make fuzz SECONDS=600.
 fuzz: build

@@ -27,7 +27,8 @@ complete -F _nbt nbt
 _nbt_tool() {
     local words=''
     case ${1##*/} in
-    nbt-pcap2cap) words='--bare --quiet --port --live -i --help' ;;
+    nbt-look) words='-i --live --summary --frame --json --name --host --port --kind --time --color --quiet -r --help' ;;
+    nbt-pcap2cap) words='--bare --no-ticks --quiet --port --live -i --help' ;;
     nbt-cap2pcap) words='--help' ;;
     nbt-parallel) words='--force --program --shard-bytes --by-source --no-estimate --tables --quiet --jobs --sshlogin --retries --help --list' ;;
     nbt-dask) words='--force --program --shard-bytes --by-source --no-estimate --tables --quiet --scheduler --workers --send --wait --help' ;;
@@ -36,4 +37,4 @@ _nbt_tool() {
     COMPREPLY=()
     [[ $2 != -* ]] || COMPREPLY=($(compgen -W "$words" -- "$2"))
 }
-complete -o default -F _nbt_tool nbt-pcap2cap nbt-cap2pcap nbt-parallel nbt-dask nbt-station
+complete -o default -F _nbt_tool nbt-look nbt-pcap2cap nbt-cap2pcap nbt-parallel nbt-dask nbt-station

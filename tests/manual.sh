@@ -7,7 +7,7 @@ set -uo pipefail
 . "$(dirname "$0")/lib/counting.sh"
 program=${1:-$here/../crates/nbt/out/nbt}
 page=$here/../man/nbt.1
-tools=(nbt-pcap2cap nbt-cap2pcap nbt-parallel nbt-dask nbt-station)
+tools=(nbt-look nbt-pcap2cap nbt-cap2pcap nbt-parallel nbt-dask nbt-station)
 
 # Pages of other programs needn't be installed.
 lint() {
@@ -181,8 +181,10 @@ nbt build r|registration refresh release response request retarget
 nbt build --broadcast que|query
 nbt build --b|--broadcast
 nbt help m|merge
+nbt-look --k|--kind
+nbt-look --fr|--frame
 nbt-pcap2cap --b|--bare
-nbt-pcap2cap -|--bare --quiet --port --live -i --help
+nbt-pcap2cap -|--bare --no-ticks --quiet --port --live -i --help
 nbt-cap2pcap --|--help
 nbt-parallel --s|--shard-bytes --sshlogin
 nbt-dask --w|--workers --wait

@@ -94,7 +94,9 @@ refusals() {
     local name=${1#./}
     refuses 1 "$name: bad: line 54321 is malformed (shard g0000-00000?)" "$1" "$program" bad
     refuses 1 "$name: bad: line 54321 is malformed (shard g0000-00000?)" "$1" "$program" --by-source 2 bad
-    refuses 1 "$name: ever: lines 1 to * has * bytes, *: keys live across *(--by-source 3)*" "$1" "$program" ever
+    refuses 1 "$name: ever: lines 1 to * has * bytes, *: keys live across *(--by-source 3)*(nbt-pcap2cap --no-ticks)*" "$1" "$program" ever
+    refuses 1 "$name: $here/../examples/office.pcap is a pcap file, and a capture is wanted: nbt-pcap2cap --no-ticks makes one of it" \
+        "$1" "$program" "$here/../examples/office.pcap"
     refuses 3 "$name: many: lines * (shard g0000-00000?): *nbt: memory*" "$1" "$room/starving" many
     refuses 3 "$name: many: lines * (shard g0000-00000?): *signal 9 ended the program*" "$1" "$room/killed" many
     refuses 3 "$name: nowhere: no such file" "$1" "$program" many nowhere

@@ -10,7 +10,7 @@ import sys
 
 HERE = os.path.dirname(os.path.abspath(__file__))
 BUILT = os.path.join(HERE, '..', 'crates', 'nbt', 'out', 'nbt')
-TOOLS = {'nbt-pcap2cap': 'pcap2cap', 'nbt-cap2pcap': 'cap2pcap', 'nbt-parallel': 'nbt-parallel', 'nbt-dask': 'nbt-dask',
+TOOLS = {'nbt-look': 'nbt-look', 'nbt-pcap2cap': 'pcap2cap', 'nbt-cap2pcap': 'cap2pcap', 'nbt-parallel': 'nbt-parallel', 'nbt-dask': 'nbt-dask',
          'nbt-station': 'nbt-station'}
 WRITTEN = 'Completion of nbt and its tools. tools/completions.py wrote it from their help texts.'
 

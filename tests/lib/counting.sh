@@ -94,12 +94,13 @@ counted_by() {
     fi
 }
 
-# with_tools PROGRAM: $room/bin has the program and the tools that lead from a pcap and back, by the names that they have once
-# installed. tshark has no user's settings.
+# with_tools PROGRAM: $room/bin has the program and the tools that read a pcap, and the one that leads back, by the names that they
+# have once installed. tshark has no user's settings.
 with_tools() {
     local tool
     mkdir "$room/bin" && ln -s "$(realpath "$1")" "$room/bin/nbt"
     for tool in pcap2cap cap2pcap; do ln -s "$(realpath "$here/../tools/$tool")" "$room/bin/nbt-$tool"; done
+    ln -s "$(realpath "$here/../tools/nbt-look")" "$room/bin"
     export WIRESHARK_CONFIG_DIR=$room/settings
 }
 
@@ -126,7 +127,7 @@ page() {
 # tshark isn't installed.
 page_sample() {
     [ -n "$2" ] || return
-    if [[ $2 == *nbt-pcap2cap* ]] && ! command -v tshark >/dev/null; then
+    if [[ $2 == *nbt-pcap2cap* || $2 == *nbt-look* ]] && ! command -v tshark >/dev/null; then
         skipped=$((skipped + 1))
         echo "skipped: $1: $2 (tshark isn't installed)"
         return

@@ -57,6 +57,9 @@ waits() {
         interrupted $seconds pcap2cap -
         interrupted $seconds cap2pcap
     done
+    (cat "$here/../examples/office.pcap"; sleep 5) | timeout --preserve-status -s INT 4 "$here/../tools/pcap2cap" - >"$room/output" 2>"$room/errors"
+    [ "${PIPESTATUS[1]}" -eq 130 ] && [ "$(cat "$room/errors")" = 'pcap2cap: interrupted after frame 16' ]
+    count $? "pcap2cap -, Ctrl-C says how far it came: $(cat "$room/errors")"
     if ended tshark -i lo -a duration:0 >"$room/output" 2>&1; then
         live
         heard

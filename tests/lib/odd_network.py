@@ -31,7 +31,7 @@ def tunnels(network):
     segment = ip(TCP, struct.pack('>HHLLBBHHH', 1025, 139, 0, 0, 0x50, ACK, 65_535, 0, 0) + SHORT)
     network.frame(0, ip(UDP, udp(50_000, 4789, TUNNEL + segment)), captured=34 + 8 + len(TUNNEL) + 20 + 8)
     network.gives(('# frame 7 is left out: the file ends inside its TCP header',))
-    print('7 frames, 5 of these ports, 5 left out')
+    print('7 frames, 5 of these ports, 5 left out: 5 cut by the snap length')
 
 
 def aggregate(*packets):
@@ -63,7 +63,7 @@ def aggregates(network):
     network.tells(0, query)
     network.gives((137, 0, QUERY), ('# frame 5 is left out: its UDP length is %d, and the file has %d bytes of its payload'
                                     % (8 + len(RESPONSE), len(RESPONSE) - 1),))
-    print('5 frames, 4 of these ports, 3 left out')
+    print('5 frames, 4 of these ports, 3 left out: 1 headers that do not pair, 1 where tshark stopped, 1 cut by the snap length')
 
 
 def ports_again(network):
@@ -128,7 +128,7 @@ def fragments(network):
         for whole, start, end in ((one, 0, 24), (other, 16, 40), (one, 24, 48)):
             sent.piece(moment, whole, start, end)
         sent.left_out('differ where they overlap')
-    print('28 frames, 12 of these ports, 6 left out')
+    print('28 frames, 12 of these ports, 6 left out: 6 fragments of IP that come late or differ')
 
 
 def counts(network):
@@ -158,7 +158,8 @@ def counts(network):
     other.sends(0, 4, FOREIGN)
     other.sends(0, 0, b'\x86\0\0\0')
     network.gives(('# %s: bytes left over: 16 (%s)' % ((title % 1).replace('1025', '1026'), FOREIGN.hex()),))
-    print('14 frames, 14 of these ports, 7 left out')
+    print('14 frames, 14 of these ports, 7 left out: 2 sent again with other bytes, 2 after a gap in TCP, '
+          '2 where no session packet begins, 1 cut by the snap length')
 
 
 PARTS = {each.__name__: (each, WIFI if each is aggregates else 1) for each in (tunnels, aggregates, ports_again, fragments, counts)}

@@ -107,8 +107,9 @@ def json_lines():
         each.reached()
         lines = [json.loads(it) for it in each.lines(2)]
         expect(replayed([packet(UNIQUE, 1, ANN, b''), packet(GROUP, 0xabcd, FRED, b'hi')], 'FRED<20>', 'ANN<20>'),
-               [' '.join(it or 'empty' for it in line.values()) for line in lines])
-        expect(['outcome', 'key', 'kind', 'source', 'destination', 'data'], list(lines[0]))
+               [' '.join(it or 'empty' for it in list(line.values())[2:]) for line in lines])
+        expect(['time', 'sender', 'outcome', 'key', 'kind', 'source', 'destination', 'data'], list(lines[0]))
+        expect(['%s:%d' % each.socket.getsockname()] * 2, [it['sender'] for it in lines])
 
 
 def any_payloads():

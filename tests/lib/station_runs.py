@@ -1,6 +1,7 @@
 """A tool that runs, for the cases of station.py and station_system.py: what is sent to it, and what it prints, saves and says."""
 import contextlib
 import os
+import re
 import signal
 import socket
 import subprocess
@@ -13,6 +14,7 @@ from wire import FRED, JOE, first_level
 
 TOOL, PROGRAM = map(os.path.abspath, sys.argv[1:3])
 PATIENCE = 20
+FRONT = re.compile(r'[0-9]{4}-[0-9]{2}-[0-9]{2}T[0-9]{2}:[0-9]{2}:[0-9]{2}\.[0-9]{6}Z ((127|10)(\.[0-9]{1,3}){3}:[0-9]{1,5}|-) ')
 ANN, NOBODY = first_level('ANN', 0x20), first_level('NOBODY', 0x20)
 SENDER = bytes([10, 0, 0, 5, 0, 138])
 UNIQUE, GROUP = 0x10, 0x11
@@ -90,7 +92,11 @@ class Station:
             pass
 
     def lines(self, count):
-        """What it printed, once it is so many lines."""
+        """What it printed, once it is so many lines, each without its time and its sender, which is of this machine or none."""
+        return [it if it.startswith('{') else without_sender(it) for it in self.printed(count)]
+
+    def printed(self, count):
+        """The lines themselves."""
         until = time.monotonic() + PATIENCE
         while True:
             with open(self.out, encoding='ascii') as lines:
@@ -127,6 +133,14 @@ def station(*words, **named):
             each.process.kill()
             each.process.communicate()
             each.socket.close()
+
+
+def without_sender(line):
+    """What a line says of a datagram."""
+    match = FRONT.match(line)
+    if not match:
+        raise Wrong(f'no time, or no sender: {line[:100]}')
+    return line[match.end():]
 
 
 def nbt(*words, text=''):

@@ -19,6 +19,7 @@ def options_of(arguments):
     words = Words(prog=NAME, add_help=False, allow_abbrev=False)
     words.add_argument('-h', '--help', action='store_true')
     words.add_argument('--bare', action='store_true')
+    words.add_argument('--no-ticks', action='store_true')
     words.add_argument('--quiet', action='store_true')
     words.add_argument('--live', action='store_true')
     words.add_argument('-i', dest='interface')
@@ -50,6 +51,12 @@ def judge_ports(ports):
 
 def judge_file(path, closed):
     """Refuses what holds no packets, and what can't be opened."""
+    if is_text(path, closed):
+        raise Stopped(2, '%s: the file holds no packets: it is the text of a capture' % title_of(path))
+
+
+def is_text(path, closed):
+    """Whether a file begins as the text of a capture does. Refuses what is empty, and what can't be opened."""
     title = title_of(path)
     if path == '-' and 0 in closed:
         raise Stopped(3, 'standard input is closed')
@@ -62,8 +69,7 @@ def judge_file(path, closed):
         raise Stopped(3, '%s: %s' % (title, getattr(error, 'strerror', None) or error)) from error
     if stat.S_ISREG(status.st_mode) and status.st_size == 0:
         raise Stopped(2, '%s: the file holds no packets: it is empty' % title)
-    if begin.startswith(CAPTURE_FRONTS):
-        raise Stopped(2, '%s: the file holds no packets: it is the text of a capture' % title)
+    return begin.startswith(CAPTURE_FRONTS)
 
 
 def title_of(path):

@@ -1,16 +1,18 @@
 """The lines of a capture: payloads and comments, and the clock whose ticks stand between them."""
 from .process import say, write
 
-# How many bytes nbt reads of one input without an option, and what is said where more were written.
+# How many bytes nbt reads of one input without an option, how many at most with one, and what is said where more were written.
 MOST_IN_A_CAPTURE = 16_777_216
-TOO_LONG = ('more than %d bytes are written now: nbt reads no more of one input without --input-limit' % MOST_IN_A_CAPTURE)
+NO_LIMIT = 18_446_744_073_709_551_615
+TOO_LONG = 'more than %d bytes are written now: nbt reads them with --input-limit %d' % (MOST_IN_A_CAPTURE, NO_LIMIT)
 FRAGMENT_TIMER = 2_000
 
 
 class Output:
     """Standard output, written in whole lines."""
 
-    def __init__(self):
+    def __init__(self, quiet):
+        self.quiet = quiet
         self.lines = []
         self.size = 0
         self.before_words = lambda: None     # called before something is said on standard error
@@ -26,7 +28,7 @@ class Output:
             written = write(data)
             self.size += written
             data = data[written:]
-        if before <= MOST_IN_A_CAPTURE < self.size:
+        if before <= MOST_IN_A_CAPTURE < self.size and not self.quiet:
             self.before_words()
             say(TOO_LONG)
 
@@ -34,7 +36,9 @@ class Output:
 class Capture:
     """The lines, with their ticks."""
 
-    def __init__(self, output):
+    def __init__(self, output, options):
+        self.bare = options.bare     # whether payloads come without a comment on their frame
+        self.ticks = not options.no_ticks
         self.line = output.lines.append
         self.next_second = 1_000     # the moment of the next tick
         self.latest = 0              # the latest moment of a payload
@@ -54,7 +58,7 @@ class Capture:
     def tick(self, moment):
         """A tick for each second that begins until this moment; of a pause, those that drop keys, and the last one."""
         end = moment // 1000 * 1000
-        if end >= self.next_second:
+        if self.ticks and end >= self.next_second:
             for at in range(self.next_second, min(end - 1, self.last_drop()) + 1, 1000):
                 self.line('tick %d' % at)
             self.line('tick %d' % end)

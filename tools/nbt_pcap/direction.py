@@ -2,6 +2,7 @@
 import bisect
 import collections
 
+from .report import GAP, NO_PACKET, NO_REST
 from .session import HEADER, has_header, is_whole, size_of
 
 # Bounds on what is held of one direction past missing bytes, and on the bytes of all of them that may come again.
@@ -77,7 +78,7 @@ class Direction:
             return differing
         if self.lost:
             self.lost[1] += len(data)
-            self.report.count(self.report.mark)
+            self.report.count(self.report.mark, GAP)
         elif place == self.due and not self.early:
             self.append(data, self.report.mark)
         else:
@@ -113,7 +114,7 @@ class Direction:
             self.frames.append((self.due, mark))
             self.held += data
         else:
-            self.report.count(mark)
+            self.report.count(mark, NO_PACKET)
             self.held += data[:max(0, SHOWN - len(self.held))]
 
     def put_aside(self, place, data):
@@ -165,8 +166,10 @@ class Direction:
 
     def count_frames(self):
         """Counts the frames of the bytes that are in no packet: none comes any more."""
-        for *_, mark in (*self.frames, *self.early):
-            self.report.count(mark)
+        for _, mark in self.frames:
+            self.report.count(mark, NO_REST if self.cut else NO_PACKET)
+        for *_, mark in self.early:
+            self.report.count(mark, GAP)
         self.frames.clear()
 
     def tell(self):

@@ -1,10 +1,9 @@
 """Frames: the rows of tshark, and the lines that they give."""
-from .capture import Capture
 from .clock import Clock
 from .fragments import Fragments
 from .layers import TCP_HEADER, UDP_HEADER, Segment, Unpaired, packets_of, shape_of
 from .process import Stopped
-from .report import Report
+from .report import BAD_LENGTH, CUT, FRAGMENTS, STOPPED, UNPAIRED
 from .rows import row_of
 from .sessions import Sessions
 
@@ -13,21 +12,18 @@ COUNTED = 'Packet Lengths '
 # What tshark takes files for that hold no packets: the first protocol of their first frame.
 NO_PACKETS = {'': 'a file of another kind', 'json': 'JSON', 'mime_dlt': 'a file of another kind', 'ber': 'a certificate',
               'tnef': 'a mail', 'systemd_journal': 'a journal', 'logcat': 'a log', 'logcat_text': 'a log', 'log3gpp': 'a log'}
-UNPAIRED = "it isn't known which of its ports and payloads belong together"
-STOPPED = 'tshark stopped before the end of its aggregate of packets'
 
 
 class Reader:
     """Makes lines of the frames that tshark prints."""
 
-    def __init__(self, options, output):
-        self.bare = options.bare
+    def __init__(self, options, capture, report):
         self.services = {str(port): service for port, service in options.ports if service != 139}
         self.session_ports = {str(port) for port, service in options.ports if service == 139}
-        self.capture = Capture(output)
+        self.capture = capture
         self.clock = Clock()
         self.fragments = Fragments()
-        self.report = Report(self.capture)
+        self.report = report
         self.sessions = Sessions(self.report)
 
     def row(self, text):
@@ -39,31 +35,35 @@ class Reader:
             return
         self.clock.read(row.time)
         if self.report.frames == 0:
-            judge_kind(row.protocols)
-        self.report.begin(row.number)
+            self.begin(row)
+        self.report.begin(row)
         shape = shape_of(row.protocols)
         if shape.is_fragment:
             self.fragments.keep(row, self.clock.at)
         if not shape.quotes or row.aggregate:
             self.frame(row, shape)
 
+    def begin(self, row):
+        """Takes the first frame."""
+        judge_kind(row.protocols)
+
     def frame(self, row, shape):
         try:
             packets = [each for each in packets_of(row, shape) if self.is_wanted(each)]
         except Unpaired:
             self.report.ours += 1
-            self.report.leave_out(UNPAIRED)
+            self.report.leave_out(UNPAIRED, "it isn't known which of its ports and payloads belong together")
             return
         ours = any(each.target for each in packets)
         self.report.ours += ours
         why = ours and (row.fragments or row.fragments6) and self.fragments.why_not(row, self.clock.at)
         if why:
-            self.report.leave_out(why)
+            self.report.leave_out(FRAGMENTS, why)
             return
         for each in packets:
             self.packet(row, each)
         if row.aggregate and (row.short or row.malformed) and not self.report.mark.counted:
-            self.report.note('frame %s: %s' % (row.number, STOPPED))
+            self.report.note(STOPPED, 'frame %s: tshark stopped before the end of its aggregate of packets' % row.number)
 
     def is_wanted(self, packet):
         """Whether a packet is of these ports, or the file lacks its ports."""
@@ -74,20 +74,21 @@ class Reader:
         if isinstance(packet, Segment):
             self.segment(row, packet)
         elif not packet.target:
-            self.report.leave_out('the file ends before its ports')
+            self.report.leave_out(self.report.cut, 'the file ends before its ports')
         else:
             self.datagram(row, packet)
 
     def datagram(self, row, packet):
         length, digits = packet.length, packet.payload
         if not length:
-            self.report.leave_out('the file ends inside its UDP header')
+            self.report.leave_out(self.report.cut, 'the file ends inside its UDP header')
             return
         if ':' in digits:
             digits = digits.replace(':', '')
         size = 2 * (int(length) - UDP_HEADER)
         if not 0 <= size <= len(digits):
-            self.report.leave_out('its UDP length is %s, and the file has %d bytes of its payload' % (length, len(digits) // 2))
+            reason = CUT if size > len(digits) and self.report.cut is CUT else BAD_LENGTH
+            self.report.leave_out(reason, 'its UDP length is %s, and the file has %d bytes of its payload' % (length, len(digits) // 2))
             return
         self.payload(row, self.services.get(packet.source) or self.services[packet.target], digits[:size], packet)
 
@@ -96,10 +97,10 @@ class Reader:
             for whole in self.sessions.segment(packet):
                 self.payload(row, 139, whole.hex(), packet)
         elif packet.host.size is None or packet.host.size > TCP_HEADER:
-            self.report.leave_out('the file ends ' + ('inside its TCP header' if packet.target else 'before its ports'))
+            self.report.leave_out(self.report.cut, 'the file ends ' + ('inside its TCP header' if packet.target else 'before its ports'))
 
     def payload(self, row, service, digits, packet):
-        comment = None if self.bare else '# frame %s %s %s:%s > %s:%s' % (
+        comment = None if self.capture.bare else '# frame %s %s %s:%s > %s:%s' % (
             row.number, self.clock.text, packet.host.source, packet.source, packet.host.target, packet.target)
         self.capture.payload(service, self.clock.moment, digits, comment)
 

@@ -16,8 +16,11 @@ class Stopped(Exception):
         self.status = status
 
 
-def reader_ended():
-    return Stopped(3, 'the program that reads this ended')
+class ReaderEnded(Stopped):
+    """Whoever reads standard output takes nothing more."""
+
+    def __init__(self):
+        super().__init__(3, 'the program that reads this ended')
 
 
 def say(text, name=True):
@@ -35,7 +38,7 @@ def write(data):
     try:
         return os.write(1, data)
     except BrokenPipeError:
-        raise reader_ended() from None
+        raise ReaderEnded from None
     except OSError as error:
         raise Stopped(3, 'standard output: %s' % error.strerror) from error
 

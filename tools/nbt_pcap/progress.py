@@ -1,5 +1,6 @@
 """How much of a file tshark has read, on a terminal that shows nothing else."""
 import os
+import stat
 import time
 
 from .process import NAME
@@ -7,14 +8,21 @@ from .process import NAME
 BETWEEN = 0.5
 
 
+def is_shown():
+    """Whether standard output may come to a terminal: it is one, or another program reads it."""
+    kind = os.fstat(1).st_mode
+    return os.isatty(1) or stat.S_ISFIFO(kind) or stat.S_ISSOCK(kind)
+
+
 class Progress:
     """A line on standard error that is written over, at most twice a second, and erased at the end."""
 
-    def __init__(self, options, process):
+    def __init__(self, options, process, silent=False):
+        """With `silent` nothing comes to standard output before the end."""
         self.shown = 0
         self.next = 0.0
         self.path, self.process, self.place = options.file, process, None
-        self.wanted = not options.quiet and os.isatty(2) and not os.isatty(1)
+        self.wanted = not options.quiet and os.isatty(2) and (silent or not is_shown())
 
     def show(self, frames):
         if not self.wanted or time.monotonic() < self.next:

@@ -2,8 +2,9 @@
 import collections
 
 # A field's name here, and tshark's.
-COLUMNS = (('number', 'frame.number'), ('time', 'frame.time_epoch'), ('protocols', 'frame.protocols'),
-           ('aggregate', 'wlan_aggregate.a_mdsu.length'), ('short', '_ws.short'), ('malformed', '_ws.malformed'),
+COLUMNS = (('number', 'frame.number'), ('time', 'frame.time_epoch'), ('size', 'frame.len'), ('captured', 'frame.cap_len'),
+           ('protocols', 'frame.protocols'), ('aggregate', 'wlan_aggregate.a_mdsu.length'),
+           ('short', '_ws.short'), ('malformed', '_ws.malformed'),
            ('source', 'ip.src'), ('target', 'ip.dst'), ('length', 'ip.len'), ('header', 'ip.hdr_len'),
            ('source6', 'ipv6.src'), ('target6', 'ipv6.dst'), ('length6', 'ipv6.plen'),
            ('fragments', 'ip.fragment'), ('contradictions', 'ip.fragment.error'),

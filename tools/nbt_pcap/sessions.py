@@ -2,6 +2,7 @@
 import collections
 
 from .direction import ALL, MOST_RECENT, Direction, Recent
+from .report import DIFFERING, NO_START, RESET
 from .session import HEADER
 
 FIN, SYN, RST = 0x01, 0x02, 0x04
@@ -28,12 +29,13 @@ class Sessions:
         key = packet.stream, packet.host.source, packet.source
         if flags & RST:
             if size:
-                self.report.leave_out('the %d bytes of its segment come with RST' % size)
+                self.report.leave_out(RESET, 'the %d bytes of its segment come with RST' % size)
             self.end(key)
             self.end((packet.stream, packet.host.target, packet.target))
             return
         if size > len(data):
-            self.report.note('frame %s: the file has %d of the %d bytes of its segment' % (self.report.number, len(data), size))
+            self.report.note(self.report.cut, 'frame %s: the file has %d of the %d bytes of its segment'
+                             % (self.report.number, len(data), size))
         direction = self.direction(key, flags, sequence, data)
         if direction:
             before = direction.size()
@@ -58,7 +60,7 @@ class Sessions:
                 direction = self.begin(key, sequence + 1)
         elif direction is None and data:
             if len(data) < HEADER:
-                self.report.leave_out('it has %d bytes of a stream whose start the file lacks' % len(data))
+                self.report.leave_out(NO_START, 'it has %d bytes of a stream whose start the file lacks' % len(data))
                 return None
             direction = self.begin(key, sequence)
             self.report.comment('%s: frame %s is taken for its start, which the file lacks'
@@ -92,12 +94,12 @@ class Sessions:
         """The packets of a segment that isn't one packet, or that doesn't come next."""
         if place < direction.first and not direction.is_kept_alive(place, data):
             count = min(direction.first - place, len(data))
-            self.report.leave_out('%d bytes before the start of %s' % (count, direction.title))
+            self.report.leave_out(NO_START, '%d bytes before the start of %s' % (count, direction.title))
             data = data[count:]
             place = direction.first
         differing = direction.take(place, data)
         if differing:
-            self.report.note('frame %s: %d bytes of %s came before with other values, which are kept'
+            self.report.note(DIFFERING, 'frame %s: %d bytes of %s came before with other values, which are kept'
                              % (self.report.number, differing, direction.title))
         yield from direction.packets()
 

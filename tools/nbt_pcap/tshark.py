@@ -6,13 +6,15 @@ import signal
 import subprocess
 
 from . import listening
-from .process import reader_ended
+from .process import ReaderEnded
 from .rows import BETWEEN, FIELDS
 
 PART = 65_536
 BETWEEN_TICKS = 0.5
 # How often tshark is asked to end a capture, before it is killed.
 MOST_REQUESTS = 10
+# What ends the capture of a network.
+ENDING = (signal.SIGINT, signal.SIGTERM, signal.SIGHUP)
 # Frames whose headers end before their ports do.
 HEADER_CUT = '((_ws.short || _ws.malformed) && frame.protocols matches ":(udp|tcp)$")'
 # Fragments of IP, of which only the times are wanted.
@@ -30,17 +32,19 @@ NO_CAPTURE = b"isn't a capture file"
 CHATTER = (b'Running as user', b'Capturing on', b' ** (tshark:', b'tshark: \n')
 
 
-def command_of(options):
+def command_of(options, fields, statistics):
     udp = sorted({port for port, service in options.ports if service != 139})
     tcp = sorted({port for port, service in options.ports if service == 139})
     command = ['tshark', '-n', '-Y', wanted(udp, tcp), '-T', 'fields', '-E', 'separator=/t', '-E', 'occurrence=a',
-               '-E', 'aggregator=' + BETWEEN, '-z', COUNTING]
+               '-E', 'aggregator=' + BETWEEN]
+    for each in (COUNTING, *statistics):
+        command += ['-z', each]
     for each in PREFERENCES:
         command += ['-o', each]
     for kind, ports in (('udp', udp), ('tcp', tcp)):
         for port in ports:
             command += ['-d', '%s.port==%d,data' % (kind, port)]
-    for field in FIELDS:
+    for field in (*FIELDS, *fields):
         command += ['-e', field]
     if not options.live:
         return command + (['-l'] if options.file == '-' else []) + ['-r', os.fsencode(options.file)]
@@ -55,11 +59,12 @@ def wanted(udp, tcp):
             % (ports, HEADER_CUT, AGGREGATE, FRAGMENT, AGGREGATE))
 
 
-def start(options, settings, errors):
-    """Starts it over a folder of settings, so that the user's own, and the user's plugins, aren't read."""
-    return subprocess.Popen(command_of(options), stdin=None if options.file == '-' else subprocess.DEVNULL,
-                            stdout=subprocess.PIPE, stderr=errors, preexec_fn=end_with_us, start_new_session=True,
-                            env=environment(settings))
+def start(options, settings, errors, fields=(), statistics=(), piped=False):
+    """Starts it over a folder of settings, so that the user's own, and the user's plugins, aren't read. A row has these fields
+    after the ones that packets are made of, and these statistics come at the end. With `piped` the file comes by a pipe of ours."""
+    given = subprocess.PIPE if piped else None if options.file == '-' else subprocess.DEVNULL
+    return subprocess.Popen(command_of(options, fields, statistics), stdin=given, stdout=subprocess.PIPE, stderr=errors,
+                            preexec_fn=end_with_us, start_new_session=True, env=environment(settings))
 
 
 def environment(settings):
@@ -125,7 +130,7 @@ def rows_of(pipe, pause):
     while True:
         events = dict(ready.poll(BETWEEN_TICKS * 1000 if pause else None))
         if events.get(1, 0) & select.POLLERR:
-            raise reader_ended()
+            raise ReaderEnded
         if not events:
             yield ()
         if pipe not in events:
@@ -134,7 +139,7 @@ def rows_of(pipe, pause):
         if not data:
             return
         *rows, rest = (rest + data).split(b'\n')
-        yield b'\n'.join(rows).decode().split('\n')
+        yield b'\n'.join(rows).decode(errors='surrogateescape').split('\n')
 
 
 def reasons(errors):

@@ -7,6 +7,10 @@ from .ending import Stopped
 from .groups import MOST_GROUPS
 
 
+# How pcap files of both byte orders begin, with microseconds and nanoseconds, and pcapng files.
+PCAPS = (b'\xd4\xc3\xb2\xa1', b'\xa1\xb2\xc3\xd4', b'\x4d\x3c\xb2\xa1', b'\xa1\xb2\x3c\x4d', b'\n\r\r\n')
+
+
 def parser(name, about):
     """The words that both engines take."""
     words = argparse.ArgumentParser(prog=name, description=about)
@@ -43,11 +47,23 @@ def judge(options):
             raise Stopped('%s: no such file' % capture if not os.path.exists(capture) else '%s: no regular file' % capture)
         if os.path.exists(options.out) and os.path.samefile(capture, options.out):
             raise Stopped('%s is read, and OUT too: the last word is the file to be written' % capture, 2)
+        judge_kind(capture)
     folder = os.path.dirname(os.path.abspath(options.out))
     if not os.path.isdir(folder):
         raise Stopped('%s: no such folder' % folder)
     if os.path.exists(options.out) and not is_table(options.out):
         raise Stopped('%s is there, and is no saved table: it is left as it is' % options.out, 2)
+
+
+def judge_kind(capture):
+    """Refuses a pcap or pcapng file."""
+    try:
+        with open(capture, 'rb') as file:
+            front = file.read(4)
+    except OSError as error:
+        raise Stopped('%s: %s' % (capture, error.strerror)) from error
+    if front in PCAPS:
+        raise Stopped('%s is a pcap file, and a capture is wanted: nbt-pcap2cap --no-ticks makes one of it' % capture, 1)
 
 
 def judge_force(options):

@@ -1,0 +1,391 @@
+#!/usr/bin/env bash
+# tools/nbt-look: what it prints of captures, beside tshark and beside an independent reading, and of what isn't one.
+# Usage: tests/look.sh [PROGRAM]; its last line is 'N passed, M failed, K skipped'. Where tshark isn't installed all of it is
+# left out.
+set -uo pipefail
+. "$(dirname "$0")/lib/counting.sh"
+program=$(realpath "${1:-$here/../crates/nbt/out/nbt}")
+
+if ! command -v tshark >/dev/null; then
+    lacks all tshark
+    finish
+    exit
+fi
+with_tools "$program"
+PATH=$room/bin:$PATH
+office=$here/../examples/office.pcap
+
+look() { ended nbt-look "$@"; }
+
+# made WHAT: a capture of tests/lib/look_captures.py.
+made() { "$here/lib/look_captures.py" "$1" "$room/$1.pcap"; }
+
+# prints NAME WORD..: the words print what stands on standard input, and nothing on standard error, with status 0.
+prints() {
+    local name=$1 status
+    cat >"$room/wanted"
+    look "${@:2}" >"$room/output" 2>"$room/errors"
+    status=$?
+    diff "$room/wanted" "$room/output" && [ $status -eq 0 ] && [ ! -s "$room/errors" ]
+    count $? "$name: $(head -n 3 "$room/errors")"
+}
+
+# ends NAME STATUS ERRORS WORD..: what stands on standard error, and the status; the output is in $room/output.
+ends() {
+    local name=$1 status=$2 errors=$3 found
+    look "${@:4}" >"$room/output" 2>"$room/errors"
+    found=$?
+    [ $found -eq "$status" ] && [ "$(cat "$room/errors")" = "$errors" ]
+    count $? "$name: status $found, $(cat "$room/errors")"
+}
+
+# ---- What is printed of a capture.
+
+list() {
+    prints 'the packets of an office' "$office" <<'END'
+    1  0.000000 192.0.2.1       192.0.2.2       claims FRED<20> for 10.0.0.6, for 300000 s
+    2  0.250000 192.0.2.1       192.0.2.2       claims FRED<20> for 10.0.0.6, for 300000 s
+    3  0.500000 192.0.2.1       192.0.2.2       claims FRED<20> for 10.0.0.6, for 300000 s
+    4  1.200000 192.0.2.1       192.0.2.2       asks for FRED<20>
+    5  1.900000 192.0.2.1       192.0.2.2       group datagram from JOE<00> to FRED<20>, 3 bytes at offset 8, the last
+    6  1.900000 192.0.2.1       192.0.2.2       group datagram from JOE<00> to FRED<20>, 4 bytes at offset 4 of one that goes on
+    7  1.900000 192.0.2.1       192.0.2.2       group datagram from JOE<00> to FRED<20>, 4 bytes at offset 0 of one that goes on
+    8  1.900000 192.0.2.1       192.0.2.2       group datagram from JOE<00> to FRED<20>, 4 bytes at offset 4 of one that goes on
+    9  2.400000 192.0.2.1       192.0.2.2       datagram from ANN<00> to JOE<00>, 2 bytes
+   11  3.000000 192.0.2.1:1024  192.0.2.2       calls FRED<20> as JOE<00>
+   12  3.005000 192.0.2.1:1024  192.0.2.2       accepts
+   13  3.100000 192.0.2.1:1024  192.0.2.2       sends 5 bytes
+   14  3.200000 192.0.2.1:1024  192.0.2.2       keeps the session alive
+   15  5.000000 192.0.2.1       192.0.2.2       group datagram from JOE<00> to FRED<20>, 4 bytes at offset 0 of one that goes on
+   16  9.000000 192.0.2.1       192.0.2.2       releases FRED<20> for 10.0.0.6
+16 frames, 15 packets, 0 refused, 0 left out
+END
+    cp "$room/output" "$room/list"
+    for each in "look - <'$office'" "cat '$office' | look -" "look -r '$office'" "gzip -c '$office' >'$room/office.gz' && look '$room/office.gz'" \
+        "ended tshark -r '$office' -w '$room/office.pcapng' 2>'$room/errors' && look '$room/office.pcapng'"; do
+        eval "$each" 2>&1 | cmp -s - "$room/list"
+        count $? "the same by $each"
+    done
+    # A capture that is text has the frames of its comments, and no others.
+    nbt-pcap2cap --quiet "$office" >"$room/capture"
+    look "$room/capture" | cmp -s - <(sed '$s/^16 frames, //' "$room/list") && cat "$room/capture" | look - | cmp -s - <(look "$room/capture")
+    count $? 'the text of a capture'
+    prints 'lines without a comment' "$here/../examples/capture.txt" <<'END'
+    3  0.000000 -               -               group datagram from JOE<00> to FRED<20>, 3 bytes at offset 8, the last
+    4  0.003000 -               -               group datagram from JOE<00> to FRED<20>, 4 bytes at offset 4 of one that goes on
+    5  0.005000 -               -               group datagram from JOE<00> to FRED<20>, 4 bytes at offset 4 of one that goes on
+    6  0.009000 -               -               group datagram from JOE<00> to FRED<20>, 4 bytes at offset 0 of one that goes on
+    8  0.040000 -               -               asks for FRED<20>
+    9  0.060000 -               -               group datagram from JOE<00> to FRED<20>, 4 bytes at offset 0 of one that goes on
+6 packets, 0 refused, 0 left out
+END
+}
+
+# shown WORD..: the numbers of the frames that are shown of an office.
+shown() { look "$@" "$office" | sed '$d' | awk '{ printf "%s ", $1 }'; }
+
+filters() {
+    local each words wanted
+    while IFS='|' read -r words wanted; do
+        IFS=' ' read -ra each <<<"$words"
+        [ "$(shown "${each[@]}")" = "$wanted" ]
+        count $? "nbt-look $words: $(shown "${each[@]}"), not $wanted"
+    done <<'END'
+--name fred|1 2 3 4 5 6 7 8 11 15 16 
+--name FRED<20> --name ANN|1 2 3 4 5 6 7 8 9 11 15 16 
+--name FRED<00>|
+--host 192.0.2.1 --kind query|4 
+--host 10.0.0.6|
+--kind registration,release|1 2 3 16 
+--kind datagram --name ann|9 
+--kind session|11 12 13 14 
+--kind unique --kind message|9 13 
+--kind refused,left-out|
+--port 139|11 12 13 14 
+--port 1024 --port 137|1 2 3 4 11 12 13 14 16 
+END
+    [ "$(look --kind query "$office" | tail -n 1)" = '16 frames, 15 packets, 0 refused, 0 left out; 1 shown' ]
+    count $? 'the last line says how many are shown'
+    [ "$(look --time utc --kind query "$office" | head -n 1 | cut -c 1-52)" = '    4 1970-01-01T00:00:01.200000Z 192.0.2.1       19' ]
+    count $? 'nbt-look --time utc'
+}
+
+objects() {
+    look --json "$office" 2>"$room/errors" >"$room/objects"
+    [ $? -eq 0 ] && [ "$(cat "$room/errors")" = '16 frames, 15 packets, 0 refused, 0 left out' ]
+    count $? "nbt-look --json: $(cat "$room/errors")"
+    # What stands after the frame is what nbt shows of the payload.
+    nbt show --json <"$room/capture" | grep -v '"kind":"tick"' | sed -E 's/^\{"line":[0-9]+,//; s/,?"comment":"[^"]*"//; s/^/{/' >"$room/wanted"
+    sed -E 's/^.*"captured":[0-9]+,/{/' "$room/objects" | diff "$room/wanted" - >"$room/difference"
+    count $? "the members of nbt show --json: $(head -n 3 "$room/difference")"
+    [ "$(sed -n 10p "$room/objects" | cut -d , -f 1-12)" = '{"frame":11,"time":"1970-01-01T00:00:03.000000Z","source":"192.0.2.1","destination":"192.0.2.2","ports":[1024,139],"interface":null,"vlan":[],"mac":null,"size":112,"captured":112,"port":139' ]
+    count $? "the members of a frame: $(sed -n 10p "$room/objects")"
+    look --json --quiet --kind query "$office" 2>&1 | diff - <(grep '"op":"query"' "$room/objects")
+    count $? 'nbt-look --json --quiet --kind query'
+    # As many packets as tshark finds.
+    for each in 'nbns 137' 'nbdgm 138' 'nbss.type 139'; do
+        [ "$(grep -c "\"port\":${each#* }" "$room/objects")" -eq "$(tshark -n -r "$office" -Y "${each% *}" -T fields -e frame.number 2>"$room/errors" | wc -l)" ]
+        count $? "as many packets of $each as tshark finds"
+    done
+}
+
+summary() {
+    prints 'nbt-look --summary' --summary "$office" <<'END'
+names
+  name      kind         address   group  how       since     until     conflicts  refusals
+  FRED<20>  file server  10.0.0.6  no     released  0.000000  9.000000  0          0
+
+stations
+  address    mac  packets  names     status  unit
+  10.0.0.5   -    0        JOE<00>   -       -
+  10.0.0.6   -    0        FRED<20>  -       -
+  10.0.0.7   -    0        ANN<00>   -       -
+  192.0.2.1  -    15       JOE<00>   -       -
+  192.0.2.2  -    0        FRED<20>  -       -
+
+queries without an answer
+  name      kind   by         times  frame  since
+  FRED<20>  query  192.0.2.1  1      4      1.200000
+
+sessions
+  calling  called    from       to         calls  accepted  refused  sent  received
+  JOE<00>  FRED<20>  192.0.2.1  192.0.2.2  1      1         -        5     0
+
+datagrams
+  source   destination  kind    whole  incomplete  spoilt  missing    frame
+  ANN<00>  JOE<00>      unique  1      0           0       -          -
+  JOE<00>  FRED<20>     group   1      1           0       from 4 on  15
+
+16 frames, 15 packets, 0 refused, 0 left out
+END
+    made life
+    prints 'a summary of what goes wrong' --summary "$room/life.pcap" <"$here/lib/look_summary.txt"
+    look --summary --json --quiet "$room/life.pcap" >"$room/output" 2>"$room/errors"
+    [ $? -eq 0 ] && [ ! -s "$room/errors" ] && python3 - "$room/output" <<'END'
+import json, sys
+found = json.loads(open(sys.argv[1]).read())
+assert found['names'][0] == {'name': 'ANN<00>', 'kind': 'workstation', 'address': '10.0.0.7', 'group': False, 'how': 'refused',
+    'since': '2023-11-14T22:13:20.300000Z', 'until': '2023-11-18T09:33:20.300000Z', 'conflicts': 0, 'refusals': 1}, found['names'][0]
+assert [each['frame'] for each in found['refused']] == [15] and found['left_out'] == {'cut by the snap length': 1}
+END
+    count $? 'nbt-look --summary --json'
+}
+
+frames() {
+    prints 'nbt-look --frame' --frame 4 "$office" <<'END'
+frame 4, 1.200000, 1970-01-01T00:00:01.200000Z
+192.0.2.1:137 > 192.0.2.2:137, 78 of 78 bytes captured
+asks for FRED<20>
+
+137 id=0003 word=0110 op=query flags=RD+B rcode=ok qd=1 an=0 ns=0 ar=0 used=50
+  question FRED<20> type=0020 class=0001
+
+00000   00  03  01  10  00  01  00  00  00  00  00  00  20  45  47  46   ............ EGF
+00010   43  45  46  45  45  43  41  43  41  43  41  43  41  43  41  43   CEFEECACACACACAC
+00020   41  43  41  43  41  43  41  43  41  43  41  43  41  00  00  20   ACACACACACACA..
+00030   00  01                                                           ..
+
+Wireshark: frame.number == 4
+of the same: nbns.id == 0x0003
+END
+    made life
+    look --frame 15 "$room/life.pcap" >"$room/output" 2>&1
+    grep -qxF 'refused: destination name: pointer not allowed, at byte 48' "$room/output" && grep -q '^00030 .\[c0\]' "$room/output" &&
+        grep -qxF "$(nbt help 'destination name: pointer not allowed 48')" "$room/output"
+    count $? "the byte with the fault, and what to do: $(grep -n '\[' "$room/output")"
+    ends 'a frame without a packet' 1 '' --frame 10 "$office"
+    [ "$(cat "$room/output")" = 'frame 10 completes no packet of these ports' ]
+    count $? "what is said of it: $(cat "$room/output")"
+    made fragments
+    look --frame 1 "$room/fragments.pcap" 2>&1 | grep -qx 'left out: fragments of IP whose others are missing'
+    count $? 'a frame that is left out'
+}
+
+# ---- What is no capture, or a bad one.
+
+bad() {
+    local each text=$here/../README.md
+    ends 'a text' 1 "nbt-look: $text: line 3 is none of a capture" "$text"
+    printf 'no\tcapture\n' >"$room/other"
+    look "$room/other" >"$room/output" 2>"$room/errors"
+    [ $? -eq 2 ] && [ ! -s "$room/output" ] && grep -q "^nbt-look: tshark: .*isn't a capture file" "$room/errors"
+    count $? "a file that is no capture: $(cat "$room/errors")"
+    head -c 400 "$office" >"$room/cut.pcap"
+    look "$room/cut.pcap" >"$room/output" 2>"$room/errors"
+    [ $? -eq 3 ] && [ "$(tail -n 1 "$room/output")" = '3 frames, 3 packets, 0 refused, 0 left out' ] && grep -q '^nbt-look: tshark: .* cut short' "$room/errors"
+    count $? "a file that is cut: $(cat "$room/errors")"
+    : >"$room/empty"
+    ends 'an empty file' 2 "nbt-look: $room/empty: the file holds no packets: it is empty" "$room/empty"
+    ends 'a directory' 3 "nbt-look: $room: it is a directory" "$room"
+    ends 'no file' 3 "nbt-look: $room/none: No such file or directory" "$room/none"
+    ends 'no word' 2 'nbt-look: usage: nbt-look FILE, or -, --live or -i INTERFACE in place of FILE; --help says more'
+    ends 'an unknown kind' 2 "nbt-look: argument --kind: what is none of $(kinds); --help says more" --kind what x
+    ends 'no address' 2 'nbt-look: argument --host: an address is wanted, as 10.0.0.6; --help says more' --host fred x
+    look "$office" 2>"$room/errors" | head -n 1 >"$room/output"
+    [ "$(cat "$room/output")" = "$(head -n 1 "$room/list")" ] && [ ! -s "$room/errors" ]
+    count $? "its reader ends after a line: $(cat "$room/errors")"
+    look "$office" >/dev/full 2>"$room/errors"
+    [ $? -eq 3 ] && [ "$(cat "$room/errors")" = 'nbt-look: standard output: No space left on device' ]
+    count $? 'standard output full'
+    look - <&- 2>"$room/errors"
+    [ $? -eq 3 ] && [ "$(cat "$room/errors")" = 'nbt-look: standard input is closed' ]
+    count $? 'standard input closed'
+
+    # Packets that aren't of these ports, and what is said of them.
+    made others
+    prints 'ports and protocols that are not read' "$room/others.pcap" <<'END'
+3 frames, 0 packets, 0 refused, 0 left out
+no frame has UDP of port 137 or 138, or TCP of port 139; --port takes others for them
+not read by this tool: 1 frames of port 445, SMB without NetBIOS, 2 frames of NetBEUI, NetBIOS over LLC
+END
+    made usb
+    prints 'a link type without IP' "$room/usb.pcap" <<'END'
+3 frames, 0 packets, 0 refused, 0 left out
+no frame has UDP of port 137 or 138, or TCP of port 139; --port takes others for them
+not read by this tool: no frame with IP: the first one is usb
+END
+
+    # What the file has of cut packets, fragments, times and interfaces.
+    made snapped
+    look "$room/snapped.pcap" >"$room/output"
+    [ "$(tail -n 1 "$room/output")" = '601 frames, 1 packets, 0 refused, 600 left out: 600 cut by the snap length' ] &&
+        [ "$(grep -c ' left out: cut by the snap length, 96 of 1124 bytes$' "$room/output")" -eq 600 ]
+    count $? "packets that are cut: $(tail -n 1 "$room/output")"
+    made fragments
+    prints 'fragments whose others are missing' "$room/fragments.pcap" <<'END'
+    1  0.000000 10.0.0.5        10.0.0.6        left out: fragments of IP whose others are missing
+    3  0.000002 10.0.0.5        10.0.0.6        left out: fragments of IP without the one that has the ports
+    4  0.000003 10.0.0.5        10.0.0.6        asks for FRED<20>
+4 frames, 1 packets, 0 refused, 2 left out: 1 fragments of IP whose others are missing, 1 fragments of IP without the one that has the ports
+END
+    made backwards
+    prints 'a clock that runs backwards' "$room/backwards.pcap" <<'END'
+    1  0.000000 10.0.0.5        10.0.0.6        asks for FRED<20>
+    2 -1.500000 10.0.0.5        10.0.0.6        asks for JOE<00>
+    3  1.000000 10.0.0.5        10.0.0.6        asks for FRED<20>
+3 frames, 3 packets, 0 refused, 0 left out
+END
+    made interfaces
+    prints 'two interfaces with the same addresses' "$room/interfaces.pcap" <<'END'
+    1  0.000000 10.0.0.5        10.0.0.6        asks for FRED<20>
+    2  0.001000 10.0.0.5%eth1   10.0.0.6        asks for JOE<00>
+2 frames, 2 packets, 0 refused, 0 left out
+END
+    made evil
+    prints 'names and interfaces that act on terminals' "$room/evil.pcap" <<'END'
+    1  0.000000 10.0.0.5        10.0.0.6        asks for \1b]0;x\07\ff\9b2J<20>.\1b[31m
+    2  0.000001 10.0.0.5%\x1b]0;x\x07\xff\x9b2J 10.0.0.6        asks for \1b]0;x\07\ff\9b2J<20>.\1b[31m
+2 frames, 2 packets, 0 refused, 0 left out
+END
+    for each in --json --summary '--frame 2' '--color always' '--summary --json'; do
+        look $each "$room/evil.pcap" 2>&1 | LC_ALL=C grep -qP '[^\x20-\x7e]|\x1b'
+        [ "${PIPESTATUS[1]}" -eq 1 ]
+        count $? "nbt-look $each: nothing of it comes to a terminal as it is"
+    done
+    made chance
+    look "$room/chance.pcap" >"$room/output" 2>"$room/errors"
+    [ $? -eq 0 ] && [ ! -s "$room/errors" ] && tail -n 1 "$room/output" | grep -q '^2000 frames, ' && ! grep -q Traceback "$room/output"
+    count $? "frames of any bytes: $(tail -n 1 "$room/output")"
+}
+
+kinds() { python3 -c 'import sys; sys.dont_write_bytecode = True; sys.path.insert(0, sys.argv[1]); from nbt_look import kinds; print(", ".join(kinds.ALL))' "$here/../tools"; }
+
+# ---- Random captures, terminals, memory, networks.
+
+random() {
+    local line
+    line=$("$here/random_looks.py" 10 | tee "$room/random" | tail -n 1)
+    grep '^failed: ' "$room/random"
+    [[ $line =~ ^([0-9]+)' passed, '([0-9]+)' failed'$ ]] || line='0 passed, 1 failed'
+    passed=$((passed + ${line%% *}))
+    line=${line#*, }
+    failed=$((failed + ${line%% *}))
+}
+
+# on_terminal COLUMNS COMMAND..: what a command shows on a terminal of so many columns.
+on_terminal() {
+    ended python3 -c 'import fcntl, os, pty, struct, sys, termios
+child, side = pty.fork()
+if child == 0:
+    fcntl.ioctl(1, termios.TIOCSWINSZ, struct.pack("4H", 24, int(sys.argv[1]), 0, 0))
+    os.execvp(sys.argv[2], sys.argv[2:])
+try:
+    while data := os.read(side, 65536):
+        os.write(1, data)
+except OSError:
+    pass
+sys.exit(os.waitstatus_to_exitcode(os.waitpid(child, 0)[1]))' "$@" | tr -d '\r'
+}
+
+terminals() {
+    made life
+    on_terminal 60 nbt-look --color never "$office" >"$room/output"
+    [ "$(sed -n 1p "$room/output")" = '    1  0.000000 192.0.2.1       192.0.2.2       claims FRE..' ] && [ "$(wc -L <"$room/output")" -eq 60 ]
+    count $? "the list fits a terminal: $(sed -n 1p "$room/output")"
+    NO_COLOR=1 on_terminal 200 nbt-look "$room/life.pcap" >"$room/output" && ! grep -q $'\x1b' "$room/output"
+    count $? 'NO_COLOR'
+    look "$room/life.pcap" >"$room/output" && ! grep -q $'\x1b' "$room/output"
+    count $? 'no colour where standard output is no terminal'
+}
+
+# By the system's Python, for which Debian has rich.
+colours() {
+    mkdir "$room/system" && ln -s /usr/bin/python3 "$room/system"
+    local PATH=$room/system:$PATH
+    TERM=xterm on_terminal 200 nbt-look "$room/life.pcap" | grep -q $'\x1b\[31m.*refused: .*\x1b\[0m'
+    count $? 'a refused packet is red on a terminal'
+    look --color always "$room/life.pcap" | grep -q $'\x1b\[33m.*left out: .*\x1b\[0m'
+    count $? 'nbt-look --color always'
+}
+
+# peak WORD..: the most memory of nbt-look itself, in kB; that of tshark and nbt comes from other processes.
+peak() {
+    PYTHONPATH=$here/../tools ended python3 -c 'import resource, runpy, sys
+sys.argv = sys.argv[1:]
+try:
+    runpy.run_path(sys.argv[0], run_name="__main__")
+except SystemExit as end:
+    print(end.code, resource.getrusage(resource.RUSAGE_SELF).ru_maxrss, file=sys.stderr)' "$here/../tools/nbt-look" "$@" 2>&1 >"$room/output" | tail -n 1
+}
+
+# A file five times as long takes no more memory, and neither does its summary: its stations and names are the same.
+growing() {
+    local each small large
+    for each in 10000 50000; do "$here/big_pcap.py" $each "$room/$each.pcap"; done
+    for each in '' --summary --json; do
+        small=$(peak $each --quiet "$room/10000.pcap") large=$(peak $each --quiet "$room/50000.pcap")
+        [ "${small% *}" = 0 ] && [ "${large% *}" = 0 ] && [ "${large#* }" -lt $((${small#* } + 16000)) ] && [ "${large#* }" -lt 150000 ]
+        count $? "nbt-look $each, peak of memory: $small and $large"
+    done
+}
+
+# Packets of the loopback interface, as they come, and Ctrl-C.
+live() {
+    if ! ended tshark -i lo -a duration:0 >"$room/output" 2>&1; then
+        skipped=$((skipped + 1))
+        echo 'skipped: nbt-look -i lo, 1 case (tshark may not listen to lo here)'
+        return
+    fi
+    (sleep 3; python3 -c 'import socket
+sent = socket.socket(socket.AF_INET, socket.SOCK_DGRAM)
+for port in (137, 138):
+    sent.sendto(b"abc", ("127.0.0.1", port))') &
+    timeout --preserve-status -s INT 8 nbt-look -i lo --host 127.0.0.1 >"$room/output" 2>"$room/errors"
+    [ $? -eq 0 ] && [ ! -s "$room/errors" ] && [ "$(grep -c 'refused: truncated' "$room/output")" -eq 2 ] &&
+        grep -q '^2 frames, 2 packets, 2 refused, 0 left out; 2 shown$' "$room/output"
+    count $? "nbt-look -i lo: $(cat "$room/errors" "$room/output")"
+    wait
+}
+
+part list list
+part filters filters
+part objects objects
+part summary summary
+part frames frames
+part bad bad
+part random random
+part terminals terminals
+if /usr/bin/python3 -c 'import rich' 2>/dev/null; then part colours colours; else lacks colours python3-rich; fi
+part growing growing
+part live live
+finish

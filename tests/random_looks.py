@@ -1,0 +1,94 @@
+#!/usr/bin/env python3
+"""Random captures through tools/nbt-look, beside an independent reading of their bytes and beside tshark.
+
+Usage: tests/random_looks.py COUNT [SEED]
+
+The captures are those of tests/random_captures.py. Of each:
+- the packets are those that the reading has, each with its frame, time, addresses, ports and service;
+- each frame that the reading leaves out is there with a reason, and no other one but fragments of IP whose others are missing;
+- each frame in which tshark finds a packet of the name or datagram service is there, as a packet or with a reason;
+- the last line adds up.
+
+Its last line is 'N passed, M failed'; a capture that fails is kept in the folder of temporary files, and named.
+"""
+import collections
+import json
+import os
+import random
+import subprocess
+import sys
+import tempfile
+
+sys.dont_write_bytecode = True
+sys.path.insert(1, f'{sys.path[0]}/lib')
+from pcap_expected import Expected
+from pcap_reading import frames_of
+from random_pcap import pcap_of
+
+TOOL = f'{sys.path[0]}/../tools/nbt-look'
+FRAGMENTS = 'fragments of IP '
+SERVICES = '(nbns || nbdgm) && !icmp && !icmpv6'
+
+
+def main():
+    count, seed = int(sys.argv[1]), sys.argv[2] if len(sys.argv) > 2 else 'captures'
+    failed = sum(not agrees(f'{seed}-{number}') for number in range(count))
+    print(f'{count - failed} passed, {failed} failed')
+    return failed > 0
+
+
+def agrees(seed):
+    """Whether the tool shows what the reading and tshark find, for the capture of this seed."""
+    data = pcap_of(random.Random(seed))
+    path = os.path.join(tempfile.gettempdir(), f'looks-{os.getpid()}-{seed}.pcap')
+    with open(path, 'wb') as file:
+        file.write(data)
+    difference = first_difference(path, frames_of(data))
+    if difference:
+        print(f'failed: {seed}: {difference} ({path})')
+    else:
+        os.remove(path)
+    return not difference
+
+
+def first_difference(path, frames):
+    done = subprocess.run([TOOL, '--json', path], capture_output=True, text=True, timeout=120, check=False)
+    objects = [json.loads(line) for line in done.stdout.splitlines()]
+    packets = [each for each in objects if 'left_out' not in each]
+    left_out = {each['frame']: each['left_out'] for each in objects if 'left_out' in each}
+    expected = Expected(frames)
+    given, wanted = collections.Counter(map(head_of, packets)), collections.Counter(heads_of(expected.lines))
+    if given != wanted:
+        return f'{list((given - wanted).items())[:3]} in place of {list((wanted - given).items())[:3]}'
+    missing = expected.left_out - left_out.keys()
+    further = {number for number in left_out.keys() - expected.left_out if not left_out[number].startswith(FRAGMENTS)}
+    if missing or further:
+        return f'left out without a reason: {sorted(missing)}; with one, and not left out: {sorted(further)}'
+    unseen = found_by_tshark(path) - {each['frame'] for each in objects}
+    if unseen:
+        return f'frames of these services are nowhere: {sorted(unseen)}'
+    counts = f'{len(frames)} frames, {len(packets)} packets, {sum("refused" in each for each in packets)} refused, {len(left_out)} left out'
+    return '' if done.stderr.splitlines()[0].partition(': ')[0] == counts else f'{done.stderr.strip()}, not {counts}'
+
+
+def head_of(packet):
+    """The comment that pcap2cap writes of a packet, and its service."""
+    source, target = ('[%s]' % each if ':' in each else each for each in (packet['source'], packet['destination']))
+    ports = packet['ports']
+    return '# frame %d %s %s:%d > %s:%d' % (packet['frame'], packet['time'] or '-', source, ports[0], target, ports[1]), packet['port']
+
+
+def heads_of(lines):
+    """The same of the lines of a capture."""
+    for comment, payload in zip(lines[::2], lines[1::2]):
+        yield comment, int(payload.split(' ', 1)[0])
+
+
+def found_by_tshark(path):
+    done = subprocess.run(['tshark', '-n', '-r', path, '-Y', SERVICES, '-T', 'fields', '-e', 'frame.number'], capture_output=True, text=True,
+                          timeout=120, check=False)
+    return set(map(int, done.stdout.split()))
+
+
+if __name__ == '__main__':
+    sys.exit(main())

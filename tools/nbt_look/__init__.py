@@ -1,0 +1,30 @@
+"""What nbt-look is made of, over nbt_pcap.
+
+arguments    its command line
+looking      one pass over a capture: from packets to what is printed of them
+items        packets, and frames of which something is left out
+frames       items of the rows that tshark prints
+fragments    fragments of IP whose others are missing
+others       what tshark counts of packets that aren't read
+texts        items of a capture that is text
+piped        standard input where it is a pipe
+telling      `nbt show --json` as a child
+ordering     items by their frames
+filters      which packets are wanted
+kinds        the kinds of packets
+said         what a packet says, in words
+parts        the parts of a packet of port 137
+times        times of frames
+screen       lines, tables and colours
+listing      a line for each packet
+objects      an object of JSON for each packet
+whole        all of one frame
+tally        what the last line counts
+summary      the summary, whose parts are these:
+names        who claims which name
+stations     who sends packets, and what they are called
+queries      queries without an answer
+sessions     who called whom
+datagrams    which are whole, incomplete, spoilt
+rooms        how many entries a part keeps
+"""

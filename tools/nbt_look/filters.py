@@ -1,0 +1,27 @@
+"""Which packets are wanted: by name, host, port and kind."""
+from .kinds import kinds_of, names_in
+from .items import Packet
+
+
+class Filter:
+    """What the command line asks for; each of its options has to agree, and one of its values."""
+
+    def __init__(self, options):
+        self.names = {each.casefold() for each in options.names}
+        self.hosts, self.ports, self.kinds = set(options.hosts), set(options.only_ports), set(options.kinds)
+        self.is_all = not (self.names or self.hosts or self.ports or self.kinds)
+
+    def wants(self, item, shown):
+        """Whether an item is wanted, by the object of a packet; None stands for what is left out."""
+        ends = item if isinstance(item, Packet) else item.frame
+        if self.hosts and not self.hosts & {ends.source, ends.target}:
+            return False
+        if self.ports and not self.ports & {ends.source_port, ends.target_port, str(getattr(item, 'service', ''))}:
+            return False
+        if self.kinds and not self.kinds & kinds_of(shown):
+            return False
+        return not self.names or (shown is not None and any(self.is_named(each) for each in names_in(shown)))
+
+    def is_named(self, text):
+        text = text.casefold()
+        return text in self.names or text.partition('<')[0] in self.names

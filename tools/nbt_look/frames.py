@@ -1,0 +1,102 @@
+"""The packets of tshark's rows, and what is left out, each with its frame."""
+from nbt_pcap.frames import Reader
+from nbt_pcap.report import Report
+from nbt_pcap.rows import values_of
+
+from .fragments import Unfinished
+from .items import Frame, LeftOut, Packet
+from .others import STATISTIC, Others
+from .screen import safe
+
+# What a row has besides the fields that packets are made of.
+FIELDS = ('frame.interface_name', 'frame.interface_id', 'vlan.id', 'eth.src', 'eth.dst', 'ip.id', 'ip.proto',
+          'ip.frag_offset', 'ipv6.fraghdr.ident', 'ipv6.fraghdr.nxt', 'ipv6.fraghdr.offset', 'data.data')
+STATISTICS = (STATISTIC,)
+
+
+class Noted(Report):
+    """What is said of frames, as items: each frame that is left out is one, with its reason."""
+
+    def __init__(self, items):
+        super().__init__(lambda text: None)
+        self.items = items
+
+    def count(self, mark, reason):
+        if not mark.counted:
+            self.items.append(LeftOut(mark, reason))
+        super().count(mark, reason)
+
+
+class Frames(Reader):
+    """Makes items of the rows, in the order in which it is known what becomes of them."""
+
+    def __init__(self, options, times):
+        self.items = []
+        super().__init__(options, None, Noted(self.items))
+        self.times = times
+        self.protocols = ''          # those of the first frame
+        self.named = '', ''          # the latest interface, and its name as it may be printed
+        self.others = Others()
+        self.unfinished = Unfinished(self.report, self.services, self.session_ports)
+
+    def row(self, text):
+        base, *self.more = text.rsplit('\t', len(FIELDS))
+        if len(self.more) == len(FIELDS):
+            super().row(base)
+            if self.times.first is None:
+                self.times.see(self.clock.first)
+        elif not self.others.take(text):
+            super().row(text)
+
+    def begin(self, row):
+        """Takes the first frame."""
+        super().begin(row)
+        self.protocols = row.protocols
+
+    def frame(self, row, shape):
+        self.report.mark = self.mark(row, shape)
+        if shape.is_fragment or row.fragments or row.fragments6:
+            self.unfinished.take(row, self.more[5:], shape.is_fragment)
+        super().frame(row, shape)
+
+    def mark(self, row, shape):
+        """The frame of a row."""
+        name, number, vlans, source_mac, target_mac = self.more[:5]
+        ends = (row.source or row.source6, row.tcp_source or row.udp_source, row.target or row.target6, row.tcp_target or row.udp_target)
+        if not shape.single:
+            ends, source_mac, target_mac = map(last, ends), last(source_mac), last(target_mac)
+        return Frame(int(row.number), self.clock.at if self.clock.first is not None else None, *ends, self.interface(name or number), vlans,
+                     source_mac, target_mac, int(row.size), int(row.captured))
+
+    def interface(self, name):
+        """The name of an interface, as it may be printed."""
+        if name != self.named[0]:
+            self.named = name, safe(name)
+        return self.named[1]
+
+    def payload(self, row, service, digits, packet):
+        host = packet.host
+        self.items.append(Packet(self.report.mark, service, self.clock.moment, digits, host.source.strip('[]'), packet.source,
+                                 host.target.strip('[]'), packet.target, getattr(packet, 'stream', None)))
+
+    def taken(self):
+        """The items since the last call."""
+        items = self.items[:]
+        self.items.clear()
+        return items
+
+    def notes(self):
+        """What the last lines say besides the counts."""
+        report = self.report
+        none = [] if report.ours else ['no frame has UDP of port 137 or 138, or TCP of port 139; --port takes others for them']
+        return none + self.others.lines(report.frames, report.ours, self.protocols)
+
+    def finish(self):
+        """What is known at the end alone."""
+        self.sessions.finish()
+        self.unfinished.finish()
+
+
+def last(text):
+    """The last value of a field: that of the innermost header."""
+    return values_of(text)[-1] if ',' in text else text

@@ -1,0 +1,158 @@
+"""One pass over a capture: from packets to what is printed of them."""
+import collections
+import gc
+import os
+from json.decoder import JSONDecoder
+
+from nbt_pcap import arguments as pcap_arguments
+from nbt_pcap import tshark
+from nbt_pcap.lines import Refused
+from nbt_pcap.process import Stopped, say
+from nbt_pcap.progress import Progress
+from nbt_shards import ending
+from nbt_shards.programs import local_program
+
+from .filters import Filter
+from .frames import FIELDS, STATISTICS, Frames
+from .items import Packet
+from .listing import Listing
+from .objects import Objects
+from .ordering import WINDOW, Ordering
+from .screen import Screen
+from .summary import Summary
+from .tally import Tally
+from .telling import Telling
+from .texts import batches_of
+from .times import Times
+from .whole import Whole
+
+
+def at_text(options, pipe):
+    """Shows a capture that is text; answers the exit status."""
+    look = Look(options)
+    try:
+        for items in batches_of(options.file, pipe):
+            look.put(items)
+        look.finish(collections.Counter())
+    except Refused:
+        look.finish(collections.Counter())
+        raise
+    except BaseException:
+        look.telling.end()
+        raise
+    look.end([])
+    return look.sink.status
+
+
+def at_frames(options, settings, errors, pipe):
+    """Shows what tshark reads; answers how tshark ended, and the exit status where that was well."""
+    look = Look(options)
+    frames = Frames(options, look.times)
+    child = tshark.start(options, settings, errors, FIELDS, STATISTICS, pipe is not None)
+    if pipe:
+        pipe.go_on_to(os.dup(child.stdin.fileno()))
+        child.stdin.close()
+    progress = Progress(options, child, look.is_silent)
+    stopping = tshark.Stopping(child, tshark.ENDING if options.live else ())
+    try:
+        for rows in tshark.rows_of(child.stdout.fileno(), options.live):
+            for row in rows:
+                frames.row(row)
+            if not rows:
+                stopping.insist()
+            look.put(frames.taken())
+            progress.show(frames.report.frames)
+        status = stopping.status()
+        frames.finish()
+        look.put(frames.taken())
+        look.finish(frames.report.left_out)
+    except BaseException:
+        tshark.end(child)
+        look.telling.end()
+        raise
+    finally:
+        progress.erase()
+    if status == 0 and not options.live and not frames.report.frames:
+        raise Stopped(2, pcap_arguments.title_of(options.file) + ': the file holds no packets: it has no frame')
+    if frames.report.frames:
+        look.tally.frames = frames.report.frames
+        look.end(frames.notes())
+    return status, look.sink.status
+
+
+# The object of a text, and where it ends.
+READ = JSONDecoder().raw_decode
+
+
+class Look:
+    """What is done with items: each packet is told by nbt, filtered, counted, and shown in its place."""
+
+    def __init__(self, options):
+        gc.disable()                 # nothing here has a cycle, and looking for some costs as much as reading objects
+        self.options = options
+        self.program = program()
+        self.at_once = options.live or options.file == '-'
+        self.times = Times(options.time == 'utc')
+        self.screen = Screen(options.color)
+        self.filter = Filter(options)
+        self.tally = Tally()
+        self.is_silent = options.summary or options.frame is not None
+        self.reads_objects = not (options.json and not options.summary and self.filter.is_all)
+        self.sink = self.sink_of(options)
+        self.ordering = Ordering(self.show, 0 if self.at_once or self.is_silent else WINDOW)
+        self.telling = Telling(self.program, self.told)
+
+    def sink_of(self, options):
+        if options.frame is not None:
+            return Whole(self.screen, self.times, options.frame, self.program)
+        if options.summary:
+            return Summary(self.screen, self.times, options.json, self.program)
+        return Objects(self.screen, self.times) if options.json else Listing(self.screen, self.times)
+
+    def put(self, items):
+        self.telling.put(items, self.at_once)
+        self.screen.flush()
+
+    def told(self, item, text):
+        """Takes an item with the object of JSON that nbt made of it; None stands for what is left out."""
+        shown = None
+        self.times.see(item.frame.at)
+        if text is not None:
+            self.tally.take(text)
+            shown = READ(text)[0] if self.reads_objects else None
+        if self.filter.is_all or self.filter.wants(item, shown):
+            self.tally.shown += 1
+            self.ordering.put(item, shown, text)
+
+    def show(self, item, shown, text):
+        if isinstance(item, Packet):
+            self.sink.packet(item, shown, text)
+        else:
+            self.sink.left_out(item)
+
+    def finish(self, left_out):
+        """Shows the rest, and what is known once all is seen."""
+        self.left_out = left_out
+        self.telling.finish()
+        self.ordering.finish()
+        self.screen.flush()
+
+    def end(self, notes):
+        """The last lines."""
+        self.sink.finish(self.tally, self.left_out)
+        lines = [self.tally.text(self.left_out, self.filter.is_all), *notes] if self.options.frame is None else []
+        if not self.options.json:
+            for each in lines:
+                self.screen.line(each)
+        self.screen.flush()
+        if self.options.json and not self.options.quiet:
+            for each in lines:
+                say(each, name=False)
+
+
+def program():
+    """Where nbt is."""
+    try:
+        return local_program(None)
+    except ending.Stopped as why:
+        raise Stopped(3, "nbt isn't there: make build builds it, make install puts it beside this tool") from why

@@ -1,0 +1,23 @@
+"""Entries of which only so many are kept."""
+
+# How many names, claims, stations, pairs of callers and so on are kept at most; the rest is counted.
+MOST = 16_384
+
+
+class Room:
+    """Entries by key. Past the bound they aren't kept, and what would go into them is counted."""
+
+    def __init__(self, most=MOST):
+        self.most = most
+        self.entries = {}
+        self.others = 0
+
+    def get(self, key, make):
+        """The entry of a key, made where there is none yet; None where there is no room for it."""
+        found = self.entries.get(key)
+        if found is None:
+            if len(self.entries) >= self.most:
+                self.others += 1
+                return None
+            found = self.entries[key] = make()
+        return found

@@ -1,0 +1,70 @@
+"""What is printed: lines, tables, and colours where python3-rich is there to make them."""
+import os
+
+from nbt_pcap.process import write_all
+
+try:
+    from rich.color import ColorSystem
+    from rich.style import Style
+except ImportError:
+    Style = None
+
+STYLES = {'refused': 'red', 'left out': 'yellow', 'conflict': 'magenta', 'head': 'bold', 'mark': 'reverse'}
+# Of a terminal that doesn't say how wide it is, and the least that lines are cut to.
+USUAL_WIDTH, LEAST_WIDTH = 80, 20
+
+
+def safe(text):
+    """A text of which nothing acts on a terminal: a byte or character that might is an escape."""
+    return text if text.isprintable() else ''.join(each if each.isprintable() else escaped(ord(each)) for each in text)
+
+
+def escaped(number):
+    return '\\x%02x' % (number - 0xdc00 if 0xdc80 <= number <= 0xdcff else number)
+
+
+class Screen:
+    """Standard output: whole lines. `width` is that of a terminal, None where it is none."""
+
+    def __init__(self, colour):
+        terminal = os.isatty(1)
+        self.width = max(os.get_terminal_size(1).columns or USUAL_WIDTH, LEAST_WIDTH) if terminal else None
+        plain = os.environ.get('NO_COLOR') or os.environ.get('TERM') == 'dumb' or not terminal
+        wanted = colour == 'always' or (colour == 'auto' and not plain)
+        self.styles = {name: Style.parse(each) for name, each in STYLES.items()} if wanted and Style else {}
+        self.lines = []
+
+    def styled(self, style, text):
+        found = self.styles.get(style)
+        return found.render(text, color_system=ColorSystem.STANDARD) if found else text
+
+    def line(self, text, style=None, cut=False):
+        """A line; with `cut` at most as long as a terminal is wide."""
+        text = safe(text)
+        if cut and self.width and len(text) > self.width:
+            text = text[:self.width - 2] + '..'
+        self.lines.append(self.styled(style, text))
+
+    def flush(self):
+        if self.lines:
+            data = '\n'.join(self.lines) + '\n'
+            self.lines.clear()
+            write_all(data.encode(errors='surrogateescape'))
+
+    def table(self, title, rows, head):
+        """Rows of the same keys, under their names."""
+        self.line(title, 'head')
+        cells = [head, *([cell(row[key]) for key in head] for row in rows)]
+        widths = [max(map(len, column)) for column in zip(*cells)]
+        for number, row in enumerate(cells):
+            text = '  '.join(each.ljust(width) for each, width in zip(row, widths))
+            self.line('  ' + text.rstrip(), 'head' if number == 0 else None)
+
+
+def cell(value):
+    """A value as a table has it."""
+    if isinstance(value, bool):
+        return 'yes' if value else 'no'
+    if isinstance(value, (list, tuple)):
+        return ', '.join(map(cell, value)) or '-'
+    return '-' if value in (None, '') else str(value)

@@ -1,0 +1,72 @@
+"""Sessions: who called whom, and what came of it."""
+import collections
+
+from .rooms import Room
+from .said import said
+
+# How many streams are known; the one that was silent longest is let go.
+MOST_STREAMS = 16_384
+
+
+class Calls:
+    """The sessions of one caller with one station, by their names."""
+
+    def __init__(self):
+        self.calls = self.accepted = self.sent = self.received = 0
+        self.refused = collections.Counter()
+
+
+class Sessions:
+    """All sessions, by the names and addresses of both sides."""
+
+    title = 'sessions'
+    head = ('calling', 'called', 'from', 'to', 'calls', 'accepted', 'refused', 'sent', 'received')
+
+    def __init__(self):
+        self.room = Room()
+        self.streams = collections.OrderedDict()     # by the addresses and ports of both sides: the names
+
+    def take(self, item, shown):
+        if item.service != 139 or 'kind' not in shown:
+            return
+        here, there = (item.source, item.source_port), (item.target, item.target_port)
+        kind = shown['kind']
+        if kind == 'request':
+            self.open(here + there, (shown['calling'], shown['called']))
+        is_answer = there + here in self.streams or (here + there not in self.streams and kind in ('positive', 'negative', 'retarget'))
+        stream = there + here if is_answer else here + there
+        if stream not in self.streams:
+            self.open(stream, (None, None))
+        self.streams.move_to_end(stream)
+        calls = self.room.get((*self.streams[stream], stream[0], stream[2]), Calls)
+        if calls:
+            count(calls, shown, is_answer, said(shown, len(item.digits) // 2))
+
+    def open(self, stream, names):
+        self.streams[stream] = names
+        if len(self.streams) > MOST_STREAMS:
+            self.streams.popitem(last=False)
+
+    def rows(self, _time):
+        found = []
+        for key, each in self.room.entries.items():
+            refused = ['%s: %d' % pair for pair in each.refused.items()]
+            found.append(dict(zip(self.head, (*key, each.calls, each.accepted, refused, each.sent, each.received))))
+        return sorted(found, key=lambda row: tuple(str(row[key]) for key in self.head[:4]))
+
+    def others(self):
+        return self.room.others
+
+
+def count(calls, shown, is_answer, phrase):
+    kind = shown['kind']
+    if kind == 'request':
+        calls.calls += 1
+    elif kind == 'positive':
+        calls.accepted += 1
+    elif kind == 'negative':
+        calls.refused[phrase.removeprefix('refuses: ')] += 1
+    elif kind == 'message' and is_answer:
+        calls.received += shown['length']
+    elif kind == 'message':
+        calls.sent += shown['length']

@@ -1,0 +1,64 @@
+"""The stations: who sends packets, and what they are called."""
+from .kinds import is_response
+from .parts import entries, subject
+from .rooms import Room
+
+# How many names of a station are kept.
+MOST_NAMES = 64
+
+
+class Station:
+    """An address, and what is known of it."""
+
+    def __init__(self):
+        self.mac, self.packets, self.unit = None, 0, None
+        self.names, self.status = {}, []
+
+    def name(self, text):
+        if len(self.names) < MOST_NAMES:
+            self.names[text] = True
+
+
+class Stations:
+    """The stations, by address."""
+
+    title = 'stations'
+    head = ('address', 'mac', 'packets', 'names', 'status', 'unit')
+
+    def __init__(self):
+        self.room = Room()
+
+    def take(self, item, shown):
+        sender = self.room.get(item.source, Station)
+        if sender:
+            sender.packets += 1
+            sender.mac = item.frame.source_mac or sender.mac
+        if 'op' in shown:
+            self.service(shown, sender)
+        elif 'source' in shown:
+            self.named(shown['key'].partition(':')[0], shown['source'])
+        elif 'calling' in shown:
+            self.named(item.source, shown['calling'])
+            self.named(item.target, shown['called'])
+
+    def service(self, shown, sender):
+        if is_response(shown):
+            for record in shown['answers']:
+                if sender and record.get('names'):
+                    sender.status = [each['name'] for each in record['names'][:MOST_NAMES]]
+                    sender.unit = record.get('unit')
+        elif shown['op'] in ('registration', 'refresh', 15):
+            for each in entries(shown):
+                self.named(each['address'], subject(shown))
+
+    def named(self, address, name):
+        station = self.room.get(address, Station)
+        if station:
+            station.name(name)
+
+    def rows(self, _time):
+        return [dict(zip(self.head, (address, each.mac, each.packets, list(each.names), each.status, each.unit)))
+                for address, each in sorted(self.room.entries.items())]
+
+    def others(self):
+        return self.room.others

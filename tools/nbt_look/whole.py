@@ -1,0 +1,89 @@
+"""All of the packets of one frame."""
+import re
+import subprocess
+
+from .listing import ends
+from .said import said
+
+ROW = 16
+# Of these the place is in the spelling of a name, and not in the packet.
+ELSEWHERE = re.compile('not netbios [0-9]+$')
+
+
+class Whole:
+    """What stands in a frame: where it comes from, what it says, its fields and bytes, its fault, and how Wireshark finds it."""
+
+    def __init__(self, screen, times, number, program):
+        self.screen, self.times, self.number, self.program = screen, times, number, program
+        self.status = 1
+        self.why = 'frame %d completes no packet of these ports' % number
+
+    def packet(self, item, shown, _text):
+        if item.frame.number != self.number:
+            return
+        self.head(item.frame, ends(item, ()))
+        self.screen.line(said(shown, len(item.digits) // 2), 'refused' if 'refused' in shown else None)
+        self.screen.line('')
+        for line in self.asked(['show'], '%d %d %s\n' % (item.service, item.moment, item.digits or 'empty')):
+            self.screen.line(line.removeprefix('1 '))
+        self.screen.line('')
+        self.dump(bytes.fromhex(item.digits), marked(shown))
+        if 'refused' in shown:
+            self.screen.line('')
+            for line in self.asked(['help', shown['refused']], ''):
+                self.screen.line(line)
+        if item.source:
+            self.screen.line('')
+            self.screen.line('Wireshark: frame.number == %d' % self.number)
+            self.screen.line('of the same: ' + wireshark(item, shown))
+
+    def left_out(self, item):
+        if item.frame.number == self.number:
+            self.head(item.frame, ends(item.frame, ()))
+            self.screen.line('left out: ' + item.reason, 'left out')
+            self.screen.line('Wireshark: frame.number == %d' % self.number)
+
+    def head(self, frame, addresses):
+        if self.status == 0:
+            self.screen.line('')
+        self.status = 0
+        self.screen.line('frame %d, %s, %s' % (frame.number, self.times.text(frame.at), self.times.utc(frame.at) or '-'), 'head')
+        words = ['%s > %s' % addresses, '%d of %d bytes captured' % (frame.captured, frame.size)]
+        if frame.source_mac:
+            words.append('MAC %s > %s' % (frame.source_mac, frame.target_mac))
+        words += ['%s %s' % each for each in (('VLAN', frame.vlans), ('interface', frame.interface)) if each[1]]
+        self.screen.line(', '.join(words))
+
+    def asked(self, words, text):
+        """What nbt prints."""
+        done = subprocess.run([self.program, *words], input=text.encode(), stdout=subprocess.PIPE, check=False)
+        return done.stdout.decode(errors='replace').splitlines()
+
+    def dump(self, data, mark):
+        """The bytes, sixteen a row; the one with the fault stands in brackets, and so does the place after the last one."""
+        for at in range(0, max(len(data) + (mark == len(data)), 1), ROW):
+            row = data[at:at + ROW]
+            digits = ''.join('[%02x]' % byte if at + place == mark else ' %02x ' % byte for place, byte in enumerate(row))
+            if mark == len(data) and at <= mark < at + ROW:
+                digits += '[  ]'
+            text = ''.join(chr(byte) if 0x20 <= byte < 0x7f else '.' for byte in row)
+            self.screen.line(('%05x  %-64s  %s' % (at, digits, text)).rstrip())
+
+    def finish(self, _tally, _left_out):
+        if self.status:
+            self.screen.line(self.why)
+
+
+def marked(shown):
+    """The place of the fault in the packet, if it is there."""
+    return None if ELSEWHERE.search(shown.get('refused', '')) else shown.get('at')
+
+
+def wireshark(item, shown):
+    """The filter of Wireshark for what belongs together."""
+    if item.service == 137 and len(item.digits) >= 4:
+        return 'nbns.id == 0x' + item.digits[:4]
+    if item.service == 138 and 'key' in shown:
+        address, _, rest = shown['key'].partition(':')
+        return 'nbdgm.src.ip == %s && nbdgm.dgram_id == 0x%s' % (address, rest.partition('/')[2])
+    return 'tcp.stream == %s' % item.stream if item.stream else 'udp.port == %d' % item.service

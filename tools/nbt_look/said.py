@@ -1,4 +1,4 @@
-"""What a packet says, in words: the phrases of docs/FORMATS.md, which `nbt show --brief` prints."""
+"""What a packet says, in words: the phrases of docs/FORMATS.md."""
 from .kinds import is_response
 from .parts import GROUP, NBSTAT, names_of, records_of, subject, type_of
 
@@ -13,10 +13,7 @@ MOST_LISTED = 4
 
 
 def said(shown, size):
-    """The phrase of a packet whose payload has so many bytes, by its object of JSON.
-
-    With `nbt show --brief`, asked for in telling.py, this is `return shown['brief']`, and all the rest of this file goes.
-    """
+    """The phrase of a packet whose payload has so many bytes, by its object of JSON."""
     if 'refused' in shown:
         text = 'refused: ' + shown['refused']
         return '%s, at byte %d' % (text.rpartition(' ')[0], shown['at']) if 'at' in shown else text

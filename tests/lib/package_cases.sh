@@ -73,7 +73,8 @@ installed() {
 
 # in_root COMMAND..: a command in the fresh root, in its folder packages.
 in_root() {
-    "$timeout" -k 5 300 env DEBIAN_FRONTEND=noninteractive LC_ALL=C chroot "$fresh" sh -c "cd /packages && $*" >"$room/log" 2>&1
+    "$timeout" -k 5 300 env DEBIAN_FRONTEND=noninteractive LC_ALL=C PATH=/usr/sbin:/usr/bin:/sbin:/bin \
+        chroot "$fresh" sh -c "cd /packages && $*" >"$room/log" 2>&1
 }
 
 # in_c COMPILER PROGRAM OPTION..: the first program of docs/CALLING.md, compiled so. c_says COMMAND..: what it prints, by this command.

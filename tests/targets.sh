@@ -95,7 +95,7 @@ refused() {
         ended "$program" build response 0006 8500 'FRED<20>' 0020 300 60000a0000050000c0a80001
         ended "$program" build request 'FRED<20>' 'JOE<00>.NETBIOS.COM'
     } | sed 's/ 0 / /' >"$room/few"
-    ended "$room/calls" <"$room/few" >"$room/calls.wanted"
+    ended "$room/calls" <"$room/few" >"$room/calls.wanted" 2>"$room/errors"
     every x86-64 "$room/calls"
     every aarch64 "${qemu[@]}" "$room/calls.arm"
     every WebAssembly "${node[@]}" "$here/lib/target_calls.mjs" "$out/nbt.wasm"

@@ -91,7 +91,7 @@ debian() {
     installed
     mkdir "$room/bin"
     printf '#!/bin/sh\nexec chroot "%s" nbt "$@"\n' "$fresh" >"$room/bin/nbt" && chmod +x "$room/bin/nbt"
-    ln -s "$fresh/usr/bin/nbt-pcap2cap" "$room/bin/nbt-pcap2cap"
+    ln -s "$fresh"/usr/bin/nbt-{look,pcap2cap} "$room/bin"
     page README.md
     in_c "${CC:-cc}" "$fresh/packages/first" -I"$fresh/usr/include" -L"$fresh/usr/lib/x86_64-linux-gnu" -lnbt
     c_says 'libnbt-dev and libnbt0 of amd64' chroot "$fresh" /packages/first
@@ -102,7 +102,7 @@ debian() {
     ended chroot "$fresh" python3 /packages/first.py 2>&1 | same "$(block text "$each")" 'python3-nbt'
     ended "$program" build group 10.0.0.5:138/0001 'JOE<00>' 'FRED<20>' 68656c6c6f 4 | ended "$program" save >"$fresh/packages/table"
     "$timeout" -s TERM 5 chroot "$fresh" nbt-station --bind 127.0.0.1:0 --join /packages/table 'FRED<20>' 2>"$room/log" \
-        | same 'delivered 10.0.0.5:138/0001 group JOE<00> FRED<20> 68656c6c6f' 'nbt-station, over python3-nbt'
+        | cut -d ' ' -f 2- | same '- delivered 10.0.0.5:138/0001 group JOE<00> FRED<20> 68656c6c6f' 'nbt-station, over python3-nbt'
     for each in amd64:x86_64-linux-gnu arm64:aarch64-linux-gnu; do
         grep -qx "$(sha256sum <"$fresh/usr/lib/${each#*:}/libnbt.so.0" | cut -c 1-64)  libnbt.so.0 of ${each%:*}" "$dist/PROOF"
         count $? "PROOF has the library for ${each%:*}"

@@ -28,7 +28,7 @@ use Rattle.nb_table.specs.Shared.CoverLemmas.{bytes_below_both, first_either}
 use Rattle.nb_table.specs.Shared.PromiseLemmas.{greater_either, promise_of_decides}
 use Rattle.nb_table.specs.Shared.EntryLemmas.{facts_fit_of}
 use Rattle.nb_table.proofs.Covers.PlacedLemmas.{end_of_decides}
-use Rattle.nb_table.proofs.Covers.CoverFactsLemmas.{below_by_reach}
+use Rattle.nb_table.proofs.Covers.PlacedLemmas.{below_by_reach}
 use Rattle.nb_table.specs.Shared.TableLemmas.{join_formed}
 use Rattle.nb_table.proofs.Contents.ContentsLemmas.{table_of_formed}
 use Rattle.nb_table.specs.Shared.FragmentLemmas.{join_one, insert_at, needs_new}

@@ -111,9 +111,6 @@ last_covered f xs same h =
         let rest = last_of (z ∷ zs) (omega arith) in
         (rest.0, ap (slice_get (y ∷ z ∷ zs)) on ∙ rest.1)
 
-pub below_by_reach : (f : Core) (n : ℕ) → reach f ≤ n → BytesBelow n (cover_of f).bytes
-below_by_reach f n h i x g = let below = covers_below f i x ((byte_of_decides f i x).0 (sym (get-cover_of f i) ∙ g)) in omega (arith, below, h)
-
 pub below_if_empty : (f : Core) (n : ℕ) → length f.bytes ≡ 0 → BytesBelow n (cover_of f).bytes
 below_if_empty f n h i x g = let c = (byte_of_decides f i x).0 (sym (get-cover_of f i) ∙ g) in let from = c.0 in let below = covers_below f i x c in absurd (omega (arith, below, from, h))
 

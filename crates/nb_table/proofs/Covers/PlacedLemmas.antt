@@ -8,7 +8,7 @@ use Rattle.std.specs.Cmp.{nat_cmp_total, unsigned_tied}
 use Rattle.std.specs.FinMap as map
 use Rattle.nb_datagram.specs.Fragment.{Core, Covers, EndsAt, reach, byte_of, end_of_one}
 use Rattle.nb_table.specs.Maps.{first_of}
-use Rattle.nb_table.specs.Cover.{placed, cover_of, AreCoverFacts}
+use Rattle.nb_table.specs.Cover.{BytesBelow, placed, cover_of, AreCoverFacts}
 use Rattle.nb_table.specs.Shared.PromiseLemmas.{promise_of_decides}
 
 -- ---- one fragment
@@ -95,3 +95,7 @@ find-append R (x ∷ xs) ys q = step (eq_by_cmp R q x.0) (find-append R xs ys q)
     step : (b : Bool) → map.find R q (xs ++ ys) ≡ first_of (map.find R q xs) (map.find R q ys) → cond b (Some x.1) (map.find R q (xs ++ ys)) ≡ first_of (cond b (Some x.1) (map.find R q xs)) (map.find R q ys)
     step true rec = refl
     step false rec = rec
+
+-- the bytes of a fragment lie below each place that its reach is at most
+pub below_by_reach : (f : Core) (n : ℕ) → reach f ≤ n → BytesBelow n (cover_of f).bytes
+below_by_reach f n h i x g = let below = covers_below f i x ((byte_of_decides f i x).0 (sym (get-cover_of f i) ∙ g)) in omega (arith, below, h)

@@ -1,8 +1,12 @@
 -- Lists of the code's runs, changed at a place, and their values.
-use Rattle.std.proofs.Common.{◌≡◌, ◌<◌, ◌≤◌, ◌+◌, ◌-◌, ◌++◌, ℕ, zero, suc, List, [], ◌∷◌, length, take, drop, Result, Ok, Err, OnErr, refl, sym, ap, ap₂, subst, ◌∙◌, arith, slice_set, slice_index_or}
+use Rattle.std.proofs.Common.{◌≡◌, ◌<◌, ◌≤◌, ◌+◌, ◌-◌, ◌++◌, ℕ, zero, suc, List, [], ◌∷◌, length, take, drop, Result, Ok, Err, OnErr, refl, sym, ap, ap₂, subst, ◌∙◌, arith, slice_set, slice_index_or, Some, map, slice_get}
 use Rattle.std.proofs.lemmas.List.{map-append, take-map, drop-map, get_or_default, get_or-set_other}
 use Rattle.std.specs.List.Sorted.{IsNonDecreasingBy}
 use Rattle.std.proofs.lemmas.List.Sorted.{IsNonDecreasingBy-from_all_adjacent}
+use Rattle.std.specs.List.{concat}
+use Rattle.std.proofs.lemmas.List.{drop_more}
+use Rattle.std.proofs.lemmas.Option.{get_or_from_slice_get}
+use Rattle.nb_table.specs.Saved.{run_bytes}
 use Rattle.nb_table.specs.Runs.{RunValue, run_end, AreApart}
 use Rattle.nb_table.specs.Code.RunSteps.{value_of, values_of, run_at, grown, Meet}
 use Rattle.nb_table.specs.declared.cover.runs.Run.{Run}
@@ -98,3 +102,10 @@ ends_rise xs a = IsNonDecreasingBy-from_all_adjacent (λ (p : Run). run_end (val
 pub starts_rise : (xs : List Run) → AreApart (values_of xs) → IsNonDecreasingBy (λ (p : Run). (value_of p).start) xs
 starts_rise xs a = IsNonDecreasingBy-from_all_adjacent (λ (p : Run). (value_of p).start) xs (λ k d h.
     (let step : suc k ≡ k + 1 = omega arith in subst (λ j. (value_of (slice_index_or xs k d)).start ≤ (value_of (slice_index_or xs j d)).start) step (starts_next xs a k d (omega (arith, h)))))
+
+-- the runs that are left, from one on
+pub runs_left : (runs : List Run) (i : ℕ) (run : Run) → i < length runs → slice_get runs i ≡ Some run
+    → concat (map run_bytes (values_of (drop i runs))) ≡ run_bytes (value_of run) ++ concat (map run_bytes (values_of (drop (i + 1) runs)))
+runs_left runs i run short there =
+    let first = ap (λ (r : Run). r ∷ drop (i + 1) runs) (get_or_from_slice_get runs i run run there) in
+    ap (λ (rs : List Run). concat (map run_bytes (values_of rs))) (drop_more runs i run short ∙ first)

@@ -57,6 +57,3 @@ row_kept done new all n k bs behind r s xs e same rest start bytes put h =
     ∙ ap (λ m. done ++ row_of m bs) (sym e)
     ∙ h
 
-pub if_ok : {T E : Type 0} (r : Result T E) {P Q : T → Type 0} → ((x : T) → P x → Q x) → IfOk r P → IfOk r Q
-if_ok (Ok x) f p = f x p
-if_ok (Err y) f p = tt

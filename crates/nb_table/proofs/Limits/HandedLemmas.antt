@@ -24,19 +24,6 @@ use Rattle.nb_table.proofs.Joins.EachLemmas.{joined_each_is, get-joined_each}
 use Rattle.nb_table.proofs.Joins.GotLemmas.{same_given}
 use Rattle.nb_table.proofs.Wholeness.WholeLemmas.{whole_exactly}
 
--- ---- an entry
-
--- an entry that was whole isn't newly whole, and one that wasn't is so wherever it is whole
-pub newly_never : (k : Key) (e : EntryValue) (o : Option DatagramParts) → IsWhole e → None ≡ newly (datagram_of k e) o
-newly_never k e o w = let d = (whole_exactly k e).0 w in sym (ap (λ a. newly a o) d.1)
-
-pub newly_always : (k : Key) (e : EntryValue) (o p : Option DatagramParts) → (IsWhole e → ⊥) → o ≡ p → o ≡ newly (datagram_of k e) p
-newly_always k e o p n same = same ∙ step (datagram_of k e) refl
-  where
-    step : (a : Option DatagramParts) → datagram_of k e ≡ a → p ≡ newly a p
-    step None h = refl
-    step (Some d) h = absurd (n ((whole_exactly k e).1 (d, h)))
-
 -- ---- a key
 
 pub handed_held : (t : Contents) (k : Key) (e x : EntryValue) (o : Option DatagramParts) → maps.get t k ≡ Some x → o ≡ newly (datagram_of k x) (datagram_of k (join_entry x e)) → o ≡ handed_at t k e

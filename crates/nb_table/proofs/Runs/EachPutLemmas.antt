@@ -38,12 +38,6 @@ each_is {R = R} o exact es s = maps.same_map o exact _ _ (λ q.
     ∙ first_alone (maps.find R q es)
     ∙ sym (maps.get-from_entries o es q))
 
--- the finite map of a sorted list has that list
-pub sorted_entries : {K X : Type 0} {R : K → K → Ordering} (o : IsTotalOrder R) → maps.IsAntisymmetric R → (es : List (K × X)) → T (is_sorted R es) → maps.entries (maps.from_entries {R = R} es) ≡ es
-sorted_entries {R = R} o exact es s =
-    ap maps.entries (maps.same_map o exact _ _ (λ q. maps.get-from_entries o es q ∙ sym (maps.get-from_sorted R es q s)))
-    ∙ maps.entries-from_sorted R es s
-
 -- bytes put from a place on are their places put one after the other
 pub bytes_each : (m : maps.FinMap nat_cmp ℕ) (i : ℕ) (xs : List ℕ) → with_bytes m i xs ≡ with_each m (placed i xs)
 bytes_each m i [] = refl

@@ -17,7 +17,7 @@ use Rattle.nb_table.specs.Cover.{placed}
 use Rattle.nb_table.specs.Runs.{RunValue, run_end, AreApart, places_of, map_of_runs}
 use Rattle.nb_table.specs.SavedReading.{gives, goes_on, whole, good, number_at, bytes_at, run_at, row_at}
 use Rattle.nb_table.specs.Code.SavedRuns.{number_in, run_of, after_run, RunThere, row_of, RowThere}
-use Rattle.nb_table.proofs.Runs.EachPutLemmas.{sorted_entries}
+use Rattle.nb_table.specs.Shared.MapsLemmas.{sorted_entries}
 use Rattle.nb_table.proofs.SavedReading.FoundLemmas.{row_found}
 use Rattle.nb_table.proofs.Runs.RunsLemmas.{sorted_places}
 

@@ -9,13 +9,6 @@ use Rattle.nb_table.specs.Code.RunSteps.{value_of, values_of}
 use Rattle.nb_table.specs.Code.Sinks.{SinkLaws, Puts, ToPut}
 use Rattle.nb_table.specs.Saved.{run_bytes}
 
--- the runs that are left, from one on
-pub runs_left : (runs : List Run) (i : ℕ) (run : Run) → i < length runs → slice_get runs i ≡ Some run
-    → concat (map run_bytes (values_of (drop i runs))) ≡ run_bytes (value_of run) ++ concat (map run_bytes (values_of (drop (i + 1) runs)))
-runs_left runs i run short there =
-    let first = ap (λ (r : Run). r ∷ drop (i + 1) runs) (get_or_from_slice_get runs i run run there) in
-    ap (λ (rs : List Run). concat (map run_bytes (values_of rs))) (drop_more runs i run short ∙ first)
-
 module _ {S : Type 0} {takes breaks : S → S → List ℕ → Type 0} where
   -- all are left
   pub begun : SinkLaws takes breaks → (old : S) (whole : List ℕ) → ToPut takes breaks old whole old whole

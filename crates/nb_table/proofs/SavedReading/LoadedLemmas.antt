@@ -28,7 +28,7 @@ use Rattle.nb_names.specs.Labels.{StandsAt}
 use Rattle.nb_table.specs.Shared.CoverLemmas.{bytes_below_decides}
 use Rattle.nb_table.specs.Shared.MapsLemmas.{T_left, T_right}
 use Rattle.nb_datagram.specs.KeyOrder.{key_cmp_total, key_cmp_exact}
-use Rattle.nb_table.proofs.Runs.EachPutLemmas.{sorted_entries}
+use Rattle.nb_table.specs.Shared.MapsLemmas.{sorted_entries}
 use Rattle.nb_table.proofs.Limits.FittingLemmas.{all_short_decides}
 use Rattle.nb_table.proofs.SavedReading.FoundLemmas.{IsPromise, key_found, promise_found, runs_found, entries_found, read_found}
 use Rattle.nb_table.proofs.Runs.RowLemmas.{map_below, all_short}

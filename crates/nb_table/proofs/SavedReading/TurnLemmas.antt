@@ -1,6 +1,6 @@
 -- Rows of runs and of entries, read one after the other.
 use Rattle.std.proofs.Common.{◌≡◌, ◌+◌, ◌-◌, ◌<◌, ℕ, suc, List, map, [], ◌∷◌, ◌++◌, Bool, true, false, ◌&&◌, None, Some, Option, Ok, Err, refl, sym, ap, subst, ◌∙◌, arith}
-use Rattle.std.proofs.Common.{append_assoc}
+use Rattle.std.proofs.Common.{append_assoc, append-nil}
 use Rattle.std.proofs.lemmas.List.Folds.{list_all-append}
 use Rattle.std.specs.List.{list_all}
 use Rattle.nb_datagram.specs.declared.key.Key.{Key}
@@ -10,10 +10,6 @@ use Rattle.nb_table.specs.Entry.{EntryValue}
 use Rattle.nb_table.specs.Code.Fitting.{is_short}
 use Rattle.nb_table.specs.Runs.{RunValue, run_end}
 use Rattle.nb_table.specs.SavedReading.{Outcome, gives, stops, goes_on, run_at, row_at, runs_at, key_at, entry_at, entries_at}
-
-append_none : {X : Type 0} (xs : List X) → xs ++ [] ≡ xs
-append_none [] = refl
-append_none (x ∷ xs) = ap (λ ys. x ∷ ys) (append_none xs)
 
 -- ---- runs
 
@@ -44,7 +40,7 @@ row_stopped input most total at counter least here f s below h = s.fault (suc (t
 
 pub row_ended : (input : List ℕ) (most total at counter least here : ℕ) (s : RowSoFar input most total at counter least here) → counter ≡ total → row_at input most total 0 at (Ok (s.done, here))
 row_ended input most total at counter least here s all =
-    subst (λ (rs : List RunValue). row_at input most total 0 at (Ok (rs, here))) (append_none s.done) (s.found 0 here [] (omega (arith, all)) gives)
+    subst (λ (rs : List RunValue). row_at input most total 0 at (Ok (rs, here))) (append-nil s.done) (s.found 0 here [] (omega (arith, all)) gives)
 
 -- the same with another name for the limit
 pub runs_moved : (input : List ℕ) (m n at : ℕ) (o : Outcome (List RunValue)) → m ≡ n → runs_at input m at o → runs_at input n at o
@@ -82,7 +78,7 @@ entry_stopped form input total at counter before here behind done k f s below g 
 
 pub entries_ended : (form : SavedForm) (input : List ℕ) (total at counter : ℕ) (before : Option Key) (here : ℕ) (done : List (Key × EntryValue)) → EntriesSoFar form input total at counter before here done → counter ≡ total → entries_at form input total None at (Ok (done, here))
 entries_ended form input total at counter before here done s all =
-    subst (λ (es : List (Key × EntryValue)). entries_at form input total None at (Ok (es, here))) (append_none done) (s.found 0 here [] (omega (arith, all)) gives)
+    subst (λ (es : List (Key × EntryValue)). entries_at form input total None at (Ok (es, here))) (append-nil done) (s.found 0 here [] (omega (arith, all)) gives)
 
 -- a test of all but the last, and of the last
 pub tested_more : (n : ℕ) (done : List (Key × EntryValue)) (k : Key) (v : EntryValue) → list_all (λ (e : Key × EntryValue). is_short n e.1) (done ++ (k, v) ∷ []) ≡ (list_all (λ (e : Key × EntryValue). is_short n e.1) done && is_short n v)

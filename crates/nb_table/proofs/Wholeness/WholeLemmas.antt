@@ -190,3 +190,14 @@ whole_below_end c look same n ends = (
   λ all. record { length = n; ends = ends; covered = λ i h. (let w = all i h in (w.0, same i ∙ w.1)) },
   λ w i h. (let one : w.length ≡ n = same_Some w.length n (sym w.ends ∙ ends) in let x = w.covered i (subst (λ m. i < m) (sym one) h) in (x.0, sym (same i) ∙ x.1)),
 )
+
+-- an entry that was whole isn't newly whole, and one that wasn't is so wherever it is whole
+pub newly_never : (k : Key) (e : EntryValue) (o : Option DatagramParts) → IsWhole e → None ≡ newly (datagram_of k e) o
+newly_never k e o w = let d = (whole_exactly k e).0 w in sym (ap (λ a. newly a o) d.1)
+
+pub newly_always : (k : Key) (e : EntryValue) (o p : Option DatagramParts) → (IsWhole e → ⊥) → o ≡ p → o ≡ newly (datagram_of k e) p
+newly_always k e o p n same = same ∙ step (datagram_of k e) refl
+  where
+    step : (a : Option DatagramParts) → datagram_of k e ≡ a → p ≡ newly a p
+    step None h = refl
+    step (Some d) h = absurd (n ((whole_exactly k e).1 (d, h)))

@@ -207,3 +207,9 @@ pub entry_fails : {K X : Type 0} {R : K → K → Ordering} → IsTotalOrder R �
 entry_fails {R = R} o exact P m h =
     let w = fails_from R o exact P (map.entries m) (map.entries_sorted m) h in
     record { key = w.key; value = w.value; found = map.get-entries m w.key ∙ w.found; fails = w.fails }
+
+-- the finite map of a sorted list has that list
+pub sorted_entries : {K X : Type 0} {R : K → K → Ordering} (o : IsTotalOrder R) → map.IsAntisymmetric R → (es : List (K × X)) → T (is_sorted R es) → map.entries (map.from_entries {R = R} es) ≡ es
+sorted_entries {R = R} o exact es s =
+    ap map.entries (map.same_map o exact _ _ (λ q. map.get-from_entries o es q ∙ sym (map.get-from_sorted R es q s)))
+    ∙ map.entries-from_sorted R es s

@@ -4,7 +4,8 @@ use Rattle.std.specs.Cmp.{both_ways}
 use Rattle.nb_datagram.specs.Fragment.{core_of}
 use Rattle.nb_table.specs.Cover.{cover_of, bytes_lie_below}
 use Rattle.nb_table.specs.Shared.CoverLemmas.{bytes_below_decides}
-use Rattle.nb_table.proofs.Covers.CoverFactsLemmas.{below_by_reach, below_if_empty, reach_by_below, not_empty}
+use Rattle.nb_table.proofs.Covers.PlacedLemmas.{below_by_reach}
+use Rattle.nb_table.proofs.Covers.CoverFactsLemmas.{below_if_empty, reach_by_below, not_empty}
 use Rattle.nb_table.proofs.cover.end.bytes_are_below.Goals as goal
 
 pub returns-then-is_empty : goal.returns-then-is_empty

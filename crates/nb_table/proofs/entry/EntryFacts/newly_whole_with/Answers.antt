@@ -1,10 +1,10 @@
+use Rattle.std.proofs.lemmas.Result.{IfOk-weaker}
 use Rattle.nb_datagram.specs.Fragment.{core_of}
 use Rattle.nb_table.specs.Cover.{cover_of, covers_together}
 use Rattle.nb_table.specs.Slot.{Held}
 use Rattle.nb_table.specs.Whole.{bytes_to, datagram_with}
 use Rattle.std.proofs.lemmas.Bool.Decides.{not_from_Decides}
-use Rattle.nb_table.proofs.KeptRuns.RunFactsLemmas.{if_ok}
-use Rattle.nb_table.proofs.Limits.HandedLemmas.{newly_never, newly_always}
+use Rattle.nb_table.proofs.Wholeness.WholeLemmas.{newly_never, newly_always}
 use Rattle.nb_table.proofs.entry.EntryFacts.newly_whole_with.Goals as goal
 
 pub returns-then-is_whole : goal.returns-then-is_whole
@@ -20,4 +20,4 @@ returns c =
     let b = cover_of (core_of c.args.fragment.now) in
     let k = c.args.fragment.now.key in
     let p = datagram_with k e (bytes_to (covers_together e.cover b).bytes (covers_together e.cover b).end) in
-    rw c.in-Over.is (if_ok c.datagram_with.result (λ made same. newly_always k (Held e) made p (not_from_Decides c.is_whole.result c.is_whole.ensures c.if-is_whole.false) same) c.datagram_with.ensures)
+    rw c.in-Over.is (IfOk-weaker c.datagram_with.result _ _ (λ made same. newly_always k (Held e) made p (not_from_Decides c.is_whole.result c.is_whole.ensures c.if-is_whole.false) same) c.datagram_with.ensures)

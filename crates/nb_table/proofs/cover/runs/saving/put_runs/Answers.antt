@@ -5,7 +5,8 @@ use Rattle.std.proofs.lemmas.List.{length-map}
 use Rattle.std.proofs.lemmas.Option.{slice_get_read}
 use Rattle.nb_table.specs.Code.RunSteps.{value_of, values_of}
 use Rattle.nb_table.specs.Saved.{run_bytes, runs_bytes}
-use Rattle.nb_table.proofs.SavedBytes.PuttingLemmas.{begun, told, turn, stop, runs_left}
+use Rattle.nb_table.proofs.KeptRuns.RunCodeLemmas.{runs_left}
+use Rattle.nb_table.proofs.SavedBytes.PuttingLemmas.{begun, told, turn, stop}
 use Rattle.nb_table.proofs.cover.runs.saving.put_runs.Goals as goal
 
 pub returns-in_err-put_two_bytes : goal.returns-in_err-put_two_bytes

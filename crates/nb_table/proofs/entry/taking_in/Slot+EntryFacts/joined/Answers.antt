@@ -1,7 +1,7 @@
 use Rattle.nb_table.specs.Entry.{join_entry}
 use Rattle.nb_table.specs.Whole.{datagram_of}
 use Rattle.std.proofs.lemmas.Bool.Decides.{not_from_Decides}
-use Rattle.nb_table.proofs.Limits.HandedLemmas.{newly_never, newly_always}
+use Rattle.nb_table.proofs.Wholeness.WholeLemmas.{newly_never, newly_always}
 use Rattle.std.proofs.Common.{◌∙◌, ap}
 use Rattle.nb_table.proofs.entry.taking_in.Slot+EntryFacts.joined.Goals as goal
 

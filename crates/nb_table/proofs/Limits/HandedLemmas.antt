@@ -14,7 +14,7 @@ use Rattle.nb_entries.specs.Entry.{EntryValue, join_entry}
 use Rattle.nb_table.specs.Contents.{Contents}
 use Rattle.nb_table.specs.Join.{join}
 use Rattle.nb_table.specs.Merging.{newly_handed}
-use Rattle.nb_entries.specs.Whole.{IsWhole, datagram_of, newly}
+use Rattle.nb_entries.specs.Whole.{datagram_of, newly}
 use Rattle.nb_table.specs.Whole.{datagram_at, newly_whole}
 use Rattle.nb_table.specs.Code.Each.{joined_each}
 use Rattle.nb_table.specs.Code.Handed.{handed_at, with_entry, handed}
@@ -23,7 +23,6 @@ use Rattle.nb_entries.specs.Shared.MapsLemmas.{below_none, lt_not_eq, tied_self,
 use Rattle.nb_table.specs.Shared.TableLemmas.{get-join}
 use Rattle.nb_table.proofs.Joins.EachLemmas.{joined_each_is, get-joined_each}
 use Rattle.nb_table.proofs.Joins.GotLemmas.{same_given}
-use Rattle.nb_entries.specs.Shared.WholeLemmas.{whole_exactly}
 
 -- ---- a key
 

@@ -8,9 +8,9 @@ use Rattle.std.specs.Cmp.{IsTotalOrder, eq_by_cmp_equiv}
 use Rattle.std.specs.FinMap.{is_sorted}
 use Rattle.std.specs.FinMap.Entries.{below_all}
 use Rattle.std.specs.FinMap as map
-use Rattle.nb_table.specs.Maps.{joined_at, joined_onto, joined, union}
+use Rattle.nb_entries.specs.Maps.{joined_at, joined_onto, joined, union}
 use Rattle.nb_table.specs.Code.Each.{joined_each}
-use Rattle.nb_table.specs.Shared.MapsLemmas.{one_key, get-joined, below_none, lt_not_eq, T_left, T_right}
+use Rattle.nb_entries.specs.Shared.MapsLemmas.{one_key, get-joined, below_none, lt_not_eq, T_left, T_right}
 
 alone : {X : Type 0} (f : X → X → X) (a : Option X) → a ≡ joined_at f a None
 alone f None = refl

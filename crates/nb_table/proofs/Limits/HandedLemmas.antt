@@ -9,33 +9,20 @@ use Rattle.std.specs.FinMap as maps
 use Rattle.nb_datagram.specs.declared.key.Key.{Key}
 use Rattle.nb_datagram.specs.Key.{key_cmp}
 use Rattle.nb_datagram.specs.Datagram.{DatagramParts}
-use Rattle.nb_table.specs.Maps.{joined_at, joined_onto}
-use Rattle.nb_table.specs.Entry.{EntryValue, join_entry}
+use Rattle.nb_entries.specs.Maps.{joined_at, joined_onto}
+use Rattle.nb_entries.specs.Entry.{EntryValue, join_entry}
 use Rattle.nb_table.specs.Contents.{Contents}
 use Rattle.nb_table.specs.Join.{join}
 use Rattle.nb_table.specs.Merging.{newly_handed}
-use Rattle.nb_table.specs.Whole.{IsWhole, datagram_at, datagram_of, newly, newly_whole}
+use Rattle.nb_entries.specs.Whole.{datagram_of, newly}
+use Rattle.nb_table.specs.Whole.{datagram_at, newly_whole}
 use Rattle.nb_table.specs.Code.Each.{joined_each}
 use Rattle.nb_table.specs.Code.Handed.{handed_at, with_entry, handed}
 use Rattle.nb_datagram.specs.KeyOrder.{key_cmp_total, key_cmp_exact}
-use Rattle.nb_table.specs.Shared.MapsLemmas.{below_none, lt_not_eq, tied_self, T_left, T_right}
+use Rattle.nb_entries.specs.Shared.MapsLemmas.{below_none, lt_not_eq, tied_self, T_left, T_right}
 use Rattle.nb_table.specs.Shared.TableLemmas.{get-join}
 use Rattle.nb_table.proofs.Joins.EachLemmas.{joined_each_is, get-joined_each}
 use Rattle.nb_table.proofs.Joins.GotLemmas.{same_given}
-use Rattle.nb_table.proofs.Wholeness.WholeLemmas.{whole_exactly}
-
--- ---- an entry
-
--- an entry that was whole isn't newly whole, and one that wasn't is so wherever it is whole
-pub newly_never : (k : Key) (e : EntryValue) (o : Option DatagramParts) → IsWhole e → None ≡ newly (datagram_of k e) o
-newly_never k e o w = let d = (whole_exactly k e).0 w in sym (ap (λ a. newly a o) d.1)
-
-pub newly_always : (k : Key) (e : EntryValue) (o p : Option DatagramParts) → (IsWhole e → ⊥) → o ≡ p → o ≡ newly (datagram_of k e) p
-newly_always k e o p n same = same ∙ step (datagram_of k e) refl
-  where
-    step : (a : Option DatagramParts) → datagram_of k e ≡ a → p ≡ newly a p
-    step None h = refl
-    step (Some d) h = absurd (n ((whole_exactly k e).1 (d, h)))
 
 -- ---- a key
 

@@ -8,15 +8,16 @@ use Rattle.std.specs.FinMap.{is_sorted}
 use Rattle.std.specs.FinMap as maps
 use Rattle.nb_datagram.specs.declared.key.Key.{Key}
 use Rattle.nb_datagram.specs.Key.{key_cmp}
-use Rattle.nb_table.specs.Maps.{joined_at, joined_onto}
-use Rattle.nb_table.specs.Entry.{EntryValue, join_entry}
+use Rattle.nb_entries.specs.Maps.{joined_at, joined_onto}
+use Rattle.nb_entries.specs.Entry.{EntryValue, join_entry}
 use Rattle.nb_table.specs.Contents.{Contents}
 use Rattle.nb_table.specs.Join.{join, IsTable}
 use Rattle.nb_table.specs.KeyCounts.{every_key}
-use Rattle.nb_table.specs.Limits.{TableValue, KeepsLimits, IsShort, with_contents}
+use Rattle.nb_table.specs.Limits.{TableValue, KeepsLimits, with_contents}
+use Rattle.nb_entries.specs.Short.{IsShort}
 use Rattle.nb_table.specs.Merging.{AllShort, Fits}
 use Rattle.nb_datagram.specs.KeyOrder.{key_cmp_total, key_cmp_exact}
-use Rattle.nb_table.specs.Shared.MapsLemmas.{one_key, tied_self, below_none, T_left, T_right}
+use Rattle.nb_entries.specs.Shared.MapsLemmas.{one_key, tied_self, below_none, T_left, T_right}
 use Rattle.nb_table.specs.Shared.TableLemmas.{get-join, join_formed}
 use Rattle.nb_table.proofs.Changes.InsertLemmas.{short_join, short_onto}
 use Rattle.nb_table.proofs.Limits.GroupLemmas.{held_every, fit_held, few_join}

@@ -4,10 +4,11 @@ use Rattle.std.specs.List.{cons_option}
 use Rattle.std.specs.FinMap as maps
 use Rattle.nb_datagram.specs.declared.key.Key.{Key}
 use Rattle.nb_datagram.specs.Datagram.{DatagramParts}
-use Rattle.nb_table.specs.Maps.{joined_onto}
-use Rattle.nb_table.specs.Entry.{EntryValue, join_entry}
+use Rattle.nb_entries.specs.Maps.{joined_onto}
+use Rattle.nb_entries.specs.Entry.{EntryValue, join_entry}
 use Rattle.nb_table.specs.Contents.{Contents}
-use Rattle.nb_table.specs.Whole.{newly, datagram_at, datagram_of}
+use Rattle.nb_entries.specs.Whole.{newly, datagram_of}
+use Rattle.nb_table.specs.Whole.{datagram_at}
 
 -- handed_at t k e: the datagram of the key k, if it becomes whole where e is joined to the entry of k in the table t
 abbrev pub handed_at : Contents → Key → EntryValue → Option DatagramParts

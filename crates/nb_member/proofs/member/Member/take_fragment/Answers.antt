@@ -1,6 +1,7 @@
 use Rattle.std.proofs.Common.{ap, subst, sym, ◌∙◌}
 use Rattle.nb_datagram.specs.declared.key.Key.{Key}
-use Rattle.nb_table.specs.Change.{Change, IsChange}
+use Rattle.nb_entries.specs.Change.{Change}
+use Rattle.nb_table.specs.Change.{IsChange}
 use Rattle.nb_member.proofs.member.Member.take_fragment.Goals as goal
 use Rattle.nb_member.proofs.member.Member.take_fragment.Goals.{in-Ok, in-Err}
 use Rattle.nb_member.specs.Member.{MemberValue, with_timed}

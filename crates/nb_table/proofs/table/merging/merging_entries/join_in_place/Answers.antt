@@ -2,8 +2,8 @@ use Rattle.std.proofs.Common.{◌∙◌, sym, ap}
 use Rattle.std.proofs.lemmas.Result.{IfOk-weaker, on_ok_weaker, on_err_weaker}
 use Rattle.std.specs.FinMap as maps
 use Rattle.nb_datagram.specs.declared.limits.TheConstants.{MAX_LENGTH}
-use Rattle.nb_table.specs.Maps.{joined_onto}
-use Rattle.nb_table.specs.Entry.{join_entry}
+use Rattle.nb_entries.specs.Maps.{joined_onto}
+use Rattle.nb_entries.specs.Entry.{join_entry}
 use Rattle.nb_datagram.specs.KeyOrder.{key_cmp_total, key_cmp_exact}
 use Rattle.nb_table.proofs.Joins.TakenBackLemmas.{put_same}
 use Rattle.nb_table.proofs.Changes.InsertLemmas.{short_join}

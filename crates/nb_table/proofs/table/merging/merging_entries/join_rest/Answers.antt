@@ -1,8 +1,8 @@
 use Rattle.std.proofs.Common.{◌++◌, sym, ◌∙◌, ap, subst, append-nil}
 use Rattle.std.specs.List.{AllByRecursion}
 use Rattle.nb_datagram.specs.declared.limits.TheConstants.{MAX_LENGTH}
-use Rattle.nb_table.specs.Entry.{join_entry}
-use Rattle.nb_table.specs.Limits.{IsShort}
+use Rattle.nb_entries.specs.Entry.{join_entry}
+use Rattle.nb_entries.specs.Short.{IsShort}
 use Rattle.nb_table.specs.Code.Each.{joined_each}
 use Rattle.nb_table.specs.Code.Handed.{handed}
 use Rattle.nb_table.proofs.Limits.MergingLemmas.{one_more_short}

@@ -1,8 +1,8 @@
 use Rattle.std.proofs.Common.{◌∙◌, sym, ap}
 use Rattle.std.proofs.lemmas.Result.{IfOk-weaker}
 use Rattle.nb_datagram.specs.declared.limits.TheConstants.{MAX_LENGTH}
-use Rattle.nb_table.specs.Maps.{joined_onto}
-use Rattle.nb_table.specs.Entry.{join_entry}
+use Rattle.nb_entries.specs.Maps.{joined_onto}
+use Rattle.nb_entries.specs.Entry.{join_entry}
 use Rattle.nb_table.proofs.Changes.InsertLemmas.{short_join}
 use Rattle.nb_table.proofs.Limits.HandedLemmas.{handed_held, handed_new}
 use Rattle.nb_table.proofs.table.merging.merging_entries.joined_at.Goals as goal

@@ -2,8 +2,8 @@ use Rattle.std.proofs.Common.{sym, ◌∙◌, ap, subst}
 use Rattle.std.proofs.lemmas.Result.{on_ok_weaker, on_err_weaker}
 use Rattle.std.specs.List.{AllByRecursion}
 use Rattle.nb_datagram.specs.declared.limits.TheConstants.{MAX_LENGTH}
-use Rattle.nb_table.specs.Entry.{join_entry}
-use Rattle.nb_table.specs.Limits.{IsShort}
+use Rattle.nb_entries.specs.Entry.{join_entry}
+use Rattle.nb_entries.specs.Short.{IsShort}
 use Rattle.nb_table.specs.Code.Each.{joined_each}
 use Rattle.nb_table.specs.Code.Handed.{with_entry}
 use Rattle.nb_table.specs.Code.TakenBack.{taken_back}

@@ -1,7 +1,7 @@
 use Rattle.std.proofs.Common.{◌∙◌, sym, ap}
 use Rattle.std.proofs.lemmas.Result.{IfOk-weaker}
-use Rattle.nb_table.specs.Maps.{joined_onto}
-use Rattle.nb_table.specs.Entry.{join_entry}
+use Rattle.nb_entries.specs.Maps.{joined_onto}
+use Rattle.nb_entries.specs.Entry.{join_entry}
 use Rattle.nb_table.proofs.table.merging.moving.united_at.Goals as goal
 
 pub returns-in-Some : goal.returns-in-Some

@@ -57,7 +57,7 @@ enum nbt_status {
     NBT_NAME_LONG = 23,            /* a label makes the spelling longer than 255 bytes; *at: where it stands */
     NBT_NAME_NOT_NETBIOS = 24,     /* labels that no NetBIOS name has; *at: a place in their spelling */
     NBT_NAME_TRAILING_BYTES = 25,  /* bytes after the spelling; *at: where they begin */
-    NBT_NAME_BAD_POINTER = 26,     /* a pointer that doesn't go back; *at: where; no call of this version answers it */
+    NBT_NAME_BAD_POINTER = 26,     /* a pointer that doesn't go back; *at: where; of names of the name service alone */
 
     /* The source's name in a datagram packet; as those of 20 to 26. */
     NBT_SOURCE_TRUNCATED = 30,
@@ -82,6 +82,8 @@ enum nbt_status {
     NBT_RESERVED_FLAGS = 53, /* a flag that has to be zero is set (RFC 1002 section 4.3.1) */
     NBT_BAD_LENGTH = 54,     /* no packet of this type has a body of this length */
     NBT_TRAILING_BYTES = 55, /* bytes after the names of a session request; *at: where they begin */
+    NBT_NAME_RDATA = 56,     /* the name in RDATA of type NS ends elsewhere than the RDATA; *at: where the RDATA begins */
+    NBT_NO_ITEM = 57,        /* the header counts fewer questions and records */
 
     /* What was asked to be written. */
     NBT_UNKNOWN_REQUEST = 60, /* no number of enum nbt_request */
@@ -141,6 +143,51 @@ uint32_t nbt_name_text(const uint8_t *spelling, size_t spelling_length,
  * NBT_NO_MEMORY, NBT_NO_ROOM. */
 uint32_t nbt_show(uint16_t port, const uint8_t *payload, size_t payload_length,
                   uint8_t *into, size_t into_length, size_t *used);
+
+/* The header of a packet of the name service: RFC 1002 section 4.2.1.1. */
+struct nbt_service_header {
+    uint16_t identifier;  /* NAME_TRN_ID */
+    uint16_t word;        /* R 0x8000, OPCODE 0x7800, NM_FLAGS 0x07f0, RCODE 0x000f */
+    uint16_t questions;   /* QDCOUNT */
+    uint16_t answers;     /* ANCOUNT */
+    uint16_t authorities; /* NSCOUNT */
+    uint16_t additional;  /* ARCOUNT */
+    size_t used;          /* the bytes of the packet; of nbt_service_header those of the header, 12 */
+};
+
+/* Reads the header at the front of a payload of port 137. What follows it isn't looked at.
+ * NBT_TRUNCATED for less than twelve bytes. No memory is taken. */
+uint32_t nbt_service_header(const uint8_t *payload, size_t payload_length, struct nbt_service_header *header, size_t *at);
+
+/* Judges the packet at the front of a payload of port 137 whole, and reads its header. What follows it isn't looked at, but
+ * that a name may lead into it.
+ * NBT_TRUNCATED for less than a header; then the first fault of the first question or record that doesn't stand whole: of
+ * its name 20, 21, 23 or 26, NBT_TRUNCATED, and of a record of type NS 20, 21, 23 or 26 of the name in its RDATA,
+ * NBT_NAME_RDATA. No memory is taken; of a payload of more than 576 bytes the call wants 33 kB of the stack. */
+uint32_t nbt_service_read(const uint8_t *payload, size_t payload_length, struct nbt_service_header *header, size_t *at);
+
+/* A question or a record of the name service: RFC 1002 sections 4.2.1.2 and 4.2.1.3. Places and lengths are in bytes of
+ * the payload. */
+struct nbt_service_item {
+    uint32_t section;      /* 0 a question, 1 an answer, 2 an authority, 3 an additional record */
+    uint32_t time_to_live; /* TTL, in seconds; 0 of a question */
+    uint16_t type;         /* QUESTION_TYPE or RR_TYPE: 0x0020 NB, 0x0021 NBSTAT, 0x0002 NS */
+    uint16_t class_number; /* QUESTION_CLASS or RR_CLASS */
+    size_t data;           /* RDATA; its length is 0 of a question */
+    size_t data_length;
+    size_t next;           /* where the next question or record stands, if there is one */
+    uint8_t netbios;       /* 1 where the name is a NetBIOS name, whose text nbt_name_text gives; else 0 */
+    uint8_t name_length;   /* the bytes of the name's spelling, in which pointers were followed, its last zero byte included */
+    uint8_t name[255];     /* the spelling, and bytes of zero after it */
+};
+
+/* Reads the question or the record with this number, counted from 0, that stands at a place of a payload of port 137. The
+ * first stands at 12, and each other at `next` of the one before: asked for so, these are those of the packet or, of a
+ * payload that begins with none, as many as stand whole before the fault of nbt_service_read.
+ * NBT_TRUNCATED for less than a header, NBT_NO_ITEM, and of what stands there its first fault, as of nbt_service_read. No
+ * memory is taken. */
+uint32_t nbt_service_item(const uint8_t *payload, size_t payload_length, uint32_t number, size_t place,
+                          struct nbt_service_item *item, size_t *at);
 
 /* A packet of the datagram service: RFC 1002 section 4.4. Places and lengths are in bytes of the payload. */
 struct nbt_datagram {

@@ -150,6 +150,44 @@ static void written(const uint8_t *payload, const struct nbt_datagram *read)
     expect(memcmp(into + 2, payload, read->used) == 0, "nbt_datagram_write: the packet again");
 }
 
+/* The questions and records of a payload, one by one: those of the packet or, where there is none, those before its fault. */
+static void service(const uint8_t *payload, size_t length)
+{
+    struct nbt_service_header read, front;
+    struct nbt_service_item item;
+    size_t at = 88, other = 99, place = 12;
+    uint32_t status, last, count;
+    memset(&front, FILL, sizeof front);
+    memset(&read, FILL, sizeof read);
+    last = nbt_service_header(payload, length, &front, &other);
+    expect(last == (length < 12 ? NBT_TRUNCATED : NBT_DONE), "nbt_service_header: twelve bytes");
+    expect(last == NBT_DONE ? other == 99 && front.used == 12 : other == length && is_filled((const uint8_t *)&front, sizeof front), "nbt_service_header: what is written");
+    status = nbt_service_read(payload, length, &read, &at);
+    calls += 2;
+    for (count = 0; last == NBT_DONE; count++) {
+        memset(&item, FILL, sizeof item);
+        other = 99;
+        last = nbt_service_item(payload, length, count, place, &item, &other);
+        calls += 1;
+        if (last != NBT_DONE) {
+            expect(is_filled((const uint8_t *)&item, sizeof item), "nbt_service_item: an item is filled in though nothing is done");
+            break;
+        }
+        expect(other == 99 && place < item.data && item.data + item.data_length == item.next && item.next <= length, "nbt_service_item: the places");
+        expect(item.name_length > 0 && item.name[item.name_length - 1] == 0, "nbt_service_item: the name");
+        expect(item.section > 0 || (item.data_length == 0 && item.time_to_live == 0), "nbt_service_item: a question");
+        place = item.next;
+    }
+    if (status == NBT_DONE) {
+        expect(at == 88 && last == NBT_NO_ITEM && other == 99 && read.used == place, "nbt_service_read: the items of a packet");
+        expect(count == (uint32_t)read.questions + read.answers + read.authorities + read.additional, "nbt_service_read: the counts");
+        expect(read.identifier == front.identifier && read.word == front.word && read.questions == front.questions, "nbt_service_read: the header");
+    } else {
+        expect(last == status && other == at, "nbt_service_read: the fault after the items that stand");
+        expect(is_filled((const uint8_t *)&read, sizeof read), "nbt_service_read: a header is filled in though nothing is done");
+    }
+}
+
 static void datagram(const uint8_t *payload, size_t length)
 {
     struct nbt_datagram read;
@@ -345,6 +383,7 @@ int main(int count, char **words)
             payload[i] = (uint8_t)(value(digits[2 * i]) * 16 + value(digits[2 * i + 1]));
         number += 1;
         shown(port, payload, length, rooms);
+        service(payload, length);
         datagram(payload, length);
         session(payload, length);
         stationed(payload, length);

@@ -9,6 +9,7 @@ pub mod MergeLemmas
 pub mod NameLemmas
 pub mod PlaceLemmas
 pub mod ReadLemmas
+pub mod ServiceLemmas
 pub mod ShowLemmas
 pub mod StationNameLemmas
 pub mod TellLemmas

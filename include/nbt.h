@@ -122,6 +122,13 @@ enum nbt_status {
  * NBT_NO_ROOM, NBT_UNKNOWN_STATUS. */
 uint32_t nbt_status_text(uint32_t status, uint8_t *into, size_t into_length, size_t *used);
 
+/* The version that this header is of, and nbt_version's that of the library that is called: as `nbt --version` has it. */
+#define NBT_VERSION "0.1.0"
+
+/* The version of the library, as "0.1.0".
+ * NBT_NO_ROOM. */
+uint32_t nbt_version(uint8_t *into, size_t into_length, size_t *used);
+
 /* Names: RFC 1001 section 14, RFC 1002 section 4.1. ---------------------------------------------------------------- */
 
 /* The spelling of the name with this text: its labels, each after its length, then a zero byte; at most 255 bytes.

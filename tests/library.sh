@@ -36,6 +36,7 @@ files() {
     count $? "tools/library: $(tail -n 1 "$room/log")"
     nm -D --defined-only "$built/libnbt.so.0" | awk '{ print $3 }' | sort | same "$(calls)" 'libnbt.so.0 exports the calls of the header'
     nm -g --defined-only "$built/libnbt.a" | awk 'NF == 3 { print $3 }' | sort | same "$(calls)" 'libnbt.a exports the calls of the header'
+    sed -n 's/^#define NBT_VERSION "\(.*\)"$/nbt \1/p' "$top/include/nbt.h" | same "$("$program" --version)" 'the version of the header'
     readelf -d "$built/libnbt.so.0" | sed -n 's/.*(SONAME).*\[\(.*\)\]/\1/p' | same libnbt.so.0 'the soname'
     readelf -d "$built/libnbt.so.0" | sed -n 's/.*(NEEDED).*\[\(.*\)\]/\1/p' | same libc.so.6 'libnbt.so.0 needs the C library alone'
     readelf -lW "$built/libnbt.so.0" | grep GNU_STACK | grep -c E | same 0 'the stack of its callers is not made executable'

@@ -333,6 +333,7 @@ static void nowhere(void)
     size_t used = 77, at = 88;
     uint32_t status;
     expect(nbt_status_text(NBT_DONE, NULL, 0, &used) == NBT_NO_ROOM && used == 4, "nbt_status_text: null");
+    expect(nbt_version(NULL, 0, &used) == NBT_NO_ROOM && used == strlen(NBT_VERSION), "nbt_version: null");
     expect(nbt_name_spell(NULL, 0, NULL, 0, &used, &at) == NBT_BAD_TEXT && at == 0, "nbt_name_spell: null");
     expect(nbt_name_text(NULL, 0, NULL, 0, &used, &at) == NBT_NAME_TRUNCATED && at == 0, "nbt_name_text: null");
     do

@@ -150,6 +150,12 @@ uint32_t nbt_name_text(const uint8_t *spelling, size_t spelling_length,
 uint32_t nbt_show(uint16_t port, const uint8_t *payload, size_t payload_length,
                   uint8_t *into, size_t into_length, size_t *used);
 
+/* The JSON object (RFC 8259) of a payload that came to this port, without a line feed: what the command `nbt show --json`
+ * prints of it, but for the members of its line, which are `line`, `port`, `moment` and `comment`. Ports are as of nbt_show.
+ * NBT_NO_MEMORY, NBT_NO_ROOM. */
+uint32_t nbt_json(uint16_t port, const uint8_t *payload, size_t payload_length,
+                  uint8_t *into, size_t into_length, size_t *used);
+
 /* A packet of the datagram service: RFC 1002 section 4.4. Places and lengths are in bytes of the payload. */
 struct nbt_datagram {
     uint8_t type;               /* MSG_TYPE: 0x10 to 0x12 a fragment, 0x13 an error, 0x14 to 0x16 a query */

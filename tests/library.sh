@@ -100,11 +100,20 @@ lines() {
     count $? "$1 payloads of tests/lib/library_payloads.py, and nbt show of each"
 }
 
+# objects LINES: the objects of payloads are those that `nbt show --json` prints, but for the members of their lines.
+objects() {
+    sed 's/ / 0 /' "$1" | ended "$program" show --json --input-limit 4294967296 \
+        | sed -E 's/^\{"line":([0-9]+),"port":([0-9]+),"moment":0,/\1 \2 {/' >"$1.objects"
+    ended "$room/plain" 0 json <"$1" 2>"$room/errors" | cmp -s "$1.objects" -
+    count $? "tests/lib/library.c prints the objects of nbt show --json: $(tail -n 1 "$room/errors")"
+}
+
 callers() {
     compiled plain
     compiled sanitized -fsanitize=address,undefined -fno-sanitize-recover=all
     lines "$payloads" 1
     worst plain "$room/lines1" 64
+    objects "$room/lines1"
     worst sanitized "$room/lines1" 8
 }
 

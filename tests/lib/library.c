@@ -1,6 +1,7 @@
 /* The calls of the library for C with a caller's worst: buffers that end where the next page can't be touched, at any
- * address, with each room from none to what is wanted, and memory that runs out. Usage: library [ROOMS] <LINES. Each line
- * is a port and the digits of a payload, or `empty`; the answer is what `nbt show` prints of a capture with these lines.
+ * address, with each room from none to what is wanted, and memory that runs out. Usage: library [ROOMS [json]] <LINES. Each
+ * line is a port and the digits of a payload, or `empty`; the answer is what `nbt show` prints of a capture with these lines,
+ * or each payload's object, after the line's number and the port.
  * ROOMS is how many smaller rooms are tried of each text, 64 without it. The status is 1, with the line and the call on
  * standard error, where a call does what the header doesn't say. The last line of standard error counts payloads, calls
  * and refusals of memory. */
@@ -104,6 +105,25 @@ static int again(uint32_t status)
     calls += 1;
     refusals += status == NBT_NO_MEMORY;
     return status == NBT_NO_MEMORY;
+}
+
+/* The object of a payload, in no room first, then in more than it wants; the line of it, if it is to be printed. */
+static void object(uint16_t port, const uint8_t *payload, size_t length, int is_printed)
+{
+    uint8_t *into;
+    size_t wanted = 77, used = 77;
+    uint32_t status;
+    do
+        status = nbt_json(port, payload, length, room(texts, 0), 0, &wanted);
+    while (again(status));
+    expect(status == NBT_NO_ROOM, "nbt_json: no room");
+    into = room(texts, wanted + 3);
+    do
+        status = nbt_json(port, payload, length, into, wanted + 3, &used);
+    while (again(status));
+    expect(status == NBT_DONE && used == wanted && is_filled(into + wanted, 3), "nbt_json: more room");
+    if (is_printed)
+        printf("%lu %u %.*s\n", number, port, (int)used, (const char *)into);
 }
 
 /* The text of a spelling, and its spelling again. */
@@ -343,6 +363,10 @@ static void nowhere(void)
     expect(nbt_datagram_read(NULL, 0, &of_138, &at) == NBT_TRUNCATED && at == 0, "nbt_datagram_read: null");
     expect(nbt_session_read(NULL, 0, &of_139, &at) == NBT_MORE && at == 4, "nbt_session_read: null");
     do
+        status = nbt_json(138, NULL, 0, NULL, 0, &used);
+    while (again(status));
+    expect(status == NBT_NO_ROOM, "nbt_json: null");
+    do
         status = nbt_session_write(0, NULL, 0, NULL, 0, &used, &at);
     while (again(status));
     expect(status == NBT_NO_ROOM && used == 4, "nbt_session_write: null");
@@ -411,7 +435,9 @@ int main(int count, char **words)
         for (i = 0; i < length; i++)
             payload[i] = (uint8_t)(value(digits[2 * i]) * 16 + value(digits[2 * i + 1]));
         number += 1;
-        shown(port, payload, length, rooms);
+        if (count < 3)
+            shown(port, payload, length, rooms);
+        object(port, payload, length, count > 2);
         datagram(payload, length);
         session(payload, length);
         stationed(payload, length);

@@ -6,8 +6,9 @@
  * Statuses. Each call answers one number of enum nbt_status: NBT_DONE, or why it did nothing. A number stands for one
  * thing, in all versions; nbt_status_text has its words.
  *
- * Buffers. A buffer is a pointer and then its length in bytes. No pointer is null, even where the length is 0, and the
- * buffers and numbers that one call writes overlap nothing else of that call. The library keeps no pointer to them.
+ * Buffers. A buffer is a pointer and then its length in bytes. Where the length is 0 the pointer may be any, null too: an
+ * input is then empty, and an output has no room. No other pointer is null. The buffers and numbers that one call writes
+ * overlap nothing else of that call. The library keeps no pointer to them.
  *
  * Output goes to the front of `into`, without a byte of zero after it. At NBT_DONE `*used` is how many bytes were
  * written, and the bytes after them are as they were. At NBT_NO_ROOM `*used` is how many are wanted, more than
@@ -123,6 +124,13 @@ enum nbt_status {
  * NBT_NO_ROOM, NBT_UNKNOWN_STATUS. */
 uint32_t nbt_status_text(uint32_t status, uint8_t *into, size_t into_length, size_t *used);
 
+/* The version that this header is of, and nbt_version's that of the library that is called: as `nbt --version` has it. */
+#define NBT_VERSION "0.1.0"
+
+/* The version of the library, as "0.1.0".
+ * NBT_NO_ROOM. */
+uint32_t nbt_version(uint8_t *into, size_t into_length, size_t *used);
+
 /* Names: RFC 1001 section 14, RFC 1002 section 4.1. ---------------------------------------------------------------- */
 
 /* The spelling of the name with this text: its labels, each after its length, then a zero byte; at most 255 bytes.
@@ -142,6 +150,12 @@ uint32_t nbt_name_text(const uint8_t *spelling, size_t spelling_length,
  * port is taken for a session.
  * NBT_NO_MEMORY, NBT_NO_ROOM. */
 uint32_t nbt_show(uint16_t port, const uint8_t *payload, size_t payload_length,
+                  uint8_t *into, size_t into_length, size_t *used);
+
+/* The JSON object (RFC 8259) of a payload that came to this port, without a line feed: what the command `nbt show --json`
+ * prints of it, but for the members of its line, which are `line`, `port`, `moment` and `comment`. Ports are as of nbt_show.
+ * NBT_NO_MEMORY, NBT_NO_ROOM. */
+uint32_t nbt_json(uint16_t port, const uint8_t *payload, size_t payload_length,
                   uint8_t *into, size_t into_length, size_t *used);
 
 /* The header of a packet of the name service: RFC 1002 section 4.2.1.1. */
@@ -214,7 +228,7 @@ uint32_t nbt_datagram_read(const uint8_t *payload, size_t payload_length, struct
 /* The packets of a datagram, cut into pieces of at most `most` bytes of data, in order, each after its length in two
  * bytes, the higher one first. Source and destination are texts; `type` is 0x10, 0x11 or 0x12.
  * NBT_UNKNOWN_TYPE, 12 to 15, NBT_LONG_DATA for data over 65,535 bytes, NBT_ZERO_PIECE, NBT_LONG_DATA where the longest
- * packet would pass 65,535 bytes, NBT_NO_MEMORY (which may come before those that follow the texts), NBT_NO_ROOM.
+ * packet would pass 65,535 bytes, NBT_NO_MEMORY, NBT_NO_ROOM, judged in this order.
  * RFC 1002 section 4.4.2; that each fragment carries both names is our choice. */
 uint32_t nbt_datagram_write(uint8_t type, uint16_t identifier, uint32_t address, uint16_t port,
                             const uint8_t *source, size_t source_length,

@@ -1,6 +1,7 @@
 /* The calls of the library for C with a caller's worst: buffers that end where the next page can't be touched, at any
- * address, with each room from none to what is wanted, and memory that runs out. Usage: library [ROOMS] <LINES. Each line
- * is a port and the digits of a payload, or `empty`; the answer is what `nbt show` prints of a capture with these lines.
+ * address, with each room from none to what is wanted, and memory that runs out. Usage: library [ROOMS [json]] <LINES. Each
+ * line is a port and the digits of a payload, or `empty`; the answer is what `nbt show` prints of a capture with these lines,
+ * or each payload's object, after the line's number and the port.
  * ROOMS is how many smaller rooms are tried of each text, 64 without it. The status is 1, with the line and the call on
  * standard error, where a call does what the header doesn't say. The last line of standard error counts payloads, calls
  * and refusals of memory. */
@@ -104,6 +105,25 @@ static int again(uint32_t status)
     calls += 1;
     refusals += status == NBT_NO_MEMORY;
     return status == NBT_NO_MEMORY;
+}
+
+/* The object of a payload, in no room first, then in more than it wants; the line of it, if it is to be printed. */
+static void object(uint16_t port, const uint8_t *payload, size_t length, int is_printed)
+{
+    uint8_t *into;
+    size_t wanted = 77, used = 77;
+    uint32_t status;
+    do
+        status = nbt_json(port, payload, length, room(texts, 0), 0, &wanted);
+    while (again(status));
+    expect(status == NBT_NO_ROOM, "nbt_json: no room");
+    into = room(texts, wanted + 3);
+    do
+        status = nbt_json(port, payload, length, into, wanted + 3, &used);
+    while (again(status));
+    expect(status == NBT_DONE && used == wanted && is_filled(into + wanted, 3), "nbt_json: more room");
+    if (is_printed)
+        printf("%lu %u %.*s\n", number, port, (int)used, (const char *)into);
 }
 
 /* The text of a spelling, and its spelling again. */
@@ -347,6 +367,75 @@ static void stationed(const uint8_t *payload, size_t length)
     expect(status == NBT_DONE, "nbt_station_tick");
 }
 
+/* Lengths that no memory helps: they are judged without a request for it, so none that is refused is answered. */
+static void judged(void)
+{
+    static const uint8_t data[65536];
+    const uint8_t *name = (const uint8_t *)"FRED<20>";
+    size_t used = 77, at = 88;
+    expect(nbt_datagram_write(0x10, 1, 1, 138, name, 8, name, 8, data, 65536, 512, NULL, 0, &used, &at) == NBT_LONG_DATA, "nbt_datagram_write: too much data");
+    expect(nbt_datagram_write(0x10, 1, 1, 138, name, 8, name, 8, data, 1, 0, NULL, 0, &used, &at) == NBT_ZERO_PIECE, "nbt_datagram_write: no pieces");
+    expect(nbt_datagram_write(0x10, 1, 1, 138, name, 8, name, 8, data, 65535, 65535, NULL, 0, &used, &at) == NBT_LONG_DATA, "nbt_datagram_write: a packet too long");
+    expect(used == 77 && at == 88, "nbt_datagram_write: something is written though nothing is done");
+    calls += 3;
+}
+
+/* Inputs and outputs of no bytes, which stand nowhere: null is as good as any other place. */
+static void nowhere(void)
+{
+    const uint8_t *name = (const uint8_t *)"FRED<20>";
+    struct nbt_datagram of_138;
+    struct nbt_session of_139;
+    struct nbt_taken taken;
+    struct nbt_station nameless;
+    size_t used = 77, at = 88;
+    uint32_t status;
+    expect(nbt_status_text(NBT_DONE, NULL, 0, &used) == NBT_NO_ROOM && used == 4, "nbt_status_text: null");
+    expect(nbt_version(NULL, 0, &used) == NBT_NO_ROOM && used == strlen(NBT_VERSION), "nbt_version: null");
+    expect(nbt_name_spell(NULL, 0, NULL, 0, &used, &at) == NBT_BAD_TEXT && at == 0, "nbt_name_spell: null");
+    expect(nbt_name_text(NULL, 0, NULL, 0, &used, &at) == NBT_NAME_TRUNCATED && at == 0, "nbt_name_text: null");
+    do
+        status = nbt_show(138, NULL, 0, NULL, 0, &used);
+    while (again(status));
+    expect(status == NBT_NO_ROOM && used == strlen("refused truncated 0\n"), "nbt_show: null");
+    expect(nbt_datagram_read(NULL, 0, &of_138, &at) == NBT_TRUNCATED && at == 0, "nbt_datagram_read: null");
+    expect(nbt_session_read(NULL, 0, &of_139, &at) == NBT_MORE && at == 4, "nbt_session_read: null");
+    do
+        status = nbt_json(138, NULL, 0, NULL, 0, &used);
+    while (again(status));
+    expect(status == NBT_NO_ROOM, "nbt_json: null");
+    do
+        status = nbt_session_write(0, NULL, 0, NULL, 0, &used, &at);
+    while (again(status));
+    expect(status == NBT_NO_ROOM && used == 4, "nbt_session_write: null");
+    do
+        status = nbt_datagram_write(0x10, 1, 1, 138, name, 8, name, 8, NULL, 0, 1, NULL, 0, &used, &at);
+    while (again(status));
+    expect(status == NBT_NO_ROOM && used == 2 + 14 + 2 * 34, "nbt_datagram_write: null");
+    expect(nbt_datagram_write(0x10, 1, 1, 138, NULL, 0, NULL, 0, NULL, 0, 1, NULL, 0, &used, &at) == NBT_SOURCE_BAD_TEXT, "nbt_datagram_write: no names");
+    expect(nbt_service_request(NBT_QUERY, 1, false, NULL, 0, 0, 0, 0, NULL, 0, &used, &at) == NBT_BAD_TEXT, "nbt_service_request: null");
+    expect(nbt_table_merge(NULL, 0, NULL, 0, 1, 1, NULL, 0, &used, &at) == NBT_TABLE_BAD_MAGIC, "nbt_table_merge: null");
+    expect(nbt_table_list(NULL, 0, NULL, 0, &used, &at) == NBT_TABLE_BAD_MAGIC, "nbt_table_list: null");
+    do
+        status = nbt_station_create(NULL, 0, 1, 138, 1, 1, &nameless.at, &at);
+    while (again(status));
+    expect(status == NBT_DONE, "nbt_station_create: null");
+    expect(nbt_station_take(&nameless, 0, NULL, 0, &taken, NULL, 0, &used) == NBT_NO_ROOM, "nbt_station_take: null");
+    do
+        status = nbt_station_take(&nameless, 0, NULL, 0, &taken, room(texts, NBT_TAKE_ROOM), NBT_TAKE_ROOM, &used);
+    while (again(status));
+    expect(status == NBT_DONE && taken.outcome == NBT_REFUSED, "nbt_station_take: no payload");
+    do
+        status = nbt_station_save(&nameless, NULL, 0, &used);
+    while (again(status));
+    expect(status == NBT_NO_ROOM, "nbt_station_save: null");
+    do
+        status = nbt_station_absorb(&nameless, 0, NULL, 0, NULL, 0, &used, &at);
+    while (again(status));
+    expect(status == NBT_TABLE_BAD_MAGIC, "nbt_station_absorb: null");
+    nbt_station_free(nameless);
+}
+
 static int value(char digit)
 {
     return digit <= '9' ? digit - '0' : (digit | 32) - 'a' + 10;
@@ -371,6 +460,8 @@ int main(int count, char **words)
         status = nbt_station_create((const uint8_t *)"FRED<20>", 8, 0x0a000009, 138, 4, 4, &joiner.at, &place);
     while (again(status));
     expect(status == NBT_DONE && place == 88, "nbt_station_create: another");
+    judged();
+    nowhere();
     while (fgets(line, sizeof line, stdin) != NULL) {
         char *digits;
         uint16_t port = (uint16_t)strtoul(line, &digits, 10);
@@ -382,7 +473,9 @@ int main(int count, char **words)
         for (i = 0; i < length; i++)
             payload[i] = (uint8_t)(value(digits[2 * i]) * 16 + value(digits[2 * i + 1]));
         number += 1;
-        shown(port, payload, length, rooms);
+        if (count < 3)
+            shown(port, payload, length, rooms);
+        object(port, payload, length, count > 2);
         service(payload, length);
         datagram(payload, length);
         session(payload, length);

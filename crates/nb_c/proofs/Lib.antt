@@ -7,6 +7,7 @@ pub mod ListLemmas
 pub mod LoadLemmas
 pub mod MergeLemmas
 pub mod NameLemmas
+pub mod ObjectLemmas
 pub mod PlaceLemmas
 pub mod ReadLemmas
 pub mod ServiceLemmas

@@ -191,7 +191,8 @@ pub fn parts_stand_at_their_places()
 /// more than 65,535 bytes.
 pub fn the_first_packet_is_the_longest()
     ensures long { (d : DatagramParts) (most : ℕ) → IsKey d.key →
-        IsTrue (are_long d most) ↔ (65535 < length (packet_of (piece d most 0))) }
+        IsTrue (are_long d.source d.destination (length d.bytes) most)
+        ↔ (65535 < length (packet_of (piece d most 0))) }
     ensures longest { (d : DatagramParts) (most j : ℕ) → IsKey d.key →
         length (packet_of (piece d most j)) ≤ length (packet_of (piece d most 0)) }
 {}

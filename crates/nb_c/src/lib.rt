@@ -25,4 +25,5 @@ pub mod taken;
 pub mod taking;
 mod telling;
 mod texts;
+pub mod version;
 pub mod words;

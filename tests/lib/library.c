@@ -380,10 +380,36 @@ static void judged(void)
     calls += 3;
 }
 
+/* Faults of the questions and records of port 137, each at its place; and numbers and places past the last. */
+static void faulty(void)
+{
+    static const uint8_t pointer[] = "\0\1\0\0" "\0\1\0\0\0\0\0\0" "\xc0\x0c\0\x20\0\1";
+    static const uint8_t server[] = "\0\1\0\0" "\0\0\0\0\0\1\0\0" "\0\0\2\0\1" "\0\0\0\0" "\0\3" "\1A\0" "..";
+    uint8_t longer[sizeof server];
+    struct nbt_service_header header;
+    struct nbt_service_item item;
+    size_t at = 88;
+    expect(nbt_service_read(pointer, 18, &header, &at) == NBT_NAME_BAD_POINTER && at == 12, "nbt_service_read: a pointer to itself");
+    expect(nbt_service_item(pointer, 18, 0, 12, &item, &at) == NBT_NAME_BAD_POINTER && at == 12, "nbt_service_item: a pointer to itself");
+    expect(nbt_service_read(server, 26, &header, &at) == NBT_DONE && header.used == 26, "nbt_service_read: a name in RDATA");
+    expect(nbt_service_item(server, 26, 0, 12, &item, &at) == NBT_DONE && item.section == 2 && item.data == 23 && item.data_length == 3 && item.next == 26, "nbt_service_item: a name in RDATA");
+    expect(nbt_service_item(server, 26, 1, 26, &item, &at) == NBT_NO_ITEM && at == 12, "nbt_service_item: a second of one");
+    expect(nbt_service_item(server, 26, UINT32_MAX, SIZE_MAX, &item, &at) == NBT_NO_ITEM && at == 12, "nbt_service_item: the greatest number");
+    expect(nbt_service_item(server, 26, 0, 26, &item, &at) == NBT_NAME_TRUNCATED && at == 26, "nbt_service_item: the end");
+    expect(nbt_service_item(server, 26, 0, SIZE_MAX, &item, &at) == NBT_NAME_TRUNCATED, "nbt_service_item: the last place of all");
+    memcpy(longer, server, sizeof server);
+    longer[22] = 4;
+    expect(nbt_service_read(longer, 27, &header, &at) == NBT_NAME_RDATA && at == 23, "nbt_service_read: RDATA longer than its name");
+    expect(nbt_service_item(longer, 27, 0, 12, &item, &at) == NBT_NAME_RDATA && at == 23, "nbt_service_item: RDATA longer than its name");
+    calls += 10;
+}
+
 /* Inputs and outputs of no bytes, which stand nowhere: null is as good as any other place. */
 static void nowhere(void)
 {
     const uint8_t *name = (const uint8_t *)"FRED<20>";
+    struct nbt_service_header of_137;
+    struct nbt_service_item item;
     struct nbt_datagram of_138;
     struct nbt_session of_139;
     struct nbt_taken taken;
@@ -398,6 +424,9 @@ static void nowhere(void)
         status = nbt_show(138, NULL, 0, NULL, 0, &used);
     while (again(status));
     expect(status == NBT_NO_ROOM && used == strlen("refused truncated 0\n"), "nbt_show: null");
+    expect(nbt_service_header(NULL, 0, &of_137, &at) == NBT_TRUNCATED && at == 0, "nbt_service_header: null");
+    expect(nbt_service_read(NULL, 0, &of_137, &at) == NBT_TRUNCATED && at == 0, "nbt_service_read: null");
+    expect(nbt_service_item(NULL, 0, 0, 12, &item, &at) == NBT_TRUNCATED && at == 0, "nbt_service_item: null");
     expect(nbt_datagram_read(NULL, 0, &of_138, &at) == NBT_TRUNCATED && at == 0, "nbt_datagram_read: null");
     expect(nbt_session_read(NULL, 0, &of_139, &at) == NBT_MORE && at == 4, "nbt_session_read: null");
     do
@@ -461,6 +490,7 @@ int main(int count, char **words)
     while (again(status));
     expect(status == NBT_DONE && place == 88, "nbt_station_create: another");
     judged();
+    faulty();
     nowhere();
     while (fgets(line, sizeof line, stdin) != NULL) {
         char *digits;

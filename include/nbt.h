@@ -85,6 +85,8 @@ enum nbt_status {
     NBT_TRAILING_BYTES = 55, /* bytes after the names of a session request; *at: where they begin */
     NBT_NAME_RDATA = 56,     /* the name in RDATA of type NS ends elsewhere than the RDATA; *at: where the RDATA begins */
     NBT_NO_ITEM = 57,        /* the header counts fewer questions and records */
+    NBT_OTHER_RDATA = 58,    /* RDATA of another type, or not of the form that its type has */
+    NBT_NO_PART = 59,        /* RDATA has fewer parts; *at: how many */
 
     /* What was asked to be written. */
     NBT_UNKNOWN_REQUEST = 60, /* no number of enum nbt_request */
@@ -202,6 +204,41 @@ struct nbt_service_item {
  * memory is taken. */
 uint32_t nbt_service_item(const uint8_t *payload, size_t payload_length, uint32_t number, size_t place,
                           struct nbt_service_item *item, size_t *at);
+
+/* The parts of RDATA, of the type and the bytes that nbt_service_item told of a record. Numbers are counted from 0, and
+ * the calls may be made with any type and any bytes. No memory is taken. */
+
+/* An address of a NetBIOS name, in RDATA of type NB: RFC 1002 section 4.2.13. */
+struct nbt_service_address {
+    uint32_t address; /* NB_ADDRESS */
+    uint16_t flags;   /* NB_FLAGS: G 0x8000, a group's name; ONT 0x6000, the type of the node */
+};
+
+/* Reads the address with this number.
+ * NBT_OTHER_RDATA where the type isn't NB, and where the bytes aren't entries of six bytes alone, NBT_NO_PART. */
+uint32_t nbt_service_address(uint16_t type, const uint8_t *data, size_t data_length, size_t number,
+                             struct nbt_service_address *address, size_t *at);
+
+/* One of the names of a node, in RDATA of type NBSTAT: RFC 1002 section 4.2.18. */
+struct nbt_service_node {
+    uint16_t flags;   /* NAME_FLAGS: G 0x8000, ONT 0x6000, DRG 0x1000, CNF 0x0800, ACT 0x0400, PRM 0x0200 */
+    uint8_t name[16]; /* the sixteen bytes of the name */
+};
+
+/* Reads the name with this number.
+ * NBT_OTHER_RDATA where the type isn't NBSTAT, and where there is less than as many names as the first byte says,
+ * NBT_NO_PART. */
+uint32_t nbt_service_node(uint16_t type, const uint8_t *data, size_t data_length, size_t number,
+                          struct nbt_service_node *node, size_t *at);
+
+/* The unit of a node, in RDATA of type NBSTAT: RFC 1002 section 4.2.18. */
+struct nbt_service_unit {
+    uint8_t bytes[6]; /* UNIT_ID */
+};
+
+/* Reads the unit, which stands behind the names.
+ * NBT_OTHER_RDATA as of nbt_service_node, NBT_TRUNCATED where fewer than six bytes stand there. */
+uint32_t nbt_service_unit(uint16_t type, const uint8_t *data, size_t data_length, struct nbt_service_unit *unit, size_t *at);
 
 /* A packet of the datagram service: RFC 1002 section 4.4. Places and lengths are in bytes of the payload. */
 struct nbt_datagram {

@@ -170,6 +170,53 @@ static void written(const uint8_t *payload, const struct nbt_datagram *read)
     expect(memcmp(into + 2, payload, read->used) == 0, "nbt_datagram_write: the packet again");
 }
 
+/* The parts of RDATA, one by one, as the standard says where they stand. */
+static void parts(uint16_t type, const uint8_t *data, size_t length)
+{
+    size_t names = type == 0x21 && length > 0 && length - 1 >= (size_t)18 * data[0] ? data[0] : 0, addresses = type == 0x20 ? length / 6 : 0, at, number;
+    int are_addresses = type == 0x20 && length % 6 == 0, is_status = type == 0x21 && length > 0 && length - 1 >= (size_t)18 * data[0];
+    struct nbt_service_address entry;
+    struct nbt_service_node node;
+    struct nbt_service_unit unit;
+    uint32_t status;
+    for (number = 0; number <= addresses; number++) {
+        const uint8_t *found = data + 6 * number;
+        at = 88;
+        memset(&entry, FILL, sizeof entry);
+        status = nbt_service_address(type, data, length, number, &entry, &at);
+        calls += 1;
+        if (status != NBT_DONE) {
+            expect(status == (are_addresses ? NBT_NO_PART : NBT_OTHER_RDATA) && at == (are_addresses ? addresses : 88) && (number == addresses || !are_addresses), "nbt_service_address: the last one");
+            expect(is_filled((const uint8_t *)&entry, sizeof entry), "nbt_service_address: one is filled in though nothing is done");
+            break;
+        }
+        expect(number < addresses && at == 88 && entry.flags == (found[0] << 8 | found[1]) && entry.address == ((uint32_t)found[2] << 24 | (uint32_t)found[3] << 16 | (uint32_t)found[4] << 8 | found[5]), "nbt_service_address: the bytes");
+    }
+    for (number = 0; number <= names; number++) {
+        const uint8_t *found = data + 1 + 18 * number;
+        at = 88;
+        memset(&node, FILL, sizeof node);
+        status = nbt_service_node(type, data, length, number, &node, &at);
+        calls += 1;
+        if (status != NBT_DONE) {
+            expect(status == (is_status ? NBT_NO_PART : NBT_OTHER_RDATA) && at == (is_status ? names : 88) && number == names, "nbt_service_node: the last one");
+            expect(is_filled((const uint8_t *)&node, sizeof node), "nbt_service_node: one is filled in though nothing is done");
+            break;
+        }
+        expect(number < names && at == 88 && memcmp(node.name, found, 16) == 0 && node.flags == (found[16] << 8 | found[17]), "nbt_service_node: the bytes");
+    }
+    at = 88;
+    memset(&unit, FILL, sizeof unit);
+    status = nbt_service_unit(type, data, length, &unit, &at);
+    calls += 1;
+    if (status == NBT_DONE) {
+        expect(is_status && at == 88 && length - 1 - 18 * names >= 6 && memcmp(unit.bytes, data + 1 + 18 * names, 6) == 0, "nbt_service_unit: the bytes");
+    } else {
+        expect(is_status ? status == NBT_TRUNCATED && at == length && length - 1 - 18 * names < 6 : status == NBT_OTHER_RDATA && at == 88, "nbt_service_unit: none");
+        expect(is_filled((const uint8_t *)&unit, sizeof unit), "nbt_service_unit: one is filled in though nothing is done");
+    }
+}
+
 /* The questions and records of a payload, one by one: those of the packet or, where there is none, those before its fault. */
 static void service(const uint8_t *payload, size_t length)
 {
@@ -196,6 +243,7 @@ static void service(const uint8_t *payload, size_t length)
         expect(other == 99 && place < item.data && item.data + item.data_length == item.next && item.next <= length, "nbt_service_item: the places");
         expect(item.name_length > 0 && item.name[item.name_length - 1] == 0, "nbt_service_item: the name");
         expect(item.section > 0 || (item.data_length == 0 && item.time_to_live == 0), "nbt_service_item: a question");
+        parts(item.type, payload + item.data, item.data_length);
         place = item.next;
     }
     if (status == NBT_DONE) {
@@ -410,6 +458,9 @@ static void nowhere(void)
     const uint8_t *name = (const uint8_t *)"FRED<20>";
     struct nbt_service_header of_137;
     struct nbt_service_item item;
+    struct nbt_service_address entry;
+    struct nbt_service_node node;
+    struct nbt_service_unit unit;
     struct nbt_datagram of_138;
     struct nbt_session of_139;
     struct nbt_taken taken;
@@ -427,6 +478,9 @@ static void nowhere(void)
     expect(nbt_service_header(NULL, 0, &of_137, &at) == NBT_TRUNCATED && at == 0, "nbt_service_header: null");
     expect(nbt_service_read(NULL, 0, &of_137, &at) == NBT_TRUNCATED && at == 0, "nbt_service_read: null");
     expect(nbt_service_item(NULL, 0, 0, 12, &item, &at) == NBT_TRUNCATED && at == 0, "nbt_service_item: null");
+    expect(nbt_service_address(0x20, NULL, 0, 0, &entry, &at) == NBT_NO_PART && at == 0, "nbt_service_address: null");
+    expect(nbt_service_node(0x21, NULL, 0, 0, &node, &at) == NBT_OTHER_RDATA, "nbt_service_node: null");
+    expect(nbt_service_unit(0x21, NULL, 0, &unit, &at) == NBT_OTHER_RDATA, "nbt_service_unit: null");
     expect(nbt_datagram_read(NULL, 0, &of_138, &at) == NBT_TRUNCATED && at == 0, "nbt_datagram_read: null");
     expect(nbt_session_read(NULL, 0, &of_139, &at) == NBT_MORE && at == 4, "nbt_session_read: null");
     do

@@ -8,6 +8,7 @@ pub mod LoadLemmas
 pub mod MergeLemmas
 pub mod NameLemmas
 pub mod ObjectLemmas
+pub mod PartLemmas
 pub mod PlaceLemmas
 pub mod ReadLemmas
 pub mod ServiceLemmas

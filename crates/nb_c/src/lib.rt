@@ -15,6 +15,7 @@ mod output;
 mod parts;
 mod refusal;
 pub mod service;
+pub mod service_parts;
 pub mod service_reading;
 pub mod sessions;
 pub mod showing;

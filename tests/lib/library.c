@@ -170,49 +170,53 @@ static void written(const uint8_t *payload, const struct nbt_datagram *read)
     expect(memcmp(into + 2, payload, read->used) == 0, "nbt_datagram_write: the packet again");
 }
 
-/* The parts of RDATA, one by one, as the standard says where they stand. */
-static void parts(uint16_t type, const uint8_t *data, size_t length)
+/* The addresses of RDATA, one by one, as the standard says where they stand. */
+static void addresses(uint16_t type, const uint8_t *data, size_t length)
 {
-    size_t names = type == 0x21 && length > 0 && length - 1 >= (size_t)18 * data[0] ? data[0] : 0, addresses = type == 0x20 ? length / 6 : 0, at, number;
-    int are_addresses = type == 0x20 && length % 6 == 0, is_status = type == 0x21 && length > 0 && length - 1 >= (size_t)18 * data[0];
-    struct nbt_service_address entry;
+    size_t count = type == 0x20 && length % 6 == 0 ? length / 6 : 0, number, at = 88;
+    uint32_t last = type == 0x20 && length % 6 == 0 ? NBT_NO_PART : NBT_OTHER_RDATA, status;
+    struct nbt_service_address read;
+    for (number = 0; number < count; number++) {
+        const uint8_t *entry = data + 6 * number;
+        status = nbt_service_address(type, data, length, number, &read, &at);
+        calls += 1;
+        expect(status == NBT_DONE && at == 88 && read.flags == (entry[0] << 8 | entry[1]), "nbt_service_address: the flags");
+        expect(read.address == ((uint32_t)entry[2] << 24 | (uint32_t)entry[3] << 16 | (uint32_t)entry[4] << 8 | entry[5]), "nbt_service_address: the address");
+    }
+    memset(&read, FILL, sizeof read);
+    status = nbt_service_address(type, data, length, count, &read, &at);
+    calls += 1;
+    expect(status == last && at == (last == NBT_NO_PART ? count : 88), "nbt_service_address: past the last");
+    expect(is_filled((const uint8_t *)&read, sizeof read), "nbt_service_address: one is filled in though nothing is done");
+}
+
+/* The names and the unit of a node, as the standard says where they stand. */
+static void nodes(uint16_t type, const uint8_t *data, size_t length)
+{
+    int is_status = type == 0x21 && length > 0 && length - 1 >= (size_t)18 * data[0];
+    size_t count = is_status ? data[0] : 0, number, at = 88, behind = 1 + 18 * count;
     struct nbt_service_node node;
     struct nbt_service_unit unit;
     uint32_t status;
-    for (number = 0; number <= addresses; number++) {
-        const uint8_t *found = data + 6 * number;
-        at = 88;
-        memset(&entry, FILL, sizeof entry);
-        status = nbt_service_address(type, data, length, number, &entry, &at);
-        calls += 1;
-        if (status != NBT_DONE) {
-            expect(status == (are_addresses ? NBT_NO_PART : NBT_OTHER_RDATA) && at == (are_addresses ? addresses : 88) && (number == addresses || !are_addresses), "nbt_service_address: the last one");
-            expect(is_filled((const uint8_t *)&entry, sizeof entry), "nbt_service_address: one is filled in though nothing is done");
-            break;
-        }
-        expect(number < addresses && at == 88 && entry.flags == (found[0] << 8 | found[1]) && entry.address == ((uint32_t)found[2] << 24 | (uint32_t)found[3] << 16 | (uint32_t)found[4] << 8 | found[5]), "nbt_service_address: the bytes");
-    }
-    for (number = 0; number <= names; number++) {
-        const uint8_t *found = data + 1 + 18 * number;
-        at = 88;
-        memset(&node, FILL, sizeof node);
+    for (number = 0; number < count; number++) {
+        const uint8_t *name = data + 1 + 18 * number;
         status = nbt_service_node(type, data, length, number, &node, &at);
         calls += 1;
-        if (status != NBT_DONE) {
-            expect(status == (is_status ? NBT_NO_PART : NBT_OTHER_RDATA) && at == (is_status ? names : 88) && number == names, "nbt_service_node: the last one");
-            expect(is_filled((const uint8_t *)&node, sizeof node), "nbt_service_node: one is filled in though nothing is done");
-            break;
-        }
-        expect(number < names && at == 88 && memcmp(node.name, found, 16) == 0 && node.flags == (found[16] << 8 | found[17]), "nbt_service_node: the bytes");
+        expect(status == NBT_DONE && at == 88 && memcmp(node.name, name, 16) == 0, "nbt_service_node: the name");
+        expect(node.flags == (name[16] << 8 | name[17]), "nbt_service_node: the flags");
     }
-    at = 88;
+    memset(&node, FILL, sizeof node);
     memset(&unit, FILL, sizeof unit);
+    status = nbt_service_node(type, data, length, count, &node, &at);
+    expect(status == (is_status ? NBT_NO_PART : NBT_OTHER_RDATA) && at == (is_status ? count : 88), "nbt_service_node: past the last");
+    expect(is_filled((const uint8_t *)&node, sizeof node), "nbt_service_node: one is filled in though nothing is done");
+    at = 88;
     status = nbt_service_unit(type, data, length, &unit, &at);
-    calls += 1;
-    if (status == NBT_DONE) {
-        expect(is_status && at == 88 && length - 1 - 18 * names >= 6 && memcmp(unit.bytes, data + 1 + 18 * names, 6) == 0, "nbt_service_unit: the bytes");
+    calls += 2;
+    if (is_status && length - behind >= 6) {
+        expect(status == NBT_DONE && at == 88 && memcmp(unit.bytes, data + behind, 6) == 0, "nbt_service_unit: the bytes");
     } else {
-        expect(is_status ? status == NBT_TRUNCATED && at == length && length - 1 - 18 * names < 6 : status == NBT_OTHER_RDATA && at == 88, "nbt_service_unit: none");
+        expect(is_status ? status == NBT_TRUNCATED && at == length : status == NBT_OTHER_RDATA && at == 88, "nbt_service_unit: no unit");
         expect(is_filled((const uint8_t *)&unit, sizeof unit), "nbt_service_unit: one is filled in though nothing is done");
     }
 }
@@ -243,7 +247,8 @@ static void service(const uint8_t *payload, size_t length)
         expect(other == 99 && place < item.data && item.data + item.data_length == item.next && item.next <= length, "nbt_service_item: the places");
         expect(item.name_length > 0 && item.name[item.name_length - 1] == 0, "nbt_service_item: the name");
         expect(item.section > 0 || (item.data_length == 0 && item.time_to_live == 0), "nbt_service_item: a question");
-        parts(item.type, payload + item.data, item.data_length);
+        addresses(item.type, payload + item.data, item.data_length);
+        nodes(item.type, payload + item.data, item.data_length);
         place = item.next;
     }
     if (status == NBT_DONE) {

@@ -44,8 +44,8 @@ fn shown(alloc: Global, port: u16, payload: &[u8]) -> Result<Bytes, NoMemory>
     Ok(Bytes::from_vec(text.into_bytes()))
 }
 
-/// Writes the JSON object of a payload that came to a port: the members that `nbt show --json` prints
-/// of it, but for those of its line.
+/// Writes the JSON object of a payload that came to a port: the members that `nbt show --json`
+/// prints of it, but for those of its line.
 ///
 /// The form is our choice.
 #[unsafe(no_mangle)]

@@ -1,5 +1,6 @@
 -- A payload of port 137 has one answer for its header, for its packet, and for each item.
-use Rattle.std.proofs.Common.{◌≡◌, ◌∙◌, ℕ, ◌<◌, ◌≤◌, List, length, Result, Ok, Err, refl, ap, sym, subst, arith}
+use Rattle.std.proofs.Common.{◌≡◌, ◌∙◌, ℕ, ◌<◌, ◌≤◌, List, length, Option, Some, None, Result, Ok, Err, refl, ap, sym, subst, arith}
+use Rattle.std.specs.Prelude.{IfSome, MatchOption}
 use Rattle.nb_service.specs.declared.extent.Extent.{Extent}
 use Rattle.nb_service.specs.declared.fault.ServiceFault.{ServiceFault}
 use Rattle.nb_service.specs.declared.fault.ServiceFault.TheVariants.{Truncated}
@@ -62,6 +63,18 @@ packet_refused payload laws fault refused = record { said = (fault, refused, ref
   others : (other : Result NbtServiceHeader Refusal) → ReadsPacket payload other → other ≡ Err (service_refusal fault)
   others (Ok found) (header, used, there, exact) = absurd (laws.apart fault there.packet used refused there.stands)
   others (Err refusal) (found, there, exact) = cc (exact, laws.one_fault found fault there refused)
+
+-- ---- what is known of an option whose value is known
+pub at_some : {A : Type 0} (o : Option A) (x : A) (P : Type 0) (Q : A → Type 0) → o ≡ Some x → MatchOption o P Q → Q x
+at_some {A} o x P Q is m = subst (λ (p : Option A). MatchOption p P Q) is m
+
+pub at_none : {A : Type 0} (o : Option A) (P : Type 0) (Q : A → Type 0) → o ≡ None → MatchOption o P Q → P
+at_none {A} o P Q is m = subst (λ (p : Option A). MatchOption p P Q) is m
+
+pub if_some : {A : Type 0} (o : Option A) (x : A) (Q : A → Type 0) → o ≡ Some x → IfSome o Q → Q x
+if_some {A} o x Q is m = subst (λ (p : Option A). IfSome p Q) is m
+
+-- ---- items
 
 -- at an offset stands one item of a number, or it has one fault
 pub record ItemLaws (payload : List ℕ) : Type 0 where

@@ -113,10 +113,13 @@ fn node_of(status: &NodeStatus<'_>, number: usize) -> Result<NbtServiceNode, Ref
     ensures { result ≡ part_answer node_numbers status.now.names number }
 {
     match status.get(number) {
-        Some(name) => Ok(NbtServiceNode {
-            flags: name.flags,
-            name: name.bytes,
-        }),
+        Some(node) => {
+            let name = node.bytes;
+            Ok(NbtServiceNode {
+                flags: node.flags,
+                name,
+            })
+        }
         None => Err(Refusal::FaultAt(NO_PART, status.len())),
     }
 }

@@ -9,6 +9,7 @@ shopt -s lastpipe
 program=$(realpath "${1:-$here/../crates/nbt/out/nbt}")
 top=$(realpath "$here/..")
 out=$room/out
+. "$here/lib/package_cases.sh"
 strict=(-std=c11 -O1 -g -Wall -Wextra -Wpedantic -Werror "-I$top/include")
 payloads=3000
 qemu=(qemu-aarch64 -L /usr/aarch64-linux-gnu)
@@ -166,6 +167,11 @@ corpus() {
         "$out/lib/aarch64/libnbt.a" >"$room/log" 2>&1
     count $? "tests/lib/fuzz_calls.c for aarch64: $(head -n 1 "$room/log")"
     ended "${qemu[@]}" "$room/corpus.arm" <"$here/corpus.txt" 2>&1 | tail -n 1 | same "$wanted" 'the corpus on aarch64'
+    ${CC:-cc} "${strict[@]}" -DALONE -o "$room/off" "$here/lib/fuzz_calls.c" "$here/lib/place_off.c" -Wl,--wrap=malloc,--wrap=realloc,--wrap=nbt_datagram_read \
+        "$out/lib/libnbt.a" >"$room/log" 2>&1
+    count $? "tests/lib/place_off.c: $(head -n 1 "$room/log")"
+    ! ended "$room/off" <"$here/corpus.txt" >"$room/output" 2>&1 && grep -q 'not so: ' "$room/output"
+    count $? "the corpus finds a place that is one off: $(tail -n 1 "$room/output")"
     echo 01000411000001020003ff | ended "$room/corpus" print >"$room/output" 2>/dev/null
     same $'138 0 11000001\n139 0 ff' 'an input as lines of a capture' <"$room/output"
     [ "$(stat -c %s "$here/corpus.txt")" -lt 2000000 ]
@@ -193,56 +199,6 @@ types() {
     count $? "tsc --strict: $(head -n 3 "$room/log")"
 }
 
-# What make dist makes: the same bytes twice, and each package does what its page says, where nothing else of the library is.
-packages() {
-    local dist=$room/dist page=$top/docs/CALLING.md
-    "$top/tools/dist" "$out" "$out/lib" "$program" "$dist" "$here/counts.txt" >"$room/log" 2>&1
-    count $? "tools/dist: $(tail -n 1 "$room/log")"
-    "$top/tools/dist" "$out" "$out/lib" "$program" "$room/dist2" "$here/counts.txt" >"$room/log" 2>&1 && diff -r "$dist" "$room/dist2" >"$room/log"
-    count $? "the same bytes once more: $(head -c 300 "$room/log")"
-    (cd "$dist" && sha256sum --quiet -c SHA256SUMS) >"$room/log" 2>&1
-    count $? "SHA256SUMS: $(head -n 1 "$room/log")"
-    grep -q "^The library: logic=proved " "$dist/PROOF" && (cd "$top" && grep -E '^[0-9a-f]{64}  crates/' "$dist/PROOF" | sha256sum --quiet -c) >"$room/log" 2>&1
-    count $? "the sources of PROOF: $(head -n 1 "$room/log")"
-    for each in amd64 arm64; do
-        dpkg-deb -x "$dist/libnbt0_"*"_$each.deb" "$room/root" && dpkg-deb -x "$dist/libnbt-dev_"*"_$each.deb" "$room/root" \
-            && dpkg-deb -x "$dist/python3-nbt_"*_all.deb "$room/root"
-        count $? "the packages of $each are unpacked"
-    done
-    block c "$page" >"$room/first.c"
-    ${CC:-cc} -std=c11 -I"$room/root/usr/include" -L"$room/root/usr/lib/x86_64-linux-gnu" -o "$room/first" "$room/first.c" -lnbt >"$room/log" 2>&1
-    LD_LIBRARY_PATH=$room/root/usr/lib/x86_64-linux-gnu ended "$room/first" | same 'negative code=82 used=5' 'libnbt-dev of amd64'
-    aarch64-linux-gnu-gcc -std=c11 -I"$room/root/usr/include" -L"$room/root/usr/lib/aarch64-linux-gnu" -o "$room/first" "$room/first.c" -lnbt >"$room/log" 2>&1
-    ended "${qemu[@]}" -E LD_LIBRARY_PATH="$room/root/usr/lib/aarch64-linux-gnu" "$room/first" | same 'negative code=82 used=5' 'libnbt-dev of arm64'
-    block python "$page" >"$room/first.py"
-    LD_LIBRARY_PATH=$room/root/usr/lib/x86_64-linux-gnu PYTHONPATH=$room/root/usr/lib/python3/dist-packages ended python3 "$room/first.py" 2>&1 \
-        | same $'JOE<00> FRED<20> hello\nTRUNCATED 60' 'python3-nbt'
-    if python3 -m pip --version >/dev/null 2>&1; then
-        ended python3 -m pip install -q --no-index --target "$room/wheel" "$dist"/*x86_64.whl >"$room/log" 2>&1
-        count $? "pip install of the wheel: $(tail -n 1 "$room/log")"
-        PYTHONPATH=$room/wheel ended python3 "$room/first.py" 2>&1 | same $'JOE<00> FRED<20> hello\nTRUNCATED 60' 'the wheel'
-    else
-        skipped=$((skipped + 2))
-        echo 'skipped: the wheel (pip is missing)'
-    fi
-    mkdir -p "$room/packed/node_modules" "$room/crate"
-    tar -xzf "$dist"/nbt-*.tgz -C "$room/packed/node_modules" && mv "$room/packed/node_modules/package" "$room/packed/node_modules/nbt"
-    block js "$room/packed/node_modules/nbt/README.md" >"$room/packed/first.mjs"
-    ended "${node[@]}" "$room/packed/first.mjs" 2>&1 | same "$(block text "$top/bindings/javascript/README.md")" 'the package for JavaScript'
-    if command -v cargo >/dev/null; then
-        tar -xzf "$dist"/nbt-*-rust.tar.gz -C "$room/crate" && mkdir -p "$room/crate/user/src" && block rust "$page" >"$room/crate/user/src/main.rs"
-        printf '[package]\nname = "first"\nversion = "0.1.0"\nedition = "2021"\n\n[dependencies]\nnbt = { path = "%s" }\n' \
-            "$(echo "$room"/crate/nbt-*)" >"$room/crate/user/Cargo.toml"
-        (cd "$room/crate/user" && PKG_CONFIG=/bin/false ended cargo run --quiet --offline) 2>&1 \
-            | same $'negative code=82 used=5\nbad text 4' 'the crate for Rust, without pkg-config'
-    else
-        skipped=$((skipped + 1))
-        echo 'skipped: the crate for Rust (cargo is missing)'
-    fi
-    says 'make dist, to a file' "can't be written to" "$top/tools/dist" "$out" "$out/lib" "$program" "$here/counts.txt/dist"
-    says 'make dist of nothing' 'run make build targets first' "$top/tools/dist" "$room/nowhere" "$out/lib" "$program" "$room/dist3"
-}
-
 # says NAME TEXT COMMAND..: a command fails, and says so in one line that has a text.
 says() {
     ! ended "${@:3}" >"$room/output" 2>"$room/errors" && [ ! -s "$room/output" ] && [ "$(wc -l <"$room/errors")" -eq 1 ] && grep -qF -- "$2" "$room/errors"
@@ -251,12 +207,21 @@ says() {
 
 # What is missing, or can't be written to.
 missing() {
-    local tool
-    mkdir "$room/bin"
-    for tool in dirname realpath mktemp rm mkdir rt; do ln -s "$(command -v $tool)" "$room/bin/$tool"; done
-    says 'no cross compiler' 'install gcc-aarch64-linux-gnu' env PATH="$room/bin" "$BASH" "$top/tools/targets" check "$room/out2"
-    rm "$room/bin/rt"
-    says 'no kit' 'install the kit first' env PATH="$room/bin" "$BASH" "$top/tools/targets" check "$room/out2"
+    local tool python few=$room/few_tools
+    python=$(python3 -c 'import sys; print(sys.executable)')
+    mkdir "$few"
+    for tool in awk basename dirname grep mktemp mkdir realpath rm rt sort tail timeout; do ln -s "$(command -v $tool)" "$few/$tool"; done
+    ln -s "$python" "$few/python3"
+    says 'no cross compiler' 'install gcc-aarch64-linux-gnu' env PATH="$few" "$BASH" "$top/tools/targets" check "$room/out2"
+    ln -s /bin/true "$few/llvm-symbolizer"
+    says 'no clang with libFuzzer' 'no clang has libFuzzer: install ' env -u FUZZ_CLANG PATH="$few" "$python" "$here/fuzz_coverage.py" --module "$out/nbt.bc"
+    says 'no dpkg-deb' 'dpkg-deb is missing: install dpkg' env PATH="$few" "$python" "$top/tools/dist" "$out" "$out/lib" "$program" "$room/dist4"
+    env -u CI PATH="$few" "$BASH" "$here/targets.sh" "$program" >"$room/output" 2>&1
+    count $? 'without tools nothing is tried, and nothing fails'
+    ! env CI=true PATH="$few" "$BASH" "$here/targets.sh" "$program" >"$room/output" 2>&1 && grep -q '^failed: calls: CI has to install aarch64-linux-gnu-gcc$' "$room/output"
+    count $? "where CI is true it does: $(tail -n 1 "$room/output")"
+    rm "$few/rt"
+    says 'no kit' 'install the kit first' env PATH="$few" "$BASH" "$top/tools/targets" check "$room/out2"
     echo >"$room/file"
     says 'a folder that is a file' "$room/file can't be written to" "$top/tools/targets" check "$room/file"
     says 'make targets, to such a folder' "can't be written to" sh -c 'make -s -C "$0" targets TARGETS="$1" 2>&1 | grep -v "^make" >&2; exit 1' \
@@ -275,7 +240,7 @@ for tool in aarch64-linux-gnu-gcc qemu-aarch64 node; do
     command -v $tool >/dev/null || lacking=${lacking:-$tool}
 done
 [ -n "$lacking" ] || "${node[@]}" -e "$memory64" 2>/dev/null || lacking='a node with memory64'
-parts=(files calls memory worst stations examples corpus javascript types packages missing)
+parts=(files calls memory worst stations examples corpus javascript types dist lintian debian wheels npm crate missing)
 if [ -n "$lacking" ]; then
     for each in "${parts[@]}"; do lacks "$each" "$lacking"; done
     finish
@@ -290,6 +255,6 @@ part examples examples
 part corpus corpus
 part javascript javascript
 if command -v tsc >/dev/null; then part types types; else lacks types tsc; fi
-if command -v dpkg-deb >/dev/null; then part packages packages; else lacks packages dpkg-deb; fi
+packages
 part missing missing
 finish

@@ -3,7 +3,7 @@
  * digits, with the word `print` it prints them as lines of a capture instead. It is linked with --wrap=malloc and --wrap=realloc.
  *
  * What has to hold: a call answers the same in each room, writes nothing past what it says, and nothing where it refuses. A text has
- * printable lines. A packet needs no byte more than `used`. What is read is written again. A stream has the same packets however it is
+ * printable lines, and the place of a refusal that the reader says. A packet needs no byte more than `used`. What is read is written again. A stream has the same packets however it is
  * cut. Names have one text. Fragments in another order come to the same table; joins are commutative, associative and idempotent;
  * a table that is taken in is the table. Where memory is refused a station is as it was. */
 #define _POSIX_C_SOURCE 200809L
@@ -252,6 +252,13 @@ static void datagram(struct bytes payload, const struct nbt_datagram *read) {
     free(both.at);
 }
 
+/* The text of a refusal, or of bytes that are missing, ends with this number. */
+static void ends_with(struct bytes text, size_t number) {
+    char end[32];
+    size_t length = (size_t)snprintf(end, sizeof end, " %zu\n", number);
+    EXPECT(text.length > length && memcmp(text.at + text.length - length, end, length) == 0);
+}
+
 /* A packet's text has no word of a refusal. */
 static void payload_text(uint32_t port, struct bytes it) {
     struct answer text = answered(show, &(struct asked){it, it, port, 0, NULL});
@@ -292,6 +299,8 @@ static void payload(uint32_t port, struct bytes it) {
         free(other.bytes.at);
     } else if (port != 137) {
         EXPECT(memcmp(text.bytes.at, status == NBT_MORE ? "more " : "refused ", 5) == 0);
+        if (at != UNSAID)
+            ends_with(text.bytes, at);
     }
     free(text.bytes.at);
     asked.first = it;

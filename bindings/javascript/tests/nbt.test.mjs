@@ -354,6 +354,16 @@ test('what is loaded', async () => {
     await assert.rejects(load({ module: 5 }), TypeError);
 });
 
+test('an engine without memory64', async () => {
+    const { validate } = WebAssembly;
+    WebAssembly.validate = () => false;
+    try {
+        await assert.rejects(load({ module: wasm }), /^Error: nbt.wasm needs memory64: Chromium 133, Firefox 134, node 24 .*$/);
+    } finally {
+        WebAssembly.validate = validate;
+    }
+});
+
 test('memory: what is freed is used again, and blocks keep their bytes', async () => {
     const heap = await raw(), blocks = [];
     let seed = 1, held = 0;

@@ -289,8 +289,7 @@ END
 END
     for each in --json --summary '--frame 2' '--color always' '--summary --json'; do
         look $each "$room/evil.pcap" 2>&1 | LC_ALL=C grep -qP '[^\x20-\x7e]|\x1b'
-        [ "${PIPESTATUS[1]}" -eq 1 ]
-        count $? "nbt-look $each: nothing of it comes to a terminal as it is"
+        count $((PIPESTATUS[1] != 1)) "nbt-look $each: nothing of it comes to a terminal as it is"
     done
     made chance
     look "$room/chance.pcap" >"$room/output" 2>"$room/errors"
@@ -301,7 +300,6 @@ END
 kinds() { python3 -c 'import sys; sys.dont_write_bytecode = True; sys.path.insert(0, sys.argv[1]); from nbt_look import kinds; print(", ".join(kinds.ALL))' "$here/../tools"; }
 
 # ---- Random captures, terminals, memory, networks.
-
 random() { counted "$here/random_looks.py" 10; }
 
 # By the system's Python, for which Debian has scapy.
@@ -329,7 +327,7 @@ terminals() {
     count $? "the list fits a terminal: $(sed -n 1p "$room/output")"
     NO_COLOR=1 on_terminal 200 nbt-look "$room/life.pcap" >"$room/output" && ! grep -q $'\x1b' "$room/output"
     count $? 'NO_COLOR'
-    look "$room/life.pcap" >"$room/output" && ! grep -q $'\x1b' "$room/output"
+    ! look "$room/life.pcap" | grep -q $'\x1b'
     count $? 'no colour where standard output is no terminal'
 }
 
@@ -341,6 +339,8 @@ colours() {
     count $? 'a refused packet is red on a terminal'
     look --color always "$room/life.pcap" | grep -q $'\x1b\[33m.*left out: .*\x1b\[0m'
     count $? 'nbt-look --color always'
+    python3 "$here/lib/summary_pictures.py" --check
+    count $? 'docs/summary-light.svg and docs/summary-dark.svg have these words: tests/lib/summary_pictures.py draws them'
 }
 
 # peak WORD..: the most memory of nbt-look itself, in kB; that of tshark and nbt comes from other processes.

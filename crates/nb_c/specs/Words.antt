@@ -119,6 +119,16 @@ station_word status =
     else if status == TOO_MANY_NAMES then Some (codes "too many names")
     else None
 
+-- the words of a status that isn't about what is read
+abbrev pub later_word : ℕ → Option (List ℕ)
+later_word status =
+    if status / 10 == 6 then request_word status
+    else if status / 10 == 7 then table_word status
+    else if status / 10 == 8 then second_word status
+    else if status / 10 == 9 then joining_word status
+    else if status / 10 == 10 then station_word status
+    else outcome_word status
+
 -- the words of a status, if it is one; the numbers of a matter have one number of tens
 abbrev pub status_word : ℕ → Option (List ℕ)
 status_word status =
@@ -127,12 +137,7 @@ status_word status =
     else if status / 10 == 3 then source_word status
     else if status / 10 == 4 then destination_word status
     else if status / 10 == 5 then packet_word status
-    else if status / 10 == 6 then request_word status
-    else if status / 10 == 7 then table_word status
-    else if status / 10 == 8 then second_word status
-    else if status / 10 == 9 then joining_word status
-    else if status / 10 == 10 then station_word status
-    else outcome_word status
+    else later_word status
 
 -- what is answered of a status
 abbrev pub status_answer_of : Option (List ℕ) → Result (List ℕ) Refusal

@@ -1,7 +1,7 @@
 //! The words of statuses (our choice).
 ghost use Rattle.std.specs.Prelude.{◌≡◌, option_map};
 ghost use Rattle.nb_c.specs.Outputs.{Answers};
-ghost use Rattle.nb_c.specs.Words.{status_answer, status_word, outcome_word, text_word, name_word, source_word, destination_word, packet_word, request_word, table_word, second_word, joining_word, station_word};
+ghost use Rattle.nb_c.specs.Words.{status_answer, status_word, later_word, outcome_word, text_word, name_word, source_word, destination_word, packet_word, request_word, table_word, second_word, joining_word, station_word};
 
 use crate::output::put;
 use crate::statuses::{
@@ -43,6 +43,15 @@ fn status_words(status: u32) -> Option<&'static str>
         3 => source_words(status),
         4 => destination_words(status),
         5 => packet_words(status),
+        _ => later_words(status),
+    }
+}
+
+/// The words of a status that isn't about what is read, if it is one.
+fn later_words(status: u32) -> Option<&'static str>
+    ensures { option_map (λ words. words.now) result ≡ later_word status }
+{
+    match status / 10 {
         6 => request_words(status),
         7 => table_words(status),
         8 => second_words(status),

@@ -12,8 +12,8 @@ ghost use Rattle.nb_table.specs.Code.Change.{Tells};
 ghost use Rattle.nb_table.specs.Code.State.{IsEntryState};
 
 mod growing;
+mod joining;
 mod reading;
-mod taking_in;
 mod uniting;
 mod whole;
 

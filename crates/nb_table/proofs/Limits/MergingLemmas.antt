@@ -82,8 +82,3 @@ found_short n (e ∷ es) s h = (
 -- they are short where the table's are
 pub entries_short : (n : ℕ) (t : Contents) → AllShort n t → AllByRecursion (λ (e : Key × EntryValue). IsShort n e.1) (maps.entries t)
 entries_short n t all = found_short n (maps.entries t) (maps.entries_sorted t) (λ q x h. all q x (maps.get-entries t q ∙ h))
-
--- and so all but the last one, and the last one
-pub front_short : (n : ℕ) (es : List (Key × EntryValue)) (k : Key) (e : EntryValue) → AllByRecursion (λ (e : Key × EntryValue). IsShort n e.1) (es ++ (k, e) ∷ []) → AllByRecursion (λ (e : Key × EntryValue). IsShort n e.1) es × IsShort n e
-front_short n [] k e h = (tt, h.0)
-front_short n (f ∷ es) k e h = let rest = front_short n es k e h.1 in ((h.0, rest.0), rest.1)

@@ -10,7 +10,7 @@ use nb_names::NoMemory;
 impl<F: Facts> Slot<F> {
     /// What the two come to: spoilt where one is, or their facts contradict each other; else what
     /// the facts of both say.
-    pub(crate) fn united(&self, other: &Slot<F>) -> Result<Slot<F>, NoMemory>
+    pub(crate) fn joined(&self, other: &Slot<F>) -> Result<Slot<F>, NoMemory>
         ensures value { IfOk result (λ slot.
             slot ≡ join_slot F.agrees F.union self.now other.now) }
         ensures formed { IfOk result (OnHeld F.AreFormed) }
@@ -58,7 +58,7 @@ impl<F: Facts> Join for Slot<F> {
     ghost idempotent = { idem_formed F.unites F.formed_agree };
 
     fn join(&mut self, other: &Slot<F>) -> Result<(), TableFault> {
-        *self = self.united(other)?;
+        *self = self.joined(other)?;
         Ok(())
     }
 }

@@ -1,5 +1,5 @@
 -- What facts that grow change at their key.
-use Rattle.std.proofs.Common.{◌≡◌, ◌≢◌, ◌≤◌, ℕ, List, length, Option, Some, None, refl, sym, ◌∙◌, ap, arith, cond}
+use Rattle.std.proofs.Common.{◌≡◌, ◌≢◌, ◌≤◌, ℕ, List, length, Option, Some, None, refl, sym, ◌∙◌, ap, arith, cond, option_and_then}
 use Rattle.nb_datagram.specs.declared.key.Key.{Key}
 use Rattle.nb_datagram.specs.Datagram.{DatagramParts}
 use Rattle.nb_table.specs.Slot.{Spoilt, Held}
@@ -8,9 +8,12 @@ use Rattle.nb_table.specs.Entry.{EntryFacts, EntryValue, FactsFit, facts_togethe
 use Rattle.nb_table.specs.Shared.EntryLemmas.{facts_agree_of}
 use Rattle.nb_table.specs.Code.CoverFacts.{Holds}
 use Rattle.nb_table.specs.Whole.{bytes_to, datagram_with, datagram_of, newly}
+use Rattle.nb_table.specs.Change.{Change}
+use Rattle.nb_table.specs.declared.change.Change.TheVariants.{Whole, Same, Grown}
+use Rattle.nb_table.specs.declared.change.Change.TheVariants.{Spoilt as Spoils}
 use Rattle.nb_table.specs.declared.change.Handing.{Handing}
 use Rattle.nb_table.specs.declared.change.Handing.TheVariants.{Over, Kept}
-use Rattle.nb_table.specs.Code.Change.{KeyChange, grown_to, handed_by, told_by}
+use Rattle.nb_table.specs.Code.Change.{KeyChange, Tells, grown_to, handed_by, told_by, whole_by}
 use Rattle.nb_table.specs.Shared.CoverLemmas.{together_held}
 use Rattle.nb_table.proofs.Wholeness.WholeLemmas.{below_found}
 use Rattle.nb_table.proofs.Covers.CoverFactsLemmas.{together_holds}
@@ -66,6 +69,29 @@ pub told_grown : (h : Handing) (d : Option DatagramParts) → grown_to (handed_b
 told_grown Over d = refl
 told_grown Kept None = refl
 told_grown Kept (Some d) = refl
+
+-- what was there isn't new, and where nothing is there nothing is new
+pub newly_same : {D : Type 0} (o : Option D) → newly o o ≡ None
+newly_same None = refl
+newly_same (Some d) = refl
+
+pub newly_none : {D : Type 0} (o : Option D) → newly o None ≡ None
+newly_none None = refl
+newly_none (Some d) = refl
+
+-- the datagram that is told of is that which is handed over
+pub whole_told : (h : Handing) (k : Key) (a b : Option EntryValue) (told : Change) → Tells h k a b told → whole_by told ≡ handed_by h (newly (option_and_then (datagram_of k) a) (option_and_then (datagram_of k) b))
+whole_told h k a b told t = ap whole_by t.2 ∙ step h t.0 t.1
+  where
+    step : (h : Handing) (c : Change) → KeyChange k a b c → whole_by (told_by h c) ≡ handed_by h (newly (option_and_then (datagram_of k) a) (option_and_then (datagram_of k) b))
+    step Over Spoils p = sym (ap (λ o. newly (option_and_then (datagram_of k) a) (option_and_then (datagram_of k) o)) p.1 ∙ newly_none (option_and_then (datagram_of k) a))
+    step Over (Whole d) p = sym p
+    step Over Same p = sym (ap (λ o. newly (option_and_then (datagram_of k) a) (option_and_then (datagram_of k) o)) p ∙ newly_same (option_and_then (datagram_of k) a))
+    step Over Grown p = sym p.2
+    step Kept Spoils p = refl
+    step Kept (Whole d) p = refl
+    step Kept Same p = refl
+    step Kept Grown p = refl
 
 held_one : (a b : EntryFacts) → ◌≡◌ {A = EntryValue} (Held a) (Held b) → a ≡ b
 held_one a b e = cc

@@ -23,6 +23,7 @@ use Rattle.nb_table.specs.Code.Handed.{handed_at, with_entry, handed}
 use Rattle.nb_datagram.specs.KeyOrder.{key_cmp_total, key_cmp_exact}
 use Rattle.nb_table.specs.Shared.MapsLemmas.{below_none, lt_not_eq, tied_self, T_left, T_right}
 use Rattle.nb_table.specs.Shared.TableLemmas.{get-join}
+use Rattle.nb_table.proofs.Changes.ChangeLemmas.{newly_same}
 use Rattle.nb_table.proofs.Joins.EachLemmas.{joined_each_is, get-joined_each}
 use Rattle.nb_table.proofs.Joins.GotLemmas.{same_given}
 use Rattle.nb_table.proofs.Wholeness.WholeLemmas.{whole_exactly}
@@ -74,10 +75,6 @@ handed_is t (e ∷ es) s =
     let stays = get-joined_each key_cmp_total key_cmp_exact join_entry next es (T_right _ _ s) e.0 ∙ ap₂ (joined_at join_entry) stands (below_none key_cmp e.0 es (T_left _ _ s)) in
     ap₂ cons_option (sym (ap (λ o. newly (datagram_at t e.0) (option_and_then (datagram_of e.0) o)) stays))
     (handed_is next es (T_right _ _ s) ∙ above_same t after e.0 v es (T_left _ _ s))
-
-newly_same : {D : Type 0} (o : Option D) → newly o o ≡ None
-newly_same None = refl
-newly_same (Some d) = refl
 
 -- the keys that the other table lacks don't become whole
 given_same : (t o : Contents) (k : Key) → option_and_then (λ _. newly_whole t (join t o) k) (maps.get (join t o) k) ≡ option_and_then (λ _. newly_whole t (join t o) k) (maps.get o k)

@@ -1,5 +1,5 @@
 -- Tables merged: the limits are kept.
-use Rattle.std.proofs.Common.{◌≡◌, ◌++◌, ℕ, cond, Bool, true, false, List, [], ◌∷◌, Option, Some, None, refl, sym, ◌∙◌, ap, subst, arith}
+use Rattle.std.proofs.Common.{◌≡◌, ℕ, cond, Bool, true, false, List, [], ◌∷◌, Option, Some, None, refl, sym, ◌∙◌, ap, subst, arith}
 use Rattle.std.proofs.lemmas.Option.{none-some, same_Some}
 use Rattle.std.specs.Prelude.{T}
 use Rattle.std.specs.Ordering.{eq_by_cmp}
@@ -15,10 +15,12 @@ use Rattle.nb_table.specs.Join.{join, IsTable}
 use Rattle.nb_table.specs.KeyCounts.{every_key}
 use Rattle.nb_table.specs.Limits.{TableValue, KeepsLimits, IsShort, with_contents}
 use Rattle.nb_table.specs.Merging.{AllShort, Fits}
+use Rattle.nb_table.specs.Code.Each.{joined_each}
 use Rattle.nb_datagram.specs.KeyOrder.{key_cmp_total, key_cmp_exact}
 use Rattle.nb_table.specs.Shared.MapsLemmas.{one_key, tied_self, below_none, T_left, T_right}
 use Rattle.nb_table.specs.Shared.TableLemmas.{get-join, join_formed}
 use Rattle.nb_table.proofs.Changes.InsertLemmas.{short_join, short_onto}
+use Rattle.nb_table.proofs.Joins.EachLemmas.{joined_each_is}
 use Rattle.nb_table.proofs.Limits.GroupLemmas.{held_every, fit_held, few_join}
 
 -- ---- the limits
@@ -67,6 +69,10 @@ one_more_short n t new k e all short is =
     subst (AllShort n) (sym is) (insert_short n t k (joined_onto join_entry (maps.get t k) e) all (short_onto n (maps.get t k) e (all k) short))
 
 -- ---- the entries of a table in order
+
+-- joined one after the other, they are the join of both tables
+pub joined_is : (t o new : Contents) (es : List (Key × EntryValue)) → es ≡ maps.entries o → new ≡ joined_each join_entry t es → new ≡ join t o
+joined_is t o new es order is = is ∙ ap (joined_each join_entry t) order ∙ joined_each_is key_cmp_total key_cmp_exact join_entry t o
 
 found_after : (e : Key × EntryValue) (es : List (Key × EntryValue)) → T (is_sorted key_cmp (e ∷ es)) → (q : Key) (x : EntryValue) (b : Bool) → eq_by_cmp key_cmp q e.0 ≡ b → maps.find key_cmp q es ≡ Some x → cond b (Some e.1) (maps.find key_cmp q es) ≡ Some x
 found_after e es s q x true h f = absurd (none-some x (sym (ap (λ k. maps.find key_cmp k es) (one_key key_cmp_exact q e.0 h) ∙ below_none key_cmp e.0 es (T_left _ _ s)) ∙ f))

@@ -19,8 +19,8 @@ use nb_datagram::Datagrams;
 pub use taking_in::take_in_all;
 
 impl Table {
-    /// Merges the other table into this one. The datagrams of the keys that become whole by this, if
-    /// they are handed over.
+    /// Merges the other table into this one. The datagrams of the keys that become whole by this,
+    /// ascending, if they are handed over.
     fn merge_with(&mut self, other: &Table, handing: Handing) -> Result<Datagrams, TableFault>
         ensures joined { OnOk result (self.new
             ≡ with_contents self.old (join self.old.contents other.now.contents)) }

@@ -1,5 +1,5 @@
 -- What facts that grow change at their key.
-use Rattle.std.proofs.Common.{◌≡◌, ◌≢◌, ◌≤◌, ℕ, List, length, Option, Some, None, refl, sym, ◌∙◌, ap, arith, cond, option_and_then}
+use Rattle.std.proofs.Common.{◌≡◌, ◌≢◌, ◌≤◌, ℕ, List, length, Option, Some, None, refl, sym, ◌∙◌, ap, arith, cond}
 use Rattle.nb_datagram.specs.declared.key.Key.{Key}
 use Rattle.nb_datagram.specs.Datagram.{DatagramParts}
 use Rattle.nb_entries.specs.Slot.{Spoilt, Held}
@@ -10,11 +10,9 @@ use Rattle.nb_entries.specs.Code.CoverFacts.{Holds}
 use Rattle.nb_entries.specs.Whole.{bytes_to, datagram_with, datagram_of, newly}
 use Rattle.nb_entries.specs.declared.change.Handing.{Handing}
 use Rattle.nb_entries.specs.declared.change.Handing.TheVariants.{Over, Kept}
-use Rattle.nb_entries.specs.declared.change.Change.TheVariants.{Whole, Same, Grown}
-use Rattle.nb_entries.specs.declared.change.Change.TheVariants.{Spoilt as Spoils}
-use Rattle.nb_entries.specs.Change.{Change, KeyChange, Tells, grown_to, handed_by, told_by, whole_by}
+use Rattle.nb_entries.specs.Change.{KeyChange, grown_to, handed_by, told_by}
 use Rattle.nb_entries.specs.Shared.CoverLemmas.{together_held}
-use Rattle.nb_entries.specs.Shared.WholeLemmas.{below_found, newly_same, newly_none}
+use Rattle.nb_entries.specs.Shared.WholeLemmas.{below_found}
 use Rattle.nb_entries.proofs.Covers.CoverFactsLemmas.{together_holds}
 
 -- facts that are held add nothing
@@ -68,20 +66,6 @@ pub told_grown : (h : Handing) (d : Option DatagramParts) → grown_to (handed_b
 told_grown Over d = refl
 told_grown Kept None = refl
 told_grown Kept (Some d) = refl
-
--- the datagram that is told of is that which is handed over
-pub whole_told : (h : Handing) (k : Key) (a b : Option EntryValue) (told : Change) → Tells h k a b told → whole_by told ≡ handed_by h (newly (option_and_then (datagram_of k) a) (option_and_then (datagram_of k) b))
-whole_told h k a b told t = ap whole_by t.2 ∙ step h t.0 t.1
-  where
-    step : (h : Handing) (c : Change) → KeyChange k a b c → whole_by (told_by h c) ≡ handed_by h (newly (option_and_then (datagram_of k) a) (option_and_then (datagram_of k) b))
-    step Over Spoils p = sym (ap (λ o. newly (option_and_then (datagram_of k) a) (option_and_then (datagram_of k) o)) p.1 ∙ newly_none (option_and_then (datagram_of k) a))
-    step Over (Whole d) p = sym p
-    step Over Same p = sym (ap (λ o. newly (option_and_then (datagram_of k) a) (option_and_then (datagram_of k) o)) p ∙ newly_same (option_and_then (datagram_of k) a))
-    step Over Grown p = sym p.2
-    step Kept Spoils p = refl
-    step Kept (Whole d) p = refl
-    step Kept Same p = refl
-    step Kept Grown p = refl
 
 held_one : (a b : EntryFacts) → ◌≡◌ {A = EntryValue} (Held a) (Held b) → a ≡ b
 held_one a b e = cc

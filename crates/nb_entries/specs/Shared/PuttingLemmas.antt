@@ -1,13 +1,7 @@
 -- Bytes that are put into a sink, one after the other.
-use Rattle.std.proofs.Common.{◌≡◌, ◌<◌, ◌+◌, ◌++◌, ◌∷◌, ℕ, List, Some, Result, Ok, Err, length, map, slice_get, drop, subst, ap, ◌∙◌}
+use Rattle.std.proofs.Common.{◌≡◌, ◌++◌, ℕ, List, Result, Ok, Err, subst}
 use Rattle.std.specs.Prelude.{IsErrAnd}
-use Rattle.std.specs.List.{concat}
-use Rattle.std.proofs.lemmas.List.{drop_more}
-use Rattle.std.proofs.lemmas.Option.{get_or_from_slice_get}
-use Rattle.nb_entries.specs.declared.cover.runs.Run.{Run}
-use Rattle.nb_entries.specs.Code.RunSteps.{value_of, values_of}
 use Rattle.nb_entries.specs.Sinks.{SinkLaws, Puts, ToPut}
-use Rattle.nb_entries.specs.Saved.{run_bytes}
 
 module _ {S : Type 0} {takes breaks : S → S → List ℕ → Type 0} where
   -- all are left

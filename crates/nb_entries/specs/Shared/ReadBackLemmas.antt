@@ -35,7 +35,7 @@ use Rattle.nb_entries.specs.Shared.RunsLemmas.{given_back, runs_apart}
 -- ---- bytes in a row
 
 -- what stands is a front and the rest after it
-record Split (input : List ℕ) (at : ℕ) (xs ys : List ℕ) (next : ℕ) : Type 0 where
+pub record Split (input : List ℕ) (at : ℕ) (xs ys : List ℕ) (next : ℕ) : Type 0 where
   front : Spells input at xs (at + length xs)
   rest : Spells input (at + length xs) ys next
 

@@ -16,7 +16,7 @@ join_in_place-requires-clause-own g c = c.requires.own c.args.key c.in-Some.entr
 pub join_in_place-requires-clause-joined : goal.join_in_place-requires-clause-joined
 join_in_place-requires-clause-joined g c =
     let at = sym c.in-Some.ensures.value in
-    short_join MAX_LENGTH c.in-Some.entry.now (g.O.Other.value c.args.other) (c.requires.own c.args.key c.in-Some.entry.now at) c.requires.other
+    rw c.as_entry.ensures (short_join MAX_LENGTH c.in-Some.entry.now (g.O.Other.value c.args.other) (c.requires.own c.args.key c.in-Some.entry.now at) c.requires.other)
 
 pub returns-in-Some-clause-joined : goal.returns-in-Some-clause-joined
 returns-in-Some-clause-joined g c =
@@ -24,14 +24,14 @@ returns-in-Some-clause-joined g c =
     let lent = rw c.in-Some.is at c.get_mut.follows.holds c.join_in_place.new.self in
     on_ok_weaker c.join_in_place.result (λ joined.
     lent
-    ∙ ap (maps.insert c.args.entries.now c.args.key) (joined ∙ ap (λ o. joined_onto join_entry o (g.O.Other.value c.args.other)) (sym at))) c.join_in_place.ensures.joined
+    ∙ ap (maps.insert c.args.entries.now c.args.key) (joined ∙ ap (λ o. joined_onto join_entry o (g.O.Other.value c.args.other)) (sym at))) (rw c.as_entry.ensures at c.join_in_place.ensures.joined)
 
 pub returns-in-Some-clause-datagram : goal.returns-in-Some-clause-datagram
 returns-in-Some-clause-datagram g c =
     let at = sym c.in-Some.ensures.value in
     IfOk-weaker c.join_in_place.result _ _
     (λ made is. handed_held c.args.handing c.args.entries.now c.args.key (g.O.Other.value c.args.other) c.in-Some.entry.now made at is)
-    c.join_in_place.ensures.datagram
+    (rw c.as_entry.ensures at c.join_in_place.ensures.datagram)
 
 pub returns-in-Some-clause-err : goal.returns-in-Some-clause-err
 returns-in-Some-clause-err g c =

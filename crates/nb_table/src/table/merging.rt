@@ -1,6 +1,5 @@
 //! Tables merged.
 ghost use Rattle.std.specs.Prelude.{◌≡◌, IfOk, IfErr, OnOk, OnErr};
-ghost use Rattle.nb_entries.specs.declared.change.Handing.TheVariants.{Over};
 ghost use Rattle.nb_table.specs.Join.{join};
 ghost use Rattle.nb_table.specs.Limits.{with_contents};
 ghost use Rattle.nb_table.specs.Merging.{Fits, IsRefused, newly_handed};
@@ -19,23 +18,6 @@ use nb_entries::Handing;
 pub use taking_in::take_in_all;
 
 impl Table {
-    /// Merges the other table into this one. The datagrams of the keys that become whole by this,
-    /// ascending, if they are handed over.
-    fn merge_with(&mut self, other: &Table, handing: Handing) -> Result<Datagrams, TableFault>
-        ensures joined { OnOk result (self.new
-            ≡ with_contents self.old (join self.old.contents other.now.contents)) }
-        ensures handed { handing ≡ Over → IfOk result (λ datagrams.
-            datagrams ≡ newly_handed self.old.contents self.new.contents) }
-        ensures fits { OnOk result (Fits self.old.limits self.old.contents other.now.contents) }
-        ensures fault { IfErr result (IsRefused self.old.limits self.old.contents
-            other.now.contents) }
-        ensures err { OnErr result (self.new ≡ self.old) }
-    {
-        self.fits(other)?;
-        let others = other.entries.iter();
-        Ok(merge_entries(self.alloc, &mut self.entries, others, handing)?)
-    }
-
     /// Merges the other table into this one: each key that either has, with the join of what both
     /// know. The limits stay.
     ///
@@ -55,7 +37,9 @@ impl Table {
             other.now.contents) }
         ensures err { OnErr result (self.new ≡ self.old) }
     {
-        self.merge_with(other, Handing::Over)
+        self.fits(other)?;
+        let others = other.entries.iter();
+        Ok(merge_entries(self.alloc, &mut self.entries, others, Handing::Over)?)
     }
 }
 
@@ -100,7 +84,9 @@ impl Join for Table {
             other.now.contents) }
         ensures err { OnErr result (self.new ≡ self.old) }
     {
-        self.merge_with(other, Handing::Kept)?;
+        self.fits(other)?;
+        let others = other.entries.iter();
+        merge_entries(self.alloc, &mut self.entries, others, Handing::Kept)?;
         Ok(())
     }
 }

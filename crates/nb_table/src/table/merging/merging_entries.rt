@@ -1,13 +1,14 @@
 //! The entries of another table joined to those of one, all or none.
-ghost use Rattle.std.specs.Prelude.{◌≡◌, ◌++◌, [], IfOk, OnOk, OnErr};
+ghost use Rattle.std.specs.Prelude.{◌≡◌, ◌≤◌, ◌++◌, [], length, Option, IfOk, OnOk, OnErr};
 ghost use Rattle.std.specs.List.{cons_option, AllByRecursion};
 ghost use Rattle.std.specs.Option.{option_copied};
 ghost use Rattle.std.specs.FinMap as maps;
 ghost use Rattle.nb_datagram.specs.declared.limits.TheConstants.{MAX_LENGTH};
-ghost use Rattle.nb_entries.specs.declared.change.Handing.TheVariants.{Over};
+ghost use Rattle.nb_datagram.specs.Datagram.{DatagramParts};
 ghost use Rattle.nb_entries.specs.Maps.{joined_onto};
 ghost use Rattle.nb_entries.specs.Entry.{join_entry};
 ghost use Rattle.nb_entries.specs.Short.{IsShort};
+ghost use Rattle.nb_entries.specs.Change.{handed_by};
 ghost use Rattle.nb_table.specs.Merging.{AllShort};
 ghost use Rattle.nb_table.specs.Code.Each.{joined_each};
 ghost use Rattle.nb_table.specs.Code.Handed.{handed, handed_at, with_entry};
@@ -115,27 +116,15 @@ fn join_in_place<O: Other>(
     }
 }
 
-/// Joins another entry to that of its key, in place where the key is held, and adds the datagram,
-/// if the key becomes whole by this.
-fn join_handed<O: Other>(
-    entries: &mut Entries,
-    key: Key,
-    other: O,
-    datagrams: &mut Vec<Datagram>,
-) -> Result<(), NoMemory>
-    requires own { AllShort MAX_LENGTH entries.old }
-    requires other { IsShort MAX_LENGTH (O.value other) }
-    ensures joined { OnOk result (entries.new ≡ with_entry entries.old key (O.value other)) }
-    ensures handed { OnOk result (datagrams.new.items ≡ datagrams.old.items ++ cons_option
-        (handed_at Over entries.old key (O.value other)) []) }
-    ensures err { OnErr result (entries.new ≡ entries.old) }
+/// How many datagrams are handed over of one key at most.
+fn most_handed(handing: Handing) -> usize
+    ensures { (datagram : Option DatagramParts)
+        → length (cons_option (handed_by handing datagram) []) ≤ result }
 {
-    let alloc = *datagrams.allocator();
-    datagrams.reserve(1)?;
-    if let Some(datagram) = join_in_place(alloc, entries, key, other, Handing::Over)? {
-        datagrams.push(datagram).unwrap();
+    match handing {
+        Handing::Over => 1,
+        Handing::Kept => 0,
     }
-    Ok(())
 }
 
 /// Joins another entry to that of its key, in place where the key is held, and adds the datagram,
@@ -154,14 +143,12 @@ fn join_last<O: Other>(
         (handed_at handing entries.old key (O.value other)) []) }
     ensures err { OnErr result (entries.new ≡ entries.old) }
 {
-    match handing {
-        Handing::Over => join_handed(entries, key, other, datagrams),
-        Handing::Kept => {
-            let alloc = *datagrams.allocator();
-            join_in_place(alloc, entries, key, other, Handing::Kept)?;
-            Ok(())
-        }
+    let alloc = *datagrams.allocator();
+    datagrams.reserve(most_handed(handing))?;
+    if let Some(datagram) = join_in_place(alloc, entries, key, other, handing)? {
+        datagrams.push(datagram).unwrap();
     }
+    Ok(())
 }
 
 /// Joins each of the others to the entry of its key, the last one in place, and notes what stood

@@ -46,17 +46,17 @@ loop-next_key-preserved g c =
     let e = g.O.Entry.Other.value c.loop-next_key.other in
     let new = c.join_noted.new.entries in
     let joined = c.in_ok-join_noted.ensures.joined in
-    let short = subst (AllByRecursion (λ e. IsShort MAX_LENGTH e.1)) c.in-Some-2.ensures inv.others_short in
+    let short = subst (AllByRecursion (λ e. IsShort MAX_LENGTH e.1)) c.in-Some-next_entry.ensures inv.others_short in
     record {
       short = one_more_short MAX_LENGTH m new k e inv.short inv.other_short joined;
       other_short = short.0;
       others_short = short.1;
       joined =
-          ap (λ q. joined_each join_entry q ((c.in-Some-2.next_key, g.O.Entry.Other.value c.in-Some-2.next) ∷ g.O.Others.left c.next_entry-2.new.self)) joined
-          ∙ sym (ap (joined_each join_entry (with_entry m k e)) c.in-Some-2.ensures)
+          ap (λ q. joined_each join_entry q ((c.in-Some-next_entry.next_key, g.O.Entry.Other.value c.in-Some-next_entry.next) ∷ g.O.Others.left c.next_entry-in-loop-next_key.new.self)) joined
+          ∙ sym (ap (joined_each join_entry (with_entry m k e)) c.in-Some-next_entry.ensures)
           ∙ inv.joined;
       handed =
-          sym (ap (λ es. c.join_noted.new.datagrams.items ++ handed c.args.handing new es) c.in-Some-2.ensures)
+          sym (ap (λ es. c.join_noted.new.datagrams.items ++ handed c.args.handing new es) c.in-Some-next_entry.ensures)
           ∙ handed_turn c.args.handing m new c.loop-next_key.datagrams.items c.join_noted.new.datagrams.items k e (g.O.Others.left c.loop-next_key.others) joined c.in_ok-join_noted.ensures.handed
           ∙ inv.handed;
       noted = c.join_noted.ensures.noted ∙ inv.noted;
@@ -73,10 +73,11 @@ returns-in_err-join_last-clause-noted g c =
 pub returns-clause-joined : goal.returns-clause-joined
 returns-clause-joined g c =
     let m = with_entry c.loop-next_key.entries c.loop-next_key.key (g.O.Entry.Other.value c.loop-next_key.other) in
-    c.in_ok-join_last.ensures.joined ∙ sym (ap (joined_each join_entry m) c.in_default-2.ensures) ∙ c.loop-next_key.invariant.joined
+    c.in_ok-join_last.ensures.joined ∙ sym (ap (joined_each join_entry m) c.in_default-next_entry.ensures) ∙ c.loop-next_key.invariant.joined
 
 pub returns-clause-handed : goal.returns-clause-handed
 returns-clause-handed g c =
     let l = c.loop-next_key in
-    let one = λ es. l.datagrams.items ++ handed c.args.handing l.entries ((l.key, g.O.Entry.Other.value l.other) ∷ es) in
-    c.in_ok-join_last.ensures.handed ∙ sym (ap one c.in_default-2.ensures) ∙ l.invariant.handed
+    c.in_ok-join_last.ensures.handed
+    ∙ sym (ap (λ es. l.datagrams.items ++ handed c.args.handing l.entries ((l.key, g.O.Entry.Other.value l.other) ∷ es)) c.in_default-next_entry.ensures)
+    ∙ l.invariant.handed

@@ -1,6 +1,7 @@
-use Rattle.std.proofs.Common.{◌≤◌, rules, sym, ◌∙◌, ap, ap₂, subst}
+use Rattle.std.proofs.Common.{◌≤◌, rules, sym, ◌∙◌, ap, subst}
 use Rattle.std.specs.List.{AllByRecursion}
 use Rattle.nb_datagram.specs.declared.limits.TheConstants.{MAX_LENGTH}
+use Rattle.nb_entries.specs.declared.change.Handing.TheVariants.{Over}
 use Rattle.nb_table.specs.Limits.{TableValue, with_contents}
 use Rattle.nb_entries.specs.Short.{IsShort}
 use Rattle.nb_table.specs.Merging.{newly_handed}
@@ -8,7 +9,7 @@ use Rattle.nb_table.specs.Code.Handed.{handed}
 use Rattle.nb_table.proofs.Changes.InsertLemmas.{short_more}
 use Rattle.nb_table.proofs.Limits.MergingLemmas.{merged_keeps, others_short, entries_short, joined_is}
 use Rattle.nb_table.proofs.Limits.HandedLemmas.{handed_all}
-use Rattle.nb_table.proofs.table.Table.merge_with.Goals as goal
+use Rattle.nb_table.proofs.table.Table.merge.Goals as goal
 
 pub merge_entries-requires-clause-own : goal.merge_entries-requires-clause-own
 merge_entries-requires-clause-own c k e h =
@@ -36,12 +37,12 @@ returns-clause-joined c =
     rw (← c.self.view_is, ← c.other.view_is) (ap (with_contents was) (joined_is c.self.inside.entries c.other.inside.entries c.merge_entries.new.entries _ c.iter-others.ensures c.in_ok-merge_entries.ensures.joined))
 
 pub returns-clause-handed : goal.returns-clause-handed
-returns-clause-handed c over =
+returns-clause-handed c =
     let t = c.self.inside.entries in
     let o = c.other.inside.entries in
     let joined = joined_is t o c.merge_entries.new.entries _ c.iter-others.ensures c.in_ok-merge_entries.ensures.joined in
     rw (← c.self.view_is) (
     c.in_ok-merge_entries.ensures.handed
-    ∙ ap₂ (λ h es. handed h t es) over c.iter-others.ensures
+    ∙ ap (handed Over t) c.iter-others.ensures
     ∙ handed_all t o
     ∙ ap (newly_handed t) (sym joined))

@@ -36,8 +36,8 @@ use Rattle.nb_entries.specs.Shared.RunsLemmas.{given_back, runs_apart}
 
 -- what stands is a front and the rest after it
 pub record Split (input : List ℕ) (at : ℕ) (xs ys : List ℕ) (next : ℕ) : Type 0 where
-  front : Spells input at xs (at + length xs)
-  rest : Spells input (at + length xs) ys next
+  pub front : Spells input at xs (at + length xs)
+  pub rest : Spells input (at + length xs) ys next
 
 pub split : (input : List ℕ) (at : ℕ) (xs ys : List ℕ) (next : ℕ) → Spells input at (xs ++ ys) next → Split input at xs ys next
 split input at xs ys next s = record {

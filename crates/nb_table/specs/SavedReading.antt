@@ -12,7 +12,7 @@ use Rattle.nb_entries.specs.declared.load_fault.LoadFault.TheVariants.{BadMagic}
 use Rattle.nb_entries.specs.declared.saved.form.SavedForm.{SavedForm}
 use Rattle.nb_entries.specs.Entry.{EntryValue}
 use Rattle.nb_table.specs.Saved.{magic, key_bytes}
-use Rattle.nb_entries.specs.SavedReading.{Field, Gives, Judged, Outcome, Then, entry_at, stands}
+use Rattle.nb_entries.specs.SavedReading.{Field, Gives, Judged, Outcome, Then, entry_at}
 
 -- a key stands there, with values of its fields' types
 pub record KeyAt (input : List ℕ) (at : ℕ) (key : Key) : Type 0 where

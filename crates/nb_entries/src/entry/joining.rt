@@ -3,11 +3,10 @@ ghost use Rattle.std.specs.Prelude.{◌≡◌, IfOk, OnOk, OnErr, MatchOption, o
 ghost use Rattle.std.specs.Option.{option_copied};
 ghost use Rattle.nb_datagram.specs.declared.limits.TheConstants.{MAX_LENGTH};
 ghost use Rattle.nb_entries.specs.Entry.{join_entry};
-ghost use Rattle.nb_entries.specs.Short.{IsShort};
+ghost use Rattle.nb_entries.specs.Short.{IsShort, is_short};
 ghost use Rattle.nb_entries.specs.Whole.{newly};
 ghost use Rattle.nb_entries.specs.Whole.{datagram_of as entry_datagram};
 ghost use Rattle.nb_entries.specs.Change.{handed_by, whole_by};
-ghost use Rattle.nb_entries.specs.Short.{is_short};
 ghost use Rattle.nb_entries.specs.Code.Part.{IsPart};
 
 use super::{Entry, EntryFacts};

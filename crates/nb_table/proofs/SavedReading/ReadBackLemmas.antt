@@ -28,7 +28,7 @@ use Rattle.nb_entries.specs.Slot.{OnHeld}
 use Rattle.nb_table.specs.Saved.{magic, key_bytes, keyed_bytes, entries_bytes, saved_as, saved, saved_first, HasNoPromise}
 use Rattle.nb_entries.specs.Saved.{facts_bytes, entry_bytes}
 use Rattle.nb_table.specs.SavedFits.{FitsKeyed, FitsSaved}
-use Rattle.nb_entries.specs.SavedReading.{gives, goes_on, Field, whole, good, is_0, is_1, stands, entry_at}
+use Rattle.nb_entries.specs.SavedReading.{gives, goes_on, Field, whole, good, is_0, is_1, entry_at}
 use Rattle.nb_table.specs.SavedReading.{IsAfter, key_at, entries_at, IsRead, after_magic}
 use Rattle.nb_entries.specs.Shared.MapsLemmas.{T_left, T_right}
 use Rattle.nb_datagram.specs.KeyOrder.{key_cmp_total, key_cmp_exact}

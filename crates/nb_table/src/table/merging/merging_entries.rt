@@ -84,8 +84,7 @@ fn join_noted<O: Other>(
     ensures noted { taken_back entries.new changes.new.items
         ≡ taken_back entries.old changes.old.items }
 {
-    let alloc = *datagrams.allocator();
-    let (joined, datagram) = joined_at(alloc, entries, key, other, handing)?;
+    let (joined, datagram) = joined_at(*datagrams.allocator(), entries, key, other, handing)?;
     put_noted(entries, key, joined, changes)?;
     push_some(datagrams, datagram)
 }

@@ -1,5 +1,5 @@
 -- The entries of one finite map joined into another one after the other, in the order of their keys.
-use Rattle.std.proofs.Common.{◌≡◌, ℕ, ◌+◌, ◌++◌, List, [], ◌∷◌, Bool, true, false, cond, filter, length, Option, Some, None, is_some, is_none, refl, sym, ◌∙◌, ap, ap₂, arith}
+use Rattle.std.proofs.Common.{◌≡◌, ℕ, ◌+◌, List, [], ◌∷◌, Bool, true, false, cond, filter, length, Option, Some, None, is_some, is_none, refl, sym, ◌∙◌, ap, ap₂, arith}
 use Rattle.std.proofs.Common.{map as list_map}
 use Rattle.std.specs.Prelude.{T}
 use Rattle.std.specs.declared.cmp.Ordering.{Ordering}

@@ -12,8 +12,8 @@ ghost use Rattle.nb_entries.specs.Change.{Tells};
 ghost use Rattle.nb_entries.specs.EntryState.{IsEntryState};
 
 mod growing;
+mod joining;
 mod reading;
-mod taking_in;
 mod uniting;
 mod whole;
 

@@ -162,6 +162,15 @@ pub newly_from : (o p : Option DatagramParts) (d : DatagramParts) → (o ≡ Non
 newly_from None p d h = h.1
 newly_from (Some x) p d h = let clash = h.0 in absurd (cc)
 
+-- what was there isn't new, and where nothing is there nothing is new
+pub newly_same : {D : Type 0} (o : Option D) → newly o o ≡ None
+newly_same None = refl
+newly_same (Some d) = refl
+
+pub newly_none : {D : Type 0} (o : Option D) → newly o None ≡ None
+newly_none None = refl
+newly_none (Some d) = refl
+
 -- ---- covers whose end is known
 
 -- a cover that ends is whole where each place below its end is covered

@@ -12,7 +12,7 @@ impl<F: Facts> Slot<F> {
     /// # Errors
     ///
     /// `NoMemory` where memory ran out.
-    pub fn united(&self, other: &Slot<F>) -> Result<Slot<F>, NoMemory>
+    pub fn joined(&self, other: &Slot<F>) -> Result<Slot<F>, NoMemory>
         ensures value { IfOk result (λ slot.
             slot ≡ join_slot F.agrees F.union self.now other.now) }
         ensures formed { IfOk result (OnHeld F.AreFormed) }

@@ -16,14 +16,7 @@ use Rattle.nb_table.specs.Whole.{IsWholeAt, datagram_at, newly_whole}
 use Rattle.nb_entries.specs.Change.{Change}
 use Rattle.nb_table.specs.Change.{IsChange, IsSpoiltAt, BecomesSpoilt}
 use Rattle.nb_table.specs.State.{IsState, IsPartialAt}
-
-newly_none : (o : Option DatagramParts) → newly o None ≡ None
-newly_none None = refl
-newly_none (Some d) = refl
-
-newly_same : (o : Option DatagramParts) → newly o o ≡ None
-newly_same None = refl
-newly_same (Some d) = refl
+use Rattle.nb_entries.specs.Shared.WholeLemmas.{newly_none, newly_same}
 
 -- a spoilt key isn't whole
 spoilt_whole : (a b : Contents) (k : Key) (d : DatagramParts) → BecomesSpoilt a b k → newly_whole a b k ≡ Some d → ⊥

@@ -34,7 +34,7 @@ impl<F: Facts> Join for Slot<F> {
     ghost idempotent = { idem_formed F.unites F.formed_agree };
 
     fn join(&mut self, other: &Slot<F>) -> Result<(), TableFault> {
-        *self = self.united(other)?;
+        *self = self.joined(other)?;
         Ok(())
     }
 }

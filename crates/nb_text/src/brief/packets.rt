@@ -4,8 +4,7 @@
 ghost use Rattle.std.specs.Prelude.{◌≡◌, ◌++◌, OnOk, string_bytes};
 ghost use Rattle.std.specs.Fmt.{decimal};
 ghost use Rattle.nb_names.specs.Growth.{OnlyAdds};
-ghost use Rattle.nb_text.specs.declared.brief.kind.Kind.TheVariants as Kind;
-ghost use Rattle.nb_text.specs.Said.{coded_said, datagram_said, error_said, extent_said, goes_on, kind_said, refusal_said};
+ghost use Rattle.nb_text.specs.Said.{coded_said, datagram_said, error_said, extent_said, goes_on, refusal_said};
 
 use crate::brief::facts::Facts;
 use crate::brief::notes::Notes;
@@ -111,24 +110,4 @@ pub fn refusal_words(code: u8) -> &'static str
         0x8f => "unspecified error",
         _ => "unknown code",
     }
-}
-
-/// Adds who calls whom.
-pub fn push_caller(notes: &Notes, text: &mut String) -> Result<(), NoMemory>
-    ensures added { OnOk result (string_bytes text.new
-        ≡ string_bytes text.old ++ kind_said Kind.Request notes.now) }
-    ensures front { OnlyAdds (string_bytes text.old) (string_bytes text.new) }
-{
-    push_both("calls ", notes.name(), text)?;
-    push_both(" as ", notes.other(), text)
-}
-
-/// Adds where a caller is sent.
-pub fn push_retarget(notes: &Notes, text: &mut String) -> Result<(), NoMemory>
-    ensures added { OnOk result (string_bytes text.new
-        ≡ string_bytes text.old ++ kind_said Kind.Retarget notes.now) }
-    ensures front { OnlyAdds (string_bytes text.old) (string_bytes text.new) }
-{
-    push_both("sends the caller to ", notes.listed(), text)?;
-    push_count(", port ", notes.facts().number, "", text)
 }

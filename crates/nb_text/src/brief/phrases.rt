@@ -8,8 +8,7 @@ ghost use Rattle.nb_text.specs.Said.{fault_said, follow_said, kind_said, noted_s
 use crate::brief::kind::Kind;
 use crate::brief::notes::Notes;
 use crate::brief::packets::{
-    error_words, push_both, push_caller, push_coded, push_count, push_datagram, push_retarget,
-    refusal_words,
+    error_words, push_both, push_coded, push_count, push_datagram, refusal_words,
 };
 use crate::brief::services::push_service;
 use nb_names::NoMemory;
@@ -76,4 +75,24 @@ fn push_fault(fault: &str, place: Option<u64>, text: &mut String) -> Result<(), 
         }
         None => push_both("refused: ", fault, text),
     }
+}
+
+/// Adds who calls whom.
+fn push_caller(notes: &Notes, text: &mut String) -> Result<(), NoMemory>
+    ensures added { OnOk result (string_bytes text.new
+        ≡ string_bytes text.old ++ kind_said Kind.Request notes.now) }
+    ensures front { OnlyAdds (string_bytes text.old) (string_bytes text.new) }
+{
+    push_both("calls ", notes.name(), text)?;
+    push_both(" as ", notes.other(), text)
+}
+
+/// Adds where a caller is sent.
+fn push_retarget(notes: &Notes, text: &mut String) -> Result<(), NoMemory>
+    ensures added { OnOk result (string_bytes text.new
+        ≡ string_bytes text.old ++ kind_said Kind.Retarget notes.now) }
+    ensures front { OnlyAdds (string_bytes text.old) (string_bytes text.new) }
+{
+    push_both("sends the caller to ", notes.listed(), text)?;
+    push_count(", port ", notes.facts().number, "", text)
 }

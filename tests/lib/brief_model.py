@@ -5,10 +5,10 @@ questions and records."""
 from object_model import shown
 
 R, RD, RA, G = 0x8000, 0x0100, 0x0080, 0x8000
-A, NS, NB, NBSTAT = '0001', '0002', '0020', '0021'
+A, NS, NBSTAT = '0001', '0002', '0021'
 MORE = 0x01
 FIRST_ONES = 4
-CLAIMS = (5, 8, 9, 15)
+CLAIMS = {5: 'claims', 8: 'refreshes', 9: 'refreshes', 15: 'claims as one of several addresses'}
 REASONS = {
     1: 'wrong form (FMT_ERR)', 2: 'server failure (SRV_ERR)', 3: 'no such name (NAM_ERR)', 4: 'not supported (IMP_ERR)',
     5: 'refused by policy (RFS_ERR)', 6: 'owned by another node (ACT_ERR)', 7: 'in conflict (CFT_ERR)',
@@ -49,99 +49,112 @@ def coded(words, code):
     return f'{words.get(int(code, 16), "unknown code")} ({code})'
 
 
-def first_ones(texts):
-    """The first of some texts, and how many more there are."""
-    more = len(texts) - FIRST_ONES
-    return ', '.join(texts[:FIRST_ONES]) + (f' and {more} more' if more > 0 else '')
+class Service:
+    """A packet of port 137: what of it is said."""
+
+    def __init__(self, fields):
+        self.records = fields['answers'] + fields['authorities'] + fields['additional']
+        items = fields['questions'] + self.records
+        self.name, self.type = (items[0]['name'], items[0]['type']) if items else ('no name', None)
+        self.word = int(fields['word'], 16)
+        self.operation, self.outcome = self.word >> 11 & 15, self.word & 15
+
+    def of_records(self, key):
+        """What the records have under a key."""
+        return [record[key] for record in self.records if key in record]
+
+    def listed(self):
+        """The names of nodes, where these are asked for, else the addresses."""
+        if self.type == NBSTAT:
+            return [name['name'] for name in sum(self.of_records('names'), [])]
+        return sum(map(addresses_of, self.records), [])
+
+    def addresses(self):
+        """The first ones of what is listed, and how many more there are."""
+        more = len(self.listed()) - FIRST_ONES
+        return (', '.join(self.listed()[:FIRST_ONES]) or 'no address') + (f' and {more} more' if more > 0 else '')
+
+    def is_group(self):
+        """Whether G is set in the first flags."""
+        flags = [it['flags'] for record in self.records for it in record.get('entries', []) + record.get('names', [])]
+        return bool(flags) and bool(int(flags[0], 16) & G)
+
+    def holder(self):
+        """Whom a name is for."""
+        return f'{self.name}{" as a group" if self.is_group() else ""} for {self.addresses()}'
+
+    def time(self):
+        """How long the first record holds."""
+        return f', for {self.records[0]["ttl"]} s' if self.records else ''
+
+    def reason(self):
+        """What RCODE says."""
+        return REASONS.get(self.outcome, f'error {self.outcome}')
+
+    def either(self, good, bad):
+        """A positive response, or a negative one."""
+        return bad + ': ' + self.reason() if self.outcome else good
 
 
-def addresses(records):
-    """The addresses that records have."""
-    found = []
-    for record in records:
-        found += [entry['address'] for entry in record.get('entries', [])]
-        if record['type'] == A and len(record.get('data', '')) == 8:
-            found.append('.'.join(str(byte) for byte in bytes.fromhex(record['data'])))
-    return first_ones(found) or 'no address'
-
-
-def is_group(records):
-    """Whether the first address is a group's."""
-    for record in records:
-        for entry in record.get('entries', []) + record.get('names', []):
-            return bool(int(entry['flags'], 16) & G)
-    return False
+def addresses_of(record):
+    """The addresses that a record has."""
+    if record['type'] == A and len(record.get('data', '')) == 8:
+        return ['.'.join(str(byte) for byte in bytes.fromhex(record['data']))]
+    return [entry['address'] for entry in record.get('entries', [])]
 
 
 def service(fields):
     """A packet of port 137."""
-    records = fields['answers'] + fields['authorities'] + fields['additional']
-    items = fields['questions'] + records
-    name, kind = (items[0]['name'], items[0]['type']) if items else ('no name', None)
-    word = int(fields['word'], 16)
-    return (response if word & R else request)(word, word >> 11 & 15, name, kind, records)
+    packet = Service(fields)
+    return (response if packet.word & R else request)(packet)
 
 
-def holding(records):
-    """Whom a name is for."""
-    return (' as a group' if is_group(records) else '') + ' for ' + addresses(records)
-
-
-def time(records):
-    """How long the first record holds."""
-    return f', for {records[0]["ttl"]} s' if records else ''
-
-
-def request(word, operation, name, kind, records):
+def request(packet):
     """A request (RFC 1002 sections 4.2.2 to 4.2.4, 4.2.9, 4.2.12, 4.2.17)."""
-    whom = f'{name}{holding(records)}'
-    if operation == 0:
-        return f'asks for the node status of {name}' if kind == NBSTAT else f'asks for {name}'
-    if operation == 5:
-        return f'{"claims" if word & RD else "overwrites"} {whom}{time(records)}'
-    if operation == 6:
-        return f'releases {whom}'
-    if operation in (8, 9):
-        return f'refreshes {whom}{time(records)}'
-    if operation == 15:
-        return f'claims as one of several addresses {whom}{time(records)}'
-    return f'makes another request about {name}, operation {operation}'
+    if packet.operation == 0:
+        return f'asks for {"the node status of " if packet.type == NBSTAT else ""}{packet.name}'
+    if packet.operation == 6:
+        return f'releases {packet.holder()}'
+    if packet.operation not in CLAIMS:
+        return f'makes another request about {packet.name}, operation {packet.operation}'
+    verb = CLAIMS[packet.operation]
+    if packet.operation == 5 and not packet.word & RD:
+        verb = 'overwrites'
+    return f'{verb} {packet.holder()}{packet.time()}'
 
 
-def response(word, operation, name, kind, records):
+def response(packet):
     """A response (RFC 1002 sections 4.2.5 to 4.2.8, 4.2.10, 4.2.11, 4.2.13 to 4.2.16, 4.2.18)."""
-    outcome = word & 15
-    reason = REASONS.get(outcome, f'error {outcome}')
+    name, operation = packet.name, packet.operation
     if operation == 0:
-        return f'answers: {name} is not found: {reason}' if outcome else answer(name, kind, records)
-    if operation == 5 and outcome == 7:
+        return packet.either(answer(packet), f'answers: {name} is not found')
+    if operation == 5 and packet.outcome == 7:
         return f'conflict about {name}'
-    if operation == 5 and outcome == 0 and word & (RD | RA) == RD:
-        return f'asks to challenge {name} at {addresses(records)}'
+    if operation == 5 and packet.outcome == 0 and packet.word & (RD | RA) == RD:
+        return f'asks to challenge {name} at {packet.addresses()}'
     if operation in CLAIMS:
-        return f'refuses {name}: {reason}' if outcome else f'grants {name}{holding(records)}{time(records)}'
+        return packet.either(f'grants {packet.holder()}{packet.time()}', f'refuses {name}')
     if operation == 6:
-        return f'refuses the release of {name}: {reason}' if outcome else f'grants the release of {name}'
+        return packet.either(f'grants the release of {name}', f'refuses the release of {name}')
     if operation == 7:
-        return f'asks to wait for {name}{time(records)}'
+        return f'asks to wait for {name}{packet.time()}'
     return f'makes another response about {name}, operation {operation}'
 
 
-def answer(name, kind, records):
+def answer(packet):
     """A positive response to a query."""
-    if kind == NBSTAT:
-        return f'answers: {name} {status(records)}'
-    if kind == NS:
-        domains = [record['domain'] for record in records if 'domain' in record]
-        return f'answers: {name} is known to {(domains or ["no name"])[0]} at {addresses(records)}'
-    return f'answers: {name} is{" a group" if is_group(records) else ""} at {addresses(records)}'
+    if packet.type == NBSTAT:
+        return f'answers: {packet.name} {status(packet)}'
+    if packet.type == NS:
+        server = (packet.of_records('domain') or ['no name'])[0]
+        return f'answers: {packet.name} is known to {server} at {packet.addresses()}'
+    return f'answers: {packet.name} is{" a group" if packet.is_group() else ""} at {packet.addresses()}'
 
 
-def status(records):
+def status(packet):
     """The names of a node, and its unit."""
-    names = [name['name'] for record in records for name in record.get('names', [])]
-    units = [record['unit'] for record in records if 'unit' in record]
-    counted = f'has {len(names)} names: {first_ones(names)}' if names else 'has no names'
+    names, units = packet.listed(), packet.of_records('unit')
+    counted = f'has {len(names)} names: {packet.addresses()}' if names else 'has no names'
     return counted + (f', unit {units[0]}' if units else '')
 
 

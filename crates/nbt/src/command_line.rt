@@ -15,8 +15,10 @@ use std::alloc::{AllocError, Global};
 /// What the help says of `--comments`.
 const COMMENTS: &str = "Print the comments of the capture, each in its place";
 
-/// What the help says of `--json`.
+/// What the help says of `--brief`.
 const BRIEF: &str = "Print a phrase for each packet: who asks, claims, answers or sends what";
+
+/// What the help says of `--json`.
 const JSON: &str = "Print JSON: an object for each line, in a line of its own";
 
 /// The program's version, as `--version` prints it.

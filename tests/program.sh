@@ -81,6 +81,11 @@ objects() {
     counted_by json_objects.py "$program"
 }
 
+# What `--brief` says of packets, beside a model that makes the phrases from payloads.
+phrases() {
+    counted_by brief_phrases.py "$program"
+}
+
 # An output that has room for fewer bytes than there are.
 rooms() {
     counted_by output_rooms.py "$program" "$room/devices.so"
@@ -322,6 +327,7 @@ part shims compile devices refuse_memory
 part cases cases
 part pages pages
 part objects objects
+part phrases phrases
 part rooms rooms
 part streams streams
 part memory memory

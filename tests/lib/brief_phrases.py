@@ -3,12 +3,11 @@
 
 Usage: tests/lib/brief_phrases.py [--seed N] [--payloads N] [PROGRAM]; its last line is 'N passed, M failed', the one before says
 what was compared. Captures are the payloads of the examples of crates/nb_examples, and such as are made by chance, until so
-many payloads (10,000) were said. Of each there are two cases: the lines of `--brief`, and the objects of `--brief --json`, which
-are those of `--json` with `brief` before what is told of a packet. One case more for each phrase of docs/FORMATS.md: it was said.
+many payloads (10,000) were said. The lines of each are a case, and so is each phrase of docs/FORMATS.md: it was said. Objects with
+phrases are held against the same model by tests/lib/json_objects.py.
 """
 import argparse
 import collections
-import json
 import os
 import random
 import re
@@ -23,7 +22,7 @@ LONGEST_PAYLOAD = 2_000
 OPERATIONS = (0, 0, 5, 5, 6, 7, 8, 9, 15)
 OUTCOMES = (0, 0, 0, 1, 2, 3, 4, 5, 6, 7, 8)
 CODES = (0x80, 0x81, 0x82, 0x83, 0x84, 0x8f)
-IN_CAPTURE = 250
+IN_CAPTURE = 100
 PHRASES = re.compile(r'^\| .* \| `([^`]+)` \|$', re.MULTILINE)
 BY = re.compile(r'[A-Z]+|[.*+?^$()\[\]{}|\\]')
 LONGEST_PRINTED = 1_000
@@ -72,9 +71,9 @@ class Cases:
         if why:
             print(f'failed: {why[:LONGEST_PRINTED]}', flush=True)
 
-    def run(self, given, *words):
-        """The lines that `nbt show` prints of an input."""
-        made = subprocess.run([self.program, 'show', *words], input=given, capture_output=True, timeout=600, check=False)
+    def run(self, given):
+        """The lines that `nbt show --brief` prints of an input."""
+        made = subprocess.run([self.program, 'show', '--brief'], input=given, capture_output=True, timeout=600, check=False)
         return made.stdout.decode('ascii').splitlines() if made.returncode == 0 else [f'status {made.returncode}']
 
     def check(self, payloads):
@@ -82,20 +81,9 @@ class Cases:
         given = b''.join(b'%d 7 %b\n' % (port, payload.hex().encode() or b'empty') for port, payload in payloads) + b'tick 9\n'
         said_so = [said(*it) for it in payloads]
         lines = [f'{number} {port} {phrase}' for number, ((port, _), phrase) in enumerate(zip(payloads, said_so), 1)]
-        self.count(difference(self.run(given, '--brief'), [*lines, f'{len(lines) + 1} tick 9'], payloads))
-        told = [json.loads(it) for it in self.run(given, '--json')]
-        objects = [with_phrase(*it) for it in zip(told, [*said_so, None])]
-        self.count(difference(self.run(given, '--json', '--brief'), objects, payloads))
+        self.count(difference(self.run(given), [*lines, f'{len(lines) + 1} tick 9'], payloads))
         self.said += said_so
         self.compared['payloads'] += len(payloads)
-
-
-def with_phrase(told, phrase):
-    """The object of a line, with its phrase."""
-    if phrase is None:
-        return json.dumps(told, separators=(',', ':'))
-    head = {key: told[key] for key in ('line', 'port', 'moment')}
-    return json.dumps(head | {'brief': phrase} | told, separators=(',', ':'))
 
 
 def difference(found, right, payloads):

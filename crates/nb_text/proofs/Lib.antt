@@ -22,3 +22,5 @@ pub mod SessionTells
 pub mod DatagramTells
 pub mod ServiceTells
 pub mod WordLemmas
+pub mod SaidLemmas
+pub mod TextTests

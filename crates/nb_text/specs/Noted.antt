@@ -21,7 +21,7 @@ pub record Noted : Type 0 where
   -- the first of the addresses, or of the names of a node
   pub listed : List ℕ
 
--- before a field is told
+-- the facts before a field is told
 abbrev pub no_facts : Facts
 no_facts = record {
   kind = kinds.Service;
@@ -39,6 +39,7 @@ no_facts = record {
   in_names = false;
 }
 
+-- the same, and no text
 abbrev pub nothing_noted : Noted
 nothing_noted = record { facts = no_facts; name = []; other = []; listed = [] }
 
@@ -132,7 +133,7 @@ with_word key facts n =
 abbrev pub with_unit : List ℕ → Noted → List ℕ → Noted
 with_unit key n bytes =
     if is_text key (codes "unit") then
-        (if is_type n.facts.first_type NBSTAT then record n { other = first_text n.other (digits_text bytes) } else n)
+    (if is_type n.facts.first_type NBSTAT then record n { other = first_text n.other (digits_text bytes) } else n)
     else n
 
 -- with_digits key n bytes: bytes under this key

@@ -144,9 +144,9 @@ goes_on (Some flags) = is_set flags (2 ^ 0)
 abbrev pub extent_said : Facts → List ℕ
 extent_said facts =
     codes ", " ++ (decimal facts.size ++ (
-      if goes_on facts.flags then codes " bytes at offset " ++ (decimal facts.number ++ codes " of one that goes on")
-      else if facts.number == 0 then codes " bytes"
-      else codes " bytes at offset " ++ (decimal facts.number ++ codes ", the last")
+    if goes_on facts.flags then codes " bytes at offset " ++ (decimal facts.number ++ codes " of one that goes on")
+    else if facts.number == 0 then codes " bytes"
+    else codes " bytes at offset " ++ (decimal facts.number ++ codes ", the last")
     ))
 
 -- datagram_said lead n: a datagram, or a part of one

@@ -7,8 +7,8 @@ ghost use Rattle.nb_text.specs.SaysPacket.{AddsSaid};
 mod facts;
 mod form;
 mod kind;
-mod noting;
 mod notes;
+mod noting;
 mod packets;
 mod phrases;
 mod services;
@@ -16,7 +16,6 @@ mod services;
 use crate::brief::phrases::push_noted;
 use crate::showing::tell_packet;
 use nb_names::NoMemory;
-
 pub use noting::BriefSink;
 
 /// Adds the phrase of a payload that came to a port: what the packet is that it begins with, as a

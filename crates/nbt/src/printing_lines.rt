@@ -131,7 +131,8 @@ pub fn print_text<R: Read, W: Write, P: PayloadText + Drop>(
         Consumes (R.remaining input.old.inner) (R.remaining input.new.inner) bytes ×
         ((result ≡ Err Fault.Read →
         ShowsUnread options.most bytes input.old.counts input.new.counts) ×
-        Shows (ShowsLine P.is_text options.comments) options.most bytes (R.remaining input.new.inner) tt
+        Shows (ShowsLine P.is_text options.comments) options.most bytes
+        (R.remaining input.new.inner) tt
         (W.contents output.old.inner) (W.contents output.new.inner) result) }
     ensures why { IfErr result (λ fault. fault ≡ Fault.Write →
         ShowsWriteFault output.old.counts output.new.counts) }

@@ -36,7 +36,11 @@ fn push_kind(notes: &Notes, text: &mut String) -> Result<(), NoMemory>
         Kind::Group => push_datagram("group datagram from ", notes, text),
         Kind::Broadcast => push_datagram("broadcast datagram from ", notes, text),
         Kind::Error => push_coded("error: ", error_words(facts.code), facts.code, text),
-        Kind::Find => push_both("asks whether datagrams are relayed to ", notes.other(), text),
+        Kind::Find => push_both(
+            "asks whether datagrams are relayed to ",
+            notes.other(),
+            text,
+        ),
         Kind::Found => push_both("answers: datagrams are relayed to ", notes.other(), text),
         Kind::Missing => push_both("answers: no datagrams are relayed to ", notes.other(), text),
         Kind::Message => push_count("sends ", facts.size, " bytes", text),

@@ -66,11 +66,8 @@ fn push_ending(form: Form, notes: &Notes, text: &mut String) -> Result<(), NoMem
     let word = notes.facts().word;
     match form {
         Form::Query | Form::StatusQuery | Form::Conflict | Form::ReleaseGrant => Ok(()),
-        Form::Registration
-        | Form::Overwrite
-        | Form::Multihomed
-        | Form::Refresh
-        | Form::Grant => push_claim(notes, text),
+        Form::Registration | Form::Overwrite | Form::Multihomed | Form::Refresh | Form::Grant =>
+            push_claim(notes, text),
         Form::Release => push_holder(notes, text),
         Form::Answer => push_place(notes, text),
         Form::Status => push_status(notes, text),

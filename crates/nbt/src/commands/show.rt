@@ -6,9 +6,9 @@ ghost use Rattle.nbt.specs.Showing.{ShowsSaid, ShowsValue};
 
 use crate::fault::Fault;
 use crate::output::Output;
-use crate::printing_lines::{print_objects, print_text};
 use crate::payload_text::PayloadText;
 use crate::phrases::Phrases;
+use crate::printing_lines::{print_objects, print_text};
 use crate::settings::{is_brief, is_json, options_of};
 use crate::telling::{LineFields, Packets};
 use clap::ArgMatches;
@@ -18,8 +18,8 @@ use std::alloc::Global;
 use std::io::{Read, Write};
 
 /// `nbt show [--input-limit BYTES] [--comments] [--brief] [--json]`: shows the packets of the input
-/// in order, each line as it comes, with `--comments` the comments between them, or prints an object
-/// for each; with `--brief` it says what each is in a phrase.
+/// in order, each line as it comes, with `--comments` the comments between them, or prints an
+/// object for each; with `--brief` it says what each is in a phrase.
 ///
 /// # Errors
 ///
@@ -49,8 +49,8 @@ fn show_as<R: Read, W: Write, P: PayloadText + LineFields + Drop>(
     input: &mut Counted<R>,
     output: &mut Output<W>,
 ) -> Result<(), Fault>
-    ensures { ShowsAs P.is_text P.are_fields (P.state form) matches.now (streams R.remaining W.contents
-        input.old input.new output.old output.new) result }
+    ensures { ShowsAs P.is_text P.are_fields (P.state form) matches.now
+        (streams R.remaining W.contents input.old input.new output.old output.new) result }
 {
     let options = options_of(matches);
     if is_json(matches) {

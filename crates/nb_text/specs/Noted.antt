@@ -3,6 +3,7 @@
 use Rattle.std.specs.Prelude.{ℕ, ◌+◌, ◌==◌, nat_lt, min, Bool, true, false, List, [], ◌∷◌, ◌++◌, ◌-◌, length, take, codes, Option, None, Some, if◌then◌else◌}
 use Rattle.std.specs.Fmt.{decimal}
 use Rattle.std.specs.Int.{w16, from_be_bytes}
+use Rattle.std.specs.Option.{option_or}
 use Rattle.nb_names.specs.Addresses.{address_text}
 use Rattle.nb_names.specs.Hexadecimal.{digits_text}
 use Rattle.nb_service.specs.declared.kinds.TheConstants.{A, NBSTAT}
@@ -49,13 +50,11 @@ most_listed = 4
 
 -- the first of two, if there is one
 abbrev pub first_of : Option ℕ → ℕ → Option ℕ
-first_of None n = Some n
-first_of (Some first) n = Some first
+first_of known n = option_or known (Some n)
 
 -- the first of two texts that isn't empty
 abbrev pub first_text : List ℕ → List ℕ → List ℕ
-first_text [] text = text
-first_text (c ∷ cs) text = c ∷ cs
+first_text known text = if length known == 0 then text else known
 
 -- is_type known kind: the type is known, and this one
 abbrev pub is_type : Option ℕ → ℕ → Bool

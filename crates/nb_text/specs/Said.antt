@@ -19,8 +19,7 @@ use Rattle.nb_text.specs.Words.{is_set}
 
 -- whom a packet of port 137 is about
 abbrev pub name_said : List ℕ → List ℕ
-name_said [] = codes "no name"
-name_said (c ∷ cs) = c ∷ cs
+name_said name = if length name == 0 then codes "no name" else name
 
 -- listed_said n: the first ones of what is listed, and how many more there are
 abbrev pub listed_said : Noted → List ℕ
@@ -56,8 +55,7 @@ place_said n = (if is_group n.facts.flags then codes " is a group at " else code
 
 -- the unit of a node, if it is known
 abbrev pub unit_said : List ℕ → List ℕ
-unit_said [] = []
-unit_said (c ∷ cs) = codes ", unit " ++ c ∷ cs
+unit_said unit = if length unit == 0 then [] else codes ", unit " ++ unit
 
 -- which names a node has
 abbrev pub names_said : Noted → List ℕ

@@ -1,4 +1,5 @@
 //! What is noted of a packet's fields, but for texts.
+#![tactic(auto, using(crate::proofs::TextTests::is_so, crate::proofs::TextTests::is_not))]
 
 ghost use Rattle.std.specs.Prelude.{◌≡◌, ◌==◌, is_none};
 ghost use Rattle.nb_text.specs.Noted.{first_of, is_type, no_facts, with_byte, with_number, with_word};

@@ -1,4 +1,5 @@
 //! What packets are, of which a phrase is said.
+#![tactic(auto, using(crate::proofs::TextTests::is_so, crate::proofs::TextTests::is_not))]
 
 ghost use Rattle.std.specs.Prelude.{◌≡◌};
 ghost use Rattle.nb_text.specs.Kinds.{kind_of};

@@ -1,4 +1,5 @@
 //! A packet's fields, noted.
+#![tactic(auto, using(crate::proofs::TextTests::is_so, crate::proofs::TextTests::is_not))]
 
 ghost use Rattle.std.specs.Prelude.{◌≡◌, ◌∷◌, OnOk};
 ghost use Rattle.std.specs.Fmt.{decimal};

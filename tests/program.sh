@@ -277,6 +277,8 @@ memory() {
     { nbt build query 0001 'FRED<20>.A' && printf 'tick 2\n139 0 00000003616263\nx\n'; } >"$room/input"
     input=$room/input
     remembers show
+    remembers show --brief
+    remembers show --brief --json
     { nbt build group 10.0.0.5:138/0001 'JOE<00>' 'FRED<20>' 000102030405 2 && echo tick 1; } >"$room/input"
     remembers save
     remembers save --keys 0

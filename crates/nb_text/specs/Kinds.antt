@@ -1,6 +1,6 @@
 -- What a packet of port 138 or 139 is, by the word that its fields begin with (our choice).
 use Rattle.std.specs.Prelude.{ℕ, Bool, ◌==◌, List, codes, if◌then◌else◌}
-use Rattle.std.specs.List.{pointwise}
+use Rattle.std.specs.Cmp.Lexicographic.{pointwise}
 use Rattle.nb_text.specs.declared.brief.kind.Kind.{Kind}
 use Rattle.nb_text.specs.declared.brief.kind.Kind.TheVariants as kinds
 

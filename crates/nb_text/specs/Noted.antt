@@ -63,14 +63,19 @@ is_type (Some known) kind = known == kind
 
 -- ---- texts
 
+-- what stands between two texts that are listed
+abbrev pub comma : ℕ → List ℕ
+comma count = if count == 0 then [] else codes ", "
+
+-- listed_text count listed text: what is listed after a text more, which is one of the first, or isn't
+abbrev pub listed_text : ℕ → List ℕ → List ℕ → List ℕ
+listed_text count listed text = if nat_lt count most_listed then listed ++ (comma count ++ text) else listed
+
 -- a text more is listed
 abbrev pub with_listed : Noted → List ℕ → Noted
 with_listed n text = record n {
   facts = record n.facts { listed = min (n.facts.listed + 1) 18446744073709551615 };
-  listed =
-      if n.facts.listed == 0 then text
-      else if nat_lt n.facts.listed most_listed then n.listed ++ (codes ", " ++ text)
-      else n.listed;
+  listed = listed_text n.facts.listed n.listed text;
 }
 
 -- a name: of a node, where names of nodes are asked for, else the first one is noted

@@ -1,7 +1,7 @@
 //! What is noted of a packet's fields.
 
 ghost use Rattle.std.specs.Prelude.{◌≡◌, OnOk, string_bytes};
-ghost use Rattle.nb_text.specs.Noted.{Noted, first_text, nothing_noted, with_listed, without_end};
+ghost use Rattle.nb_text.specs.Noted.{Noted, comma, first_text, listed_text, nothing_noted, with_listed, without_end};
 
 use crate::brief::facts::Facts;
 use nb_names::NoMemory;
@@ -123,18 +123,32 @@ impl Notes {
         ensures { OnOk result (self.new ≡ with_listed self.old text.now) }
     {
         let count = self.facts.listed;
-        if count < MOST_LISTED {
-            if count != 0 {
-                self.listed.push_str(", ")?;
-            }
-            self.listed.push_str(text)?;
-        }
+        add_listed(count, text, &mut self.listed)?;
         self.facts = Facts {
             listed: count.saturating_add(1),
             ..self.facts
         };
         Ok(())
     }
+}
+
+/// Lists a text after so many others, if it is one of the first.
+fn add_listed(count: u64, text: &str, listed: &mut String) -> Result<(), NoMemory>
+    ensures { OnOk result
+        (string_bytes listed.new ≡ listed_text count (string_bytes listed.old) text.now) }
+{
+    if count < MOST_LISTED {
+        listed.push_str(comma(count))?;
+        listed.push_str(text)?;
+    }
+    Ok(())
+}
+
+/// What stands between two texts that are listed.
+fn comma(count: u64) -> &'static str
+    ensures { result.now ≡ comma count }
+{
+    if count == 0 { "" } else { ", " }
 }
 
 /// Notes a text, where none is noted yet.

@@ -89,7 +89,7 @@ class Service:
 
     def reason(self):
         """What RCODE says."""
-        return REASONS.get(self.outcome, f'error {self.outcome}')
+        return REASONS.get(self.outcome, 'unknown error')
 
     def either(self, good, bad):
         """A positive response, or a negative one."""

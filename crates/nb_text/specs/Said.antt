@@ -64,16 +64,24 @@ names_said n =
     else codes " has " ++ (decimal n.facts.listed ++ (codes " names: " ++ listed_said n))
 
 -- what RCODE says (4.2.6, 4.2.11, 4.2.14)
+abbrev pub reason_words : ℕ → List ℕ
+reason_words rcode =
+    if rcode == 1 then codes "wrong form (FMT_ERR)"
+    else if rcode == 2 then codes "server failure (SRV_ERR)"
+    else if rcode == 3 then codes "no such name (NAM_ERR)"
+    else if rcode == 4 then codes "not supported (IMP_ERR)"
+    else if rcode == 5 then codes "refused by policy (RFS_ERR)"
+    else if rcode == 6 then codes "owned by another node (ACT_ERR)"
+    else if rcode == 7 then codes "in conflict (CFT_ERR)"
+    else codes "unknown error"
+
+-- the reason for a negative response
 abbrev pub reason_said : ℕ → List ℕ
-reason_said rcode =
-    if rcode == 1 then codes ": wrong form (FMT_ERR)"
-    else if rcode == 2 then codes ": server failure (SRV_ERR)"
-    else if rcode == 3 then codes ": no such name (NAM_ERR)"
-    else if rcode == 4 then codes ": not supported (IMP_ERR)"
-    else if rcode == 5 then codes ": refused by policy (RFS_ERR)"
-    else if rcode == 6 then codes ": owned by another node (ACT_ERR)"
-    else if rcode == 7 then codes ": in conflict (CFT_ERR)"
-    else codes ": error " ++ decimal rcode
+reason_said rcode = codes ": " ++ reason_words rcode
+
+-- which name server is to be asked
+abbrev pub redirect_said : Noted → List ℕ
+redirect_said n = codes " is known to " ++ (name_said n.other ++ (codes " at " ++ addresses_said n))
 
 -- another operation
 abbrev pub operation_said : ℕ → List ℕ
@@ -116,7 +124,7 @@ ending forms.Release n = holder_said n
 ending forms.OtherRequest n = operation_said n.facts.word
 ending forms.Answer n = place_said n
 ending forms.Status n = names_said n ++ unit_said n.other
-ending forms.Redirect n = codes " is known to " ++ (name_said n.other ++ (codes " at " ++ addresses_said n))
+ending forms.Redirect n = redirect_said n
 ending forms.NoAnswer n = codes " is not found" ++ reason_said (rcode_of n.facts.word)
 ending forms.Challenge n = codes " at " ++ addresses_said n
 ending forms.Conflict n = []
@@ -138,14 +146,16 @@ abbrev pub goes_on : Option ℕ → Bool
 goes_on None = false
 goes_on (Some flags) = is_set flags (2 ^ 0)
 
--- extent_said facts: which bytes of a datagram there are
+-- which bytes of a datagram there are, where they aren't all
+abbrev pub offset_said : Facts → List ℕ
+offset_said facts =
+    if goes_on facts.flags then codes " at offset " ++ (decimal facts.number ++ codes " of one that goes on")
+    else if facts.number == 0 then []
+    else codes " at offset " ++ (decimal facts.number ++ codes ", the last")
+
+-- extent_said facts: how many bytes of a datagram there are, and which
 abbrev pub extent_said : Facts → List ℕ
-extent_said facts =
-    codes ", " ++ (decimal facts.size ++ (
-    if goes_on facts.flags then codes " bytes at offset " ++ (decimal facts.number ++ codes " of one that goes on")
-    else if facts.number == 0 then codes " bytes"
-    else codes " bytes at offset " ++ (decimal facts.number ++ codes ", the last")
-    ))
+extent_said facts = codes ", " ++ (decimal facts.size ++ (codes " bytes" ++ offset_said facts))
 
 -- datagram_said lead n: a datagram, or a part of one
 abbrev pub datagram_said : List ℕ → Noted → List ℕ

@@ -4,7 +4,7 @@
 ghost use Rattle.std.specs.Prelude.{◌≡◌, ◌++◌, OnOk, string_bytes};
 ghost use Rattle.std.specs.Fmt.{decimal};
 ghost use Rattle.nb_names.specs.Growth.{OnlyAdds};
-ghost use Rattle.nb_text.specs.Said.{coded_said, datagram_said, error_said, extent_said, goes_on, refusal_said};
+ghost use Rattle.nb_text.specs.Said.{coded_said, datagram_said, error_said, extent_said, goes_on, offset_said, refusal_said};
 
 use crate::brief::facts::Facts;
 use crate::brief::notes::Notes;
@@ -47,13 +47,22 @@ pub fn push_datagram(lead: &str, notes: &Notes, text: &mut String) -> Result<(),
     push_extent(&notes.facts(), text)
 }
 
-/// Adds which bytes of a datagram there are.
+/// Adds how many bytes of a datagram there are, and which.
 fn push_extent(facts: &Facts, text: &mut String) -> Result<(), NoMemory>
     ensures added { OnOk result
         (string_bytes text.new ≡ string_bytes text.old ++ extent_said facts.now) }
     ensures front { OnlyAdds (string_bytes text.old) (string_bytes text.new) }
 {
     push_count(", ", facts.size, " bytes", text)?;
+    push_offset(facts, text)
+}
+
+/// Adds which bytes of a datagram there are, where they aren't all.
+fn push_offset(facts: &Facts, text: &mut String) -> Result<(), NoMemory>
+    ensures added { OnOk result
+        (string_bytes text.new ≡ string_bytes text.old ++ offset_said facts.now) }
+    ensures front { OnlyAdds (string_bytes text.old) (string_bytes text.new) }
+{
     if goes_on(facts.flags) {
         return push_count(" at offset ", facts.number, " of one that goes on", text);
     }

@@ -11,7 +11,7 @@ use crate::brief::packets::{
     error_words, push_both, push_coded, push_count, push_datagram, refusal_words,
 };
 use crate::brief::services::push_service;
-use nb_names::NoMemory;
+use nb_names::{NoMemory, push_decimal};
 
 /// Adds the phrase of what is noted of a payload of this size.
 pub fn push_noted(notes: &Notes, size: usize, text: &mut String) -> Result<(), NoMemory>
@@ -98,5 +98,6 @@ fn push_retarget(notes: &Notes, text: &mut String) -> Result<(), NoMemory>
     ensures front { OnlyAdds (string_bytes text.old) (string_bytes text.new) }
 {
     push_both("sends the caller to ", notes.listed(), text)?;
-    push_count(", port ", notes.facts().number, "", text)
+    text.push_str(", port ")?;
+    push_decimal(notes.facts().number, text)
 }

@@ -5,13 +5,13 @@ ghost use Rattle.std.specs.Prelude.{◌≡◌, ◌++◌, OnOk, codes, string_byt
 ghost use Rattle.nb_names.specs.Growth.{OnlyAdds};
 ghost use Rattle.nb_service.specs.Flags.{rcode_of};
 ghost use Rattle.nb_text.specs.Forms.{form_of};
-ghost use Rattle.nb_text.specs.Said.{addresses_said, claim_said, ending, holder_said, is_group, listed_said, name_said, names_said, opening, operation_said, place_said, reason_said, service_said, time_said, unit_said};
+ghost use Rattle.nb_text.specs.Said.{addresses_said, claim_said, ending, holder_said, is_group, listed_said, name_said, names_said, opening, operation_said, place_said, reason_said, reason_words, redirect_said, service_said, time_said, unit_said};
 
 use crate::brief::form::{Form, form_of};
 use crate::brief::notes::{MOST_LISTED, Notes};
 use crate::brief::packets::{push_both, push_count};
 use bitflags::Flags;
-use nb_names::NoMemory;
+use nb_names::{NoMemory, push_decimal};
 use nb_service::{NodeFlags, opcode, rcode};
 
 /// Adds the phrase of a packet of port 137.
@@ -192,14 +192,16 @@ fn push_names(notes: &Notes, text: &mut String) -> Result<(), NoMemory>
         text.push_str(" has no names")?;
         return Ok(());
     }
-    push_count(" has ", count, " names: ", text)?;
+    text.push_str(" has ")?;
+    push_decimal(count, text)?;
+    text.push_str(" names: ")?;
     push_listed(notes, text)
 }
 
 /// Adds which name server is to be asked.
 fn push_redirect(notes: &Notes, text: &mut String) -> Result<(), NoMemory>
     ensures added { OnOk result
-        (string_bytes text.new ≡ string_bytes text.old ++ ending Form.Redirect notes.now) }
+        (string_bytes text.new ≡ string_bytes text.old ++ redirect_said notes.now) }
     ensures front { OnlyAdds (string_bytes text.old) (string_bytes text.new) }
 {
     push_both(" is known to ", name_or_none(notes.other()), text)?;
@@ -222,23 +224,21 @@ fn push_reason(word: u16, text: &mut String) -> Result<(), NoMemory>
         (string_bytes text.new ≡ string_bytes text.old ++ reason_said (rcode_of word)) }
     ensures front { OnlyAdds (string_bytes text.old) (string_bytes text.new) }
 {
-    let rcode = rcode(word);
-    match reason(rcode) {
-        Some(reason) => push_both(": ", reason, text),
-        None => push_count(": error ", u64::from(rcode), "", text),
-    }
+    push_both(": ", reason_words(rcode(word)), text)
 }
 
-/// The words for RCODE, where it has some.
-fn reason(rcode: u8) -> Option<&'static str> {
+/// What RCODE says, in words.
+fn reason_words(rcode: u8) -> &'static str
+    ensures { result.now ≡ reason_words rcode }
+{
     match rcode {
-        1 => Some("wrong form (FMT_ERR)"),
-        2 => Some("server failure (SRV_ERR)"),
-        3 => Some("no such name (NAM_ERR)"),
-        4 => Some("not supported (IMP_ERR)"),
-        5 => Some("refused by policy (RFS_ERR)"),
-        6 => Some("owned by another node (ACT_ERR)"),
-        7 => Some("in conflict (CFT_ERR)"),
-        _ => None,
+        1 => "wrong form (FMT_ERR)",
+        2 => "server failure (SRV_ERR)",
+        3 => "no such name (NAM_ERR)",
+        4 => "not supported (IMP_ERR)",
+        5 => "refused by policy (RFS_ERR)",
+        6 => "owned by another node (ACT_ERR)",
+        7 => "in conflict (CFT_ERR)",
+        _ => "unknown error",
     }
 }

@@ -24,3 +24,5 @@ pub mod ServiceTells
 pub mod WordLemmas
 pub mod SaidLemmas
 pub mod TextTests
+pub mod PhraseLemmas
+pub mod SaidPackets

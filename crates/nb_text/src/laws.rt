@@ -41,6 +41,12 @@ ghost use Rattle.nb_text.specs.Shown.{Shown};
 ghost use Rattle.nb_text.specs.Tells.{Tells};
 ghost use Rattle.nb_text.specs.Words.{flag, name_flags, operation_word, packet_flags, query_word, rcode_word, set_text};
 
+mod phrases;
+mod responses;
+
+pub use phrases::{datagrams_in_words, requests_in_words, sessions_in_words};
+pub use responses::{answers_in_words, outcomes_in_words};
+
 use nb_datagram::laws as datagrams;
 use nb_service::laws as names;
 use nb_session::laws as sessions;

@@ -26,3 +26,5 @@ pub mod SaidLemmas
 pub mod TextTests
 pub mod PhraseLemmas
 pub mod SaidPackets
+pub mod FirstNames
+pub mod PushLemmas

@@ -1,5 +1,5 @@
 -- The phrases of packets, by what the packets' values say.
-use Rattle.std.proofs.Common.{◌≡◌, ◌==◌, ℕ, ◌-◌, ◌^◌, ◌<◌, nat_lt, Bool, true, false, List, [], ◌∷◌, ◌++◌, length, take, slice_index, codes, Some, refl, ap, ap₂, ◌∙◌, arith, if◌then◌else◌}
+use Rattle.std.proofs.Common.{◌≡◌, ◌==◌, ℕ, ◌-◌, ◌^◌, ◌<◌, nat_lt, Bool, true, false, List, [], ◌∷◌, ◌++◌, length, take, slice_index, codes, Some, refl, sym, ap, ap₂, ◌∙◌, arith, if◌then◌else◌}
 use Rattle.std.specs.Fmt.{decimal}
 use Rattle.std.specs.Int.{w16, from_be_bytes, to_be_bytes}
 use Rattle.std.proofs.lemmas.Bool.Decides.{nat_tests}
@@ -45,6 +45,12 @@ pub follows : (text : List ℕ) (used size : ℕ) → used < size
 follows text used size h =
     let test : nat_lt used size ≡ true = grind (arith, nat_tests, h) in
     ap (λ (t : List ℕ). text ++ t) (if_true (nat_lt used size) (codes ", " ++ (decimal (size - used) ++ codes " bytes follow")) [] test)
+
+-- the phrase of a packet after which bytes follow, beside that of one that is all of its payload
+pub behind : (text : List ℕ) (used size : ℕ) → used < size
+    → text ++ follow_said (Some used) size ≡ (text ++ follow_said (Some used) used) ++ (codes ", " ++ (decimal (size - used) ++ codes " bytes follow"))
+behind text used size low =
+    follows text used size low ∙ ap (λ (t : List ℕ). t ++ (codes ", " ++ (decimal (size - used) ++ codes " bytes follow"))) (sym (whole text used))
 
 -- ---- names
 

@@ -1,27 +1,38 @@
 -- The phrases of packets of ports 138 and 139, and of requests and responses of port 137.
-use Rattle.std.proofs.Common.{◌≡◌, ◌==◌, ℕ, ◌+◌, ◌*◌, ◌^◌, ◌<◌, Bool, true, false, List, [], ◌∷◌, ◌++◌, length, codes, Option, Some, None, refl, ap, ◌∙◌, if◌then◌else◌}
+use Rattle.std.proofs.Common.{◌≡◌, ◌==◌, ℕ, ◌+◌, ◌-◌, ◌*◌, ◌^◌, ◌<◌, Bool, true, false, List, [], ◌∷◌, ◌++◌, length, take, codes, Option, Some, None, refl, ap, ap₂, ◌∙◌, arith, if◌then◌else◌}
 use Rattle.std.specs.Fmt.{decimal}
 use Rattle.std.specs.Int.{w16, from_be_bytes, to_be_bytes}
 use Rattle.nb_names.specs.Addresses.{address_text}
 use Rattle.nb_names.specs.Name.{NetbiosName, IsName, labels_of_name}
-use Rattle.nb_names.specs.NameText.{labels_written, written}
+use Rattle.nb_names.specs.NameText.{digits_of, labels_written, written}
+use Rattle.nb_names.specs.DomainName.{IsDomain, AreByteLabels}
+use Rattle.std.proofs.lemmas.List.{append-nil, length-append}
+use Rattle.std.proofs.Math.Seq.{take-append_seam}
+use Rattle.nb_session.specs.declared.packet.Packet.{Packet as SessionPacket}
 use Rattle.nb_session.specs.declared.packet.Packet.TheVariants as sessions
-use Rattle.nb_session.specs.declared.parsing.Parsed.TheVariants.{Whole}
+use Rattle.nb_session.specs.declared.parsing.Parsed.TheVariants.{Whole, More}
 use Rattle.nb_datagram.specs.declared.key.Key.{Key}
 use Rattle.nb_datagram.specs.declared.kind.Kind.{Kind}
 use Rattle.nb_datagram.specs.declared.kind.Kind.TheVariants.{Unique, Group, Broadcast}
-use Rattle.nb_datagram.specs.declared.packet.Packet.TheVariants.{Direct}
+use Rattle.nb_datagram.specs.declared.packet.Packet.TheVariants.{Direct, Error, Query}
+use Rattle.nb_datagram.specs.declared.packet.QueryKind.{QueryKind}
+use Rattle.nb_datagram.specs.declared.packet.QueryKind.TheVariants as queries
 use Rattle.nb_datagram.specs.Fragment.{FragmentParts, has_more}
 use Rattle.nb_service.specs.Requests.{query_packet, status_packet, registration_packet, refresh_packet, release_packet, claim}
 use Rattle.nb_service.specs.Building.{packet_of}
 use Rattle.nb_service.specs.Packet.{ServicePacket}
-use Rattle.nb_service.specs.Record.{of_bytes, record_of}
+use Rattle.nb_service.specs.Record.{of_bytes, of_domain, record_of}
 use Rattle.nb_text.specs.DatagramFields.{datagram_fields}
 use Rattle.nb_text.specs.ServiceFields.{service_fields}
 use Rattle.nb_text.specs.SessionFields.{session_fields}
-use Rattle.nb_text.specs.Noted.{first_text}
-use Rattle.nb_text.specs.Said.{said, name_said, follow_said}
-use Rattle.nb_text.proofs.PhraseLemmas.{not_zero, if_true, if_false, whole, name_once, name_twice, read_twice, for_whom, at_place, held, named, named_last}
+use Rattle.nb_text.specs.Kinds.{is_text}
+use Rattle.nb_text.specs.LineFields.{refused_fields}
+use Rattle.nb_text.specs.Noted.{first_text, without_end}
+use Rattle.nb_text.specs.Said.{error_said, refusal_said, said, name_said, follow_said}
+use Rattle.nb_text.proofs.FieldLemmas.{labels_word}
+use Rattle.nb_text.proofs.LabelLemmas.{name_written}
+use Rattle.nb_text.proofs.TextTests.{is_so}
+use Rattle.nb_text.proofs.PhraseLemmas.{behind, first_stays, said_so, some_written, not_zero, if_true, if_false, whole, name_once, name_twice, read_twice, for_whom, at_place, held, named, named_last}
 
 -- ---- port 139
 
@@ -214,10 +225,10 @@ pub grant_said : (id used ttl flags a b c d : ℕ) (name : NetbiosName) → IsNa
     ≡ claims (codes "grants ") name flags (a ∷ b ∷ c ∷ d ∷ []) ttl
 grant_said id used ttl flags a b c d name is low = granted (codes "grants ") name flags a b c d ttl used is low
 
-pub refusal_said : (id used ttl flags a b c d : ℕ) (name : NetbiosName) → IsName name
+pub denial_said : (id used ttl flags a b c d : ℕ) (name : NetbiosName) → IsName name
     → said (service_fields (answering id 44422 name 32 ttl (entry_for flags a b c d)) used) used
     ≡ codes "refuses " ++ (written name ++ codes ": owned by another node (ACT_ERR)")
-refusal_said id used ttl flags a b c d name is =
+denial_said id used ttl flags a b c d name is =
     named (codes "refuses ") _ (written name) (codes ": owned by another node (ACT_ERR)") used (name_once name is)
 
 pub challenge_said : (id used ttl flags a b c d : ℕ) (name : NetbiosName) → IsName name
@@ -245,3 +256,84 @@ pub wait_said : (id used ttl high low : ℕ) (name : NetbiosName) → IsName nam
     → said (service_fields (answering id 48128 name 32 ttl (high ∷ low ∷ [])) used) used
     ≡ codes "asks to wait for " ++ (written name ++ for_seconds ttl)
 wait_said id used ttl high low name is = named (codes "asks to wait for ") _ (written name) (for_seconds ttl) used (name_once name is)
+
+-- ---- other packets
+
+-- a code, in words
+coded : (lead words : List ℕ) (code used : ℕ)
+    → (lead ++ (words ++ (codes " (" ++ (digits_of code ++ codes ")")))) ++ follow_said (Some used) used
+    ≡ lead ++ (words ++ (codes " (" ++ (digits_of code ++ codes ")")))
+coded lead words code used = whole (lead ++ (words ++ (codes " (" ++ (digits_of code ++ codes ")")))) used
+
+pub error_so : (flags code used : ℕ) (key : Key)
+    → said (datagram_fields (Error (record { flags = flags; key = key; code = code })) used) used
+    ≡ codes "error: " ++ (error_said code ++ (codes " (" ++ (digits_of code ++ codes ")")))
+error_so flags code used key = coded (codes "error: ") (error_said code) code used
+
+pub negative_so : (code used : ℕ)
+    → said (session_fields (Whole (sessions.Negative code) used)) used
+    ≡ codes "refuses: " ++ (refusal_said code ++ (codes " (" ++ (digits_of code ++ codes ")")))
+negative_so code used = coded (codes "refuses: ") (refusal_said code) code used
+
+-- a question whether datagrams are relayed, and its answers
+abbrev pub relay_lead : QueryKind → List ℕ
+relay_lead queries.Request = codes "asks whether datagrams are relayed to "
+relay_lead queries.Positive = codes "answers: datagrams are relayed to "
+relay_lead queries.Negative = codes "answers: no datagrams are relayed to "
+
+pub relay_said : (kind : QueryKind) (flags used : ℕ) (key : Key) (destination : NetbiosName)
+    → said (datagram_fields (Query (record { kind = kind; flags = flags; key = key; destination = destination })) used) used
+    ≡ relay_lead kind ++ written destination
+relay_said queries.Request flags used key destination = whole (codes "asks whether datagrams are relayed to " ++ written destination) used
+relay_said queries.Positive flags used key destination = whole (codes "answers: datagrams are relayed to " ++ written destination) used
+relay_said queries.Negative flags used key destination = whole (codes "answers: no datagrams are relayed to " ++ written destination) used
+
+-- a packet of a session, after which bytes follow
+pub session_follows : (packet : SessionPacket) (used size : ℕ) → used < size
+    → said (session_fields (Whole packet used)) size
+    ≡ said (session_fields (Whole packet used)) used ++ (codes ", " ++ (decimal (size - used) ++ codes " bytes follow"))
+session_follows (sessions.Message bytes) used size low = behind (codes "sends " ++ (decimal (length bytes) ++ codes " bytes")) used size low
+session_follows (sessions.Request called calling) used size low =
+    behind (codes "calls " ++ (written called ++ (codes " as " ++ written calling))) used size low
+session_follows sessions.Positive used size low = behind (codes "accepts") used size low
+session_follows (sessions.Negative code) used size low =
+    behind (codes "refuses: " ++ (refusal_said code ++ (codes " (" ++ (digits_of code ++ codes ")")))) used size low
+session_follows (sessions.Retarget address port) used size low =
+    behind (codes "sends the caller to " ++ (address_text address ++ (codes ", port " ++ decimal port))) used size low
+session_follows sessions.Keepalive used size low = behind (codes "keeps the session alive") used size low
+
+-- a name server is to be asked: its name and address, beside the name
+pub redirect_said : (id used ttl other a b c d : ℕ) (name : NetbiosName) (server : List (List ℕ)) → IsName name → IsDomain server → AreByteLabels server
+    → said (service_fields (packet_of id 33024 [] [] (record_of (labels_of_name name) 2 1 ttl (of_domain server) ∷ [])
+    (record_of server 1 1 other (of_bytes (a ∷ b ∷ c ∷ d ∷ [])) ∷ [])) used) used
+    ≡ codes "answers: " ++ (written name ++ (codes " is known to " ++ (labels_written server ++ (codes " at " ++ address_text (a ∷ b ∷ c ∷ d ∷ [])))))
+redirect_said id used ttl other a b c d name server is domain bytes =
+    whole (codes "answers: " ++ (name_said (first_text (labels_written (labels_of_name name)) (labels_written server))
+    ++ (codes " is known to " ++ (name_said (labels_written server) ++ (codes " at " ++ address_text (a ∷ b ∷ c ∷ d ∷ [])))))) used
+    ∙ ap₂ (λ (t s : List ℕ). codes "answers: " ++ (t ++ (codes " is known to " ++ (s ++ (codes " at " ++ address_text (a ∷ b ∷ c ∷ d ∷ []))))))
+    (ap (λ (t : List ℕ). name_said (first_text t (labels_written server))) (name_written name is)
+    ∙ ap name_said (first_stays (written name) (labels_written server) (some_written name)) ∙ said_so (written name) (some_written name))
+    (said_so (labels_written server) (labels_word server domain bytes).0)
+
+-- ---- no packet
+
+-- a text without its end
+pub end_off : (front ending : List ℕ) → without_end (front ++ ending) ending ≡ front
+end_off front ending =
+    let size : length (front ++ ending) - length ending ≡ length front = omega (arith, length-append front ending) in
+    let cut : take (length (front ++ ending) - length ending) (front ++ ending) ≡ front =
+        ap (λ (n : ℕ). take n (front ++ ending)) size ∙ take-append_seam front ending in
+    if_true (is_text (take (length (front ++ ending) - length ending) (front ++ ending) ++ ending) (front ++ ending)) _ _
+    (is_so _ (front ++ ending) (ap (λ (t : List ℕ). t ++ ending) cut)) ∙ cut
+
+pub refused_said : (fault : List ℕ) (place size : ℕ)
+    → said (refused_fields (fault ++ 32 ∷ decimal place) (Some place)) size ≡ codes "refused: " ++ (fault ++ (codes ", at byte " ++ decimal place))
+refused_said fault place size =
+    append-nil (codes "refused: " ++ (without_end (fault ++ 32 ∷ decimal place) (32 ∷ decimal place) ++ (codes ", at byte " ++ decimal place)))
+    ∙ ap (λ (t : List ℕ). codes "refused: " ++ (t ++ (codes ", at byte " ++ decimal place))) (end_off fault (32 ∷ decimal place))
+
+pub unplaced_said : (fault : List ℕ) (size : ℕ) → said (refused_fields fault None) size ≡ codes "refused: " ++ fault
+unplaced_said fault size = append-nil (codes "refused: " ++ fault)
+
+pub front_lacks : (needed size : ℕ) → said (session_fields (More needed)) size ≡ codes "begins a packet that lacks " ++ (decimal needed ++ codes " bytes")
+front_lacks needed size = append-nil (codes "begins a packet that lacks " ++ (decimal needed ++ codes " bytes"))

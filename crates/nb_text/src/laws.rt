@@ -41,9 +41,13 @@ ghost use Rattle.nb_text.specs.Shown.{Shown};
 ghost use Rattle.nb_text.specs.Tells.{Tells};
 ghost use Rattle.nb_text.specs.Words.{flag, name_flags, operation_word, packet_flags, query_word, rcode_word, set_text};
 
+mod endings;
+mod first_names;
 mod phrases;
 mod responses;
 
+pub use endings::{codes_in_words, redirects_in_words, refusals_in_words, relays_in_words};
+pub use first_names::names_in_words;
 pub use phrases::{datagrams_in_words, requests_in_words, sessions_in_words};
 pub use responses::{answers_in_words, outcomes_in_words};
 

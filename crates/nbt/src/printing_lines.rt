@@ -21,15 +21,15 @@ use std::mem;
 
 /// What the lines of a capture are shown on, with these comments, payloads in this form.
 #[derive(Drop)]
-struct ShownLines<'a, W, P> {
+struct ShownLines<'a, 'b, W, P> {
     comments: Comments,
     form: &'a mut P,
     /// The text of a line is made in this.
     text: &'a mut String,
-    output: &'a mut Counted<W>,
+    output: &'b mut Counted<W>,
 }
 
-impl<'a, W: Write, P: PayloadText> LineTaker for ShownLines<'a, W, P> {
+impl<'a, 'b, W: Write, P: PayloadText> LineTaker for ShownLines<'a, 'b, W, P> {
     ghost use Rattle.std.specs.Prelude.{ℕ};
     ghost use Rattle.nb_names.specs.Counted.{CountedOf};
     ghost use Rattle.nb_member.specs.declared.comments.Comments.{Comments};

@@ -35,28 +35,32 @@ pub fn requests_in_words()
             (to_be_bytes w16 flags ++ a ∷ b ∷ c ∷ d ∷ [])) used) used
         ≡ codes "claims " ++ (written name
             ++ ((if is_set flags 32768 then codes " as a group for " else codes " for ")
-            ++ (address_text (a ∷ b ∷ c ∷ d ∷ []) ++ (codes ", for " ++ (decimal ttl ++ codes " s"))))) }
+            ++ (address_text (a ∷ b ∷ c ∷ d ∷ [])
+            ++ (codes ", for " ++ (decimal ttl ++ codes " s"))))) }
     ensures overwrites { (id used ttl flags a b c d : ℕ) (name : NetbiosName) → IsName name →
         flags < 65536 →
         said (service_fields (claim id 10240 name ttl
             (to_be_bytes w16 flags ++ a ∷ b ∷ c ∷ d ∷ [])) used) used
         ≡ codes "overwrites " ++ (written name
             ++ ((if is_set flags 32768 then codes " as a group for " else codes " for ")
-            ++ (address_text (a ∷ b ∷ c ∷ d ∷ []) ++ (codes ", for " ++ (decimal ttl ++ codes " s"))))) }
+            ++ (address_text (a ∷ b ∷ c ∷ d ∷ [])
+            ++ (codes ", for " ++ (decimal ttl ++ codes " s"))))) }
     ensures several { (id used ttl flags a b c d : ℕ) (name : NetbiosName) → IsName name →
         flags < 65536 →
         said (service_fields (claim id 30976 name ttl
             (to_be_bytes w16 flags ++ a ∷ b ∷ c ∷ d ∷ [])) used) used
         ≡ codes "claims as one of several addresses " ++ (written name
             ++ ((if is_set flags 32768 then codes " as a group for " else codes " for ")
-            ++ (address_text (a ∷ b ∷ c ∷ d ∷ []) ++ (codes ", for " ++ (decimal ttl ++ codes " s"))))) }
+            ++ (address_text (a ∷ b ∷ c ∷ d ∷ [])
+            ++ (codes ", for " ++ (decimal ttl ++ codes " s"))))) }
     ensures refreshes { (id used ttl flags a b c d : ℕ) (name : NetbiosName)
         (broadcast : Bool) → IsName name → flags < 65536 →
         said (service_fields (refresh_packet id name broadcast ttl
             (to_be_bytes w16 flags ++ a ∷ b ∷ c ∷ d ∷ [])) used) used
         ≡ codes "refreshes " ++ (written name
             ++ ((if is_set flags 32768 then codes " as a group for " else codes " for ")
-            ++ (address_text (a ∷ b ∷ c ∷ d ∷ []) ++ (codes ", for " ++ (decimal ttl ++ codes " s"))))) }
+            ++ (address_text (a ∷ b ∷ c ∷ d ∷ [])
+            ++ (codes ", for " ++ (decimal ttl ++ codes " s"))))) }
     ensures releases { (id used flags a b c d : ℕ) (name : NetbiosName) (broadcast : Bool) →
         IsName name → flags < 65536 →
         said (service_fields (release_packet id name broadcast
@@ -92,14 +96,16 @@ pub fn datagrams_in_words()
     ensures front { (flags used offset : ℕ) (key : Key) (source destination : NetbiosName)
         (bytes : List ℕ) → has_more flags ≡ true →
         said (datagram_fields (Direct (record { kind = Unique; flags = flags; key = key;
-            offset = offset; source = source; destination = destination; bytes = bytes })) used) used
+            offset = offset; source = source; destination = destination; bytes = bytes }))
+            used) used
         ≡ codes "datagram from " ++ (written source ++ (codes " to " ++ (written destination
             ++ (codes ", " ++ (decimal (length bytes) ++ (codes " bytes at offset "
             ++ (decimal offset ++ codes " of one that goes on"))))))) }
     ensures last { (flags used offset : ℕ) (key : Key) (source destination : NetbiosName)
         (bytes : List ℕ) → has_more flags ≡ false → 0 < offset →
         said (datagram_fields (Direct (record { kind = Unique; flags = flags; key = key;
-            offset = offset; source = source; destination = destination; bytes = bytes })) used) used
+            offset = offset; source = source; destination = destination; bytes = bytes }))
+            used) used
         ≡ codes "datagram from " ++ (written source ++ (codes " to " ++ (written destination
             ++ (codes ", " ++ (decimal (length bytes) ++ (codes " bytes at offset "
             ++ (decimal offset ++ codes ", the last"))))))) }

@@ -43,7 +43,8 @@ pub fn outcomes_in_words()
             (of_bytes (to_be_bytes w16 flags ++ a ∷ b ∷ c ∷ d ∷ [])) ∷ []) [] []) used) used
         ≡ codes "grants " ++ (written name
             ++ ((if is_set flags 32768 then codes " as a group for " else codes " for ")
-            ++ (address_text (a ∷ b ∷ c ∷ d ∷ []) ++ (codes ", for " ++ (decimal ttl ++ codes " s"))))) }
+            ++ (address_text (a ∷ b ∷ c ∷ d ∷ [])
+            ++ (codes ", for " ++ (decimal ttl ++ codes " s"))))) }
     ensures refused { (id used ttl flags a b c d : ℕ) (name : NetbiosName) → IsName name →
         said (service_fields (packet_of id 44422 [] (record_of (labels_of_name name) 32 1 ttl
             (of_bytes (to_be_bytes w16 flags ++ a ∷ b ∷ c ∷ d ∷ [])) ∷ []) [] []) used) used

@@ -4,8 +4,7 @@ use Rattle.std.proofs.lemmas.List.{append-nil}
 use Rattle.std.proofs.lemmas.Result.{on_ok_weaker}
 use Rattle.nb_service.specs.Flags.{opcode_of}
 use Rattle.nb_text.specs.declared.brief.facts.Facts.{Facts}
-use Rattle.nb_text.specs.declared.brief.form.Form.{Form}
-use Rattle.nb_text.specs.Said.{ending}
+use Rattle.nb_text.proofs.PushLemmas.{other_ending}
 use Rattle.nb_text.proofs.brief.services.push_ending.Goals as goal
 
 pub returns-in-OtherRequest-clause-added : goal.returns-in-OtherRequest-clause-added
@@ -15,5 +14,5 @@ returns-in-OtherRequest-clause-added c =
     (λ added. added
     ∙ ap (λ (t : List ℕ). old ++ (codes ", operation " ++ t))
     (append-nil (decimal c.from.result) ∙ ap decimal (c.from.ensures ∙ c.opcode.ensures ∙ ap (λ (f : Facts). opcode_of f.word) c.facts-word.ensures))
-    ∙ ap (λ (form : Form). old ++ ending form c.args.notes.now) (sym c.in-OtherRequest.is))
+    ∙ ap (λ (t : List ℕ). old ++ t) (sym (other_ending c.args.form c.args.notes.now c.in-OtherRequest.is)))
     c.push_count.ensures.added

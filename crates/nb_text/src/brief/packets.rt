@@ -42,8 +42,10 @@ pub fn push_datagram(lead: &str, notes: &Notes, text: &mut String) -> Result<(),
         ≡ string_bytes text.old ++ datagram_said lead.now notes.now) }
     ensures front { OnlyAdds (string_bytes text.old) (string_bytes text.new) }
 {
-    push_both(lead, notes.name(), text)?;
-    push_both(" to ", notes.other(), text)?;
+    let source = notes.name();
+    let destination = notes.other();
+    push_both(lead, source, text)?;
+    push_both(" to ", destination, text)?;
     push_extent(&notes.facts(), text)
 }
 

@@ -262,10 +262,10 @@ phrase_of n name kind word size h =
     let follow = follow_said n.facts.used size in (
       ending form n ++ follow,
       ap (λ (k : _). kind_said k n ++ follow) h.service
-      ∙ ap₂ (λ (w : ℕ) (t : Option ℕ). service_said (form_of w t) n ++ follow) h.word_is h.first
-      ∙ ap (λ (t : List ℕ). (opening form ++ (t ++ ending form n)) ++ follow) (ap name_said h.named ∙ said_so name h.some)
-      ∙ append_assoc (opening form) (name ++ ending form n) follow
-      ∙ ap (λ (t : List ℕ). opening form ++ t) (append_assoc name (ending form n) follow),
+          ∙ ap₂ (λ (w : ℕ) (t : Option ℕ). service_said (form_of w t) n ++ follow) h.word_is h.first
+          ∙ ap (λ (t : List ℕ). (opening form ++ (t ++ ending form n)) ++ follow) (ap name_said h.named ∙ said_so name h.some)
+          ∙ append_assoc (opening form) (name ++ ending form n) follow
+          ∙ ap (λ (t : List ℕ). opening form ++ t) (append_assoc name (ending form n) follow),
     )
 
 pub first_said : (packet : ServicePacket) (used size : ℕ) (question : Question) (questions : List Question) → packet.questions ≡ question ∷ questions

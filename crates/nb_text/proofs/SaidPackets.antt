@@ -322,7 +322,7 @@ pub end_off : (front ending : List ℕ) → without_end (front ++ ending) ending
 end_off front ending =
     let size : length (front ++ ending) - length ending ≡ length front = omega (arith, length-append front ending) in
     let cut : take (length (front ++ ending) - length ending) (front ++ ending) ≡ front =
-        ap (λ (n : ℕ). take n (front ++ ending)) size ∙ take-append_seam front ending in
+    ap (λ (n : ℕ). take n (front ++ ending)) size ∙ take-append_seam front ending in
     if_true (is_text (take (length (front ++ ending) - length ending) (front ++ ending) ++ ending) (front ++ ending)) _ _
     (is_so _ (front ++ ending) (ap (λ (t : List ℕ). t ++ ending) cut)) ∙ cut
 

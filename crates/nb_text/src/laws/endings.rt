@@ -25,10 +25,10 @@ pub fn redirects_in_words()
     ensures { (id used ttl other a b c d : ℕ) (name : NetbiosName) (server : List (List ℕ)) →
         IsName name → IsDomain server → AreByteLabels server →
         said (service_fields (packet_of id 33024 []
-            [] (record_of (labels_of_name name) 2 1 ttl (of_domain server) ∷ [])
-            (record_of server 1 1 other (of_bytes (a ∷ b ∷ c ∷ d ∷ [])) ∷ [])) used) used
+        [] (record_of (labels_of_name name) 2 1 ttl (of_domain server) ∷ [])
+        (record_of server 1 1 other (of_bytes (a ∷ b ∷ c ∷ d ∷ [])) ∷ [])) used) used
         ≡ codes "answers: " ++ (written name ++ (codes " is known to "
-            ++ (labels_written server ++ (codes " at " ++ address_text (a ∷ b ∷ c ∷ d ∷ []))))) }
+        ++ (labels_written server ++ (codes " at " ++ address_text (a ∷ b ∷ c ∷ d ∷ []))))) }
 {}
 
 /// Codes in words: of an error of port 138 (RFC 1002 section 4.4.3), and of a refused session
@@ -36,16 +36,16 @@ pub fn redirects_in_words()
 pub fn codes_in_words()
     ensures errors { (flags used : ℕ) (key : Key) →
         (said (datagram_fields (Error (record { flags = flags; key = key; code = 130 }))
-            used) used
+        used) used
         ≡ codes "error: no such destination name (82)")
         × (said (datagram_fields (Error (record { flags = flags; key = key; code = 131 }))
-            used) used
+        used) used
         ≡ codes "error: source name of a wrong form (83)")
         × (said (datagram_fields (Error (record { flags = flags; key = key; code = 132 }))
-            used) used
+        used) used
         ≡ codes "error: destination name of a wrong form (84)")
         × (said (datagram_fields (Error (record { flags = flags; key = key; code = 26 }))
-            used) used
+        used) used
         ≡ codes "error: unknown code (1a)") }
     ensures refusals { (used : ℕ) →
         (said (session_fields (Whole (sessions.Negative 128) used)) used
@@ -63,16 +63,28 @@ pub fn codes_in_words()
 /// Queries of port 138 (RFC 1002 section 4.4.4), after which no bytes follow.
 pub fn relays_in_words()
     ensures asked { (flags used : ℕ) (key : Key) (destination : NetbiosName) →
-        said (datagram_fields (Query (record { kind = queries.Request; flags = flags; key = key;
-            destination = destination })) used) used
+        said (datagram_fields (Query (record {
+          kind = queries.Request;
+          flags = flags;
+          key = key;
+          destination = destination;
+        })) used) used
         ≡ codes "asks whether datagrams are relayed to " ++ written destination }
     ensures relayed { (flags used : ℕ) (key : Key) (destination : NetbiosName) →
-        said (datagram_fields (Query (record { kind = queries.Positive; flags = flags; key = key;
-            destination = destination })) used) used
+        said (datagram_fields (Query (record {
+          kind = queries.Positive;
+          flags = flags;
+          key = key;
+          destination = destination;
+        })) used) used
         ≡ codes "answers: datagrams are relayed to " ++ written destination }
     ensures not_relayed { (flags used : ℕ) (key : Key) (destination : NetbiosName) →
-        said (datagram_fields (Query (record { kind = queries.Negative; flags = flags; key = key;
-            destination = destination })) used) used
+        said (datagram_fields (Query (record {
+          kind = queries.Negative;
+          flags = flags;
+          key = key;
+          destination = destination;
+        })) used) used
         ≡ codes "answers: no datagrams are relayed to " ++ written destination }
 {}
 
@@ -89,5 +101,5 @@ pub fn refusals_in_words()
     ensures followed { (packet : SessionPacket) (used size : ℕ) → used < size →
         said (session_fields (Whole packet used)) size
         ≡ said (session_fields (Whole packet used)) used
-            ++ (codes ", " ++ (decimal (size - used) ++ codes " bytes follow")) }
+        ++ (codes ", " ++ (decimal (size - used) ++ codes " bytes follow")) }
 {}

@@ -18,5 +18,5 @@ pub fn names_in_words()
         AreByteLabels question.name →
         (behind : List ℕ) × (said (service_fields packet used) size
         ≡ opening (form_of packet.word (Some question.kind))
-            ++ (labels_written question.name ++ behind)) }
+        ++ (labels_written question.name ++ behind)) }
 {}

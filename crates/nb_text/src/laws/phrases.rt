@@ -32,42 +32,42 @@ pub fn requests_in_words()
     ensures registrations { (id used ttl flags a b c d : ℕ) (name : NetbiosName)
         (broadcast : Bool) → IsName name → flags < 65536 →
         said (service_fields (registration_packet id name broadcast ttl
-            (to_be_bytes w16 flags ++ a ∷ b ∷ c ∷ d ∷ [])) used) used
+        (to_be_bytes w16 flags ++ a ∷ b ∷ c ∷ d ∷ [])) used) used
         ≡ codes "claims " ++ (written name
-            ++ ((if is_set flags 32768 then codes " as a group for " else codes " for ")
-            ++ (address_text (a ∷ b ∷ c ∷ d ∷ [])
-            ++ (codes ", for " ++ (decimal ttl ++ codes " s"))))) }
+        ++ ((if is_set flags 32768 then codes " as a group for " else codes " for ")
+        ++ (address_text (a ∷ b ∷ c ∷ d ∷ [])
+        ++ (codes ", for " ++ (decimal ttl ++ codes " s"))))) }
     ensures overwrites { (id used ttl flags a b c d : ℕ) (name : NetbiosName) → IsName name →
         flags < 65536 →
         said (service_fields (claim id 10240 name ttl
-            (to_be_bytes w16 flags ++ a ∷ b ∷ c ∷ d ∷ [])) used) used
+        (to_be_bytes w16 flags ++ a ∷ b ∷ c ∷ d ∷ [])) used) used
         ≡ codes "overwrites " ++ (written name
-            ++ ((if is_set flags 32768 then codes " as a group for " else codes " for ")
-            ++ (address_text (a ∷ b ∷ c ∷ d ∷ [])
-            ++ (codes ", for " ++ (decimal ttl ++ codes " s"))))) }
+        ++ ((if is_set flags 32768 then codes " as a group for " else codes " for ")
+        ++ (address_text (a ∷ b ∷ c ∷ d ∷ [])
+        ++ (codes ", for " ++ (decimal ttl ++ codes " s"))))) }
     ensures several { (id used ttl flags a b c d : ℕ) (name : NetbiosName) → IsName name →
         flags < 65536 →
         said (service_fields (claim id 30976 name ttl
-            (to_be_bytes w16 flags ++ a ∷ b ∷ c ∷ d ∷ [])) used) used
+        (to_be_bytes w16 flags ++ a ∷ b ∷ c ∷ d ∷ [])) used) used
         ≡ codes "claims as one of several addresses " ++ (written name
-            ++ ((if is_set flags 32768 then codes " as a group for " else codes " for ")
-            ++ (address_text (a ∷ b ∷ c ∷ d ∷ [])
-            ++ (codes ", for " ++ (decimal ttl ++ codes " s"))))) }
+        ++ ((if is_set flags 32768 then codes " as a group for " else codes " for ")
+        ++ (address_text (a ∷ b ∷ c ∷ d ∷ [])
+        ++ (codes ", for " ++ (decimal ttl ++ codes " s"))))) }
     ensures refreshes { (id used ttl flags a b c d : ℕ) (name : NetbiosName)
         (broadcast : Bool) → IsName name → flags < 65536 →
         said (service_fields (refresh_packet id name broadcast ttl
-            (to_be_bytes w16 flags ++ a ∷ b ∷ c ∷ d ∷ [])) used) used
+        (to_be_bytes w16 flags ++ a ∷ b ∷ c ∷ d ∷ [])) used) used
         ≡ codes "refreshes " ++ (written name
-            ++ ((if is_set flags 32768 then codes " as a group for " else codes " for ")
-            ++ (address_text (a ∷ b ∷ c ∷ d ∷ [])
-            ++ (codes ", for " ++ (decimal ttl ++ codes " s"))))) }
+        ++ ((if is_set flags 32768 then codes " as a group for " else codes " for ")
+        ++ (address_text (a ∷ b ∷ c ∷ d ∷ [])
+        ++ (codes ", for " ++ (decimal ttl ++ codes " s"))))) }
     ensures releases { (id used flags a b c d : ℕ) (name : NetbiosName) (broadcast : Bool) →
         IsName name → flags < 65536 →
         said (service_fields (release_packet id name broadcast
-            (to_be_bytes w16 flags ++ a ∷ b ∷ c ∷ d ∷ [])) used) used
+        (to_be_bytes w16 flags ++ a ∷ b ∷ c ∷ d ∷ [])) used) used
         ≡ codes "releases " ++ (written name
-            ++ ((if is_set flags 32768 then codes " as a group for " else codes " for ")
-            ++ address_text (a ∷ b ∷ c ∷ d ∷ []))) }
+        ++ ((if is_set flags 32768 then codes " as a group for " else codes " for ")
+        ++ address_text (a ∷ b ∷ c ∷ d ∷ []))) }
 {}
 
 /// Datagrams of port 138 (RFC 1002 sections 4.4.1 and 4.4.2), after which no bytes follow: who
@@ -75,40 +75,75 @@ pub fn requests_in_words()
 pub fn datagrams_in_words()
     ensures unique { (flags used : ℕ) (key : Key) (source destination : NetbiosName)
         (bytes : List ℕ) → has_more flags ≡ false →
-        said (datagram_fields (Direct (record { kind = Unique; flags = flags; key = key;
-            offset = 0; source = source; destination = destination; bytes = bytes })) used) used
+        said (datagram_fields (Direct (record {
+          kind = Unique;
+          flags = flags;
+          key = key;
+          offset = 0;
+          source = source;
+          destination = destination;
+          bytes = bytes;
+        })) used) used
         ≡ codes "datagram from " ++ (written source ++ (codes " to " ++ (written destination
-            ++ (codes ", " ++ (decimal (length bytes) ++ codes " bytes"))))) }
+        ++ (codes ", " ++ (decimal (length bytes) ++ codes " bytes"))))) }
     ensures group { (flags used : ℕ) (key : Key) (source destination : NetbiosName)
         (bytes : List ℕ) → has_more flags ≡ false →
-        said (datagram_fields (Direct (record { kind = Group; flags = flags; key = key;
-            offset = 0; source = source; destination = destination; bytes = bytes })) used) used
+        said (datagram_fields (Direct (record {
+          kind = Group;
+          flags = flags;
+          key = key;
+          offset = 0;
+          source = source;
+          destination = destination;
+          bytes = bytes;
+        })) used) used
         ≡ codes "group datagram from " ++ (written source ++ (codes " to "
-            ++ (written destination ++ (codes ", " ++ (decimal (length bytes)
-            ++ codes " bytes"))))) }
+        ++ (written destination ++ (codes ", " ++ (decimal (length bytes)
+        ++ codes " bytes"))))) }
     ensures broadcast { (flags used : ℕ) (key : Key) (source destination : NetbiosName)
         (bytes : List ℕ) → has_more flags ≡ false →
-        said (datagram_fields (Direct (record { kind = Broadcast; flags = flags; key = key;
-            offset = 0; source = source; destination = destination; bytes = bytes })) used) used
+        said (datagram_fields (Direct (record {
+          kind = Broadcast;
+          flags = flags;
+          key = key;
+          offset = 0;
+          source = source;
+          destination = destination;
+          bytes = bytes;
+        })) used) used
         ≡ codes "broadcast datagram from " ++ (written source ++ (codes " to "
-            ++ (written destination ++ (codes ", " ++ (decimal (length bytes)
-            ++ codes " bytes"))))) }
+        ++ (written destination ++ (codes ", " ++ (decimal (length bytes)
+        ++ codes " bytes"))))) }
     ensures front { (flags used offset : ℕ) (key : Key) (source destination : NetbiosName)
         (bytes : List ℕ) → has_more flags ≡ true →
-        said (datagram_fields (Direct (record { kind = Unique; flags = flags; key = key;
-            offset = offset; source = source; destination = destination; bytes = bytes }))
-            used) used
+        said (datagram_fields (Direct (record {
+          kind = Unique;
+          flags = flags;
+          key = key;
+          offset = offset;
+          source = source;
+          destination = destination;
+          bytes = bytes;
+        }))
+        used) used
         ≡ codes "datagram from " ++ (written source ++ (codes " to " ++ (written destination
-            ++ (codes ", " ++ (decimal (length bytes) ++ (codes " bytes at offset "
-            ++ (decimal offset ++ codes " of one that goes on"))))))) }
+        ++ (codes ", " ++ (decimal (length bytes) ++ (codes " bytes at offset "
+        ++ (decimal offset ++ codes " of one that goes on"))))))) }
     ensures last { (flags used offset : ℕ) (key : Key) (source destination : NetbiosName)
         (bytes : List ℕ) → has_more flags ≡ false → 0 < offset →
-        said (datagram_fields (Direct (record { kind = Unique; flags = flags; key = key;
-            offset = offset; source = source; destination = destination; bytes = bytes }))
-            used) used
+        said (datagram_fields (Direct (record {
+          kind = Unique;
+          flags = flags;
+          key = key;
+          offset = offset;
+          source = source;
+          destination = destination;
+          bytes = bytes;
+        }))
+        used) used
         ≡ codes "datagram from " ++ (written source ++ (codes " to " ++ (written destination
-            ++ (codes ", " ++ (decimal (length bytes) ++ (codes " bytes at offset "
-            ++ (decimal offset ++ codes ", the last"))))))) }
+        ++ (codes ", " ++ (decimal (length bytes) ++ (codes " bytes at offset "
+        ++ (decimal offset ++ codes ", the last"))))))) }
 {}
 
 /// Packets of port 139, after which no bytes follow (RFC 1002 section 4.3): a request says who is
@@ -125,7 +160,7 @@ pub fn sessions_in_words()
     ensures retargets { (address : List ℕ) (port used : ℕ) →
         said (session_fields (Whole (sessions.Retarget address port) used)) used
         ≡ codes "sends the caller to " ++ (address_text address
-            ++ (codes ", port " ++ decimal port)) }
+        ++ (codes ", port " ++ decimal port)) }
     ensures keepalives { (used : ℕ) →
         said (session_fields (Whole sessions.Keepalive used)) used
         ≡ codes "keeps the session alive" }

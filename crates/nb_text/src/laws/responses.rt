@@ -19,15 +19,15 @@ pub fn answers_in_words()
     ensures found { (id used ttl flags others a b c d e f g h : ℕ) (name : NetbiosName) →
         IsName name → flags < 65536 →
         said (service_fields (packet_of id 34176 [] (record_of (labels_of_name name) 32 1 ttl
-            (of_bytes ((to_be_bytes w16 flags ++ a ∷ b ∷ c ∷ d ∷ [])
-            ++ (to_be_bytes w16 others ++ e ∷ f ∷ g ∷ h ∷ []))) ∷ []) [] []) used) used
+        (of_bytes ((to_be_bytes w16 flags ++ a ∷ b ∷ c ∷ d ∷ [])
+        ++ (to_be_bytes w16 others ++ e ∷ f ∷ g ∷ h ∷ []))) ∷ []) [] []) used) used
         ≡ codes "answers: " ++ (written name
-            ++ ((if is_set flags 32768 then codes " is a group at " else codes " is at ")
-            ++ (address_text (a ∷ b ∷ c ∷ d ∷ []) ++ (codes ", "
-            ++ address_text (e ∷ f ∷ g ∷ h ∷ []))))) }
+        ++ ((if is_set flags 32768 then codes " is a group at " else codes " is at ")
+        ++ (address_text (a ∷ b ∷ c ∷ d ∷ []) ++ (codes ", "
+        ++ address_text (e ∷ f ∷ g ∷ h ∷ []))))) }
     ensures absent { (id used ttl : ℕ) (name : NetbiosName) → IsName name →
         said (service_fields (packet_of id 34179 [] (record_of (labels_of_name name) 10 1 ttl
-            (of_bytes []) ∷ []) [] []) used) used
+        (of_bytes []) ∷ []) [] []) used) used
         ≡ codes "answers: " ++ (written name ++ codes " is not found: no such name (NAM_ERR)") }
 {}
 
@@ -40,36 +40,36 @@ pub fn outcomes_in_words()
     ensures granted { (id used ttl flags a b c d : ℕ) (name : NetbiosName) → IsName name →
         flags < 65536 →
         said (service_fields (packet_of id 44416 [] (record_of (labels_of_name name) 32 1 ttl
-            (of_bytes (to_be_bytes w16 flags ++ a ∷ b ∷ c ∷ d ∷ [])) ∷ []) [] []) used) used
+        (of_bytes (to_be_bytes w16 flags ++ a ∷ b ∷ c ∷ d ∷ [])) ∷ []) [] []) used) used
         ≡ codes "grants " ++ (written name
-            ++ ((if is_set flags 32768 then codes " as a group for " else codes " for ")
-            ++ (address_text (a ∷ b ∷ c ∷ d ∷ [])
-            ++ (codes ", for " ++ (decimal ttl ++ codes " s"))))) }
+        ++ ((if is_set flags 32768 then codes " as a group for " else codes " for ")
+        ++ (address_text (a ∷ b ∷ c ∷ d ∷ [])
+        ++ (codes ", for " ++ (decimal ttl ++ codes " s"))))) }
     ensures refused { (id used ttl flags a b c d : ℕ) (name : NetbiosName) → IsName name →
         said (service_fields (packet_of id 44422 [] (record_of (labels_of_name name) 32 1 ttl
-            (of_bytes (to_be_bytes w16 flags ++ a ∷ b ∷ c ∷ d ∷ [])) ∷ []) [] []) used) used
+        (of_bytes (to_be_bytes w16 flags ++ a ∷ b ∷ c ∷ d ∷ [])) ∷ []) [] []) used) used
         ≡ codes "refuses " ++ (written name ++ codes ": owned by another node (ACT_ERR)") }
     ensures challenged { (id used ttl flags a b c d : ℕ) (name : NetbiosName) → IsName name →
         said (service_fields (packet_of id 44288 [] (record_of (labels_of_name name) 32 1 ttl
-            (of_bytes (to_be_bytes w16 flags ++ a ∷ b ∷ c ∷ d ∷ [])) ∷ []) [] []) used) used
+        (of_bytes (to_be_bytes w16 flags ++ a ∷ b ∷ c ∷ d ∷ [])) ∷ []) [] []) used) used
         ≡ codes "asks to challenge " ++ (written name
-            ++ (codes " at " ++ address_text (a ∷ b ∷ c ∷ d ∷ []))) }
+        ++ (codes " at " ++ address_text (a ∷ b ∷ c ∷ d ∷ []))) }
     ensures conflicts { (id used ttl flags a b c d : ℕ) (name : NetbiosName) → IsName name →
         said (service_fields (packet_of id 44423 [] (record_of (labels_of_name name) 32 1 ttl
-            (of_bytes (to_be_bytes w16 flags ++ a ∷ b ∷ c ∷ d ∷ [])) ∷ []) [] []) used) used
+        (of_bytes (to_be_bytes w16 flags ++ a ∷ b ∷ c ∷ d ∷ [])) ∷ []) [] []) used) used
         ≡ codes "conflict about " ++ written name }
     ensures released { (id used ttl flags a b c d : ℕ) (name : NetbiosName) → IsName name →
         said (service_fields (packet_of id 46080 [] (record_of (labels_of_name name) 32 1 ttl
-            (of_bytes (to_be_bytes w16 flags ++ a ∷ b ∷ c ∷ d ∷ [])) ∷ []) [] []) used) used
+        (of_bytes (to_be_bytes w16 flags ++ a ∷ b ∷ c ∷ d ∷ [])) ∷ []) [] []) used) used
         ≡ codes "grants the release of " ++ written name }
     ensures kept { (id used ttl flags a b c d : ℕ) (name : NetbiosName) → IsName name →
         said (service_fields (packet_of id 46085 [] (record_of (labels_of_name name) 32 1 ttl
-            (of_bytes (to_be_bytes w16 flags ++ a ∷ b ∷ c ∷ d ∷ [])) ∷ []) [] []) used) used
+        (of_bytes (to_be_bytes w16 flags ++ a ∷ b ∷ c ∷ d ∷ [])) ∷ []) [] []) used) used
         ≡ codes "refuses the release of " ++ (written name
-            ++ codes ": refused by policy (RFS_ERR)") }
+        ++ codes ": refused by policy (RFS_ERR)") }
     ensures waits { (id used ttl high low : ℕ) (name : NetbiosName) → IsName name →
         said (service_fields (packet_of id 48128 [] (record_of (labels_of_name name) 32 1 ttl
-            (of_bytes (high ∷ low ∷ [])) ∷ []) [] []) used) used
+        (of_bytes (high ∷ low ∷ [])) ∷ []) [] []) used) used
         ≡ codes "asks to wait for " ++ (written name
-            ++ (codes ", for " ++ (decimal ttl ++ codes " s"))) }
+        ++ (codes ", for " ++ (decimal ttl ++ codes " s"))) }
 {}

@@ -18,7 +18,7 @@ use Rattle.nb_service.specs.Header.{PacketHeader}
 use Rattle.nb_service.specs.Packet.{ServicePacket, header_of}
 use Rattle.nb_service.specs.Record.{ResourceData, of_bytes, of_domain, ResourceRecord}
 use Rattle.nb_service.specs.Views.{StatusParts, entries_in, status_in}
-use Rattle.nb_telling.specs.Fields.{Field, Part, PartEnds, LineEnds, Begins, Ends, Number, Digits}
+use Rattle.nb_telling.specs.Fields.{Field, PartEnds, LineEnds, Begins, Ends, Number, Digits}
 use Rattle.nb_text.specs.declared.brief.kind.Kind.TheVariants as kinds
 use Rattle.nb_text.proofs.FieldLemmas.{labels_word}
 use Rattle.nb_text.proofs.PhraseLemmas.{first_stays, said_so}
@@ -27,7 +27,7 @@ use Rattle.nb_text.specs.Keys.{op_key, rcode_key, ttl_key, unit_key}
 use Rattle.nb_text.specs.LineFields.{used_fields, list_fields}
 use Rattle.nb_text.specs.Noted.{Noted, first_text, is_type, note, nothing_noted, with_address, with_data, with_digits, with_domain, with_listed, with_name, with_unit}
 use Rattle.nb_text.specs.Said.{ending, follow_said, kind_said, name_said, noted_said, opening, said, service_said}
-use Rattle.nb_text.specs.ServiceFields.{word_field, named_field, named_fields, state_fields, count_fields, header_fields, question_fields, rdata_field, entry_fields, node_name_fields, unit_fields, status_fields, view_fields, record_fields, service_fields}
+use Rattle.nb_text.specs.ServiceFields.{named_field, named_fields, count_fields, header_fields, question_fields, rdata_field, entry_fields, node_name_fields, unit_fields, status_fields, view_fields, record_fields, service_fields}
 use Rattle.nb_text.specs.Words.{operation_word, rcode_word}
 
 -- what is noted says that a packet of port 137 with this flag word is about this name, of which this type is asked

@@ -1,5 +1,5 @@
 -- The phrases of packets of ports 138 and 139, and of requests and responses of port 137.
-use Rattle.std.proofs.Common.{◌≡◌, ◌==◌, ℕ, ◌+◌, ◌-◌, ◌*◌, ◌^◌, ◌<◌, Bool, true, false, List, [], ◌∷◌, ◌++◌, length, take, codes, Option, Some, None, refl, ap, ap₂, ◌∙◌, arith, if◌then◌else◌}
+use Rattle.std.proofs.Common.{◌≡◌, ◌==◌, ℕ, ◌+◌, ◌-◌, ◌*◌, ◌^◌, ◌<◌, Bool, true, false, List, [], ◌∷◌, ◌++◌, length, take, codes, Some, None, ap, ap₂, ◌∙◌, arith, if◌then◌else◌}
 use Rattle.std.specs.Fmt.{decimal}
 use Rattle.std.specs.Int.{w16, from_be_bytes, to_be_bytes}
 use Rattle.nb_names.specs.Addresses.{address_text}
@@ -17,7 +17,7 @@ use Rattle.nb_datagram.specs.declared.kind.Kind.TheVariants.{Unique, Group, Broa
 use Rattle.nb_datagram.specs.declared.packet.Packet.TheVariants.{Direct, Error, Query}
 use Rattle.nb_datagram.specs.declared.packet.QueryKind.{QueryKind}
 use Rattle.nb_datagram.specs.declared.packet.QueryKind.TheVariants as queries
-use Rattle.nb_datagram.specs.Fragment.{FragmentParts, has_more}
+use Rattle.nb_datagram.specs.Fragment.{has_more}
 use Rattle.nb_service.specs.Requests.{query_packet, status_packet, registration_packet, refresh_packet, release_packet, claim}
 use Rattle.nb_service.specs.Building.{packet_of}
 use Rattle.nb_service.specs.Packet.{ServicePacket}

@@ -1,6 +1,6 @@
 -- What is noted of a payload's fields, told one after another, for a phrase of them (our choice). Where several fields have a
 -- key, the first is noted; of what is listed the first ones, and how many there are.
-use Rattle.std.specs.Prelude.{ℕ, ◌+◌, ◌==◌, nat_lt, min, Bool, true, false, List, [], ◌∷◌, ◌++◌, ◌-◌, length, take, codes, Option, None, Some, if◌then◌else◌}
+use Rattle.std.specs.Prelude.{ℕ, ◌+◌, ◌==◌, nat_lt, min, Bool, false, List, [], ◌∷◌, ◌++◌, ◌-◌, length, take, codes, Option, None, Some, if◌then◌else◌}
 use Rattle.std.specs.Fmt.{decimal}
 use Rattle.std.specs.Int.{w16, from_be_bytes}
 use Rattle.std.specs.Option.{option_or}

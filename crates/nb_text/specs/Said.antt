@@ -1,6 +1,6 @@
 -- What a payload is said to be (our choice): a phrase made of what is noted of its fields, and of the payload's length. The packets
 -- of port 137 are those of RFC 1002 section 4.2, of port 139 those of section 4.3, of port 138 those of section 4.4.
-use Rattle.std.specs.Prelude.{◌≡◌, ℕ, ◌-◌, ◌^◌, ◌==◌, nat_lt, Bool, true, false, List, [], ◌∷◌, ◌++◌, length, take, drop, codes, Option, Some, None, fold, if◌then◌else◌}
+use Rattle.std.specs.Prelude.{ℕ, ◌-◌, ◌^◌, ◌==◌, nat_lt, Bool, false, List, [], ◌++◌, length, codes, Option, Some, None, fold, if◌then◌else◌}
 use Rattle.std.specs.Fmt.{decimal}
 use Rattle.nb_names.specs.NameText.{digits_of}
 use Rattle.nb_service.specs.Flags.{opcode_of, rcode_of}
@@ -11,7 +11,6 @@ use Rattle.nb_text.specs.declared.brief.form.Form.TheVariants as forms
 use Rattle.nb_text.specs.declared.brief.kind.Kind.{Kind}
 use Rattle.nb_text.specs.declared.brief.kind.Kind.TheVariants as kinds
 use Rattle.nb_text.specs.Forms.{form_of}
-use Rattle.nb_text.specs.Kinds.{is_text}
 use Rattle.nb_text.specs.Noted.{Noted, most_listed, note, nothing_noted}
 use Rattle.nb_text.specs.Words.{is_set}
 

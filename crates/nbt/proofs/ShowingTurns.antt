@@ -15,36 +15,45 @@ use Rattle.nb_member.specs.declared.report_fault.ReportFault.{ReportFault}
 use Rattle.nb_member.specs.declared.report_fault.ReportFault.TheVariants as unwritten
 use Rattle.nb_member.specs.LineTaking.{TakesEach, none as no_lines, more as more_lines, TakesLines}
 use Rattle.nb_text.specs.Lines.{line_end}
-use Rattle.nb_text.specs.Shown.{AddsShown}
+use Rattle.nb_text.specs.SaysPacket.{AddsSaid}
 use Rattle.nbt.specs.declared.fault.Fault.{Fault}
 use Rattle.nbt.specs.declared.fault.Fault.TheVariants.{Read, Write}
 use Rattle.nbt.specs.Code.PrintedLines.{PrintsOn, IsUnprinted, ended}
-use Rattle.nbt.specs.Showing.{ShowsValue, packet, tick, ShowsCapture, ShowsLines, none, more, Prints, Shows, TellsLine}
+use Rattle.nbt.specs.Showing.{IsBrief, PayloadText, ShowsValue, packet, tick, ShowsCapture, ShowsLines, none, more, Prints, Shows, TellsLine}
 
 -- ---- the text of a line
 
 -- a payload's text is added after the line's number and its port
-pub adds_packet : (n port moment : ℕ) (payload old mid new : List ℕ) (value : capture.Line) → value ≡ Packet port moment payload
-    → mid ≡ old ++ (decimal n ++ (codes " " ++ (decimal port ++ codes " "))) → AddsShown payload port mid new
-    → (shown : List ℕ) × ShowsValue n value shown × (new ≡ old ++ shown)
-adds_packet n port moment payload old mid new value is front a =
-    let text = decimal n ++ (codes " " ++ (decimal port ++ (codes " " ++ a.text))) in
+pub adds_packet : (IsText : PayloadText) (n port moment : ℕ) (payload old mid new : List ℕ) (value : capture.Line) → value ≡ Packet port moment payload
+    → mid ≡ old ++ (decimal n ++ (codes " " ++ (decimal port ++ codes " "))) → ((shown : List ℕ) × IsText payload port shown × (new ≡ mid ++ shown))
+    → (shown : List ℕ) × ShowsValue IsText n value shown × (new ≡ old ++ shown)
+adds_packet IsText n port moment payload old mid new value is front a =
+    let text = decimal n ++ (codes " " ++ (decimal port ++ (codes " " ++ a.0))) in
     let behind = codes " " ++ (decimal port ++ codes " ") in (
       text,
-      subst (λ (v : capture.Line). ShowsValue n v text) (sym is) (packet port moment payload a.text a.shown),
-      a.added ∙ ap (λ (t : List ℕ). t ++ a.text) front ∙ append_assoc old (decimal n ++ behind) a.text
+      subst (λ (v : capture.Line). ShowsValue IsText n v text) (sym is) (packet port moment payload a.0 a.1),
+      a.2 ∙ ap (λ (t : List ℕ). t ++ a.0) front ∙ append_assoc old (decimal n ++ behind) a.0
           ∙ ap (λ (t : List ℕ). old ++ t)
-          (append_assoc (decimal n) behind a.text
-          ∙ ap (λ (t : List ℕ). decimal n ++ (codes " " ++ t)) (append_assoc (decimal port) (codes " ") a.text)),
+          (append_assoc (decimal n) behind a.0
+          ∙ ap (λ (t : List ℕ). decimal n ++ (codes " " ++ t)) (append_assoc (decimal port) (codes " ") a.0)),
     )
 
 -- a look at the clock is a line
-pub adds_tick : (n now : ℕ) (old new : List ℕ) (value : capture.Line) → value ≡ Tick now
+pub adds_tick : (IsText : PayloadText) (n now : ℕ) (old new : List ℕ) (value : capture.Line) → value ≡ Tick now
     → new ≡ old ++ (decimal n ++ (codes " tick " ++ (decimal now ++ line_end)))
-    → (shown : List ℕ) × ShowsValue n value shown × (new ≡ old ++ shown)
-adds_tick n now old new value is added =
+    → (shown : List ℕ) × ShowsValue IsText n value shown × (new ≡ old ++ shown)
+adds_tick IsText n now old new value is added =
     let text = decimal n ++ (codes " tick " ++ (decimal now ++ line_end)) in
-    (text, subst (λ (v : capture.Line). ShowsValue n v text) (sym is) (tick now), added)
+    (text, subst (λ (v : capture.Line). ShowsValue IsText n v text) (sym is) (tick now), added)
+
+-- a phrase, and the end of the line
+pub adds_phrase : (payload : List ℕ) (port : ℕ) (old mid new : List ℕ) → AddsSaid payload port old mid → new ≡ mid ++ line_end
+    → (shown : List ℕ) × IsBrief payload port shown × (new ≡ old ++ shown)
+adds_phrase payload port old mid new a ended = (
+  a.text ++ line_end,
+  record { phrase = a.text; said = a.phrase; is = refl },
+  ended ∙ ap (λ (t : List ℕ). t ++ line_end) a.added ∙ append_assoc old a.text line_end,
+)
 
 -- ---- lines in a row
 

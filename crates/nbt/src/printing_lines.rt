@@ -9,6 +9,7 @@ ghost use Rattle.nbt.specs.Showing.{Shows, ShowsLine, TellsLine};
 use crate::commands::show::push_said;
 use crate::fault::Fault;
 use crate::objects::{blank_object, line_object};
+use crate::payload_text::PayloadText;
 use crate::telling::LineFields;
 use nb_member::{CaptureOptions, Comments, Line, LineTaker, LinesFault, ReportFault, take_lines};
 use nb_names::Counted;
@@ -18,16 +19,17 @@ use std::alloc::Global;
 use std::io::{Read, Write};
 use std::mem;
 
-/// What the lines of a capture are shown on, with these comments.
+/// What the lines of a capture are shown on, with these comments, payloads in this form.
 #[derive(Drop)]
-struct ShownLines<'a, W> {
+struct ShownLines<'a, 'b, W, P> {
     comments: Comments,
+    form: &'a mut P,
     /// The text of a line is made in this.
     text: &'a mut String,
-    output: &'a mut Counted<W>,
+    output: &'b mut Counted<W>,
 }
 
-impl<'a, W: Write> LineTaker for ShownLines<'a, W> {
+impl<'a, 'b, W: Write, P: PayloadText> LineTaker for ShownLines<'a, 'b, W, P> {
     ghost use Rattle.std.specs.Prelude.{ℕ};
     ghost use Rattle.nb_names.specs.Counted.{CountedOf};
     ghost use Rattle.nb_member.specs.declared.comments.Comments.{Comments};
@@ -44,13 +46,13 @@ impl<'a, W: Write> LineTaker for ShownLines<'a, W> {
 
     ghost beside = { λ s. (s.comments, s.output.ghost_name) };
 
-    ghost takes = { λ kept. PrintsOn W.contents (Said kept.0) };
+    ghost takes = { λ kept. PrintsOn W.contents (Said P.is_text kept.0) };
 
-    ghost fails = { λ kept. IsUnprinted W.contents (Said kept.0) };
+    ghost fails = { λ kept. IsUnprinted W.contents (Said P.is_text kept.0) };
 
     fn take(&mut self, number: u64, line: &[u8], said: &Option<Line>) -> Result<(), ReportFault> {
         self.text.clear();
-        push_said(number, line, said, self.comments, self.text)?;
+        push_said(number, line, said, self.comments, self.form, self.text)?;
         match write_whole(self.output, self.text.as_bytes()) {
             Ok(()) => Ok(()),
             Err(_) => Err(ReportFault::Write),
@@ -110,15 +112,17 @@ impl<'a, 'b, W: Write, T: LineFields> LineTaker for ToldLines<'a, 'b, W, T> {
     }
 }
 
-/// Shows the lines of an input of so many bytes at most, each as it comes, with these comments.
+/// Shows the lines of an input of so many bytes at most, each as it comes, with these comments,
+/// payloads in this form.
 ///
 /// # Errors
 ///
 /// The first that is met: [`Fault::Write`] where a line can't be written, [`Fault::Line`] for a
 /// malformed line, [`Fault::Read`] where the input couldn't be read to its end, [`Fault::Memory`]
 /// where memory ran out. What stands before it is printed.
-pub fn print_text<R: Read, W: Write>(
+pub fn print_text<R: Read, W: Write, P: PayloadText + Drop>(
     alloc: Global,
+    mut form: P,
     options: CaptureOptions,
     input: &mut Counted<R>,
     output: &mut Counted<W>,
@@ -127,7 +131,8 @@ pub fn print_text<R: Read, W: Write>(
         Consumes (R.remaining input.old.inner) (R.remaining input.new.inner) bytes ×
         ((result ≡ Err Fault.Read →
         ShowsUnread options.most bytes input.old.counts input.new.counts) ×
-        Shows (ShowsLine options.comments) options.most bytes (R.remaining input.new.inner) tt
+        Shows (ShowsLine P.is_text options.comments) options.most bytes
+        (R.remaining input.new.inner) tt
         (W.contents output.old.inner) (W.contents output.new.inner) result) }
     ensures why { IfErr result (λ fault. fault ≡ Fault.Write →
         ShowsWriteFault output.old.counts output.new.counts) }
@@ -135,6 +140,7 @@ pub fn print_text<R: Read, W: Write>(
     let mut text = String::new(alloc);
     let mut shown = ShownLines {
         comments: options.comments,
+        form: &mut form,
         text: &mut text,
         output,
     };

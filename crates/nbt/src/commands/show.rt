@@ -36,9 +36,9 @@ pub fn run_show<R: Read, W: Write>(
 {
     let options = options_of(matches);
     if is_json(matches) {
-        return print_objects(alloc, Packets, options, input, &mut output.device);
+        return print_objects(alloc, Packets, options, input, output);
     }
-    print_text(alloc, options, input, &mut output.device)
+    print_text(alloc, options, input, output)
 }
 
 /// Adds the text of what a line says, or of its comment.

@@ -1,8 +1,8 @@
 use Rattle.nbt.specs.Replaying.{AreTexts, ReplaysCapture}
 use Rattle.nbt.specs.Settings.{AreOptions, IsCapacity}
-use Rattle.std.proofs.Common.{inl, inr}
+use Rattle.std.proofs.Common.{inl, inr, refl}
 use Rattle.std.proofs.lemmas.Result.{err_from_is_err_and}
-use Rattle.nbt.proofs.ReplayingTurns.{not_begun, not_cut, not_written, replay_cut, replay_writes, replays_capture, replays_in, unread_cut}
+use Rattle.nbt.proofs.ReplayingTurns.{ends_for, not_begun, not_cut, not_written, replay_cut, replay_writes, replays_capture, replays_in, unread_cut}
 use Rattle.nb_names.specs.DeviceFacts.{Keeps-same}
 use Rattle.nbt.proofs.ShowingTurns.{shows_capture}
 use Rattle.nbt.proofs.commands.replay.run_replay.Goals as goal
@@ -32,12 +32,25 @@ returns-then-is_json g c = rw (← c.output.view_is) (record {
 
 pub returns : goal.returns
 returns g c =
-    let r = c.replay_with.ensures.replays in
-    let asked = c.options_of-options.ensures in
-    let replayed = replays_in _ _ _ _ _ _ _ r.0 _ _ r.1 r.2.1 c.outcome_of.ensures.ends in
+    let r = c.in_ok-replay_with.ensures.replays in
+    let replayed = replays_in _ _ _ _ _ _ _ r.0 _ r.1 r.2.1 in
     rw (← c.output.view_is) (record {
-      text = λ text. replays_capture _ _ _ _ _ _ _ _ _ _ c.in_ok-member.ensures.made asked replayed;
+      text = λ text. replays_capture _ _ _ _ _ _ _ _ _ _ c.in_ok-member.ensures.made c.options_of-options.ensures (_, replayed);
       json = λ json. absurd (cc (c.is_json.ensures.json json, c.if-is_json.false));
-      cut = replay_cut _ _ _ _ c.args.input.now.counts c.replay_with.new.reader.counts r.0 c.replay_with.result c.outcome_of.result asked.limited r.1 r.2.0 c.outcome_of.ensures.ends;
-      why = replay_writes c.replay_with.result c.outcome_of.result c.output.inside.device.counts c.replay_with.new.writer.counts c.outcome_of.ensures.write c.replay_with.ensures.write;
+      cut = tt;
+      why = tt;
+    })
+
+pub returns-in_err-replay_with : goal.returns-in_err-replay_with
+returns-in_err-replay_with g c =
+    let p = err_from_is_err_and c.from_residual-in_err-replay_with.result c.from_residual-in_err-replay_with.ensures.1 in
+    let e = c.in_err-replay_with in
+    let r = e.ensures.replays in
+    let asked = c.options_of-options.ensures in
+    let replayed = replays_in _ _ _ _ _ _ _ r.0 _ r.1 r.2.1 in
+    rw (p.1, p.2, ← c.output.view_is) (record {
+      text = λ text. replays_capture _ _ _ _ _ _ _ _ _ _ c.in_ok-member.ensures.made asked (ends_for _ _ replayed);
+      json = λ json. absurd (cc (c.is_json.ensures.json json, c.if-is_json.false));
+      cut = replay_cut _ _ _ _ c.args.input.now.counts c.replay_with.new.reader.counts r.0 _ _ asked.limited r.1 r.2.0 refl;
+      why = replay_writes _ _ c.output.inside.device.counts c.replay_with.new.writer.counts e.ensures.write refl;
     })

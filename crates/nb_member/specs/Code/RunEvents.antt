@@ -46,12 +46,6 @@ pub record HasTaken (settings : Settings) (names : List NetbiosName) (L : List T
   pub errors : after.errors ≡ before.errors ++ errors_by settings names L said
   pub count : cond refused 1 0 ≡ refused_count (said ∷ [])
 
--- why a run stops before an event for which there is no room to note an answer: it meets a limit on keys, or
--- else memory ran out
-abbrev pub stop_of : Option RunStop → RunStop
-stop_of (Some stop) = stop
-stop_of None = NoMemory
-
 -- RunsEvent m L event new before after result: what a run makes of one event in the member m, which stands for L:
 -- the event is taken, or it changes nothing and the run stops before it
 abbrev pub RunsEvent : MemberValue → List Timed → Event → MemberValue → HandedOut → HandedOut → Result Bool RunStop → Type 0

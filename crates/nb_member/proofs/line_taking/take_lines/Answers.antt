@@ -52,20 +52,20 @@ returns-in_err-take_line-in-Ok-Some-clause-beside g c = c.in_err-take_line-in-Ok
 
 pub returns-in-Ok-None-clause-taken : goal.returns-in-Ok-None-clause-taken
 returns-in-Ok-None-clause-taken g c =
-    ends_at_end _ (g.T.LineTaker.fails (g.T.LineTaker.beside c.args.taker.now)) _ _ _ _ _ _ _ _ _ _ c.lines.number _ _ c.lines.invariant.taking
+    ends_at_end _ (g.T.LineTaker.fails (g.T.LineTaker.beside c.args.taker.now)) g.T.Fault.From.from_gives _ _ _ _ _ _ _ _ _ c.lines.number _ _ c.lines.invariant.taking
     (of_end _ _ _ _ _ _ c.next_from.result _ c.in-Ok-None.is c.in-Ok-None.field-0-is c.next_from.follows.holds-at-none)
 
 pub returns-in-Err-TooLong-clause-taken : goal.returns-in-Err-TooLong-clause-taken
 returns-in-Err-TooLong-clause-taken g c =
-    ends_too_long _ (g.T.LineTaker.fails (g.T.LineTaker.beside c.args.taker.now)) _ _ _ _ _ _ _ _ _ _ c.lines.number _ _ c.lines.invariant.taking
-    (of_fault _ _ _ _ _ _ c.next_from.result _ _ c.in-Err-TooLong.is c.in-Err-TooLong.field-0-is c.next_from.follows.holds-at-none)
+    ends_too_long _ (g.T.LineTaker.fails (g.T.LineTaker.beside c.args.taker.now)) g.T.Fault.From.from_gives _ _ _ _ _ _ _ _ _ c.lines.number _ _ _ c.lines.invariant.taking
+    (of_fault _ _ _ _ _ _ c.next_from.result _ _ c.in-Err-TooLong.is c.in-Err-TooLong.field-0-is c.next_from.follows.holds-at-none) c.from.ensures
 
 pub returns-in-Err-Read-clause-taken : goal.returns-in-Err-Read-clause-taken
 returns-in-Err-Read-clause-taken g c =
-    ends_unread _ (g.T.LineTaker.fails (g.T.LineTaker.beside c.args.taker.now)) _ _ _ _ _ _ _ _ _ _ c.lines.number _ _ c.lines.invariant.taking
-    (of_fault _ _ _ _ _ _ c.next_from.result _ _ c.in-Err-Read.is c.in-Err-Read.field-0-is c.next_from.follows.holds-at-none)
+    ends_unread _ (g.T.LineTaker.fails (g.T.LineTaker.beside c.args.taker.now)) g.T.Fault.From.from_gives _ _ _ _ _ _ _ _ _ c.lines.number _ _ _ c.lines.invariant.taking
+    (of_fault _ _ _ _ _ _ c.next_from.result _ _ c.in-Err-Read.is c.in-Err-Read.field-0-is c.next_from.follows.holds-at-none) c.from-2.ensures
 
 pub returns-in-Err-NoMemory-clause-taken : goal.returns-in-Err-NoMemory-clause-taken
 returns-in-Err-NoMemory-clause-taken g c =
-    ends_unheld _ (g.T.LineTaker.fails (g.T.LineTaker.beside c.args.taker.now)) _ _ _ _ _ _ _ _ _ _ c.lines.number _ _ c.lines.invariant.taking
-    (of_fault _ _ _ _ _ _ c.next_from.result _ _ c.in-Err-NoMemory.is c.in-Err-NoMemory.field-0-is c.next_from.follows.holds-at-none)
+    ends_unheld _ (g.T.LineTaker.fails (g.T.LineTaker.beside c.args.taker.now)) g.T.Fault.From.from_gives _ _ _ _ _ _ _ _ _ c.lines.number _ _ _ c.lines.invariant.taking
+    (of_fault _ _ _ _ _ _ c.next_from.result _ _ c.in-Err-NoMemory.is c.in-Err-NoMemory.field-0-is c.next_from.follows.holds-at-none) c.from-3.ensures

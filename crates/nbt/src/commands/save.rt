@@ -87,22 +87,14 @@ impl LineTaker for Saver {
     ghost fails = { λ kept. UnsavedLine };
 
     fn take(&mut self, _number: u64, _line: &[u8], said: &Option<Line>) -> Result<(), Fault> {
-        take_said(said, &mut self.member)
+        match said {
+            Some(said) => take_value(said, &mut self.member),
+            None => Ok(()),
+        }
     }
 }
 
 /// Has the member take a payload of port 138, or set its clock; all else is passed over.
-fn take_said(said: &Option<Line>, member: &mut Member) -> Result<(), Fault>
-    ensures took { OnOk result (TakesSaid member.old said.now member.new) }
-    ensures stops { IfErr result (SaidStops member.old said.now) }
-{
-    match said {
-        Some(said) => take_value(said, member),
-        None => Ok(()),
-    }
-}
-
-/// The same of what a line says.
 fn take_value(said: &Line, member: &mut Member) -> Result<(), Fault>
     ensures took { OnOk result (TakesSaid member.old (Some said.now) member.new) }
     ensures stops { IfErr result (SaidStops member.old (Some said.now)) }

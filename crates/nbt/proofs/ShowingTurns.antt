@@ -1,10 +1,10 @@
 -- What `nbt show` prints of a line, and of the lines of a capture.
-use Rattle.std.proofs.Common.{◌≡◌, ◌+◌, ◌++◌, ℕ, List, [], ◌∷◌, length, take, drop, Option, Result, Ok, Err, codes, refl, sym, subst, ◌∙◌, ap, append_assoc, arith}
+use Rattle.std.proofs.Common.{◌≡◌, ◌+◌, ◌++◌, ℕ, List, [], ◌∷◌, length, take, drop, Option, Result, Ok, Err, IfErr, OnErr, codes, refl, sym, subst, ◌∙◌, ap, append_assoc, arith}
 use Rattle.std.specs.Io.KnownBytes.{Appends, Consumes}
 use Rattle.std.specs.Fmt.{decimal}
 use Rattle.std.proofs.lemmas.List.{take-append-drop}
 use Rattle.nb_names.specs.Counted.{Counts, CountedOf}
-use Rattle.nb_names.specs.Devices.{GrowTo, ShowsUnread, ShowsWriteFault}
+use Rattle.nb_names.specs.Devices.{AppendsFront, GrowTo, ShowsUnread, ShowsWriteFault}
 use Rattle.nb_names.specs.DeviceFacts.{Appends-nil, Appends-more, Appends-kept, fails_from, grows_on}
 use Rattle.nb_member.specs.declared.capture_options.CaptureOptions.{CaptureOptions}
 use Rattle.nb_member.specs.declared.line.Line as capture
@@ -43,11 +43,21 @@ adds_tick n now old new value is added =
     let text = decimal n ++ (codes " tick " ++ (decimal now ++ line_end)) in
     (text, subst (λ (v : capture.Line). ShowsValue n v text) (sym is) (tick now), added)
 
--- ---- lines in a row
+-- ---- a line
 
 -- when a text is that of a line
 abbrev pub TextOf : Type 0 → Type 1
 TextOf S = ℕ → List ℕ → Option capture.Line → S → S → List ℕ → Type 0
+
+-- a text that isn't printed whole
+pub unprinted : {W S : Type 0} (C : W → Option (List ℕ)) (IsText : TextOf S) (n : ℕ) (l : List ℕ) (said : Option capture.Line) (old new : CountedOf W × S) (text : List ℕ) (r : Result (Unit {0}) Fault)
+    → IsText n l said old.1 new.1 text → IfErr r (λ fault. fault ≡ Write) → OnErr r (AppendsFront (C old.0.inner) (C new.0.inner) text)
+    → OnErr r (ShowsWriteFault old.0.counts new.0.counts) → IfErr r (IsUnprinted C IsText n l said old new)
+unprinted C IsText n l said old new text (Ok done) tells is front why = tt
+unprinted C IsText n l said old new text (Err fault) tells is front why =
+    subst (λ (f : Fault). IsUnprinted C IsText n l said old new f) (sym is) (text, tells, front, why)
+
+-- ---- lines in a row
 
 -- the texts of these lines are printed
 prints_each : {W S : Type 0} (C : W → Option (List ℕ)) (IsText : TextOf S) (n : ℕ) (ls : List (List ℕ)) (old new : CountedOf W × S) → TakesEach (PrintsOn C IsText) n ls old new

@@ -1,6 +1,6 @@
 use Rattle.nbt.specs.Replaying.{AreTexts, ReplaysCapture}
 use Rattle.nbt.specs.Settings.{AreOptions, IsCapacity}
-use Rattle.std.proofs.Common.{inl, inr, refl}
+use Rattle.std.proofs.Common.{Ok, Err, inl, inr, refl}
 use Rattle.std.proofs.lemmas.Result.{err_from_is_err_and}
 use Rattle.nbt.proofs.ReplayingTurns.{ends_for, not_begun, not_cut, not_written, replay_cut, replay_writes, replays_capture, replays_in, unread_cut}
 use Rattle.nb_names.specs.DeviceFacts.{Keeps-same}
@@ -33,7 +33,7 @@ returns-then-is_json g c = rw (← c.output.view_is) (record {
 pub returns : goal.returns
 returns g c =
     let r = c.in_ok-replay_with.ensures.replays in
-    let replayed = replays_in _ _ _ _ _ _ _ r.0 _ r.1 r.2.1 in
+    let replayed = replays_in _ _ _ _ _ _ _ r.0 (Ok _) r.1 r.2.1 in
     rw (← c.output.view_is) (record {
       text = λ text. replays_capture _ _ _ _ _ _ _ _ _ _ c.in_ok-member.ensures.made c.options_of-options.ensures (_, replayed);
       json = λ json. absurd (cc (c.is_json.ensures.json json, c.if-is_json.false));
@@ -47,7 +47,7 @@ returns-in_err-replay_with g c =
     let e = c.in_err-replay_with in
     let r = e.ensures.replays in
     let asked = c.options_of-options.ensures in
-    let replayed = replays_in _ _ _ _ _ _ _ r.0 _ r.1 r.2.1 in
+    let replayed = replays_in _ _ _ _ _ _ _ r.0 (Err _) r.1 r.2.1 in
     rw (p.1, p.2, ← c.output.view_is) (record {
       text = λ text. replays_capture _ _ _ _ _ _ _ _ _ _ c.in_ok-member.ensures.made asked (ends_for _ _ replayed);
       json = λ json. absurd (cc (c.is_json.ensures.json json, c.if-is_json.false));

@@ -19,4 +19,4 @@ returns-in-Err-BadLine-clause-fault g c =
     malformed (subst (λ r. Reads c.args.line.now r) (c.in-Err-BadLine.is ∙ ap Err c.in-Err-BadLine.field-0-is) c.capture_line.ensures) refl c.from.ensures
 
 pub returns-in-Err-NoMemory-clause-fault : goal.returns-in-Err-NoMemory-clause-fault
-returns-in-Err-NoMemory-clause-fault g c = no_memory refl c.from-2.ensures
+returns-in-Err-NoMemory-clause-fault g c = no_memory refl c.from-in-Err-NoMemory.ensures

@@ -63,9 +63,9 @@ returns-in-Err-TooLong-clause-taken g c =
 pub returns-in-Err-Read-clause-taken : goal.returns-in-Err-Read-clause-taken
 returns-in-Err-Read-clause-taken g c =
     ends_unread _ (g.T.LineTaker.fails (g.T.LineTaker.beside c.args.taker.now)) g.T.Fault.From.from_gives _ _ _ _ _ _ _ _ _ c.lines.number _ _ _ c.lines.invariant.taking
-    (of_fault _ _ _ _ _ _ c.next_from.result _ _ c.in-Err-Read.is c.in-Err-Read.field-0-is c.next_from.follows.holds-at-none) c.from-2.ensures
+    (of_fault _ _ _ _ _ _ c.next_from.result _ _ c.in-Err-Read.is c.in-Err-Read.field-0-is c.next_from.follows.holds-at-none) c.from-in-Err-Read.ensures
 
 pub returns-in-Err-NoMemory-clause-taken : goal.returns-in-Err-NoMemory-clause-taken
 returns-in-Err-NoMemory-clause-taken g c =
     ends_unheld _ (g.T.LineTaker.fails (g.T.LineTaker.beside c.args.taker.now)) g.T.Fault.From.from_gives _ _ _ _ _ _ _ _ _ c.lines.number _ _ _ c.lines.invariant.taking
-    (of_fault _ _ _ _ _ _ c.next_from.result _ _ c.in-Err-NoMemory.is c.in-Err-NoMemory.field-0-is c.next_from.follows.holds-at-none) c.from-3.ensures
+    (of_fault _ _ _ _ _ _ c.next_from.result _ _ c.in-Err-NoMemory.is c.in-Err-NoMemory.field-0-is c.next_from.follows.holds-at-none) c.from-in-Err-NoMemory.ensures

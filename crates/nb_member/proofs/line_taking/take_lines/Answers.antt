@@ -1,5 +1,4 @@
 use Rattle.std.proofs.Common.{◌+◌, ◌∙◌, arith, refl}
-use Rattle.std.proofs.lemmas.List.{length-append}
 use Rattle.std.proofs.lemmas.Result.{err_from_is_err_and}
 use Rattle.nb_member.specs.Shared.LinesSoFar.{of_line, of_end, of_fault, bytes_less}
 use Rattle.nb_member.proofs.LineTakingLemmas.{fault_alike, line_alike, first_turn, next_turn, ends_at_line, ends_too_long, ends_unread, ends_unheld, ends_at_end}
@@ -13,12 +12,6 @@ overflow_add-number g c =
     let r = of_line _ _ _ _ _ _ c.next_from.result _ c.in-Ok-Some.line c.in-Ok-Some.is c.in-Ok-Some.field-0-is c.next_from.follows.holds-at-none in
     let s = c.lines.invariant.taking in
     omega (arith, s.within, s.handed.limit, r.within, bytes_less _ _ _ _ _ _ _ r)
-
-pub overflow_add-result : goal.overflow_add-result
-overflow_add-result g c =
-    let r = of_fault _ _ _ _ _ _ c.next_from.result _ _ c.in-Err-TooLong.is c.in-Err-TooLong.field-0-is c.next_from.follows.holds-at-none in
-    let s = c.lines.invariant.taking in
-    omega (arith, s.within, s.handed.limit, r.within, r.taken, r.answers.0.0, length-append c.lines.room.rest r.got)
 
 pub lines-smaller : goal.lines-smaller
 lines-smaller g c =

@@ -7,10 +7,13 @@ SECONDS = 60
 PREFIX ?= /usr/local
 DEB = out
 LIBRARY = out/lib
+TARGETS = out
+DIST = out/dist
+GATE =
 # The shell is given what users choose in the environment, whatever characters it has.
-export PROGRAM DESTDIR PREFIX DEB LIBRARY
+export PROGRAM DESTDIR PREFIX DEB LIBRARY TARGETS DIST
 
-.PHONY: run build try check test bench fuzz completions install uninstall deb lib install-lib uninstall-lib
+.PHONY: run build try check test bench fuzz completions install uninstall deb lib install-lib uninstall-lib targets fuzz-coverage dist
 
 # Prove and build the program, and replay a capture in a station with these names.
 run: build
@@ -78,3 +81,25 @@ install-lib: lib
 # Take away what install-lib put below the same PREFIX. What install put there stays.
 uninstall-lib:
 	@tools/installation take library
+
+# Prove the library once, and make it for every target of the module that the kit makes of it: LIBRARY as lib does; in TARGETS the
+# module, nbt.bc, the library for aarch64 in lib/aarch64, and nbt.wasm with nbt.mjs.
+targets:
+	@tools/pkgconfig "$$PREFIX" >/dev/null
+	@tools/targets check "$$TARGETS"
+	tools/module "$$TARGETS/nbt.bc"
+	tools/library crates/nb_c/out/libnb_c.a "$$LIBRARY" "$$PREFIX"
+	tools/targets make "$$TARGETS/nbt.bc" "$$TARGETS" "$$PREFIX"
+
+# Give the library random and changed inputs, with counters of what they reach, over the module that targets keeps.
+fuzz-coverage: $(TARGETS)/nbt.bc
+	tests/fuzz_coverage.py --seconds $(SECONDS) --module "$$TARGETS/nbt.bc"
+
+$(TARGETS)/nbt.bc:
+	@tools/targets check "$$TARGETS"
+	tools/module "$$TARGETS/nbt.bc"
+
+# Make packages for people who haven't the kit, in DIST: for Debian, Python, Rust and JavaScript. GATE names a file with what make test
+# printed, whose last lines go into PROOF.
+dist: targets $(PROGRAM)
+	tools/dist "$$TARGETS" "$$LIBRARY" "$$PROGRAM" "$$DIST" $(GATE)

@@ -1,14 +1,17 @@
 #!/usr/bin/env python3
-"""What showing a payload costs through the library, from C and from Python, beside `nbt show`.
+"""What showing a payload costs through the library, from C, from Python and in WebAssembly, beside `nbt show`.
 
-Usage: tests/bench_library.py [PROGRAM [LIBRARY]]. LIBRARY is a folder with libnbt.a and libnbt.so.0, out/lib without it.
+Usage: tests/bench_library.py [PROGRAM [LIBRARY]]. LIBRARY is a folder with libnbt.a and libnbt.so.0, out/lib without it; nbt.mjs
+lies in the folder above it, if `make targets` made it.
 
 100,000 payloads of an office's stations, the same in each run. Instructions are counted by valgrind's callgrind where it is
 installed: those of a run less those of one that reads the same and shows nothing. Seconds are of processor time, the least of
-five runs. Status 1 where a bar is missed: C at most what `nbt show` takes less its lines, Python at most three times that.
+five runs. Status 1 where a bar is missed: C at most what `nbt show` takes less its lines, Python at most three times that, node
+at most five times the seconds of `nbt show`, since callgrind counts no instructions that an engine makes.
 """
 import os
 import resource
+import shutil
 import subprocess
 import sys
 import tempfile
@@ -22,7 +25,7 @@ HERE = os.path.dirname(os.path.abspath(__file__))
 TOP, LIB = os.path.join(HERE, '..'), os.path.join(HERE, 'lib')
 COUNTS = {137: 50_000, 138: 25_000, 139: 25_000}
 RUNS, ROUNDS = 5, 1
-MOST_OF_C, MOST_OF_PYTHON = 1.0, 3.0
+MOST_OF_C, MOST_OF_PYTHON, MOST_OF_NODE = 1.0, 3.0, 5.0
 
 
 def captures(folder):
@@ -73,6 +76,10 @@ def ways(program, library, folder):
                            ('nbt.show, from Python', [sys.executable, os.path.join(LIB, 'show_loop.py')])):
         shown, nothing = (instructions([*command, rounds], payloads) for rounds in (str(ROUNDS), '0'))
         yield title, shown and shown - nothing, least(call_seconds, [*command, str(ROUNDS)], payloads)
+    targets = os.path.dirname(library)
+    if shutil.which('node') and os.path.exists(os.path.join(targets, 'nbt.mjs')):
+        command = ['node', '--experimental-wasm-memory64', os.path.join(LIB, 'show_loop.mjs'), targets, str(ROUNDS)]
+        yield 'show, from JavaScript', None, least(call_seconds, command, payloads)
 
 
 def main():
@@ -81,7 +88,7 @@ def main():
     print('%-26s %10s %6s %9s %6s' % ('way', 'a payload', 'of it', 'seconds', 'of it'))
     with tempfile.TemporaryDirectory() as folder:
         found = list(ways(program, library, folder))
-    _, bar, bar_seconds = found[1]
+    (_, _, shown), (_, bar, bar_seconds) = found[:2]
     missed = []
     for title, counted, seconds in found:
         ratio = (counted or seconds) / (bar if counted else bar_seconds)
@@ -90,6 +97,8 @@ def main():
         most = {'C': MOST_OF_C, 'Python': MOST_OF_PYTHON}.get(title.split()[-1])
         if most is not None and ratio > most:
             missed.append('missed: %s: %.2f of `nbt show` less its lines, at most %.1f' % (title, ratio, most))
+        if title.endswith('JavaScript') and seconds > MOST_OF_NODE * shown:
+            missed.append('missed: %s: %.2f of the seconds of `nbt show`, at most %.1f' % (title, seconds / shown, MOST_OF_NODE))
     print(*missed, sep='\n', end='\n' if missed else '')
     return bool(missed)
 

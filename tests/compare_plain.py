@@ -1,12 +1,15 @@
 #!/usr/bin/env python3
 """`nbt replay` beside the same in plain Rust without proofs, tests/plain/.  Usage: tests/compare_plain.py [PROGRAM]
 
-Compiles the plain program by rustc, gives both programs small captures of each kind and those of tests/bench.py, and says
-where a report, a line on standard error or a status differs: then its own status is 1. Prints the instructions a packet of
-both over the captures of tests/bench.py, where valgrind is installed, and how many times the plain program's ours are.
+Has cargo compile the plain program twice: on std alone, and on the crates that nbt stands on, of Debian's packages
+librust-hex-dev and librust-memchr-dev (arrayvec has no place in it). Gives all three programs small captures of each kind and
+those of tests/bench.py, and says where a report, a line on standard error or a status differs: then its own status is 1.
+Prints the instructions a packet of each over the captures of tests/bench.py, where valgrind is installed, and how many times
+the plain program's ours are.
 """
 import os
 import random
+import shutil
 import struct
 import subprocess
 import sys
@@ -16,7 +19,9 @@ sys.dont_write_bytecode = True
 import bench
 from bench_captures import FRED, JOE, MOST_IN_A_CAPTURE, line, office, one_address
 
-SOURCE = os.path.join(bench.HERE, 'plain', 'replay.rs')
+SOURCE = os.path.join(bench.HERE, 'plain')
+# Where Debian's packages put the sources of crates.
+DEBIAN = ('source.crates-io.replace-with="debian"', 'source.debian.directory="/usr/share/cargo/registry"')
 EXAMPLE = os.path.join(bench.HERE, '..', 'examples', 'capture.txt')
 LONGEST_LINE = 262_200
 SCOPED, LOWER, POINTER = JOE[:-1] + b'\x02AB\x01.\0', b'\x20' + b'a' * 32 + b'\0', b'\xc0\x0c'
@@ -96,28 +101,37 @@ def answer(command, capture):
     return done.returncode, done.stdout, done.stderr
 
 
+def compiled(folder, features):
+    """The plain program with these features, compiled in a folder of its own."""
+    source = os.path.join(folder, 'plain-' + (features or 'std'))
+    shutil.copytree(SOURCE, source)
+    words = ['cargo', 'build', '--quiet', '--release', '--offline', '--features', features]
+    subprocess.run(words + [word for each in DEBIAN for word in ('--config', each)], cwd=source, check=True)
+    return [os.path.join(source, 'target', 'release', 'replay')]
+
+
 def same(programs, words, capture, title):
-    """Whether both programs answer the same; where they don't, it is said."""
-    ours, plain = (answer(program + words, capture) for program in programs)
-    if ours != plain:
+    """Whether all programs answer the same; where they don't, it is said."""
+    ours, *others = (answer(program + words, capture) for program in programs)
+    if any(ours != other for other in others):
         print(f'the answers differ: {title}: {words}')
-    return ours == plain
+        return False
+    return True
 
 
 def costs(programs, title, path, packets):
     counted = [bench.instructions(program + bench.REPLAY[1:], path) for program in programs]
     if None not in counted:
-        print('%-36s %8d %8d %6.2f' % (title, *(each // packets for each in counted), counted[0] / counted[1]), flush=True)
+        ratios = [counted[0] / other for other in counted[1:]]
+        print('%-36s %8d %8d %8d %6.2f %6.2f' % (title, *(each // packets for each in counted), *ratios), flush=True)
 
 
 def main():
     ours = sys.argv[1] if len(sys.argv) > 1 else bench.PROGRAM
     with tempfile.TemporaryDirectory() as folder:
-        plain = os.path.join(folder, 'plain')
-        subprocess.run(['rustc', '-O', '--edition', '2021', SOURCE, '-o', plain], check=True)
-        programs = [ours, 'replay'], [plain]
+        programs = [ours, 'replay'], compiled(folder, ''), compiled(folder, 'crates')
         runs = [same(programs, words, capture, f'small capture {number}') for number, (words, capture) in enumerate(small())]
-        print('%-36s %8s %8s %6s' % ('instructions a packet', 'ours', 'plain', 'ratio'))
+        print('%-36s %8s %8s %8s %6s %6s' % ('instructions a packet', 'ours', 'on std', 'on crates', 'ratio', 'ratio'))
         for title, path, packets in bench.workloads(folder):
             with open(path, 'rb') as capture:
                 runs.append(same(programs, bench.REPLAY[1:], capture.read(), title))

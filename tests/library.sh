@@ -1,8 +1,8 @@
 #!/usr/bin/env bash
 # The library for C: what it is made of, the examples of bindings/c, a caller's worst (tests/lib/library.c) beside `nbt
 # show`, sanitizers, memory that runs out, the package for Python and its types, nbt-station, and the crate for Rust. Usage:
-# [AFTER_RT_CI=1] tests/library.sh [PROGRAM]; its last line is 'N passed, M failed, K skipped'. The library is built over what
-# `rt ci` has just left, where AFTER_RT_CI says so, and else by `rt lib`.
+# [AFTER_RT_CI=1] [MODULE=FILE] tests/library.sh [PROGRAM]; its last line is 'N passed, M failed, K skipped'. The library is built
+# over what `rt ci` has just left, where AFTER_RT_CI says so, and else by `rt lib`. MODULE then gets its LLVM module.
 set -uo pipefail
 # What stands last in a pipe counts its cases here.
 shopt -s lastpipe
@@ -27,7 +27,7 @@ files() {
     local archive=$top/crates/nb_c/out/libnb_c.a
     if [ -n "${AFTER_RT_CI:-}" ]; then
         archive=$room/libnb_c.a
-        "$here/lib/archive" "$archive"
+        "$here/lib/archive" "$archive" "${MODULE:-$room/nbt.bc}"
     else
         (cd "$top/crates/nb_c" && rt lib)
     fi >"$room/log" 2>&1

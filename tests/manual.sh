@@ -1,8 +1,8 @@
 #!/usr/bin/env bash
 # The manual pages: what mandoc says of them, where mandoc is installed, and whether they have each command, option and
 # refusal of the built program's and the tools' help; what bash and zsh offer; what `make install` puts where, and what `make
-# uninstall` leaves; the Debian package; the places that docs/CHANGING.md names. Usage: tests/manual.sh [PROGRAM]; its last
-# line is 'N passed, M failed, K skipped'.
+# uninstall` leaves; the Debian package; the pages beside the sources. Usage: tests/manual.sh [PROGRAM]; its last line is 'N
+# passed, M failed, K skipped'.
 set -uo pipefail
 . "$(dirname "$0")/lib/counting.sh"
 program=${1:-$here/../crates/nbt/out/nbt}
@@ -51,30 +51,6 @@ refusals() {
         grep -qxF -e "$line." "$room/advice"
         count $? "man/nbt.1 has the line: $line"
     done <"$room/refusals"
-}
-
-# Each file and folder that docs/CHANGING.md names is there.
-places() {
-    local place
-    for place in $(grep -oE '`[A-Za-z_]+(/[A-Za-z_.-]+)*`' "$here/../docs/CHANGING.md" | tr -d '`' | grep -E '/|\.md$' | sort -u); do
-        [ -e "$here/../$place" ]
-        count $? "docs/CHANGING.md names $place"
-    done
-}
-
-# Each wrong body that a page names is there, and docs/PROOFS.md names each that is there.
-wrong_bodies() {
-    local edit crate
-    for edit in $(grep -ohE '`([a-z_]+/)?[a-z0-9_]+-[a-z0-9]+(_[a-z0-9]+)+`' "$here"/../docs/*.md | tr -d '`' | sort -u); do
-        compgen -G "$here/../crates/*/must-fail/${edit##*/}.edit" | grep -q "${edit%"${edit##*/}"}"
-        count $? "the pages name the wrong body $edit"
-    done
-    for edit in "$here"/../crates/*/must-fail/*.edit; do
-        crate=${edit%/must-fail/*}
-        edit=${edit##*/}
-        grep -qF "\`${crate##*/}/${edit%.edit}\`" "$here/../docs/PROOFS.md"
-        count $? "docs/PROOFS.md names the wrong body ${crate##*/}/${edit%.edit}"
-    done
 }
 
 # The help of each installed tool says its installed name alone, and its page has each option of it.
@@ -280,8 +256,7 @@ package_lint() {
 if command -v mandoc >/dev/null; then part mandoc lint; else lacks mandoc mandoc; fi
 part words words
 part refusals refusals
-part places places
-part wrong_bodies wrong_bodies
+part pages counted_by pages.py
 part bash completion bash nbt.bash
 if command -v zsh >/dev/null; then part zsh completion zsh _nbt; else lacks zsh zsh; fi
 part installed installed

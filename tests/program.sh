@@ -62,18 +62,26 @@ pages() {
     page docs/GUIDE.md
 }
 
-# counted_by SCRIPT WORD..: the cases of a script of tests/lib, whose last line is 'N passed, M failed'.
-counted_by() {
-    local script=$1 counts='^([0-9]{1,9}) passed, ([0-9]{1,9}) failed$'
-    shift
-    "$here/lib/$script" "$@" >"$room/counted"
-    if [[ $(tail -n 1 "$room/counted") =~ $counts ]]; then
-        passed=$((passed + BASH_REMATCH[1]))
-        failed=$((failed + BASH_REMATCH[2]))
-        grep '^failed: ' "$room/counted"
-    else
-        count 1 "tests/lib/$script has no last line"
-    fi
+# Tables as another version saved them: each line of tests/saved.txt has one, and behind it, where it has no promise, the same
+# in the first form. Both are saved again as the first; of all of them, in either order, comes what that version made of them.
+saved() {
+    local table first
+    grep '^4e4254' "$here/saved.txt" >"$room/tables"
+    while read -r table first; do
+        for first in $first $table; do
+            nbt merge <<<"$first" >"$room/output" && holds "$room/output" "$table"$'\n'
+            count $? "nbt merge: ${first:0:80}"
+        done
+    done <"$room/tables"
+    sed 's/ .*//' "$room/tables" | nbt merge >"$room/output" && sed -n 's/^all //p' "$here/saved.txt" | cmp -s - "$room/output"
+    count $? 'nbt merge: all tables of tests/saved.txt'
+    tac "$room/tables" | sed 's/.* //' | nbt merge | cmp -s - "$room/output"
+    count $? 'nbt merge: the same in the other order, in the first form where there is one'
+}
+
+# Three tables in every order and every grouping, beside a model that finds their join from the definitions.
+merges() {
+    counted_by random_merges.py "$program"
 }
 
 # What `--json` prints, beside a model that makes the objects from payloads.
@@ -321,6 +329,8 @@ printf '#!/bin/sh\nexec env LD_PRELOAD=%s/devices.so "$@"\n' "$room" >"$room/bin
 part shims compile devices refuse_memory
 part cases cases
 part pages pages
+part saved saved
+part merges merges
 part objects objects
 part rooms rooms
 part streams streams

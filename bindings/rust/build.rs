@@ -1,7 +1,9 @@
-//! Asks pkg-config where libnbt is, and says so to Cargo. With NBT_STATIC=1 libnbt.a is linked, and no file of the
-//! library is needed when the program runs.
+//! Links the libnbt.a of the target that lies in the crate's folder lib, as in the crate of `make dist`. Where there is none it
+//! asks pkg-config where libnbt is, and says so to Cargo. With NBT_STATIC=1 libnbt.a is linked, and no file of the library is
+//! needed when the program runs.
 
 use std::env;
+use std::path::Path;
 use std::process::{exit, Command};
 
 /// What the answer depends on.
@@ -18,6 +20,9 @@ fn main() {
     for name in ASKED {
         println!("cargo:rerun-if-env-changed={name}");
     }
+    if link_own() {
+        return;
+    }
     match linker_flags() {
         Ok(flags) => words(&flags).iter().for_each(|word| link(word)),
         Err(reason) => {
@@ -26,6 +31,21 @@ fn main() {
             exit(1);
         }
     }
+}
+
+/// Links the library of the crate's own folder, if it has one for this target.
+fn link_own() -> bool {
+    let of = |name| env::var(name).unwrap_or_default();
+    let target = of("CARGO_CFG_TARGET_ARCH") + "-" + &of("CARGO_CFG_TARGET_OS");
+    let folder = Path::new(&of("CARGO_MANIFEST_DIR"))
+        .join("lib")
+        .join(target);
+    if !folder.join("libnbt.a").exists() {
+        return false;
+    }
+    println!("cargo:rustc-link-search=native={}", folder.display());
+    println!("cargo:rustc-link-lib=static=nbt");
+    true
 }
 
 /// What pkg-config says that the linker has to be told.

@@ -80,6 +80,20 @@ requests() {
     return $status
 }
 
+# counted_by SCRIPT WORD..: the cases of a script of tests/lib, whose last line is 'N passed, M failed'.
+counted_by() {
+    local script=$1 counts='^([0-9]{1,9}) passed, ([0-9]{1,9}) failed$'
+    shift
+    "$here/lib/$script" "$@" >"$room/counted"
+    if [[ $(tail -n 1 "$room/counted") =~ $counts ]]; then
+        passed=$((passed + BASH_REMATCH[1]))
+        failed=$((failed + BASH_REMATCH[2]))
+        grep '^failed: ' "$room/counted"
+    else
+        count 1 "tests/lib/$script has no last line"
+    fi
+}
+
 # with_tools PROGRAM: $room/bin has the program and the tools that lead from a pcap and back, by the names that they have once
 # installed. tshark has no user's settings.
 with_tools() {

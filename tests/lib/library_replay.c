@@ -1,5 +1,6 @@
 /* What `nbt replay` prints of a capture on standard input, by a station of the library for C, but for why a payload is
  * refused. Usage: library_replay NAME.. <CAPTURE. The status is 1 where a name is refused, or memory runs out. */
+#include <ctype.h>
 #include <nbt.h>
 #include <stdio.h>
 #include <stdlib.h>
@@ -14,13 +15,16 @@ static void fail(const char *what, uint32_t status)
     exit(1);
 }
 
-/* The bytes of some digits, or of `empty`. */
+static uint8_t half(char digit) { return (uint8_t)(digit <= '9' ? digit - '0' : digit - 'a' + 10); }
+
+/* The bytes of some digits, or of `empty`. sscanf would look for the line's end at each byte. */
 static size_t bytes_of(const char *digits)
 {
-    size_t length = 0;
-    unsigned byte;
-    while (sscanf(digits + 2 * length, "%2x", &byte) == 1 && strncmp(digits, "empty", 5) != 0)
-        payload[length++] = (uint8_t)byte;
+    size_t length;
+    if (strncmp(digits, "empty", 5) == 0)
+        return 0;
+    for (length = 0; isxdigit((unsigned char)digits[2 * length]); length++)
+        payload[length] = (uint8_t)(half(digits[2 * length]) << 4 | half(digits[2 * length + 1]));
     return length;
 }
 

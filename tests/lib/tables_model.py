@@ -61,12 +61,13 @@ class Entry:
         """All that a table keeps of it."""
         return self.is_spoilt or (self.parts, self.end, self.promise, self.bytes)
 
-    def saved(self):
+    def saved(self, has_promises=True):
         """Its bytes in a saved table, after its key (docs/FORMATS.md)."""
         if self.is_spoilt:
             return b'\0'
         kind, source, target = self.parts
-        marks = b''.join(b'\0' if it is None else b'\1' + it.to_bytes(2, 'big') for it in (self.end, self.promise))
+        places = (self.end, self.promise) if has_promises else (self.end,)
+        marks = b''.join(b'\0' if it is None else b'\1' + it.to_bytes(2, 'big') for it in places)
         runs = []
         for place in sorted(self.bytes):
             if place - 1 not in self.bytes:
@@ -102,13 +103,18 @@ def handed(before, after):
     return ' and '.join(entry(after, key).datagram(key) for key in new) or 'nothing'
 
 
-def saved(fragments):
-    """The bytes of the table of a list."""
+def saved_bytes(fragments, has_promises=True):
+    """The bytes of the table of a list, in the second form or, where it has no promises, in the first."""
     rows = b''
     held = [key for key in KEYS if entry(fragments, key).is_held]
     for key in held:
-        rows += bytes([10, 0, 0, 5, 0, int(key[9:12]), 0, 1]) + entry(fragments, key).saved()
-    return word(b'NBT2' + len(held).to_bytes(4, 'big') + rows)
+        rows += bytes([10, 0, 0, 5, 0, int(key[9:12]), 0, 1]) + entry(fragments, key).saved(has_promises)
+    return (b'NBT2' if has_promises else b'NBT1') + len(held).to_bytes(4, 'big') + rows
+
+
+def saved(fragments):
+    """The same, as an example says it."""
+    return word(saved_bytes(fragments))
 
 
 def table(fragments):
@@ -174,4 +180,5 @@ def main():
     print(example(byte_by_byte(bytes(chance.randbytes(300)))))
 
 
-main()
+if __name__ == '__main__':
+    main()

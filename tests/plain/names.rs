@@ -1,53 +1,6 @@
-//! Hexadecimal digits; names as packets spell them, and the text that people write.
+//! Names as packets spell them, and the text that people write.
 
-const DIGITS: &[u8; 16] = b"0123456789abcdef";
-/// What the tables of values have for a character that is no digit.
-const NO_DIGIT: u16 = 0x100;
-
-/// The value of each character as a hexadecimal digit, with so many bits after it.
-const fn values(bits: u32) -> [u16; 256] {
-    let mut values = [NO_DIGIT; 256];
-    let mut value = 0;
-    while value < 16 {
-        let character = DIGITS[value];
-        values[character as usize] = (value as u16) << bits;
-        values[character.to_ascii_uppercase() as usize] = (value as u16) << bits;
-        value += 1;
-    }
-    values
-}
-
-static HIGH: [u16; 256] = values(4);
-static LOW: [u16; 256] = values(0);
-
-/// The two digits of each byte.
-pub static PAIRS: [[u8; 2]; 256] = {
-    let mut pairs = [[0; 2]; 256];
-    let mut byte = 0;
-    while byte < 256 {
-        pairs[byte] = [DIGITS[byte >> 4], DIGITS[byte & 15]];
-        byte += 1;
-    }
-    pairs
-};
-
-fn digit(character: u8) -> Option<u8> {
-    let value = LOW[character as usize];
-    (value != NO_DIGIT).then_some(value as u8)
-}
-
-/// Puts the bytes that the digits stand for in the place of what was there. Says whether they are
-/// digits, two for each byte.
-pub fn read_digits(digits: &[u8], bytes: &mut Vec<u8>) -> bool {
-    bytes.resize(digits.len() / 2, 0);
-    let mut seen = 0;
-    for (byte, pair) in bytes.iter_mut().zip(digits.chunks_exact(2)) {
-        let value = HIGH[pair[0] as usize] | LOW[pair[1] as usize];
-        seen |= value;
-        *byte = value as u8;
-    }
-    seen < NO_DIGIT && digits.len() % 2 == 0
-}
+use crate::digits::digit;
 
 // ---- spellings
 

@@ -1,6 +1,6 @@
-//! What `nbt replay` does, in plain Rust on std alone and without proofs: a program that
-//! docs/PERFORMANCE.md compares with. `tests/compare_plain.py` has rustc compile it, and runs both
-//! over the same captures. It is no part of the gate.
+//! What `nbt replay` does, in plain Rust without proofs: a program that docs/PERFORMANCE.md compares
+//! with. `tests/compare_plain.py` has it compiled in two forms, on std alone and on the crates that
+//! `nbt` stands on, and runs all over the same captures. It is no part of the gate.
 //!
 //! usage: replay [--keys N] [--per-source N] NAME..
 //!
@@ -8,12 +8,18 @@
 //! for the other options, the words about a bad command line, and memory that runs out, which ends
 //! it. It prints when it has 64 KiB, and at the end.
 
+#[cfg_attr(feature = "crates", path = "digits_of_hex.rs")]
+mod digits;
+#[cfg_attr(feature = "crates", path = "lines_of_memchr.rs")]
+mod lines;
 mod names;
 mod packets;
 mod report;
 mod tables;
 
-use crate::names::{name_from_text, read_digits, TextFault, FIRST_LABEL};
+use crate::digits::read_digits;
+use crate::lines::space_in;
+use crate::names::{name_from_text, TextFault, FIRST_LABEL};
 use crate::packets::{decode, Fragment, Refusal, BROADCAST, NOT_PRESENT, UNIQUE};
 use crate::report::Report;
 use crate::tables::{Change, Table};
@@ -122,10 +128,7 @@ fn read_line(line: &[u8], payload: &mut Vec<u8>) -> Option<Line> {
         return read_moment(word).map(Line::Tick);
     }
     let (port, rest) = line.split_at_checked(4)?;
-    let space = rest
-        .iter()
-        .take(21)
-        .position(|character| *character == b' ')?;
+    let space = space_in(&rest[..rest.len().min(21)])?;
     let moment = read_moment(&rest[..space])?;
     let line = match port {
         b"138 " => Line::Datagram(moment),

@@ -1,6 +1,7 @@
 //! The lines of the report.
 
-use crate::names::{is_plain, name_bytes, FIRST_LABEL, FRONT, PAIRS};
+use crate::digits::push_digits;
+use crate::names::{is_plain, name_bytes, FIRST_LABEL, FRONT};
 use crate::packets::{Fragment, Key, Refusal, UNIQUE};
 
 /// What is to be printed.
@@ -25,11 +26,7 @@ impl Report {
     }
 
     fn digits(&mut self, bytes: &[u8]) {
-        let length = self.0.len();
-        self.0.resize(length + 2 * bytes.len(), 0);
-        for (pair, byte) in self.0[length..].chunks_exact_mut(2).zip(bytes) {
-            pair.copy_from_slice(&PAIRS[*byte as usize]);
-        }
+        push_digits(bytes, &mut self.0);
     }
 
     fn key(&mut self, key: Key) {
@@ -69,8 +66,9 @@ impl Report {
             .rposition(|byte| *byte != b' ')
             .map_or(0, |last| last + 1);
         self.items(&bytes[..length]);
-        let [high, low] = PAIRS[bytes[FRONT] as usize];
-        self.0.extend_from_slice(&[b'<', high, low, b'>']);
+        self.words("<");
+        self.digits(&bytes[FRONT..]);
+        self.words(">");
         let mut scope = &spelling[FIRST_LABEL..];
         while let [length @ 1..=63, rest @ ..] = scope {
             let (label, after) = rest.split_at(*length as usize);

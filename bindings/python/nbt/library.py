@@ -40,11 +40,11 @@ LIBRARY, ALONE = loaded(ctypes.CDLL), loaded(ctypes.PyDLL)
 
 
 def call(name: str, *arguments: Any, library: ctypes.CDLL = LIBRARY, answer: Any = ctypes.c_uint32) -> Any:
-    """A call of the library, which answers a status; ImportError where the library is older than this package and lacks it."""
+    """A call of the library, which answers a status; ImportError where the library is of another version and lacks it."""
     try:
         function = getattr(library, name)
     except AttributeError as error:
-        raise ImportError(str(error)) from error
+        raise ImportError(f'{error}: the library is of another version than this package; install both of one') from error
     function.argtypes, function.restype = arguments, answer
     return function
 

@@ -1,6 +1,8 @@
 """The package beside the header: the same statuses, and a word for each."""
 import os
 import re
+import subprocess
+import sys
 import unittest
 
 from nbt import Status
@@ -97,6 +99,15 @@ class Library(unittest.TestCase):
     def test_calls(self):
         for name in re.findall(r'\b(nbt_[a-z_]+)\(', self.header):
             self.assertTrue(hasattr(LIBRARY, name), name)
+
+    def test_other_libraries(self):
+        """A library that lacks a call, as the C library lacks all, and one that isn't there."""
+        for path, words in (('libc.so.6', 'the library is of another version than this package; install both of one'),
+                            ('/nowhere/libnbt.so.0', 'NBT_LIBRARY may name the file')):
+            done = subprocess.run([sys.executable, '-c', 'import nbt'], env={**os.environ, 'NBT_LIBRARY': path}, capture_output=True, text=True)
+            self.assertEqual(done.returncode, 1)
+            last = done.stderr.splitlines()[-1]
+            self.assertTrue(last.startswith('ImportError: ') and path in last and last.endswith(words), last)
 
 
 if __name__ == '__main__':

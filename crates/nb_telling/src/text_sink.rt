@@ -9,7 +9,7 @@ use crate::field_key::FieldKey;
 use crate::flag::Flag;
 use crate::shows::Shows;
 use crate::sink::Sink;
-use nb_names::{Bytes, NoMemory, push_data, push_digits, push_decimal, push_shown};
+use nb_names::{Bytes, NoMemory, push_data, push_decimal, push_digits, push_shown};
 use std::fmt::Display;
 
 /// Adds each field's text. Nothing is there of the places of faults, which the faults' texts have,

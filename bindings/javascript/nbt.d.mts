@@ -1,0 +1,153 @@
+/** What a call takes as bytes. It is copied before the call begins. */
+export type Bytes = ArrayBufferView | ArrayBuffer | SharedArrayBuffer;
+/** An address, as '10.0.0.5' or as a number: 0x0a000005. */
+export type Address = string | number;
+/** Milliseconds since any moment of the caller's choice. A bigint may have all 64 bits. */
+export type Moment = number | bigint;
+
+/** The numbers of enum nbt_status, by their names without NBT_; nbt.h says when each comes. */
+export declare const Status: Readonly<Record<string, number>>;
+
+/** Why a call did nothing. It leaves everything as it was. */
+export declare class NbtError extends Error {
+    /** The name of the status: 'BAD_TEXT'; 'UNKNOWN_STATUS' of one that only a newer module knows. */
+    readonly status: string;
+    readonly number: number;
+    /** Where the fault stands, in bytes from the start of what has it; at MORE how many bytes are missing, at least; else null. */
+    readonly at: number | null;
+    constructor(number: number, at: number | null, words: string);
+}
+
+/** A packet of the datagram service, port 138: RFC 1002 section 4.4. */
+export interface Datagram {
+    /** MSG_TYPE: 0x10 to 0x12 a fragment, 0x13 an error, 0x14 to 0x16 a query. */
+    type: number;
+    /** FLAGS, all eight bits: 0x01 more fragments follow, 0x02 the first fragment. */
+    flags: number;
+    identifier: number;
+    address: string;
+    port: number;
+    /** Where the data begins in the datagram's; 0 but in a fragment. */
+    offset: number;
+    /** The bytes of the packet: what follows them isn't looked at. */
+    used: number;
+    /** SOURCE_NAME as a text; null but in a fragment. */
+    source: string | null;
+    /** DESTINATION_NAME as a text; null in an error. */
+    destination: string | null;
+    /** A fragment's data, or an error's code, which is one byte; no bytes in a query. */
+    data: Uint8Array;
+}
+
+/** A datagram to be written: 0x10 to a unique name, 0x11 to a group, 0x12 a broadcast. */
+export interface DatagramToWrite {
+    type: number;
+    identifier: number;
+    address: Address;
+    /** 138 without it. */
+    port?: number;
+    source: string;
+    destination: string;
+    data: Bytes;
+    /** How many bytes of data a piece has, at most; 512 without it. */
+    most?: number;
+}
+
+/** A packet of the session service, port 139: RFC 1002 section 4.3. */
+export interface SessionPacket {
+    type: number;
+    body: Uint8Array;
+    used: number;
+}
+
+/** What a request of the name service says. `timeToLive` is in seconds; 0 stands for a number or address that isn't given. */
+export interface Request {
+    identifier: number;
+    name: string;
+    broadcast?: boolean;
+    timeToLive?: number;
+    flags?: number;
+    address?: Address;
+}
+
+/** How many keys there may be, and how many of one address, which has no limit without it. */
+export interface Limits {
+    keys?: number;
+    perSource?: number;
+}
+
+/** A datagram that is handed over. */
+export interface Delivery {
+    type: number;
+    address: string;
+    port: number;
+    identifier: number;
+    source: string;
+    destination: string;
+    data: Uint8Array;
+}
+
+/** What became of a payload. */
+export interface Taken {
+    outcome: 'KEPT' | 'SPOILT' | 'DELIVERED' | 'UNHEARD' | 'OTHER' | 'REFUSED';
+    /** The key of a fragment's datagram; null, 0 and 0 of anything else. */
+    address: string | null;
+    port: number;
+    identifier: number;
+    /** At DELIVERED. */
+    delivery: Delivery | null;
+    /** The packet to be sent to where the payload came from, if there is one. */
+    error: Uint8Array | null;
+    /** At REFUSED: what `readDatagram` throws of the payload. */
+    refusal: NbtError | null;
+}
+
+/** A station: the datagrams that its names hear are handed over once, by the payload that makes them whole. */
+export interface Station {
+    /** Takes a payload of port 138. NbtError: MISPLACED_FIRST, LONG, FULL_SOURCE, FULL, NO_MEMORY. */
+    take(moment: Moment, payload: Bytes): Taken;
+    /** Drops each key that came at least 2,000 milliseconds before, and answers how many. */
+    tick(now: Moment): number;
+    /** Its table, saved. */
+    save(): Uint8Array;
+    /** Joins another station's saved table: the datagrams that become whole by it and are heard, by ascending key. */
+    absorb(moment: Moment, table: Bytes): Delivery[];
+    /** Gives the station back; a second time does nothing. */
+    close(): void;
+}
+
+/** The calls of nbt.h, over one module with a memory of its own. What is answered is the caller's. */
+export interface Nbt {
+    /** keys is 1,024 without it, port 138. NbtError: BAD_TEXT, LONG_TEXT, NAME_PRESENT, TOO_MANY_NAMES. */
+    readonly Station: new (names: Iterable<string>, address: Address, options?: Limits & { port?: number }) => Station;
+    /** The words of a status. */
+    words(status: number): string;
+    /** The spelling of the name with this text: 'FRED<20>'. */
+    spell(text: string): Uint8Array;
+    /** The text of the name with this spelling. */
+    text(spelling: Bytes): string;
+    /** What the command `nbt show` prints of a payload that came to this port. */
+    show(port: number, payload: Bytes): string;
+    /** Places count from the offset. */
+    readDatagram(payload: Bytes, offset?: number): Datagram;
+    /** The packets of a datagram, in order. */
+    writeDatagram(datagram: DatagramToWrite): Uint8Array[];
+    /** NbtError: MORE where the packet isn't there whole. */
+    readSession(payload: Bytes, offset?: number): SessionPacket;
+    writeSession(type: number, body?: Bytes): Uint8Array;
+    request(kind: 'query' | 'nodeStatus' | 'registration' | 'refresh' | 'release', request: Request): Uint8Array;
+    /** Joins two saved tables; keys is 65,535 without it. */
+    merge(first: Bytes, second: Bytes, limits?: Limits): Uint8Array;
+    /** What the command `nbt list` prints of a saved table. */
+    list(table: Bytes): string;
+}
+
+export interface LoadOptions {
+    /** nbt.wasm: its place, its bytes, or the module. Without it the file beside nbt.mjs is taken. */
+    module?: string | URL | Bytes | WebAssembly.Module;
+    /** How many bytes its memory may have, at most; 2 to the 30th without it. */
+    limit?: number;
+}
+
+/** Loads the module. An Error says where the engine has no memory64. */
+export declare function load(options?: LoadOptions): Promise<Nbt>;

@@ -1,0 +1,373 @@
+/** NetBIOS packets over TCP and UDP (RFC 1001, RFC 1002): the library of nbt.h in WebAssembly, for node, deno and browsers.
+ * nbt.d.mts says what each call is given and answers. */
+
+/** The numbers of enum nbt_status. */
+export const Status = Object.freeze({
+    DONE: 0, NO_ROOM: 1, NO_MEMORY: 2, BAD_TEXT: 10, LONG_TEXT: 11, SOURCE_BAD_TEXT: 12, SOURCE_LONG_TEXT: 13,
+    DESTINATION_BAD_TEXT: 14, DESTINATION_LONG_TEXT: 15, NAME_TRUNCATED: 20, NAME_RESERVED_LABEL: 21, NAME_POINTER: 22,
+    NAME_LONG: 23, NAME_NOT_NETBIOS: 24, NAME_TRAILING_BYTES: 25, NAME_BAD_POINTER: 26, SOURCE_TRUNCATED: 30,
+    SOURCE_RESERVED_LABEL: 31, SOURCE_POINTER: 32, SOURCE_LONG: 33, SOURCE_NOT_NETBIOS: 34, SOURCE_BAD_POINTER: 36,
+    DESTINATION_TRUNCATED: 40, DESTINATION_RESERVED_LABEL: 41, DESTINATION_POINTER: 42, DESTINATION_LONG: 43,
+    DESTINATION_NOT_NETBIOS: 44, DESTINATION_BAD_POINTER: 46, TRUNCATED: 50, UNKNOWN_TYPE: 51, MORE: 52, RESERVED_FLAGS: 53,
+    BAD_LENGTH: 54, TRAILING_BYTES: 55, UNKNOWN_REQUEST: 60, ZERO_PIECE: 61, LONG_DATA: 62, TABLE_BAD_MAGIC: 70,
+    TABLE_TRUNCATED: 71, TABLE_NOT_CANONICAL: 72, TABLE_LONG: 73, TABLE_FULL_SOURCE: 74, TABLE_FULL: 75, SECOND_BAD_MAGIC: 80,
+    SECOND_TRUNCATED: 81, SECOND_NOT_CANONICAL: 82, SECOND_LONG: 83, SECOND_FULL_SOURCE: 84, SECOND_FULL: 85,
+    MISPLACED_FIRST: 90, LONG: 91, FULL_SOURCE: 92, FULL: 93, NAME_PRESENT: 100, TOO_MANY_NAMES: 101, UNKNOWN_STATUS: 255,
+});
+const STATUS_NAMES = new Map(Object.entries(Status).map(([name, number]) => [number, name]));
+const OUTCOMES = ['KEPT', 'SPOILT', 'DELIVERED', 'UNHEARD', 'OTHER', 'REFUSED'];
+const REQUESTS = ['query', 'nodeStatus', 'registration', 'refresh', 'release'];
+const NO_LIMIT = 0xffff_ffff, TAKE_ROOM = 66_045;
+// In front of the bytes that a call is given: how many it used, a place, and a structure of numbers. INTO is its room.
+const USED = { at: 0 }, AT = { at: 8 }, FOUND = { at: 16 }, FRONT = 96, INTO = {};
+// How much room an answer has at first, and how much is kept from one call to the next.
+const ROOM = 4_096, MOST_KEPT = 1 << 20;
+const utf8 = new TextEncoder(), ascii = new TextDecoder();
+
+/** Why a call did nothing. */
+export class NbtError extends Error {
+    constructor(number, at, words) {
+        super(at === null ? words : `${words} ${at}`);
+        this.name = 'NbtError';
+        this.status = STATUS_NAMES.get(number) ?? 'UNKNOWN_STATUS';
+        this.number = number;
+        this.at = at;
+    }
+}
+
+function numberOf(value, bits, what) {
+    if (Number.isInteger(value) && value >= 0 && value < 2 ** bits) return value;
+    throw new RangeError(`${what}: ${String(value)} is no number of ${bits} bits`);
+}
+
+function momentOf(value, what) {
+    const moment = typeof value === 'bigint' ? value : BigInt(numberOf(value, 53, what));
+    if (BigInt.asUintN(64, moment) === moment) return moment;
+    throw new RangeError(`${what}: ${moment} is no number of 64 bits`);
+}
+
+function addressOf(value) {
+    if (typeof value !== 'string') return numberOf(value, 32, 'address');
+    const parts = value.split('.').map((part) => (/^(0|[1-9]\d{0,2})$/.test(part) ? Number(part) : 256));
+    if (parts.length === 4 && parts.every((part) => part < 256)) return parts.reduce((sum, part) => sum * 256 + part);
+    throw new RangeError(`address: ${value} is none`);
+}
+
+const addressText = (number) => [24, 16, 8, 0].map((bits) => (number >>> bits) & 255).join('.');
+
+function textOf(value, what) {
+    if (typeof value === 'string') return value;
+    throw new TypeError(`${what}: a text is wanted`);
+}
+
+const encoded = (value, what) => utf8.encode(textOf(value, what));
+
+/** The bytes of a buffer, from an offset on. */
+function bytesOf(value, what, offset = 0) {
+    const isView = ArrayBuffer.isView(value);
+    if (!isView && !/^\[object (Shared)?ArrayBuffer\]$/.test(Object.prototype.toString.call(value))) {
+        throw new TypeError(`${what}: a Uint8Array or another buffer is wanted`);
+    }
+    const bytes = isView ? new Uint8Array(value.buffer, value.byteOffset, value.byteLength) : new Uint8Array(value);
+    if (offset === 0) return bytes;
+    if (Number.isInteger(offset) && offset >= 0 && offset <= bytes.length) return bytes.subarray(offset);
+    throw new RangeError(`offset: ${String(offset)} lies outside of ${bytes.length} bytes`);
+}
+
+/** A station's names with a space between two. A zero byte, which no name has, stands for a space, and for an empty text. */
+function namesOf(names) {
+    if (typeof names === 'string' || typeof names?.[Symbol.iterator] !== 'function') throw new TypeError('names: a list of texts is wanted');
+    return utf8.encode(Array.from(names, (name) => textOf(name, 'name').replaceAll(' ', '\0') || '\0').join(' '));
+}
+
+/** The module's calls. What one is given lies in a piece of the module's memory, which the next one uses again. */
+class Calls {
+    constructor(exports, limit) {
+        this.exports = exports;
+        this.at = this.length = 0;
+        exports.heap_limit(BigInt(limit));
+        this.look();
+    }
+
+    look() {
+        this.bytes = new Uint8Array(this.exports.memory.buffer);
+        this.view = new DataView(this.exports.memory.buffer);
+    }
+
+    /** A call. One that doesn't come back, as where the engine's stack ends, may have left anything behind. */
+    call(name, words) {
+        if (this.fault) throw new Error('an earlier call was cut short: load the module again', { cause: this.fault });
+        try {
+            return this.exports[name](...words);
+        } catch (fault) {
+            this.fault = fault;
+            throw fault;
+        } finally {
+            if (this.bytes.length === 0) this.look();
+        }
+    }
+
+    reserve(length) {
+        if (length <= this.length && (this.length <= MOST_KEPT || length > MOST_KEPT)) return;
+        const earlier = this.at;
+        this.at = this.length = 0;
+        this.giveBack(earlier);
+        this.at = this.take(Math.max(length, FRONT + ROOM));
+        this.length = Math.max(length, FRONT + ROOM);
+    }
+
+    take(length) {
+        const at = Number(this.call('heap_take', [BigInt(length)]));
+        if (at === 0) throw this.error(Status.NO_MEMORY);
+        return at;
+    }
+
+    giveBack(at) {
+        if (at > 0) this.call('heap_give_back', [BigInt(at)]);
+    }
+
+    /** Makes a call. Of its words a buffer is passed as its place and its length, and INTO so is room for its answer. */
+    make(name, words, room) {
+        let length = FRONT + room;
+        for (const word of words) if (word instanceof Uint8Array) length += word.length;
+        this.reserve(length);
+        let next = this.at + FRONT;
+        const given = [];
+        for (const word of words) {
+            if (word instanceof Uint8Array) {
+                this.bytes.set(word, next);
+                given.push(BigInt(next), BigInt(word.length));
+                next += word.length;
+            } else if (word === INTO) {
+                given.push(BigInt(next), BigInt(this.at + this.length - next));
+                this.into = next;
+            } else {
+                given.push(typeof word === 'object' ? BigInt(this.at + word.at) : word);
+            }
+        }
+        this.view.setUint32(this.at + AT.at + 4, NO_LIMIT, true);
+        return this.call(name, given) >>> 0;
+    }
+
+    /** Makes a call that writes nothing but the front. */
+    fill(name, words) {
+        const status = this.make(name, words, 0);
+        if (status !== Status.DONE) throw this.error(status);
+    }
+
+    /** Makes a call that writes bytes, once more where it wants more room: those bytes, where they lie until the next call. */
+    write(name, words, room = ROOM) {
+        let status = this.make(name, words, room);
+        if (status === Status.NO_ROOM) status = this.make(name, words, this.number(USED.at));
+        if (status !== Status.DONE) throw this.error(status);
+        return this.bytes.subarray(this.into, this.into + this.number(USED.at));
+    }
+
+    /** The bytes that a structure has the place and the length of. */
+    part(bytes, at) { return bytes.slice(this.number(at), this.number(at) + this.number(at + 8)); }
+
+    free(handle) {
+        this.call('nbt_station_free', [this.view.getBigInt64(handle, true)]);
+        this.giveBack(handle);
+    }
+
+    byte(at) { return this.view.getUint8(this.at + at); }
+
+    word(at) { return this.view.getUint16(this.at + at, true); }
+
+    long(at) { return this.view.getUint32(this.at + at, true); }
+
+    number(at) { return this.long(at) + this.long(at + 4) * 2 ** 32; }
+
+    /** Why a call did nothing. Without memory there is none to ask for the words. */
+    error(status, at = status === Status.NO_MEMORY ? null : this.place()) {
+        return new NbtError(status, at, status === Status.NO_MEMORY ? 'memory' : this.words(status));
+    }
+
+    /** The place that the last call wrote, if it wrote any. */
+    place() { return this.long(AT.at + 4) === NO_LIMIT ? null : this.number(AT.at); }
+
+    words(status) { return ascii.decode(this.write('nbt_status_text', [status, INTO, USED])); }
+
+    name(spelling) { return ascii.decode(this.write('nbt_name_text', [spelling, INTO, USED, AT])); }
+}
+
+/** The datagrams of bytes that nbt_station_absorb wrote: of each its key, its type, both spellings, and its data after its length. */
+function deliveries(calls, bytes) {
+    const found = [], view = new DataView(bytes.buffer);
+    for (let at = 0, next; at < bytes.length; at = next) {
+        const source = at + 9, destination = endOf(bytes, source), length = endOf(bytes, destination);
+        next = length + 2 + view.getUint16(length);
+        found.push({
+            type: bytes[at + 8], address: addressText(view.getUint32(at)), port: view.getUint16(at + 4),
+            identifier: view.getUint16(at + 6), source: calls.name(bytes.subarray(source, destination)),
+            destination: calls.name(bytes.subarray(destination, length)), data: bytes.slice(length + 2, next),
+        });
+    }
+    return found;
+}
+
+/** Where a spelling ends: after its zero byte. */
+function endOf(bytes, at) {
+    while (bytes[at] > 0) at += 1 + bytes[at];
+    return at + 1;
+}
+
+/** Stations that are forgotten before they are closed are given back. */
+const forgotten = new FinalizationRegistry(({ calls, handle }) => calls.fault || calls.free(handle));
+
+/** Station, of one module. */
+const stationOf = (calls) => class Station {
+    #handle = 0;
+
+    constructor(names, address, { port = 138, keys = 1_024, perSource = NO_LIMIT } = {}) {
+        const words = [
+            namesOf(names), addressOf(address), numberOf(port, 16, 'port'), numberOf(keys, 32, 'keys'),
+            numberOf(perSource, 32, 'perSource'),
+        ];
+        const handle = calls.take(8);
+        try {
+            calls.fill('nbt_station_create', [...words, BigInt(handle), AT]);
+        } catch (fault) {
+            if (!calls.fault) calls.giveBack(handle);
+            throw fault;
+        }
+        this.#handle = handle;
+        forgotten.register(this, { calls, handle }, this);
+    }
+
+    #open() {
+        if (this.#handle === 0) throw new Error('the station is closed');
+        return BigInt(this.#handle);
+    }
+
+    take(moment, payload) {
+        const words = [this.#open(), momentOf(moment, 'moment'), bytesOf(payload, 'payload'), FOUND, INTO, USED];
+        const written = calls.write('nbt_station_take', words, TAKE_ROOM).slice();
+        const outcome = OUTCOMES[calls.long(16)], refusal = calls.long(64), at = calls.number(72), type = calls.byte(28);
+        const source = calls.number(32), data = source + calls.number(40);
+        const isOfKey = outcome !== 'OTHER' && outcome !== 'REFUSED';
+        const key = { address: addressText(calls.long(20)), port: calls.word(24), identifier: calls.word(26) };
+        const taken = { outcome, ...(isOfKey ? key : { address: null, port: 0, identifier: 0 }), delivery: null, error: null, refusal: null };
+        if (outcome === 'DELIVERED') {
+            const names = [written.subarray(0, source), written.subarray(source, data)].map((spelling) => calls.name(spelling));
+            taken.delivery = { type, ...key, source: names[0], destination: names[1], data: written.slice(data) };
+        } else if (written.length > 0) {
+            taken.error = written;
+        }
+        if (outcome === 'REFUSED') taken.refusal = calls.error(refusal, refusal === Status.UNKNOWN_TYPE ? null : at);
+        return taken;
+    }
+
+    tick(now) {
+        calls.fill('nbt_station_tick', [this.#open(), momentOf(now, 'now'), FOUND]);
+        return calls.long(16);
+    }
+
+    save() { return calls.write('nbt_station_save', [this.#open(), INTO, USED]).slice(); }
+
+    absorb(moment, table) {
+        const words = [this.#open(), momentOf(moment, 'moment'), bytesOf(table, 'table'), INTO, USED, AT];
+        return deliveries(calls, calls.write('nbt_station_absorb', words).slice());
+    }
+
+    close() {
+        const handle = this.#handle;
+        this.#handle = 0;
+        forgotten.unregister(this);
+        if (handle > 0) calls.free(handle);
+    }
+
+    [Symbol.dispose ?? Symbol('dispose')]() { this.close(); }
+};
+
+/** All calls of one module but those of a station. */
+function libraryOf(calls) {
+    return {
+        Station: stationOf(calls),
+        words: (status) => calls.words(numberOf(status, 32, 'status')),
+        spell: (text) => calls.write('nbt_name_spell', [encoded(text, 'text'), INTO, USED, AT]).slice(),
+        text: (spelling) => calls.name(bytesOf(spelling, 'spelling')),
+        show: (port, payload) =>
+            ascii.decode(calls.write('nbt_show', [numberOf(port, 16, 'port'), bytesOf(payload, 'payload'), INTO, USED])),
+        list: (table) => ascii.decode(calls.write('nbt_table_list', [bytesOf(table, 'table'), INTO, USED, AT])),
+
+        merge(first, second, { keys = 65_535, perSource = NO_LIMIT } = {}) {
+            const limits = [numberOf(keys, 32, 'keys'), numberOf(perSource, 32, 'perSource')];
+            return calls.write('nbt_table_merge', [bytesOf(first, 'first'), bytesOf(second, 'second'), ...limits, INTO, USED, AT]).slice();
+        },
+
+        readDatagram(payload, offset) {
+            const bytes = bytesOf(payload, 'payload', offset);
+            calls.fill('nbt_datagram_read', [bytes, FOUND, AT]);
+            const read = {
+                type: calls.byte(16), flags: calls.byte(17), identifier: calls.word(18), address: addressText(calls.long(20)),
+                port: calls.word(24), offset: calls.word(26), used: calls.number(80),
+            };
+            const [source, destination, data] = [32, 48, 64].map((at) => calls.part(bytes, at));
+            const named = (spelling) => (spelling.length > 0 ? calls.name(spelling) : null);
+            return { ...read, source: named(source), destination: named(destination), data };
+        },
+
+        writeDatagram({ type, identifier, address, port = 138, source, destination, data, most = 512 }) {
+            const numbers = [numberOf(type, 8, 'type'), numberOf(identifier, 16, 'identifier'), addressOf(address), numberOf(port, 16, 'port')];
+            const texts = [encoded(source, 'source'), encoded(destination, 'destination')];
+            const words = [...numbers, ...texts, bytesOf(data, 'data'), numberOf(most, 16, 'most'), INTO, USED, AT];
+            const written = calls.write('nbt_datagram_write', words), pieces = [];
+            for (let at = 0, next; at < written.length; at = next) {
+                next = at + 2 + written[at] * 256 + written[at + 1];
+                pieces.push(written.slice(at + 2, next));
+            }
+            return pieces;
+        },
+
+        readSession(payload, offset) {
+            const bytes = bytesOf(payload, 'payload', offset);
+            calls.fill('nbt_session_read', [bytes, FOUND, AT]);
+            return { type: calls.byte(16), body: calls.part(bytes, 24), used: calls.number(40) };
+        },
+
+        writeSession: (type, body = new Uint8Array()) =>
+            calls.write('nbt_session_write', [numberOf(type, 8, 'type'), bytesOf(body, 'body'), INTO, USED, AT]).slice(),
+
+        request(kind, { identifier, name, broadcast = false, timeToLive = 0, flags = 0, address = 0 }) {
+            if (!REQUESTS.includes(kind)) throw new RangeError(`request: ${String(kind)} is none of ${REQUESTS.join(', ')}`);
+            const words = [REQUESTS.indexOf(kind), numberOf(identifier, 16, 'identifier'), broadcast ? 1 : 0, encoded(name, 'name')];
+            words.push(numberOf(timeToLive, 32, 'timeToLive'), numberOf(flags, 16, 'flags'), addressOf(address));
+            return calls.write('nbt_service_request', [...words, INTO, USED, AT]).slice();
+        },
+    };
+}
+
+/** The bytes of nbt.wasm, from its place. node's fetch reads no files. */
+async function bytesAt(place) {
+    if (place.protocol === 'file:' && globalThis.process?.versions?.node) return (await import('node:fs/promises')).readFile(place);
+    const answer = await fetch(place);
+    if (!answer.ok) throw new Error(`${place}: status ${answer.status}`);
+    return answer.arrayBuffer();
+}
+
+/** A module of one instruction, whose memory has addresses of 64 bits. */
+const MEMORY64 = Uint8Array.of(0, 97, 115, 109, 1, 0, 0, 0, 5, 3, 1, 4, 1);
+
+/** What a module has to have. */
+const CALLS = [
+    'heap_give_back', 'heap_limit', 'heap_take', 'nbt_datagram_read', 'nbt_datagram_write', 'nbt_name_spell', 'nbt_name_text',
+    'nbt_service_request', 'nbt_session_read', 'nbt_session_write', 'nbt_show', 'nbt_station_absorb', 'nbt_station_create',
+    'nbt_station_free', 'nbt_station_save', 'nbt_station_take', 'nbt_station_tick', 'nbt_status_text', 'nbt_table_list', 'nbt_table_merge',
+];
+
+/** Loads nbt.wasm: from beside this file, or what `module` is. Its memory grows to `limit` bytes at most. */
+export async function load({ module = new URL('nbt.wasm', import.meta.url), limit = 1 << 30 } = {}) {
+    const most = numberOf(limit, 53, 'limit');
+    if (!WebAssembly.validate(MEMORY64)) {
+        throw new Error('nbt.wasm needs memory64: Chromium 133, Firefox 134, node 24 or deno 2.2, or later ones; node 20 and 22 have it by the flag --experimental-wasm-memory64');
+    }
+    const isPlace = typeof module === 'string' || module instanceof URL;
+    const source = isPlace ? await bytesAt(new URL(module, import.meta.url)) : module;
+    const isCompiled = source instanceof WebAssembly.Module;
+    const made = await WebAssembly.instantiate(isCompiled ? source : bytesOf(source, 'module'), {});
+    const { exports } = isCompiled ? made : made.instance, lacking = CALLS.find((name) => typeof exports[name] !== 'function');
+    if (lacking) throw new Error(`nbt.wasm is of another version than nbt.mjs and lacks ${lacking}: take both from one package`);
+    return libraryOf(new Calls(exports, most));
+}

@@ -1,0 +1,31 @@
+// Calls whose types have to be those of nbt.d.mts, for tsc --strict. It isn't run.
+import { load, NbtError, Status, type Delivery, type Nbt, type Station, type Taken } from '../nbt.mjs';
+
+const nbt: Nbt = await load({ module: new URL('nbt.wasm', import.meta.url), limit: 1 << 24 });
+const pieces: Uint8Array[] = nbt.writeDatagram({ type: 0x10, identifier: 1, address: 5, source: 'A<00>', destination: 'B<20>', data: new ArrayBuffer(4) });
+const station: Station = new nbt.Station(new Set(['B<20>']), '10.0.0.5', { keys: 5, port: 138 });
+const taken: Taken = station.take(5n, pieces[0]);
+if (taken.outcome === 'DELIVERED' && taken.delivery) {
+    const delivery: Delivery = taken.delivery;
+    const length: number = delivery.data.length + delivery.source.length;
+    nbt.show(138, new DataView(new ArrayBuffer(length)));
+}
+const name: string | null = nbt.readDatagram(pieces[0], 0).source;
+const joined: Uint8Array = nbt.merge(station.save(), station.save(), { perSource: 4 });
+const count: number = station.absorb(0, joined).length + station.tick(9) + Status.DONE;
+try {
+    nbt.request('nodeStatus', { identifier: count, name: name ?? '*<00>' });
+} catch (error) {
+    if (error instanceof NbtError) nbt.words(error.number + (error.at ?? 0)).concat(error.status);
+}
+
+// @ts-expect-error A text is no buffer.
+nbt.show(138, '85');
+// @ts-expect-error No request has this name.
+nbt.request('claim', { identifier: 1, name: 'A<00>' });
+// @ts-expect-error A status can't be written.
+Status.DONE = 1;
+// @ts-expect-error An outcome that there isn't.
+if (taken.outcome === 'LOST') station.close();
+// @ts-expect-error What may be null.
+taken.delivery.data;

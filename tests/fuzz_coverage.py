@@ -1,0 +1,153 @@
+#!/usr/bin/env python3
+"""The library under libFuzzer, with coverage counters and AddressSanitizer in its own code.
+
+Usage: tests/fuzz_coverage.py [--seconds N] [--module FILE] [--keep].  The module is what `make targets` or tools/module keeps, out/nbt.bc
+without it. What has to hold stands in tests/lib/fuzz_calls.c. It begins with the inputs of tests/corpus.txt, a line of digits each;
+with --keep those that are needed for what was reached are written there, 2 MB at most. An input for which something doesn't hold
+is printed as lines of a capture, and its digits, and the status is 1; 2 where a tool is missing. The last lines say what was reached.
+"""
+import argparse
+import collections
+import os
+import re
+import shutil
+import subprocess
+import sys
+import tempfile
+
+TOP = os.path.join(os.path.dirname(os.path.abspath(__file__)), '..')
+CORPUS = os.path.join(TOP, 'tests', 'corpus.txt')
+MOST_BYTES = 2_000_000
+CLANGS = [os.environ.get('FUZZ_CLANG'), 'clang-22', 'clang-19', 'clang-16', 'clang']
+WRAPPED = '-Wl,--wrap=malloc,--wrap=realloc'
+LIMITS = ['-max_len=4000', '-timeout=20', '-rss_limit_mb=1500']
+REACHED = re.compile(r'^(?:UN)?COVERED_FUNC: hits: \d+ edges: (\d+)/(\d+) (\S+)', re.M)
+
+
+def fail(text):
+    """Ends the program with one line."""
+    print(f'tests/fuzz_coverage.py: {text}', file=sys.stderr)
+    sys.exit(2)
+
+
+def run(words, **how):
+    done = subprocess.run(words, stdout=subprocess.PIPE, stderr=subprocess.STDOUT, text=True, errors='replace', **how)
+    if done.returncode:
+        fail(f'{os.path.basename(words[0])}: {done.stdout.strip()[-300:]}')
+    return done.stdout
+
+
+def fuzzing_clang(room):
+    """A clang that has libFuzzer and AddressSanitizer."""
+    source = os.path.join(room, 'none.c')
+    with open(source, 'w', encoding='ascii') as file:
+        file.write('int LLVMFuzzerTestOneInput(const char *at, unsigned long size) { return !at && size; }\n')
+    for clang in filter(None, CLANGS):
+        words = [clang, '-fsanitize=address,fuzzer', '-o', os.path.join(room, 'none'), source]
+        if shutil.which(clang) and subprocess.run(words, capture_output=True).returncode == 0:
+            return clang
+    return fail('no clang has libFuzzer: install clang-22 and libclang-rt-22-dev, or clang and its libclang-rt')
+
+
+def built(room, module):
+    """The fuzzer, the program that prints inputs, and one whose functions have all their blocks, which says what was reached. The
+    kit's clang has no runtimes, but compiles for those of another."""
+    if not shutil.which('rt'):
+        fail("rt, the command of the Rattle kit, isn't on PATH: install the kit first")
+    kit = os.path.dirname(run(['rt', 'doc']).splitlines()[0])
+    clang, at = fuzzing_clang(room), lambda name: os.path.join(room, name)
+    words = [f'{kit}/toolchain/bin/clang', '--target=x86_64-unknown-linux-gnu', '-Wno-override-module', '-c', '-x', 'ir', module]
+    # The functions of the module don't ask for AddressSanitizer, so they are made to.
+    run([*words, '-O2', '-fsanitize=address,fuzzer-no-link', '-mllvm', '-force-attribute=sanitize_address', '-o', at('library.o')])
+    run([*words, '-O0', '-fsanitize=fuzzer-no-link', '-o', at('blocks.o')])
+    words = [clang, '-std=c11', '-g', '-O1', '-fsanitize=address', f'-I{TOP}/include', f'{TOP}/tests/lib/fuzz_calls.c']
+    heap = f'{TOP}/bindings/heaps/malloc.c'
+    run([*words, '-c', '-o', at('calls.o')])
+    for library, program in (('library.o', 'fuzz'), ('blocks.o', 'blocks')):
+        run([clang, '-fsanitize=address,fuzzer', WRAPPED, at('calls.o'), heap, at(library), '-o', at(program)])
+    run([*words, '-DALONE', WRAPPED, '-fsanitize=fuzzer-no-link', heap, at('library.o'), '-o', at('alone')])
+    return at('fuzz'), at('alone'), at('blocks')
+
+
+def read_corpus(folder):
+    os.mkdir(folder)
+    with open(CORPUS, encoding='ascii') as file:
+        for number, line in enumerate(file):
+            with open(os.path.join(folder, f'{number:05}'), 'wb') as one:
+                one.write(bytes.fromhex(line))
+
+
+def write_corpus(folder):
+    """Short inputs first, as many as the limit has room for."""
+    inputs = []
+    for name in os.listdir(folder):
+        with open(os.path.join(folder, name), 'rb') as file:
+            inputs.append(file.read().hex())
+    size = 0
+    with open(CORPUS, 'w', encoding='ascii') as file:
+        for digits in sorted(set(inputs), key=lambda it: (len(it), it)):
+            size += len(digits) + 1
+            if digits and size <= MOST_BYTES:
+                file.write(f'{digits}\n')
+
+
+def show_failures(room, alone, said):
+    """Prints each input for which something doesn't hold."""
+    found = [name for name in sorted(os.listdir(room)) if re.match('(crash|leak|timeout|oom)-', name)]
+    print(*dict.fromkeys(re.findall(r'.*not so: .*|SUMMARY: .*', said)), sep='\n')
+    for name in found:
+        with open(os.path.join(room, name), 'rb') as file:
+            digits = file.read().hex()
+        print(subprocess.run([alone, 'print'], input=digits + '\n', stdout=subprocess.PIPE, text=True, check=True).stdout, end='')
+        print(f'input: {digits}')
+    return found
+
+
+def show_reached(said):
+    """Prints how many functions and edges were reached, and the functions of the project's crates that weren't."""
+    edges = collections.defaultdict(lambda: [0, 0])
+    for reached, of, name in REACHED.findall(said):
+        name = re.sub('::<.*', '', name)
+        edges[name] = [edges[name][0] + int(reached), edges[name][1] + int(of)]
+    for title, part in (('all functions', edges), ('of the crates', {name: it for name, it in edges.items() if re.match('nb_|nbt_', name)})):
+        print('reached, {}: {} of {} edges, {} of {} functions'.format(
+            title, sum(it[0] for it in part.values()), sum(it[1] for it in part.values()), sum(it[0] > 0 for it in part.values()), len(part)))
+    for name, (reached, of) in sorted(edges.items()):
+        if not reached and name.startswith('nb_'):
+            print(f'not reached: {name}, {of} edges')
+    for name, (reached, of) in sorted(edges.items()):
+        if reached and of - reached >= 4 and name.startswith('nb'):
+            print(f'reached in part: {name}, {reached} of {of} edges')
+
+
+def main():
+    parser = argparse.ArgumentParser()
+    parser.add_argument('--seconds', type=int, default=60)
+    parser.add_argument('--module', default=os.path.join(TOP, 'out', 'nbt.bc'))
+    parser.add_argument('--keep', action='store_true')
+    words = parser.parse_args()
+    if not os.path.exists(words.module):
+        fail(f'{words.module} is missing: run make targets first')
+    symbolizer = shutil.which('llvm-symbolizer-22') or shutil.which('llvm-symbolizer') or fail('llvm-symbolizer is missing: install llvm')
+    os.environ.update(ASAN_SYMBOLIZER_PATH=symbolizer, ASAN_OPTIONS='quarantine_size_mb=8:malloc_context_size=2')
+    with tempfile.TemporaryDirectory() as room:
+        fuzz, alone, blocks = built(room, words.module)
+        corpus, least = os.path.join(room, 'corpus'), os.path.join(room, 'least')
+        read_corpus(corpus)
+        os.mkdir(least)
+        limits = [*LIMITS, f'-artifact_prefix={room}/']
+        done = subprocess.run([fuzz, *limits, f'-max_total_time={words.seconds}', corpus], stdout=subprocess.PIPE, stderr=subprocess.STDOUT,
+                              text=True, errors='replace')
+        print(*[line for line in done.stdout.splitlines() if re.search('INITED|DONE', line)], sep='\n')
+        if done.returncode:
+            show_failures(room, alone, done.stdout)
+            return 1
+        run([fuzz, *limits, '-merge=1', least, corpus])
+        show_reached(run([blocks, *limits, '-runs=0', '-print_coverage=1', least]))
+        if words.keep:
+            write_corpus(least)
+    return 0
+
+
+if __name__ == '__main__':
+    sys.exit(main())

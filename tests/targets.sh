@@ -1,0 +1,260 @@
+#!/usr/bin/env bash
+# The library for other targets, made of the module of which the one for x86-64 is made: the same calls answer the same on x86-64, on
+# aarch64 (by qemu) and in WebAssembly (in node), where memory runs out too; the examples of bindings/c, stations and tables on each;
+# the package for JavaScript; what is said where a tool is missing. Usage: [MODULE=FILE] tests/targets.sh [PROGRAM]; its last line is
+# 'N passed, M failed, K skipped'. MODULE is the module, if it is there; else tools/module makes it.
+set -uo pipefail
+shopt -s lastpipe
+. "$(dirname "$0")/lib/counting.sh"
+program=$(realpath "${1:-$here/../crates/nbt/out/nbt}")
+top=$(realpath "$here/..")
+out=$room/out
+. "$here/lib/package_cases.sh"
+strict=(-std=c11 -O1 -g -Wall -Wextra -Wpedantic -Werror "-I$top/include")
+payloads=3000
+qemu=(qemu-aarch64 -L /usr/aarch64-linux-gnu)
+memory64='process.exit(WebAssembly.validate(Uint8Array.of(0, 97, 115, 109, 1, 0, 0, 0, 5, 3, 1, 4, 1)) ? 0 : 1)'
+
+# same WANTED NAME: whether standard input is what is wanted.
+same() {
+    diff <(printf '%s\n' "$1") - >"$room/difference"
+    count $? "$2: $(head -c 300 "$room/difference")"
+}
+
+calls() { grep -oE '\bnbt_[a-z_]+\(' "$top/include/nbt.h" | tr -d '(' | sort -u; }
+
+# The module, and what is made of it.
+files() {
+    local module=${MODULE:-} arm=$out/lib/aarch64
+    if [ ! -s "$module" ]; then
+        module=$room/nbt.bc
+        "$top/tools/module" "$module" >"$room/log" 2>&1
+        count $? "tools/module: $(tail -n 1 "$room/log")"
+    fi
+    "$top/tools/targets" make "$module" "$out" "$room/root" >"$room/log" 2>&1
+    count $? "tools/targets: $(tail -n 1 "$room/log")"
+    cp "$module" "$out/nbt.bc" && cp "$module.verdict" "$out/nbt.bc.verdict"
+    count $? 'the module and its verdict'
+    # The library for x86-64, of the same module.
+    "$here/lib/x86_64" "$module" "$out/lib" >"$room/log" 2>&1
+    count $? "tests/lib/x86_64: $(tail -n 1 "$room/log")"
+    aarch64-linux-gnu-nm -D --defined-only "$arm/libnbt.so.0" | awk '{ print $3 }' | sort | same "$(calls)" 'libnbt.so.0 of aarch64 exports the calls of the header'
+    aarch64-linux-gnu-nm -g --defined-only "$arm/libnbt.a" | awk 'NF == 3 { print $3 }' | sort | same "$(calls)" 'so does libnbt.a'
+    aarch64-linux-gnu-readelf -d "$arm/libnbt.so.0" | sed -nE 's/.*\((SONAME|NEEDED)\).*\[(.*)\]/\2/p' | sort \
+        | same $'libc.so.6\nlibnbt.so.0' 'the names of the library for aarch64, and of what it needs'
+    aarch64-linux-gnu-readelf -lW "$arm/libnbt.so.0" | grep GNU_STACK | grep -c E | same 0 'the stack of its callers is not made executable'
+    grep -c "^prefix=$room/root$" "$arm/nbt.pc" | same 1 'nbt.pc of aarch64'
+    [ "$(gzip -9c "$out/nbt.wasm" | wc -c)" -lt 120000 ]
+    count $? "nbt.wasm has $(gzip -9c "$out/nbt.wasm" | wc -c) bytes by gzip, which are 120,000 at most"
+    mkdir "$room/again"
+    "$top/tools/targets" make "$module" "$room/again" "$room/root" >"$room/log" 2>&1 && diff -r "$out/lib/aarch64" "$room/again/lib/aarch64" \
+        && cmp "$out/nbt.wasm" "$room/again/nbt.wasm"
+    count $? "the same files once more: $(tail -n 1 "$room/log")"
+}
+
+# lines COUNT SEED [LONGEST]: payloads, of so many bytes at most.
+lines() {
+    "$here/lib/library_payloads.py" --seed "$2" ${3:+--longest "$3"} "$1" >"$room/lines$2"
+    count $? "$1 payloads of tests/lib/library_payloads.py"
+}
+
+# compiled NAME SOURCE OPTION..: a program in C for aarch64, with the library in it, as $room/NAME.arm; and for x86-64, as $room/NAME.
+compiled() {
+    aarch64-linux-gnu-gcc "${strict[@]}" -o "$room/$1.arm" "$2" "${@:3}" "$out/lib/aarch64/libnbt.a" >"$room/log" 2>&1
+    count $? "$(basename "$2") for aarch64: $(head -n 1 "$room/log")"
+    ${CC:-cc} "${strict[@]}" -o "$room/$1" "$2" "${@:3}" "$out/lib/libnbt.a" >"$room/log" 2>&1
+    count $? "$(basename "$2") for x86-64: $(head -n 1 "$room/log")"
+}
+
+# alike NAME WANTED COMMAND..: what a command prints is what a file has, and it ends well.
+alike() {
+    ended "${@:3}" >"$room/output" 2>"$room/errors"
+    count $? "$1: $(tail -n 1 "$room/errors")"
+    cmp -s "$2" "$room/output"
+    count $? "$1 answers the same: $(diff "$2" "$room/output" | head -c 300)"
+}
+
+# All calls, with the same words.
+all_calls() {
+    compiled calls "$here/lib/target_calls.c" -Wl,--wrap=malloc,--wrap=realloc
+    lines "$payloads" 11
+    ended "$room/calls" <"$room/lines11" >"$room/calls.wanted" 2>"$room/errors"
+    count $? "tests/lib/target_calls.c: $(tail -n 1 "$room/errors")"
+    [ "$(grep -cE '^[0-9]+ show 0 ' "$room/calls.wanted")" -eq "$payloads" ] && [ "$(wc -l <"$room/calls.wanted")" -gt $((20 * payloads)) ]
+    count $? 'it prints a line a call'
+    alike aarch64 "$room/calls.wanted" "${qemu[@]}" "$room/calls.arm" <"$room/lines11"
+    alike WebAssembly "$room/calls.wanted" "${node[@]}" "$here/lib/target_calls.mjs" "$out/nbt.wasm" <"$room/lines11"
+}
+
+# Each request for memory refused in turn, on each target: what is answered then is the same.
+refused() {
+    local each
+    # A datagram in two pieces, a response, and a session request.
+    {
+        ended "$program" build group 10.0.0.5:138/0001 'JOE<00>' 'FRED<20>' 68656c6c6f2c2046524544 6 | tac
+        ended "$program" build response 0006 8500 'FRED<20>' 0020 300 60000a0000050000c0a80001
+        ended "$program" build request 'FRED<20>' 'JOE<00>.NETBIOS.COM'
+    } | sed 's/ 0 / /' >"$room/few"
+    ended "$room/calls" <"$room/few" >"$room/calls.wanted"
+    every x86-64 "$room/calls"
+    every aarch64 "${qemu[@]}" "$room/calls.arm"
+    every WebAssembly "${node[@]}" "$here/lib/target_calls.mjs" "$out/nbt.wasm"
+}
+
+# every TARGET COMMAND..: a case for each request of a target.
+every() {
+    local each
+    ended "${@:2}" every "$room/calls.wanted" <"$room/few" >"$room/output" 2>"$room/errors"
+    count $? "each request is refused on $1: $(tail -n 2 "$room/errors" | tr '\n' ' ')"
+    wc -l <"$room/output" | same "$(tail -n 1 "$room/errors")" "as many as there are, on $1"
+    while IFS= read -r each; do
+        [[ $each == ok:* ]]
+        count $? "$1: $each"
+    done <"$room/output"
+}
+
+# tests/lib/library.c, a caller's worst, on aarch64.
+worst() {
+    compiled worst "$here/lib/library.c"
+    lines "$payloads" 12
+    sed 's/ / 0 /' "$room/lines12" | ended "$program" show --input-limit 4294967296 >"$room/lines12.wanted"
+    count $? "nbt show of $payloads payloads"
+    alike 'tests/lib/library.c on aarch64' "$room/lines12.wanted" "${qemu[@]}" "$room/worst.arm" 8 <"$room/lines12"
+    alike 'show in WebAssembly' "$room/lines12.wanted" "${node[@]}" "$here/lib/targets.mjs" "$out" show <"$room/lines12"
+}
+
+# A capture by a station on each target, and its table, beside the program.
+stations() {
+    lines 1000 13
+    { cat "$top/examples/capture.txt"; sed 's/ / 2500 /' "$room/lines13"; echo tick 4000; } >"$room/capture"
+    ended "$program" replay 'FRED<20>' 'JOE<00>' <"$room/capture" | awk '
+        $2 == "refused" { print $1, $2 ($(NF - 1) == "error" ? " error " $NF : ""); next }
+        { print }' >"$room/replayed"
+    grep -q ' delivered ' "$room/replayed"
+    count $? 'nbt replay delivers a datagram'
+    compiled replay "$here/lib/library_replay.c"
+    alike 'a station on aarch64' "$room/replayed" "${qemu[@]}" "$room/replay.arm" 'FRED<20>' 'JOE<00>' <"$room/capture"
+    alike 'a station in JavaScript' "$room/replayed" "${node[@]}" "$here/lib/targets.mjs" "$out" replay 'FRED<20>' 'JOE<00>' <"$room/capture"
+    grep -v '^tick' "$room/capture" | ended "$program" save --keys 65535 >"$room/table"
+    ended "$program" list --keys 65535 <"$room/table" >"$room/listed"
+    grep -q ' whole ' "$room/listed" && grep -q ' partial ' "$room/listed"
+    count $? 'nbt list has a whole key, and one that is not'
+    alike 'list in JavaScript' "$room/listed" "${node[@]}" "$here/lib/targets.mjs" "$out" list <"$room/table"
+}
+
+# wanted FILE: what an example prints, which its last comment says.
+wanted() { awk '/^ \*\/$/ { shown = 0 } shown { sub(/^ \* ?/, ""); print } /^\/\* Prints:$/ { shown = 1 }' "$1"; }
+
+# The examples of bindings/c on aarch64, over the shared object.
+examples() {
+    local each
+    for each in "$top"/bindings/c/*.c; do
+        aarch64-linux-gnu-gcc "${strict[@]}" -o "$room/example.arm" "$each" "-L$out/lib/aarch64" -lnbt >"$room/log" 2>&1
+        count $? "$(basename "$each") for aarch64: $(head -n 1 "$room/log")"
+        ended "${qemu[@]}" -E LD_LIBRARY_PATH="$out/lib/aarch64" "$room/example.arm" 2>&1 | sed 's/ *$//' | same "$(wanted "$each")" "$(basename "$each") on aarch64"
+    done
+}
+
+# What was found to reach the most of the library (tests/fuzz_coverage.py), once more: on x86-64 under sanitizers, and on aarch64.
+corpus() {
+    local wanted
+    wanted="$(wc -l <"$here/corpus.txt") inputs"
+    ${CC:-cc} "${strict[@]}" -DALONE -fsanitize=address,undefined -fno-sanitize-recover=all -o "$room/corpus" "$here/lib/fuzz_calls.c" \
+        -Wl,--wrap=malloc,--wrap=realloc "$out/lib/libnbt.a" >"$room/log" 2>&1
+    count $? "tests/lib/fuzz_calls.c for x86-64: $(head -n 1 "$room/log")"
+    ended "$room/corpus" <"$here/corpus.txt" 2>&1 | tail -n 1 | same "$wanted" 'the corpus on x86-64'
+    aarch64-linux-gnu-gcc "${strict[@]}" -DALONE -o "$room/corpus.arm" "$here/lib/fuzz_calls.c" -Wl,--wrap=malloc,--wrap=realloc \
+        "$out/lib/aarch64/libnbt.a" >"$room/log" 2>&1
+    count $? "tests/lib/fuzz_calls.c for aarch64: $(head -n 1 "$room/log")"
+    ended "${qemu[@]}" "$room/corpus.arm" <"$here/corpus.txt" 2>&1 | tail -n 1 | same "$wanted" 'the corpus on aarch64'
+    ${CC:-cc} "${strict[@]}" -DALONE -o "$room/off" "$here/lib/fuzz_calls.c" "$here/lib/place_off.c" -Wl,--wrap=malloc,--wrap=realloc,--wrap=nbt_datagram_read \
+        "$out/lib/libnbt.a" >"$room/log" 2>&1
+    count $? "tests/lib/place_off.c: $(head -n 1 "$room/log")"
+    ! ended "$room/off" <"$here/corpus.txt" >"$room/output" 2>&1 && grep -q 'not so: ' "$room/output"
+    count $? "the corpus finds a place that is one off: $(tail -n 1 "$room/output")"
+    echo 01000411000001020003ff | ended "$room/corpus" print >"$room/output" 2>/dev/null
+    same $'138 0 11000001\n139 0 ff' 'an input as lines of a capture' <"$room/output"
+    [ "$(stat -c %s "$here/corpus.txt")" -lt 2000000 ]
+    count $? 'the corpus has less than 2 MB'
+}
+
+# block LANGUAGE FILE: the first block of a page in this language.
+block() { awk -v mark="\`\`\`$1" '/^```$/ { shown = 0 } shown; $0 == mark && !found { shown = found = 1 }' "$2"; }
+
+# The package for JavaScript: its tests, and the program of its page.
+javascript() {
+    ended "${node[@]}" --expose-gc "$top/bindings/javascript/tests/nbt.test.mjs" "$out" "$top/include/nbt.h" >"$room/log" 2>&1
+    count $? "bindings/javascript/tests: $(grep -m 3 -E "^not ok|^ +error:" "$room/log" | tr '\n' ' ')"
+    passed=$((passed + $(grep -c '^ok ' "$room/log")))
+    mkdir -p "$room/user/node_modules/nbt"
+    cp "$out/nbt.mjs" "$out/nbt.wasm" "$top/bindings/javascript/package.json" "$room/user/node_modules/nbt"
+    block js "$top/bindings/javascript/README.md" >"$room/user/first.mjs"
+    ended "${node[@]}" "$room/user/first.mjs" 2>&1 | same "$(block text "$top/bindings/javascript/README.md")" 'the program of bindings/javascript/README.md'
+}
+
+# The types of the package for JavaScript, and of calls that use them.
+types() {
+    (cd "$top/bindings/javascript" && ended tsc --strict --noEmit --module es2022 --moduleResolution nodenext --target es2022 --lib es2022,dom \
+        tests/typed_calls.mts) >"$room/log" 2>&1
+    count $? "tsc --strict: $(head -n 3 "$room/log")"
+}
+
+# says NAME TEXT COMMAND..: a command fails, and says so in one line that has a text.
+says() {
+    ! ended "${@:3}" >"$room/output" 2>"$room/errors" && [ ! -s "$room/output" ] && [ "$(wc -l <"$room/errors")" -eq 1 ] && grep -qF -- "$2" "$room/errors"
+    count $? "$1: $(head -c 300 "$room/errors")"
+}
+
+# What is missing, or can't be written to.
+missing() {
+    local tool python few=$room/few_tools
+    python=$(python3 -c 'import sys; print(sys.executable)')
+    mkdir "$few"
+    for tool in awk basename dirname grep mktemp mkdir realpath rm rt sort tail timeout; do ln -s "$(command -v $tool)" "$few/$tool"; done
+    ln -s "$python" "$few/python3"
+    says 'no cross compiler' 'install gcc-aarch64-linux-gnu' env PATH="$few" "$BASH" "$top/tools/targets" check "$room/out2"
+    ln -s /bin/true "$few/llvm-symbolizer"
+    says 'no clang with libFuzzer' 'no clang has libFuzzer: install ' env -u FUZZ_CLANG PATH="$few" "$python" "$here/fuzz_coverage.py" --module "$out/nbt.bc"
+    says 'no dpkg-deb' 'dpkg-deb is missing: install dpkg' env PATH="$few" "$python" "$top/tools/dist" "$out" "$out/lib" "$program" "$room/dist4"
+    env -u CI PATH="$few" "$BASH" "$here/targets.sh" "$program" >"$room/output" 2>&1
+    count $? 'without tools nothing is tried, and nothing fails'
+    ! env CI=true PATH="$few" "$BASH" "$here/targets.sh" "$program" >"$room/output" 2>&1 && grep -q '^failed: calls: CI has to install aarch64-linux-gnu-gcc$' "$room/output"
+    count $? "where CI is true it does: $(tail -n 1 "$room/output")"
+    rm "$few/rt"
+    says 'no kit' 'install the kit first' env PATH="$few" "$BASH" "$top/tools/targets" check "$room/out2"
+    echo >"$room/file"
+    says 'a folder that is a file' "$room/file can't be written to" "$top/tools/targets" check "$room/file"
+    says 'make targets, to such a folder' "can't be written to" sh -c 'make -s -C "$0" targets TARGETS="$1" 2>&1 | grep -v "^make" >&2; exit 1' \
+        "$top" "$room/file/out"
+    ended node -e "$memory64" || says 'node without memory64' '--experimental-wasm-memory64' node --input-type=module -e '
+        import { pathToFileURL } from "node:url";
+        const { load } = await import(pathToFileURL(process.argv[1]));
+        await load().catch((error) => { console.error(String(error)); process.exit(1); });' "$out/nbt.mjs"
+}
+
+# A node that has memory64, by a flag if it needs one.
+node=(node)
+command -v node >/dev/null && ! node -e "$memory64" && node=(node --experimental-wasm-memory64)
+lacking=
+for tool in aarch64-linux-gnu-gcc qemu-aarch64 node; do
+    command -v $tool >/dev/null || lacking=${lacking:-$tool}
+done
+[ -n "$lacking" ] || "${node[@]}" -e "$memory64" 2>/dev/null || lacking='a node with memory64'
+parts=(files calls memory worst stations examples corpus javascript types dist lintian debian wheels npm crate missing)
+if [ -n "$lacking" ]; then
+    for each in "${parts[@]}"; do lacks "$each" "$lacking"; done
+    finish
+    exit
+fi
+part files files
+part calls all_calls
+part memory refused
+part worst worst
+part stations stations
+part examples examples
+part corpus corpus
+part javascript javascript
+if command -v tsc >/dev/null; then part types types; else lacks types tsc; fi
+packages
+part missing missing
+finish

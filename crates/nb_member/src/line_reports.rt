@@ -1,5 +1,5 @@
 //! What a member does with one line of a capture.
-ghost use Rattle.std.specs.Prelude.{List, Ok, IfOk, OnErr, string_bytes};
+ghost use Rattle.std.specs.Prelude.{◌≡◌, ◌≢◌, List, true, false, Ok, Err, IfOk, OnErr, string_bytes};
 ghost use Rattle.nb_member.specs.Capture.{Reads};
 ghost use Rattle.nb_member.specs.Code.ReplayLines.{ReportsLine, ReportsValue, MayReportLine, MayReportValue};
 ghost use Rattle.nb_member.specs.Code.Members.{KeepsStation};
@@ -11,6 +11,7 @@ use crate::laws;
 use crate::line::Line;
 use crate::member::Member;
 use crate::member_fault::MemberFault;
+use crate::outcome::Outcome;
 use crate::report::{comment_line, dropped_line, passed_line, taken_line};
 use nb_names::NoMemory;
 use nb_table::TableFault;
@@ -117,8 +118,24 @@ fn take(
 {
     laws::a_member_does_what_is_said();
     let taken = member.take(moment, payload);
-    if let Err(MemberFault::Table(TableFault::NoMemory)) = taken {
+    if lacked_memory(&taken) {
         return Err(NoMemory);
     }
     taken_line(alloc, number, &taken)
+}
+
+/// Whether memory ran out where a payload was to be taken.
+fn lacked_memory(taken: &Result<Outcome, MemberFault>) -> bool
+    ensures lacked { result ≡ true → taken.now ≡ Err (MemberFault.Table TableFault.NoMemory) }
+    ensures had { result ≡ false → taken.now ≢ Err (MemberFault.Table TableFault.NoMemory) }
+{
+    match taken {
+        Ok(_) => false,
+        Err(MemberFault::Packet(_, _)) => false,
+        Err(MemberFault::Table(TableFault::NoMemory)) => true,
+        Err(MemberFault::Table(TableFault::MisplacedFirst)) => false,
+        Err(MemberFault::Table(TableFault::TooLong)) => false,
+        Err(MemberFault::Table(TableFault::FullSource(_))) => false,
+        Err(MemberFault::Table(TableFault::Full(_))) => false,
+    }
 }

@@ -15,7 +15,7 @@ returns c =
       takes = e.ensures.taken;
       joined = ap (with_timed m) e.ensures.joined;
       change = e.change;
-      changed = subst (λ (x : Change). IsChange c.self.inside.timed.table.contents c.insert-change.new.self.table.contents c.args.fragment.now.key x) (sym told.2) told.1;
+      changed = subst (λ (x : Change). IsChange c.self.inside.timed.table.contents c.insert.new.self.table.contents c.args.fragment.now.key x) (sym told.2) told.1;
       answered = c.outcome_of.ensures ∙ ap (λ (k : Key). outcome_of m.settings m.names k e.change) c.key-key.ensures;
     })
 

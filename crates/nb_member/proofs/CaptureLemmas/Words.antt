@@ -1,5 +1,5 @@
 -- The words of a line, and what stands between spaces.
-use Rattle.std.proofs.Common.{◌≡◌, ◌≢◌, ℕ, zero, suc, ◌+◌, ◌<◌, ◌==◌, Bool, true, false, not, List, [], ◌∷◌, ◌++◌, get_or, refl, sym, ap, ◌∙◌, arith, length, Err, Some, None, ◌⊎◌, inl, inr}
+use Rattle.std.proofs.Common.{◌≡◌, ◌≢◌, ℕ, zero, suc, ◌+◌, ◌<◌, ◌==◌, Bool, true, false, not, List, [], ◌∷◌, ◌++◌, get_or, refl, sym, ap, ◌∙◌, arith, Err, Some, None, ◌⊎◌, inl, inr}
 use Rattle.std.specs.Prelude.{IsTrue, Contains, codes, slice_get}
 use Rattle.std.specs.List.{IsAnyAnswer}
 use Rattle.std.specs.Char.{digit_value}

@@ -1,5 +1,5 @@
 -- What one event of a run makes of a member, and of what the run hands out (our choice).
-use Rattle.std.specs.Prelude.{Bool, true, false, Result, Ok, Err, List, ◌≡◌, ◌++◌, cond, [], ◌∷◌, filter, Option, Some, None}
+use Rattle.std.specs.Prelude.{Bool, true, false, Result, Ok, Err, List, ◌≡◌, ◌++◌, cond, [], ◌∷◌, filter}
 use Rattle.nb_names.specs.Name.{NetbiosName}
 use Rattle.nb_datagram.specs.declared.packet.ErrorPacket.{ErrorPacket}
 use Rattle.nb_datagram.specs.Datagram.{DatagramParts}

@@ -65,17 +65,26 @@ name_refused words i d old fault lt before refused = record {
 -- ---- what a replay answers
 
 -- a replay that ends for this ends the program's so
-pub ends_for : (P : Result ℕ ReplayFault → Type 0) (why : ReplayFault) → P (Err why) → EndsWith P (Err (of_replay why))
+ends_for : (P : Result ℕ ReplayFault → Type 0) (why : ReplayFault) → P (Err why) → EndsWith P (Err (of_replay why))
 ends_for P (replay.Line n) p = p
 ends_for P replay.Read p = p
 ends_for P replay.Write p = p
 ends_for P replay.NoMemory p = p
 
-pub replays_in : (options : CaptureOptions) (m new : MemberValue) (old_in new_in old_out new_out : Option (List ℕ)) (bytes : List ℕ) (replayed : Result ℕ ReplayFault)
+-- a replay of the whole input
+pub replay_done : (options : CaptureOptions) (m new : MemberValue) (old_in new_in old_out new_out : Option (List ℕ)) (bytes : List ℕ) (n : ℕ)
     → Consumes old_in new_in bytes
-    → ((H : List Event) (s : Stands m H) → Replays options.comments options.most m H (live m.settings s.sayings) bytes new_in new old_out new_out replayed)
-    → ReplaysIn options m old_in new_in old_out new_out replayed
-replays_in options m new old_in new_in old_out new_out bytes replayed read replays = record { bytes = bytes; new = new; read = read; replays = replays }
+    → ((H : List Event) (s : Stands m H) → Replays options.comments options.most m H (live m.settings s.sayings) bytes new_in new old_out new_out (Ok n))
+    → EndsWith (ReplaysIn options m old_in new_in old_out new_out) (Ok tt)
+replay_done options m new old_in new_in old_out new_out bytes n read replays = (n, record { bytes = bytes; new = new; read = read; replays = replays })
+
+-- one that ended early
+pub replay_ends : (options : CaptureOptions) (m new : MemberValue) (old_in new_in old_out new_out : Option (List ℕ)) (bytes : List ℕ) (why : ReplayFault)
+    → Consumes old_in new_in bytes
+    → ((H : List Event) (s : Stands m H) → Replays options.comments options.most m H (live m.settings s.sayings) bytes new_in new old_out new_out (Err why))
+    → EndsWith (ReplaysIn options m old_in new_in old_out new_out) (Err (of_replay why))
+replay_ends options m new old_in new_in old_out new_out bytes why read replays =
+    ends_for (ReplaysIn options m old_in new_in old_out new_out) why (record { bytes = bytes; new = new; read = read; replays = replays })
 
 ends_weaker : (P Q : Result ℕ ReplayFault → Type 0) (result : Result Unit Fault) → ((answer : Result ℕ ReplayFault) → P answer → Q answer)
     → EndsWith P result → EndsWith Q result

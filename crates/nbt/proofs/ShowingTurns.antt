@@ -137,8 +137,8 @@ shows_early : {W S : Type 0} (C : W → Option (List ℕ)) (IsText : TextOf S) (
 shows_early C IsText most bytes left counts later old new fault (malformed lines comes each is) = rw is (lines, comes, refl, prints_lines C IsText _ old new each)
 shows_early C IsText most bytes left counts later old new fault (unread lines rest cut within each shows is) =
     rw is (lines, rest, cut, within, prints_lines C IsText _ old new each)
-shows_early C IsText most bytes left counts later old new fault (no_memory lines more_lines are each is) =
-    rw is (lines, more_lines, are, prints_lines C IsText _ old new each)
+shows_early C IsText most bytes left counts later old new fault (no_memory lines later_lines are each is) =
+    rw is (lines, later_lines, are, prints_lines C IsText _ old new each)
 shows_early C IsText most bytes left counts later old new fault (not_taken t) = shows_part C IsText most bytes left old new fault t
 
 shows_lines : {W S : Type 0} (C : W → Option (List ℕ)) (IsText : TextOf S) (most : ℕ) (bytes : List ℕ) (left : Option (List ℕ)) (counts later : Counts) (old new : CountedOf W × S)
@@ -152,7 +152,7 @@ unread_so : {W S : Type 0} (C : W → Option (List ℕ)) (IsText : TextOf S) (mo
     → PrintsBytes C IsText most bytes left counts later old new (Err fault) → fault ≡ Read → ShowsUnread most bytes counts later
 unread_so C IsText most bytes left counts later old new fault (malformed lines comes each is) read = absurd (cc (is, read))
 unread_so C IsText most bytes left counts later old new fault (unread lines rest cut within each shows is) read = shows
-unread_so C IsText most bytes left counts later old new fault (no_memory lines more_lines are each is) read = absurd (cc (is, read))
+unread_so C IsText most bytes left counts later old new fault (no_memory lines later_lines are each is) read = absurd (cc (is, read))
 unread_so C IsText most bytes left counts later old new fault (not_taken t) read =
     absurd (let u = subst (λ (f : Fault). IsUnprinted C IsText (length t.done + 1) t.line t.said t.between new f) read t.fails in u)
 
@@ -182,7 +182,7 @@ pub shows_why : {W S : Type 0} (C : W → Option (List ℕ)) (IsText : TextOf S)
     → PrintsBytes C IsText most bytes left counts later old new (Err fault) → fault ≡ Write → ShowsWriteFault old.0.counts new.0.counts
 shows_why C IsText most bytes left counts later old new fault (malformed lines comes each is) write = absurd (cc (is, write))
 shows_why C IsText most bytes left counts later old new fault (unread lines rest cut within each shows is) write = absurd (cc (is, write))
-shows_why C IsText most bytes left counts later old new fault (no_memory lines more_lines are each is) write = absurd (cc (is, write))
+shows_why C IsText most bytes left counts later old new fault (no_memory lines later_lines are each is) write = absurd (cc (is, write))
 shows_why C IsText most bytes left counts later old new fault (not_taken t) write =
     let u = subst (λ (f : Fault). IsUnprinted C IsText (length t.done + 1) t.line t.said t.between new f) write t.fails in
     fails_from old.0.counts t.between.0.counts new.0.counts (calls_each C IsText 1 t.done old t.between t.taken) u.3

@@ -2,18 +2,17 @@
 ghost use Rattle.std.specs.Prelude.{◌≡◌, ℕ, List, [], Err, IfErr};
 ghost use Rattle.std.specs.Io.KnownBytes.{Consumes};
 ghost use Rattle.nb_names.specs.Devices.{ShowsUnread, ShowsWriteFault};
-ghost use Rattle.nbt.specs.Code.PrintedLines.{ended};
 ghost use Rattle.nbt.specs.Objects.{ObjectSaid};
 ghost use Rattle.nbt.specs.Showing.{Shows, ShowsLine, TellsLine};
 
 use crate::commands::show::push_said;
 use crate::fault::Fault;
 use crate::objects::{blank_object, line_object};
+use crate::output::Output;
 use crate::payload_text::PayloadText;
 use crate::telling::LineFields;
-use nb_member::{CaptureOptions, Comments, Line, LineTaker, LinesFault, ReportFault, take_lines};
+use nb_member::{CaptureOptions, Comments, Line, LineTaker, take_lines};
 use nb_names::Counted;
-use nb_names::output::write_whole;
 use nb_telling::JsonRoom;
 use std::alloc::Global;
 use std::io::{Read, Write};
@@ -26,7 +25,7 @@ struct ShownLines<'a, 'b, W, P> {
     form: &'a mut P,
     /// The text of a line is made in this.
     text: &'a mut String,
-    output: &'b mut Counted<W>,
+    output: &'b mut Output<W>,
 }
 
 impl<'a, 'b, W: Write, P: PayloadText> LineTaker for ShownLines<'a, 'b, W, P> {
@@ -36,7 +35,7 @@ impl<'a, 'b, W: Write, P: PayloadText> LineTaker for ShownLines<'a, 'b, W, P> {
     ghost use Rattle.nbt.specs.Code.PrintedLines.{PrintsOn, IsUnprinted};
     ghost use Rattle.nbt.specs.Showing.{Said};
 
-    type Fault = ReportFault;
+    type Fault = Fault;
 
     ghost State = { CountedOf W × Unit {0} };
 
@@ -50,13 +49,10 @@ impl<'a, 'b, W: Write, P: PayloadText> LineTaker for ShownLines<'a, 'b, W, P> {
 
     ghost fails = { λ kept. IsUnprinted W.contents (Said P.is_text kept.0) };
 
-    fn take(&mut self, number: u64, line: &[u8], said: &Option<Line>) -> Result<(), ReportFault> {
+    fn take(&mut self, number: u64, line: &[u8], said: &Option<Line>) -> Result<(), Fault> {
         self.text.clear();
         push_said(number, line, said, self.comments, self.form, self.text)?;
-        match write_whole(self.output, self.text.as_bytes()) {
-            Ok(()) => Ok(()),
-            Err(_) => Err(ReportFault::Write),
-        }
+        self.output.print(self.text.as_bytes())
     }
 }
 
@@ -70,7 +66,7 @@ struct ToldLines<'a, 'b, W, T> {
     told: &'a mut T,
     /// The object of a line is made in this.
     room: &'a mut JsonRoom,
-    output: &'b mut Counted<W>,
+    output: &'b mut Output<W>,
 }
 
 impl<'a, 'b, W: Write, T: LineFields> LineTaker for ToldLines<'a, 'b, W, T> {
@@ -80,7 +76,7 @@ impl<'a, 'b, W: Write, T: LineFields> LineTaker for ToldLines<'a, 'b, W, T> {
     ghost use Rattle.nbt.specs.Code.PrintedLines.{PrintsOn, IsUnprinted};
     ghost use Rattle.nbt.specs.Objects.{ObjectSaid};
 
-    type Fault = ReportFault;
+    type Fault = Fault;
 
     ghost State = { CountedOf W × (List ℕ × T.State) };
 
@@ -94,7 +90,7 @@ impl<'a, 'b, W: Write, T: LineFields> LineTaker for ToldLines<'a, 'b, W, T> {
 
     ghost fails = { λ kept. IsUnprinted W.contents (ObjectSaid T.are_fields kept.0) };
 
-    fn take(&mut self, number: u64, line: &[u8], said: &Option<Line>) -> Result<(), ReportFault> {
+    fn take(&mut self, number: u64, line: &[u8], said: &Option<Line>) -> Result<(), Fault> {
         let room = mem::replace(self.room, JsonRoom::new(self.alloc));
         *self.room = match said {
             Some(said) => {
@@ -105,10 +101,7 @@ impl<'a, 'b, W: Write, T: LineFields> LineTaker for ToldLines<'a, 'b, W, T> {
             }
             None => blank_object(number, line, self.comments, self.comment, room)?,
         };
-        match write_whole(self.output, self.room.as_slice()) {
-            Ok(()) => Ok(()),
-            Err(_) => Err(ReportFault::Write),
-        }
+        self.output.print(self.room.as_slice())
     }
 }
 
@@ -125,7 +118,7 @@ pub fn print_text<R: Read, W: Write, P: PayloadText + Drop>(
     mut form: P,
     options: CaptureOptions,
     input: &mut Counted<R>,
-    output: &mut Counted<W>,
+    output: &mut Output<W>,
 ) -> Result<(), Fault>
     ensures printed { (bytes : List ℕ) ×
         Consumes (R.remaining input.old.inner) (R.remaining input.new.inner) bytes ×
@@ -144,7 +137,8 @@ pub fn print_text<R: Read, W: Write, P: PayloadText + Drop>(
         text: &mut text,
         output,
     };
-    ended_as(take_lines(alloc, options.most, input, &mut shown))
+    take_lines(alloc, options.most, input, &mut shown)?;
+    Ok(())
 }
 
 /// Prints an object for each line of an input that says something, as it comes, with what is told
@@ -158,7 +152,7 @@ pub fn print_objects<R: Read, W: Write, T: LineFields + Drop>(
     mut told: T,
     options: CaptureOptions,
     input: &mut Counted<R>,
-    output: &mut Counted<W>,
+    output: &mut Output<W>,
 ) -> Result<(), Fault>
     ensures printed { (bytes : List ℕ) ×
         Consumes (R.remaining input.old.inner) (R.remaining input.new.inner) bytes ×
@@ -180,19 +174,6 @@ pub fn print_objects<R: Read, W: Write, T: LineFields + Drop>(
         room: &mut room,
         output,
     };
-    ended_as(take_lines(alloc, options.most, input, &mut lines))
-}
-
-/// What the program answers where the taking of an input's lines ended so.
-fn ended_as(taken: Result<u64, LinesFault<ReportFault>>) -> Result<(), Fault>
-    ensures { result ≡ ended taken }
-{
-    match taken {
-        Ok(_) => Ok(()),
-        Err(LinesFault::Line(number)) => Err(Fault::Line(number as usize)),
-        Err(LinesFault::Read) => Err(Fault::Read),
-        Err(LinesFault::NoMemory) => Err(Fault::Memory),
-        Err(LinesFault::NotTaken(ReportFault::Write)) => Err(Fault::Write),
-        Err(LinesFault::NotTaken(ReportFault::NoMemory)) => Err(Fault::Memory),
-    }
+    take_lines(alloc, options.most, input, &mut lines)?;
+    Ok(())
 }

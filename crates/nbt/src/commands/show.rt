@@ -54,9 +54,9 @@ fn show_as<R: Read, W: Write, P: PayloadText + LineFields + Drop>(
 {
     let options = options_of(matches);
     if is_json(matches) {
-        return print_objects(alloc, form, options, input, &mut output.device);
+        return print_objects(alloc, form, options, input, output);
     }
-    print_text(alloc, form, options, input, &mut output.device)
+    print_text(alloc, form, options, input, output)
 }
 
 /// Adds the text of what a line says, or of its comment.

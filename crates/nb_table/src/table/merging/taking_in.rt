@@ -11,8 +11,7 @@ use nb_entries::Handing;
 
 impl Table {
     /// Takes the other table in: this one is then as [`Table::merge`] leaves it. No datagram is
-    /// handed over, and where no keys are counted by address, which is where `per_source` is
-    /// greater than `keys`, the entries of new keys are moved.
+    /// handed over, and the entries of new keys are moved.
     ///
     /// # Errors
     ///

@@ -6,7 +6,7 @@ _nbt() {
     1:*) words='name show build replay save merge list agree help --help --version' ;;
     2:help) words='name show build replay save merge list agree' ;;
     *:name) words='--bytes --help' ;;
-    *:show) words='--input-limit --comments --json --help' ;;
+    *:show) words='--input-limit --comments --brief --json --help' ;;
     *:build)
         words='--broadcast --help'
         case $3 in build | --broadcast) words+=' query status registration refresh release response request message positive negative retarget keepalive unique group broadcast error find found missing' ;; esac

@@ -6,8 +6,9 @@
  * Statuses. Each call answers one number of enum nbt_status: NBT_DONE, or why it did nothing. A number stands for one
  * thing, in all versions; nbt_status_text has its words.
  *
- * Buffers. A buffer is a pointer and then its length in bytes. No pointer is null, even where the length is 0, and the
- * buffers and numbers that one call writes overlap nothing else of that call. The library keeps no pointer to them.
+ * Buffers. A buffer is a pointer and then its length in bytes. Where the length is 0 the pointer may be any, null too: an
+ * input is then empty, and an output has no room. No other pointer is null. The buffers and numbers that one call writes
+ * overlap nothing else of that call. The library keeps no pointer to them.
  *
  * Output goes to the front of `into`, without a byte of zero after it. At NBT_DONE `*used` is how many bytes were
  * written, and the bytes after them are as they were. At NBT_NO_ROOM `*used` is how many are wanted, more than
@@ -57,7 +58,7 @@ enum nbt_status {
     NBT_NAME_LONG = 23,            /* a label makes the spelling longer than 255 bytes; *at: where it stands */
     NBT_NAME_NOT_NETBIOS = 24,     /* labels that no NetBIOS name has; *at: a place in their spelling */
     NBT_NAME_TRAILING_BYTES = 25,  /* bytes after the spelling; *at: where they begin */
-    NBT_NAME_BAD_POINTER = 26,     /* a pointer that doesn't go back; *at: where; no call of this version answers it */
+    NBT_NAME_BAD_POINTER = 26,     /* a pointer that doesn't go back; *at: where; of names of the name service alone */
 
     /* The source's name in a datagram packet; as those of 20 to 26. */
     NBT_SOURCE_TRUNCATED = 30,
@@ -82,6 +83,10 @@ enum nbt_status {
     NBT_RESERVED_FLAGS = 53, /* a flag that has to be zero is set (RFC 1002 section 4.3.1) */
     NBT_BAD_LENGTH = 54,     /* no packet of this type has a body of this length */
     NBT_TRAILING_BYTES = 55, /* bytes after the names of a session request; *at: where they begin */
+    NBT_NAME_RDATA = 56,     /* the name in RDATA of type NS ends elsewhere than the RDATA; *at: where the RDATA begins */
+    NBT_NO_ITEM = 57,        /* the header counts fewer questions and records */
+    NBT_OTHER_RDATA = 58,    /* RDATA of another type, or not of the form that its type has */
+    NBT_NO_PART = 59,        /* RDATA has fewer parts; *at: how many */
 
     /* What was asked to be written. */
     NBT_UNKNOWN_REQUEST = 60, /* no number of enum nbt_request */
@@ -121,6 +126,13 @@ enum nbt_status {
  * NBT_NO_ROOM, NBT_UNKNOWN_STATUS. */
 uint32_t nbt_status_text(uint32_t status, uint8_t *into, size_t into_length, size_t *used);
 
+/* The version that this header is of, and nbt_version's that of the library that is called: as `nbt --version` has it. */
+#define NBT_VERSION "0.1.0"
+
+/* The version of the library, as "0.1.0".
+ * NBT_NO_ROOM. */
+uint32_t nbt_version(uint8_t *into, size_t into_length, size_t *used);
+
 /* Names: RFC 1001 section 14, RFC 1002 section 4.1. ---------------------------------------------------------------- */
 
 /* The spelling of the name with this text: its labels, each after its length, then a zero byte; at most 255 bytes.
@@ -141,6 +153,92 @@ uint32_t nbt_name_text(const uint8_t *spelling, size_t spelling_length,
  * NBT_NO_MEMORY, NBT_NO_ROOM. */
 uint32_t nbt_show(uint16_t port, const uint8_t *payload, size_t payload_length,
                   uint8_t *into, size_t into_length, size_t *used);
+
+/* The JSON object (RFC 8259) of a payload that came to this port, without a line feed: what the command `nbt show --json`
+ * prints of it, but for the members of its line, which are `line`, `port`, `moment` and `comment`. Ports are as of nbt_show.
+ * NBT_NO_MEMORY, NBT_NO_ROOM. */
+uint32_t nbt_json(uint16_t port, const uint8_t *payload, size_t payload_length,
+                  uint8_t *into, size_t into_length, size_t *used);
+
+/* The header of a packet of the name service: RFC 1002 section 4.2.1.1. */
+struct nbt_service_header {
+    uint16_t identifier;  /* NAME_TRN_ID */
+    uint16_t word;        /* R 0x8000, OPCODE 0x7800, NM_FLAGS 0x07f0, RCODE 0x000f */
+    uint16_t questions;   /* QDCOUNT */
+    uint16_t answers;     /* ANCOUNT */
+    uint16_t authorities; /* NSCOUNT */
+    uint16_t additional;  /* ARCOUNT */
+    size_t used;          /* the bytes of the packet; of nbt_service_header those of the header, 12 */
+};
+
+/* Reads the header at the front of a payload of port 137. What follows it isn't looked at.
+ * NBT_TRUNCATED for less than twelve bytes. No memory is taken. */
+uint32_t nbt_service_header(const uint8_t *payload, size_t payload_length, struct nbt_service_header *header, size_t *at);
+
+/* Judges the packet at the front of a payload of port 137 whole, and reads its header. What follows it isn't looked at, but
+ * that a name may lead into it.
+ * NBT_TRUNCATED for less than a header; then the first fault of the first question or record that doesn't stand whole: of
+ * its name 20, 21, 23 or 26, NBT_TRUNCATED, and of a record of type NS 20, 21, 23 or 26 of the name in its RDATA,
+ * NBT_NAME_RDATA. No memory is taken; of a payload of more than 576 bytes the call wants 33 kB of the stack. */
+uint32_t nbt_service_read(const uint8_t *payload, size_t payload_length, struct nbt_service_header *header, size_t *at);
+
+/* A question or a record of the name service: RFC 1002 sections 4.2.1.2 and 4.2.1.3. Places and lengths are in bytes of
+ * the payload. */
+struct nbt_service_item {
+    uint32_t section;      /* 0 a question, 1 an answer, 2 an authority, 3 an additional record */
+    uint32_t time_to_live; /* TTL, in seconds; 0 of a question */
+    uint16_t type;         /* QUESTION_TYPE or RR_TYPE: 0x0020 NB, 0x0021 NBSTAT, 0x0002 NS */
+    uint16_t class_number; /* QUESTION_CLASS or RR_CLASS */
+    size_t data;           /* RDATA; its length is 0 of a question */
+    size_t data_length;
+    size_t next;           /* where the next question or record stands, if there is one */
+    uint8_t netbios;       /* 1 where the name is a NetBIOS name, whose text nbt_name_text gives; else 0 */
+    uint8_t name_length;   /* the bytes of the name's spelling, in which pointers were followed, its last zero byte included */
+    uint8_t name[255];     /* the spelling, and bytes of zero after it */
+};
+
+/* Reads the question or the record with this number, counted from 0, that stands at a place of a payload of port 137. The
+ * first stands at 12, and each other at `next` of the one before: asked for so, these are those of the packet or, of a
+ * payload that begins with none, as many as stand whole before the fault of nbt_service_read.
+ * NBT_TRUNCATED for less than a header, NBT_NO_ITEM, and of what stands there its first fault, as of nbt_service_read. No
+ * memory is taken. */
+uint32_t nbt_service_item(const uint8_t *payload, size_t payload_length, uint32_t number, size_t place,
+                          struct nbt_service_item *item, size_t *at);
+
+/* The parts of RDATA, of the type and the bytes that nbt_service_item told of a record. Numbers are counted from 0, and
+ * the calls may be made with any type and any bytes. No memory is taken. */
+
+/* An address of a NetBIOS name, in RDATA of type NB: RFC 1002 section 4.2.13. */
+struct nbt_service_address {
+    uint32_t address; /* NB_ADDRESS */
+    uint16_t flags;   /* NB_FLAGS: G 0x8000, a group's name; ONT 0x6000, the type of the node */
+};
+
+/* Reads the address with this number.
+ * NBT_OTHER_RDATA where the type isn't NB, and where the bytes aren't entries of six bytes alone, NBT_NO_PART. */
+uint32_t nbt_service_address(uint16_t type, const uint8_t *data, size_t data_length, size_t number,
+                             struct nbt_service_address *address, size_t *at);
+
+/* One of the names of a node, in RDATA of type NBSTAT: RFC 1002 section 4.2.18. */
+struct nbt_service_node {
+    uint16_t flags;   /* NAME_FLAGS: G 0x8000, ONT 0x6000, DRG 0x1000, CNF 0x0800, ACT 0x0400, PRM 0x0200 */
+    uint8_t name[16]; /* the sixteen bytes of the name */
+};
+
+/* Reads the name with this number.
+ * NBT_OTHER_RDATA where the type isn't NBSTAT, and where there is less than as many names as the first byte says,
+ * NBT_NO_PART. */
+uint32_t nbt_service_node(uint16_t type, const uint8_t *data, size_t data_length, size_t number,
+                          struct nbt_service_node *node, size_t *at);
+
+/* The unit of a node, in RDATA of type NBSTAT: RFC 1002 section 4.2.18. */
+struct nbt_service_unit {
+    uint8_t bytes[6]; /* UNIT_ID */
+};
+
+/* Reads the unit, which stands behind the names.
+ * NBT_OTHER_RDATA as of nbt_service_node, NBT_TRUNCATED where fewer than six bytes stand there. */
+uint32_t nbt_service_unit(uint16_t type, const uint8_t *data, size_t data_length, struct nbt_service_unit *unit, size_t *at);
 
 /* A packet of the datagram service: RFC 1002 section 4.4. Places and lengths are in bytes of the payload. */
 struct nbt_datagram {
@@ -167,7 +265,7 @@ uint32_t nbt_datagram_read(const uint8_t *payload, size_t payload_length, struct
 /* The packets of a datagram, cut into pieces of at most `most` bytes of data, in order, each after its length in two
  * bytes, the higher one first. Source and destination are texts; `type` is 0x10, 0x11 or 0x12.
  * NBT_UNKNOWN_TYPE, 12 to 15, NBT_LONG_DATA for data over 65,535 bytes, NBT_ZERO_PIECE, NBT_LONG_DATA where the longest
- * packet would pass 65,535 bytes, NBT_NO_MEMORY (which may come before those that follow the texts), NBT_NO_ROOM.
+ * packet would pass 65,535 bytes, NBT_NO_MEMORY, NBT_NO_ROOM, judged in this order.
  * RFC 1002 section 4.4.2; that each fragment carries both names is our choice. */
 uint32_t nbt_datagram_write(uint8_t type, uint16_t identifier, uint32_t address, uint16_t port,
                             const uint8_t *source, size_t source_length,

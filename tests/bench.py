@@ -21,6 +21,7 @@ from bench_captures import FRED, MOST_IN_A_CAPTURE, descending, labels, office, 
 HERE = os.path.dirname(os.path.abspath(__file__))
 PROGRAM = os.path.join(HERE, '..', 'crates', 'nbt', 'out', 'nbt')
 REPLAY, SHOW, SAVE, MERGE = ['replay', 'FRED<20>'], ['show'], ['save', '--keys', '65535'], ['merge', '--keys', '65535']
+FORMS = ('--brief', '--json')
 # How many keys one address may have in a table of 65,535, in the last rows.
 LIMITS = (64, 1_000, 30_000)
 
@@ -95,7 +96,7 @@ def measure(command, title, path, packets):
     counted = instructions(command, path)
     cost = None if counted is None else counted // packets
     rate = packets / min(seconds(command, path) for _ in range(3))
-    words = command[1] + ' --json' * ('--json' in command)
+    words = ' '.join([command[1], *(it for it in command if it in FORMS)])
     print('%-13s %-36s %8s %12d %9s' % (words, title, shown(cost), rate, shown(peak(command, path))), flush=True)
 
 
@@ -123,12 +124,12 @@ def fragments(program, folder):
 
 
 def stations(program, folder):
-    """The rows of what an office's stations send to each port, as text and as objects."""
+    """The rows of what an office's stations send to each port, as text, as phrases and as objects."""
     for port, count in ((137, 50_000), (138, 40_000), (139, 40_000)):
         title = f'an office, port {port}'
         capture = written(folder, title, office(port, count))
-        measure([program] + SHOW, title, *capture)
-        measure([program] + SHOW + ['--json'], title, *capture)
+        for form in ([], *([it] for it in FORMS)):
+            measure([program] + SHOW + form, title, *capture)
 
 
 def longest(program, folder):

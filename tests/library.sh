@@ -36,6 +36,7 @@ files() {
     count $? "tools/library: $(tail -n 1 "$room/log")"
     nm -D --defined-only "$built/libnbt.so.0" | awk '{ print $3 }' | sort | same "$(calls)" 'libnbt.so.0 exports the calls of the header'
     nm -g --defined-only "$built/libnbt.a" | awk 'NF == 3 { print $3 }' | sort | same "$(calls)" 'libnbt.a exports the calls of the header'
+    sed -n 's/^#define NBT_VERSION "\(.*\)"$/nbt \1/p' "$top/include/nbt.h" | same "$("$program" --version)" 'the version of the header'
     readelf -d "$built/libnbt.so.0" | sed -n 's/.*(SONAME).*\[\(.*\)\]/\1/p' | same libnbt.so.0 'the soname'
     readelf -d "$built/libnbt.so.0" | sed -n 's/.*(NEEDED).*\[\(.*\)\]/\1/p' | same libc.so.6 'libnbt.so.0 needs the C library alone'
     readelf -lW "$built/libnbt.so.0" | grep GNU_STACK | grep -c E | same 0 'the stack of its callers is not made executable'
@@ -99,11 +100,20 @@ lines() {
     count $? "$1 payloads of tests/lib/library_payloads.py, and nbt show of each"
 }
 
+# objects LINES: the objects of payloads are those that `nbt show --json` prints, but for the members of their lines.
+objects() {
+    sed 's/ / 0 /' "$1" | ended "$program" show --json --input-limit 4294967296 \
+        | sed -E 's/^\{"line":([0-9]+),"port":([0-9]+),"moment":0,/\1 \2 {/' >"$1.objects"
+    ended "$room/plain" 0 json <"$1" 2>"$room/errors" | cmp -s "$1.objects" -
+    count $? "tests/lib/library.c prints the objects of nbt show --json: $(tail -n 1 "$room/errors")"
+}
+
 callers() {
     compiled plain
     compiled sanitized -fsanitize=address,undefined -fno-sanitize-recover=all
     lines "$payloads" 1
     worst plain "$room/lines1" 64
+    objects "$room/lines1"
     worst sanitized "$room/lines1" 8
 }
 

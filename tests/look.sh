@@ -81,6 +81,16 @@ END
 END
 }
 
+# Stations that Samba makes: the whole of a capture, what snap lengths leave of it, and what is left where frames are missing.
+samba() {
+    local length
+    for length in 54 96 200 400; do editcap -s $length "$here/../examples/samba.pcap" "$room/samba-$length.pcap"; done
+    editcap "$here/../examples/samba.pcap" "$room/samba-gaps.pcap" 30-40 113 137
+    counted_by look_counts.py "$here/../examples/samba.pcap" "$room"/samba*.pcap
+    [ "$(look "$here/../examples/samba.pcap" | tail -n 1)" = '168 frames, 154 packets, 0 refused, 0 left out' ]
+    count $? 'the packets of Samba'
+}
+
 # shown WORD..: the numbers of the frames that are shown of an office.
 shown() { look "$@" "$office" | sed '$d' | awk '{ printf "%s ", $1 }'; }
 
@@ -279,8 +289,7 @@ END
 END
     for each in --json --summary '--frame 2' '--color always' '--summary --json'; do
         look $each "$room/evil.pcap" 2>&1 | LC_ALL=C grep -qP '[^\x20-\x7e]|\x1b'
-        [ "${PIPESTATUS[1]}" -eq 1 ]
-        count $? "nbt-look $each: nothing of it comes to a terminal as it is"
+        count $((PIPESTATUS[1] != 1)) "nbt-look $each: nothing of it comes to a terminal as it is"
     done
     made chance
     look "$room/chance.pcap" >"$room/output" 2>"$room/errors"
@@ -291,16 +300,10 @@ END
 kinds() { python3 -c 'import sys; sys.dont_write_bytecode = True; sys.path.insert(0, sys.argv[1]); from nbt_look import kinds; print(", ".join(kinds.ALL))' "$here/../tools"; }
 
 # ---- Random captures, terminals, memory, networks.
+random() { counted "$here/random_looks.py" 10; }
 
-random() {
-    local line
-    line=$("$here/random_looks.py" 10 | tee "$room/random" | tail -n 1)
-    grep '^failed: ' "$room/random"
-    [[ $line =~ ^([0-9]+)' passed, '([0-9]+)' failed'$ ]] || line='0 passed, 1 failed'
-    passed=$((passed + ${line%% *}))
-    line=${line#*, }
-    failed=$((failed + ${line%% *}))
-}
+# By the system's Python, for which Debian has scapy.
+scapy() { counted /usr/bin/python3 "$here/scapy_looks.py" 20; }
 
 # on_terminal COLUMNS COMMAND..: what a command shows on a terminal of so many columns.
 on_terminal() {
@@ -324,7 +327,7 @@ terminals() {
     count $? "the list fits a terminal: $(sed -n 1p "$room/output")"
     NO_COLOR=1 on_terminal 200 nbt-look "$room/life.pcap" >"$room/output" && ! grep -q $'\x1b' "$room/output"
     count $? 'NO_COLOR'
-    look "$room/life.pcap" >"$room/output" && ! grep -q $'\x1b' "$room/output"
+    ! look "$room/life.pcap" | grep -q $'\x1b'
     count $? 'no colour where standard output is no terminal'
 }
 
@@ -336,6 +339,8 @@ colours() {
     count $? 'a refused packet is red on a terminal'
     look --color always "$room/life.pcap" | grep -q $'\x1b\[33m.*left out: .*\x1b\[0m'
     count $? 'nbt-look --color always'
+    python3 "$here/lib/summary_pictures.py" --check
+    count $? 'docs/summary-light.svg and docs/summary-dark.svg have these words: tests/lib/summary_pictures.py draws them'
 }
 
 # peak WORD..: the most memory of nbt-look itself, in kB; that of tshark and nbt comes from other processes.
@@ -366,24 +371,27 @@ live() {
         echo 'skipped: nbt-look -i lo, 1 case (tshark may not listen to lo here)'
         return
     fi
-    (sleep 3; python3 -c 'import socket
+    (sleep 2; python3 -c 'import socket, time
 sent = socket.socket(socket.AF_INET, socket.SOCK_DGRAM)
-for port in (137, 138):
-    sent.sendto(b"abc", ("127.0.0.1", port))') &
-    timeout --preserve-status -s INT 8 nbt-look -i lo --host 127.0.0.1 >"$room/output" 2>"$room/errors"
-    [ $? -eq 0 ] && [ ! -s "$room/errors" ] && [ "$(grep -c 'refused: truncated' "$room/output")" -eq 2 ] &&
-        grep -q '^2 frames, 2 packets, 2 refused, 0 left out; 2 shown$' "$room/output"
+for number in range(18):
+    sent.sendto(b"abc", ("127.0.0.1", 137 + number % 2))
+    time.sleep(0.5)') &
+    timeout --preserve-status -s INT 12 nbt-look -i lo --host 127.0.0.1 >"$room/output" 2>"$room/errors"
+    [ $? -eq 0 ] && [ ! -s "$room/errors" ] && [ "$(grep -c 'refused: truncated' "$room/output")" -ge 2 ] &&
+        grep -qxE '([0-9]+) frames, \1 packets, \1 refused, 0 left out; \1 shown' "$room/output"
     count $? "nbt-look -i lo: $(cat "$room/errors" "$room/output")"
     wait
 }
 
 part list list
+part samba samba
 part filters filters
 part objects objects
 part summary summary
 part frames frames
 part bad bad
 part random random
+if /usr/bin/python3 -c 'import scapy' 2>/dev/null; then part scapy scapy; else lacks scapy python3-scapy; fi
 part terminals terminals
 if /usr/bin/python3 -c 'import rich' 2>/dev/null; then part colours colours; else lacks colours python3-rich; fi
 part growing growing

@@ -89,6 +89,11 @@ objects() {
     counted_by json_objects.py "$program"
 }
 
+# What `--brief` says of packets, beside a model that makes the phrases from payloads.
+phrases() {
+    counted_by brief_phrases.py "$program"
+}
+
 # An output that has room for fewer bytes than there are.
 rooms() {
     counted_by output_rooms.py "$program" "$room/devices.so"
@@ -280,6 +285,8 @@ memory() {
     { nbt build query 0001 'FRED<20>.A' && printf 'tick 2\n139 0 00000003616263\nx\n'; } >"$room/input"
     input=$room/input
     remembers show
+    remembers show --brief
+    remembers show --brief --json
     { nbt build group 10.0.0.5:138/0001 'JOE<00>' 'FRED<20>' 000102030405 2 && echo tick 1; } >"$room/input"
     remembers save
     remembers save --keys 0
@@ -332,6 +339,7 @@ part pages pages
 part saved saved
 part merges merges
 part objects objects
+part phrases phrases
 part rooms rooms
 part streams streams
 part memory memory

@@ -80,19 +80,21 @@ requests() {
     return $status
 }
 
-# counted_by SCRIPT WORD..: the cases of a script of tests/lib, whose last line is 'N passed, M failed'.
-counted_by() {
-    local script=$1 counts='^([0-9]{1,9}) passed, ([0-9]{1,9}) failed$'
-    shift
-    "$here/lib/$script" "$@" >"$room/counted"
+# counted COMMAND..: the cases of a command whose last line is 'N passed, M failed'.
+counted() {
+    local counts='^([0-9]{1,9}) passed, ([0-9]{1,9}) failed$'
+    "$@" >"$room/counted"
     if [[ $(tail -n 1 "$room/counted") =~ $counts ]]; then
         passed=$((passed + BASH_REMATCH[1]))
         failed=$((failed + BASH_REMATCH[2]))
         grep '^failed: ' "$room/counted"
     else
-        count 1 "tests/lib/$script has no last line"
+        count 1 "$1 has no last line"
     fi
 }
+
+# counted_by SCRIPT WORD..: those of a script of tests/lib.
+counted_by() { counted "$here/lib/$1" "${@:2}"; }
 
 # with_tools PROGRAM: $room/bin has the program and the tools that read a pcap, and the one that leads back, by the names that they
 # have once installed. tshark has no user's settings.

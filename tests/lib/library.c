@@ -1,6 +1,7 @@
 /* The calls of the library for C with a caller's worst: buffers that end where the next page can't be touched, at any
- * address, with each room from none to what is wanted, and memory that runs out. Usage: library [ROOMS] <LINES. Each line
- * is a port and the digits of a payload, or `empty`; the answer is what `nbt show` prints of a capture with these lines.
+ * address, with each room from none to what is wanted, and memory that runs out. Usage: library [ROOMS [json]] <LINES. Each
+ * line is a port and the digits of a payload, or `empty`; the answer is what `nbt show` prints of a capture with these lines,
+ * or each payload's object, after the line's number and the port.
  * ROOMS is how many smaller rooms are tried of each text, 64 without it. The status is 1, with the line and the call on
  * standard error, where a call does what the header doesn't say. The last line of standard error counts payloads, calls
  * and refusals of memory. */
@@ -106,6 +107,25 @@ static int again(uint32_t status)
     return status == NBT_NO_MEMORY;
 }
 
+/* The object of a payload, in no room first, then in more than it wants; the line of it, if it is to be printed. */
+static void object(uint16_t port, const uint8_t *payload, size_t length, int is_printed)
+{
+    uint8_t *into;
+    size_t wanted = 77, used = 77;
+    uint32_t status;
+    do
+        status = nbt_json(port, payload, length, room(texts, 0), 0, &wanted);
+    while (again(status));
+    expect(status == NBT_NO_ROOM, "nbt_json: no room");
+    into = room(texts, wanted + 3);
+    do
+        status = nbt_json(port, payload, length, into, wanted + 3, &used);
+    while (again(status));
+    expect(status == NBT_DONE && used == wanted && is_filled(into + wanted, 3), "nbt_json: more room");
+    if (is_printed)
+        printf("%lu %u %.*s\n", number, port, (int)used, (const char *)into);
+}
+
 /* The text of a spelling, and its spelling again. */
 static void named(const uint8_t *spelling, size_t length, uint8_t **text, size_t *used)
 {
@@ -148,6 +168,97 @@ static void written(const uint8_t *payload, const struct nbt_datagram *read)
     expect(status == NBT_DONE && at == 88 && used == 2 + read->used, "nbt_datagram_write: the datagram of a packet");
     expect((size_t)into[0] * 256 + into[1] == read->used, "nbt_datagram_write: the length of a packet");
     expect(memcmp(into + 2, payload, read->used) == 0, "nbt_datagram_write: the packet again");
+}
+
+/* The addresses of RDATA, one by one, as the standard says where they stand. */
+static void addresses(uint16_t type, const uint8_t *data, size_t length)
+{
+    size_t count = type == 0x20 && length % 6 == 0 ? length / 6 : 0, number, at = 88;
+    uint32_t last = type == 0x20 && length % 6 == 0 ? NBT_NO_PART : NBT_OTHER_RDATA, status;
+    struct nbt_service_address read;
+    for (number = 0; number < count; number++) {
+        const uint8_t *entry = data + 6 * number;
+        status = nbt_service_address(type, data, length, number, &read, &at);
+        calls += 1;
+        expect(status == NBT_DONE && at == 88 && read.flags == (entry[0] << 8 | entry[1]), "nbt_service_address: the flags");
+        expect(read.address == ((uint32_t)entry[2] << 24 | (uint32_t)entry[3] << 16 | (uint32_t)entry[4] << 8 | entry[5]), "nbt_service_address: the address");
+    }
+    memset(&read, FILL, sizeof read);
+    status = nbt_service_address(type, data, length, count, &read, &at);
+    calls += 1;
+    expect(status == last && at == (last == NBT_NO_PART ? count : 88), "nbt_service_address: past the last");
+    expect(is_filled((const uint8_t *)&read, sizeof read), "nbt_service_address: one is filled in though nothing is done");
+}
+
+/* The names and the unit of a node, as the standard says where they stand. */
+static void nodes(uint16_t type, const uint8_t *data, size_t length)
+{
+    int is_status = type == 0x21 && length > 0 && length - 1 >= (size_t)18 * data[0];
+    size_t count = is_status ? data[0] : 0, number, at = 88, behind = 1 + 18 * count;
+    struct nbt_service_node node;
+    struct nbt_service_unit unit;
+    uint32_t status;
+    for (number = 0; number < count; number++) {
+        const uint8_t *name = data + 1 + 18 * number;
+        status = nbt_service_node(type, data, length, number, &node, &at);
+        calls += 1;
+        expect(status == NBT_DONE && at == 88 && memcmp(node.name, name, 16) == 0, "nbt_service_node: the name");
+        expect(node.flags == (name[16] << 8 | name[17]), "nbt_service_node: the flags");
+    }
+    memset(&node, FILL, sizeof node);
+    memset(&unit, FILL, sizeof unit);
+    status = nbt_service_node(type, data, length, count, &node, &at);
+    expect(status == (is_status ? NBT_NO_PART : NBT_OTHER_RDATA) && at == (is_status ? count : 88), "nbt_service_node: past the last");
+    expect(is_filled((const uint8_t *)&node, sizeof node), "nbt_service_node: one is filled in though nothing is done");
+    at = 88;
+    status = nbt_service_unit(type, data, length, &unit, &at);
+    calls += 2;
+    if (is_status && length - behind >= 6) {
+        expect(status == NBT_DONE && at == 88 && memcmp(unit.bytes, data + behind, 6) == 0, "nbt_service_unit: the bytes");
+    } else {
+        expect(is_status ? status == NBT_TRUNCATED && at == length : status == NBT_OTHER_RDATA && at == 88, "nbt_service_unit: no unit");
+        expect(is_filled((const uint8_t *)&unit, sizeof unit), "nbt_service_unit: one is filled in though nothing is done");
+    }
+}
+
+/* The questions and records of a payload, one by one: those of the packet or, where there is none, those before its fault. */
+static void service(const uint8_t *payload, size_t length)
+{
+    struct nbt_service_header read, front;
+    struct nbt_service_item item;
+    size_t at = 88, other = 99, place = 12;
+    uint32_t status, last, count;
+    memset(&front, FILL, sizeof front);
+    memset(&read, FILL, sizeof read);
+    last = nbt_service_header(payload, length, &front, &other);
+    expect(last == (length < 12 ? NBT_TRUNCATED : NBT_DONE), "nbt_service_header: twelve bytes");
+    expect(last == NBT_DONE ? other == 99 && front.used == 12 : other == length && is_filled((const uint8_t *)&front, sizeof front), "nbt_service_header: what is written");
+    status = nbt_service_read(payload, length, &read, &at);
+    calls += 2;
+    for (count = 0; last == NBT_DONE; count++) {
+        memset(&item, FILL, sizeof item);
+        other = 99;
+        last = nbt_service_item(payload, length, count, place, &item, &other);
+        calls += 1;
+        if (last != NBT_DONE) {
+            expect(is_filled((const uint8_t *)&item, sizeof item), "nbt_service_item: an item is filled in though nothing is done");
+            break;
+        }
+        expect(other == 99 && place < item.data && item.data + item.data_length == item.next && item.next <= length, "nbt_service_item: the places");
+        expect(item.name_length > 0 && item.name[item.name_length - 1] == 0, "nbt_service_item: the name");
+        expect(item.section > 0 || (item.data_length == 0 && item.time_to_live == 0), "nbt_service_item: a question");
+        addresses(item.type, payload + item.data, item.data_length);
+        nodes(item.type, payload + item.data, item.data_length);
+        place = item.next;
+    }
+    if (status == NBT_DONE) {
+        expect(at == 88 && last == NBT_NO_ITEM && other == 99 && read.used == place, "nbt_service_read: the items of a packet");
+        expect(count == (uint32_t)read.questions + read.answers + read.authorities + read.additional, "nbt_service_read: the counts");
+        expect(read.identifier == front.identifier && read.word == front.word && read.questions == front.questions, "nbt_service_read: the header");
+    } else {
+        expect(last == status && other == at, "nbt_service_read: the fault after the items that stand");
+        expect(is_filled((const uint8_t *)&read, sizeof read), "nbt_service_read: a header is filled in though nothing is done");
+    }
 }
 
 static void datagram(const uint8_t *payload, size_t length)
@@ -309,6 +420,110 @@ static void stationed(const uint8_t *payload, size_t length)
     expect(status == NBT_DONE, "nbt_station_tick");
 }
 
+/* Lengths that no memory helps: they are judged without a request for it, so none that is refused is answered. */
+static void judged(void)
+{
+    static const uint8_t data[65536];
+    const uint8_t *name = (const uint8_t *)"FRED<20>";
+    size_t used = 77, at = 88;
+    expect(nbt_datagram_write(0x10, 1, 1, 138, name, 8, name, 8, data, 65536, 512, NULL, 0, &used, &at) == NBT_LONG_DATA, "nbt_datagram_write: too much data");
+    expect(nbt_datagram_write(0x10, 1, 1, 138, name, 8, name, 8, data, 1, 0, NULL, 0, &used, &at) == NBT_ZERO_PIECE, "nbt_datagram_write: no pieces");
+    expect(nbt_datagram_write(0x10, 1, 1, 138, name, 8, name, 8, data, 65535, 65535, NULL, 0, &used, &at) == NBT_LONG_DATA, "nbt_datagram_write: a packet too long");
+    expect(used == 77 && at == 88, "nbt_datagram_write: something is written though nothing is done");
+    calls += 3;
+}
+
+/* Faults of the questions and records of port 137, each at its place; and numbers and places past the last. */
+static void faulty(void)
+{
+    static const uint8_t pointer[] = "\0\1\0\0" "\0\1\0\0\0\0\0\0" "\xc0\x0c\0\x20\0\1";
+    static const uint8_t server[] = "\0\1\0\0" "\0\0\0\0\0\1\0\0" "\0\0\2\0\1" "\0\0\0\0" "\0\3" "\1A\0" "..";
+    uint8_t longer[sizeof server];
+    struct nbt_service_header header;
+    struct nbt_service_item item;
+    size_t at = 88;
+    expect(nbt_service_read(pointer, 18, &header, &at) == NBT_NAME_BAD_POINTER && at == 12, "nbt_service_read: a pointer to itself");
+    expect(nbt_service_item(pointer, 18, 0, 12, &item, &at) == NBT_NAME_BAD_POINTER && at == 12, "nbt_service_item: a pointer to itself");
+    expect(nbt_service_read(server, 26, &header, &at) == NBT_DONE && header.used == 26, "nbt_service_read: a name in RDATA");
+    expect(nbt_service_item(server, 26, 0, 12, &item, &at) == NBT_DONE && item.section == 2 && item.data == 23 && item.data_length == 3 && item.next == 26, "nbt_service_item: a name in RDATA");
+    expect(nbt_service_item(server, 26, 1, 26, &item, &at) == NBT_NO_ITEM && at == 12, "nbt_service_item: a second of one");
+    expect(nbt_service_item(server, 26, UINT32_MAX, SIZE_MAX, &item, &at) == NBT_NO_ITEM && at == 12, "nbt_service_item: the greatest number");
+    expect(nbt_service_item(server, 26, 0, 26, &item, &at) == NBT_NAME_TRUNCATED && at == 26, "nbt_service_item: the end");
+    expect(nbt_service_item(server, 26, 0, SIZE_MAX, &item, &at) == NBT_NAME_TRUNCATED, "nbt_service_item: the last place of all");
+    memcpy(longer, server, sizeof server);
+    longer[22] = 4;
+    expect(nbt_service_read(longer, 27, &header, &at) == NBT_NAME_RDATA && at == 23, "nbt_service_read: RDATA longer than its name");
+    expect(nbt_service_item(longer, 27, 0, 12, &item, &at) == NBT_NAME_RDATA && at == 23, "nbt_service_item: RDATA longer than its name");
+    calls += 10;
+}
+
+/* Inputs and outputs of no bytes, which stand nowhere: null is as good as any other place. */
+static void nowhere(void)
+{
+    const uint8_t *name = (const uint8_t *)"FRED<20>";
+    struct nbt_service_header of_137;
+    struct nbt_service_item item;
+    struct nbt_service_address entry;
+    struct nbt_service_node node;
+    struct nbt_service_unit unit;
+    struct nbt_datagram of_138;
+    struct nbt_session of_139;
+    struct nbt_taken taken;
+    struct nbt_station nameless;
+    size_t used = 77, at = 88;
+    uint32_t status;
+    expect(nbt_status_text(NBT_DONE, NULL, 0, &used) == NBT_NO_ROOM && used == 4, "nbt_status_text: null");
+    expect(nbt_version(NULL, 0, &used) == NBT_NO_ROOM && used == strlen(NBT_VERSION), "nbt_version: null");
+    expect(nbt_name_spell(NULL, 0, NULL, 0, &used, &at) == NBT_BAD_TEXT && at == 0, "nbt_name_spell: null");
+    expect(nbt_name_text(NULL, 0, NULL, 0, &used, &at) == NBT_NAME_TRUNCATED && at == 0, "nbt_name_text: null");
+    do
+        status = nbt_show(138, NULL, 0, NULL, 0, &used);
+    while (again(status));
+    expect(status == NBT_NO_ROOM && used == strlen("refused truncated 0\n"), "nbt_show: null");
+    expect(nbt_service_header(NULL, 0, &of_137, &at) == NBT_TRUNCATED && at == 0, "nbt_service_header: null");
+    expect(nbt_service_read(NULL, 0, &of_137, &at) == NBT_TRUNCATED && at == 0, "nbt_service_read: null");
+    expect(nbt_service_item(NULL, 0, 0, 12, &item, &at) == NBT_TRUNCATED && at == 0, "nbt_service_item: null");
+    expect(nbt_service_address(0x20, NULL, 0, 0, &entry, &at) == NBT_NO_PART && at == 0, "nbt_service_address: null");
+    expect(nbt_service_node(0x21, NULL, 0, 0, &node, &at) == NBT_OTHER_RDATA, "nbt_service_node: null");
+    expect(nbt_service_unit(0x21, NULL, 0, &unit, &at) == NBT_OTHER_RDATA, "nbt_service_unit: null");
+    expect(nbt_datagram_read(NULL, 0, &of_138, &at) == NBT_TRUNCATED && at == 0, "nbt_datagram_read: null");
+    expect(nbt_session_read(NULL, 0, &of_139, &at) == NBT_MORE && at == 4, "nbt_session_read: null");
+    do
+        status = nbt_json(138, NULL, 0, NULL, 0, &used);
+    while (again(status));
+    expect(status == NBT_NO_ROOM, "nbt_json: null");
+    do
+        status = nbt_session_write(0, NULL, 0, NULL, 0, &used, &at);
+    while (again(status));
+    expect(status == NBT_NO_ROOM && used == 4, "nbt_session_write: null");
+    do
+        status = nbt_datagram_write(0x10, 1, 1, 138, name, 8, name, 8, NULL, 0, 1, NULL, 0, &used, &at);
+    while (again(status));
+    expect(status == NBT_NO_ROOM && used == 2 + 14 + 2 * 34, "nbt_datagram_write: null");
+    expect(nbt_datagram_write(0x10, 1, 1, 138, NULL, 0, NULL, 0, NULL, 0, 1, NULL, 0, &used, &at) == NBT_SOURCE_BAD_TEXT, "nbt_datagram_write: no names");
+    expect(nbt_service_request(NBT_QUERY, 1, false, NULL, 0, 0, 0, 0, NULL, 0, &used, &at) == NBT_BAD_TEXT, "nbt_service_request: null");
+    expect(nbt_table_merge(NULL, 0, NULL, 0, 1, 1, NULL, 0, &used, &at) == NBT_TABLE_BAD_MAGIC, "nbt_table_merge: null");
+    expect(nbt_table_list(NULL, 0, NULL, 0, &used, &at) == NBT_TABLE_BAD_MAGIC, "nbt_table_list: null");
+    do
+        status = nbt_station_create(NULL, 0, 1, 138, 1, 1, &nameless.at, &at);
+    while (again(status));
+    expect(status == NBT_DONE, "nbt_station_create: null");
+    expect(nbt_station_take(&nameless, 0, NULL, 0, &taken, NULL, 0, &used) == NBT_NO_ROOM, "nbt_station_take: null");
+    do
+        status = nbt_station_take(&nameless, 0, NULL, 0, &taken, room(texts, NBT_TAKE_ROOM), NBT_TAKE_ROOM, &used);
+    while (again(status));
+    expect(status == NBT_DONE && taken.outcome == NBT_REFUSED, "nbt_station_take: no payload");
+    do
+        status = nbt_station_save(&nameless, NULL, 0, &used);
+    while (again(status));
+    expect(status == NBT_NO_ROOM, "nbt_station_save: null");
+    do
+        status = nbt_station_absorb(&nameless, 0, NULL, 0, NULL, 0, &used, &at);
+    while (again(status));
+    expect(status == NBT_TABLE_BAD_MAGIC, "nbt_station_absorb: null");
+    nbt_station_free(nameless);
+}
+
 static int value(char digit)
 {
     return digit <= '9' ? digit - '0' : (digit | 32) - 'a' + 10;
@@ -333,6 +548,9 @@ int main(int count, char **words)
         status = nbt_station_create((const uint8_t *)"FRED<20>", 8, 0x0a000009, 138, 4, 4, &joiner.at, &place);
     while (again(status));
     expect(status == NBT_DONE && place == 88, "nbt_station_create: another");
+    judged();
+    faulty();
+    nowhere();
     while (fgets(line, sizeof line, stdin) != NULL) {
         char *digits;
         uint16_t port = (uint16_t)strtoul(line, &digits, 10);
@@ -344,7 +562,10 @@ int main(int count, char **words)
         for (i = 0; i < length; i++)
             payload[i] = (uint8_t)(value(digits[2 * i]) * 16 + value(digits[2 * i + 1]));
         number += 1;
-        shown(port, payload, length, rooms);
+        if (count < 3)
+            shown(port, payload, length, rooms);
+        object(port, payload, length, count > 2);
+        service(payload, length);
         datagram(payload, length);
         session(payload, length);
         stationed(payload, length);

@@ -3,6 +3,7 @@ tests/lib/json_objects.py: options, comments, malformed lines and limits, from d
 import collections
 import re
 
+from brief_model import said
 from fuzz_packets import LONGEST_LINE, Name, Refused, numbered, read_capture
 from fuzz_saved import joined
 from object_model import shown
@@ -16,7 +17,7 @@ LONGEST_SCOPE = 222
 MOST = {'--keys': 65_535, '--per-source': 65_535, '--input-limit': (1 << 64) - 1}
 USUAL = {'--keys': KEYS, '--per-source': PER_SOURCE, '--input-limit': LONGEST_INPUT}
 OPTIONS = {
-    'show': ('--input-limit', '--comments', '--json'),
+    'show': ('--input-limit', '--comments', '--brief', '--json'),
     'replay': ('--keys', '--per-source', '--input-limit', '--comments', '--json'),
     'list': ('--keys', '--per-source', '--json'),
 }
@@ -118,25 +119,26 @@ def of_capture(command, options, names, given):
     """What `nbt show` and `nbt replay` print."""
     finished, lines, *ending = read_within(given, number_of(options, '--input-limit'))
     table = Table(number_of(options, '--keys'), number_of(options, '--per-source'))
-    said = {it.number: told(command, table, names, it) for it in lines}
+    answers = {it.number: told(command, table, names, it, '--brief' in options) for it in lines}
     comments = {number: line for number, line in finished if line.startswith(b'#')}
     objects = []
-    for number in sorted(said.keys() | comments.keys() if '--comments' in options else said):
+    for number in sorted(answers.keys() | comments.keys() if '--comments' in options else answers):
         comment = comments.get(number if number in comments else number - 1)
-        moment, payload = said.get(number, ({}, {}))
+        moment, payload = answers.get(number, ({}, {}))
         said_before = {} if comment is None else {'comment': comment_text(comment)}
         objects.append({'line': number} | moment | said_before | payload)
     return Wanted(objects, *ending)
 
 
-def told(command, table, names, line):
-    """The port and the moment of a line, and what is said of it."""
+def told(command, table, names, line, brief):
+    """The port and the moment of a line, and what is told of it, with its phrase where that is asked for."""
     moment = {'moment': line.moment}
     if command == 'replay':
         return ({} if line.port is None else {'port': line.port}) | moment, reported(table, names, line)
     if line.port is None:
         return moment, {'kind': 'tick'}
-    return {'port': line.port} | moment, shown(line.port, line.payload)
+    phrase = {'brief': said(line.port, line.payload)} if brief else {}
+    return {'port': line.port} | moment, phrase | shown(line.port, line.payload)
 
 
 def read_within(given, limit):

@@ -11,7 +11,7 @@ from process_inputs import SPOILT, packet
 
 FRAGMENTS = ((1, 3, 0, '6162'), (1, 2, 2, '6364'), (2, 3, 0, '00ff'), (3, 1, 7, ''))
 CAPTURE = ''.join(f'# key {row[0]}\n138 {at} {packet(*row)}\n' for at, row in enumerate(FRAGMENTS)) + '137 4 0001\n# end\ntick 2003\n'
-COMMANDS = (['show'], ['show', '--comments', '--json'], ['replay', 'FRED<20>'], ['replay', '--json', '--comments', 'FRED<20>'],
+COMMANDS = (['show'], ['show', '--brief'], ['show', '--comments', '--json'], ['replay', 'FRED<20>'], ['replay', '--json', '--comments', 'FRED<20>'],
             ['list'], ['list', '--json'])
 
 

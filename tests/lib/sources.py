@@ -10,6 +10,7 @@ Function = collections.namedtuple('Function', 'owner trait name is_public head c
 
 QUOTED = re.compile(r'"(?:\\.|[^"\\])*"|\'(?:\\.|[^\'\\])\'')
 COMMENT = re.compile(r'//[^\n]*')
+PRIVATE_TRAIT = re.compile(r'^(?:pub\(\w+\) )?trait (\w+)', re.MULTILINE)
 BLOCK = re.compile(r'\b(?:unsafe\s+)?impl\b|\b(?:pub(?:\(\w+\))?\s+)?trait\s+\w+')
 FUNCTION = re.compile(r'\b(?:(pub(?:\(\w+\))?)\s+)?(?:unsafe\s+|extern\s+)*fn\s+(\w+)')
 CLAUSE = re.compile(r'\s*(requires|ensures)\*?\s*([\w-]*)\s*(?=\{)')
@@ -148,11 +149,12 @@ def handed_out(crate):
 
 
 def public(crate):
-    """The public calls of a crate: those of its public modules, and of what it hands out."""
+    """The public calls of a crate: those of its public modules, and of what it hands out, but for those of private traits."""
     names, files = handed_out(crate)
+    private = {name for path in sources(crate) for name in PRIVATE_TRAIT.findall(path.read_text(encoding='utf-8'))}
     for path in sources(crate):
         for it in functions(path):
-            if it.is_public and (path in files or (it.owner or it.name) in names):
+            if it.is_public and it.trait not in private and (path in files or (it.owner or it.name) in names):
                 yield it
 
 

@@ -12,7 +12,6 @@ telling      `nbt show --json` as a child
 ordering     items by their frames
 filters      which packets are wanted
 kinds        the kinds of packets
-said         what a packet says, in words
 parts        the parts of a packet of port 137
 times        times of frames
 screen       lines, tables and colours

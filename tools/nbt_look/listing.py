@@ -1,5 +1,4 @@
 """A line for each packet, in columns."""
-from .said import said
 
 # The least widths of the columns before the phrase, which grow with what stands in them.
 WIDTHS = (5, 9, 15, 15)
@@ -18,7 +17,7 @@ class Listing:
 
     def packet(self, item, shown, _text):
         style = 'refused' if 'refused' in shown else 'conflict' if shown.get('rcode') == 'CFT_ERR' else None
-        self.row(item.frame, ends(item, (str(item.service),)), said(shown, len(item.digits) // 2), style)
+        self.row(item.frame, ends(item, (str(item.service),)), shown['brief'], style)
 
     def left_out(self, item):
         frame = item.frame

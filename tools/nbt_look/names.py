@@ -30,6 +30,7 @@ class Claim:
     def __init__(self, source, group, how, since):
         self.source, self.group, self.how, self.since = source, group, how, since
         self.until = None
+        self.refusals = 0
 
 
 class Names:
@@ -40,7 +41,7 @@ class Names:
 
     def __init__(self):
         self.claims = Room()         # by name and address
-        self.faults = Room()         # conflicts and refusals, by name
+        self.faults = Room()         # conflicts by name, and refusals that are told to others than those who claim it
         self.holders = Room()        # the first claims of each name, by address
 
     def take(self, item, shown):
@@ -62,12 +63,13 @@ class Names:
             if shown['op'] == 'query':
                 self.claimed(item, shown, 'is said to be')
         elif shown['op'] != 'query' or shown['rcode'] == 'CFT_ERR':
+            claim = self.claims.entries.get((name, item.target))
+            if claim and shown['rcode'] != 'CFT_ERR':
+                claim.how, claim.refusals = 'refused', claim.refusals + 1
+                return
             fault = self.faults.get(name, lambda: [0, 0])
             if fault:
                 fault[shown['rcode'] != 'CFT_ERR'] += 1
-            claim = self.claims.entries.get((name, item.target))
-            if claim and shown['op'] != 'query' and shown['rcode'] != 'CFT_ERR':
-                claim.how = 'refused'
 
     def claimed(self, item, shown, how):
         """Takes the addresses of each record."""
@@ -102,12 +104,12 @@ class Names:
     def rows(self, time):
         found = []
         for (name, address), claim in self.claims.entries.items():
-            conflicts, refusals = self.faults.entries.get(name, (0, 0))
+            conflicts = self.faults.entries.get(name, (0, 0))[0]
             found.append(dict(zip(HEAD, (name, kind_of(name, claim.group), address, claim.group, claim.how, time(claim.since),
-                                         time(claim.until) if claim.until is not None else 'no end', conflicts, refusals))))
+                                         time(claim.until) if claim.until is not None else 'no end', conflicts, claim.refusals))))
         claimed = {name for name, _ in self.claims.entries}
         for name, (conflicts, refusals) in self.faults.entries.items():
-            if name not in claimed:
+            if refusals or name not in claimed:
                 found.append(dict(zip(HEAD, (name, kind_of(name, False), None, False, 'nobody', None, None, conflicts, refusals))))
         return sorted(found, key=lambda row: (row['name'], row['address'] or ''))
 

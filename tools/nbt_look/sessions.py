@@ -2,7 +2,6 @@
 import collections
 
 from .rooms import Room
-from .said import said
 
 # How many streams are known; the one that was silent longest is let go.
 MOST_STREAMS = 16_384
@@ -40,7 +39,7 @@ class Sessions:
         self.streams.move_to_end(stream)
         calls = self.room.get((*self.streams[stream], stream[0], stream[2]), Calls)
         if calls:
-            count(calls, shown, is_answer, said(shown, len(item.digits) // 2))
+            count(calls, shown, is_answer, shown['brief'])
 
     def open(self, stream, names):
         self.streams[stream] = names

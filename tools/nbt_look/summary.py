@@ -12,17 +12,17 @@ PLACE = re.compile(' [0-9]+$')
 
 
 class Refusals:
-    """The packets that are refused, by reason, with the first frame of each."""
+    """The packets that are refused, by reason, with the first frame of each, and the byte of its fault."""
 
     title = 'refused'
-    head = ('reason', 'packets', 'frame')
+    head = ('reason', 'packets', 'frame', 'byte')
 
     def __init__(self):
         self.reasons = {}
 
     def take(self, item, shown):
         if 'refused' in shown:
-            self.reasons.setdefault(PLACE.sub('', shown['refused']), [0, item.frame.number])[0] += 1
+            self.reasons.setdefault(PLACE.sub('', shown['refused']), [0, item.frame.number, shown.get('at')])[0] += 1
 
     def rows(self, _time):
         return [dict(zip(self.head, (reason, *each))) for reason, each in sorted(self.reasons.items())]

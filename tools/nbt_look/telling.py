@@ -1,4 +1,4 @@
-"""`nbt show --json` as a child: it is given payloads, and what it says of each comes back in the same order."""
+"""`nbt show --json --brief` as a child: it is given payloads, and what it says of each comes back in the same order."""
 import collections
 import os
 import select
@@ -19,7 +19,7 @@ class Telling:
     """Items on their way through the child. `take` is given them in order, with the object of JSON of each that is a packet."""
 
     def __init__(self, program, take):
-        self.child = subprocess.Popen([program, 'show', '--json', '--input-limit', str(NO_LIMIT)], stdin=subprocess.PIPE,
+        self.child = subprocess.Popen([program, 'show', '--json', '--brief', '--input-limit', str(NO_LIMIT)], stdin=subprocess.PIPE,
                                       stdout=subprocess.PIPE, stderr=subprocess.PIPE, preexec_fn=end_with_us,
                                       start_new_session=True)
         self.to, self.back = self.child.stdin.fileno(), self.child.stdout.fileno()

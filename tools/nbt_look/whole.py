@@ -3,7 +3,6 @@ import re
 import subprocess
 
 from .listing import ends
-from .said import said
 
 ROW = 16
 # Of these the place is in the spelling of a name, and not in the packet.
@@ -22,7 +21,7 @@ class Whole:
         if item.frame.number != self.number:
             return
         self.head(item.frame, ends(item, ()))
-        self.screen.line(said(shown, len(item.digits) // 2), 'refused' if 'refused' in shown else None)
+        self.screen.line(shown['brief'], 'refused' if 'refused' in shown else None)
         self.screen.line('')
         for line in self.asked(['show'], '%d %d %s\n' % (item.service, item.moment, item.digits or 'empty')):
             self.screen.line(line.removeprefix('1 '))

@@ -43,6 +43,10 @@ class Status(enum.IntEnum):
     RESERVED_FLAGS = 53
     BAD_LENGTH = 54
     TRAILING_BYTES = 55
+    NAME_RDATA = 56
+    NO_ITEM = 57
+    OTHER_RDATA = 58
+    NO_PART = 59
     UNKNOWN_REQUEST = 60
     ZERO_PIECE = 61
     LONG_DATA = 62
@@ -69,8 +73,8 @@ class Status(enum.IntEnum):
 
 NUMBERS = frozenset(map(int, Status))
 # The statuses that say where the fault stands.
-PLACED = frozenset(it for it in Status if it in {10, 12, 14, *range(20, 27), *range(30, 37), *range(40, 47), 50, 52, 55, 72,
-                                                 82, 100, 101})
+PLACED = frozenset(it for it in Status if it in {10, 12, 14, *range(20, 27), *range(30, 37), *range(40, 47), 50, 52, 55, 56, 59,
+                                                 72, 82, 100, 101})
 
 
 class NbtError(ValueError):

@@ -47,6 +47,10 @@ WORDS = """
 53 reserved flags
 54 bad length
 55 trailing bytes
+56 name rdata
+57 no item
+58 other rdata
+59 no part
 60 unknown request
 61 zero piece
 62 data too long

@@ -81,6 +81,14 @@ pub enum Status {
     BadLength = 54,
     /// Bytes stand after the names of a session request. The place: where they begin.
     TrailingBytes = 55,
+    /// The name in RDATA of type NS ends elsewhere than the RDATA. The place: where the RDATA begins.
+    NameRdata = 56,
+    /// A header counts fewer questions and records.
+    NoItem = 57,
+    /// RDATA of another type, or not of its form.
+    OtherRdata = 58,
+    /// RDATA has fewer parts. The place: how many.
+    NoPart = 59,
 
     /// No request has this number: [`crate::service::Request`] has no such value.
     UnknownRequest = 60,
@@ -135,7 +143,7 @@ pub enum Status {
 
 impl Status {
     /// All of them, by number.
-    pub const ALL: [Status; 54] = [
+    pub const ALL: [Status; 58] = [
         Status::NoMemory,
         Status::BadText,
         Status::LongText,
@@ -168,6 +176,10 @@ impl Status {
         Status::ReservedFlags,
         Status::BadLength,
         Status::TrailingBytes,
+        Status::NameRdata,
+        Status::NoItem,
+        Status::OtherRdata,
+        Status::NoPart,
         Status::UnknownRequest,
         Status::ZeroPiece,
         Status::LongData,
@@ -207,7 +219,7 @@ impl Status {
     pub fn has_place(self) -> bool {
         use Status::*;
         match self {
-            BadText | SourceBadText | DestinationBadText | Truncated | More | TrailingBytes => true,
+            BadText | SourceBadText | DestinationBadText | Truncated | More | TrailingBytes | NameRdata | NoPart => true,
             TableNotCanonical | SecondNotCanonical | NamePresent | TooManyNames => true,
             _ => (20..47).contains(&self.number()),
         }

@@ -3,12 +3,12 @@
 ghost use Rattle.std.specs.Prelude.{◌≡◌, ◌≢◌, ◌<◌, ◌++◌, ◌∷◌, IsTrue, MatchResult, true, length, slice_index};
 ghost use Rattle.std.specs.List.{list_all};
 ghost use Rattle.std.specs.Char.{is_ascii_digit};
-ghost use Rattle.nb_names.specs.Hexadecimal.{DataText, HexText};
+ghost use Rattle.nb_names.specs.Hexadecimal.{DataText};
 ghost use Rattle.nb_building.specs.Built.{AddressText, CodeText, EntryTexts, KeyText, NumberText, WordText};
 
 use crate::build_fault::BuildFault;
 use nb_datagram::Key;
-use nb_names::{Bytes, DigitsFault, bytes_of_digits, data_of_text};
+use nb_names::{Bytes, bytes_of_digits, data_of_text};
 use nb_service::AddressEntry;
 use std::alloc::Global;
 
@@ -17,7 +17,7 @@ pub fn word(alloc: Global, text: &str) -> Result<u16, BuildFault>
     ensures { MatchResult result (λ number. WordText number text.now)
         (λ fault. fault ≢ BuildFault.TooLong) }
 {
-    let digits = digits(alloc, text)?;
+    let digits = bytes_of_digits(alloc, text.as_bytes())?;
     match digits.as_slice() {
         [high, low] => Ok(u16::from_be_bytes([*high, *low])),
         _ => Err(BuildFault::Arguments),
@@ -29,7 +29,7 @@ pub fn code(alloc: Global, text: &str) -> Result<u8, BuildFault>
     ensures { MatchResult result (λ code. CodeText code text.now)
         (λ fault. fault ≢ BuildFault.TooLong) }
 {
-    let digits = digits(alloc, text)?;
+    let digits = bytes_of_digits(alloc, text.as_bytes())?;
     match digits.as_slice() {
         [code] => Ok(*code),
         _ => Err(BuildFault::Arguments),
@@ -107,23 +107,7 @@ pub fn data(alloc: Global, text: &str) -> Result<Bytes, BuildFault>
     ensures { MatchResult result (λ bytes. DataText bytes text.now)
         (λ fault. fault ≢ BuildFault.TooLong) }
 {
-    match data_of_text(alloc, text.as_bytes()) {
-        Ok(bytes) => Ok(bytes),
-        Err(DigitsFault::BadDigits) => Err(BuildFault::Arguments),
-        Err(DigitsFault::NoMemory) => Err(BuildFault::Memory),
-    }
-}
-
-/// The bytes that hexadecimal digits give, two a byte.
-fn digits(alloc: Global, text: &str) -> Result<Bytes, BuildFault>
-    ensures { MatchResult result (λ bytes. HexText bytes text.now)
-        (λ fault. fault ≢ BuildFault.TooLong) }
-{
-    match bytes_of_digits(alloc, text.as_bytes()) {
-        Ok(bytes) => Ok(bytes),
-        Err(DigitsFault::BadDigits) => Err(BuildFault::Arguments),
-        Err(DigitsFault::NoMemory) => Err(BuildFault::Memory),
-    }
+    Ok(data_of_text(alloc, text.as_bytes())?)
 }
 
 /// What stands before the first of these marks, which is ASCII, and what stands behind it.

@@ -1,7 +1,7 @@
 //! Why no packet is built.
 
 use nb_datagram::CutFault;
-use nb_names::{NoMemory, TextFault};
+use nb_names::{DigitsFault, NoMemory, TextFault};
 use std::alloc::{AllocError, AllocFailed};
 
 /// Why no packet is built.
@@ -27,6 +27,20 @@ impl From<TextFault> for BuildFault {
 
     fn from(fault: TextFault) -> BuildFault {
         BuildFault::Text(fault)
+    }
+}
+
+impl From<DigitsFault> for BuildFault {
+    ghost use Rattle.std.specs.Prelude.{◌≢◌};
+    ghost use Rattle.nb_building.specs.declared.build_fault.BuildFault.TheVariants.{TooLong};
+
+    ghost from_gives = { λ _ made. made ≢ TooLong };
+
+    fn from(fault: DigitsFault) -> BuildFault {
+        match fault {
+            DigitsFault::BadDigits => BuildFault::Arguments,
+            DigitsFault::NoMemory => BuildFault::Memory,
+        }
     }
 }
 

@@ -34,7 +34,7 @@ piece_length d most j =
 
 -- a datagram is long where its first packet is
 pub first_is_long : (d : DatagramParts) (most : ℕ) → IsKey d.key
-    → IsTrue (are_long d most) ↔ (65535 < length (packet_of (piece d most 0)))
+    → IsTrue (are_long d.source d.destination (length d.bytes) most) ↔ (65535 < length (packet_of (piece d most 0)))
 first_is_long d most key =
     let whole = packet_length (piece d most 0) key in
     let first = first_length d most in

@@ -7,8 +7,11 @@ pub mod ListLemmas
 pub mod LoadLemmas
 pub mod MergeLemmas
 pub mod NameLemmas
+pub mod ObjectLemmas
+pub mod PartLemmas
 pub mod PlaceLemmas
 pub mod ReadLemmas
+pub mod ServiceLemmas
 pub mod ShowLemmas
 pub mod StationNameLemmas
 pub mod TellLemmas

@@ -2,8 +2,8 @@
 use Rattle.std.proofs.Common.{◌≡◌, ℕ, List, Result, Ok, Err, IfOk, ap, subst, sym}
 use Rattle.nb_member.specs.Listing.{listing}
 use Rattle.nb_names.specs.declared.bytes.NoMemory.{NoMemory}
-use Rattle.nb_table.specs.declared.load_fault.LoadFault.{LoadFault}
-use Rattle.nb_table.specs.declared.load_fault.LoadFault.TheVariants as loads
+use Rattle.nb_entries.specs.declared.load_fault.LoadFault.{LoadFault}
+use Rattle.nb_entries.specs.declared.load_fault.LoadFault.TheVariants as loads
 use Rattle.nb_table.specs.Contents.{Contents}
 use Rattle.nb_table.specs.Limits.{TableValue}
 use Rattle.nb_table.specs.LoadFaults.{LoadFails}

@@ -2,15 +2,16 @@
 use Rattle.std.proofs.Common.{◌≡◌, ◌≢◌, ℕ, ◌≤◌, List, Ok, Err, refl, subst, arith}
 use Rattle.std.specs.FinMap as maps
 use Rattle.nb_datagram.specs.declared.key.Key.{Key}
-use Rattle.nb_table.specs.declared.load_fault.LoadFault.{LoadFault}
-use Rattle.nb_table.specs.declared.load_fault.LoadFault.TheVariants.{NoMemory}
+use Rattle.nb_entries.specs.declared.load_fault.LoadFault.{LoadFault}
+use Rattle.nb_entries.specs.declared.load_fault.LoadFault.TheVariants.{NoMemory}
 use Rattle.nb_table.specs.Contents.{Contents}
-use Rattle.nb_table.specs.Entry.{EntryValue}
+use Rattle.nb_entries.specs.Entry.{EntryValue}
 use Rattle.nb_table.specs.KeyCounts.{FewOfEach}
 use Rattle.nb_table.specs.Limits.{Limits, TableValue}
 use Rattle.nb_table.specs.LoadFaults.{IsReadAs, LoadFails, ill_formed, too_long, full_source, full, no_memory}
 use Rattle.nb_table.specs.Merging.{AllShort}
-use Rattle.nb_table.specs.SavedReading.{IsRead, Outcome}
+use Rattle.nb_table.specs.SavedReading.{IsRead}
+use Rattle.nb_entries.specs.SavedReading.{Outcome}
 use Rattle.nb_c.specs.Tables.{IsLoaded}
 
 -- what stands in an input is one

@@ -6,7 +6,7 @@ use Rattle.nb_datagram.specs.Datagram.{DatagramParts}
 use Rattle.nb_datagram.specs.Kind.{type_of}
 use Rattle.nb_datagram.specs.Packet.{name_bytes}
 use Rattle.nb_table.specs.declared.fault.TableFault.{TableFault}
-use Rattle.nb_table.specs.declared.load_fault.LoadFault.{LoadFault}
+use Rattle.nb_entries.specs.declared.load_fault.LoadFault.{LoadFault}
 use Rattle.nb_table.specs.Contents.{Contents}
 use Rattle.nb_table.specs.Limits.{TableValue}
 use Rattle.nb_table.specs.LoadFaults.{LoadFails}

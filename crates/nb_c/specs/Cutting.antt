@@ -1,5 +1,5 @@
 -- What the call that writes the packets of a datagram answers (RFC 1002 section 4.4.2).
-use Rattle.std.specs.Prelude.{◌≡◌, ◌==◌, ◌||◌, ◌+◌, ◌%◌, ℕ, Bool, nat_lt, min, List, ◌++◌, length, Option, Some, None, Result, Ok, Err, if◌then◌else◌}
+use Rattle.std.specs.Prelude.{◌≡◌, ◌==◌, ◌+◌, ◌%◌, ℕ, Bool, nat_lt, min, List, ◌++◌, length, Option, Some, None, Result, Ok, Err, if◌then◌else◌}
 use Rattle.std.specs.Int.{w16, w32, to_be_bytes}
 use Rattle.std.specs.List.{flat_map}
 use Rattle.nb_names.specs.declared.text_fault.TextFault.{TextFault}
@@ -37,19 +37,23 @@ packet_of piece = packet_bytes (Direct piece)
 abbrev pub counted : List ℕ → List ℕ
 counted packet = to_be_bytes w16 (length packet % 65536) ++ packet
 
--- are_long datagram most: whether the longest packet of the datagram, cut into pieces of so many bytes, has more than
--- 65,535 bytes: its header, both names and the data
-abbrev pub are_long : DatagramParts → ℕ → Bool
-are_long d most =
-    nat_lt MAX_LENGTH (DIRECT_HEADER_LENGTH + length (name_bytes d.source) + length (name_bytes d.destination) + min (length d.bytes) most)
+-- are_long source destination size most: whether the longest packet of a datagram with so many bytes, cut into pieces of at
+-- most so many, has more than 65,535 bytes: its header, both names and the data
+abbrev pub are_long : NetbiosName → NetbiosName → ℕ → ℕ → Bool
+are_long source destination size most =
+    nat_lt MAX_LENGTH (DIRECT_HEADER_LENGTH + (length (name_bytes source) + length (name_bytes destination)) + min size most)
 
--- cut_answer datagram most: the packets of the datagram's pieces, in order, each after its length, or the first fault
+-- the packets of the datagram's pieces, in order, each after its length
+abbrev pub packets_of : DatagramParts → ℕ → List ℕ
+packets_of d most = flat_map (λ piece. counted (packet_of piece)) (pieces d most)
+
+-- cut_answer datagram most: the packets of the datagram's pieces, or the first fault
 abbrev pub cut_answer : DatagramParts → ℕ → Result (List ℕ) Refusal
 cut_answer d most =
     if nat_lt MAX_LENGTH (length d.bytes) then Err (Fault LONG_DATA)
     else if most == 0 then Err (Fault ZERO_PIECE)
-    else if are_long d most then Err (Fault LONG_DATA)
-    else Ok (flat_map (λ piece. counted (packet_of piece)) (pieces d most))
+    else if are_long d.source d.destination (length d.bytes) most then Err (Fault LONG_DATA)
+    else Ok (packets_of d most)
 
 -- cut_kind kind sent source destination contents: what is answered where the type is of this kind, or of none, and where the
 -- texts of the names are read so
@@ -63,10 +67,6 @@ cut_kind (Some kind) sent (Ok source) (Ok destination) contents =
 -- the same, by the type's number
 abbrev pub cut_names : Sent → Result NetbiosName TextFault → Result NetbiosName TextFault → List ℕ → Result (List ℕ) Refusal
 cut_names sent = cut_kind (kind_with sent.packet_type) sent
-
--- the statuses that come after the texts, once memory is taken for the data
-abbrev pub follow_the_texts : ℕ → Bool
-follow_the_texts status = status == LONG_DATA || status == ZERO_PIECE
 
 -- Cuts sent source destination contents answer: this is answered where the names have these texts
 abbrev pub Cuts : Sent → List ℕ → List ℕ → List ℕ → Result (List ℕ) Refusal → Type 0

@@ -6,6 +6,8 @@ pub mod KeptCode
 pub mod Names
 pub mod Outputs
 pub mod Requests
+pub mod ServiceParts
+pub mod Services
 pub mod Sessions
 pub mod Showing
 pub mod Stations

@@ -1,9 +1,15 @@
--- What the call on a payload's text answers.
+-- What the calls on a payload's text and its object answer.
 use Rattle.std.specs.Prelude.{ℕ, List, Result, Ok, Err}
 use Rattle.nb_text.specs.Shown.{Shown}
+use Rattle.nb_text.specs.Tells.{IsObject}
 use Rattle.nb_c.specs.declared.refusal.Refusal.{Refusal}
 
 -- Shows payload port answer: this is the text of a payload that came to the port, which has one
 abbrev pub Shows : List ℕ → ℕ → Result (List ℕ) Refusal → Type 0
 Shows payload port (Ok text) = Shown payload port text
 Shows payload port (Err refusal) = ⊥
+
+-- Objects payload port answer: this is the JSON object of a payload that came to the port, which has one
+abbrev pub Objects : List ℕ → ℕ → Result (List ℕ) Refusal → Type 0
+Objects payload port (Ok object) = IsObject payload port object
+Objects payload port (Err refusal) = ⊥

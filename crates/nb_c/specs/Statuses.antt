@@ -8,8 +8,10 @@ use Rattle.nb_datagram.specs.declared.fault.DatagramFault.{DatagramFault}
 use Rattle.nb_datagram.specs.declared.fault.DatagramFault.TheVariants as datagrams
 use Rattle.nb_session.specs.declared.fault.SessionFault.{SessionFault}
 use Rattle.nb_session.specs.declared.fault.SessionFault.TheVariants as sessions
+use Rattle.nb_service.specs.declared.fault.ServiceFault.{ServiceFault}
+use Rattle.nb_service.specs.declared.fault.ServiceFault.TheVariants as services
 use Rattle.nb_c.specs.declared.refusal.Refusal.{Refusal}
-use Rattle.nb_c.specs.declared.refusal.Refusal.TheVariants.{Fault, FaultAt}
+use Rattle.nb_c.specs.declared.refusal.Refusal.TheVariants.{Memory, Fault, FaultAt}
 use Rattle.nb_c.specs.declared.statuses.TheConstants as statuses
 
 -- why a text is of no name
@@ -73,3 +75,10 @@ session_refusal sessions.ReservedFlags = Fault statuses.RESERVED_FLAGS
 session_refusal sessions.BadLength = Fault statuses.BAD_LENGTH
 session_refusal (sessions.Name fault) = name_refusal fault
 session_refusal (sessions.TrailingBytes place) = FaultAt statuses.TRAILING_BYTES place
+
+-- why a payload begins with no packet of port 137, or why an item of one doesn't stand whole
+abbrev pub service_refusal : ServiceFault → Refusal
+service_refusal (services.Truncated place) = FaultAt statuses.TRUNCATED place
+service_refusal (services.Name fault) = name_refusal fault
+service_refusal (services.NameRdata place) = FaultAt statuses.NAME_RDATA place
+service_refusal services.NoMemory = Memory

@@ -1,10 +1,9 @@
 //! Datagrams, cut into packets of the datagram service.
 ghost use Rattle.std.specs.Prelude.{◌≡◌, ◌++◌, ◌≤◌, length, IfOk, OnOk, MatchOption};
 ghost use Rattle.std.specs.List.{flat_map};
-ghost use Rattle.nb_c.specs.Cutting.{Cuts, follow_the_texts, are_long, cut_answer, cut_names, key_of, kind_with, packet_of, counted};
-ghost use Rattle.nb_c.specs.Outputs.{Does, HasOne, OrMemory};
+ghost use Rattle.nb_c.specs.Cutting.{Cuts, are_long, cut_answer, cut_names, key_of, kind_with, packet_of, packets_of, counted};
+ghost use Rattle.nb_c.specs.Outputs.{Does, HasOne, OrMemory, none_late};
 ghost use Rattle.nb_datagram.specs.declared.limits.TheConstants.{MAX_LENGTH};
-ghost use Rattle.nb_datagram.specs.Pieces.{pieces};
 
 use crate::output::{answer_of, write_answer};
 use crate::refusal::{Refusal, destination_text_refusal, source_text_refusal};
@@ -49,7 +48,7 @@ pub extern "C" fn nbt_datagram_write(
     used: &mut usize,
     at: &mut usize,
 ) -> u32
-    ensures { Does follow_the_texts (Cuts (record {
+    ensures { Does none_late (Cuts (record {
       packet_type = packet_type;
       identifier = identifier;
       address = address;
@@ -82,7 +81,7 @@ fn answer(
     destination: &[u8],
     contents: &[u8],
 ) -> Result<Bytes, Refusal>
-    ensures answer { OrMemory follow_the_texts
+    ensures answer { OrMemory none_late
         (Cuts sent source.now destination.now contents.now) result }
     ensures one { HasOne (Cuts sent source.now destination.now contents.now) }
 {
@@ -106,7 +105,7 @@ fn packets(
     destination: Result<Name, TextFault>,
     contents: &[u8],
 ) -> Result<Bytes, Refusal>
-    ensures { OrMemory follow_the_texts
+    ensures { OrMemory none_late
         (λ answer. answer ≡ cut_names sent source destination contents.now) result }
 {
     match kind_with(sent.packet_type) {
@@ -133,7 +132,7 @@ fn kind_with(packet_type: u8) -> Option<Kind>
     }
 }
 
-/// The packets of the datagram with this data.
+/// The packets of the datagram with this data, whose lengths are judged before memory is taken.
 fn cut_data(
     alloc: Global,
     sent: Sent,
@@ -142,7 +141,7 @@ fn cut_data(
     destination: Name,
     contents: &[u8],
 ) -> Result<Bytes, Refusal>
-    ensures { OrMemory follow_the_texts (λ answer. answer ≡ cut_answer (record {
+    ensures { OrMemory none_late (λ answer. answer ≡ cut_answer (record {
       key = key_of sent;
       kind = kind;
       source = source;
@@ -150,13 +149,16 @@ fn cut_data(
       bytes = contents.now;
     }) sent.most) result }
 {
-    match Bytes::copy(alloc, contents) {
-        Err(_) => Err(Refusal::Memory),
-        Ok(bytes) => match Datagram::new(key_of(sent), kind, source, destination, bytes) {
-            Err(_) => Err(Refusal::Fault(LONG_DATA)),
-            Ok(datagram) => cut_whole(alloc, &datagram, sent.most),
-        },
+    if contents.len() > MAX_LENGTH {
+        return Err(Refusal::Fault(LONG_DATA));
     }
+    if sent.most == 0 {
+        return Err(Refusal::Fault(ZERO_PIECE));
+    }
+    if are_long(&source, &destination, contents.len(), sent.most) {
+        return Err(Refusal::Fault(LONG_DATA));
+    }
+    answer_of(cut_whole(alloc, sent, kind, source, destination, contents))
 }
 
 /// The key of a datagram that is sent so.
@@ -170,32 +172,39 @@ fn key_of(sent: Sent) -> Key
     }
 }
 
-/// The packets of a datagram.
-fn cut_whole(alloc: Global, datagram: &Datagram, most: u16) -> Result<Bytes, Refusal>
-    requires { length datagram.now.bytes ≤ MAX_LENGTH }
-    ensures { OrMemory follow_the_texts (λ answer. answer ≡ cut_answer datagram.now most) result }
+/// Whether the longest packet of a datagram with so many bytes passes 65,535 bytes.
+fn are_long(source: &Name, destination: &Name, size: usize, most: u16) -> bool
+    ensures { result ≡ are_long source.now destination.now size most }
 {
-    if most == 0 {
-        return Err(Refusal::Fault(ZERO_PIECE));
-    }
-    if are_long(datagram, most) {
-        return Err(Refusal::Fault(LONG_DATA));
-    }
-    match cut(alloc, datagram, most) {
-        Ok(pieces) => answer_of(joined(alloc, pieces)),
-        // The other faults were judged.
-        Err(_) => Err(Refusal::Memory),
-    }
+    let names = source.to_domain().spelled_len() + destination.to_domain().spelled_len();
+    DIRECT_HEADER_LENGTH + names + size.min(usize::from(most)) > MAX_LENGTH
 }
 
-/// Whether the longest packet of a datagram passes 65,535 bytes.
-fn are_long(datagram: &Datagram, most: u16) -> bool
-    ensures { result ≡ are_long datagram.now most }
+/// The packets of a datagram that isn't too long.
+fn cut_whole(
+    alloc: Global,
+    sent: Sent,
+    kind: Kind,
+    source: Name,
+    destination: Name,
+    contents: &[u8],
+) -> Result<Bytes, NoMemory>
+    requires { length contents.now ≤ MAX_LENGTH }
+    ensures { IfOk result (λ bytes. bytes ≡ packets_of (record {
+      key = key_of sent;
+      kind = kind;
+      source = source;
+      destination = destination;
+      bytes = contents.now;
+    }) sent.most) }
 {
-    let source = datagram.source().to_domain().spelled_len();
-    let destination = datagram.destination().to_domain().spelled_len();
-    let data = datagram.bytes().len().min(usize::from(most));
-    DIRECT_HEADER_LENGTH + source + destination + data > MAX_LENGTH
+    let bytes = Bytes::copy(alloc, contents)?;
+    let datagram = Datagram::new(key_of(sent), kind, source, destination, bytes).unwrap();
+    match cut(alloc, &datagram, sent.most) {
+        Ok(pieces) => joined(alloc, pieces),
+        // The other faults were judged.
+        Err(_) => Err(NoMemory),
+    }
 }
 
 /// The packets of the pieces, each after its length.

@@ -8,6 +8,7 @@ ghost use Rattle.nb_names.specs.declared.text_fault.TextFault.TheVariants as tex
 ghost use Rattle.nb_names.specs.Labels.{StandsAt};
 ghost use Rattle.nb_names.specs.Name.{NetbiosName};
 ghost use Rattle.nb_service.specs.Requests.{query_packet, status_packet, registration_packet, refresh_packet, release_packet};
+ghost use Rattle.nb_service.specs.declared.fault.ServiceFault.TheVariants as services;
 ghost use Rattle.nb_session.specs.declared.fault.SessionFault.TheVariants as sessions;
 ghost use Rattle.nb_datagram.specs.declared.fault.DatagramFault.TheVariants as datagrams;
 ghost use Rattle.nb_datagram.specs.declared.fault.DatagramFault.TheVariants.{SourceName, DestinationName};
@@ -25,15 +26,15 @@ ghost use Rattle.nb_c.specs.Tables.{Lists, Merges, first_refusal, second_refusal
 ghost use Rattle.nb_c.specs.Outputs.{refused_status};
 ghost use Rattle.nb_c.specs.Requests.{named_answer, request_answer, requested};
 ghost use Rattle.nb_c.specs.Stations.{AreNames, place_in, table_refusal, texts_in};
-ghost use Rattle.nb_c.specs.Statuses.{text_refusal, source_text_refusal, destination_text_refusal, name_refusal, datagram_refusal, session_refusal};
+ghost use Rattle.nb_c.specs.Statuses.{text_refusal, source_text_refusal, destination_text_refusal, name_refusal, datagram_refusal, service_refusal, session_refusal};
 ghost use Rattle.nb_c.specs.declared.refusal.Refusal.{Refusal};
 ghost use Rattle.nb_c.specs.declared.refusal.Refusal.TheVariants.{Memory, Fault, FaultAt};
 ghost use Rattle.nb_c.specs.declared.service.Asked.{Asked};
 ghost use Rattle.nb_c.specs.declared.taken.TheConstants.{KEPT, SPOILT, DELIVERED, UNHEARD, OTHER, REFUSED, TAKE_ROOM};
 ghost use Rattle.nb_table.specs.declared.fault.TableFault.TheVariants as joins;
-ghost use Rattle.nb_table.specs.declared.load_fault.LoadFault.TheVariants as loads;
+ghost use Rattle.nb_entries.specs.declared.load_fault.LoadFault.TheVariants as loads;
 ghost use Rattle.nb_table.specs.Limits.{Limits};
-ghost use Rattle.nb_c.specs.declared.statuses.TheConstants.{DONE, NO_ROOM, NO_MEMORY, BAD_TEXT, LONG_TEXT, SOURCE_BAD_TEXT, SOURCE_LONG_TEXT, DESTINATION_BAD_TEXT, DESTINATION_LONG_TEXT, NAME_TRUNCATED, NAME_RESERVED_LABEL, NAME_POINTER, NAME_LONG, NAME_NOT_NETBIOS, NAME_TRAILING_BYTES, NAME_BAD_POINTER, SOURCE_TRUNCATED, SOURCE_RESERVED_LABEL, SOURCE_POINTER, SOURCE_LONG, SOURCE_NOT_NETBIOS, SOURCE_BAD_POINTER, DESTINATION_TRUNCATED, DESTINATION_RESERVED_LABEL, DESTINATION_POINTER, DESTINATION_LONG, DESTINATION_NOT_NETBIOS, DESTINATION_BAD_POINTER, TRUNCATED, UNKNOWN_TYPE, MORE, RESERVED_FLAGS, BAD_LENGTH, TRAILING_BYTES, UNKNOWN_REQUEST, ZERO_PIECE, LONG_DATA, TABLE_BAD_MAGIC, TABLE_TRUNCATED, TABLE_NOT_CANONICAL, TABLE_LONG, TABLE_FULL_SOURCE, TABLE_FULL, SECOND_BAD_MAGIC, SECOND_TRUNCATED, SECOND_NOT_CANONICAL, SECOND_LONG, SECOND_FULL_SOURCE, SECOND_FULL, MISPLACED_FIRST, LONG, FULL_SOURCE, FULL, NAME_PRESENT, TOO_MANY_NAMES, UNKNOWN_STATUS};
+ghost use Rattle.nb_c.specs.declared.statuses.TheConstants.{DONE, NO_ROOM, NO_MEMORY, BAD_TEXT, LONG_TEXT, SOURCE_BAD_TEXT, SOURCE_LONG_TEXT, DESTINATION_BAD_TEXT, DESTINATION_LONG_TEXT, NAME_TRUNCATED, NAME_RESERVED_LABEL, NAME_POINTER, NAME_LONG, NAME_NOT_NETBIOS, NAME_TRAILING_BYTES, NAME_BAD_POINTER, SOURCE_TRUNCATED, SOURCE_RESERVED_LABEL, SOURCE_POINTER, SOURCE_LONG, SOURCE_NOT_NETBIOS, SOURCE_BAD_POINTER, DESTINATION_TRUNCATED, DESTINATION_RESERVED_LABEL, DESTINATION_POINTER, DESTINATION_LONG, DESTINATION_NOT_NETBIOS, DESTINATION_BAD_POINTER, TRUNCATED, UNKNOWN_TYPE, MORE, RESERVED_FLAGS, BAD_LENGTH, TRAILING_BYTES, NAME_RDATA, NO_ITEM, OTHER_RDATA, NO_PART, UNKNOWN_REQUEST, ZERO_PIECE, LONG_DATA, TABLE_BAD_MAGIC, TABLE_TRUNCATED, TABLE_NOT_CANONICAL, TABLE_LONG, TABLE_FULL_SOURCE, TABLE_FULL, SECOND_BAD_MAGIC, SECOND_TRUNCATED, SECOND_NOT_CANONICAL, SECOND_LONG, SECOND_FULL_SOURCE, SECOND_FULL, MISPLACED_FIRST, LONG, FULL_SOURCE, FULL, NAME_PRESENT, TOO_MANY_NAMES, UNKNOWN_STATUS};
 
 use nb_names::text_laws::{one_name, one_text_fault};
 use nb_table::laws::{an_input_is_read_as_one_table, saved_bytes_have_one_reading};
@@ -53,7 +54,8 @@ pub fn numbers()
         × (DESTINATION_POINTER ≡ 42) × (DESTINATION_LONG ≡ 43) × (DESTINATION_NOT_NETBIOS ≡ 44)
         × (DESTINATION_BAD_POINTER ≡ 46) }
     ensures packets { (TRUNCATED ≡ 50) × (UNKNOWN_TYPE ≡ 51) × (MORE ≡ 52)
-        × (RESERVED_FLAGS ≡ 53) × (BAD_LENGTH ≡ 54) × (TRAILING_BYTES ≡ 55) }
+        × (RESERVED_FLAGS ≡ 53) × (BAD_LENGTH ≡ 54) × (TRAILING_BYTES ≡ 55)
+        × (NAME_RDATA ≡ 56) × (NO_ITEM ≡ 57) × (OTHER_RDATA ≡ 58) × (NO_PART ≡ 59) }
     ensures requests { (UNKNOWN_REQUEST ≡ 60) × (ZERO_PIECE ≡ 61) × (LONG_DATA ≡ 62) }
     ensures tables { (TABLE_BAD_MAGIC ≡ 70) × (TABLE_TRUNCATED ≡ 71)
         × (TABLE_NOT_CANONICAL ≡ 72) × (TABLE_LONG ≡ 73)
@@ -70,9 +72,10 @@ pub fn numbers()
     ensures room { TAKE_ROOM ≡ 66045 }
 {}
 
-/// Each fault has a status of its own, and its place if it has one. Two share theirs: the unknown
-/// types of ports 138 and 139. The faults of a source's name have those of a name and 10, of a
-/// destination's 20, and of the second table those of the first and 10.
+/// Each fault has a status of its own, and its place if it has one. Some share theirs: the unknown
+/// types of ports 138 and 139, and payloads of ports 137 and 138 that end too early. The faults of
+/// a source's name have those of a name and 10, of a destination's 20, and of the second table
+/// those of the first and 10.
 pub fn each_fault_has_its_status()
     ensures texts { (place : ℕ) → (text_refusal (texts.BadText place) ≡ FaultAt 10 place)
         × (text_refusal texts.TooLong ≡ Fault 11)
@@ -103,6 +106,11 @@ pub fn each_fault_has_its_status()
         × (session_refusal (sessions.TrailingBytes place) ≡ FaultAt 55 place) }
     ensures called { (fault : NameFault) →
         session_refusal (sessions.Name fault) ≡ name_refusal fault }
+    ensures services { (place : ℕ) → (service_refusal (services.Truncated place) ≡ FaultAt 50 place)
+        × (service_refusal (services.NameRdata place) ≡ FaultAt 56 place)
+        × (service_refusal services.NoMemory ≡ Memory) }
+    ensures about { (fault : NameFault) →
+        service_refusal (services.Name fault) ≡ name_refusal fault }
     ensures tables { (place : ℕ) → (first_refusal loads.BadMagic ≡ Fault 70)
         × (first_refusal loads.Truncated ≡ Fault 71)
         × (first_refusal (loads.NotCanonical place) ≡ FaultAt 72 place)
@@ -183,7 +191,8 @@ pub fn parts_stand_at_their_places()
 /// more than 65,535 bytes.
 pub fn the_first_packet_is_the_longest()
     ensures long { (d : DatagramParts) (most : ℕ) → IsKey d.key →
-        IsTrue (are_long d most) ↔ (65535 < length (packet_of (piece d most 0))) }
+        IsTrue (are_long d.source d.destination (length d.bytes) most)
+        ↔ (65535 < length (packet_of (piece d most 0))) }
     ensures longest { (d : DatagramParts) (most j : ℕ) → IsKey d.key →
         length (packet_of (piece d most j)) ≤ length (packet_of (piece d most 0)) }
 {}

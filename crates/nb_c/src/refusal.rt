@@ -1,6 +1,6 @@
 //! Why a call does nothing.
 ghost use Rattle.std.specs.Prelude.{◌≡◌};
-ghost use Rattle.nb_c.specs.Statuses.{text_refusal, source_text_refusal, destination_text_refusal, name_refusal, source_refusal, destination_refusal, datagram_refusal, session_refusal};
+ghost use Rattle.nb_c.specs.Statuses.{text_refusal, source_text_refusal, destination_text_refusal, name_refusal, source_refusal, destination_refusal, datagram_refusal, service_refusal, session_refusal};
 ghost use Rattle.nb_c.specs.Outputs.{refused_status};
 ghost use Rattle.nb_c.specs.Stations.{table_refusal};
 ghost use Rattle.nb_c.specs.Tables.{first_refusal, second_refusal};
@@ -9,7 +9,7 @@ use crate::statuses::{
     BAD_LENGTH, BAD_TEXT, DESTINATION_BAD_POINTER, DESTINATION_BAD_TEXT, DESTINATION_LONG,
     DESTINATION_LONG_TEXT, DESTINATION_NOT_NETBIOS, DESTINATION_POINTER,
     DESTINATION_RESERVED_LABEL, DESTINATION_TRUNCATED, FULL, FULL_SOURCE, LONG, LONG_TEXT,
-    MISPLACED_FIRST, NAME_BAD_POINTER, NAME_LONG, NAME_NOT_NETBIOS, NAME_POINTER,
+    MISPLACED_FIRST, NAME_BAD_POINTER, NAME_LONG, NAME_NOT_NETBIOS, NAME_POINTER, NAME_RDATA,
     NAME_RESERVED_LABEL, NAME_TRUNCATED, NO_MEMORY, RESERVED_FLAGS, SECOND_BAD_MAGIC, SECOND_FULL,
     SECOND_FULL_SOURCE, SECOND_LONG, SECOND_NOT_CANONICAL, SECOND_TRUNCATED, SOURCE_BAD_POINTER,
     SOURCE_BAD_TEXT, SOURCE_LONG, SOURCE_LONG_TEXT, SOURCE_NOT_NETBIOS, SOURCE_POINTER,
@@ -18,6 +18,7 @@ use crate::statuses::{
 };
 use nb_datagram::DatagramFault;
 use nb_names::{NameFault, TextFault};
+use nb_service::ServiceFault;
 use nb_session::SessionFault;
 use nb_table::{LoadFault, TableFault};
 
@@ -126,6 +127,18 @@ pub(crate) fn session_refusal(fault: SessionFault) -> Refusal
         SessionFault::BadLength => Refusal::Fault(BAD_LENGTH),
         SessionFault::Name(fault) => name_refusal(fault),
         SessionFault::TrailingBytes(place) => Refusal::FaultAt(TRAILING_BYTES, place),
+    }
+}
+
+/// Why a payload begins with no packet of port 137, or why an item of one doesn't stand whole.
+pub(crate) fn service_refusal(fault: ServiceFault) -> Refusal
+    ensures { result ≡ service_refusal fault }
+{
+    match fault {
+        ServiceFault::Truncated(place) => Refusal::FaultAt(TRUNCATED, place),
+        ServiceFault::Name(fault) => name_refusal(fault),
+        ServiceFault::NameRdata(place) => Refusal::FaultAt(NAME_RDATA, place),
+        ServiceFault::NoMemory => Refusal::Memory,
     }
 }
 

@@ -1,13 +1,18 @@
-//! The texts of packets.
+//! The texts of packets, and their JSON objects.
 ghost use Rattle.std.specs.Prelude.{IfOk};
-ghost use Rattle.nb_c.specs.Outputs.{Does, none_late};
-ghost use Rattle.nb_c.specs.Showing.{Shows};
+ghost use Rattle.nb_c.specs.Outputs.{Answers, Does, none_late, of_memory};
+ghost use Rattle.nb_c.specs.Showing.{Objects, Shows};
 ghost use Rattle.nb_text.specs.Shown.{Shown};
 
-use crate::output::write_bytes;
+use crate::output::{put, write_bytes};
+use crate::statuses::NO_MEMORY;
+use nb_datagram::laws as datagrams;
 use nb_names::{Bytes, NoMemory};
+use nb_service::laws as names;
+use nb_session::laws as sessions;
+use nb_telling::JsonRoom;
 use nb_text::laws::one_text;
-use nb_text::push_packet;
+use nb_text::{packet_object, push_packet};
 use std::alloc::Global;
 
 /// Writes the text of a payload that came to a port, as `nbt show` prints it.
@@ -37,4 +42,45 @@ fn shown(alloc: Global, port: u16, payload: &[u8]) -> Result<Bytes, NoMemory>
     let mut text = String::new(alloc);
     push_packet(port, payload, &mut text)?;
     Ok(Bytes::from_vec(text.into_bytes()))
+}
+
+/// Writes the JSON object of a payload that came to a port: the members that `nbt show --json`
+/// prints of it, but for those of its line.
+///
+/// The form is our choice.
+#[unsafe(no_mangle)]
+pub extern "C" fn nbt_json(
+    alloc: Global,
+    port: u16,
+    payload: &[u8],
+    into: &mut [u8],
+    used: &mut usize,
+) -> u32
+    ensures { Does none_late (Objects payload.now port)
+        (record { buffer = into.old; used = used.old; place = 0 })
+        (record { buffer = into.new; used = used.new; place = 0 }) result }
+{
+    // For the clause: a payload has one packet or one fault. The calls do nothing.
+    names::one_packet();
+    names::one_service_fault();
+    datagrams::one_packet();
+    datagrams::one_datagram_fault();
+    sessions::one_answer();
+    write_object(
+        packet_object(port, payload, JsonRoom::new(alloc)),
+        into,
+        used,
+    )
+}
+
+/// Writes an object, unless memory ran out.
+fn write_object(object: Result<JsonRoom, NoMemory>, into: &mut [u8], used: &mut usize) -> u32
+    ensures { Answers (of_memory object)
+        (record { buffer = into.old; used = used.old; place = 0 })
+        (record { buffer = into.new; used = used.new; place = 0 }) result }
+{
+    match object {
+        Ok(object) => put(object.as_slice(), into, used),
+        Err(_) => NO_MEMORY,
+    }
 }

@@ -102,6 +102,18 @@ pub const BAD_LENGTH: u32 = 54;
 /// Trailing bytes.
 pub const TRAILING_BYTES: u32 = 55;
 
+/// Name rdata.
+pub const NAME_RDATA: u32 = 56;
+
+/// No item.
+pub const NO_ITEM: u32 = 57;
+
+/// Other rdata.
+pub const OTHER_RDATA: u32 = 58;
+
+/// No part.
+pub const NO_PART: u32 = 59;
+
 /// Unknown request.
 pub const UNKNOWN_REQUEST: u32 = 60;
 

@@ -1,7 +1,7 @@
 //! The words of statuses (our choice).
 ghost use Rattle.std.specs.Prelude.{◌≡◌, option_map};
 ghost use Rattle.nb_c.specs.Outputs.{Answers};
-ghost use Rattle.nb_c.specs.Words.{status_answer, status_word, outcome_word, text_word, name_word, source_word, destination_word, packet_word, request_word, table_word, second_word, joining_word, station_word};
+ghost use Rattle.nb_c.specs.Words.{status_answer, status_word, later_word, outcome_word, text_word, name_word, source_word, destination_word, packet_word, request_word, table_word, second_word, joining_word, station_word};
 
 use crate::output::put;
 use crate::statuses::{
@@ -9,13 +9,13 @@ use crate::statuses::{
     DESTINATION_LONG_TEXT, DESTINATION_NOT_NETBIOS, DESTINATION_POINTER,
     DESTINATION_RESERVED_LABEL, DESTINATION_TRUNCATED, DONE, FULL, FULL_SOURCE, LONG, LONG_DATA,
     LONG_TEXT, MISPLACED_FIRST, MORE, NAME_BAD_POINTER, NAME_LONG, NAME_NOT_NETBIOS, NAME_POINTER,
-    NAME_PRESENT, NAME_RESERVED_LABEL, NAME_TRAILING_BYTES, NAME_TRUNCATED, NO_MEMORY, NO_ROOM,
-    RESERVED_FLAGS, SECOND_BAD_MAGIC, SECOND_FULL, SECOND_FULL_SOURCE, SECOND_LONG,
-    SECOND_NOT_CANONICAL, SECOND_TRUNCATED, SOURCE_BAD_POINTER, SOURCE_BAD_TEXT, SOURCE_LONG,
-    SOURCE_LONG_TEXT, SOURCE_NOT_NETBIOS, SOURCE_POINTER, SOURCE_RESERVED_LABEL, SOURCE_TRUNCATED,
-    TABLE_BAD_MAGIC, TABLE_FULL, TABLE_FULL_SOURCE, TABLE_LONG, TABLE_NOT_CANONICAL,
-    TABLE_TRUNCATED, TOO_MANY_NAMES, TRAILING_BYTES, TRUNCATED, UNKNOWN_REQUEST, UNKNOWN_STATUS,
-    UNKNOWN_TYPE, ZERO_PIECE,
+    NAME_PRESENT, NAME_RDATA, NAME_RESERVED_LABEL, NAME_TRAILING_BYTES, NAME_TRUNCATED, NO_ITEM,
+    NO_MEMORY, NO_PART, NO_ROOM, OTHER_RDATA, RESERVED_FLAGS, SECOND_BAD_MAGIC, SECOND_FULL,
+    SECOND_FULL_SOURCE, SECOND_LONG, SECOND_NOT_CANONICAL, SECOND_TRUNCATED, SOURCE_BAD_POINTER,
+    SOURCE_BAD_TEXT, SOURCE_LONG, SOURCE_LONG_TEXT, SOURCE_NOT_NETBIOS, SOURCE_POINTER,
+    SOURCE_RESERVED_LABEL, SOURCE_TRUNCATED, TABLE_BAD_MAGIC, TABLE_FULL, TABLE_FULL_SOURCE,
+    TABLE_LONG, TABLE_NOT_CANONICAL, TABLE_TRUNCATED, TOO_MANY_NAMES, TRAILING_BYTES, TRUNCATED,
+    UNKNOWN_REQUEST, UNKNOWN_STATUS, UNKNOWN_TYPE, ZERO_PIECE,
 };
 
 /// Writes the words of a status: plain ASCII, without a line feed.
@@ -43,6 +43,15 @@ fn status_words(status: u32) -> Option<&'static str>
         3 => source_words(status),
         4 => destination_words(status),
         5 => packet_words(status),
+        _ => later_words(status),
+    }
+}
+
+/// The words of a status that isn't about what is read, if it is one.
+fn later_words(status: u32) -> Option<&'static str>
+    ensures { option_map (λ words. words.now) result ≡ later_word status }
+{
+    match status / 10 {
         6 => request_words(status),
         7 => table_words(status),
         8 => second_words(status),
@@ -137,6 +146,10 @@ fn packet_words(status: u32) -> Option<&'static str>
         RESERVED_FLAGS => Some("reserved flags"),
         BAD_LENGTH => Some("bad length"),
         TRAILING_BYTES => Some("trailing bytes"),
+        NAME_RDATA => Some("name rdata"),
+        NO_ITEM => Some("no item"),
+        OTHER_RDATA => Some("other rdata"),
+        NO_PART => Some("no part"),
         _ => None,
     }
 }

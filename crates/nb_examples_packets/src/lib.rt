@@ -7,6 +7,7 @@ pub mod fragments;
 mod labels;
 mod names;
 mod service;
+mod service_items;
 mod service_texts;
 mod sessions;
 mod shown;
@@ -38,6 +39,7 @@ pub fn answer(line: &mut Line<'_>, call: &str) {
 fn answer_of_packets(line: &mut Line<'_>, call: &str) {
     match call {
         "service.decode" => service::decoded(line),
+        "service.items" => service_items::items(line),
         "service.push" => service::pushed(line),
         "service.word" => service::word(line),
         "service.status" => service::status(line),

@@ -36,7 +36,7 @@ fn say_questions(line: &mut Line<'_>, questions: &[Question]) {
 }
 
 /// Says a question: name, kind and class.
-fn say_question(line: &mut Line<'_>, question: &Question) {
+pub fn say_question(line: &mut Line<'_>, question: &Question) {
     line.say("question ");
     say_name(line, &question.name);
     write!(line, " {:04x} {:04x}; ", question.kind, question.class);
@@ -54,7 +54,7 @@ fn say_records(line: &mut Line<'_>, section: &str, records: &[Record<'_>]) {
 }
 
 /// Says a record: name, kind, class, time to live, and RDATA of bytes or of a name.
-fn say_record(line: &mut Line<'_>, record: &Record<'_>) {
+pub fn say_record(line: &mut Line<'_>, record: &Record<'_>) {
     line.begin();
     let (name, kind, class, ttl) = (record.name(), record.kind(), record.class(), record.ttl());
     let rdata = record.rdata();

@@ -5,8 +5,8 @@ use Rattle.nb_datagram.specs.declared.key.Key.{Key}
 use Rattle.nb_datagram.specs.declared.packet.ErrorPacket.{ErrorPacket}
 use Rattle.nb_datagram.specs.Datagram.{DatagramParts}
 use Rattle.nb_datagram.specs.Texts.{key_text}
-use Rattle.nb_table.specs.declared.outline.Outline.{Outline}
-use Rattle.nb_table.specs.declared.ranges.PlaceRange.{PlaceRange}
+use Rattle.nb_entries.specs.declared.outline.Outline.{Outline}
+use Rattle.nb_entries.specs.declared.ranges.PlaceRange.{PlaceRange}
 use Rattle.nb_table.specs.Contents.{Contents}
 use Rattle.nb_table.specs.Outline.{outline_at}
 use Rattle.nb_table.specs.Ranges.{ranges_at}

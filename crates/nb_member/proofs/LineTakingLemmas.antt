@@ -1,19 +1,18 @@
 -- What taking the lines of a capture keeps from line to line, and how it ends.
-use Rattle.std.proofs.Common.{◌≡◌, ◌≢◌, ◌⊎◌, ◌+◌, ◌≤◌, ◌++◌, ℕ, List, [], ◌∷◌, length, Option, Some, None, Result, Ok, Err, refl, sym, subst, ◌∙◌, ap, inl, inr, append_assoc, arith}
+use Rattle.std.proofs.Common.{◌≡◌, ◌⊎◌, ◌+◌, ◌≤◌, ◌++◌, ℕ, List, [], ◌∷◌, length, Option, Some, None, Result, Ok, Err, refl, sym, subst, ◌∙◌, ap, inl, inr, append_assoc, arith}
 use Rattle.std.specs.Io.KnownBytes.{Consumes}
 use Rattle.std.proofs.lemmas.List.{append-nil, length-append}
 use Rattle.nb_names.specs.Counted.{Counts}
-use Rattle.nb_names.specs.Devices.{ShowsUnread}
 use Rattle.nb_names.specs.LineFacts.{any_cut}
 use Rattle.nb_names.specs.Lines.{CutInto, rest, with_rest}
 use Rattle.nb_member.specs.declared.line.Line as capture
 use Rattle.nb_member.specs.declared.line_read_fault.LineReadFault.TheVariants as unread
-use Rattle.nb_member.specs.declared.lines_fault.LinesFault.{LinesFault}
-use Rattle.nb_member.specs.declared.lines_fault.LinesFault.TheVariants.{Line, Read, NoMemory, NotTaken}
-use Rattle.nb_member.specs.Code.LineTurns.{LineFails}
+use Rattle.nb_member.specs.declared.replay_fault.ReplayFault.{ReplayFault}
+use Rattle.nb_member.specs.declared.replay_fault.ReplayFault.TheVariants.{Line, Read, NoMemory}
+use Rattle.nb_member.specs.Code.LineTurns.{LineFails, malformed as line_malformed, no_memory as line_unheld, not_taken as line_not_taken}
 use Rattle.nb_member.specs.LineReading.{ReadsLine}
 use Rattle.nb_member.specs.LineRoom.{RoomValue, nothing_within}
-use Rattle.nb_member.specs.LineTaking.{TakesLine, TakesEach, none, more, TakesLines}
+use Rattle.nb_member.specs.LineTaking.{TakesLine, TakesEach, none, more, EndsEarly, malformed, unread as not_read, no_memory, not_taken, TakesLines}
 use Rattle.nb_member.specs.LinesCame.{lines_held, comes_malformed}
 use Rattle.nb_member.specs.Replaying.{AreLines, ComesMalformed, finished, ended, looked_at}
 use Rattle.nb_member.specs.Shared.LinesSoFar.{HandedOut, nothing_handed, cut_both, was_reading, came, kept_are, none_over, handed_more, handed_all, shows_unread, long_first, bytes_less}
@@ -25,6 +24,10 @@ TakesOf S = ℕ → List ℕ → Option capture.Line → S → S → Type 0
 -- FailsOf S F: when it doesn't, and why
 abbrev pub FailsOf : Type 0 → Type 0 → Type 1
 FailsOf S F = ℕ → List ℕ → Option capture.Line → S → S → F → Type 0
+
+-- GivesTo F: which F stands for a fault of a replay
+abbrev pub GivesTo : Type 0 → Type 1
+GivesTo F = ReplayFault → F → Type 0
 
 -- ---- lines in a row
 
@@ -44,9 +47,9 @@ takes_more {S} Takes _ _ l _ mid new (more n x ls old between _ first others) k 
 pub line_alike : {B S : Type 0} (Takes : B → TakesOf S) (b d : B) (n : ℕ) (l : List ℕ) (old new : S) → b ≡ d → TakesLine (Takes b) n l old new → TakesLine (Takes d) n l old new
 line_alike Takes b d n l old new same t = subst (λ x. TakesLine (Takes x) n l old new) same t
 
-pub fault_alike : {B S F : Type 0} (Fails : B → FailsOf S F) (b d : B) (n : ℕ) (l : List ℕ) (old new : S) (fault : LinesFault F) → b ≡ d → LineFails (Fails b) n l old new fault
-    → LineFails (Fails d) n l old new fault
-fault_alike Fails b d n l old new fault same t = subst (λ x. LineFails (Fails x) n l old new fault) same t
+pub fault_alike : {B S F : Type 0} (Fails : B → FailsOf S F) (Gives : GivesTo F) (b d : B) (n : ℕ) (l : List ℕ) (old new : S) (fault : F) → b ≡ d
+    → LineFails (Fails b) Gives n l old new fault → LineFails (Fails d) Gives n l old new fault
+fault_alike Fails Gives b d n l old new fault same t = subst (λ x. LineFails (Fails x) Gives n l old new fault) same t
 
 -- ---- turns of the loop
 
@@ -96,42 +99,39 @@ next_turn Takes most first now next counts later after room left l number old mi
 
 -- ---- how the loop ends
 
--- EndsTaking Takes Fails most first left counts later old new result: what is said of the bytes that were read
-abbrev pub EndsTaking : {S F : Type 0} → TakesOf S → FailsOf S F → ℕ → Option (List ℕ) → Option (List ℕ) → Counts → Counts → S → S
-    → Result ℕ (LinesFault F) → Type 0
-EndsTaking Takes Fails most first left counts later old new result =
-    (bytes : List ℕ) × Consumes first left bytes
-    × ((result ≡ Err Read → ShowsUnread most bytes counts later) × TakesLines Takes Fails most bytes left old new result)
+-- EndsTaking Takes Fails Gives most first left counts later old new result: what is said of the bytes that were read
+abbrev pub EndsTaking : {S F : Type 0} → TakesOf S → FailsOf S F → GivesTo F → ℕ → Option (List ℕ) → Option (List ℕ) → Counts → Counts → S → S
+    → Result ℕ F → Type 0
+EndsTaking Takes Fails Gives most first left counts later old new result =
+    (bytes : List ℕ) × Consumes first left bytes × TakesLines Takes Fails Gives most bytes left counts later old new result
 
 -- at a line
-at_line : {S F : Type 0} (Takes : TakesOf S) (Fails : FailsOf S F) (most : ℕ) (bytes : List ℕ) (left : Option (List ℕ)) (done more_lines : List (List ℕ)) (l : List ℕ)
-    (number : ℕ) (old mid new : S) → number ≡ length done + 1 → TakesEach Takes 1 done old mid → AreLines most bytes left (done ++ l ∷ more_lines)
-    → (fault : LinesFault F) → LineFails Fails number l mid new fault → TakesLines Takes Fails most bytes left old new (Err fault)
-at_line Takes Fails most bytes left done more_lines l number old mid new at t are (Line n) u =
-    (done, ended done more_lines l are u.1, u.0 ∙ at, subst (λ s. TakesEach Takes 1 done old s) (sym u.2) t)
-at_line Takes Fails most bytes left done more_lines l number old mid new at t are Read u = absurd u
-at_line Takes Fails most bytes left done more_lines l number old mid new at t are NoMemory u =
-    (done, l ∷ more_lines, are, subst (λ s. TakesEach Takes 1 done old s) (sym u) t)
-at_line Takes Fails most bytes left done more_lines l number old mid new at t are (NotTaken fault) u = record {
+at_line : {S F : Type 0} (Takes : TakesOf S) (Fails : FailsOf S F) (Gives : GivesTo F) (most : ℕ) (bytes : List ℕ) (left : Option (List ℕ)) (counts later : Counts)
+    (done more_lines : List (List ℕ)) (l : List ℕ) (number : ℕ) (old mid new : S) → number ≡ length done + 1 → TakesEach Takes 1 done old mid
+    → AreLines most bytes left (done ++ l ∷ more_lines) → (fault : F) → LineFails Fails Gives number l mid new fault
+    → EndsEarly Takes Fails Gives most bytes left counts later old new fault
+at_line Takes Fails Gives most bytes left counts later done more_lines l number old mid new at t are fault (line_malformed is_malformed same gives) =
+    malformed done (ended done more_lines l are is_malformed) (subst (λ s. TakesEach Takes 1 done old s) (sym same) t)
+    (subst (λ (n : ℕ). Gives (Line n) fault) at gives)
+at_line Takes Fails Gives most bytes left counts later done more_lines l number old mid new at t are fault (line_unheld same gives) =
+    no_memory done (l ∷ more_lines) are (subst (λ s. TakesEach Takes 1 done old s) (sym same) t) gives
+at_line Takes Fails Gives most bytes left counts later done more_lines l number old mid new at t are fault (line_not_taken said reads fails) = not_taken (record {
   done = done;
   line = l;
   more_lines = more_lines;
   are_lines = are;
   between = mid;
   taken = t;
-  said = u.0;
-  reads = u.1;
-  fails = subst (λ (n : ℕ). Fails n l u.0 mid new fault) at u.2;
-}
+  said = said;
+  reads = reads;
+  fails = subst (λ (n : ℕ). Fails n l said mid new fault) at fails;
+})
 
-not_read : {S F : Type 0} (Fails : FailsOf S F) (n : ℕ) (l : List ℕ) (mid new : S) (fault : LinesFault F) → LineFails Fails n l mid new fault → fault ≢ Read
-not_read {S} {F} Fails n l mid new fault u e = let v = subst (λ (f : LinesFault F). LineFails Fails n l mid new f) e u in v
-
-pub ends_at_line : {S F : Type 0} (Takes : TakesOf S) (Fails : FailsOf S F) (most : ℕ) (first now next : Option (List ℕ)) (counts later after : Counts)
-    (room left : RoomValue) (l : List ℕ) (number : ℕ) (old mid new : S) (fault : LinesFault F) → IsTaking Takes most first now counts later room number old mid
-    → ReadsLine room now next later after (Ok (Some l)) left → LineFails Fails (number + 1) l mid new fault
-    → EndsTaking Takes Fails most first next counts after old new (Err fault)
-ends_at_line Takes Fails most first now next counts later after room left l number old mid new fault s r u =
+pub ends_at_line : {S F : Type 0} (Takes : TakesOf S) (Fails : FailsOf S F) (Gives : GivesTo F) (most : ℕ) (first now next : Option (List ℕ)) (counts later after : Counts)
+    (room left : RoomValue) (l : List ℕ) (number : ℕ) (old mid new : S) (fault : F) → IsTaking Takes most first now counts later room number old mid
+    → ReadsLine room now next later after (Ok (Some l)) left → LineFails Fails Gives (number + 1) l mid new fault
+    → EndsTaking Takes Fails Gives most first next counts after old new (Err fault)
+ends_at_line Takes Fails Gives most first now next counts later after room left l number old mid new fault s r u =
     let o = handed_more most first now next counts later after room left s.lines s.last l s.handed r in
     let acted = with_rest s.lines s.last in
     let held = lines_held most first next counts after left o.lines o.last o.handed in
@@ -141,18 +141,15 @@ ends_at_line Takes Fails most first now next counts later after room left l numb
     (subst (λ (ls : List (List ℕ)). AreLines most bytes next (ls ++ held.more)) o.are held.are) in (
       bytes,
       o.handed.consumes,
-      (
-        (λ e. let same : fault ≡ Read = cc e in absurd (not_read Fails (number + 1) l mid new fault u same)),
-        at_line Takes Fails most bytes next acted held.more l (number + 1) old mid new (one_more number (length acted) s.counted) s.taken are fault u,
-      ),
+      at_line Takes Fails Gives most bytes next counts after acted held.more l (number + 1) old mid new (one_more number (length acted) s.counted) s.taken are fault u,
     )
 
 -- where the next line is too long
-pub ends_too_long : {S F : Type 0} (Takes : TakesOf S) (Fails : FailsOf S F) (most : ℕ) (first now next : Option (List ℕ)) (counts later after : Counts)
-    (room left : RoomValue) (number : ℕ) (old new : S) → IsTaking Takes most first now counts later room number old new
+pub ends_too_long : {S F : Type 0} (Takes : TakesOf S) (Fails : FailsOf S F) (Gives : GivesTo F) (most : ℕ) (first now next : Option (List ℕ)) (counts later after : Counts)
+    (room left : RoomValue) (number : ℕ) (old new : S) (fault : F) → IsTaking Takes most first now counts later room number old new
     → ReadsLine room now next later after (Err unread.TooLong) left
-    → EndsTaking Takes Fails most first next counts after old new (Err (Line (number + 1)))
-ends_too_long Takes Fails most first now next counts later after room left number old new s r =
+    → Gives (Line (number + 1)) fault → EndsTaking Takes Fails Gives most first next counts after old new (Err fault)
+ends_too_long Takes Fails Gives most first now next counts later after room left number old new fault s r gives =
     let was = was_reading most first now counts later room s.lines s.last (Err unread.TooLong) s.handed r.again (λ e. absurd (cc e)) in
     let c = came most first now next counts later after room left s.lines s.last (Err unread.TooLong) s.handed was.1 r in
     let over = none_over room now next later after (Err unread.TooLong) left r (λ e. absurd (cc e)) in
@@ -161,25 +158,19 @@ ends_too_long Takes Fails most first now next counts later after room left numbe
     let bytes = (c.passed ++ held) ++ r.over in (
       bytes,
       c.consumes,
-      (
-        (λ e. absurd (cc e)),
-        (
-          with_rest s.lines s.last,
-          subst (λ (ls : List (List ℕ)). ComesMalformed most bytes next ls) acted
-              (comes_malformed most bytes next c.passed held s.lines c.cut
-              (kept_are most first next counts after s.lines held r.over left.taken c (inl over)) (long_first held r.answers.0)),
-          one_more number (length (with_rest s.lines s.last)) s.counted,
-          s.taken,
-        ),
-      ),
+      malformed (with_rest s.lines s.last)
+          (subst (λ (ls : List (List ℕ)). ComesMalformed most bytes next ls) acted
+          (comes_malformed most bytes next c.passed held s.lines c.cut
+          (kept_are most first next counts after s.lines held r.over left.taken c (inl over)) (long_first held r.answers.0)))
+          s.taken (subst (λ (n : ℕ). Gives (Line n) fault) (one_more number (length (with_rest s.lines s.last)) s.counted) gives),
     )
 
 -- where the input can't be read further
-pub ends_unread : {S F : Type 0} (Takes : TakesOf S) (Fails : FailsOf S F) (most : ℕ) (first now next : Option (List ℕ)) (counts later after : Counts)
-    (room left : RoomValue) (number : ℕ) (old new : S) → IsTaking Takes most first now counts later room number old new
+pub ends_unread : {S F : Type 0} (Takes : TakesOf S) (Fails : FailsOf S F) (Gives : GivesTo F) (most : ℕ) (first now next : Option (List ℕ)) (counts later after : Counts)
+    (room left : RoomValue) (number : ℕ) (old new : S) (fault : F) → IsTaking Takes most first now counts later room number old new
     → ReadsLine room now next later after (Err unread.Read) left
-    → EndsTaking Takes Fails most first next counts after old new (Err Read)
-ends_unread Takes Fails most first now next counts later after room left number old new s r =
+    → Gives Read fault → EndsTaking Takes Fails Gives most first next counts after old new (Err fault)
+ends_unread Takes Fails Gives most first now next counts later after room left number old new fault s r gives =
     let was = was_reading most first now counts later room s.lines s.last (Err unread.Read) s.handed r.again (λ e. absurd (cc e)) in
     let c = came most first now next counts later after room left s.lines s.last (Err unread.Read) s.handed was.1 r in
     let held = room.rest ++ r.got in
@@ -193,26 +184,19 @@ ends_unread Takes Fails most first now next counts later after room left number 
     (cut_both c.passed held s.lines [] [] held refl c.cut (rest held r.answers.0.1)) in (
       (c.passed ++ held) ++ r.over,
       c.consumes,
-      (
-        (λ e. shows_unread most first now next counts later after room left s.lines s.last s.handed r c was.0),
-        (
-          with_rest s.lines s.last,
-          held,
-          subst (λ (ls : List (List ℕ)). CutInto (looked_at most ((c.passed ++ held) ++ r.over)) ls held) acted
-              (subst (λ (bs : List ℕ). CutInto bs s.lines held)
-              (sym (kept_are most first next counts after s.lines held r.over left.taken c over)) cut),
-          r.answers.0.0,
-          s.taken,
-        ),
-      ),
+      not_read (with_rest s.lines s.last) held
+          (subst (λ (ls : List (List ℕ)). CutInto (looked_at most ((c.passed ++ held) ++ r.over)) ls held) acted
+          (subst (λ (bs : List ℕ). CutInto bs s.lines held)
+          (sym (kept_are most first next counts after s.lines held r.over left.taken c over)) cut))
+          r.answers.0.0 s.taken (shows_unread most first now next counts later after room left s.lines s.last s.handed r c was.0) gives,
     )
 
 -- where there is no memory for the next line
-pub ends_unheld : {S F : Type 0} (Takes : TakesOf S) (Fails : FailsOf S F) (most : ℕ) (first now next : Option (List ℕ)) (counts later after : Counts)
-    (room left : RoomValue) (number : ℕ) (old new : S) → IsTaking Takes most first now counts later room number old new
+pub ends_unheld : {S F : Type 0} (Takes : TakesOf S) (Fails : FailsOf S F) (Gives : GivesTo F) (most : ℕ) (first now next : Option (List ℕ)) (counts later after : Counts)
+    (room left : RoomValue) (number : ℕ) (old new : S) (fault : F) → IsTaking Takes most first now counts later room number old new
     → ReadsLine room now next later after (Err unread.NoMemory) left
-    → EndsTaking Takes Fails most first next counts after old new (Err NoMemory)
-ends_unheld Takes Fails most first now next counts later after room left number old new s r =
+    → Gives NoMemory fault → EndsTaking Takes Fails Gives most first next counts after old new (Err fault)
+ends_unheld Takes Fails Gives most first now next counts later after room left number old new fault s r gives =
     let was = was_reading most first now counts later room s.lines s.last (Err unread.NoMemory) s.handed r.again (λ e. absurd (cc e)) in
     let c = came most first now next counts later after room left s.lines s.last (Err unread.NoMemory) s.handed was.1 r in
     let over = none_over room now next later after (Err unread.NoMemory) left r (λ e. absurd (cc e)) in
@@ -226,24 +210,17 @@ ends_unheld Takes Fails most first now next counts later after room left number 
     (cut_both c.passed held s.lines cut.lines [] cut.left refl c.cut cut.cut)) in (
       bytes,
       c.consumes,
-      (
-        (λ e. absurd (cc e)),
-        (
-          with_rest s.lines s.last,
-          cut.lines,
-          subst (λ (ls : List (List ℕ)). AreLines most bytes next (ls ++ cut.lines)) acted are,
-          s.taken,
-        ),
-      ),
+      no_memory (with_rest s.lines s.last) cut.lines
+          (subst (λ (ls : List (List ℕ)). AreLines most bytes next (ls ++ cut.lines)) acted are) s.taken gives,
     )
 
 -- at the input's end
-pub ends_at_end : {S F : Type 0} (Takes : TakesOf S) (Fails : FailsOf S F) (most : ℕ) (first now next : Option (List ℕ)) (counts later after : Counts)
+pub ends_at_end : {S F : Type 0} (Takes : TakesOf S) (Fails : FailsOf S F) (Gives : GivesTo F) (most : ℕ) (first now next : Option (List ℕ)) (counts later after : Counts)
     (room left : RoomValue) (number : ℕ) (old new : S) → IsTaking Takes most first now counts later room number old new
-    → ReadsLine room now next later after (Ok None) left → EndsTaking Takes Fails most first next counts after old new (Ok number)
-ends_at_end Takes Fails most first now next counts later after room left number old new s r =
+    → ReadsLine room now next later after (Ok None) left → EndsTaking Takes Fails Gives most first next counts after old new (Ok number)
+ends_at_end Takes Fails Gives most first now next counts later after room left number old new s r =
     let a = handed_all most first now next counts later after room left s.lines s.last s.handed r in (
       a.bytes,
       a.consumes,
-      ((λ e. absurd (cc e)), (s.lines, s.last, a.cut, record { at_end = a.at_end; within = a.within }, s.counted, s.taken)),
+      (s.lines, s.last, a.cut, record { at_end = a.at_end; within = a.within }, s.counted, s.taken),
     )

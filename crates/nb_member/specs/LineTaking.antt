@@ -1,10 +1,12 @@
 -- What is made of the lines of a capture, one after another (our choice). Lines are numbered from 1.
 use Rattle.std.specs.Prelude.{◌≡◌, ◌≤◌, ◌+◌, ◌++◌, ◌∷◌, ℕ, List, [], length, Option, Result, Ok, Err}
+use Rattle.nb_names.specs.Counted.{Counts}
+use Rattle.nb_names.specs.Devices.{ShowsUnread}
 use Rattle.nb_names.specs.Lines.{CutInto, with_rest}
 use Rattle.nb_member.specs.declared.limits.TheConstants.{MAX_LINE}
 use Rattle.nb_member.specs.declared.line.Line as capture
-use Rattle.nb_member.specs.declared.lines_fault.LinesFault.{LinesFault}
-use Rattle.nb_member.specs.declared.lines_fault.LinesFault.TheVariants.{Line, Read, NoMemory, NotTaken}
+use Rattle.nb_member.specs.declared.replay_fault.ReplayFault.{ReplayFault}
+use Rattle.nb_member.specs.declared.replay_fault.ReplayFault.TheVariants.{Line, Read, NoMemory}
 use Rattle.nb_member.specs.Capture.{Reads}
 use Rattle.nb_member.specs.Replaying.{AreLines, ComesMalformed, IsWhole, looked_at}
 
@@ -35,18 +37,25 @@ pub record StopsAt {S F : Type 0} (Takes : ℕ → List ℕ → Option capture.L
   pub reads : Reads line (Ok said)
   pub fails : Fails (length done + 1) line said between new fault
 
--- TakesLines Takes Fails most bytes left old new result: what is answered where these bytes came from an input of so many
--- bytes at most, with those left, and what its lines made of old: how many there are, or the fault that was met first
+-- EndsEarly Takes Fails Gives most bytes left counts later old new fault: why not all lines were taken of an input of so many
+-- bytes at most, of which these came, with those left, by calls that changed the reader's counts so; the lines before the
+-- fault made something of old. Gives why fault says that the fault stands for one of a replay's
+pub data EndsEarly {S F : Type 0} (Takes : ℕ → List ℕ → Option capture.Line → S → S → Type 0) (Fails : ℕ → List ℕ → Option capture.Line → S → S → F → Type 0)
+    (Gives : ReplayFault → F → Type 0) (most : ℕ) (bytes : List ℕ) (left : Option (List ℕ)) (counts later : Counts) (old new : S) (fault : F) : Type 0 where
+  malformed : (lines : List (List ℕ)) → ComesMalformed most bytes left lines → TakesEach Takes 1 lines old new
+      → Gives (Line (length lines + 1)) fault → EndsEarly Takes Fails Gives most bytes left counts later old new fault
+  unread : (lines : List (List ℕ)) (rest : List ℕ) → CutInto (looked_at most bytes) lines rest → length rest ≤ MAX_LINE
+      → TakesEach Takes 1 lines old new → ShowsUnread most bytes counts later → Gives Read fault
+      → EndsEarly Takes Fails Gives most bytes left counts later old new fault
+  no_memory : (lines more_lines : List (List ℕ)) → AreLines most bytes left (lines ++ more_lines) → TakesEach Takes 1 lines old new
+      → Gives NoMemory fault → EndsEarly Takes Fails Gives most bytes left counts later old new fault
+  not_taken : StopsAt Takes Fails most bytes left old new fault → EndsEarly Takes Fails Gives most bytes left counts later old new fault
+
+-- TakesLines Takes Fails Gives most bytes left counts later old new result: what is answered there, and what the lines made of
+-- old: how many there are, or the fault that was met first
 abbrev pub TakesLines : {S F : Type 0} → (ℕ → List ℕ → Option capture.Line → S → S → Type 0) → (ℕ → List ℕ → Option capture.Line → S → S → F → Type 0)
-    → ℕ → List ℕ → Option (List ℕ) → S → S → Result ℕ (LinesFault F) → Type 0
-TakesLines Takes Fails most bytes left old new (Ok n) =
+    → (ReplayFault → F → Type 0) → ℕ → List ℕ → Option (List ℕ) → Counts → Counts → S → S → Result ℕ F → Type 0
+TakesLines Takes Fails Gives most bytes left counts later old new (Ok n) =
     (lines : List (List ℕ)) × (rest : List ℕ) × CutInto bytes lines rest × IsWhole most bytes left
     × (n ≡ length (with_rest lines rest)) × TakesEach Takes 1 (with_rest lines rest) old new
-TakesLines Takes Fails most bytes left old new (Err (Line n)) =
-    (lines : List (List ℕ)) × ComesMalformed most bytes left lines × (n ≡ length lines + 1) × TakesEach Takes 1 lines old new
-TakesLines Takes Fails most bytes left old new (Err Read) =
-    (lines : List (List ℕ)) × (rest : List ℕ) × CutInto (looked_at most bytes) lines rest
-    × (length rest ≤ MAX_LINE) × TakesEach Takes 1 lines old new
-TakesLines Takes Fails most bytes left old new (Err NoMemory) =
-    (lines : List (List ℕ)) × (more_lines : List (List ℕ)) × AreLines most bytes left (lines ++ more_lines) × TakesEach Takes 1 lines old new
-TakesLines Takes Fails most bytes left old new (Err (NotTaken fault)) = StopsAt Takes Fails most bytes left old new fault
+TakesLines Takes Fails Gives most bytes left counts later old new (Err fault) = EndsEarly Takes Fails Gives most bytes left counts later old new fault

@@ -11,12 +11,13 @@ use Rattle.nb_datagram.specs.Datagram.{DatagramParts}
 use Rattle.nb_datagram.specs.Fragment.{FragmentParts}
 use Rattle.nb_datagram.specs.DatagramFaults.{PacketFails}
 use Rattle.nb_datagram.specs.Packet.{QueryPacket, IsPacket}
-use Rattle.nb_table.specs.declared.change.Change.TheVariants as change
+use Rattle.nb_entries.specs.declared.change.Change.TheVariants as change
 use Rattle.nb_table.specs.declared.fault.TableFault.{TableFault}
 use Rattle.nb_table.specs.declared.fault.TableFault.TheVariants.{Full, FullSource}
-use Rattle.nb_table.specs.Change.{Change, IsChange}
+use Rattle.nb_entries.specs.Change.{Change}
+use Rattle.nb_table.specs.Change.{IsChange}
 use Rattle.nb_table.specs.Insert.{Takes as TableTakes, Refuses}
-use Rattle.nb_table.specs.Maps.{first_of}
+use Rattle.nb_entries.specs.Maps.{first_of}
 use Rattle.nb_table.specs.Contents.{Contents}
 use Rattle.nb_table.specs.Join.{join}
 use Rattle.nb_table.specs.Limits.{with_contents}

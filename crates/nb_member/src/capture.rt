@@ -1,14 +1,13 @@
 //! Reading a line of a capture.
-ghost use Rattle.std.specs.Prelude.{◌≡◌, ℕ, ◌<◌, ◌++◌, ◌∷◌, List, length, Contains, MatchOption, IsTrue, ◌↔◌};
+ghost use Rattle.std.specs.Prelude.{◌≡◌, ℕ, ◌++◌, ◌∷◌, List, Contains, MatchOption, IsTrue, ◌↔◌};
 ghost use Rattle.std.specs.List.{list_all};
 ghost use Rattle.std.specs.Char.{is_ascii_digit};
 ghost use Rattle.nb_member.specs.Capture.{space, PortText, MomentText, Reads, ReadsBy, NeedsMemory, Blank, HasWords};
-ghost use Rattle.nb_names.specs.Hexadecimal.{DataText};
 
 use crate::limits::{MAX_LINE, MAX_MOMENT_DIGITS};
 use crate::line::Line;
 use crate::line_fault::LineFault;
-use nb_names::{Bytes, DigitsFault, ascii_str, data_of_text};
+use nb_names::{ascii_str, data_of_text};
 use std::alloc::Global;
 
 /// What a line of a capture says, or nothing where it is empty or a comment.
@@ -100,7 +99,7 @@ fn packet_of(alloc: Global, port: u16, words: &[u8]) -> Result<Line, LineFault>
     let Some(moment) = moment_of(digits) else {
         return Err(LineFault::BadLine);
     };
-    let payload = payload_of(alloc, hexadecimal)?;
+    let payload = data_of_text(alloc, hexadecimal)?;
     Ok(Line::Packet {
         port,
         moment,
@@ -137,16 +136,4 @@ fn are_digits(text: &[u8]) -> bool
     ensures { result ≡ list_all is_ascii_digit text.now }
 {
     text.iter().all(|digit| digit.is_ascii_digit())
-}
-
-/// The payload that a word stands for.
-fn payload_of(alloc: Global, text: &[u8]) -> Result<Bytes, LineFault>
-    ensures { ReadsBy (λ payload. DataText payload text.now) (λ payload. 0 < length payload)
-        result }
-{
-    match data_of_text(alloc, text) {
-        Ok(payload) => Ok(payload),
-        Err(DigitsFault::BadDigits) => Err(LineFault::BadLine),
-        Err(DigitsFault::NoMemory) => Err(LineFault::NoMemory),
-    }
 }

@@ -1,5 +1,6 @@
 //! Why nothing could be read from a line of a capture.
 
+use nb_names::DigitsFault;
 use std::error::Error;
 use std::fmt;
 
@@ -27,3 +28,17 @@ impl fmt::Display for LineFault {
 }
 
 impl Error for LineFault {}
+
+impl From<DigitsFault> for LineFault {
+    ghost use Rattle.std.specs.Prelude.{◌≡◌};
+    ghost use Rattle.nb_member.specs.Code.LineTurns.{line_fault_of};
+
+    ghost from_gives = { λ fault made. made ≡ line_fault_of fault };
+
+    fn from(fault: DigitsFault) -> LineFault {
+        match fault {
+            DigitsFault::BadDigits => LineFault::BadLine,
+            DigitsFault::NoMemory => LineFault::NoMemory,
+        }
+    }
+}

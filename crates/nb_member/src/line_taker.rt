@@ -2,14 +2,16 @@
 ghost use Rattle.std.specs.Prelude.{◌≡◌, ℕ, List, Option, OnOk, IfErr};
 
 use crate::line::Line;
+use crate::replay_fault::ReplayFault;
 
 /// What the lines of a capture are given to, one after another, each with what it says: a member
 /// that acts on them, say, or a text that they are shown in.
 pub trait LineTaker {
     ghost use Rattle.nb_member.specs.declared.line.Line.{Line};
 
-    /// Why a line isn't taken.
-    type Fault;
+    /// Why a line isn't taken. Where the lines can't be read further, for one of the reasons of a
+    /// replay, that is made one of these.
+    type Fault: From<ReplayFault>;
 
     // What the lines change.
     ghost State: { Type 0 };

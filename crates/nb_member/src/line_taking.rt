@@ -1,7 +1,6 @@
 //! Taking the lines of a capture.
-ghost use Rattle.std.specs.Prelude.{◌≡◌, ℕ, List, Err, OnOk, IfErr};
+ghost use Rattle.std.specs.Prelude.{◌≡◌, ℕ, List, OnOk, IfErr};
 ghost use Rattle.std.specs.Io.KnownBytes.{Consumes};
-ghost use Rattle.nb_names.specs.Devices.{ShowsUnread};
 ghost use Rattle.nb_member.specs.LineTaking.{TakesLine, TakesLines};
 ghost use Rattle.nb_member.specs.Code.LineTurns.{LineFails};
 
@@ -11,7 +10,7 @@ use crate::line_read_fault::LineReadFault;
 use crate::line_reading::next_from;
 use crate::line_room::LineRoom;
 use crate::line_taker::LineTaker;
-use crate::lines_fault::LinesFault;
+use crate::replay_fault::ReplayFault;
 use nb_names::Counted;
 use std::alloc::Global;
 use std::io::Read;
@@ -25,14 +24,13 @@ use std::io::Read;
 ///
 /// # Errors
 ///
-/// The first that is met:
+/// The first that is met: the taker's, where it doesn't take a line, or what it makes of
 ///
-/// - [`LinesFault::Line`] for a malformed line. What neither a line feed nor the input's end has
+/// - [`ReplayFault::Line`] for a malformed line. What neither a line feed nor the input's end has
 ///   ended is judged by its length alone.
-/// - [`LinesFault::Read`] where the reader failed, was interrupted 1,024 times in a row, or gave
+/// - [`ReplayFault::Read`] where the reader failed, was interrupted 1,024 times in a row, or gave
 ///   more bytes than the input may have, and no line among the bytes that came is malformed.
-/// - [`LinesFault::NoMemory`] where memory ran out.
-/// - [`LinesFault::NotTaken`] where the taker doesn't take a line.
+/// - [`ReplayFault::NoMemory`] where memory ran out.
 ///
 /// The lines before the one of the fault are taken.
 ///
@@ -42,14 +40,13 @@ pub fn take_lines<R: Read, T: LineTaker>(
     most: u64,
     reader: &mut Counted<R>,
     taker: &mut T,
-) -> Result<u64, LinesFault<T::Fault>>
+) -> Result<u64, T::Fault>
     // The bytes that this call took from the reader, and what was made of them.
     ensures taken { (bytes : List ℕ) ×
         Consumes (R.remaining reader.old.inner) (R.remaining reader.new.inner) bytes ×
-        ((result ≡ Err LinesFault.Read →
-        ShowsUnread most bytes reader.old.counts reader.new.counts) ×
-        TakesLines (T.takes (T.beside taker.old)) (T.fails (T.beside taker.old)) most bytes
-        (R.remaining reader.new.inner) (T.state taker.old) (T.state taker.new) result) }
+        TakesLines (T.takes (T.beside taker.old)) (T.fails (T.beside taker.old))
+        T.Fault.from_gives most bytes (R.remaining reader.new.inner)
+        reader.old.counts reader.new.counts (T.state taker.old) (T.state taker.new) result }
     ensures beside { T.beside taker.new ≡ T.beside taker.old }
 {
     let mut room = LineRoom::within(alloc, most);
@@ -61,9 +58,11 @@ pub fn take_lines<R: Read, T: LineTaker>(
                 take_line(alloc, number, line, taker)?;
             }
             Ok(None) => return Ok(number),
-            Err(LineReadFault::TooLong) => return Err(LinesFault::Line(number + 1)),
-            Err(LineReadFault::Read) => return Err(LinesFault::Read),
-            Err(LineReadFault::NoMemory) => return Err(LinesFault::NoMemory),
+            Err(LineReadFault::TooLong) => {
+                return Err(T::Fault::from(ReplayFault::Line(number + 1)));
+            }
+            Err(LineReadFault::Read) => return Err(T::Fault::from(ReplayFault::Read)),
+            Err(LineReadFault::NoMemory) => return Err(T::Fault::from(ReplayFault::NoMemory)),
         }
     }
 }
@@ -72,26 +71,22 @@ pub fn take_lines<R: Read, T: LineTaker>(
 ///
 /// # Errors
 ///
-/// [`LinesFault::Line`], [`LinesFault::NoMemory`] and [`LinesFault::NotTaken`].
+/// The taker's, or what it makes of [`ReplayFault::Line`] and [`ReplayFault::NoMemory`].
 fn take_line<T: LineTaker>(
     alloc: Global,
     number: u64,
     line: &[u8],
     taker: &mut T,
-) -> Result<(), LinesFault<T::Fault>>
+) -> Result<(), T::Fault>
     ensures taken { OnOk result (TakesLine (T.takes (T.beside taker.old)) number line.now
         (T.state taker.old) (T.state taker.new)) }
-    ensures fault { IfErr result (LineFails (T.fails (T.beside taker.old)) number line.now
-        (T.state taker.old) (T.state taker.new)) }
+    ensures fault { IfErr result (LineFails (T.fails (T.beside taker.old)) T.Fault.from_gives
+        number line.now (T.state taker.old) (T.state taker.new)) }
     ensures beside { T.beside taker.new ≡ T.beside taker.old }
 {
-    let said = match capture_line(alloc, line) {
-        Ok(said) => said,
-        Err(LineFault::BadLine) => return Err(LinesFault::Line(number)),
-        Err(LineFault::NoMemory) => return Err(LinesFault::NoMemory),
-    };
-    match taker.take(number, line, &said) {
-        Ok(()) => Ok(()),
-        Err(fault) => Err(LinesFault::NotTaken(fault)),
+    match capture_line(alloc, line) {
+        Ok(said) => taker.take(number, line, &said),
+        Err(LineFault::BadLine) => Err(T::Fault::from(ReplayFault::Line(number))),
+        Err(LineFault::NoMemory) => Err(T::Fault::from(ReplayFault::NoMemory)),
     }
 }

@@ -123,10 +123,8 @@ impl Member {
         ensures { TakesFragment self.old moment fragment.now self.new result }
     {
         let key = fragment.key();
-        match self.timed.insert(moment, fragment, Handing::Over) {
-            Ok(change) => Ok(outcome_of(&self.settings, &self.names, key, change)),
-            Err(fault) => Err(MemberFault::Table(fault)),
-        }
+        let change = self.timed.insert(moment, fragment, Handing::Over)?;
+        Ok(outcome_of(&self.settings, &self.names, key, change))
     }
 
     /// Takes a fragment that came at this moment, and hands nothing over.
@@ -136,10 +134,8 @@ impl Member {
         ensures refused { IfErr result (λ fault.
             TakesFragment self.old moment fragment.now self.new (Err fault)) }
     {
-        match self.timed.insert(moment, fragment, Handing::Kept) {
-            Ok(_) => Ok(()),
-            Err(fault) => Err(MemberFault::Table(fault)),
-        }
+        self.timed.insert(moment, fragment, Handing::Kept)?;
+        Ok(())
     }
 
     /// Which limit on keys the fragment that a payload begins with meets, if it is valid and meets

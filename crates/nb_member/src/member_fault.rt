@@ -43,3 +43,14 @@ impl fmt::Display for MemberFault {
 }
 
 impl Error for MemberFault {}
+
+impl From<TableFault> for MemberFault {
+    ghost use Rattle.std.specs.Prelude.{◌≡◌};
+    ghost use Rattle.nb_member.specs.declared.member_fault.MemberFault.TheVariants.{Table};
+
+    ghost from_gives = { λ fault made. made ≡ Table fault };
+
+    fn from(fault: TableFault) -> MemberFault {
+        MemberFault::Table(fault)
+    }
+}

@@ -1,5 +1,6 @@
 //! Why a replay ended before it was done.
 
+use nb_names::NoMemory;
 use std::error::Error;
 use std::fmt;
 
@@ -33,3 +34,14 @@ impl fmt::Display for ReplayFault {
 }
 
 impl Error for ReplayFault {}
+
+impl From<NoMemory> for ReplayFault {
+    ghost use Rattle.std.specs.Prelude.{◌≡◌};
+    ghost use Rattle.nb_member.specs.declared.replay_fault.ReplayFault.TheVariants as fault;
+
+    ghost from_gives = { λ _ made. made ≡ fault.NoMemory };
+
+    fn from(_fault: NoMemory) -> ReplayFault {
+        ReplayFault::NoMemory
+    }
+}

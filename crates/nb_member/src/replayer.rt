@@ -5,7 +5,7 @@ use crate::line::Line;
 use crate::line_reports::act_on;
 use crate::line_taker::LineTaker;
 use crate::member::Member;
-use crate::report_fault::ReportFault;
+use crate::replay_fault::ReplayFault;
 use nb_names::Counted;
 use nb_names::output::write_whole;
 use std::alloc::Global;
@@ -26,7 +26,7 @@ impl<'a, W: Write> LineTaker for Replayer<'a, W> {
     ghost use Rattle.nb_member.specs.declared.comments.Comments.{Comments};
     ghost use Rattle.nb_member.specs.Code.ReplayLines.{ReplayState, ReplaysLine, FailsReport};
 
-    type Fault = ReportFault;
+    type Fault = ReplayFault;
 
     ghost State = { ReplayState W };
 
@@ -40,11 +40,11 @@ impl<'a, W: Write> LineTaker for Replayer<'a, W> {
 
     ghost fails = { λ kept. FailsReport W.contents kept.0 };
 
-    fn take(&mut self, number: u64, line: &[u8], said: &Option<Line>) -> Result<(), ReportFault> {
+    fn take(&mut self, number: u64, line: &[u8], said: &Option<Line>) -> Result<(), ReplayFault> {
         let text = act_on(self.alloc, number, line, said, self.comments, self.member)?;
         match write_whole(self.writer, text.as_bytes()) {
             Ok(()) => Ok(()),
-            Err(_) => Err(ReportFault::Write),
+            Err(_) => Err(ReplayFault::Write),
         }
     }
 }

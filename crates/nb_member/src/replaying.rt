@@ -5,7 +5,6 @@ ghost use Rattle.nb_names.specs.declared.limits.TheConstants.{MAX_INPUT};
 ghost use Rattle.nb_names.specs.Devices.{ShowsUnread, ShowsWriteFault};
 ghost use Rattle.nb_member.specs.declared.comments.Comments.TheVariants.{LeftOut};
 ghost use Rattle.nb_member.specs.declared.event.Event.{Event};
-ghost use Rattle.nb_member.specs.Code.ReplayLines.{replay_answer};
 ghost use Rattle.nb_member.specs.Live.{live};
 ghost use Rattle.nb_member.specs.Member.{Stands};
 ghost use Rattle.nb_member.specs.Replaying.{Replays};
@@ -13,11 +12,9 @@ ghost use Rattle.nb_member.specs.Replaying.{Replays};
 use crate::capture_options::CaptureOptions;
 use crate::comments::Comments;
 use crate::line_taking::take_lines;
-use crate::lines_fault::LinesFault;
 use crate::member::Member;
 use crate::replay_fault::ReplayFault;
 use crate::replayer::Replayer;
-use crate::report_fault::ReportFault;
 use nb_names::Counted;
 use nb_names::limits::MAX_INPUT;
 use std::alloc::Global;
@@ -150,19 +147,5 @@ pub fn replay_with<R: Read, W: Write>(
         member,
         writer,
     };
-    answer_of(take_lines(alloc, options.most, reader, &mut replayer))
-}
-
-/// What a replay answers where the taking of its lines ended so.
-fn answer_of(taken: Result<u64, LinesFault<ReportFault>>) -> Result<u64, ReplayFault>
-    ensures { result ≡ replay_answer taken }
-{
-    match taken {
-        Ok(count) => Ok(count),
-        Err(LinesFault::Line(number)) => Err(ReplayFault::Line(number)),
-        Err(LinesFault::Read) => Err(ReplayFault::Read),
-        Err(LinesFault::NoMemory) => Err(ReplayFault::NoMemory),
-        Err(LinesFault::NotTaken(ReportFault::Write)) => Err(ReplayFault::Write),
-        Err(LinesFault::NotTaken(ReportFault::NoMemory)) => Err(ReplayFault::NoMemory),
-    }
+    take_lines(alloc, options.most, reader, &mut replayer)
 }

@@ -7,7 +7,7 @@ ghost use Rattle.nb_member.specs.Code.Members.{KeepsStation};
 ghost use Rattle.nb_member.specs.Live.{Timed};
 ghost use Rattle.nb_member.specs.Member.{StandsOver};
 ghost use Rattle.nb_member.specs.Running.{IsPayload, Runs};
-ghost use Rattle.nb_member.specs.Code.RunEvents.{noted, stop_of, RunsEvent};
+ghost use Rattle.nb_member.specs.Code.RunEvents.{noted, RunsEvent};
 
 use crate::event::Event;
 use crate::laws::{
@@ -107,7 +107,7 @@ impl Log {
         a_member_does_what_is_said();
         an_answer_shows_what_is_handed_out();
         if !self.has_made_room() {
-            return Err(stop_of(member.limit_met(payload)));
+            return Err(member.limit_met(payload).unwrap_or(RunStop::NoMemory));
         }
         let answer = member.take(moment, payload);
         self.note(answer)
@@ -173,17 +173,6 @@ impl Log {
             refused,
             stop,
         }
-    }
-}
-
-/// Why a run stops where there is no room to note an answer: the event meets a limit on keys, or
-/// else memory ran out.
-fn stop_of(met: Option<RunStop>) -> RunStop
-    ensures { result ≡ stop_of met }
-{
-    match met {
-        Some(stop) => stop,
-        None => RunStop::NoMemory,
     }
 }
 

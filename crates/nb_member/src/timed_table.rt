@@ -1,8 +1,9 @@
 //! A table whose keys have the moments at which they came.
 ghost use Rattle.std.specs.Prelude.{◌≡◌, false, IfOk, IfErr, OnOk, OnErr};
 ghost use Rattle.std.specs.FinMap as maps;
-ghost use Rattle.nb_table.specs.Change.{Change, IsChange};
-ghost use Rattle.nb_table.specs.Code.Change.{told_by};
+ghost use Rattle.nb_entries.specs.Change.{Change};
+ghost use Rattle.nb_table.specs.Change.{IsChange};
+ghost use Rattle.nb_entries.specs.Change.{told_by};
 ghost use Rattle.nb_table.specs.Insert.{Takes as TableTakes, Refuses};
 ghost use Rattle.nb_member.specs.Member.{begun, after_fragment, after_clock};
 

@@ -6,5 +6,6 @@ pub mod EncodingLemmas
 pub mod PiecesLemmas
 pub mod StandingLemmas
 pub mod SectionLemmas
+pub mod NumberedLemmas
 pub mod TotalityLemmas
 pub mod ViewLemmas

@@ -8,8 +8,8 @@ use Rattle.nb_service.specs.declared.question.Question.{Question}
 use Rattle.nb_service.specs.Header.{PacketHeader, HasHeader}
 use Rattle.nb_service.specs.Record.{ResourceRecord}
 use Rattle.nb_service.specs.Packet.{QuestionAt, RecordAt, Row, none, more, ServicePacket, header_of, records_of, IsPacket, HasOutline}
-use Rattle.nb_service.specs.ServiceFaults.{RecordFails, RowFails, QuestionsFail, RecordsFail, record_count, PacketFails, in_questions, in_records, IsRefused, malformed, no_memory}
-use Rattle.nb_service.specs.Code.Steps.{RowOf, HasRow, OrMemory, fails, memory, item_count, HasPacket}
+use Rattle.nb_service.specs.ServiceFaults.{RecordFails, RowFails, QuestionsFail, RecordsFail, record_count, item_count, PacketFails, in_questions, in_records, IsRefused, malformed, no_memory}
+use Rattle.nb_service.specs.Code.Steps.{RowOf, HasRow, OrMemory, fails, memory, HasPacket}
 use Rattle.nb_names.specs.PacketFacts.{within_16}
 use Rattle.nb_service.proofs.PacketLemmas.{one_header, length-records_of, header_within}
 use Rattle.nb_service.proofs.RowLemmas.{row-append, row-snoc, fails_longer, fails_after}

@@ -2,6 +2,7 @@ pub mod Header
 pub mod Record
 pub mod Packet
 pub mod ServiceFaults
+pub mod Items
 pub mod Building
 pub mod Flags
 pub mod FaultTexts

@@ -75,6 +75,10 @@ RecordsFail packet = RowFails (RecordAt packet) (RecordFails packet)
 abbrev pub record_count : PacketHeader → ℕ
 record_count header = header.answers + (header.authorities + header.additional)
 
+-- how many questions and records
+abbrev pub item_count : PacketHeader → ℕ
+item_count header = header.questions + record_count header
+
 -- PacketFails bytes fault: these bytes begin with no packet, and this is the first fault
 pub data PacketFails (bytes : List ℕ) : ServiceFault → Type 0 where
   cut_header : length bytes < HEADER_LENGTH → PacketFails bytes (Truncated (length bytes))

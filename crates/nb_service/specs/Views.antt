@@ -22,6 +22,10 @@ pub record HasEntries (entry : ResourceRecord) (bytes : List ℕ) : Type 0 where
   pub rdata : entry.rdata ≡ of_bytes bytes
   pub whole : length bytes % ENTRY_LENGTH ≡ 0
 
+-- AreEntries kind bytes: RDATA of this kind and these bytes is entries: its kind is NB, and it has whole ones alone
+abbrev pub AreEntries : ℕ → List ℕ → Type 0
+AreEntries kind bytes = (kind ≡ NB) × (length bytes % ENTRY_LENGTH ≡ 0)
+
 -- the bytes of one of a node's names: its sixteen bytes, then NAME_FLAGS 2
 abbrev pub node_name_bytes : NodeName → List ℕ
 node_name_bytes name = name.bytes ++ to_be_bytes w16 name.flags
@@ -41,6 +45,12 @@ pub record HasStatus (entry : ResourceRecord) (count : ℕ) (rest : List ℕ) : 
   pub kind : entry.kind ≡ NBSTAT
   pub rdata : entry.rdata ≡ of_bytes (count ∷ rest)
   pub room : NODE_NAME_LENGTH * count ≤ length rest
+
+-- IsStatus kind bytes count rest: RDATA of this kind and these bytes is a node's status: its kind is NBSTAT, and its bytes are
+-- NUM_NAMES, which is the count, and then these, enough of them for so many names
+abbrev pub IsStatus : ℕ → List ℕ → ℕ → List ℕ → Type 0
+IsStatus kind bytes count rest =
+    (kind ≡ NBSTAT) × (bytes ≡ count ∷ rest) × (NODE_NAME_LENGTH * count ≤ length rest)
 
 -- ---- the views as values
 

@@ -1,10 +1,12 @@
 //! Lists of addresses, as they stand in RDATA.
-ghost use Rattle.std.specs.Prelude.{◌≡◌, ◌*◌, ◌%◌, length, slice_get};
+ghost use Rattle.std.specs.Prelude.{◌≡◌, ◌*◌, ◌%◌, length, slice_get, IfSome, MatchOption};
 ghost use Rattle.std.specs.List.{flat_map};
-ghost use Rattle.nb_service.specs.Views.{entry_bytes, entries_of};
+ghost use Rattle.nb_service.specs.Record.{of_bytes};
+ghost use Rattle.nb_service.specs.Views.{AreEntries, entry_bytes, entries_of, entries_of_data};
 ghost use Rattle.nb_service.specs.declared.limits.TheConstants.{ENTRY_LENGTH};
 
 use crate::address_entry::AddressEntry;
+use crate::kinds::NB;
 use crate::limits::ENTRY_LENGTH;
 use std::marker::Model;
 
@@ -33,6 +35,27 @@ impl<'a> AddressEntries<'a> {
         ensures count { ENTRY_LENGTH * length result ≡ length bytes.entry.now }
     {
         AddressEntries { bytes }
+    }
+
+    /// The entries of RDATA of a kind, as these bytes.
+    ///
+    /// None where the kind isn't NB, and where the bytes aren't entries of six bytes alone.
+    /// RFC 1002 section 4.2.13.
+    pub fn of_rdata(kind: u16, bytes: &'a [u8]) -> Option<AddressEntries<'a>>
+        ensures found { MatchOption result (¬ AreEntries kind bytes.now)
+            (λ entries. AreEntries kind bytes.entry.now
+            × (flat_map entry_bytes entries ≡ bytes.entry.now)
+            × (ENTRY_LENGTH * length entries ≡ length bytes.entry.now)) }
+        ensures value { IfSome result
+            (λ entries. entries ≡ entries_of_data (of_bytes bytes.entry.now)) }
+    {
+        if kind != NB {
+            return None;
+        }
+        if bytes.len() % ENTRY_LENGTH != 0 {
+            return None;
+        }
+        Some(AddressEntries::of_bytes(bytes))
     }
 
     /// How many entries there are.

@@ -3,8 +3,8 @@ ghost use Rattle.std.specs.Prelude.{◌≡◌, ◌≤◌, ℕ, length, IfOk, IfE
 ghost use Rattle.nb_service.specs.declared.fault.ServiceFault.TheVariants.{NoMemory};
 ghost use Rattle.nb_service.specs.Header.{HasHeader, header_value};
 ghost use Rattle.nb_service.specs.Packet.{ServicePacket, header_of, IsPacket, HasOutline, HasSections};
-ghost use Rattle.nb_service.specs.Code.Steps.{item_count, OrMemory};
-ghost use Rattle.nb_service.specs.ServiceFaults.{PacketFails, IsRefused};
+ghost use Rattle.nb_service.specs.Code.Steps.{OrMemory};
+ghost use Rattle.nb_service.specs.ServiceFaults.{item_count, PacketFails, IsRefused};
 
 use crate::checking::{skip_questions, skip_records};
 use crate::fault::ServiceFault;

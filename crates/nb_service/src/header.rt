@@ -1,9 +1,11 @@
 //! The header of a packet.
-ghost use Rattle.std.specs.Prelude.{IfOk, IfErr};
-ghost use Rattle.nb_service.specs.Header.{HasHeader, header_value};
-ghost use Rattle.nb_service.specs.ServiceFaults.{PacketFails};
+ghost use Rattle.std.specs.Prelude.{◌≡◌, ◌<◌, length, IfOk, IfErr, IsOkAnd};
+ghost use Rattle.nb_service.specs.declared.fault.ServiceFault.TheVariants.{Truncated};
+ghost use Rattle.nb_service.specs.declared.limits.TheConstants.{HEADER_LENGTH};
+ghost use Rattle.nb_service.specs.Header.{HasHeader, PacketHeader, header_value};
 
 use crate::fault::ServiceFault;
+use crate::laws::one_header;
 use crate::limits::HEADER_LENGTH;
 use nb_names::numbers::number_16;
 
@@ -24,11 +26,26 @@ pub struct Header {
     pub additional: u16,
 }
 
-/// The header at the front of a packet.
-pub(crate) fn read_header(packet: &[u8]) -> Result<Header, ServiceFault>
+/// The header at the front of a packet, its first twelve bytes. What follows isn't looked at. No
+/// memory is taken.
+///
+/// # Errors
+///
+/// `Truncated` where there are fewer bytes.
+///
+/// RFC 1002 section 4.2.1.1.
+pub fn read_header(packet: &[u8]) -> Result<Header, ServiceFault>
+    // What is answered stands there, and what stands there is answered.
     ensures found { IfOk result (λ header. HasHeader packet.now (header_value header)) }
-    ensures fault { IfErr result (PacketFails packet.now) }
+    ensures only { (header : PacketHeader) → HasHeader packet.now header →
+        IsOkAnd result (λ read. header_value read ≡ header) }
+
+    // Why there is none.
+    ensures fault { IfErr result (λ fault.
+        (fault ≡ Truncated (length packet.now)) × (length packet.now < HEADER_LENGTH)) }
 {
+    // The law on which the clause `only` stands; the call does nothing.
+    one_header();
     if packet.len() < HEADER_LENGTH {
         return Err(ServiceFault::Truncated(packet.len()));
     }

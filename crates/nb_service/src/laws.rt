@@ -1,5 +1,5 @@
 //! Laws of the definitions that the contracts cite. Each is proved; a call does nothing.
-ghost use Rattle.std.specs.Prelude.{◌≡◌, ◌≢◌, ◌⊎◌, ◌↔◌, IsTrue, ℕ, ◌+◌, ◌*◌, ◌/◌, ◌%◌, ◌<◌, List, [], ◌∷◌, ◌++◌, length};
+ghost use Rattle.std.specs.Prelude.{◌≡◌, ◌≢◌, ◌⊎◌, ◌↔◌, IsTrue, ℕ, ◌+◌, ◌*◌, ◌/◌, ◌%◌, ◌<◌, ◌≤◌, List, [], ◌∷◌, ◌++◌, length};
 ghost use Rattle.std.specs.List.{AllByRecursion, flat_map};
 ghost use Rattle.nb_names.specs.declared.pointers.Pointers.TheVariants.{Followed};
 ghost use Rattle.nb_names.specs.DomainName.{AreBytes};
@@ -8,6 +8,7 @@ ghost use Rattle.nb_service.specs.declared.address_entry.AddressEntry.{AddressEn
 ghost use Rattle.nb_service.specs.declared.classes.TheConstants.{IN};
 ghost use Rattle.nb_service.specs.declared.kinds.TheConstants.{A, NS, NULL, NB, NBSTAT};
 ghost use Rattle.nb_service.specs.declared.limits.TheConstants.{HEADER_LENGTH, MAX_ENTRIES, MAX_RDATA, ENTRY_LENGTH, NODE_NAME_LENGTH, UNIT_ID_LENGTH};
+ghost use Rattle.nb_service.specs.declared.extent.Extent.{Extent};
 ghost use Rattle.nb_service.specs.declared.fault.ServiceFault.{ServiceFault};
 ghost use Rattle.nb_service.specs.declared.flags.TheConstants.NmFlags.{AA, TC, RD, RA, B};
 ghost use Rattle.nb_service.specs.declared.flags.TheConstants.NodeFlags.{G, DRG, CNF, ACT, PRM};
@@ -16,9 +17,11 @@ ghost use Rattle.nb_service.specs.Encoding.{packet_bytes, IsWritable};
 ghost use Rattle.nb_service.specs.declared.question.Question.{Question};
 ghost use Rattle.nb_service.specs.Equality.{question_eq, record_eq, packet_eq};
 ghost use Rattle.nb_service.specs.Flags.{nm_bits, node_bits, opcode_of, rcode_of};
-ghost use Rattle.nb_service.specs.Packet.{QuestionAt, RecordAt, ServicePacket, IsPacket, HasSections};
+ghost use Rattle.nb_service.specs.Header.{PacketHeader, HasHeader};
+ghost use Rattle.nb_service.specs.Items.{PacketItem, IsExtent, ItemAt, ItemFails, ItemsAt, HasItems, items_of};
+ghost use Rattle.nb_service.specs.Packet.{QuestionAt, RecordAt, ServicePacket, header_of, IsPacket, HasSections};
 ghost use Rattle.nb_service.specs.Record.{ResourceRecord, of_bytes, of_domain, record_of};
-ghost use Rattle.nb_service.specs.ServiceFaults.{QuestionFails, RecordFails, PacketFails};
+ghost use Rattle.nb_service.specs.ServiceFaults.{item_count, QuestionFails, RecordFails, PacketFails};
 ghost use Rattle.nb_service.specs.Views.{StatusParts, entries_in, entry_bytes, node_name_bytes, status_in};
 
 use nb_names::laws::{name_or_fault, one_fault, one_reading, spelling_is_read};
@@ -189,6 +192,69 @@ pub fn one_record()
         (entry ≡ other) × (next ≡ after) }
     ensures alone { (bytes : List ℕ) (at : ℕ) (fault : ServiceFault) (entry : ResourceRecord)
         (next : ℕ) → RecordFails bytes at fault → ¬ RecordAt bytes at entry next }
+{
+    one_reading();
+    one_fault();
+}
+
+/// Bytes begin with one header at most, and with one only where there are twelve of them.
+pub fn one_header()
+    ensures one { (bytes : List ℕ) (header other : PacketHeader) →
+        HasHeader bytes header → HasHeader bytes other → header ≡ other }
+    ensures whole { (bytes : List ℕ) (header : PacketHeader) →
+        HasHeader bytes header → 12 ≤ length bytes }
+{}
+
+/// At an offset stands one item of a number at most, which reaches so far in one way. Where one
+/// stands, it has no fault, and the header counts it; where none does for a fault, that is the only
+/// one.
+pub fn one_item()
+    ensures one { (bytes : List ℕ) (header : PacketHeader) (number at : ℕ)
+        (item other : PacketItem) (next after : ℕ) → ItemAt bytes header number at item next →
+        ItemAt bytes header number at other after → (item ≡ other) × (next ≡ after) }
+    ensures alone { (bytes : List ℕ) (header : PacketHeader) (number at : ℕ)
+        (fault : ServiceFault) (item : PacketItem) (next : ℕ) →
+        ItemFails bytes header number at fault → ¬ ItemAt bytes header number at item next }
+    ensures one_fault { (bytes : List ℕ) (header : PacketHeader) (number at : ℕ)
+        (fault other : ServiceFault) → ItemFails bytes header number at fault →
+        ItemFails bytes header number at other → fault ≡ other }
+    ensures counted { (bytes : List ℕ) (header : PacketHeader) (number at : ℕ)
+        (item : PacketItem) (next : ℕ) → ItemAt bytes header number at item next →
+        number < item_count header }
+    ensures extent { (bytes : List ℕ) (at : ℕ) (item : PacketItem) (extent other : Extent) →
+        IsExtent bytes at item extent → IsExtent bytes at item other →
+        extent.next ≡ other.next → extent ≡ other }
+{
+    one_reading();
+    one_fault();
+}
+
+/// Bytes have one list of items at most, which is as long as it can be.
+pub fn one_list_of_items()
+    ensures { (bytes : List ℕ) (header other : PacketHeader) (items others : List PacketItem)
+        (next after : ℕ) → HasItems bytes header items next → HasItems bytes other others after →
+        (header ≡ other) × (items ≡ others) × (next ≡ after) }
+{
+    one_reading();
+    one_fault();
+}
+
+/// The items of bytes that begin with a packet are its questions and its records, all of them.
+pub fn items_of_a_packet()
+    ensures { (bytes : List ℕ) (packet : ServicePacket) (used : ℕ) → IsPacket bytes packet used →
+        HasItems bytes (header_of packet) (items_of packet) used }
+{}
+
+/// Bytes that begin with a header and with no packet have items, up to the one in which the fault
+/// stands. The fault of the item that comes after some is that of the bytes.
+pub fn items_before_a_fault()
+    ensures items { (bytes : List ℕ) (header : PacketHeader) (fault : ServiceFault) →
+        HasHeader bytes header → PacketFails bytes fault →
+        (items : List PacketItem) × (next : ℕ) × HasItems bytes header items next
+        × ItemFails bytes header (length items) next fault }
+    ensures fault { (bytes : List ℕ) (header : PacketHeader) (items : List PacketItem) (next : ℕ)
+        (fault : ServiceFault) → HasHeader bytes header → ItemsAt bytes header 0 12 items next →
+        ItemFails bytes header (length items) next fault → PacketFails bytes fault }
 {
     one_reading();
     one_fault();

@@ -1,9 +1,11 @@
 //! The status of a node, as it stands in RDATA.
-ghost use Rattle.std.specs.Prelude.{◌≡◌, ◌<◌, ◌*◌, ◌%◌, length, slice_get, take, MatchOption};
+ghost use Rattle.std.specs.Prelude.{◌≡◌, ◌<◌, ◌*◌, ◌%◌, ℕ, List, length, slice_get, take, drop, IfSome, MatchOption};
 ghost use Rattle.std.specs.List.{flat_map};
-ghost use Rattle.nb_service.specs.Views.{node_name_bytes, node_names_of};
+ghost use Rattle.nb_service.specs.Record.{of_bytes};
+ghost use Rattle.nb_service.specs.Views.{IsStatus, after_count, node_name_bytes, node_names_of, status_of_data};
 ghost use Rattle.nb_service.specs.declared.limits.TheConstants.{NODE_NAME_LENGTH, UNIT_ID_LENGTH};
 
+use crate::kinds::NBSTAT;
 use crate::limits::{NODE_NAME_LENGTH, UNIT_ID_LENGTH};
 use crate::node_name::NodeName;
 use std::marker::Model;
@@ -37,6 +39,30 @@ impl<'a> NodeStatus<'a> {
         ensures statistics { result.statistics ≡ statistics.entry.now }
     {
         NodeStatus { names, statistics }
+    }
+
+    /// The status of RDATA of a kind, as these bytes.
+    ///
+    /// None where the kind isn't NBSTAT, and where there is less than NUM_NAMES promises.
+    /// RFC 1002 section 4.2.18.
+    pub fn of_rdata(kind: u16, bytes: &'a [u8]) -> Option<NodeStatus<'a>>
+        ensures found { MatchOption result
+            ((count : ℕ) (rest : List ℕ) → ¬ IsStatus kind bytes.now count rest)
+            (λ status. IsStatus kind bytes.entry.now (length status.names) (after_count status)
+            × (status.statistics
+            ≡ drop (NODE_NAME_LENGTH * length status.names) (after_count status))) }
+        ensures value { IfSome result
+            (λ status. status ≡ status_of_data (of_bytes bytes.entry.now)) }
+    {
+        if kind != NBSTAT {
+            return None;
+        }
+        let (count, rest) = bytes.split_first()?;
+        let size = NODE_NAME_LENGTH * *count as usize;
+        if rest.len() < size {
+            return None;
+        }
+        Some(NodeStatus::of_parts(&rest[..size], &rest[size..]))
     }
 
     /// How many names there are.

@@ -5,8 +5,9 @@ ghost use Rattle.std.specs.Prelude.{◌≡◌, ◌≤◌, ◌+◌, ℕ, length, 
 ghost use Rattle.nb_service.specs.declared.question.Question.{Question as QuestionValue};
 ghost use Rattle.nb_service.specs.Packet.{QuestionAt, RdataAt, RecordAt};
 ghost use Rattle.nb_service.specs.Record.{ResourceRecord, rdata_of};
-ghost use Rattle.nb_service.specs.ServiceFaults.{QuestionFails, DomainFails, RecordFails};
+ghost use Rattle.nb_service.specs.ServiceFaults.{QuestionFails, DomainFails, RdataBegins, RecordFails};
 
+use crate::extent::Extent;
 use crate::fault::ServiceFault;
 use crate::kinds::NS;
 use crate::laws::{one_question, one_record};
@@ -106,6 +107,25 @@ pub fn read_record<'a>(
     // Which fault it is, and where.
     ensures fault { IfErr result (RecordFails names.now at) }
 {
+    let (record, extent) = read_reaching_record(names, at)?;
+    Ok((record, extent.next))
+}
+
+/// The record that stands at an offset, as [`read_record`] reads it, and how far it reaches.
+#[inline(always)]
+pub(crate) fn read_reaching_record<'a>(
+    names: &NameReader<'a, '_>,
+    at: usize,
+) -> Result<(Record<'a>, Extent), ServiceFault>
+    ensures found { IfOk result (λ read. RecordAt names.now at read.0 read.1.next) }
+    ensures reaches { IfOk result (λ read. (size : ℕ)
+        × RdataBegins names.now at read.0.kind size read.1.rdata
+        × (read.1.next ≡ read.1.rdata + size)) }
+    ensures only { (entry : ResourceRecord) (next : ℕ) → RecordAt names.now at entry next →
+        IsOkAnd result (λ read. (read.0 ≡ entry) × (read.1.next ≡ next)) }
+    ensures within { IfOk result (λ read. read.1.next ≤ length names.now) }
+    ensures fault { IfErr result (RecordFails names.now at) }
+{
     // The law on which the clause `only` stands; the call does nothing.
     one_record();
     let packet = names.packet();
@@ -122,5 +142,9 @@ pub fn read_record<'a>(
         return Err(ServiceFault::Truncated(packet.len()));
     }
     let rdata = read_rdata(names, begin, size, kind)?;
-    Ok((Record::new(name, kind, class, ttl, rdata), begin + size))
+    let extent = Extent {
+        rdata: begin,
+        next: begin + size,
+    };
+    Ok((Record::new(name, kind, class, ttl, rdata), extent))
 }

@@ -6,8 +6,8 @@ ghost use Rattle.nb_service.specs.declared.limits.TheConstants.{ENTRY_LENGTH, NO
 ghost use Rattle.nb_service.specs.Views.{HasEntries, HasStatus, entry_bytes, after_count, entries_in, status_in, no_status};
 
 use crate::address_entries::AddressEntries;
-use crate::kinds::{NB, NBSTAT, NS};
-use crate::limits::{ENTRY_LENGTH, MAX_RDATA, NODE_NAME_LENGTH};
+use crate::kinds::NS;
+use crate::limits::MAX_RDATA;
 use crate::node_status::NodeStatus;
 use crate::rdata::Rdata;
 use crate::record_fault::RecordFault;
@@ -119,18 +119,6 @@ impl<'a> Record<'a> {
         self.ttl
     }
 
-    /// The RDATA of bytes of a record of this kind.
-    fn bytes_of_kind(&self, kind: u16) -> Option<&'a [u8]>
-        ensures { MatchOption result
-            ((bytes : List ℕ) → self.now.kind ≡ kind → self.now.rdata ≢ of_bytes bytes)
-            (λ bytes. (self.now.kind ≡ kind) × (self.now.rdata ≡ of_bytes bytes.now)) }
-    {
-        match &self.rdata {
-            Rdata::Bytes(bytes) if self.kind == kind => Some(*bytes),
-            _ => None,
-        }
-    }
-
     /// The addresses of a NetBIOS name.
     ///
     /// None where the kind isn't NB, and where the RDATA isn't entries of six bytes alone.
@@ -142,11 +130,10 @@ impl<'a> Record<'a> {
         ensures value { MatchOption result (entries_in self.now ≡ [])
             (λ entries. entries ≡ entries_in self.now) }
     {
-        let bytes = self.bytes_of_kind(NB)?;
-        if bytes.len() % ENTRY_LENGTH != 0 {
-            return None;
+        match &self.rdata {
+            Rdata::Bytes(bytes) => AddressEntries::of_rdata(self.kind, bytes),
+            Rdata::Domain(_) => None,
         }
-        Some(AddressEntries::of_bytes(bytes))
     }
 
     /// The names of a node, and its statistics.
@@ -162,13 +149,10 @@ impl<'a> Record<'a> {
         ensures value { MatchOption result (status_in self.now ≡ no_status)
             (λ status. status ≡ status_in self.now) }
     {
-        let bytes = self.bytes_of_kind(NBSTAT)?;
-        let (count, rest) = bytes.split_first()?;
-        let size = NODE_NAME_LENGTH * *count as usize;
-        if rest.len() < size {
-            return None;
+        match &self.rdata {
+            Rdata::Bytes(bytes) => NodeStatus::of_rdata(self.kind, bytes),
+            Rdata::Domain(_) => None,
         }
-        Some(NodeStatus::of_parts(&rest[..size], &rest[size..]))
     }
 
     /// The RDATA, a domain name exactly where the kind is NS.

@@ -3,3 +3,4 @@ pub mod EachLemmas
 pub mod GotLemmas
 pub mod TakenBackLemmas
 pub mod JoinLemmas
+pub mod EachPutLemmas

@@ -1,13 +1,10 @@
 mod Conflict
 mod Contents
-mod Covers
 mod Wholeness
 mod PlainProgram
 mod Changes
 mod Limits
 mod Joins
 mod TableReads
-mod Runs
-mod KeptRuns
 mod SavedBytes
 mod SavedReading

@@ -3,4 +3,3 @@ pub mod SavedLemmas
 pub mod ShortLemmas
 pub mod ExampleLemmas
 pub mod WritingLemmas
-pub mod PuttingLemmas

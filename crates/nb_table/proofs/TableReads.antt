@@ -1,4 +1,3 @@
 -- On specs/Equal, and on what reads of a table answer.
 pub mod ReadingLemmas
 pub mod EqualLemmas
-pub mod AwaitedLemmas

@@ -1,17 +1,12 @@
 -- What an insert changes at a key (our choice).
 use Rattle.std.specs.Prelude.{◌≡◌, ◌≢◌, Some, None}
 use Rattle.std.specs.FinMap as maps
-use Rattle.nb_names.specs.Name.{NetbiosName}
 use Rattle.nb_datagram.specs.declared.key.Key.{Key}
-use Rattle.nb_table.specs.declared.change.Change.{Change as ChangeOf}
-use Rattle.nb_table.specs.declared.change.Change.TheVariants.{Spoilt, Whole, Same, Grown}
-use Rattle.nb_table.specs.Slot.{Spoilt as Clashed}
+use Rattle.nb_entries.specs.declared.change.Change.TheVariants.{Spoilt, Whole, Same, Grown}
+use Rattle.nb_entries.specs.declared.slot.Slot.TheVariants.{Spoilt as Clashed}
 use Rattle.nb_table.specs.Contents.{Contents}
 use Rattle.nb_table.specs.Whole.{newly_whole}
-
--- a change, whatever the form of its datagram's names
-abbrev pub Change : Type 0
-Change = ChangeOf NetbiosName
+use Rattle.nb_entries.specs.Change.{Change}
 
 -- IsSpoiltAt t k: the table t has the key k spoilt
 abbrev pub IsSpoiltAt : Contents → Key → Type 0

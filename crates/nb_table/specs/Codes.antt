@@ -1,60 +1,11 @@
--- The values of covers, entries and tables as values of types whose codes are known, for models.
-use Rattle.std.specs.Prelude.{◌≡◌, ℕ, Option, Some, None, refl}
-use Rattle.std.specs.Ordering.{nat_cmp}
+-- The values of tables as values of types whose codes are known, for models.
+use Rattle.std.specs.Prelude.{ℕ, refl}
 use Rattle.std.specs.FinMap as maps
-use Rattle.std.specs.Coded.{Coded, code_by, coded×, coded_ℕ, coded_option}
-use Rattle.nb_names.specs.Name.{NetbiosName, name_code}
-use Rattle.nb_datagram.specs.declared.kind.Kind.{Kind}
-use Rattle.nb_datagram.specs.Kind.{kind_code}
+use Rattle.std.specs.Coded.{Coded, code_by, coded×, coded_ℕ}
 use Rattle.nb_datagram.specs.Key.{key_code}
-use Rattle.nb_table.specs.Slot.{Slot, Spoilt, Held}
-use Rattle.nb_table.specs.Cover.{CoverFacts, CoverValue}
-use Rattle.nb_table.specs.Entry.{EntryFacts, EntryValue}
 use Rattle.nb_table.specs.Contents.{Contents}
 use Rattle.nb_table.specs.Limits.{TableValue}
-
--- the facts, if they are held
-abbrev pub held : {X : Type 0} → Slot X → Option X
-held Spoilt = None
-held (Held a) = Some a
-
--- what these facts come to: spoilt, where there are none
-abbrev pub slot_of : {X : Type 0} → Option X → Slot X
-slot_of None = Spoilt
-slot_of (Some a) = Held a
-
--- the facts of a slot give it back
-pub slot_back : {X : Type 0} (s : Slot X) → slot_of (held s) ≡ s
-slot_back Spoilt = refl
-slot_back (Held a) = refl
-
--- a slot as its facts, if there are any
-abbrev pub slot_code : {X : Type 0} → Coded X → Coded (Slot X)
-slot_code {X} x = code_by (Option X) (coded_option x) held slot_of slot_back
-
--- a cover's facts as the tuple of them
-abbrev pub cover_facts_code : Coded CoverFacts
-cover_facts_code =
-    code_by (maps.FinMap nat_cmp ℕ × (Option ℕ × Option ℕ))
-    (coded× (maps.code coded_ℕ coded_ℕ) (coded× (coded_option coded_ℕ) (coded_option coded_ℕ)))
-    (λ c. (c.bytes, (c.end, c.promise))) (λ p. record { bytes = p.0; end = p.1.0; promise = p.1.1 }) (λ _. refl)
-
--- a cover as its facts, if it isn't clashed
-abbrev pub cover_code : Coded CoverValue
-cover_code = slot_code cover_facts_code
-
--- an entry's facts as the tuple of them
-abbrev pub entry_facts_code : Coded EntryFacts
-entry_facts_code =
-    code_by (Kind × (NetbiosName × (NetbiosName × CoverFacts)))
-    (coded× kind_code (coded× name_code (coded× name_code cover_facts_code)))
-    (λ e. (e.kind, (e.source, (e.destination, e.cover))))
-    (λ p. record { kind = p.0; source = p.1.0; destination = p.1.1.0; cover = p.1.1.1 })
-    (λ _. refl)
-
--- an entry as its facts, if it isn't spoilt
-abbrev pub entry_code : Coded EntryValue
-entry_code = slot_code entry_facts_code
+use Rattle.nb_entries.specs.Codes.{entry_code}
 
 -- a table as the list of its keys and entries
 abbrev pub contents_code : Coded Contents

@@ -3,8 +3,8 @@
 use Rattle.std.specs.Prelude.{◌≡◌, ◌≢◌, ◌≤◌, ℕ, List, Contains}
 use Rattle.nb_datagram.specs.declared.key.Key.{Key}
 use Rattle.nb_datagram.specs.Fragment.{Core, Covers, EndsAt}
-use Rattle.nb_table.specs.Promise.{Promises}
-use Rattle.nb_table.specs.Cover.{BytesBelow, cover_of}
+use Rattle.nb_entries.specs.Promise.{Promises}
+use Rattle.nb_entries.specs.Cover.{BytesBelow, cover_of}
 
 -- both fragments cover a place, with different bytes
 pub record Overlap (f g : Core) : Type 0 where

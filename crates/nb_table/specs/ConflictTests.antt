@@ -5,7 +5,7 @@ use Rattle.std.specs.List.{list_any}
 use Rattle.nb_datagram.specs.declared.key.Key.{Key}
 use Rattle.nb_datagram.specs.Key.{same_key}
 use Rattle.nb_datagram.specs.Fragment.{Core}
-use Rattle.nb_table.specs.Entry.{facts_agree, facts_of}
+use Rattle.nb_entries.specs.Entry.{facts_agree, facts_of}
 
 -- f and g conflict, as a test
 abbrev pub conflicts : Core → Core → Bool

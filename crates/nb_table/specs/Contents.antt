@@ -5,11 +5,11 @@ use Rattle.std.specs.FinMap as maps
 use Rattle.nb_datagram.specs.declared.key.Key.{Key}
 use Rattle.nb_datagram.specs.Key.{key_cmp}
 use Rattle.nb_datagram.specs.Fragment.{Core, Covers, EndsAt, byte_of, end_of_one}
-use Rattle.nb_table.specs.Maps.{first_of, at_keys}
-use Rattle.nb_table.specs.Promise.{Promises, greater, promise_of_one}
-use Rattle.nb_table.specs.Slot.{Spoilt, Held}
-use Rattle.nb_table.specs.Cover.{CoverFacts, placed}
-use Rattle.nb_table.specs.Entry.{EntryFacts, EntryValue}
+use Rattle.nb_entries.specs.Maps.{first_of, at_keys}
+use Rattle.nb_entries.specs.Promise.{Promises, greater, promise_of_one}
+use Rattle.nb_entries.specs.declared.slot.Slot.TheVariants.{Spoilt, Held}
+use Rattle.nb_entries.specs.Cover.{CoverFacts, placed}
+use Rattle.nb_entries.specs.Entry.{EntryFacts, EntryValue}
 use Rattle.nb_table.specs.Conflict.{IsSpoilt}
 use Rattle.nb_table.specs.ConflictTests.{with_key, some_conflict}
 

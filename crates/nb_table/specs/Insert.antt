@@ -4,8 +4,8 @@ use Rattle.std.specs.FinMap as maps
 use Rattle.nb_datagram.specs.Fragment.{FragmentParts, Core, core_of, reach, is_first}
 use Rattle.nb_table.specs.declared.fault.TableFault.{TableFault}
 use Rattle.nb_table.specs.declared.fault.TableFault.TheVariants.{MisplacedFirst, TooLong, FullSource, Full, NoMemory}
-use Rattle.nb_table.specs.Slot.{Held}
-use Rattle.nb_table.specs.Entry.{EntryFacts, FactsFit, facts_of}
+use Rattle.nb_entries.specs.declared.slot.Slot.TheVariants.{Held}
+use Rattle.nb_entries.specs.Entry.{EntryFacts, FactsFit, facts_of}
 use Rattle.nb_table.specs.Contents.{Contents, table_of}
 use Rattle.nb_table.specs.Join.{join}
 use Rattle.nb_table.specs.Limits.{Limits, TableValue, IsFull, IsFullSource}

@@ -4,8 +4,8 @@ use Rattle.std.specs.FinMap as maps
 use Rattle.nb_datagram.specs.declared.key.Key.{Key}
 use Rattle.nb_datagram.specs.Key.{same_key}
 use Rattle.nb_datagram.specs.Fragment.{Core}
-use Rattle.nb_table.specs.Maps.{joined}
-use Rattle.nb_table.specs.Entry.{EntryValue, IsEntry, join_entry}
+use Rattle.nb_entries.specs.Maps.{joined}
+use Rattle.nb_entries.specs.Entry.{EntryValue, IsEntry, join_entry}
 use Rattle.nb_table.specs.ConflictTests.{keyed}
 use Rattle.nb_table.specs.Contents.{Contents}
 

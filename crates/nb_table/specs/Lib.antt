@@ -1,8 +1,3 @@
-pub mod Maps
-pub mod Slot
-pub mod Promise
-pub mod Cover
-pub mod Entry
 pub mod Conflict
 pub mod ConflictTests
 pub mod Contents
@@ -21,9 +16,7 @@ pub mod State
 pub mod RunCount
 pub mod Outline
 pub mod Ranges
-pub mod Equal
 pub mod FaultTexts
-pub mod Runs
 pub mod Saved
 pub mod SavedFits
 pub mod SavedReading

@@ -2,12 +2,11 @@
 use Rattle.std.specs.Prelude.{◌≡◌, ℕ, ◌≤◌, None, Some}
 use Rattle.std.specs.FinMap as maps
 use Rattle.nb_datagram.specs.declared.key.Key.{Key}
-use Rattle.nb_table.specs.Slot.{Spoilt, Held}
-use Rattle.nb_table.specs.Cover.{BytesBelow}
-use Rattle.nb_table.specs.Entry.{EntryFacts, EntryValue}
+use Rattle.nb_entries.specs.Entry.{EntryValue}
 use Rattle.nb_table.specs.Contents.{Contents}
 use Rattle.nb_table.specs.Join.{IsTable}
 use Rattle.nb_table.specs.KeyCounts.{FewOfEach, held_keys, of_source}
+use Rattle.nb_entries.specs.Short.{IsShort}
 
 -- how many keys a table may hold, how many of one address, and how many bytes a datagram may have
 pub record Limits : Type 0 where
@@ -26,17 +25,6 @@ pub record IsFull (l : Limits) (t : Contents) (k : Key) : Type 0 where
 pub record IsFullSource (l : Limits) (t : Contents) (k : Key) : Type 0 where
   pub is_new : maps.get t k ≡ None
   pub no_room : l.per_source ≤ held_keys (of_source k.ip) t
-
--- AreShort n e: each place that has a byte in the facts e lies below n, and they end and promise at most there
-pub record AreShort (n : ℕ) (e : EntryFacts) : Type 0 where
-  pub below : BytesBelow n e.cover.bytes
-  pub ends : (m : ℕ) → e.cover.end ≡ Some m → m ≤ n
-  pub promises : (r : ℕ) → e.cover.promise ≡ Some r → r ≤ n
-
--- IsShort n e: the entry e is spoilt, or its facts are short
-abbrev pub IsShort : ℕ → EntryValue → Type 0
-IsShort n Spoilt = Unit {0}
-IsShort n (Held e) = AreShort n e
 
 -- what a table is: its contents and its limits
 pub record TableValue : Type 0 where

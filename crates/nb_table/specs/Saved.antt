@@ -1,61 +1,22 @@
--- The bytes of a saved table (our choice). Numbers stand with their high byte first, names as they are
--- spelled, with no pointer.
+-- The bytes of a saved table (our choice). Numbers stand with their high byte first.
 --   magic 4 · number of keys 4 · for each key, ascending: SOURCE_IP 4, SOURCE_PORT 2, DGM_ID 2, and its entry
---   an entry: 00, where it is spoilt; else 01 · MSG_TYPE 1 · SOURCE_NAME · DESTINATION_NAME
---     · end: 00, where none is known, else 01 and the end 2
---     · promise: 00, where there is none, else 01 and the promise 2 · number of runs 2
---     · for each run, ascending: start 2 · length 2 · its bytes
--- This is the second form, which is written. The first has another magic and no promises; it is read as well.
-use Rattle.std.specs.Prelude.{◌≡◌, ◌⊎◌, ℕ, List, [], ◌∷◌, ◌++◌, length, map, Option, None, Some}
+-- This is the second form, which is written. The first has another magic; it is read as well.
+use Rattle.std.specs.Prelude.{◌≡◌, ◌⊎◌, ℕ, List, [], ◌∷◌, ◌++◌, map, None, Some}
 use Rattle.std.specs.Int.{w16, w32, to_be_bytes}
 use Rattle.std.specs.List.{concat}
 use Rattle.std.specs.FinMap as maps
 use Rattle.nb_datagram.specs.declared.key.Key.{Key}
-use Rattle.nb_datagram.specs.Kind.{type_of}
-use Rattle.nb_datagram.specs.Packet.{name_bytes}
-use Rattle.nb_table.specs.declared.saved.form.SavedForm.{SavedForm}
-use Rattle.nb_table.specs.declared.saved.form.SavedForm.TheVariants.{First, Second}
-use Rattle.nb_table.specs.Slot.{Spoilt, Held}
-use Rattle.nb_table.specs.Cover.{CoverFacts}
-use Rattle.nb_table.specs.Entry.{EntryFacts, EntryValue}
+use Rattle.nb_entries.specs.declared.saved.form.SavedForm.{SavedForm}
+use Rattle.nb_entries.specs.declared.saved.form.SavedForm.TheVariants.{First, Second}
+use Rattle.nb_entries.specs.declared.slot.Slot.TheVariants.{Held}
+use Rattle.nb_entries.specs.Entry.{EntryFacts, EntryValue}
 use Rattle.nb_table.specs.Contents.{Contents}
-use Rattle.nb_table.specs.Runs.{RunValue, runs_of_map}
+use Rattle.nb_entries.specs.Saved.{entry_bytes}
 
 -- what a saved table of each form begins with: "NBT1" and "NBT2"
 abbrev pub magic : SavedForm → List ℕ
 magic First = 78 ∷ 66 ∷ 84 ∷ 49 ∷ []
 magic Second = 78 ∷ 66 ∷ 84 ∷ 50 ∷ []
-
--- a run: its start, how many bytes it has, and these
-abbrev pub run_bytes : RunValue → List ℕ
-run_bytes r = to_be_bytes w16 r.start ++ (to_be_bytes w16 (length r.bytes) ++ r.bytes)
-
--- the runs, how many there are in front
-abbrev pub runs_bytes : List RunValue → List ℕ
-runs_bytes rs = to_be_bytes w16 (length rs) ++ concat (map run_bytes rs)
-
--- an end or a promise, or that there is none
-abbrev pub end_bytes : Option ℕ → List ℕ
-end_bytes None = 0 ∷ []
-end_bytes (Some n) = 1 ∷ to_be_bytes w16 n
-
--- the promise, in the form that has it
-abbrev pub promise_bytes : SavedForm → Option ℕ → List ℕ
-promise_bytes First p = []
-promise_bytes Second p = end_bytes p
-
--- the end, the promise, and the maximal runs
-abbrev pub cover_bytes : SavedForm → CoverFacts → List ℕ
-cover_bytes form c = end_bytes c.end ++ (promise_bytes form c.promise ++ runs_bytes (runs_of_map c.bytes))
-
--- the kind, both names, and the cover
-abbrev pub facts_bytes : SavedForm → EntryFacts → List ℕ
-facts_bytes form e = type_of e.kind ∷ (name_bytes e.source ++ (name_bytes e.destination ++ cover_bytes form e.cover))
-
--- an entry: whether it is held, and what is
-abbrev pub entry_bytes : SavedForm → EntryValue → List ℕ
-entry_bytes form Spoilt = 0 ∷ []
-entry_bytes form (Held e) = 1 ∷ facts_bytes form e
 
 -- a key
 abbrev pub key_bytes : Key → List ℕ

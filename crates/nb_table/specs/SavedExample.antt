@@ -4,10 +4,10 @@ use Rattle.std.specs.FinMap as maps
 use Rattle.nb_datagram.specs.declared.key.Key.{Key}
 use Rattle.nb_datagram.specs.declared.kind.Kind.TheVariants.{Group}
 use Rattle.nb_datagram.specs.Key.{key_cmp}
-use Rattle.nb_table.specs.Slot.{Held}
-use Rattle.nb_table.specs.Entry.{EntryFacts}
+use Rattle.nb_entries.specs.declared.slot.Slot.TheVariants.{Held}
+use Rattle.nb_entries.specs.Entry.{EntryFacts}
 use Rattle.nb_table.specs.Contents.{Contents}
-use Rattle.nb_table.specs.Runs.{RunValue, map_of_runs}
+use Rattle.nb_entries.specs.Runs.{RunValue, map_of_runs}
 
 -- the address 10.32.33.34, the port 1,286 and the identifier 1,800
 abbrev pub example_key : Key

@@ -1,12 +1,6 @@
 -- What the laws of joins and of sinks rest on, and what crates above cite. No clause cites a lemma of these files: they
 -- stand beside the definitions because the laws of a trait, and other crates, can cite nothing of `proofs/`.
-pub mod MapsLemmas
-pub mod SlotLemmas
-pub mod PromiseLemmas
-pub mod CoverLemmas
-pub mod EntryLemmas
 pub mod TableLemmas
-pub mod EqualLemmas
 pub mod TreeLemmas
 pub mod FragmentLemmas
 pub mod KeyCountLemmas

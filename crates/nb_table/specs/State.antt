@@ -2,12 +2,13 @@
 use Rattle.std.specs.Prelude.{◌≡◌, Some, None}
 use Rattle.std.specs.FinMap as maps
 use Rattle.nb_datagram.specs.declared.key.Key.{Key}
-use Rattle.nb_table.specs.declared.state.State.{State}
-use Rattle.nb_table.specs.declared.state.State.TheVariants.{Absent, Partial, Whole, Spoilt}
-use Rattle.nb_table.specs.Slot.{Held}
-use Rattle.nb_table.specs.Entry.{EntryFacts}
+use Rattle.nb_entries.specs.declared.state.State.{State}
+use Rattle.nb_entries.specs.declared.state.State.TheVariants.{Absent, Partial, Whole, Spoilt}
+use Rattle.nb_entries.specs.declared.slot.Slot.TheVariants.{Held}
+use Rattle.nb_entries.specs.Entry.{EntryFacts}
 use Rattle.nb_table.specs.Contents.{Contents}
-use Rattle.nb_table.specs.Whole.{IsWholeCover, IsWholeAt}
+use Rattle.nb_entries.specs.Whole.{IsWholeCover}
+use Rattle.nb_table.specs.Whole.{IsWholeAt}
 use Rattle.nb_table.specs.Change.{IsSpoiltAt}
 
 -- the key is held, neither spoilt nor whole

@@ -13,9 +13,9 @@ ghost use Rattle.nb_table.specs.Code.Lending.{LendsEntry};
 
 mod counts;
 
-use crate::entry::Entry;
 pub(crate) use counts::SourceCounts;
 use nb_datagram::Key;
+use nb_entries::Entry;
 use nb_names::NoMemory;
 use std::alloc::Global;
 use std::collections::{BTreeMap, btree_map};

@@ -3,17 +3,16 @@ ghost use Rattle.std.specs.Prelude.{◌≡◌, ◌≤◌, IfOk, OnOk, OnErr, Som
 ghost use Rattle.std.specs.FinMap as maps;
 ghost use Rattle.nb_datagram.specs.Fragment.{core_of, reach};
 ghost use Rattle.nb_datagram.specs.declared.limits.TheConstants.{MAX_LENGTH};
-ghost use Rattle.nb_table.specs.Maps.{joined_onto};
-ghost use Rattle.nb_table.specs.Slot.{Held};
-ghost use Rattle.nb_table.specs.Entry.{EntryValue, facts_of, join_entry};
-ghost use Rattle.nb_table.specs.Limits.{IsShort};
-ghost use Rattle.nb_table.specs.Code.Change.{Tells};
+ghost use Rattle.nb_entries.specs.Maps.{joined_onto};
+ghost use Rattle.nb_entries.specs.declared.slot.Slot.TheVariants.{Held};
+ghost use Rattle.nb_entries.specs.Entry.{EntryValue, facts_of, join_entry};
+ghost use Rattle.nb_entries.specs.Short.{IsShort};
+ghost use Rattle.nb_entries.specs.Change.{Tells};
 ghost use Rattle.nb_table.specs.Insert.{NeedsNoMemory};
 
-use crate::change::{Handing, KeptChange};
 use crate::entries::Entries;
-use crate::entry::Entry;
 use nb_datagram::LentFragment;
+use nb_entries::{Entry, Handing, KeptChange};
 use nb_names::NoMemory;
 use std::alloc::Global;
 

@@ -2,6 +2,8 @@
 ghost use Rattle.std.specs.Prelude.{◌≡◌, map, take, slice_get, Some, OnOk, OnErr, IfErr};
 ghost use Rattle.nb_table.specs.Join.{joined_all, AreTaken};
 
+mod slots;
+
 use crate::fault::TableFault;
 
 /// Values of which two have a join: what both say together.

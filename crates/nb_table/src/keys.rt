@@ -1,8 +1,8 @@
 //! The keys of a table.
 ghost use Rattle.std.specs.Prelude.{◌≡◌};
 
-use crate::entry::Entry;
 use nb_datagram::Key;
+use nb_entries::Entry;
 use std::collections::btree_map;
 use std::marker::Model;
 

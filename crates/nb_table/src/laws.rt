@@ -11,25 +11,15 @@ mod gathering;
 mod join_laws;
 mod loading;
 mod parts;
-mod ranging;
 mod refusing;
-mod running;
 mod saving;
 
-pub use completing::{
-    datagram_has_the_bytes_of_its_entry, newly_whole_is_whole_and_was_not,
-    whole_entries_have_a_datagram, whole_keys_have_a_datagram,
-};
+pub use completing::{newly_whole_is_whole_and_was_not, whole_keys_have_a_datagram};
 pub use conflicting::{
     a_byte_at_an_end_conflicts, an_end_at_a_promise_conflicts, an_end_past_a_promise_fits,
-    byte_is_that_which_covers, conflict_test_is_the_relation, cover_agreement_is_the_relation,
-    end_is_where_it_ends, entry_agreement_is_the_relation, past_an_end_a_place_is_covered,
-    promise_is_what_is_promised, promised_place_is_past_the_covered, spoilt_test_is_the_relation,
+    conflict_test_is_the_relation, past_an_end_a_place_is_covered, spoilt_test_is_the_relation,
 };
-pub use equality::{
-    a_change_is_one, a_state_is_one, covers_are_equal_where_contents_are,
-    entries_are_equal_where_contents_are,
-};
+pub use equality::{a_change_is_one, a_state_is_one};
 pub use fitting::{
     keys_fit_where_the_join_has_no_more, sources_fit_where_the_join_has_few_of_each,
 };
@@ -45,31 +35,32 @@ pub use gathering::{
     table_of_two_lists_is_the_join,
 };
 pub use join_laws::{
-    cover_join_is_associative, cover_join_is_commutative, cover_join_is_idempotent,
-    cover_join_is_well_formed, entry_join_is_associative, entry_join_is_commutative,
-    entry_join_is_idempotent, entry_join_is_well_formed, joining_a_fragment_changes_its_key,
-    table_join_has_the_keys_of_either, table_join_is_associative, table_join_is_commutative,
-    table_join_is_idempotent, table_join_is_well_formed, union_has_the_bytes_of_both,
+    joining_a_fragment_changes_its_key, table_join_has_the_keys_of_either,
+    table_join_is_associative, table_join_is_commutative, table_join_is_idempotent,
+    table_join_is_well_formed,
 };
 pub use loading::{
     a_saved_table_is_read, a_table_saved_in_the_first_form_is_read, an_input_is_read_as_one_table,
     saved_bytes_have_one_reading, what_is_read_is_saved,
 };
+pub use nb_entries::laws::{
+    a_map_has_one_row_of_ranges, a_map_has_one_row_of_runs, an_awaited_promise_is_past_the_bytes,
+    byte_is_that_which_covers, cover_agreement_is_the_relation, cover_join_is_associative,
+    cover_join_is_commutative, cover_join_is_idempotent, cover_join_is_well_formed,
+    covers_are_equal_where_contents_are, datagram_has_the_bytes_of_its_entry, end_is_where_it_ends,
+    entries_are_equal_where_contents_are, entry_agreement_is_the_relation,
+    entry_join_is_associative, entry_join_is_commutative, entry_join_is_idempotent,
+    entry_join_is_well_formed, map_of_runs_gives_them_back, promise_is_what_is_promised,
+    promised_place_is_past_the_covered, ranges_of_a_map_have_its_places, runs_of_a_map_are_apart,
+    runs_of_a_map_give_it_back, union_has_the_bytes_of_both, whole_entries_have_a_datagram,
+};
 pub use parts::{
     all_parts_give_the_datagram, parts_are_not_spoilt, parts_are_whole_where_all_are_there,
     pieces_are_all_parts,
 };
-pub use ranging::{
-    a_map_has_one_row_of_ranges, an_awaited_promise_is_past_the_bytes,
-    ranges_of_a_map_have_its_places,
-};
 pub use refusing::{
     an_address_over_its_limit_is_reported_first, full_names_the_least_key,
     full_source_names_the_least_key,
-};
-pub use running::{
-    a_map_has_one_row_of_runs, map_of_runs_gives_them_back, runs_of_a_map_are_apart,
-    runs_of_a_map_give_it_back,
 };
 pub use saving::{
     saved_bytes_tell_the_table, saved_fields_stand_in_order, short_tables_fit_the_fields,

@@ -3,11 +3,7 @@
 //! An input is judged where it stands, before any memory is taken.
 
 pub(crate) mod entries;
-mod facts;
-pub(crate) mod fields;
-pub(crate) mod form;
+mod keys;
 mod part;
-pub(crate) mod runs;
-pub(crate) mod sink;
 mod sources;
 pub(crate) mod tables;

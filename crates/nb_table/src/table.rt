@@ -4,7 +4,7 @@ ghost use Rattle.std.specs.FinMap as maps;
 ghost use Rattle.nb_names.specs.Name.{NetbiosName};
 ghost use Rattle.nb_table.specs.Limits.{KeepsLimits};
 ghost use Rattle.nb_table.specs.Change.{IsChange};
-ghost use Rattle.nb_table.specs.Code.Change.{told_by};
+ghost use Rattle.nb_entries.specs.Change.{told_by};
 ghost use Rattle.nb_table.specs.State.{IsState};
 ghost use Rattle.nb_table.specs.RunCount.{run_count_at};
 ghost use Rattle.nb_datagram.specs.Fragment.{core_of};
@@ -17,15 +17,14 @@ mod reading;
 mod refusing;
 mod saving;
 
-use crate::change::{Change, Handing, KeptChange};
 use crate::entries::Entries;
 use crate::fault::TableFault;
 use crate::inserting::join_fragment;
 use crate::keys::Keys;
-use crate::state::State;
 pub use loading::load;
 pub use merging::take_in_all;
 use nb_datagram::{Fragment, Key, LentFragment};
+use nb_entries::{Change, Handing, KeptChange, State};
 use std::alloc::Global;
 use std::marker::Model;
 

@@ -72,7 +72,7 @@ impl JsonRoom {
     }
 }
 
-/// An object to which fields are told as members, in JSON (RFC 8259).
+/// An object to which fields are reported as members, in JSON (RFC 8259).
 ///
 /// Its bytes are made in the memory of a [`JsonRoom`], and the texts of values in a scratch text
 /// there, from which they are written with what JSON escapes.

@@ -1,5 +1,5 @@
-//! What a thing has, as a packet, is told once, field by field, to a sink. One sink writes text,
-//! another JSON.
+//! What a thing has, as a packet, is reported once, field by field, to a sink. One sink writes
+//! text, another JSON.
 #![tactic(auto)]
 
 mod field_key;

@@ -1,4 +1,4 @@
-//! The places of faults, told to a sink.
+//! The places of faults, reported to a sink.
 ghost use Rattle.std.specs.Prelude.{◌≡◌, OnOk, fold};
 ghost use Rattle.nb_telling.specs.Fields.{place_fields};
 ghost use Rattle.nb_telling.specs.Telling.{Grows};

@@ -1,4 +1,4 @@
-//! What fields are told to.
+//! What fields are reported to.
 ghost use Rattle.std.specs.Prelude.{◌≡◌, IfSome, OnOk};
 ghost use Rattle.nb_telling.specs.Fields.{Field, Text, Number, Digits, Data, Set, Known, Range, Words, At, Begins, Ends, Part, PartEnds, LineEnds};
 ghost use Rattle.nb_telling.specs.Sets.{names_of};
@@ -10,18 +10,18 @@ use crate::shows::Shows;
 use nb_names::NoMemory;
 use std::fmt::Display;
 
-/// What fields are told to, one after the other.
+/// What fields are reported to, one after the other.
 ///
-/// Each call answers [`NoMemory`] where memory ran out. Some of the field may then be told: what
-/// stood in the sink before is still its front.
+/// Each call answers [`NoMemory`] where memory ran out. Some of the field may then be reported:
+/// what stood in the sink before is still its front.
 pub trait Sink {
-    /// What is seen of a sink: all that was told to it, in its form.
+    /// What is seen of a sink: all that was reported to it, in its form.
     type Seen;
 
     /// What is seen of it.
     ghost seen: { Self → Self.Seen };
 
-    /// What is seen after a field was told.
+    /// What is seen after a field was reported.
     ghost after: { Self.Seen → Field → Self.Seen };
 
     /// Whether the first is a front of the second.

@@ -22,3 +22,9 @@ pub mod SessionTells
 pub mod DatagramTells
 pub mod ServiceTells
 pub mod WordLemmas
+pub mod SaidLemmas
+pub mod TextTests
+pub mod PhraseLemmas
+pub mod SaidPackets
+pub mod FirstNames
+pub mod PushLemmas

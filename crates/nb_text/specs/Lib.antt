@@ -12,3 +12,8 @@ pub mod ServiceFields
 pub mod DatagramFields
 pub mod SessionFields
 pub mod Tells
+pub mod Kinds
+pub mod Noted
+pub mod Forms
+pub mod Said
+pub mod SaysPacket

@@ -41,9 +41,18 @@ ghost use Rattle.nb_text.specs.Shown.{Shown};
 ghost use Rattle.nb_text.specs.Tells.{Tells};
 ghost use Rattle.nb_text.specs.Words.{flag, name_flags, operation_word, packet_flags, query_word, rcode_word, set_text};
 
+mod endings;
+mod first_names;
+mod phrases;
+mod responses;
+
+pub use endings::{codes_in_words, redirects_in_words, refusals_in_words, relays_in_words};
+pub use first_names::names_in_words;
 use nb_datagram::laws as datagrams;
 use nb_service::laws as names;
 use nb_session::laws as sessions;
+pub use phrases::{datagrams_in_words, requests_in_words, sessions_in_words};
+pub use responses::{answers_in_words, outcomes_in_words};
 
 /// A payload has one text for a port.
 pub fn one_text()

@@ -1,6 +1,7 @@
 //! Packets, told to a sink field by field, and their texts, as `nbt show` prints them.
 #![tactic(auto)]
 
+mod brief;
 mod datagrams;
 mod faults;
 mod flags;
@@ -14,5 +15,6 @@ mod showing;
 mod statuses;
 mod words;
 
+pub use brief::{BriefSink, push_brief};
 pub use objects::packet_object;
 pub use showing::{push_packet, tell_packet};

@@ -7,6 +7,7 @@ use Rattle.nb_telling.specs.Members.{AreMembers, IsJson, nothing, member, both}
 use Rattle.nb_telling.specs.Tokens.{field_tokens, object_of, tokens_of}
 use Rattle.nb_telling.proofs.FoldLemmas.{and_then, appended}
 use Rattle.nb_text.specs.Keys.{kind_key}
+use Rattle.nb_text.specs.SaysPacket.{IsSaid}
 use Rattle.nb_text.specs.Tells.{IsTold, Tells}
 use Rattle.std.specs.FinMap as maps
 use Rattle.nb_table.specs.declared.fault.TableFault.TheVariants.{NoMemory}
@@ -18,7 +19,7 @@ use Rattle.nb_member.specs.ReportFields.{dropped_fields, passed_fields, result_f
 use Rattle.nb_member.specs.Taking.{Takes}
 use Rattle.nb_member.specs.declared.line.Line as capture
 use Rattle.nb_member.specs.declared.line.Line.TheVariants.{Packet, Tick}
-use Rattle.nbt.specs.Objects.{IsObject, ObjectOf, OutcomeFields, PacketFields, PrintsComment, TellsFields, arrival_fields, comment_fields, comment_key, head_fields, line_key, object_line, packet, tick, dropped, passed, taken}
+use Rattle.nbt.specs.Objects.{BriefFields, IsObject, ObjectOf, OutcomeFields, PacketFields, PrintsComment, TellsFields, arrival_fields, brief_key, comment_fields, comment_key, head_fields, line_key, object_line, packet, phrased, tick, ticked, dropped, passed, taken}
 
 -- what a field adds to an object
 abbrev pub adds : List Token → Field → List Token
@@ -118,6 +119,30 @@ pub tick_told : {A : Type 0} (after : A → Field → A) (value : capture.Line) 
 tick_told after value s t now old new said told = record {
   fields = Text kind_key (codes "tick") ∷ [];
   are = subst (λ (v : capture.Line). PacketFields v s t (Text kind_key (codes "tick") ∷ [])) (sym said) (tick now s t);
+  depth = 2;
+  low = omega arith;
+  members = member _ tt;
+  seen = told;
+}
+
+pub phrased_told : {A : Type 0} (after : A → Field → A) (value : capture.Line) (s t : Unit {0}) (port moment : ℕ) (payload phrase : List ℕ) (old mid new : A)
+    → value ≡ Packet port moment payload → ((p : List ℕ) (n : ℕ) (fields : List Field) → Tells p n fields → AreMembers 2 fields) → IsSaid payload port phrase
+    → mid ≡ after old (Text brief_key phrase) → IsTold after payload port mid new → TellsFields (BriefFields value s t) after old new
+phrased_told after value s t port moment payload phrase old mid new said are is first told = record {
+  fields = Text brief_key phrase ∷ told.fields;
+  are = subst (λ (v : capture.Line). BriefFields v s t (Text brief_key phrase ∷ told.fields)) (sym said)
+      (phrased port moment payload phrase s t told.fields is told.tells);
+  depth = 2;
+  low = omega arith;
+  members = both (Text brief_key phrase ∷ []) told.fields (member _ tt) (are payload port told.fields told.tells);
+  seen = told.seen ∙ ap (λ (a : _). fold after a told.fields) first;
+}
+
+pub ticked_told : {A : Type 0} (after : A → Field → A) (value : capture.Line) (s t : Unit {0}) (now : ℕ) (old new : A) → value ≡ Tick now
+    → new ≡ after old (Text kind_key (codes "tick")) → TellsFields (BriefFields value s t) after old new
+ticked_told after value s t now old new said told = record {
+  fields = Text kind_key (codes "tick") ∷ [];
+  are = subst (λ (v : capture.Line). BriefFields v s t (Text kind_key (codes "tick") ∷ [])) (sym said) (ticked now s t);
   depth = 2;
   low = omega arith;
   members = member _ tt;

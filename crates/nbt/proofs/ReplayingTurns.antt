@@ -21,6 +21,7 @@ use Rattle.nb_names.specs.Counted.{Counts}
 use Rattle.nb_names.specs.Devices.{ShowsUnread, ShowsWriteFault}
 use Rattle.nb_names.specs.DeviceFacts.{Keeps-same}
 use Rattle.nbt.specs.Input.{WasCut}
+use Rattle.nbt.specs.Reported.{of_replay}
 use Rattle.nbt.specs.Replaying.{AddsEach, AddsName, Begins, EndsWith, IsNamesFault, IsRefusedName, IsReplay, IsUnbegun, ReplaysCapture, ReplaysIn, none, more}
 use Rattle.nbt.specs.Settings.{program_settings}
 
@@ -63,22 +64,27 @@ name_refused words i d old fault lt before refused = record {
 
 -- ---- what a replay answers
 
--- what holds of the replay's answer
-pub ends_as : (P : Result ℕ ReplayFault → Type 0) (replayed : Result ℕ ReplayFault) (result : Result Unit Fault) → P replayed
-    → EndsWith (λ answer. answer ≡ replayed) result → EndsWith P result
-ends_as P replayed (Ok done) p (n, is) = (n, subst P (sym is) p)
-ends_as P replayed (Err (Line n)) p is = subst P (sym is) p
-ends_as P replayed (Err Read) p is = subst P (sym is) p
-ends_as P replayed (Err Write) p is = subst P (sym is) p
-ends_as P replayed (Err Memory) p is = subst P (sym is) p
-ends_as P replayed (Err _) p is = absurd is
+-- a replay that ends for this ends the program's so
+ends_for : (P : Result ℕ ReplayFault → Type 0) (why : ReplayFault) → P (Err why) → EndsWith P (Err (of_replay why))
+ends_for P (replay.Line n) p = p
+ends_for P replay.Read p = p
+ends_for P replay.Write p = p
+ends_for P replay.NoMemory p = p
 
-pub replays_in : (options : CaptureOptions) (m new : MemberValue) (old_in new_in old_out new_out : Option (List ℕ)) (bytes : List ℕ) (replayed : Result ℕ ReplayFault)
-    (result : Result Unit Fault) → Consumes old_in new_in bytes
-    → ((H : List Event) (s : Stands m H) → Replays options.comments options.most m H (live m.settings s.sayings) bytes new_in new old_out new_out replayed)
-    → EndsWith (λ answer. answer ≡ replayed) result → EndsWith (ReplaysIn options m old_in new_in old_out new_out) result
-replays_in options m new old_in new_in old_out new_out bytes replayed result read replays ends =
-    ends_as (ReplaysIn options m old_in new_in old_out new_out) replayed result (record { bytes = bytes; new = new; read = read; replays = replays }) ends
+-- a replay of the whole input
+pub replay_done : (options : CaptureOptions) (m new : MemberValue) (old_in new_in old_out new_out : Option (List ℕ)) (bytes : List ℕ) (n : ℕ)
+    → Consumes old_in new_in bytes
+    → ((H : List Event) (s : Stands m H) → Replays options.comments options.most m H (live m.settings s.sayings) bytes new_in new old_out new_out (Ok n))
+    → EndsWith (ReplaysIn options m old_in new_in old_out new_out) (Ok tt)
+replay_done options m new old_in new_in old_out new_out bytes n read replays = (n, record { bytes = bytes; new = new; read = read; replays = replays })
+
+-- one that ended early
+pub replay_ends : (options : CaptureOptions) (m new : MemberValue) (old_in new_in old_out new_out : Option (List ℕ)) (bytes : List ℕ) (why : ReplayFault)
+    → Consumes old_in new_in bytes
+    → ((H : List Event) (s : Stands m H) → Replays options.comments options.most m H (live m.settings s.sayings) bytes new_in new old_out new_out (Err why))
+    → EndsWith (ReplaysIn options m old_in new_in old_out new_out) (Err (of_replay why))
+replay_ends options m new old_in new_in old_out new_out bytes why read replays =
+    ends_for (ReplaysIn options m old_in new_in old_out new_out) why (record { bytes = bytes; new = new; read = read; replays = replays })
 
 ends_weaker : (P Q : Result ℕ ReplayFault → Type 0) (result : Result Unit Fault) → ((answer : Result ℕ ReplayFault) → P answer → Q answer)
     → EndsWith P result → EndsWith Q result
@@ -166,15 +172,18 @@ unread_cut IsMost most old_in new_in reads after bytes (Ok done) limited read cu
 unread_cut IsMost most old_in new_in reads after bytes (Err fault) limited read cut = λ is. (most, limited, (bytes, read, cut (ap (λ (f : Fault). Err f) is)))
 
 -- the same where a replay ended so
-pub replay_cut : (IsMost : ℕ → Type 0) (most : ℕ) (old_in new_in : Option (List ℕ)) (reads after : Counts) (bytes : List ℕ) (answer : Result ℕ ReplayFault) (r : Result Unit Fault) → IsMost most
-    → Consumes old_in new_in bytes → (answer ≡ Err replay.Read → ShowsUnread most bytes reads after) → EndsWith (λ a. a ≡ answer) r
-    → IfErr r (λ fault. fault ≡ Read → (n : ℕ) × IsMost n × WasCut n old_in new_in reads after)
-replay_cut IsMost most old_in new_in reads after bytes answer (Ok done) limited read cut ends = tt
-replay_cut IsMost most old_in new_in reads after bytes answer (Err fault) limited read cut ends =
-    λ is. (most, limited, (bytes, read, cut (sym (subst (λ (f : Fault). EndsWith (λ a. a ≡ answer) (Err f)) is ends))))
+pub replay_cut : (IsMost : ℕ → Type 0) (most : ℕ) (old_in new_in : Option (List ℕ)) (reads after : Counts) (bytes : List ℕ) (answer : Result ℕ ReplayFault) (why : ReplayFault) → IsMost most
+    → Consumes old_in new_in bytes → (answer ≡ Err replay.Read → ShowsUnread most bytes reads after) → answer ≡ Err why → of_replay why ≡ Read
+    → (n : ℕ) × IsMost n × WasCut n old_in new_in reads after
+replay_cut IsMost most old_in new_in reads after bytes answer (replay.Line n) limited read cut is unread = absurd (cc unread)
+replay_cut IsMost most old_in new_in reads after bytes answer replay.Read limited read cut is unread = (most, limited, (bytes, read, cut is))
+replay_cut IsMost most old_in new_in reads after bytes answer replay.Write limited read cut is unread = absurd (cc unread)
+replay_cut IsMost most old_in new_in reads after bytes answer replay.NoMemory limited read cut is unread = absurd (cc unread)
 
 -- a write is at fault only where the calls of the output show it
-pub replay_writes : (answer : Result ℕ ReplayFault) (r : Result Unit Fault) (writes after : Counts) → (r ≡ Err Write → answer ≡ Err replay.Write)
-    → (answer ≡ Err replay.Write → ShowsWriteFault writes after) → IfErr r (λ fault. fault ≡ Write → ShowsWriteFault writes after)
-replay_writes answer (Ok done) writes after same shows = tt
-replay_writes answer (Err fault) writes after same shows = λ is. shows (same (ap (λ (f : Fault). Err f) is))
+pub replay_writes : (answer : Result ℕ ReplayFault) (why : ReplayFault) (writes after : Counts) → (answer ≡ Err replay.Write → ShowsWriteFault writes after) → answer ≡ Err why
+    → of_replay why ≡ Write → ShowsWriteFault writes after
+replay_writes answer (replay.Line n) writes after shows is write = absurd (cc write)
+replay_writes answer replay.Read writes after shows is write = absurd (cc write)
+replay_writes answer replay.Write writes after shows is write = shows is
+replay_writes answer replay.NoMemory writes after shows is write = absurd (cc write)

@@ -10,17 +10,16 @@ use Rattle.nb_datagram.specs.declared.key.Key.{Key}
 use Rattle.nb_table.specs.declared.fault.TableFault.TheVariants as tables
 use Rattle.nb_member.specs.declared.line.Line.{Line}
 use Rattle.nb_member.specs.declared.line.Line.TheVariants.{Packet as PacketLine, Tick}
-use Rattle.nb_member.specs.declared.lines_fault.LinesFault.{LinesFault}
-use Rattle.nb_member.specs.declared.lines_fault.LinesFault.TheVariants as lines
 use Rattle.nb_member.specs.declared.member_fault.MemberFault.{MemberFault}
 use Rattle.nb_member.specs.declared.member_fault.MemberFault.TheVariants.{Table}
-use Rattle.nb_member.specs.LineTaking.{TakesEach, TakesLines}
+use Rattle.nb_member.specs.LineTaking.{TakesEach, EndsEarly, malformed, unread, no_memory, not_taken, TakesLines}
 use Rattle.nb_member.specs.Member.{MemberValue}
 use Rattle.nb_member.specs.Taking.{Takes}
 use Rattle.nbt.specs.declared.settings.Capacity.{Capacity}
 use Rattle.nbt.specs.declared.fault.Fault.{Fault}
 use Rattle.nbt.specs.declared.fault.Fault.TheVariants.{FullSource, Full, Memory, Read, Write}
-use Rattle.nbt.specs.SaveFaults.{PayloadStops, SaidStops, StopsSaving, UnsavedLine, saving_fault}
+use Rattle.nbt.specs.Reported.{of_replay}
+use Rattle.nbt.specs.SaveFaults.{PayloadStops, SaidStops, StopsSaving, UnsavedLine}
 use Rattle.nbt.specs.Saved.{saved_digits}
 use Rattle.nbt.specs.Saving.{SavesCapture, SavesLine, TakesInput, new_saver}
 
@@ -51,16 +50,15 @@ said_stops m said port moment payload seen fault is at same stops =
 -- ---- the lines of an input
 
 -- TakesBytes most first left counts later old new taken: what is said of the bytes that were read, and of their lines
-abbrev pub TakesBytes : ℕ → Option (List ℕ) → Option (List ℕ) → Counts → Counts → MemberValue → MemberValue → Result ℕ (LinesFault Fault) → Type 0
+abbrev pub TakesBytes : ℕ → Option (List ℕ) → Option (List ℕ) → Counts → Counts → MemberValue → MemberValue → Result ℕ Fault → Type 0
 TakesBytes most first left counts later old new taken =
-    (bytes : List ℕ) × Consumes first left bytes
-    × ((taken ≡ Err lines.Read → ShowsUnread most bytes counts later) × TakesLines SavesLine UnsavedLine most bytes left old new taken)
+    (bytes : List ℕ) × Consumes first left bytes × TakesLines SavesLine UnsavedLine (λ why f. f ≡ of_replay why) most bytes left counts later old new taken
 
 -- the whole input was taken
-pub took_input : (c : Capacity) (most : ℕ) (old_in new_in : Option (List ℕ)) (counts after : Counts) (first new : MemberValue) (taken : Result ℕ (LinesFault Fault)) (n : ℕ)
-    → TakesBytes most old_in new_in counts after first new taken → taken ≡ Ok n → first ≡ new_saver c → TakesInput c most old_in new_in new
-took_input c most old_in new_in counts after first new taken n t is same =
-    let u = subst (λ (r : Result ℕ (LinesFault Fault)). TakesLines SavesLine UnsavedLine most t.0 new_in first new r) is t.2.1 in record {
+pub took_input : (c : Capacity) (most : ℕ) (old_in new_in : Option (List ℕ)) (counts after : Counts) (first new : MemberValue) (n : ℕ)
+    → TakesBytes most old_in new_in counts after first new (Ok n) → first ≡ new_saver c → TakesInput c most old_in new_in new
+took_input c most old_in new_in counts after first new n t same =
+    let u = t.2 in record {
       capture = t.0;
       read = t.1;
       ended = u.3.at_end;
@@ -70,51 +68,49 @@ took_input c most old_in new_in counts after first new taken n t is same =
       took = subst (λ (m : MemberValue). TakesEach SavesLine 1 (with_rest u.0 u.1) m new) same u.5;
     }
 
-never_read : (m : MemberValue) (said : Option Line) → SaidStops m said Read → ⊥
-never_read m None stops = stops
-never_read m (Some (Tick now)) stops = stops
-never_read m (Some (PacketLine port moment payload)) stops = stops.1
+-- what a line says is refused for neither device's sake
+no_device : (m : MemberValue) (said : Option Line) (fault : Fault) → SaidStops m said fault → (fault ≢ Read) × (fault ≢ Write)
+no_device m None fault stops = absurd stops
+no_device m (Some (Tick now)) fault stops = absurd stops
+no_device m (Some (PacketLine port moment payload)) FullSource stops = (λ is. absurd (cc is), λ is. absurd (cc is))
+no_device m (Some (PacketLine port moment payload)) Full stops = (λ is. absurd (cc is), λ is. absurd (cc is))
+no_device m (Some (PacketLine port moment payload)) Memory stops = (λ is. absurd (cc is), λ is. absurd (cc is))
+no_device m (Some (PacketLine port moment payload)) _ stops = absurd stops.1
+
+-- EndsSaving most bytes left counts later old new fault: why not all lines of these bytes were taken
+abbrev pub EndsSaving : ℕ → List ℕ → Option (List ℕ) → Counts → Counts → MemberValue → MemberValue → Fault → Type 0
+EndsSaving most bytes left counts later old new fault =
+    EndsEarly SavesLine UnsavedLine (λ why f. f ≡ of_replay why) most bytes left counts later old new fault
 
 -- Read is answered where the input couldn't be read
-unread_so : (most : ℕ) (bytes : List ℕ) (left : Option (List ℕ)) (old new : MemberValue) (why : LinesFault Fault) → TakesLines SavesLine UnsavedLine most bytes left old new (Err why)
-    → saving_fault why ≡ Read → why ≡ lines.Read
-unread_so most bytes left old new (lines.Line n) t is = absurd (cc is)
-unread_so most bytes left old new lines.Read t is = refl
-unread_so most bytes left old new lines.NoMemory t is = absurd (cc is)
-unread_so most bytes left old new (lines.NotTaken fault) t is =
-    absurd (never_read t.between t.said (subst (λ (f : Fault). SaidStops t.between t.said f) is t.fails))
+unread_so : (most : ℕ) (bytes : List ℕ) (left : Option (List ℕ)) (counts later : Counts) (old new : MemberValue) (fault : Fault)
+    → EndsSaving most bytes left counts later old new fault → fault ≡ Read → ShowsUnread most bytes counts later
+unread_so most bytes left counts later old new fault (malformed lines comes each gives) is = absurd (cc (gives, is))
+unread_so most bytes left counts later old new fault (unread lines rest cut within each shows gives) is = shows
+unread_so most bytes left counts later old new fault (no_memory lines more_lines are each gives) is = absurd (cc (gives, is))
+unread_so most bytes left counts later old new fault (not_taken t) is = absurd ((no_device t.between t.said fault t.fails).0 is)
 
 -- not all lines were taken
-pub stops_saving : (c : Capacity) (most : ℕ) (old_in new_in : Option (List ℕ)) (counts after : Counts) (first new : MemberValue) (taken : Result ℕ (LinesFault Fault)) (why : LinesFault Fault)
-    (fault : Fault) → TakesBytes most old_in new_in counts after first new taken → taken ≡ Err why → first ≡ new_saver c → fault ≡ saving_fault why
-    → StopsSaving c most old_in new_in counts after fault
-stops_saving c most old_in new_in counts after first new taken why fault t is same reported =
-    let u = subst (λ (r : Result ℕ (LinesFault Fault)). TakesLines SavesLine UnsavedLine most t.0 new_in first new r) is t.2.1 in record {
-      bytes = t.0;
-      read = t.1;
-      cut = λ unread. t.2.0 (is ∙ ap (λ (f : LinesFault Fault). Err f) (unread_so most t.0 new_in first new why u (sym reported ∙ unread)));
-      why = why;
-      reported = reported;
-      left = new;
-      stops = subst (λ (m : MemberValue). TakesLines SavesLine UnsavedLine most t.0 new_in m new (Err why)) same u;
-    }
+pub stops_saving : (c : Capacity) (most : ℕ) (old_in new_in : Option (List ℕ)) (counts after : Counts) (first new : MemberValue) (fault : Fault)
+    → TakesBytes most old_in new_in counts after first new (Err fault) → first ≡ new_saver c → StopsSaving c most old_in new_in counts after fault
+stops_saving c most old_in new_in counts after first new fault t same = record {
+  bytes = t.0;
+  read = t.1;
+  cut = unread_so most t.0 new_in counts after first new fault t.2;
+  left = new;
+  stops = subst (λ (m : MemberValue). EndsSaving most t.0 new_in counts after m new fault) same t.2;
+}
 
-never_written : (m : MemberValue) (said : Option Line) → SaidStops m said Write → ⊥
-never_written m None stops = stops
-never_written m (Some (Tick now)) stops = stops
-never_written m (Some (PacketLine port moment payload)) stops = stops.1
-
-no_write : (most : ℕ) (bytes : List ℕ) (left : Option (List ℕ)) (old new : MemberValue) (why : LinesFault Fault) → TakesLines SavesLine UnsavedLine most bytes left old new (Err why)
-    → saving_fault why ≢ Write
-no_write most bytes left old new (lines.Line n) t is = absurd (cc is)
-no_write most bytes left old new lines.Read t is = absurd (cc is)
-no_write most bytes left old new lines.NoMemory t is = absurd (cc is)
-no_write most bytes left old new (lines.NotTaken fault) t is =
-    never_written t.between t.said (subst (λ (f : Fault). SaidStops t.between t.said f) is t.fails)
+no_write : (most : ℕ) (bytes : List ℕ) (left : Option (List ℕ)) (counts later : Counts) (old new : MemberValue) (fault : Fault)
+    → EndsSaving most bytes left counts later old new fault → fault ≢ Write
+no_write most bytes left counts later old new fault (malformed lines comes each gives) is = absurd (cc (gives, is))
+no_write most bytes left counts later old new fault (unread lines rest cut within each shows gives) is = absurd (cc (gives, is))
+no_write most bytes left counts later old new fault (no_memory lines more_lines are each gives) is = absurd (cc (gives, is))
+no_write most bytes left counts later old new fault (not_taken t) is = absurd ((no_device t.between t.said fault t.fails).1 is)
 
 -- nothing was to be printed then
 pub stops_before : (c : Capacity) (most : ℕ) (old_in new_in : Option (List ℕ)) (old after : Counts) (fault : Fault) → StopsSaving c most old_in new_in old after fault → fault ≢ Write
-stops_before c most old_in new_in old after fault s is = no_write most s.bytes new_in (new_saver c) s.left s.why s.stops (sym s.reported ∙ is)
+stops_before c most old_in new_in old after fault s = no_write most s.bytes new_in old after (new_saver c) s.left fault s.stops
 
 -- the table of a member that took the whole input is printed
 pub saves_capture : (IsGiven : Capacity → Type 0) (IsMost : ℕ → Type 0) (IsPrinted : List ℕ → Type 0) (old_in new_in : Option (List ℕ)) (c : Capacity) (most : ℕ) (m : MemberValue) (t : TableValue)

@@ -1,56 +1,72 @@
 -- What `nbt show` prints of a line, and of the lines of a capture.
-use Rattle.std.proofs.Common.{◌≡◌, ◌+◌, ◌++◌, ℕ, List, [], ◌∷◌, length, take, drop, Option, Result, Ok, Err, IfErr, codes, refl, sym, subst, ◌∙◌, ap, append_assoc, arith}
+use Rattle.std.proofs.Common.{◌≡◌, ◌+◌, ◌++◌, ℕ, List, [], ◌∷◌, length, take, drop, Option, Result, Ok, Err, IfErr, OnErr, codes, refl, sym, subst, ◌∙◌, ap, append_assoc, arith}
 use Rattle.std.specs.Io.KnownBytes.{Appends, Consumes}
 use Rattle.std.specs.Fmt.{decimal}
 use Rattle.std.proofs.lemmas.List.{take-append-drop}
 use Rattle.nb_names.specs.Counted.{Counts, CountedOf}
-use Rattle.nb_names.specs.Devices.{GrowTo, ShowsUnread, ShowsWriteFault}
+use Rattle.nb_names.specs.Devices.{AppendsFront, GrowTo, ShowsUnread, ShowsWriteFault}
 use Rattle.nb_names.specs.DeviceFacts.{Appends-nil, Appends-more, Appends-kept, fails_from, grows_on}
 use Rattle.nb_member.specs.declared.capture_options.CaptureOptions.{CaptureOptions}
 use Rattle.nb_member.specs.declared.line.Line as capture
 use Rattle.nb_member.specs.declared.line.Line.TheVariants.{Packet, Tick}
-use Rattle.nb_member.specs.declared.lines_fault.LinesFault.{LinesFault}
-use Rattle.nb_member.specs.declared.lines_fault.LinesFault.TheVariants as lines
-use Rattle.nb_member.specs.declared.report_fault.ReportFault.{ReportFault}
-use Rattle.nb_member.specs.declared.report_fault.ReportFault.TheVariants as unwritten
-use Rattle.nb_member.specs.LineTaking.{TakesEach, none as no_lines, more as more_lines, TakesLines}
+use Rattle.nb_member.specs.LineTaking.{TakesEach, none as no_lines, more as more_lines, StopsAt, EndsEarly, malformed, unread, no_memory, not_taken, TakesLines}
 use Rattle.nb_text.specs.Lines.{line_end}
-use Rattle.nb_text.specs.Shown.{AddsShown}
+use Rattle.nb_text.specs.SaysPacket.{AddsSaid}
 use Rattle.nbt.specs.declared.fault.Fault.{Fault}
-use Rattle.nbt.specs.declared.fault.Fault.TheVariants.{Read, Write}
-use Rattle.nbt.specs.Code.PrintedLines.{PrintsOn, IsUnprinted, ended}
-use Rattle.nbt.specs.Showing.{ShowsValue, packet, tick, ShowsCapture, ShowsLines, none, more, Prints, Shows, TellsLine}
+use Rattle.nbt.specs.declared.fault.Fault.TheVariants.{Read, Write, Memory}
+use Rattle.nbt.specs.Code.PrintedLines.{PrintsOn, IsUnprinted}
+use Rattle.nbt.specs.Reported.{of_replay}
+use Rattle.nbt.specs.Showing.{IsBrief, PayloadText, ShowsValue, packet, tick, ShowsCapture, ShowsLines, none, more, Prints, Shows, TellsLine}
 
 -- ---- the text of a line
 
 -- a payload's text is added after the line's number and its port
-pub adds_packet : (n port moment : ℕ) (payload old mid new : List ℕ) (value : capture.Line) → value ≡ Packet port moment payload
-    → mid ≡ old ++ (decimal n ++ (codes " " ++ (decimal port ++ codes " "))) → AddsShown payload port mid new
-    → (shown : List ℕ) × ShowsValue n value shown × (new ≡ old ++ shown)
-adds_packet n port moment payload old mid new value is front a =
-    let text = decimal n ++ (codes " " ++ (decimal port ++ (codes " " ++ a.text))) in
+pub adds_packet : (IsText : PayloadText) (n port moment : ℕ) (payload old mid new : List ℕ) (value : capture.Line) → value ≡ Packet port moment payload
+    → mid ≡ old ++ (decimal n ++ (codes " " ++ (decimal port ++ codes " "))) → ((shown : List ℕ) × IsText payload port shown × (new ≡ mid ++ shown))
+    → (shown : List ℕ) × ShowsValue IsText n value shown × (new ≡ old ++ shown)
+adds_packet IsText n port moment payload old mid new value is front a =
+    let text = decimal n ++ (codes " " ++ (decimal port ++ (codes " " ++ a.0))) in
     let behind = codes " " ++ (decimal port ++ codes " ") in (
       text,
-      subst (λ (v : capture.Line). ShowsValue n v text) (sym is) (packet port moment payload a.text a.shown),
-      a.added ∙ ap (λ (t : List ℕ). t ++ a.text) front ∙ append_assoc old (decimal n ++ behind) a.text
+      subst (λ (v : capture.Line). ShowsValue IsText n v text) (sym is) (packet port moment payload a.0 a.1),
+      a.2 ∙ ap (λ (t : List ℕ). t ++ a.0) front ∙ append_assoc old (decimal n ++ behind) a.0
           ∙ ap (λ (t : List ℕ). old ++ t)
-          (append_assoc (decimal n) behind a.text
-          ∙ ap (λ (t : List ℕ). decimal n ++ (codes " " ++ t)) (append_assoc (decimal port) (codes " ") a.text)),
+          (append_assoc (decimal n) behind a.0
+          ∙ ap (λ (t : List ℕ). decimal n ++ (codes " " ++ t)) (append_assoc (decimal port) (codes " ") a.0)),
     )
 
 -- a look at the clock is a line
-pub adds_tick : (n now : ℕ) (old new : List ℕ) (value : capture.Line) → value ≡ Tick now
+pub adds_tick : (IsText : PayloadText) (n now : ℕ) (old new : List ℕ) (value : capture.Line) → value ≡ Tick now
     → new ≡ old ++ (decimal n ++ (codes " tick " ++ (decimal now ++ line_end)))
-    → (shown : List ℕ) × ShowsValue n value shown × (new ≡ old ++ shown)
-adds_tick n now old new value is added =
+    → (shown : List ℕ) × ShowsValue IsText n value shown × (new ≡ old ++ shown)
+adds_tick IsText n now old new value is added =
     let text = decimal n ++ (codes " tick " ++ (decimal now ++ line_end)) in
-    (text, subst (λ (v : capture.Line). ShowsValue n v text) (sym is) (tick now), added)
+    (text, subst (λ (v : capture.Line). ShowsValue IsText n v text) (sym is) (tick now), added)
 
--- ---- lines in a row
+-- a phrase, and the end of the line
+pub adds_phrase : (payload : List ℕ) (port : ℕ) (old mid new : List ℕ) → AddsSaid payload port old mid → new ≡ mid ++ line_end
+    → (shown : List ℕ) × IsBrief payload port shown × (new ≡ old ++ shown)
+adds_phrase payload port old mid new a ended = (
+  a.text ++ line_end,
+  record { phrase = a.text; said = a.phrase; is = refl },
+  ended ∙ ap (λ (t : List ℕ). t ++ line_end) a.added ∙ append_assoc old a.text line_end,
+)
+
+-- ---- a line
 
 -- when a text is that of a line
 abbrev pub TextOf : Type 0 → Type 1
 TextOf S = ℕ → List ℕ → Option capture.Line → S → S → List ℕ → Type 0
+
+-- a text that isn't printed whole
+pub unprinted : {W S : Type 0} (C : W → Option (List ℕ)) (IsText : TextOf S) (n : ℕ) (l : List ℕ) (said : Option capture.Line) (old new : CountedOf W × S) (text : List ℕ) (r : Result (Unit {0}) Fault)
+    → IsText n l said old.1 new.1 text → IfErr r (λ fault. fault ≡ Write) → OnErr r (AppendsFront (C old.0.inner) (C new.0.inner) text)
+    → OnErr r (ShowsWriteFault old.0.counts new.0.counts) → IfErr r (IsUnprinted C IsText n l said old new)
+unprinted C IsText n l said old new text (Ok done) tells is front why = tt
+unprinted C IsText n l said old new text (Err fault) tells is front why =
+    subst (λ (f : Fault). IsUnprinted C IsText n l said old new f) (sym is) (text, tells, front, why)
+
+-- ---- lines in a row
 
 -- the texts of these lines are printed
 prints_each : {W S : Type 0} (C : W → Option (List ℕ)) (IsText : TextOf S) (n : ℕ) (ls : List (List ℕ)) (old new : CountedOf W × S) → TakesEach (PrintsOn C IsText) n ls old new
@@ -76,15 +92,23 @@ prints_lines C IsText ls old new each =
 
 -- ---- what the program answers
 
-shows_lines : {W S : Type 0} (C : W → Option (List ℕ)) (IsText : TextOf S) (most : ℕ) (bytes : List ℕ) (left : Option (List ℕ)) (old new : CountedOf W × S)
-    (answer : Result ℕ (LinesFault ReportFault)) → TakesLines (PrintsOn C IsText) (IsUnprinted C IsText) most bytes left old new answer
-    → Shows (TellsLine IsText) most bytes left old.1 (C old.0.inner) (C new.0.inner) (ended answer)
+-- PrintsBytes C IsText most bytes left counts later old new taken: what is said of the lines of these bytes
+abbrev pub PrintsBytes : {W S : Type 0} → (W → Option (List ℕ)) → TextOf S → ℕ → List ℕ → Option (List ℕ) → Counts → Counts → CountedOf W × S → CountedOf W × S
+    → Result ℕ Fault → Type 0
+PrintsBytes C IsText most bytes left counts later old new taken =
+    TakesLines (PrintsOn C IsText) (IsUnprinted C IsText) (λ why f. f ≡ of_replay why) most bytes left counts later old new taken
+
+-- what is answered where the lines were taken so
+abbrev pub done_of : Result ℕ Fault → Result Unit Fault
+done_of (Ok n) = Ok tt
+done_of (Err fault) = Err fault
+
+-- a line isn't printed whole
+shows_part : {W S : Type 0} (C : W → Option (List ℕ)) (IsText : TextOf S) (most : ℕ) (bytes : List ℕ) (left : Option (List ℕ)) (old new : CountedOf W × S) (fault : Fault)
+    → StopsAt (PrintsOn C IsText) (IsUnprinted C IsText) most bytes left old new fault
+    → Shows (TellsLine IsText) most bytes left old.1 (C old.0.inner) (C new.0.inner) (Err fault)
 unfolding prints_lines
-shows_lines C IsText most bytes left old new (Ok n) t = (t.0, t.1, t.2, t.3, prints_lines C IsText _ old new t.5)
-shows_lines C IsText most bytes left old new (Err (lines.Line n)) t = (t.0, t.1, t.2, prints_lines C IsText _ old new t.3)
-shows_lines C IsText most bytes left old new (Err lines.Read) t = (t.0, t.1, t.2, t.3, prints_lines C IsText _ old new t.4)
-shows_lines C IsText most bytes left old new (Err lines.NoMemory) t = (t.0, t.1, t.2, prints_lines C IsText _ old new t.3)
-shows_lines C IsText most bytes left old new (Err (lines.NotTaken unwritten.Write)) t =
+shows_part C IsText most bytes left old new Write t =
     let p = prints_lines C IsText t.done old t.between t.taken in
     let u = t.fails in
     let front = take u.2.0 u.0 in record {
@@ -102,7 +126,7 @@ shows_lines C IsText most bytes left old new (Err (lines.NotTaken unwritten.Writ
           (record { said = t.said; reads = t.reads; tells = u.1 });
       printed = Appends-more (C old.0.inner) (C t.between.0.inner) (C new.0.inner) p.text front p.printed u.2.2;
     }
-shows_lines C IsText most bytes left old new (Err (lines.NotTaken unwritten.NoMemory)) t =
+shows_part C IsText most bytes left old new Memory t =
     let p = prints_lines C IsText t.done old t.between t.taken in (
       t.done,
       t.line ∷ t.more_lines,
@@ -114,57 +138,63 @@ shows_lines C IsText most bytes left old new (Err (lines.NotTaken unwritten.NoMe
         printed = Appends-kept (C old.0.inner) (C t.between.0.inner) (C new.0.inner) p.text p.printed t.fails;
       },
     )
+shows_part C IsText most bytes left old new _ t = absurd t.fails
 
-unread_so : (answer : Result ℕ (LinesFault ReportFault)) → ended answer ≡ Err Read → answer ≡ Err lines.Read
-unread_so (Ok n) is = absurd (cc is)
-unread_so (Err (lines.Line n)) is = absurd (cc is)
-unread_so (Err lines.Read) is = refl
-unread_so (Err lines.NoMemory) is = absurd (cc is)
-unread_so (Err (lines.NotTaken unwritten.Write)) is = absurd (cc is)
-unread_so (Err (lines.NotTaken unwritten.NoMemory)) is = absurd (cc is)
+shows_early : {W S : Type 0} (C : W → Option (List ℕ)) (IsText : TextOf S) (most : ℕ) (bytes : List ℕ) (left : Option (List ℕ)) (counts later : Counts) (old new : CountedOf W × S) (fault : Fault)
+    → PrintsBytes C IsText most bytes left counts later old new (Err fault)
+    → Shows (TellsLine IsText) most bytes left old.1 (C old.0.inner) (C new.0.inner) (Err fault)
+shows_early C IsText most bytes left counts later old new fault (malformed lines comes each is) = rw is (lines, comes, refl, prints_lines C IsText _ old new each)
+shows_early C IsText most bytes left counts later old new fault (unread lines rest cut within each shows is) =
+    rw is (lines, rest, cut, within, prints_lines C IsText _ old new each)
+shows_early C IsText most bytes left counts later old new fault (no_memory lines later_lines are each is) =
+    rw is (lines, later_lines, are, prints_lines C IsText _ old new each)
+shows_early C IsText most bytes left counts later old new fault (not_taken t) = shows_part C IsText most bytes left old new fault t
 
--- PrintsBytes C IsText most first left counts later old new taken: what is said of the bytes that were read, and of their lines
-abbrev pub PrintsBytes : {W S : Type 0} → (W → Option (List ℕ)) → TextOf S → ℕ → Option (List ℕ) → Option (List ℕ) → Counts → Counts → CountedOf W × S → CountedOf W × S
-    → Result ℕ (LinesFault ReportFault) → Type 0
-PrintsBytes C IsText most first left counts later old new taken =
-    (bytes : List ℕ) × Consumes first left bytes × ((taken ≡ Err lines.Read → ShowsUnread most bytes counts later)
-    × TakesLines (PrintsOn C IsText) (IsUnprinted C IsText) most bytes left old new taken)
+shows_lines : {W S : Type 0} (C : W → Option (List ℕ)) (IsText : TextOf S) (most : ℕ) (bytes : List ℕ) (left : Option (List ℕ)) (counts later : Counts) (old new : CountedOf W × S)
+    (taken : Result ℕ Fault) → PrintsBytes C IsText most bytes left counts later old new taken
+    → Shows (TellsLine IsText) most bytes left old.1 (C old.0.inner) (C new.0.inner) (done_of taken)
+shows_lines C IsText most bytes left counts later old new (Ok n) t = (t.0, t.1, t.2, t.3, prints_lines C IsText _ old new t.5)
+shows_lines C IsText most bytes left counts later old new (Err fault) t = shows_early C IsText most bytes left counts later old new fault t
+
+-- the input is at fault only where its calls show it, or it is too long
+unread_so : {W S : Type 0} (C : W → Option (List ℕ)) (IsText : TextOf S) (most : ℕ) (bytes : List ℕ) (left : Option (List ℕ)) (counts later : Counts) (old new : CountedOf W × S) (fault : Fault)
+    → PrintsBytes C IsText most bytes left counts later old new (Err fault) → fault ≡ Read → ShowsUnread most bytes counts later
+unread_so C IsText most bytes left counts later old new fault (malformed lines comes each is) read = absurd (cc (is, read))
+unread_so C IsText most bytes left counts later old new fault (unread lines rest cut within each shows is) read = shows
+unread_so C IsText most bytes left counts later old new fault (no_memory lines later_lines are each is) read = absurd (cc (is, read))
+unread_so C IsText most bytes left counts later old new fault (not_taken t) read =
+    absurd (let u = subst (λ (f : Fault). IsUnprinted C IsText (length t.done + 1) t.line t.said t.between new f) read t.fails in u)
+
+cut_so : {W S : Type 0} (C : W → Option (List ℕ)) (IsText : TextOf S) (most : ℕ) (bytes : List ℕ) (left : Option (List ℕ)) (counts later : Counts) (old new : CountedOf W × S)
+    (taken : Result ℕ Fault) → PrintsBytes C IsText most bytes left counts later old new taken → done_of taken ≡ Err Read → ShowsUnread most bytes counts later
+cut_so C IsText most bytes left counts later old new (Ok n) t is = absurd (cc is)
+cut_so C IsText most bytes left counts later old new (Err fault) t is = unread_so C IsText most bytes left counts later old new fault t (cc is)
 
 -- the output is what the lines left
 pub shows_input : {W S : Type 0} (C : W → Option (List ℕ)) (IsText : TextOf S) (most : ℕ) (first left : Option (List ℕ)) (counts later : Counts) (old new : CountedOf W × S) (begun : S) (w : W)
-    (taken : Result ℕ (LinesFault ReportFault)) (result : Result Unit Fault) → PrintsBytes C IsText most first left counts later old new taken → begun ≡ old.1 → w ≡ new.0.inner → result ≡ ended taken
-    → (bytes : List ℕ) × Consumes first left bytes × ((result ≡ Err Read → ShowsUnread most bytes counts later)
-    × Shows (TellsLine IsText) most bytes left begun (C old.0.inner) (C w) result)
-shows_input {W} {S} C IsText most first left counts later old new begun w taken result t begins left_output is = (
+    (taken : Result ℕ Fault) → (bytes : List ℕ) × Consumes first left bytes × PrintsBytes C IsText most bytes left counts later old new taken → begun ≡ old.1 → w ≡ new.0.inner
+    → (bytes : List ℕ) × Consumes first left bytes × ((done_of taken ≡ Err Read → ShowsUnread most bytes counts later)
+    × Shows (TellsLine IsText) most bytes left begun (C old.0.inner) (C w) (done_of taken))
+shows_input {W} {S} C IsText most first left counts later old new begun w taken t begins left_output = (
   t.0,
   t.1,
   (
-    (λ read. t.2.0 (unread_so taken (sym is ∙ read))),
-    subst (λ (r : Result Unit Fault). Shows (TellsLine IsText) most t.0 left begun (C old.0.inner) (C w) r) (sym is)
-        (subst (λ (x : W). Shows (TellsLine IsText) most t.0 left begun (C old.0.inner) (C x) (ended taken)) (sym left_output)
-        (subst (λ (s : S). Shows (TellsLine IsText) most t.0 left s (C old.0.inner) (C new.0.inner) (ended taken)) (sym begins)
-        (shows_lines C IsText most t.0 left old new taken t.2.1))),
+    cut_so C IsText most t.0 left counts later old new taken t.2,
+    subst (λ (x : W). Shows (TellsLine IsText) most t.0 left begun (C old.0.inner) (C x) (done_of taken)) (sym left_output)
+        (subst (λ (s : S). Shows (TellsLine IsText) most t.0 left s (C old.0.inner) (C new.0.inner) (done_of taken)) (sym begins)
+        (shows_lines C IsText most t.0 left counts later old new taken t.2)),
   ),
 )
 
 -- a write is at fault only where the calls of the output show it
-fails_so : {W S : Type 0} (C : W → Option (List ℕ)) (IsText : TextOf S) (most : ℕ) (bytes : List ℕ) (left : Option (List ℕ)) (old new : CountedOf W × S)
-    (answer : Result ℕ (LinesFault ReportFault)) → TakesLines (PrintsOn C IsText) (IsUnprinted C IsText) most bytes left old new answer
-    → IfErr (ended answer) (λ fault. fault ≡ Write → ShowsWriteFault old.0.counts new.0.counts)
-fails_so C IsText most bytes left old new (Ok n) t = tt
-fails_so C IsText most bytes left old new (Err (lines.Line n)) t = λ write. absurd (cc write)
-fails_so C IsText most bytes left old new (Err lines.Read) t = λ write. absurd (cc write)
-fails_so C IsText most bytes left old new (Err lines.NoMemory) t = λ write. absurd (cc write)
-fails_so C IsText most bytes left old new (Err (lines.NotTaken unwritten.Write)) t =
-    λ write. fails_from old.0.counts t.between.0.counts new.0.counts (calls_each C IsText 1 t.done old t.between t.taken) t.fails.3
-fails_so C IsText most bytes left old new (Err (lines.NotTaken unwritten.NoMemory)) t = λ write. absurd (cc write)
-
-pub shows_why : {W S : Type 0} (C : W → Option (List ℕ)) (IsText : TextOf S) (most : ℕ) (first left : Option (List ℕ)) (counts later : Counts) (old new : CountedOf W × S)
-    (taken : Result ℕ (LinesFault ReportFault)) (result : Result Unit Fault) → PrintsBytes C IsText most first left counts later old new taken → result ≡ ended taken
-    → IfErr result (λ fault. fault ≡ Write → ShowsWriteFault old.0.counts new.0.counts)
-shows_why C IsText most first left counts later old new taken result t is =
-    subst (λ (r : Result Unit Fault). IfErr r (λ fault. fault ≡ Write → ShowsWriteFault old.0.counts new.0.counts)) (sym is)
-    (fails_so C IsText most t.0 left old new taken t.2.1)
+pub shows_why : {W S : Type 0} (C : W → Option (List ℕ)) (IsText : TextOf S) (most : ℕ) (bytes : List ℕ) (left : Option (List ℕ)) (counts later : Counts) (old new : CountedOf W × S) (fault : Fault)
+    → PrintsBytes C IsText most bytes left counts later old new (Err fault) → fault ≡ Write → ShowsWriteFault old.0.counts new.0.counts
+shows_why C IsText most bytes left counts later old new fault (malformed lines comes each is) write = absurd (cc (is, write))
+shows_why C IsText most bytes left counts later old new fault (unread lines rest cut within each shows is) write = absurd (cc (is, write))
+shows_why C IsText most bytes left counts later old new fault (no_memory lines later_lines are each is) write = absurd (cc (is, write))
+shows_why C IsText most bytes left counts later old new fault (not_taken t) write =
+    let u = subst (λ (f : Fault). IsUnprinted C IsText (length t.done + 1) t.line t.said t.between new f) write t.fails in
+    fails_from old.0.counts t.between.0.counts new.0.counts (calls_each C IsText 1 t.done old t.between t.taken) u.3
 
 -- the options that ask for it
 pub shows_capture : {S : Type 0} (AreAsked : CaptureOptions → Type 0) (IsText : CaptureOptions → ℕ → List ℕ → S → S → List ℕ → Type 0) (first : S) (options : CaptureOptions) (old_in new_in : Option (List ℕ)) (reads after : Counts)

@@ -4,10 +4,6 @@ use Rattle.clap.specs.Words.{first_value, found_of, matched_of, one_text, raw_va
 use Rattle.clap.specs.declared.parser.matches.ArgMatches.{ArgMatches}
 use Rattle.nb_building.specs.Building.{AreLinesOf}
 use Rattle.nb_building.specs.TooMuchData.{GiveTooMuch}
-use Rattle.nb_building.specs.declared.build_fault.BuildFault.{BuildFault}
-use Rattle.nb_building.specs.declared.build_fault.BuildFault.TheVariants as built
-use Rattle.nbt.specs.declared.fault.Fault.{Fault}
-use Rattle.nbt.specs.declared.fault.Fault.TheVariants.{Text, Arguments, TooLong, ZeroPiece, Memory}
 
 -- IsBroadcast matches broadcast: the matches hold this for `--broadcast`
 abbrev pub IsBroadcast : ArgMatches → Bool → Type 0
@@ -42,11 +38,3 @@ pub record Builds (matches : ArgMatches) (IsPrinted : List ℕ → Type 0) : Typ
   pub lines : List ℕ
   pub built : AreBuilt matches lines
   pub printed : IsPrinted lines
-
--- reported fault: what the program reports where words are refused so
-abbrev pub reported : BuildFault → Fault
-reported (built.Text fault) = Text fault
-reported built.Arguments = Arguments
-reported built.TooLong = TooLong
-reported built.ZeroPiece = ZeroPiece
-reported built.Memory = Memory

@@ -7,9 +7,12 @@ use Rattle.clap.specs.declared.parser.matches.ArgMatches.{ArgMatches}
 use Rattle.nb_names.specs.declared.limits.TheConstants.{MAX_INPUT}
 use Rattle.nb_names.specs.Counted.{Counts, CountedOf}
 use Rattle.nb_names.specs.Devices.{AppendsFront, ShowsWriteFault}
+use Rattle.nb_member.specs.declared.line.Line.{Line}
 use Rattle.nb_member.specs.Listing.{listing}
 use Rattle.nb_member.specs.Member.{MemberValue}
 use Rattle.nb_table.specs.Contents.{Contents}
+use Rattle.nb_telling.specs.Fields.{Field}
+use Rattle.nb_text.specs.Shown.{Shown}
 use Rattle.nbt.specs.declared.fault.Fault.{Fault}
 use Rattle.nbt.specs.declared.fault.Fault.TheVariants.{Arguments, Read, Write}
 use Rattle.nbt.specs.declared.settings.Capacity.{Capacity}
@@ -25,9 +28,9 @@ use Rattle.nbt.specs.Replaying.{AreTexts, Begins, IsReplay, IsUnbegun, ReplaysCa
 use Rattle.nbt.specs.SaveFaults.{SaveFails}
 use Rattle.nbt.specs.Saved.{saved_line}
 use Rattle.nbt.specs.Saving.{SavesCapture}
-use Rattle.nbt.specs.Settings.{AreOptions, AsksJson, AsksText, IsCapacity, IsInputLimit, IsListed}
-use Rattle.nbt.specs.Objects.{ObjectSaid, OutcomeFields, PacketFields, listed_objects}
-use Rattle.nbt.specs.Showing.{ShowsCapture, ShowsLine, TellsLine}
+use Rattle.nbt.specs.Settings.{AreOptions, AsksBrief, AsksJson, AsksText, AsksWhole, IsCapacity, IsInputLimit, IsListed}
+use Rattle.nbt.specs.Objects.{BriefFields, ObjectSaid, OutcomeFields, PacketFields, listed_objects}
+use Rattle.nbt.specs.Showing.{IsBrief, PayloadText, ShowsCapture, ShowsLine, TellsLine}
 use Rattle.nbt.specs.Tables.{CompareFails, ComparesTables, FailsOn, PrintsJoin, Tells, TellsFront}
 
 -- ---- streams
@@ -63,10 +66,17 @@ WritesShow s result = IfErr result (λ fault. fault ≡ Write → ShowsWriteFaul
 
 -- ---- commands
 
+-- ShowsAs IsText AreFields first matches s result: the lines of the input were shown, payloads with these texts, or as objects
+-- with these fields, where this stands before the first
+pub record ShowsAs {S : Type 0} (IsText : PayloadText) (AreFields : Line → S → S → List Field → Type 0) (first : S) (matches : ArgMatches) (s : Streams) (result : Result Unit Fault) : Type 0 where
+  pub text : AsksText matches → ShowsCapture (AreOptions matches) (λ options. ShowsLine IsText options.comments) tt s.old_in s.new_in s.reads s.reads_after s.old_out s.new_out result
+  pub json : AsksJson matches → ShowsCapture (AreOptions matches) (λ options. TellsLine (ObjectSaid AreFields options.comments)) ([], first) s.old_in s.new_in s.reads s.reads_after s.old_out s.new_out result
+  pub why : WritesShow s result
+
 -- `nbt show`
 pub record ShowCommand (matches : ArgMatches) (s : Streams) (result : Result Unit Fault) : Type 0 where
-  pub text : AsksText matches → ShowsCapture (AreOptions matches) (λ options. ShowsLine options.comments) tt s.old_in s.new_in s.reads s.reads_after s.old_out s.new_out result
-  pub json : AsksJson matches → ShowsCapture (AreOptions matches) (λ options. TellsLine (ObjectSaid PacketFields options.comments)) ([], tt) s.old_in s.new_in s.reads s.reads_after s.old_out s.new_out result
+  pub whole : AsksWhole matches → ShowsAs Shown PacketFields tt matches s result
+  pub brief : AsksBrief matches → ShowsAs IsBrief BriefFields tt matches s result
   pub why : WritesShow s result
 
 -- why a replay doesn't begin: nothing is read or printed then

@@ -5,8 +5,8 @@ use Rattle.std.specs.Option.{option_eq}
 use Rattle.std.specs.FinMap as maps
 use Rattle.nb_datagram.specs.declared.key.Key.{Key}
 use Rattle.nb_table.specs.Contents.{Contents}
-use Rattle.nb_table.specs.Entry.{EntryValue}
-use Rattle.nb_table.specs.Equal.{same_entry}
+use Rattle.nb_entries.specs.Entry.{EntryValue}
+use Rattle.nb_entries.specs.Equal.{same_entry}
 use Rattle.nb_table.specs.Join.{join}
 use Rattle.nb_member.specs.Listing.{key_line}
 use Rattle.nbt.specs.Printing.{line}

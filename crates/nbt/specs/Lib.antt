@@ -1,6 +1,7 @@
 pub mod Printing
 pub mod Status
 pub mod FaultTexts
+pub mod Reported
 pub mod ClapAnswer
 pub mod NameCommand
 pub mod Input

@@ -10,6 +10,7 @@ use Rattle.nb_telling.specs.Members.{AreMembers, IsJson}
 use Rattle.nb_telling.specs.Tokens.{object_of}
 use Rattle.nb_text.specs.Keys.{kind_key}
 use Rattle.nb_text.specs.Lines.{line_end}
+use Rattle.nb_text.specs.SaysPacket.{IsSaid}
 use Rattle.nb_text.specs.Tells.{Tells}
 use Rattle.nb_member.specs.declared.comments.Comments.{Comments}
 use Rattle.nb_member.specs.declared.comments.Comments.TheVariants.{LeftOut, Printed}
@@ -72,6 +73,16 @@ pub data PacketFields : capture.Line → Unit {0} → Unit {0} → List Field �
   packet : (port moment : ℕ) (payload : List ℕ) (s t : Unit {0}) (fields : List Field) → Tells payload port fields
       → PacketFields (Packet port moment payload) s t fields
   tick : (now : ℕ) (s t : Unit {0}) → PacketFields (Tick now) s t (Text kind_key (codes "tick") ∷ [])
+
+-- the phrase of a payload
+abbrev pub brief_key : FieldKey
+brief_key = bare_key (codes "brief")
+
+-- the fields that `show` tells with the phrase of a payload before them
+pub data BriefFields : capture.Line → Unit {0} → Unit {0} → List Field → Type 0 where
+  phrased : (port moment : ℕ) (payload phrase : List ℕ) (s t : Unit {0}) (fields : List Field) → IsSaid payload port phrase → Tells payload port fields
+      → BriefFields (Packet port moment payload) s t (Text brief_key phrase ∷ fields)
+  ticked : (now : ℕ) (s t : Unit {0}) → BriefFields (Tick now) s t (Text kind_key (codes "tick") ∷ [])
 
 -- the fields that `replay` tells, by what its member m makes of the line; it becomes new. That memory ran out in it isn't told
 pub data OutcomeFields : capture.Line → MemberValue → MemberValue → List Field → Type 0 where

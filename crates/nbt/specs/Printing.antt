@@ -1,5 +1,5 @@
 -- What the program prints for names, and why it refuses them (our choice). A line ends with a line feed, 10.
-use Rattle.std.specs.Prelude.{◌≡◌, ◌≢◌, ◌⊎◌, ◌<◌, ℕ, List, [], ◌∷◌, ◌++◌, length, Option, Result, Ok, Err}
+use Rattle.std.specs.Prelude.{◌≡◌, ◌≢◌, ◌<◌, ℕ, List, [], ◌∷◌, ◌++◌, length, Option, Result, Ok, Err}
 use Rattle.std.specs.Io.KnownBytes.{Appends, Keeps}
 use Rattle.nb_names.specs.declared.pointers.Pointers.TheVariants.{Refused}
 use Rattle.nb_names.specs.Devices.{AppendsFront}
@@ -82,10 +82,6 @@ Leaves IsText old new _ = Keeps old new
 -- the fault isn't one of writing
 abbrev pub IsNoWrite : Fault → Type 0
 IsNoWrite fault = fault ≢ Write
-
--- why digits give no bytes
-abbrev pub IsDecodeFault : List ℕ → Fault → Type 0
-IsDecodeFault digits fault = ((fault ≡ BadHex) × IsNoHex digits) ⊎ (fault ≡ Memory)
 
 -- PrintsSpelling text old new: the spelling of the text's name is printed as a line
 abbrev pub PrintsSpelling : List ℕ → Option (List ℕ) → Option (List ℕ) → Type 0

@@ -7,15 +7,14 @@ use Rattle.nb_datagram.specs.declared.key.Key.{Key}
 use Rattle.nb_table.specs.declared.fault.TableFault.TheVariants as tables
 use Rattle.nb_member.specs.declared.line.Line.{Line}
 use Rattle.nb_member.specs.declared.line.Line.TheVariants.{Packet as PacketLine}
-use Rattle.nb_member.specs.declared.lines_fault.LinesFault.{LinesFault}
-use Rattle.nb_member.specs.declared.lines_fault.LinesFault.TheVariants as lines
 use Rattle.nb_member.specs.declared.member_fault.MemberFault.TheVariants.{Table}
-use Rattle.nb_member.specs.LineTaking.{TakesLines}
+use Rattle.nb_member.specs.LineTaking.{EndsEarly}
 use Rattle.nb_member.specs.Member.{MemberValue}
 use Rattle.nb_member.specs.Taking.{Takes}
 use Rattle.nbt.specs.declared.settings.Capacity.{Capacity}
 use Rattle.nbt.specs.declared.fault.Fault.{Fault}
-use Rattle.nbt.specs.declared.fault.Fault.TheVariants.{Arguments, Line as LineFault, FullSource, Full, Read, Write, Memory}
+use Rattle.nbt.specs.declared.fault.Fault.TheVariants.{Arguments, FullSource, Full, Read, Write, Memory}
+use Rattle.nbt.specs.Reported.{of_replay}
 use Rattle.nbt.specs.Saving.{SavesLine, new_saver}
 use Rattle.nbt.specs.Settings.{HasNoCapacity}
 
@@ -36,23 +35,14 @@ SaidStops m _ fault = ⊥
 abbrev pub UnsavedLine : ℕ → List ℕ → Option Line → MemberValue → MemberValue → Fault → Type 0
 UnsavedLine n line said m new fault = SaidStops m said fault
 
--- what is answered where the lines weren't all taken
-abbrev pub saving_fault : LinesFault Fault → Fault
-saving_fault (lines.Line n) = LineFault n
-saving_fault lines.Read = Read
-saving_fault lines.NoMemory = Memory
-saving_fault (lines.NotTaken fault) = fault
-
 -- StopsSaving c most old_in new_in old new fault: these bytes were read of an input of so many bytes at most, and a member that
 -- may hold so much doesn't take the lines among them, for this reason
 pub record StopsSaving (c : Capacity) (most : ℕ) (old_in new_in : Option (List ℕ)) (old new : Counts) (fault : Fault) : Type 0 where
   pub bytes : List ℕ
   pub read : Consumes old_in new_in bytes
   pub cut : fault ≡ Read → ShowsUnread most bytes old new
-  pub why : LinesFault Fault
-  pub reported : fault ≡ saving_fault why
   pub left : MemberValue
-  pub stops : TakesLines SavesLine UnsavedLine most bytes new_in (new_saver c) left (Err why)
+  pub stops : EndsEarly SavesLine UnsavedLine (λ why f. f ≡ of_replay why) most bytes new_in old new (new_saver c) left fault
 
 -- SaveFails IsGiven IsMost old_in new_in old new fault: why nothing is saved: no capacity is given, the output failed, or for
 -- a line

@@ -55,6 +55,14 @@ AsksText matches = one_text (found_of matches) (codes "json") ≡ Some (codes "f
 abbrev pub AsksJson : ArgMatches → Type 0
 AsksJson matches = one_text (found_of matches) (codes "json") ≡ Some (codes "true")
 
+-- the matches hold that `--brief` isn't given
+abbrev pub AsksWhole : ArgMatches → Type 0
+AsksWhole matches = one_text (found_of matches) (codes "brief") ≡ Some (codes "false")
+
+-- the matches hold that `--brief` is given
+abbrev pub AsksBrief : ArgMatches → Type 0
+AsksBrief matches = one_text (found_of matches) (codes "brief") ≡ Some (codes "true")
+
 -- AreComments matches comments: comments are printed where the matches hold `true` for `--comments`, and left out where
 -- they hold `false` or nothing
 pub record AreComments (matches : ArgMatches) (comments : Comments) : Type 0 where

@@ -15,24 +15,28 @@ use Rattle.nb_member.specs.Capture.{Reads}
 use Rattle.nb_member.specs.Comments.{blank_text}
 use Rattle.nb_member.specs.Replaying.{AreLines, ComesMalformed, IsWhole, looked_at}
 use Rattle.nb_text.specs.Lines.{line_end}
-use Rattle.nb_text.specs.Shown.{Shown}
+use Rattle.nb_text.specs.SaysPacket.{IsSaid}
 use Rattle.nbt.specs.declared.fault.Fault.{Fault}
 use Rattle.nbt.specs.declared.fault.Fault.TheVariants.{Line, Read, Write, Memory}
 
 -- ---- the text of a line
 
--- ShowsValue n value text: the text of line n of a capture, which says this: its number, then the port and the payload's
--- text, or `tick` and the moment
-pub data ShowsValue (n : ℕ) : capture.Line → List ℕ → Type 0 where
-  packet : (port moment : ℕ) (payload text : List ℕ) → Shown payload port text
-      → ShowsValue n (Packet port moment payload) (decimal n ++ (codes " " ++ (decimal port ++ (codes " " ++ text))))
-  tick : (now : ℕ) → ShowsValue n (Tick now) (decimal n ++ (codes " tick " ++ (decimal now ++ line_end)))
+-- what IsText payload port text says: that this is the text of a payload that came to the port
+abbrev pub PayloadText : Type 1
+PayloadText = List ℕ → ℕ → List ℕ → Type 0
 
--- ShowsSaid comments n l said text: the text of l, which is line n and says this, or nothing: then its comment is printed,
--- or nothing
-abbrev pub ShowsSaid : Comments → ℕ → List ℕ → Option capture.Line → List ℕ → Type 0
-ShowsSaid comments n l None text = text ≡ blank_text comments l
-ShowsSaid comments n l (Some value) text = ShowsValue n value text
+-- ShowsValue IsText n value text: the text of line n of a capture, which says this: its number, then the port and the payload's
+-- text, or `tick` and the moment
+pub data ShowsValue (IsText : PayloadText) (n : ℕ) : capture.Line → List ℕ → Type 0 where
+  packet : (port moment : ℕ) (payload text : List ℕ) → IsText payload port text
+      → ShowsValue IsText n (Packet port moment payload) (decimal n ++ (codes " " ++ (decimal port ++ (codes " " ++ text))))
+  tick : (now : ℕ) → ShowsValue IsText n (Tick now) (decimal n ++ (codes " tick " ++ (decimal now ++ line_end)))
+
+-- ShowsSaid IsText comments n l said text: the text of l, which is line n and says this, or nothing: then its comment is
+-- printed, or nothing
+abbrev pub ShowsSaid : PayloadText → Comments → ℕ → List ℕ → Option capture.Line → List ℕ → Type 0
+ShowsSaid IsText comments n l None text = text ≡ blank_text comments l
+ShowsSaid IsText comments n l (Some value) text = ShowsValue IsText n value text
 
 -- TellsLine IsText n l s t text: the text of l, which is line n of a capture, where s is what the lines before it left, and t
 -- what it leaves; IsText n l said s t text says which text that is where the line says this, or nothing
@@ -42,12 +46,18 @@ pub record TellsLine {S : Type 0} (IsText : ℕ → List ℕ → Option capture.
   pub tells : IsText n l said s t text
 
 -- the same, whatever stands before it
-abbrev pub Said : Comments → ℕ → List ℕ → Option capture.Line → Unit {0} → Unit {0} → List ℕ → Type 0
-Said comments n l said s t text = ShowsSaid comments n l said text
+abbrev pub Said : PayloadText → Comments → ℕ → List ℕ → Option capture.Line → Unit {0} → Unit {0} → List ℕ → Type 0
+Said IsText comments n l said s t text = ShowsSaid IsText comments n l said text
 
 -- the text that is shown of a line
-abbrev pub ShowsLine : Comments → ℕ → List ℕ → Unit {0} → Unit {0} → List ℕ → Type 0
-ShowsLine comments = TellsLine (Said comments)
+abbrev pub ShowsLine : PayloadText → Comments → ℕ → List ℕ → Unit {0} → Unit {0} → List ℕ → Type 0
+ShowsLine IsText comments = TellsLine (Said IsText comments)
+
+-- IsBrief payload port text: the phrase of a payload as the rest of a line
+pub record IsBrief (payload : List ℕ) (port : ℕ) (text : List ℕ) : Type 0 where
+  pub phrase : List ℕ
+  pub said : IsSaid payload port phrase
+  pub is : text ≡ phrase ++ line_end
 
 -- ShowsLines IsText n ls s t text: texts of these lines, the first of which is line n, one after the other, from s on; they leave
 -- t. IsText n l s t text says which text line n has, where it is l

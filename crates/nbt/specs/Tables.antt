@@ -9,7 +9,7 @@ use Rattle.nb_names.specs.Hexadecimal.{HexText}
 use Rattle.nb_names.specs.Lines.{HasLines}
 use Rattle.nb_table.specs.declared.fault.TableFault.{TableFault}
 use Rattle.nb_table.specs.declared.fault.TableFault.TheVariants as tables
-use Rattle.nb_table.specs.declared.load_fault.LoadFault.TheVariants as loads
+use Rattle.nb_entries.specs.declared.load_fault.LoadFault.TheVariants as loads
 use Rattle.nb_table.specs.Contents.{Contents}
 use Rattle.nb_table.specs.Join.{join, joined_all, AreTaken}
 use Rattle.nb_table.specs.Limits.{KeepsLimits, Limits, TableValue}

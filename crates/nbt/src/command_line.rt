@@ -15,6 +15,9 @@ use std::alloc::{AllocError, Global};
 /// What the help says of `--comments`.
 const COMMENTS: &str = "Print the comments of the capture, each in its place";
 
+/// What the help says of `--brief`.
+const BRIEF: &str = "Print a phrase for each packet: who asks, claims, answers or sends what";
+
 /// What the help says of `--json`.
 const JSON: &str = "Print JSON: an object for each line, in a line of its own";
 
@@ -85,7 +88,7 @@ fn name_command<'a>(alloc: Global) -> Result<Command<'a>, AllocError>
     taking(taking(Ok(name), bytes), value)
 }
 
-/// `show [--input-limit BYTES] [--comments] [--json]`.
+/// `show [--input-limit BYTES] [--comments] [--brief] [--json]`.
 fn show_command<'a>(alloc: Global) -> Result<Command<'a>, AllocError>
     ensures app { IfOk result (λ command. app_of command ≡ show_app) }
     ensures local { IfOk result (λ command. (fields_of command).has_globals ≡ false) }
@@ -100,6 +103,7 @@ fn show_command<'a>(alloc: Global) -> Result<Command<'a>, AllocError>
         taking(Ok(show), input_limit(alloc)),
         flag(alloc, "comments", COMMENTS),
     );
+    let show = taking(show, flag(alloc, "brief", BRIEF));
     taking(show, flag(alloc, "json", JSON))
 }
 

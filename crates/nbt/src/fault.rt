@@ -4,7 +4,8 @@ ghost use Rattle.nbt.specs.FaultTexts.{status_of};
 
 use crate::status::Status;
 use nb_building::BuildFault;
-use nb_names::{NameFault, NoMemory, TextFault};
+use nb_member::ReplayFault;
+use nb_names::{DigitsFault, NameFault, NoMemory, TextFault};
 use nb_table::LoadFault;
 use std::alloc::{AllocError, AllocFailed};
 use std::fmt;
@@ -27,7 +28,7 @@ pub enum Fault {
     /// A datagram was to be cut into pieces of no bytes.
     ZeroPiece,
     /// A line of a capture is malformed. The number is the line's, the first being 1.
-    Line(usize),
+    Line(u64),
     /// A capture has fragments of more keys of one address at a time than are held, or tables have
     /// together.
     FullSource,
@@ -129,9 +130,9 @@ impl From<NameFault> for Fault {
 
 impl From<BuildFault> for Fault {
     ghost use Rattle.std.specs.Prelude.{◌≡◌};
-    ghost use Rattle.nbt.specs.Building.{reported};
+    ghost use Rattle.nbt.specs.Reported.{of_building};
 
-    ghost from_gives = { λ fault made. made ≡ reported fault };
+    ghost from_gives = { λ fault made. made ≡ of_building fault };
 
     fn from(fault: BuildFault) -> Fault {
         match fault {
@@ -140,6 +141,36 @@ impl From<BuildFault> for Fault {
             BuildFault::TooLong => Fault::TooLong,
             BuildFault::ZeroPiece => Fault::ZeroPiece,
             BuildFault::Memory => Fault::Memory,
+        }
+    }
+}
+
+impl From<DigitsFault> for Fault {
+    ghost use Rattle.std.specs.Prelude.{◌≡◌};
+    ghost use Rattle.nbt.specs.Reported.{of_digits};
+
+    ghost from_gives = { λ fault made. made ≡ of_digits fault };
+
+    fn from(fault: DigitsFault) -> Fault {
+        match fault {
+            DigitsFault::BadDigits => Fault::BadHex,
+            DigitsFault::NoMemory => Fault::Memory,
+        }
+    }
+}
+
+impl From<ReplayFault> for Fault {
+    ghost use Rattle.std.specs.Prelude.{◌≡◌};
+    ghost use Rattle.nbt.specs.Reported.{of_replay};
+
+    ghost from_gives = { λ fault made. made ≡ of_replay fault };
+
+    fn from(fault: ReplayFault) -> Fault {
+        match fault {
+            ReplayFault::Line(number) => Fault::Line(number),
+            ReplayFault::Read => Fault::Read,
+            ReplayFault::Write => Fault::Write,
+            ReplayFault::NoMemory => Fault::Memory,
         }
     }
 }

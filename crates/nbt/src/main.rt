@@ -12,6 +12,8 @@ mod help;
 mod joining_input;
 mod objects;
 mod output;
+mod payload_text;
+mod phrases;
 mod printing_lines;
 mod program;
 mod refusals;

@@ -12,7 +12,7 @@ use nb_names::NoMemory;
 use nb_telling::{FieldKey, JsonRoom, JsonSink, Sink};
 
 /// A key of an object that no text has.
-fn bare(name: &'static str) -> FieldKey
+pub fn bare(name: &'static str) -> FieldKey
     ensures { key_of result ≡ bare_key name.now }
 {
     FieldKey { name, lead: "" }

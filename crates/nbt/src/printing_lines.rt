@@ -2,39 +2,40 @@
 ghost use Rattle.std.specs.Prelude.{◌≡◌, ℕ, List, [], Err, IfErr};
 ghost use Rattle.std.specs.Io.KnownBytes.{Consumes};
 ghost use Rattle.nb_names.specs.Devices.{ShowsUnread, ShowsWriteFault};
-ghost use Rattle.nbt.specs.Code.PrintedLines.{ended};
 ghost use Rattle.nbt.specs.Objects.{ObjectSaid};
 ghost use Rattle.nbt.specs.Showing.{Shows, ShowsLine, TellsLine};
 
 use crate::commands::show::push_said;
 use crate::fault::Fault;
 use crate::objects::{blank_object, line_object};
+use crate::output::Output;
+use crate::payload_text::PayloadText;
 use crate::telling::LineFields;
-use nb_member::{CaptureOptions, Comments, Line, LineTaker, LinesFault, ReportFault, take_lines};
+use nb_member::{CaptureOptions, Comments, Line, LineTaker, take_lines};
 use nb_names::Counted;
-use nb_names::output::write_whole;
 use nb_telling::JsonRoom;
 use std::alloc::Global;
 use std::io::{Read, Write};
 use std::mem;
 
-/// What the lines of a capture are shown on, with these comments.
+/// What the lines of a capture are shown on, with these comments, payloads in this form.
 #[derive(Drop)]
-struct ShownLines<'a, W> {
+struct ShownLines<'a, 'b, W, P> {
     comments: Comments,
+    form: &'a mut P,
     /// The text of a line is made in this.
     text: &'a mut String,
-    output: &'a mut Counted<W>,
+    output: &'b mut Output<W>,
 }
 
-impl<'a, W: Write> LineTaker for ShownLines<'a, W> {
+impl<'a, 'b, W: Write, P: PayloadText> LineTaker for ShownLines<'a, 'b, W, P> {
     ghost use Rattle.std.specs.Prelude.{ℕ};
     ghost use Rattle.nb_names.specs.Counted.{CountedOf};
     ghost use Rattle.nb_member.specs.declared.comments.Comments.{Comments};
     ghost use Rattle.nbt.specs.Code.PrintedLines.{PrintsOn, IsUnprinted};
     ghost use Rattle.nbt.specs.Showing.{Said};
 
-    type Fault = ReportFault;
+    type Fault = Fault;
 
     ghost State = { CountedOf W × Unit {0} };
 
@@ -44,17 +45,14 @@ impl<'a, W: Write> LineTaker for ShownLines<'a, W> {
 
     ghost beside = { λ s. (s.comments, s.output.ghost_name) };
 
-    ghost takes = { λ kept. PrintsOn W.contents (Said kept.0) };
+    ghost takes = { λ kept. PrintsOn W.contents (Said P.is_text kept.0) };
 
-    ghost fails = { λ kept. IsUnprinted W.contents (Said kept.0) };
+    ghost fails = { λ kept. IsUnprinted W.contents (Said P.is_text kept.0) };
 
-    fn take(&mut self, number: u64, line: &[u8], said: &Option<Line>) -> Result<(), ReportFault> {
+    fn take(&mut self, number: u64, line: &[u8], said: &Option<Line>) -> Result<(), Fault> {
         self.text.clear();
-        push_said(number, line, said, self.comments, self.text)?;
-        match write_whole(self.output, self.text.as_bytes()) {
-            Ok(()) => Ok(()),
-            Err(_) => Err(ReportFault::Write),
-        }
+        push_said(number, line, said, self.comments, self.form, self.text)?;
+        self.output.print(self.text.as_bytes())
     }
 }
 
@@ -68,7 +66,7 @@ struct ToldLines<'a, 'b, W, T> {
     told: &'a mut T,
     /// The object of a line is made in this.
     room: &'a mut JsonRoom,
-    output: &'b mut Counted<W>,
+    output: &'b mut Output<W>,
 }
 
 impl<'a, 'b, W: Write, T: LineFields> LineTaker for ToldLines<'a, 'b, W, T> {
@@ -78,7 +76,7 @@ impl<'a, 'b, W: Write, T: LineFields> LineTaker for ToldLines<'a, 'b, W, T> {
     ghost use Rattle.nbt.specs.Code.PrintedLines.{PrintsOn, IsUnprinted};
     ghost use Rattle.nbt.specs.Objects.{ObjectSaid};
 
-    type Fault = ReportFault;
+    type Fault = Fault;
 
     ghost State = { CountedOf W × (List ℕ × T.State) };
 
@@ -92,7 +90,7 @@ impl<'a, 'b, W: Write, T: LineFields> LineTaker for ToldLines<'a, 'b, W, T> {
 
     ghost fails = { λ kept. IsUnprinted W.contents (ObjectSaid T.are_fields kept.0) };
 
-    fn take(&mut self, number: u64, line: &[u8], said: &Option<Line>) -> Result<(), ReportFault> {
+    fn take(&mut self, number: u64, line: &[u8], said: &Option<Line>) -> Result<(), Fault> {
         let room = mem::replace(self.room, JsonRoom::new(self.alloc));
         *self.room = match said {
             Some(said) => {
@@ -103,31 +101,31 @@ impl<'a, 'b, W: Write, T: LineFields> LineTaker for ToldLines<'a, 'b, W, T> {
             }
             None => blank_object(number, line, self.comments, self.comment, room)?,
         };
-        match write_whole(self.output, self.room.as_slice()) {
-            Ok(()) => Ok(()),
-            Err(_) => Err(ReportFault::Write),
-        }
+        self.output.print(self.room.as_slice())
     }
 }
 
-/// Shows the lines of an input of so many bytes at most, each as it comes, with these comments.
+/// Shows the lines of an input of so many bytes at most, each as it comes, with these comments,
+/// payloads in this form.
 ///
 /// # Errors
 ///
 /// The first that is met: [`Fault::Write`] where a line can't be written, [`Fault::Line`] for a
 /// malformed line, [`Fault::Read`] where the input couldn't be read to its end, [`Fault::Memory`]
 /// where memory ran out. What stands before it is printed.
-pub fn print_text<R: Read, W: Write>(
+pub fn print_text<R: Read, W: Write, P: PayloadText + Drop>(
     alloc: Global,
+    mut form: P,
     options: CaptureOptions,
     input: &mut Counted<R>,
-    output: &mut Counted<W>,
+    output: &mut Output<W>,
 ) -> Result<(), Fault>
     ensures printed { (bytes : List ℕ) ×
         Consumes (R.remaining input.old.inner) (R.remaining input.new.inner) bytes ×
         ((result ≡ Err Fault.Read →
         ShowsUnread options.most bytes input.old.counts input.new.counts) ×
-        Shows (ShowsLine options.comments) options.most bytes (R.remaining input.new.inner) tt
+        Shows (ShowsLine P.is_text options.comments) options.most bytes
+        (R.remaining input.new.inner) tt
         (W.contents output.old.inner) (W.contents output.new.inner) result) }
     ensures why { IfErr result (λ fault. fault ≡ Fault.Write →
         ShowsWriteFault output.old.counts output.new.counts) }
@@ -135,10 +133,12 @@ pub fn print_text<R: Read, W: Write>(
     let mut text = String::new(alloc);
     let mut shown = ShownLines {
         comments: options.comments,
+        form: &mut form,
         text: &mut text,
         output,
     };
-    ended_as(take_lines(alloc, options.most, input, &mut shown))
+    take_lines(alloc, options.most, input, &mut shown)?;
+    Ok(())
 }
 
 /// Prints an object for each line of an input that says something, as it comes, with what is told
@@ -152,7 +152,7 @@ pub fn print_objects<R: Read, W: Write, T: LineFields + Drop>(
     mut told: T,
     options: CaptureOptions,
     input: &mut Counted<R>,
-    output: &mut Counted<W>,
+    output: &mut Output<W>,
 ) -> Result<(), Fault>
     ensures printed { (bytes : List ℕ) ×
         Consumes (R.remaining input.old.inner) (R.remaining input.new.inner) bytes ×
@@ -174,19 +174,6 @@ pub fn print_objects<R: Read, W: Write, T: LineFields + Drop>(
         room: &mut room,
         output,
     };
-    ended_as(take_lines(alloc, options.most, input, &mut lines))
-}
-
-/// What the program answers where the taking of an input's lines ended so.
-fn ended_as(taken: Result<u64, LinesFault<ReportFault>>) -> Result<(), Fault>
-    ensures { result ≡ ended taken }
-{
-    match taken {
-        Ok(_) => Ok(()),
-        Err(LinesFault::Line(number)) => Err(Fault::Line(number as usize)),
-        Err(LinesFault::Read) => Err(Fault::Read),
-        Err(LinesFault::NoMemory) => Err(Fault::Memory),
-        Err(LinesFault::NotTaken(ReportFault::Write)) => Err(Fault::Write),
-        Err(LinesFault::NotTaken(ReportFault::NoMemory)) => Err(Fault::Memory),
-    }
+    take_lines(alloc, options.most, input, &mut lines)?;
+    Ok(())
 }

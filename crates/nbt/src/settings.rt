@@ -1,6 +1,6 @@
 //! What the program's members and tables are set up with.
 ghost use Rattle.std.specs.Prelude.{◌≡◌, Bool, true, false, IfOk, IfErr};
-ghost use Rattle.nbt.specs.Settings.{AreComments, AreOptions, AsksJson, AsksText, HasNoCapacity, IsCapacity, IsInputLimit, IsListed, program_settings};
+ghost use Rattle.nbt.specs.Settings.{AreComments, AreOptions, AsksBrief, AsksJson, AsksText, AsksWhole, HasNoCapacity, IsCapacity, IsInputLimit, IsListed, program_settings};
 
 use crate::fault::Fault;
 use clap::ArgMatches;
@@ -63,6 +63,14 @@ pub fn is_json(matches: &ArgMatches<'_>) -> bool
     ensures json { AsksJson matches.now → result ≡ true }
 {
     matches.get_flag("json")
+}
+
+/// Whether `--brief` is given.
+pub fn is_brief(matches: &ArgMatches<'_>) -> bool
+    ensures whole { AsksWhole matches.now → result ≡ false }
+    ensures brief { AsksBrief matches.now → result ≡ true }
+{
+    matches.get_flag("brief")
 }
 
 /// Whether comments are printed: where `--comments` is given.

@@ -97,7 +97,7 @@ fn first_line(text: &[u8]) -> Option<(&[u8], &[u8])>
 }
 
 /// The table that line `number` is.
-fn table_of(alloc: Global, number: usize, line: &[u8], capacity: Capacity) -> Result<Table, Fault>
+fn table_of(alloc: Global, number: u64, line: &[u8], capacity: Capacity) -> Result<Table, Fault>
     ensures found { IfOk result (λ table. IsTableLine capacity line.now table) }
     ensures fault { IfErr result (IsTableFault capacity number line.now) }
     ensures no_read { IfErr result (λ fault. fault ≢ Fault.Read) }

@@ -7,7 +7,7 @@ use Rattle.nb_names.specs.Name.{NetbiosName}
 use Rattle.nb_datagram.specs.declared.key.Key.{Key}
 use Rattle.nb_datagram.specs.Fragment.{Core}
 use Rattle.nb_datagram.specs.Datagram.{DatagramParts}
-use Rattle.nb_table.specs.declared.slot.Slot.TheVariants.{Spoilt}
+use Rattle.nb_entries.specs.declared.slot.Slot.TheVariants.{Spoilt}
 use Rattle.nb_table.specs.Conflict.{IsSpoilt}
 use Rattle.nb_table.specs.Contents.{Contents, table_of}
 use Rattle.nb_table.specs.Whole.{IsWholeAt, datagram_at}

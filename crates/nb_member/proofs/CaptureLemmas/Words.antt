@@ -1,5 +1,5 @@
 -- The words of a line, and what stands between spaces.
-use Rattle.std.proofs.Common.{◌≡◌, ◌≢◌, ℕ, zero, suc, ◌+◌, ◌<◌, ◌==◌, Bool, true, false, not, List, [], ◌∷◌, ◌++◌, get_or, refl, sym, ap, ◌∙◌, arith, length, Err, Some, None, ◌⊎◌, inl, inr}
+use Rattle.std.proofs.Common.{◌≡◌, ◌≢◌, ℕ, zero, suc, ◌+◌, ◌<◌, ◌==◌, Bool, true, false, not, List, [], ◌∷◌, ◌++◌, get_or, refl, sym, ap, ◌∙◌, arith, Err, Some, None, ◌⊎◌, inl, inr}
 use Rattle.std.specs.Prelude.{IsTrue, Contains, codes, slice_get}
 use Rattle.std.specs.List.{IsAnyAnswer}
 use Rattle.std.specs.Char.{digit_value}
@@ -11,9 +11,11 @@ pub use Rattle.nb_names.specs.LineFacts.{one_split}
 use Rattle.nb_member.specs.declared.line.Line.{Line}
 use Rattle.nb_member.specs.declared.line.Line.TheVariants.{Packet, Tick}
 use Rattle.nb_member.specs.declared.line_fault.LineFault.{LineFault}
-use Rattle.nb_member.specs.declared.line_fault.LineFault.TheVariants.{BadLine, NoMemory}
+use Rattle.nb_member.specs.Code.LineTurns.{line_fault_of}
+use Rattle.nb_names.specs.declared.hexadecimal.DigitsFault.{DigitsFault}
+use Rattle.nb_names.specs.declared.hexadecimal.DigitsFault.TheVariants.{BadDigits, NoMemory}
 use Rattle.nb_member.specs.Capture.{PortText, names, datagrams, sessions, MomentText, HasWords, packet, tick, Blank, nothing, comment, ReadsBy, NeedsMemory, for_payload}
-use Rattle.nb_names.specs.Hexadecimal.{DataText}
+use Rattle.nb_names.specs.Hexadecimal.{DataText, ReadsData}
 
 -- ---- comments
 
@@ -203,14 +205,13 @@ pub packet_has_space : (port : ℕ) (words : List ℕ) (value : Line) → IsPack
 packet_has_space port words value h =
     rw h.words_are (Contains-append_right h.moment_text (32 ∷ h.payload_text) 32 (zero, omega arith, refl))
 
--- what is answered of the payload's word is answered of the line
-pub packet_err : (port moment : ℕ) (text words front behind : List ℕ) (e : LineFault) → PortText port text
-    → words ≡ front ++ 32 ∷ behind → ¬ Contains front 32 → MomentText moment front
-    → ReadsBy (λ payload. DataText payload behind) (λ payload. 0 < length payload) (Err e)
-    → ReadsBy (HasWords (text ++ 32 ∷ words)) NeedsMemory (Err e)
-packet_err port moment text words front behind BadLine p e no_space m none =
-    λ value says.
+-- where the payload's word is refused, so is the line
+pub payload_refused : (port moment : ℕ) (text words front behind : List ℕ) (refused : DigitsFault) (fault : LineFault) → fault ≡ line_fault_of refused
+    → PortText port text → words ≡ front ++ 32 ∷ behind → ¬ Contains front 32 → MomentText moment front → ReadsData behind (Err refused)
+    → ReadsBy (HasWords (text ++ 32 ∷ words)) NeedsMemory (Err fault)
+payload_refused port moment text words front behind BadDigits fault is p e no_space m none =
+    rw is (λ value says.
     let parts = packet_at_space port words front behind value (packet_behind port text words value p says) e no_space in
-    none parts.1 parts.3
-packet_err port moment text words front behind NoMemory p e no_space m some =
-    (Packet port moment some.0, rw e (packet port moment some.0 text front behind p m some.1), for_payload port moment some.0 some.2)
+    none parts.1 parts.3)
+payload_refused port moment text words front behind NoMemory fault is p e no_space m some =
+    rw (is, e) (Packet port moment some.0, packet port moment some.0 text front behind p m some.1, for_payload port moment some.0 some.2)

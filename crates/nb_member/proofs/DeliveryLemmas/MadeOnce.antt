@@ -10,10 +10,12 @@ use Rattle.nb_datagram.specs.declared.key.Key.{Key}
 use Rattle.nb_datagram.specs.Key.{same_key}
 use Rattle.nb_datagram.specs.KeyOrder.{same_key_decides}
 use Rattle.nb_datagram.specs.Datagram.{DatagramParts}
-use Rattle.nb_table.specs.declared.slot.Slot.TheVariants.{Spoilt}
-use Rattle.nb_table.specs.Entry.{EntryValue}
+use Rattle.nb_entries.specs.declared.slot.Slot.TheVariants.{Spoilt}
+use Rattle.nb_entries.specs.Entry.{EntryValue}
 use Rattle.nb_table.specs.Contents.{Contents}
-use Rattle.nb_table.specs.Whole.{datagram_of, datagram_at, newly, newly_whole}
+use Rattle.nb_entries.specs.Whole.{datagram_of, newly}
+use Rattle.nb_entries.specs.Shared.WholeLemmas.{newly_same}
+use Rattle.nb_table.specs.Whole.{datagram_at, newly_whole}
 use Rattle.nb_table.specs.Shared.FragmentLemmas.{get-table_of}
 use Rattle.nb_member.specs.declared.settings.Settings.{Settings}
 use Rattle.nb_member.proofs.DeliveryLemmas.WholeKeys.{DatagramsKnown, has_its_key, one_stays, all_stay, others_stay}
@@ -44,10 +46,6 @@ filters_swap p q [] = refl
 filters_swap p q (x ∷ xs) = both_tests x (p x) (q x) xs p q refl refl (filters_swap p q xs)
 
 -- ---- what is newly whole
-
-newly_same : (o : Option DatagramParts) → newly o o ≡ None
-newly_same None = refl
-newly_same (Some d) = refl
 
 newly_is : (o p : Option DatagramParts) (d : DatagramParts) → newly o p ≡ Some d → p ≡ Some d
 newly_is None p d h = h

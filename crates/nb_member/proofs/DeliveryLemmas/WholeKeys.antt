@@ -6,13 +6,14 @@ use Rattle.nb_datagram.specs.declared.key.Key.{Key}
 use Rattle.nb_datagram.specs.Key.{same_key}
 use Rattle.nb_datagram.specs.Fragment.{Core, core_of}
 use Rattle.nb_datagram.specs.Datagram.{DatagramParts}
-use Rattle.nb_table.specs.Maps.{first_of, joined_at}
-use Rattle.nb_table.specs.declared.slot.Slot.TheVariants.{Spoilt, Held}
-use Rattle.nb_table.specs.Entry.{EntryFacts, EntryValue, join_entry, facts_agree, facts_together, facts_of}
+use Rattle.nb_entries.specs.Maps.{first_of, joined_at}
+use Rattle.nb_entries.specs.declared.slot.Slot.TheVariants.{Spoilt, Held}
+use Rattle.nb_entries.specs.Entry.{EntryFacts, EntryValue, join_entry, facts_agree, facts_together, facts_of}
 use Rattle.nb_table.specs.Contents.{Contents, table_of}
-use Rattle.nb_table.specs.Whole.{IsDatagram, datagram_of, datagram_at}
+use Rattle.nb_entries.specs.Whole.{IsDatagram, datagram_of}
+use Rattle.nb_table.specs.Whole.{datagram_at}
 use Rattle.nb_table.specs.Join.{join}
-use Rattle.nb_table.specs.Shared.CoverLemmas.{in_union}
+use Rattle.nb_entries.specs.Shared.CoverLemmas.{in_union}
 use Rattle.nb_table.specs.Shared.TableLemmas.{get-join}
 use Rattle.nb_table.specs.Shared.FragmentLemmas.{get-table_of-one}
 use Rattle.nb_member.specs.declared.settings.Settings.{Settings}

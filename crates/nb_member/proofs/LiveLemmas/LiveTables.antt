@@ -8,8 +8,8 @@ use Rattle.nb_datagram.specs.declared.key.Key.{Key}
 use Rattle.nb_datagram.specs.Key.{same_key}
 use Rattle.nb_datagram.specs.Fragment.{FragmentParts, Core, core_of}
 use Rattle.nb_datagram.specs.KeyOrder.{same_key_decides}
-use Rattle.nb_table.specs.Maps.{joined_at}
-use Rattle.nb_table.specs.Entry.{EntryValue, join_entry}
+use Rattle.nb_entries.specs.Maps.{joined_at}
+use Rattle.nb_entries.specs.Entry.{EntryValue, join_entry}
 use Rattle.nb_table.specs.Contents.{Contents, entry_in, entry_at, table_of}
 use Rattle.nb_table.specs.ConflictTests.{keyed, with_key}
 use Rattle.nb_table.specs.Shared.TableLemmas.{get-join}

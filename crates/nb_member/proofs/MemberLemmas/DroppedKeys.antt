@@ -6,10 +6,10 @@ use Rattle.std.specs.FinMap.{is_sorted}
 use Rattle.nb_datagram.specs.declared.key.Key.{Key}
 use Rattle.nb_datagram.specs.Key.{key_cmp, same_key}
 use Rattle.nb_datagram.specs.KeyOrder.{key_cmp_total, key_cmp_exact}
-use Rattle.nb_table.specs.Entry.{EntryValue}
+use Rattle.nb_entries.specs.Entry.{EntryValue}
 use Rattle.nb_table.specs.Contents.{Contents}
 use Rattle.nb_table.specs.Limits.{TableValue}
-use Rattle.nb_table.specs.Shared.MapsLemmas.{one_key, below_none, T_left, T_right}
+use Rattle.nb_entries.specs.Shared.MapsLemmas.{one_key, below_none, T_left, T_right}
 use Rattle.nb_table.specs.Shared.TableLemmas.{same_table}
 use Rattle.std.proofs.lemmas.Bool.{false≢true}
 use Rattle.nb_member.proofs.LiveLemmas.KeyCounts.{fewer_keys}

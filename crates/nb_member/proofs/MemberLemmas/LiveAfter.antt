@@ -8,7 +8,7 @@ use Rattle.nb_datagram.specs.Key.{same_key}
 use Rattle.nb_datagram.specs.KeyOrder.{key_cmp_total, same_key_decides}
 use Rattle.nb_datagram.specs.Fragment.{FragmentParts, Core, core_of}
 use Rattle.nb_table.specs.ConflictTests.{keyed}
-use Rattle.nb_table.specs.Entry.{EntryValue}
+use Rattle.nb_entries.specs.Entry.{EntryValue}
 use Rattle.nb_table.specs.Contents.{Contents, table_of}
 use Rattle.nb_table.specs.Join.{join}
 use Rattle.nb_table.specs.KeyCounts.{held_keys, of_source}

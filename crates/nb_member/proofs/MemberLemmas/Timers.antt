@@ -6,9 +6,9 @@ use Rattle.nb_datagram.specs.declared.key.Key.{Key}
 use Rattle.nb_datagram.specs.Key.{key_cmp, same_key}
 use Rattle.nb_datagram.specs.KeyOrder.{key_cmp_total, same_key_decides}
 use Rattle.nb_datagram.specs.Fragment.{FragmentParts, Core, core_of}
-use Rattle.nb_table.specs.declared.slot.Slot.TheVariants.{Held}
-use Rattle.nb_table.specs.Maps.{joined_onto}
-use Rattle.nb_table.specs.Entry.{EntryValue, join_entry, facts_of}
+use Rattle.nb_entries.specs.declared.slot.Slot.TheVariants.{Held}
+use Rattle.nb_entries.specs.Maps.{joined_onto}
+use Rattle.nb_entries.specs.Entry.{EntryValue, join_entry, facts_of}
 use Rattle.nb_table.specs.Contents.{Contents, table_of}
 use Rattle.nb_table.specs.Join.{join}
 use Rattle.nb_table.specs.Limits.{TableValue, IsFull, IsFullSource}

@@ -7,15 +7,11 @@ use Rattle.nb_names.specs.Counted.{Counts}
 use Rattle.nb_names.specs.Devices.{ShowsUnread, ShowsWriteFault}
 use Rattle.nb_member.specs.declared.comments.Comments.{Comments}
 use Rattle.nb_member.specs.declared.event.Event.{Event}
-use Rattle.nb_member.specs.declared.lines_fault.LinesFault.{LinesFault}
-use Rattle.nb_member.specs.declared.lines_fault.LinesFault.TheVariants as lines
 use Rattle.nb_member.specs.declared.replay_fault.ReplayFault.{ReplayFault}
-use Rattle.nb_member.specs.declared.replay_fault.ReplayFault.TheVariants as replay
-use Rattle.nb_member.specs.declared.report_fault.ReportFault.{ReportFault}
-use Rattle.nb_member.specs.declared.report_fault.ReportFault.TheVariants.{Write, NoMemory}
-use Rattle.nb_member.specs.Code.ReplayLines.{ReplayState, ReplaysLine, FailsReport, HasNoWholeReport, replay_answer}
+use Rattle.nb_member.specs.declared.replay_fault.ReplayFault.TheVariants.{Line, Read, Write, NoMemory}
+use Rattle.nb_member.specs.Code.ReplayLines.{ReplayState, ReplaysLine, FailsReport, HasNoWholeReport}
 use Rattle.nb_member.specs.Code.Members.{KeepsStation}
-use Rattle.nb_member.specs.LineTaking.{TakesEach, TakesLines, StopsAt}
+use Rattle.nb_member.specs.LineTaking.{TakesEach, TakesLines, StopsAt, EndsEarly, malformed, unread, no_memory, not_taken}
 use Rattle.nb_member.specs.Live.{Timed, live_from, live}
 use Rattle.nb_member.specs.Member.{MemberValue, Stands}
 use Rattle.nb_member.specs.Replaying.{Replayed, Writes, Stops, Replays, AreLines}
@@ -85,7 +81,7 @@ stops_within comments most m H s came left before after done more l text front l
 -- the replay stopped at this line, whose report isn't written whole
 stops_at : (comments : Comments) (most : ℕ) (m : MemberValue) (H : List Event) (s : Stands m H) (came : List ℕ) (left before mid after : Option (List ℕ))
     (done more : List (List ℕ)) (l : List ℕ) (new newer : MemberValue) (t : Turn comments m (live m.settings s.sayings) before mid done new)
-    → KeepsStation m new → newer.settings ≡ m.settings → AreLines most came left (done ++ l ∷ more) → (fault : ReportFault)
+    → KeepsStation m new → newer.settings ≡ m.settings → AreLines most came left (done ++ l ∷ more) → (fault : ReplayFault)
     → HasNoWholeReport comments new (live_from m.settings (live m.settings s.sayings) t.so_far.sayings) (length done + 1) l newer mid after fault
     → Stops comments most m H (live m.settings s.sayings) came left newer before after
 stops_at comments most m H s came left before mid after done more l new newer t same still are Write p =
@@ -106,6 +102,7 @@ stops_at comments most m H s came left before mid after done more l new newer t 
           (with_line comments m (live m.settings s.sayings) done l t.text new newer t.so_far same (length done + 1) refl acted.0 acted.1)
           still (subst (λ (bs : List ℕ). Appends before after bs) (sym (append-nil t.text)) written) are
     ]
+stops_at comments most m H s came left before mid after done more l new newer t same still are _ p = absurd p
 
 -- these lines were replayed
 writes_all : {W : Type 0} (C : W → Option (List ℕ)) (comments : Comments) (ls : List (List ℕ)) (old new : ReplayState W) (H : List Event) (s : Stands old.member H)
@@ -116,7 +113,7 @@ writes_all C comments ls old new H s each =
     writes comments old.member H s (C old.writer.inner) (C new.writer.inner) ls t.text new.member t.so_far (all_kept C comments 1 ls old new each).kept.0 t.appends
 
 -- a line's report isn't written whole
-stopped : {W : Type 0} (C : W → Option (List ℕ)) (comments : Comments) (most : ℕ) (bytes : List ℕ) (left : Option (List ℕ)) (old new : ReplayState W) (fault : ReportFault)
+stopped : {W : Type 0} (C : W → Option (List ℕ)) (comments : Comments) (most : ℕ) (bytes : List ℕ) (left : Option (List ℕ)) (old new : ReplayState W) (fault : ReplayFault)
     → StopsAt (ReplaysLine C comments) (FailsReport C comments) most bytes left old new fault → (H : List Event) (s : Stands old.member H)
     → Stops comments most old.member H (live old.member.settings s.sayings) bytes left new.member (C old.writer.inner) (C new.writer.inner)
 stopped C comments most bytes left old new fault t H s =
@@ -127,94 +124,127 @@ stopped C comments most bytes left old new fault t H s =
     t.between.member new.member u kept (t.fails.kept.0 ∙ kept.0) t.are_lines fault
     (t.fails.unwritten t.reads (live_from old.member.settings L u.so_far.sayings) u.so_far.stands)
 
+-- a replay answers the fault of a line's report, and that of reading as it is
+abbrev pub Gives : ReplayFault → ReplayFault → Type 0
+Gives why fault = fault ≡ why
+
+-- ReplaysBytes C comments most bytes left counts later old new taken: what is said of the lines of these bytes
+abbrev pub ReplaysBytes : {W : Type 0} → (W → Option (List ℕ)) → Comments → ℕ → List ℕ → Option (List ℕ) → Counts → Counts → ReplayState W → ReplayState W
+    → Result ℕ ReplayFault → Type 0
+ReplaysBytes C comments most bytes left counts later old new taken =
+    TakesLines (ReplaysLine C comments) (FailsReport C comments) Gives most bytes left counts later old new taken
+
+-- the report of a line isn't written whole only where memory ran out or the writer failed
+reports : {W : Type 0} (C : W → Option (List ℕ)) (comments : Comments) (most : ℕ) (bytes : List ℕ) (left : Option (List ℕ)) (old new : ReplayState W) (fault : ReplayFault)
+    (H : List Event) (s : Stands old.member H) → StopsAt (ReplaysLine C comments) (FailsReport C comments) most bytes left old new fault
+    → Replays comments most old.member H (live old.member.settings s.sayings) bytes left new.member (C old.writer.inner) (C new.writer.inner) (Err fault)
+reports C comments most bytes left old new Write H s t = stopped C comments most bytes left old new Write t H s
+reports C comments most bytes left old new NoMemory H s t = stopped C comments most bytes left old new NoMemory t H s
+reports C comments most bytes left old new (Line n) H s t =
+    let L = live old.member.settings s.sayings in
+    let u = all_turns C comments L t.done old t.between s.over t.taken in
+    absurd (t.fails.unwritten t.reads (live_from old.member.settings L u.so_far.sayings) u.so_far.stands)
+reports C comments most bytes left old new Read H s t = absurd (t.fails.not_read refl)
+
 -- what was made of the lines is what a replay answers
-replays_lines : {W : Type 0} (C : W → Option (List ℕ)) (comments : Comments) (most : ℕ) (bytes : List ℕ) (left : Option (List ℕ)) (old new : ReplayState W)
-    (answer : Result ℕ (LinesFault ReportFault)) → TakesLines (ReplaysLine C comments) (FailsReport C comments) most bytes left old new answer
-    → (H : List Event) (s : Stands old.member H)
-    → Replays comments most old.member H (live old.member.settings s.sayings) bytes left new.member (C old.writer.inner) (C new.writer.inner) (replay_answer answer)
-replays_lines C comments most bytes left old new (Ok n) t H s =
-    (t.0, t.1, t.2, t.3, t.4, writes_all C comments _ old new H s t.5)
-replays_lines C comments most bytes left old new (Err (lines.Line n)) t H s =
-    (t.0, t.1, t.2, writes_all C comments _ old new H s t.3)
-replays_lines C comments most bytes left old new (Err lines.Read) t H s =
-    (t.0, t.1, t.2, t.3, writes_all C comments _ old new H s t.4)
-replays_lines C comments most bytes left old new (Err lines.NoMemory) t H s =
-    let u = all_turns C comments (live old.member.settings s.sayings) t.0 old new s.over t.3 in
-    stops_after comments most old.member H s bytes left (C old.writer.inner) (C new.writer.inner) t.0 t.1 u.text new.member u.so_far
-    (all_kept C comments 1 t.0 old new t.3).kept.0 u.appends t.2
-replays_lines C comments most bytes left old new (Err (lines.NotTaken Write)) t H s = stopped C comments most bytes left old new Write t H s
-replays_lines C comments most bytes left old new (Err (lines.NotTaken NoMemory)) t H s = stopped C comments most bytes left old new NoMemory t H s
+ends : {W : Type 0} (C : W → Option (List ℕ)) (comments : Comments) (most : ℕ) (bytes : List ℕ) (left : Option (List ℕ)) (counts later : Counts) (old new : ReplayState W)
+    (fault : ReplayFault) (H : List Event) (s : Stands old.member H)
+    → EndsEarly (ReplaysLine C comments) (FailsReport C comments) Gives most bytes left counts later old new fault
+    → Replays comments most old.member H (live old.member.settings s.sayings) bytes left new.member (C old.writer.inner) (C new.writer.inner) (Err fault)
+ends C comments most bytes left counts later old new fault H s (malformed lines comes each is) =
+    rw is (lines, comes, refl, writes_all C comments _ old new H s each)
+ends C comments most bytes left counts later old new fault H s (unread lines rest cut within each shows is) =
+    rw is (lines, rest, cut, within, writes_all C comments _ old new H s each)
+ends C comments most bytes left counts later old new fault H s (no_memory lines more_lines are each is) =
+    let u = all_turns C comments (live old.member.settings s.sayings) lines old new s.over each in
+    rw is (stops_after comments most old.member H s bytes left (C old.writer.inner) (C new.writer.inner) lines more_lines u.text new.member u.so_far
+    (all_kept C comments 1 lines old new each).kept.0 u.appends are)
+ends C comments most bytes left counts later old new fault H s (not_taken t) = reports C comments most bytes left old new fault H s t
+
+replays_lines : {W : Type 0} (C : W → Option (List ℕ)) (comments : Comments) (most : ℕ) (bytes : List ℕ) (left : Option (List ℕ)) (counts later : Counts) (old new : ReplayState W)
+    (answer : Result ℕ ReplayFault) (H : List Event) (s : Stands old.member H) → ReplaysBytes C comments most bytes left counts later old new answer
+    → Replays comments most old.member H (live old.member.settings s.sayings) bytes left new.member (C old.writer.inner) (C new.writer.inner) answer
+replays_lines C comments most bytes left counts later old new (Ok n) H s t = (t.0, t.1, t.2, t.3, t.4, writes_all C comments _ old new H s t.5)
+replays_lines C comments most bytes left counts later old new (Err fault) H s t = ends C comments most bytes left counts later old new fault H s t
 
 -- ---- what stays
 
 -- the settings and the names stay
-replay_keeps : {W : Type 0} (C : W → Option (List ℕ)) (comments : Comments) (most : ℕ) (bytes : List ℕ) (left : Option (List ℕ)) (old new : ReplayState W)
-    (answer : Result ℕ (LinesFault ReportFault)) → TakesLines (ReplaysLine C comments) (FailsReport C comments) most bytes left old new answer
-    → KeepsStation old.member new.member
-replay_keeps C comments most bytes left old new (Ok n) t = (all_kept C comments 1 _ old new t.5).kept
-replay_keeps C comments most bytes left old new (Err (lines.Line n)) t = (all_kept C comments 1 _ old new t.3).kept
-replay_keeps C comments most bytes left old new (Err lines.Read) t = (all_kept C comments 1 _ old new t.4).kept
-replay_keeps C comments most bytes left old new (Err lines.NoMemory) t = (all_kept C comments 1 _ old new t.3).kept
-replay_keeps C comments most bytes left old new (Err (lines.NotTaken fault)) t =
+ends_kept : {W : Type 0} (C : W → Option (List ℕ)) (comments : Comments) (most : ℕ) (bytes : List ℕ) (left : Option (List ℕ)) (counts later : Counts) (old new : ReplayState W)
+    (fault : ReplayFault) → EndsEarly (ReplaysLine C comments) (FailsReport C comments) Gives most bytes left counts later old new fault → KeepsStation old.member new.member
+ends_kept C comments most bytes left counts later old new fault (malformed lines comes each is) = (all_kept C comments 1 lines old new each).kept
+ends_kept C comments most bytes left counts later old new fault (unread lines rest cut within each shows is) = (all_kept C comments 1 lines old new each).kept
+ends_kept C comments most bytes left counts later old new fault (no_memory lines more_lines are each is) = (all_kept C comments 1 lines old new each).kept
+ends_kept C comments most bytes left counts later old new fault (not_taken t) =
     kept_on old.member t.between.member new.member (all_kept C comments 1 t.done old t.between t.taken).kept t.fails.kept
 
--- a write is at fault only where the calls of the writer show it
-replay_shows : {W : Type 0} (C : W → Option (List ℕ)) (comments : Comments) (most : ℕ) (bytes : List ℕ) (left : Option (List ℕ)) (old new : ReplayState W)
-    (answer : Result ℕ (LinesFault ReportFault)) → TakesLines (ReplaysLine C comments) (FailsReport C comments) most bytes left old new answer
-    → replay_answer answer ≡ Err replay.Write → ShowsWriteFault old.writer.counts new.writer.counts
-replay_shows C comments most bytes left old new (Ok n) t is = absurd (cc is)
-replay_shows C comments most bytes left old new (Err (lines.Line n)) t is = absurd (cc is)
-replay_shows C comments most bytes left old new (Err lines.Read) t is = absurd (cc is)
-replay_shows C comments most bytes left old new (Err lines.NoMemory) t is = absurd (cc is)
-replay_shows C comments most bytes left old new (Err (lines.NotTaken Write)) t is =
-    fails_from old.writer.counts t.between.writer.counts new.writer.counts (all_kept C comments 1 t.done old t.between t.taken).grow (t.fails.why refl)
-replay_shows C comments most bytes left old new (Err (lines.NotTaken NoMemory)) t is = absurd (cc is)
+replay_keeps : {W : Type 0} (C : W → Option (List ℕ)) (comments : Comments) (most : ℕ) (bytes : List ℕ) (left : Option (List ℕ)) (counts later : Counts) (old new : ReplayState W)
+    (answer : Result ℕ ReplayFault) → ReplaysBytes C comments most bytes left counts later old new answer → KeepsStation old.member new.member
+replay_keeps C comments most bytes left counts later old new (Ok n) t = (all_kept C comments 1 _ old new t.5).kept
+replay_keeps C comments most bytes left counts later old new (Err fault) t = ends_kept C comments most bytes left counts later old new fault t
 
--- the input is at fault only where the lines couldn't be read
-unread_so : (answer : Result ℕ (LinesFault ReportFault)) → replay_answer answer ≡ Err replay.Read → answer ≡ Err lines.Read
-unread_so (Ok n) is = absurd (cc is)
-unread_so (Err (lines.Line n)) is = absurd (cc is)
-unread_so (Err lines.Read) is = refl
-unread_so (Err lines.NoMemory) is = absurd (cc is)
-unread_so (Err (lines.NotTaken Write)) is = absurd (cc is)
-unread_so (Err (lines.NotTaken NoMemory)) is = absurd (cc is)
+-- ---- which device is at fault
+
+-- a write is at fault only where the calls of the writer show it
+ends_written : {W : Type 0} (C : W → Option (List ℕ)) (comments : Comments) (most : ℕ) (bytes : List ℕ) (left : Option (List ℕ)) (counts later : Counts) (old new : ReplayState W)
+    (fault : ReplayFault) → EndsEarly (ReplaysLine C comments) (FailsReport C comments) Gives most bytes left counts later old new fault → fault ≡ Write
+    → ShowsWriteFault old.writer.counts new.writer.counts
+ends_written C comments most bytes left counts later old new fault (malformed lines comes each is) write = absurd (cc (is, write))
+ends_written C comments most bytes left counts later old new fault (unread lines rest cut within each shows is) write = absurd (cc (is, write))
+ends_written C comments most bytes left counts later old new fault (no_memory lines more_lines are each is) write = absurd (cc (is, write))
+ends_written C comments most bytes left counts later old new fault (not_taken t) write =
+    fails_from old.writer.counts t.between.writer.counts new.writer.counts (all_kept C comments 1 t.done old t.between t.taken).grow (t.fails.why write)
+
+replay_shows : {W : Type 0} (C : W → Option (List ℕ)) (comments : Comments) (most : ℕ) (bytes : List ℕ) (left : Option (List ℕ)) (counts later : Counts) (old new : ReplayState W)
+    (answer : Result ℕ ReplayFault) → ReplaysBytes C comments most bytes left counts later old new answer → answer ≡ Err Write
+    → ShowsWriteFault old.writer.counts new.writer.counts
+replay_shows C comments most bytes left counts later old new (Ok n) t is = absurd (cc is)
+replay_shows C comments most bytes left counts later old new (Err fault) t is = ends_written C comments most bytes left counts later old new fault t (cc is)
+
+-- the input is at fault only where the calls of the reader show it, or it is too long
+ends_unread : {W : Type 0} (C : W → Option (List ℕ)) (comments : Comments) (most : ℕ) (bytes : List ℕ) (left : Option (List ℕ)) (counts later : Counts) (old new : ReplayState W)
+    (fault : ReplayFault) → EndsEarly (ReplaysLine C comments) (FailsReport C comments) Gives most bytes left counts later old new fault → fault ≡ Read
+    → ShowsUnread most bytes counts later
+ends_unread C comments most bytes left counts later old new fault (malformed lines comes each is) read = absurd (cc (is, read))
+ends_unread C comments most bytes left counts later old new fault (unread lines rest cut within each shows is) read = shows
+ends_unread C comments most bytes left counts later old new fault (no_memory lines more_lines are each is) read = absurd (cc (is, read))
+ends_unread C comments most bytes left counts later old new fault (not_taken t) read = absurd (t.fails.not_read read)
+
+reader_shows : {W : Type 0} (C : W → Option (List ℕ)) (comments : Comments) (most : ℕ) (bytes : List ℕ) (left : Option (List ℕ)) (counts later : Counts) (old new : ReplayState W)
+    (answer : Result ℕ ReplayFault) → ReplaysBytes C comments most bytes left counts later old new answer → answer ≡ Err Read → ShowsUnread most bytes counts later
+reader_shows C comments most bytes left counts later old new (Ok n) t is = absurd (cc is)
+reader_shows C comments most bytes left counts later old new (Err fault) t is = ends_unread C comments most bytes left counts later old new fault t (cc is)
 
 -- ---- the bytes that came
 
--- TakesBytes C comments most first left counts later old new taken: what is said of the bytes that were read, and of their lines
+-- TakesBytes C comments most first left counts later old new answer: what is said of the bytes that were read, and of their lines
 abbrev pub TakesBytes : {W : Type 0} → (W → Option (List ℕ)) → Comments → ℕ → Option (List ℕ) → Option (List ℕ) → Counts → Counts → ReplayState W → ReplayState W
-    → Result ℕ (LinesFault ReportFault) → Type 0
-TakesBytes C comments most first left counts later old new taken =
-    (bytes : List ℕ) × Consumes first left bytes
-    × ((taken ≡ Err lines.Read → ShowsUnread most bytes counts later)
-    × TakesLines (ReplaysLine C comments) (FailsReport C comments) most bytes left old new taken)
+    → Result ℕ ReplayFault → Type 0
+TakesBytes C comments most first left counts later old new answer =
+    (bytes : List ℕ) × Consumes first left bytes × ReplaysBytes C comments most bytes left counts later old new answer
 
 -- the member and the writer are what the replay left
 pub replays_bytes : {W : Type 0} (C : W → Option (List ℕ)) (comments : Comments) (most : ℕ) (first left : Option (List ℕ)) (counts later : Counts) (old new : ReplayState W)
-    (m : MemberValue) (w : W) (taken : Result ℕ (LinesFault ReportFault)) (answer : Result ℕ ReplayFault) → m ≡ new.member → w ≡ new.writer.inner → answer ≡ replay_answer taken
-    → TakesBytes C comments most first left counts later old new taken
-    → (bytes : List ℕ) × Consumes first left bytes × ((answer ≡ Err replay.Read → ShowsUnread most bytes counts later)
+    (m : MemberValue) (w : W) (answer : Result ℕ ReplayFault) → m ≡ new.member → w ≡ new.writer.inner → TakesBytes C comments most first left counts later old new answer
+    → (bytes : List ℕ) × Consumes first left bytes × ((answer ≡ Err Read → ShowsUnread most bytes counts later)
     × ((H : List Event) (s : Stands old.member H)
     → Replays comments most old.member H (live old.member.settings s.sayings) bytes left m (C old.writer.inner) (C w) answer))
-replays_bytes {W} C comments most first left counts later old new m w taken answer left_member left_writer is t = (
+replays_bytes {W} C comments most first left counts later old new m w answer left_member left_writer t = (
   t.0,
   t.1,
   (
-    (λ read. t.2.0 (unread_so taken (sym is ∙ read))),
-    (λ H s. subst (λ (r : Result ℕ ReplayFault). Replays comments most old.member H (live old.member.settings s.sayings) t.0 left m (C old.writer.inner) (C w) r)
-        (sym is)
-        (subst (λ (x : MemberValue). Replays comments most old.member H (live old.member.settings s.sayings) t.0 left x (C old.writer.inner) (C w) (replay_answer taken)) (sym left_member)
-        (subst (λ (x : W). Replays comments most old.member H (live old.member.settings s.sayings) t.0 left new.member (C old.writer.inner) (C x) (replay_answer taken)) (sym left_writer)
-        (replays_lines C comments most t.0 left old new taken t.2.1 H s)))),
+    reader_shows C comments most t.0 left counts later old new answer t.2,
+    (λ H s. subst (λ (x : MemberValue). Replays comments most old.member H (live old.member.settings s.sayings) t.0 left x (C old.writer.inner) (C w) answer) (sym left_member)
+        (subst (λ (x : W). Replays comments most old.member H (live old.member.settings s.sayings) t.0 left new.member (C old.writer.inner) (C x) answer) (sym left_writer)
+        (replays_lines C comments most t.0 left counts later old new answer H s t.2))),
   ),
 )
 
 pub shows_write : {W : Type 0} (C : W → Option (List ℕ)) (comments : Comments) (most : ℕ) (first left : Option (List ℕ)) (counts later : Counts) (old new : ReplayState W)
-    (taken : Result ℕ (LinesFault ReportFault)) (answer : Result ℕ ReplayFault) → answer ≡ replay_answer taken
-    → TakesBytes C comments most first left counts later old new taken → answer ≡ Err replay.Write → ShowsWriteFault old.writer.counts new.writer.counts
-shows_write C comments most first left counts later old new taken answer is t write =
-    replay_shows C comments most t.0 left old new taken t.2.1 (sym is ∙ write)
+    (answer : Result ℕ ReplayFault) → TakesBytes C comments most first left counts later old new answer → answer ≡ Err Write
+    → ShowsWriteFault old.writer.counts new.writer.counts
+shows_write C comments most first left counts later old new answer t write = replay_shows C comments most t.0 left counts later old new answer t.2 write
 
 pub keeps_station : {W : Type 0} (C : W → Option (List ℕ)) (comments : Comments) (most : ℕ) (first left : Option (List ℕ)) (counts later : Counts) (old new : ReplayState W)
-    (taken : Result ℕ (LinesFault ReportFault)) → TakesBytes C comments most first left counts later old new taken → KeepsStation old.member new.member
-keeps_station C comments most first left counts later old new taken t = replay_keeps C comments most t.0 left old new taken t.2.1
+    (answer : Result ℕ ReplayFault) → TakesBytes C comments most first left counts later old new answer → KeepsStation old.member new.member
+keeps_station C comments most first left counts later old new answer t = replay_keeps C comments most t.0 left counts later old new answer t.2

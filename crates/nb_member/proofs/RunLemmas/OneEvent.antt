@@ -1,6 +1,6 @@
 -- One event of a run, and what a run comes to.
 use Rattle.std.proofs.Common.{◌≡◌, ◌<◌, ◌≤◌, ◌+◌, ◌++◌, ℕ, suc, Bool, true, false, cond, List, [], ◌∷◌, length, take, drop, get_or, refl, sym, ap, ◌∙◌, arith, subst, append-nil, drop-cons, add-one, take_all, Option, Some, None, Result, Ok, Err}
-use Rattle.std.specs.Prelude.{filter, MatchOption}
+use Rattle.std.specs.Prelude.{filter, unwrap_or, MatchOption}
 use Rattle.std.proofs.Math.ListN.{drop_of_length-le}
 use Rattle.std.proofs.Math.Seq.{take-suc}
 use Rattle.nb_names.specs.Name.{NetbiosName}
@@ -18,7 +18,7 @@ use Rattle.nb_member.specs.declared.member_fault.MemberFault.TheVariants as faul
 use Rattle.nb_member.specs.declared.outcome.Outcome.{Outcome}
 use Rattle.nb_member.specs.declared.run_report.RunReport.{RunReport}
 use Rattle.nb_member.specs.declared.run_report.RunStop.{RunStop}
-use Rattle.nb_member.specs.declared.run_report.RunStop.TheVariants.{Full, FullSource}
+use Rattle.nb_member.specs.declared.run_report.RunStop.TheVariants.{Full, FullSource, NoMemory}
 use Rattle.nb_member.specs.declared.settings.Settings.{Settings}
 use Rattle.nb_member.proofs.TakingLemmas.FullKeys.{stops_at, meets_none}
 use Rattle.nb_member.proofs.RunLemmas.RunSoFar.{RanOver, ran_none, ran_more, runs_from}
@@ -31,7 +31,7 @@ use Rattle.nb_member.specs.Events.{Saying, came, refused, another, clock, Says, 
 use Rattle.nb_member.specs.Live.{Timed, is_full, is_source_full, HasRoom, live_after, live_from}
 use Rattle.nb_member.specs.Member.{MemberValue, StandsOver, with_timed, after_clock}
 use Rattle.nb_member.specs.Running.{IsLeft, IsPayload, refused_count, StopsAt, StopsBefore, Runs}
-use Rattle.nb_member.specs.Code.RunEvents.{noted, stop_of, HandedOut, HasTaken, RunsEvent}
+use Rattle.nb_member.specs.Code.RunEvents.{noted, HandedOut, HasTaken, RunsEvent}
 
 -- ---- what is known of a step
 
@@ -241,7 +241,7 @@ payload_step known m new L moment payload answer before after result stands take
 pub no_room_step : (m : MemberValue) (L : List Timed) (moment : ℕ) (payload : List ℕ) (full : Option RunStop) (before after : HandedOut)
     → StandsOver m L → MatchOption full ((stop : RunStop) → ¬ BeginsFull m payload stop) (BeginsFull m payload)
     → after.deliveries ≡ before.deliveries → after.errors ≡ before.errors
-    → RunsEvent m L (Packet moment payload) m before after (Err (stop_of full))
+    → RunsEvent m L (Packet moment payload) m before after (Err (unwrap_or full NoMemory))
 no_room_step m L moment payload full before after stands h d e =
     (stops_at m L moment payload full stands h, refl, λ i. record { deliveries = d i; errors = e i })
 

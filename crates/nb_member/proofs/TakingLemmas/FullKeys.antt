@@ -1,6 +1,6 @@
 -- Payloads for which a member's table has no room.
 use Rattle.std.proofs.Common.{◌≡◌, ◌≢◌, ℕ, inl, inr, true, List, refl, sym, ap, subst, arith, ◌∙◌, Option, Some, None}
-use Rattle.std.specs.Prelude.{MatchOption, IfSome}
+use Rattle.std.specs.Prelude.{unwrap_or, MatchOption, IfSome}
 use Rattle.std.proofs.lemmas.Bool.{cases_Bool, false≢true}
 use Rattle.nb_datagram.specs.declared.key.Key.{Key}
 use Rattle.nb_datagram.specs.declared.packet.Packet.TheVariants.{Direct}
@@ -19,7 +19,6 @@ use Rattle.nb_member.proofs.TakingLemmas.Payloads.{valid_is}
 use Rattle.nb_member.specs.Events.{Saying, came, limits_of, Says}
 use Rattle.nb_member.specs.Live.{Timed, HasRoom, is_full, is_source_full}
 use Rattle.nb_member.specs.Member.{MemberValue, contents, StandsOver}
-use Rattle.nb_member.specs.Code.RunEvents.{stop_of}
 use Rattle.nb_member.specs.Running.{MeetsLimit, StopsAt}
 use Rattle.nb_member.specs.Code.Members.{IsFullAs, MeetsFull, BeginsFull, limit_of}
 use Rattle.nb_member.specs.declared.run_report.RunStop.{RunStop}
@@ -120,7 +119,7 @@ begins_by m payload f used (Some stop) found only h = record { f = f; used = use
 -- so a run stops before a payload where there is no room to note an answer
 pub stops_at : (m : MemberValue) (L : List Timed) (moment : ℕ) (payload : List ℕ) (met : Option RunStop) → StandsOver m L
     → MatchOption met ((stop : RunStop) → ¬ BeginsFull m payload stop) (BeginsFull m payload)
-    → StopsAt m.settings L (Packet moment payload) (stop_of met)
+    → StopsAt m.settings L (Packet moment payload) (unwrap_or met NoMemory)
 stops_at m L moment payload None s h = (tt, λ k meets. (let b = begins_full m L moment payload k s meets in h b.0 b.1))
 stops_at m L moment payload (Some stop) s h = meets_limit m L moment payload stop s h
 

@@ -6,11 +6,11 @@ use Rattle.std.specs.FinMap as maps
 use Rattle.nb_datagram.specs.declared.key.Key.{Key}
 use Rattle.nb_datagram.specs.Key.{key_cmp, same_key}
 use Rattle.nb_datagram.specs.KeyOrder.{key_cmp_total, key_cmp_exact, same_key_decides}
-use Rattle.nb_table.specs.Maps.{first_of, joined_at}
-use Rattle.nb_table.specs.Entry.{EntryValue, join_entry}
+use Rattle.nb_entries.specs.Maps.{first_of, joined_at}
+use Rattle.nb_entries.specs.Entry.{EntryValue, join_entry}
 use Rattle.nb_table.specs.Contents.{Contents}
 use Rattle.nb_table.specs.Join.{join}
-use Rattle.nb_table.specs.Shared.MapsLemmas.{get-joined}
+use Rattle.nb_entries.specs.Shared.MapsLemmas.{get-joined}
 use Rattle.nb_member.specs.Taking.{start_after}
 use Rattle.nb_member.specs.Member.{Moments, begun}
 use Rattle.nb_member.specs.Code.Timers.{begun_each, HaveOneSetOfKeys}

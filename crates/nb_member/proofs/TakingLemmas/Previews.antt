@@ -4,11 +4,11 @@ use Rattle.std.specs.FinMap as maps
 use Rattle.nb_datagram.specs.Datagram.{DatagramParts}
 use Rattle.nb_datagram.specs.KeyOrder.{key_cmp_total, key_cmp_exact}
 use Rattle.nb_table.specs.Contents.{Contents}
-use Rattle.nb_table.specs.Entry.{join_entry}
+use Rattle.nb_entries.specs.Entry.{join_entry}
 use Rattle.nb_table.specs.Join.{join}
 use Rattle.nb_table.specs.Limits.{TableValue, with_contents}
 use Rattle.nb_table.specs.Merging.{newly_handed}
-use Rattle.nb_table.specs.Shared.MapsLemmas.{joined-empty}
+use Rattle.nb_entries.specs.Shared.MapsLemmas.{joined-empty}
 
 -- an empty table is merged with the table, and then with the other
 pub whole_in_copy : (s other : Contents) (none one both : TableValue) (datagrams : List DatagramParts)

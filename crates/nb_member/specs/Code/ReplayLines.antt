@@ -1,17 +1,13 @@
 -- What a replay makes of one line of a capture, and of the writer that its report goes to (our choice).
-use Rattle.std.specs.Prelude.{ℕ, List, ◌≡◌, ◌⊎◌, Option, Result, Ok, Err}
+use Rattle.std.specs.Prelude.{ℕ, List, ◌≡◌, ◌≢◌, ◌⊎◌, Option, Ok}
 use Rattle.std.specs.Io.KnownBytes.{Appends, Keeps}
 use Rattle.nb_names.specs.Counted.{CountedOf}
 use Rattle.nb_names.specs.Devices.{AppendsFront, GrowTo, ShowsWriteFault}
 use Rattle.nb_member.specs.declared.comments.Comments.{Comments}
 use Rattle.nb_member.specs.declared.event.Event.{Event}
 use Rattle.nb_member.specs.declared.line.Line.{Line as Value}
-use Rattle.nb_member.specs.declared.lines_fault.LinesFault.{LinesFault}
-use Rattle.nb_member.specs.declared.lines_fault.LinesFault.TheVariants as lines
 use Rattle.nb_member.specs.declared.replay_fault.ReplayFault.{ReplayFault}
-use Rattle.nb_member.specs.declared.replay_fault.ReplayFault.TheVariants as replay
-use Rattle.nb_member.specs.declared.report_fault.ReportFault.{ReportFault}
-use Rattle.nb_member.specs.declared.report_fault.ReportFault.TheVariants.{Write, NoMemory}
+use Rattle.nb_member.specs.declared.replay_fault.ReplayFault.TheVariants.{Read, Write, NoMemory}
 use Rattle.nb_member.specs.Live.{Timed}
 use Rattle.nb_member.specs.Member.{MemberValue, StandsOver}
 use Rattle.nb_member.specs.Report.{ReportOfLine}
@@ -43,9 +39,10 @@ pub record WritesFront (comments : Comments) (m : MemberValue) (L : List Timed) 
   pub front : AppendsFront before after text
 
 -- HasNoWholeReport comments m L n line new before after fault: the line's report isn't written whole, for this fault
-abbrev pub HasNoWholeReport : Comments → MemberValue → List Timed → ℕ → List ℕ → MemberValue → Option (List ℕ) → Option (List ℕ) → ReportFault → Type 0
+abbrev pub HasNoWholeReport : Comments → MemberValue → List Timed → ℕ → List ℕ → MemberValue → Option (List ℕ) → Option (List ℕ) → ReplayFault → Type 0
 HasNoWholeReport comments m L n line new before after Write = WritesFront comments m L n line new before after
 HasNoWholeReport comments m L n line new before after NoMemory = MayReportLine comments m L n line new × Keeps before after
+HasNoWholeReport comments m L n line new before after _ = ⊥
 
 -- ReportsValue m L n value new text: the member acted on each line that has this value, with comments in the report or
 -- without
@@ -72,17 +69,9 @@ pub record ReplaysLine {W : Type 0} (C : W → Option (List ℕ)) (comments : Co
   pub grow : GrowTo old.writer.counts new.writer.counts
 
 -- FailsReport C comments n line said old new fault: the report of line n, which says this, isn't written whole, for this fault
-pub record FailsReport {W : Type 0} (C : W → Option (List ℕ)) (comments : Comments) (n : ℕ) (line : List ℕ) (said : Option Value) (old new : ReplayState W) (fault : ReportFault) : Type 0 where
+pub record FailsReport {W : Type 0} (C : W → Option (List ℕ)) (comments : Comments) (n : ℕ) (line : List ℕ) (said : Option Value) (old new : ReplayState W) (fault : ReplayFault) : Type 0 where
   pub unwritten : Reads line (Ok said) → (L : List Timed) → StandsOver old.member L
       → HasNoWholeReport comments old.member L n line new.member (C old.writer.inner) (C new.writer.inner) fault
   pub kept : KeepsStation old.member new.member
+  pub not_read : fault ≢ Read
   pub why : fault ≡ Write → ShowsWriteFault old.writer.counts new.writer.counts
-
--- what a replay answers where the taking of its lines ended so
-abbrev pub replay_answer : Result ℕ (LinesFault ReportFault) → Result ℕ ReplayFault
-replay_answer (Ok n) = Ok n
-replay_answer (Err (lines.Line n)) = Err (replay.Line n)
-replay_answer (Err lines.Read) = Err replay.Read
-replay_answer (Err lines.NoMemory) = Err replay.NoMemory
-replay_answer (Err (lines.NotTaken Write)) = Err replay.Write
-replay_answer (Err (lines.NotTaken NoMemory)) = Err replay.NoMemory

@@ -1,5 +1,5 @@
 -- What one event of a run makes of a member, and of what the run hands out (our choice).
-use Rattle.std.specs.Prelude.{Bool, true, false, Result, Ok, Err, List, ◌≡◌, ◌++◌, cond, [], ◌∷◌, filter, Option, Some, None}
+use Rattle.std.specs.Prelude.{Bool, true, false, Result, Ok, Err, List, ◌≡◌, ◌++◌, cond, [], ◌∷◌, filter}
 use Rattle.nb_names.specs.Name.{NetbiosName}
 use Rattle.nb_datagram.specs.declared.packet.ErrorPacket.{ErrorPacket}
 use Rattle.nb_datagram.specs.Datagram.{DatagramParts}
@@ -45,12 +45,6 @@ pub record HasTaken (settings : Settings) (names : List NetbiosName) (L : List T
   pub deliveries : after.deliveries ≡ before.deliveries ++ filter (hears names) (made_by settings L said)
   pub errors : after.errors ≡ before.errors ++ errors_by settings names L said
   pub count : cond refused 1 0 ≡ refused_count (said ∷ [])
-
--- why a run stops before an event for which there is no room to note an answer: it meets a limit on keys, or
--- else memory ran out
-abbrev pub stop_of : Option RunStop → RunStop
-stop_of (Some stop) = stop
-stop_of None = NoMemory
 
 -- RunsEvent m L event new before after result: what a run makes of one event in the member m, which stands for L:
 -- the event is taken, or it changes nothing and the run stops before it

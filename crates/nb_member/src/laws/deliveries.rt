@@ -7,7 +7,7 @@ ghost use Rattle.nb_names.specs.Name.{NetbiosName};
 ghost use Rattle.nb_datagram.specs.declared.key.Key.{Key};
 ghost use Rattle.nb_datagram.specs.Fragment.{Core};
 ghost use Rattle.nb_datagram.specs.Datagram.{DatagramParts};
-ghost use Rattle.nb_table.specs.declared.slot.Slot.TheVariants.{Spoilt};
+ghost use Rattle.nb_entries.specs.declared.slot.Slot.TheVariants.{Spoilt};
 ghost use Rattle.nb_table.specs.Conflict.{IsSpoilt};
 ghost use Rattle.nb_table.specs.Contents.{table_of};
 ghost use Rattle.nb_table.specs.Whole.{IsWholeAt, datagram_at, newly_whole};

@@ -59,10 +59,7 @@ fn newly_whole(alloc: Global, table: &Table, other: &Table) -> Result<Datagrams,
         other.now.contents) }
 {
     table.fits(other)?;
-    match whole_in_a_copy(alloc, table, other) {
-        Ok(datagrams) => Ok(datagrams),
-        Err(_) => Err(TableFault::NoMemory),
-    }
+    Ok(whole_in_a_copy(alloc, table, other)?)
 }
 
 /// The same, by merging into a copy of the table.

@@ -1,10 +1,8 @@
 -- What the code's steps answer while a packet is checked, listed and decoded.
-use Rattle.std.specs.Prelude.{◌≡◌, ℕ, ◌+◌, ◌<◌, List, length}
+use Rattle.std.specs.Prelude.{◌≡◌, ℕ, ◌<◌, List, length}
 use Rattle.nb_service.specs.declared.fault.ServiceFault.{ServiceFault}
 use Rattle.nb_service.specs.declared.fault.ServiceFault.TheVariants.{NoMemory}
 use Rattle.nb_service.specs.Packet.{Row, ServicePacket, IsPacket}
-use Rattle.nb_service.specs.Header.{PacketHeader}
-use Rattle.nb_service.specs.ServiceFaults.{record_count}
 
 -- RowOf Stands at count items next: a row of as many items as the count
 pub record RowOf {A : Type 0} (Stands : ℕ → A → ℕ → Type 0) (at count : ℕ) (items : List A) (next : ℕ) : Type 0 where
@@ -19,10 +17,6 @@ HasRow {A} Stands at count next = (items : List A) × RowOf Stands at count item
 pub data OrMemory (count : ℕ) (Fails : ServiceFault → Type 0) : ServiceFault → Type 0 where
   fails : {fault : ServiceFault} → Fails fault → OrMemory count Fails fault
   memory : 0 < count → OrMemory count Fails NoMemory
-
--- how many items a header promises
-abbrev pub item_count : PacketHeader → ℕ
-item_count header = header.questions + record_count header
 
 -- these bytes begin with some packet
 abbrev pub HasPacket : List ℕ → Type 0

@@ -3,25 +3,20 @@ use Rattle.std.proofs.Common.{◌≡◌, Option, Some, None, refl, sym, ◌∙�
 use Rattle.std.specs.FinMap as maps
 use Rattle.nb_datagram.specs.declared.key.Key.{Key}
 use Rattle.nb_datagram.specs.Datagram.{DatagramParts}
-use Rattle.nb_table.specs.declared.change.Change.TheVariants.{Whole, Same, Grown}
-use Rattle.nb_table.specs.declared.change.Change.TheVariants.{Spoilt as Spoils}
-use Rattle.nb_table.specs.declared.state.State.{State}
-use Rattle.nb_table.specs.declared.state.State.TheVariants.{Absent, Partial}
-use Rattle.nb_table.specs.declared.state.State.TheVariants.{Spoilt as IsSpoilt, Whole as IsWholly}
-use Rattle.nb_table.specs.Slot.{Spoilt, Held}
-use Rattle.nb_table.specs.Entry.{EntryFacts, EntryValue}
+use Rattle.nb_entries.specs.declared.change.Change.TheVariants.{Whole, Same, Grown}
+use Rattle.nb_entries.specs.declared.change.Change.TheVariants.{Spoilt as Spoils}
+use Rattle.nb_entries.specs.declared.state.State.{State}
+use Rattle.nb_entries.specs.declared.state.State.TheVariants.{Absent, Partial}
+use Rattle.nb_entries.specs.declared.state.State.TheVariants.{Spoilt as IsSpoilt, Whole as IsWholly}
+use Rattle.nb_entries.specs.declared.slot.Slot.TheVariants.{Spoilt, Held}
+use Rattle.nb_entries.specs.Entry.{EntryFacts, EntryValue}
 use Rattle.nb_table.specs.Contents.{Contents}
-use Rattle.nb_table.specs.Whole.{IsWhole, IsWholeAt, datagram_of, datagram_at, newly, newly_whole}
-use Rattle.nb_table.specs.Change.{Change, IsChange, IsSpoiltAt, BecomesSpoilt}
+use Rattle.nb_entries.specs.Whole.{IsWhole, datagram_of, newly}
+use Rattle.nb_table.specs.Whole.{IsWholeAt, datagram_at, newly_whole}
+use Rattle.nb_entries.specs.Change.{Change}
+use Rattle.nb_table.specs.Change.{IsChange, IsSpoiltAt, BecomesSpoilt}
 use Rattle.nb_table.specs.State.{IsState, IsPartialAt}
-
-newly_none : (o : Option DatagramParts) → newly o None ≡ None
-newly_none None = refl
-newly_none (Some d) = refl
-
-newly_same : (o : Option DatagramParts) → newly o o ≡ None
-newly_same None = refl
-newly_same (Some d) = refl
+use Rattle.nb_entries.specs.Shared.WholeLemmas.{newly_none, newly_same}
 
 -- a spoilt key isn't whole
 spoilt_whole : (a b : Contents) (k : Key) (d : DatagramParts) → BecomesSpoilt a b k → newly_whole a b k ≡ Some d → ⊥

@@ -8,18 +8,18 @@ use Rattle.std.specs.List.{list_any}
 use Rattle.std.specs.FinMap as maps
 use Rattle.nb_datagram.specs.Key.{same_key}
 use Rattle.nb_datagram.specs.Fragment.{Core, byte_of}
-use Rattle.nb_table.specs.Maps.{first_of, joined_at}
-use Rattle.nb_table.specs.Slot.{Spoilt, Held}
-use Rattle.nb_table.specs.Cover.{CoverFacts, covers_together, placed, cover_of}
-use Rattle.nb_table.specs.Entry.{EntryFacts, EntryValue, facts_agree, facts_together, join_entry, facts_of, IsEntry}
+use Rattle.nb_entries.specs.Maps.{first_of, joined_at}
+use Rattle.nb_entries.specs.declared.slot.Slot.TheVariants.{Spoilt, Held}
+use Rattle.nb_entries.specs.Cover.{CoverFacts, covers_together, placed, cover_of}
+use Rattle.nb_entries.specs.Entry.{EntryFacts, EntryValue, facts_agree, facts_together, join_entry, facts_of, IsEntry}
 use Rattle.nb_table.specs.ConflictTests.{conflicts, some_conflict, with_key}
 use Rattle.nb_table.specs.Contents.{first_byte, all_placed, cover_in, facts_in, entry_in, entry_at, table_of}
 use Rattle.nb_table.specs.Join.{join, IsTable}
-use Rattle.nb_table.specs.Shared.MapsLemmas.{at-assoc}
-use Rattle.nb_table.specs.Shared.SlotLemmas.{agree_union}
-use Rattle.nb_table.specs.Shared.CoverLemmas.{same_cover, in_union}
-use Rattle.nb_table.proofs.Covers.PlacedLemmas.{find-placed, find-append, cover_of_formed}
-use Rattle.nb_table.specs.Shared.EntryLemmas.{facts_unite, join_entry-assoc}
+use Rattle.nb_entries.specs.Shared.MapsLemmas.{at-assoc}
+use Rattle.nb_entries.specs.Shared.SlotLemmas.{agree_union}
+use Rattle.nb_entries.specs.Shared.CoverLemmas.{same_cover, in_union}
+use Rattle.nb_entries.specs.Shared.PlacedLemmas.{find-placed, find-append, cover_of_formed}
+use Rattle.nb_entries.specs.Shared.EntryLemmas.{facts_unite, join_entry-assoc}
 use Rattle.nb_table.specs.Shared.TableLemmas.{same_table, get-join, at_formed}
 use Rattle.nb_table.specs.Shared.FragmentLemmas.{facts_in-one, or_left, or_right, get-table_of}
 

@@ -1,12 +1,12 @@
 -- The first byte at a place, the first end and the greatest promise of a list of fragments, and whose they are.
 use Rattle.std.proofs.Common.{◌≡◌, ◌≤◌, arith, inl, inr, ℕ, Contains, List, [], ◌∷◌, Option, Some, None, refl, ◌∙◌, ap}
 use Rattle.nb_datagram.specs.Fragment.{Core, Covers, EndsAt, byte_of, end_of_one}
-use Rattle.nb_table.specs.Maps.{first_of}
-use Rattle.nb_table.specs.Promise.{Promises, promise_of_one}
+use Rattle.nb_entries.specs.Maps.{first_of}
+use Rattle.nb_entries.specs.Promise.{Promises, promise_of_one}
 use Rattle.nb_table.specs.Contents.{first_byte, first_end, greatest_promise}
-use Rattle.nb_table.specs.Shared.CoverLemmas.{first_either}
-use Rattle.nb_table.specs.Shared.PromiseLemmas.{promise_of_decides, greater_either, greater_left, greater_right}
-use Rattle.nb_table.proofs.Covers.PlacedLemmas.{byte_of_decides, end_of_decides}
+use Rattle.nb_entries.specs.Shared.CoverLemmas.{first_either}
+use Rattle.nb_entries.specs.Shared.PromiseLemmas.{promise_of_decides, greater_either, greater_left, greater_right}
+use Rattle.nb_entries.specs.Shared.PlacedLemmas.{byte_of_decides, end_of_decides}
 use Rattle.nb_table.proofs.Contents.OrderFreeLemmas.{in_none, in_first, in_rest, in_cons}
 
 -- a fragment of fs covers place i with x

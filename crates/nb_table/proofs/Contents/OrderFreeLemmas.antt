@@ -7,11 +7,11 @@ use Rattle.std.specs.FinMap as maps
 use Rattle.nb_datagram.specs.declared.key.Key.{Key}
 use Rattle.nb_datagram.specs.Key.{same_key}
 use Rattle.nb_datagram.specs.Fragment.{Core}
-use Rattle.nb_table.specs.Entry.{EntryValue, join_entry}
+use Rattle.nb_entries.specs.Entry.{EntryValue, join_entry}
 use Rattle.nb_table.specs.ConflictTests.{with_key, keyed}
 use Rattle.nb_table.specs.Contents.{Contents, entry_in, table_of}
 use Rattle.nb_table.specs.Join.{join, SameCores, without_key}
-use Rattle.nb_table.specs.Shared.MapsLemmas.{joined-empty}
+use Rattle.nb_entries.specs.Shared.MapsLemmas.{joined-empty}
 use Rattle.nb_datagram.specs.KeyOrder.{key_cmp_total, key_cmp_exact, same_key_decides}
 use Rattle.nb_table.specs.Shared.TableLemmas.{same_table, join-comm, join-assoc, join-idem}
 use Rattle.nb_table.proofs.Contents.ContentsLemmas.{table_of-append, table_of_formed}

@@ -5,12 +5,12 @@ use Rattle.std.proofs.lemmas.Option.{same_Some, slice_get_within, get_or_from_sl
 use Rattle.std.specs.FinMap as maps
 use Rattle.nb_datagram.specs.declared.key.Key.{Key}
 use Rattle.nb_datagram.specs.Fragment.{Core, Covers, EndsAt}
-use Rattle.nb_table.specs.Slot.{Spoilt, Held}
-use Rattle.nb_table.specs.Entry.{EntryFacts, EntryValue}
+use Rattle.nb_entries.specs.declared.slot.Slot.TheVariants.{Spoilt, Held}
+use Rattle.nb_entries.specs.Entry.{EntryFacts, EntryValue}
 use Rattle.nb_table.specs.Conflict.{Conflict, overlap, ends, IsSpoilt}
 use Rattle.nb_table.specs.ConflictTests.{some_conflict, with_key}
 use Rattle.nb_table.specs.Contents.{Contents, facts_in, entry_in, table_of, Says, IsEntryOf, IsTableOf, HasByte, HasEnd, HasPromise}
-use Rattle.nb_table.specs.Shared.CoverLemmas.{same_cover}
+use Rattle.nb_entries.specs.Shared.CoverLemmas.{same_cover}
 use Rattle.nb_table.specs.Shared.TableLemmas.{same_table}
 use Rattle.nb_table.proofs.Contents.ContentsLemmas.{get-cover_in}
 use Rattle.nb_table.specs.Shared.FragmentLemmas.{get-table_of}

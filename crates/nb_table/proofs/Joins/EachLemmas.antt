@@ -1,5 +1,5 @@
 -- The entries of one finite map joined into another one after the other, in the order of their keys.
-use Rattle.std.proofs.Common.{◌≡◌, ℕ, ◌+◌, ◌++◌, List, [], ◌∷◌, Bool, true, false, cond, filter, length, Option, Some, None, is_some, is_none, refl, sym, ◌∙◌, ap, ap₂, arith}
+use Rattle.std.proofs.Common.{◌≡◌, ℕ, ◌+◌, List, [], ◌∷◌, Bool, true, false, cond, filter, length, Option, Some, None, is_some, is_none, refl, sym, ◌∙◌, ap, ap₂, arith}
 use Rattle.std.proofs.Common.{map as list_map}
 use Rattle.std.specs.Prelude.{T}
 use Rattle.std.specs.declared.cmp.Ordering.{Ordering}
@@ -8,9 +8,9 @@ use Rattle.std.specs.Cmp.{IsTotalOrder, eq_by_cmp_equiv}
 use Rattle.std.specs.FinMap.{is_sorted}
 use Rattle.std.specs.FinMap.Entries.{below_all}
 use Rattle.std.specs.FinMap as map
-use Rattle.nb_table.specs.Maps.{joined_at, joined_onto, joined, union}
+use Rattle.nb_entries.specs.Maps.{joined_at, joined_onto, joined, union}
 use Rattle.nb_table.specs.Code.Each.{joined_each}
-use Rattle.nb_table.specs.Shared.MapsLemmas.{one_key, get-joined, below_none, lt_not_eq, T_left, T_right}
+use Rattle.nb_entries.specs.Shared.MapsLemmas.{one_key, get-joined, below_none, lt_not_eq, T_left, T_right}
 
 alone : {X : Type 0} (f : X → X → X) (a : Option X) → a ≡ joined_at f a None
 alone f None = refl
@@ -35,11 +35,6 @@ get-joined_each {R = R} o exact f m (e ∷ es) s q =
         ∙ onto f (map.get m e.0) e.1
         ∙ ap (λ k. joined_at f (map.get m k) (Some e.1)) (sym one)
     step false h = refl
-
--- the last one is joined to the others
-pub joined_each-more : {K X : Type 0} {R : K → K → Ordering} (f : X → X → X) (m : map.FinMap R X) (es : List (K × X)) (k : K) (x : X) → joined_each f m (es ++ (k, x) ∷ []) ≡ map.insert (joined_each f m es) k (joined_onto f (map.get (joined_each f m es) k) x)
-joined_each-more f m [] k x = refl
-joined_each-more f m (e ∷ es) k x = joined_each-more f (map.insert m e.0 (joined_onto f (map.get m e.0) e.1)) es k x
 
 -- the entries of a map joined in turn are the join of both maps
 pub joined_each_is : {K X : Type 0} {R : K → K → Ordering} (o : IsTotalOrder R) (exact : map.IsAntisymmetric R) (f : X → X → X) (m n : map.FinMap R X) → joined_each f m (map.entries n) ≡ joined f m n

@@ -8,7 +8,7 @@ use Rattle.std.specs.List.{filter_map, cons_option}
 use Rattle.std.specs.FinMap.{is_sorted}
 use Rattle.std.specs.FinMap.Entries.{below_all, same_entries}
 use Rattle.std.specs.FinMap as maps
-use Rattle.nb_table.specs.Shared.MapsLemmas.{one_key, below_none, T_left, T_right}
+use Rattle.nb_entries.specs.Shared.MapsLemmas.{one_key, below_none, T_left, T_right}
 
 -- the key with what it gives, if it gives anything, before the others
 abbrev with_one : {K D : Type 0} → K → Option D → List (K × D) → List (K × D)

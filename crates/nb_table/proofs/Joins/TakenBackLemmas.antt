@@ -4,7 +4,7 @@ use Rattle.std.specs.declared.cmp.Ordering.{Ordering}
 use Rattle.std.specs.Ordering.{eq_by_cmp}
 use Rattle.std.specs.Cmp.{IsTotalOrder}
 use Rattle.std.specs.FinMap as map
-use Rattle.nb_table.specs.Shared.MapsLemmas.{one_key, tied_self}
+use Rattle.nb_entries.specs.Shared.MapsLemmas.{one_key, tied_self}
 use Rattle.nb_table.specs.Code.TakenBack.{put_back, taken_back}
 
 -- the last one is put back first

@@ -8,7 +8,7 @@ use Rattle.std.specs.Cmp.Lexicographic.{nat_list_cmp_total, pointwise, pointwise
 use Rattle.std.specs.FinMap.{slice_cmp-IsAntisymmetric, nat_cmp-IsAntisymmetric}
 use Rattle.std.specs.FinMap as maps
 use Rattle.nb_datagram.specs.declared.key.Key.{Key}
-use Rattle.nb_table.specs.Entry.{EntryValue}
+use Rattle.nb_entries.specs.Entry.{EntryValue}
 use Rattle.nb_table.specs.Contents.{Contents}
 use Rattle.nb_table.specs.KeyCounts.{of_source, held_keys}
 use Rattle.nb_table.specs.Code.SourceCounts.{ip_cmp, Adds, AreCounted, Counts, CountsKeys, Takes, count_of, if_same}

@@ -9,41 +9,29 @@ use Rattle.std.specs.FinMap as maps
 use Rattle.nb_datagram.specs.declared.key.Key.{Key}
 use Rattle.nb_datagram.specs.Key.{key_cmp}
 use Rattle.nb_datagram.specs.Datagram.{DatagramParts}
-use Rattle.nb_table.specs.Maps.{joined_at, joined_onto}
-use Rattle.nb_table.specs.Entry.{EntryValue, join_entry}
+use Rattle.nb_entries.specs.Maps.{joined_at, joined_onto}
+use Rattle.nb_entries.specs.Entry.{EntryValue, join_entry}
 use Rattle.nb_table.specs.Contents.{Contents}
 use Rattle.nb_table.specs.Join.{join}
 use Rattle.nb_table.specs.Merging.{newly_handed}
-use Rattle.nb_table.specs.Whole.{IsWhole, datagram_at, datagram_of, newly, newly_whole}
+use Rattle.nb_entries.specs.declared.change.Handing.{Handing}
+use Rattle.nb_entries.specs.declared.change.Handing.TheVariants.{Over}
+use Rattle.nb_entries.specs.Whole.{datagram_of, newly}
+use Rattle.nb_entries.specs.Change.{handed_by}
+use Rattle.nb_table.specs.Whole.{datagram_at, newly_whole}
 use Rattle.nb_table.specs.Code.Each.{joined_each}
 use Rattle.nb_table.specs.Code.Handed.{handed_at, with_entry, handed}
 use Rattle.nb_datagram.specs.KeyOrder.{key_cmp_total, key_cmp_exact}
-use Rattle.nb_table.specs.Shared.MapsLemmas.{below_none, lt_not_eq, tied_self, T_left, T_right}
+use Rattle.nb_entries.specs.Shared.MapsLemmas.{below_none, lt_not_eq, tied_self, T_left, T_right}
 use Rattle.nb_table.specs.Shared.TableLemmas.{get-join}
 use Rattle.nb_table.proofs.Joins.EachLemmas.{joined_each_is, get-joined_each}
 use Rattle.nb_table.proofs.Joins.GotLemmas.{same_given}
-use Rattle.nb_table.proofs.Wholeness.WholeLemmas.{whole_exactly}
-
--- ---- an entry
-
--- an entry that was whole isn't newly whole, and one that wasn't is so wherever it is whole
-pub newly_never : (k : Key) (e : EntryValue) (o : Option DatagramParts) → IsWhole e → None ≡ newly (datagram_of k e) o
-newly_never k e o w = let d = (whole_exactly k e).0 w in sym (ap (λ a. newly a o) d.1)
-
-pub newly_always : (k : Key) (e : EntryValue) (o p : Option DatagramParts) → (IsWhole e → ⊥) → o ≡ p → o ≡ newly (datagram_of k e) p
-newly_always k e o p n same = same ∙ step (datagram_of k e) refl
-  where
-    step : (a : Option DatagramParts) → datagram_of k e ≡ a → p ≡ newly a p
-    step None h = refl
-    step (Some d) h = absurd (n ((whole_exactly k e).1 (d, h)))
+use Rattle.nb_entries.specs.Shared.WholeLemmas.{newly_same}
 
 -- ---- a key
 
-pub handed_held : (t : Contents) (k : Key) (e x : EntryValue) (o : Option DatagramParts) → maps.get t k ≡ Some x → o ≡ newly (datagram_of k x) (datagram_of k (join_entry x e)) → o ≡ handed_at t k e
-handed_held t k e x o at is = is ∙ sym (ap (λ a. newly (option_and_then (datagram_of k) a) (datagram_of k (joined_onto join_entry a e))) at)
-
-pub handed_new : (t : Contents) (k : Key) (e : EntryValue) (o : Option DatagramParts) → maps.get t k ≡ None → o ≡ datagram_of k e → o ≡ handed_at t k e
-handed_new t k e o none is = is ∙ sym (ap (λ a. newly (option_and_then (datagram_of k) a) (datagram_of k (joined_onto join_entry a e))) none)
+pub handed_held : (h : Handing) (t : Contents) (k : Key) (e x : EntryValue) (o : Option DatagramParts) → maps.get t k ≡ Some x → o ≡ handed_by h (newly (datagram_of k x) (datagram_of k (join_entry x e))) → o ≡ handed_at h t k e
+handed_held h t k e x o at is = is ∙ sym (ap (λ a. handed_by h (newly (option_and_then (datagram_of k) a) (datagram_of k (joined_onto join_entry a e)))) at)
 
 -- ---- keys joined one after the other
 
@@ -52,20 +40,9 @@ one_after ds None rest = ap (λ q. q ++ rest) (append-nil ds)
 one_after ds (Some d) rest = append_assoc ds (d ∷ []) rest
 
 -- one more key
-pub handed_turn : (t new : Contents) (ds more : List DatagramParts) (k : Key) (e : EntryValue) (rest : List (Key × EntryValue)) → new ≡ with_entry t k e → more ≡ ds ++ cons_option (handed_at t k e) [] → more ++ handed new rest ≡ ds ++ handed t ((k, e) ∷ rest)
-handed_turn t new ds more k e rest is given =
-    ap₂ (λ q m. q ++ handed m rest) given is ∙ one_after ds (handed_at t k e) (handed (with_entry t k e) rest)
-
-with_last : {D : Type 0} (o p : Option D) (ds : List D) → cons_option o (ds ++ cons_option p []) ≡ cons_option o ds ++ cons_option p []
-with_last None p ds = refl
-with_last (Some d) p ds = refl
-
--- the last key
-pub handed-more : (t : Contents) (es : List (Key × EntryValue)) (k : Key) (e : EntryValue) → handed t (es ++ (k, e) ∷ []) ≡ handed t es ++ cons_option (handed_at (joined_each join_entry t es) k e) []
-handed-more t [] k e = refl
-handed-more t (f ∷ es) k e =
-    ap (cons_option (handed_at t f.0 f.1)) (handed-more (with_entry t f.0 f.1) es k e)
-    ∙ with_last (handed_at t f.0 f.1) (handed_at (joined_each join_entry (with_entry t f.0 f.1) es) k e) (handed (with_entry t f.0 f.1) es)
+pub handed_turn : (h : Handing) (t new : Contents) (ds more : List DatagramParts) (k : Key) (e : EntryValue) (rest : List (Key × EntryValue)) → new ≡ with_entry t k e → more ≡ ds ++ cons_option (handed_at h t k e) [] → more ++ handed h new rest ≡ ds ++ handed h t ((k, e) ∷ rest)
+handed_turn h t new ds more k e rest is given =
+    ap₂ (λ q m. q ++ handed h m rest) given is ∙ one_after ds (handed_at h t k e) (handed h (with_entry t k e) rest)
 
 -- a key below these makes no difference to what they had
 above_same : (t after : Contents) (k : Key) (v : EntryValue) (es : List (Key × EntryValue)) → T (below_all key_cmp k es) → filter_map (newly_whole (maps.insert t k v) after) (map (λ e. e.0) es) ≡ filter_map (newly_whole t after) (map (λ e. e.0) es)
@@ -75,7 +52,7 @@ above_same t after k v (e ∷ es) h =
     let same = maps.get-insert key_cmp_total t k v e.0 ∙ ap (λ b. cond b (Some v) (maps.get t e.0)) other in
     ap₂ cons_option (ap (λ o. newly (option_and_then (datagram_of e.0) o) (datagram_at after e.0)) same) (above_same t after k v es (T_right _ _ h))
 
-handed_is : (t : Contents) (es : List (Key × EntryValue)) → T (is_sorted key_cmp es) → handed t es ≡ filter_map (newly_whole t (joined_each join_entry t es)) (map (λ e. e.0) es)
+handed_is : (t : Contents) (es : List (Key × EntryValue)) → T (is_sorted key_cmp es) → handed Over t es ≡ filter_map (newly_whole t (joined_each join_entry t es)) (map (λ e. e.0) es)
 handed_is t [] s = refl
 handed_is t (e ∷ es) s =
     let v = joined_onto join_entry (maps.get t e.0) e.1 in
@@ -85,10 +62,6 @@ handed_is t (e ∷ es) s =
     let stays = get-joined_each key_cmp_total key_cmp_exact join_entry next es (T_right _ _ s) e.0 ∙ ap₂ (joined_at join_entry) stands (below_none key_cmp e.0 es (T_left _ _ s)) in
     ap₂ cons_option (sym (ap (λ o. newly (datagram_at t e.0) (option_and_then (datagram_of e.0) o)) stays))
     (handed_is next es (T_right _ _ s) ∙ above_same t after e.0 v es (T_left _ _ s))
-
-newly_same : {D : Type 0} (o : Option D) → newly o o ≡ None
-newly_same None = refl
-newly_same (Some d) = refl
 
 -- the keys that the other table lacks don't become whole
 given_same : (t o : Contents) (k : Key) → option_and_then (λ _. newly_whole t (join t o) k) (maps.get (join t o) k) ≡ option_and_then (λ _. newly_whole t (join t o) k) (maps.get o k)
@@ -104,7 +77,7 @@ given_same t o k =
     step (Some x) (Some y) = refl
 
 -- all keys of the other table
-pub handed_all : (t o : Contents) → handed t (maps.entries o) ≡ newly_handed t (join t o)
+pub handed_all : (t o : Contents) → handed Over t (maps.entries o) ≡ newly_handed t (join t o)
 handed_all t o =
     handed_is t (maps.entries o) (maps.entries_sorted o)
     ∙ ap (λ j. filter_map (newly_whole t j) (maps.keys o)) (joined_each_is key_cmp_total key_cmp_exact join_entry t o)

@@ -1,5 +1,5 @@
 -- Tables merged: the limits are kept.
-use Rattle.std.proofs.Common.{◌≡◌, ◌++◌, ℕ, cond, Bool, true, false, List, [], ◌∷◌, Option, Some, None, refl, sym, ◌∙◌, ap, subst, arith}
+use Rattle.std.proofs.Common.{◌≡◌, ℕ, cond, Bool, true, false, List, [], ◌∷◌, Option, Some, None, refl, sym, ◌∙◌, ap, subst, arith}
 use Rattle.std.proofs.lemmas.Option.{none-some, same_Some}
 use Rattle.std.specs.Prelude.{T}
 use Rattle.std.specs.Ordering.{eq_by_cmp}
@@ -8,17 +8,20 @@ use Rattle.std.specs.FinMap.{is_sorted}
 use Rattle.std.specs.FinMap as maps
 use Rattle.nb_datagram.specs.declared.key.Key.{Key}
 use Rattle.nb_datagram.specs.Key.{key_cmp}
-use Rattle.nb_table.specs.Maps.{joined_at, joined_onto}
-use Rattle.nb_table.specs.Entry.{EntryValue, join_entry}
+use Rattle.nb_entries.specs.Maps.{joined_at, joined_onto}
+use Rattle.nb_entries.specs.Entry.{EntryValue, join_entry}
 use Rattle.nb_table.specs.Contents.{Contents}
 use Rattle.nb_table.specs.Join.{join, IsTable}
 use Rattle.nb_table.specs.KeyCounts.{every_key}
-use Rattle.nb_table.specs.Limits.{TableValue, KeepsLimits, IsShort, with_contents}
+use Rattle.nb_table.specs.Limits.{TableValue, KeepsLimits, with_contents}
+use Rattle.nb_entries.specs.Short.{IsShort}
 use Rattle.nb_table.specs.Merging.{AllShort, Fits}
+use Rattle.nb_table.specs.Code.Each.{joined_each}
 use Rattle.nb_datagram.specs.KeyOrder.{key_cmp_total, key_cmp_exact}
-use Rattle.nb_table.specs.Shared.MapsLemmas.{one_key, tied_self, below_none, T_left, T_right}
+use Rattle.nb_entries.specs.Shared.MapsLemmas.{one_key, tied_self, below_none, T_left, T_right}
 use Rattle.nb_table.specs.Shared.TableLemmas.{get-join, join_formed}
 use Rattle.nb_table.proofs.Changes.InsertLemmas.{short_join, short_onto}
+use Rattle.nb_table.proofs.Joins.EachLemmas.{joined_each_is}
 use Rattle.nb_table.proofs.Limits.GroupLemmas.{held_every, fit_held, few_join}
 
 -- ---- the limits
@@ -68,6 +71,10 @@ one_more_short n t new k e all short is =
 
 -- ---- the entries of a table in order
 
+-- joined one after the other, they are the join of both tables
+pub joined_is : (t o new : Contents) (es : List (Key × EntryValue)) → es ≡ maps.entries o → new ≡ joined_each join_entry t es → new ≡ join t o
+joined_is t o new es order is = is ∙ ap (joined_each join_entry t) order ∙ joined_each_is key_cmp_total key_cmp_exact join_entry t o
+
 found_after : (e : Key × EntryValue) (es : List (Key × EntryValue)) → T (is_sorted key_cmp (e ∷ es)) → (q : Key) (x : EntryValue) (b : Bool) → eq_by_cmp key_cmp q e.0 ≡ b → maps.find key_cmp q es ≡ Some x → cond b (Some e.1) (maps.find key_cmp q es) ≡ Some x
 found_after e es s q x true h f = absurd (none-some x (sym (ap (λ k. maps.find key_cmp k es) (one_key key_cmp_exact q e.0 h) ∙ below_none key_cmp e.0 es (T_left _ _ s)) ∙ f))
 found_after e es s q x false h f = f
@@ -82,8 +89,3 @@ found_short n (e ∷ es) s h = (
 -- they are short where the table's are
 pub entries_short : (n : ℕ) (t : Contents) → AllShort n t → AllByRecursion (λ (e : Key × EntryValue). IsShort n e.1) (maps.entries t)
 entries_short n t all = found_short n (maps.entries t) (maps.entries_sorted t) (λ q x h. all q x (maps.get-entries t q ∙ h))
-
--- and so all but the last one, and the last one
-pub front_short : (n : ℕ) (es : List (Key × EntryValue)) (k : Key) (e : EntryValue) → AllByRecursion (λ (e : Key × EntryValue). IsShort n e.1) (es ++ (k, e) ∷ []) → AllByRecursion (λ (e : Key × EntryValue). IsShort n e.1) es × IsShort n e
-front_short n [] k e h = (tt, h.0)
-front_short n (f ∷ es) k e h = let rest = front_short n es k e h.1 in ((h.0, rest.0), rest.1)

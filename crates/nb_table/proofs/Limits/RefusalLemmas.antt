@@ -15,10 +15,10 @@ use Rattle.nb_datagram.specs.declared.key.Key.{Key}
 use Rattle.nb_datagram.specs.Fragment.{FragmentParts, core_of}
 use Rattle.nb_datagram.specs.Key.{key_cmp}
 use Rattle.nb_table.specs.declared.fault.TableFault.TheVariants.{Full}
-use Rattle.nb_table.specs.declared.load_fault.LoadFault.TheVariants as faults
-use Rattle.nb_table.specs.Slot.{Held}
-use Rattle.nb_table.specs.Maps.{joined_onto}
-use Rattle.nb_table.specs.Entry.{EntryValue, facts_of, join_entry}
+use Rattle.nb_entries.specs.declared.load_fault.LoadFault.TheVariants as faults
+use Rattle.nb_entries.specs.declared.slot.Slot.TheVariants.{Held}
+use Rattle.nb_entries.specs.Maps.{joined_onto}
+use Rattle.nb_entries.specs.Entry.{EntryValue, facts_of, join_entry}
 use Rattle.nb_table.specs.Contents.{Contents}
 use Rattle.nb_table.specs.Insert.{Refuses, with_fragment}
 use Rattle.nb_table.specs.Join.{join}
@@ -29,7 +29,7 @@ use Rattle.nb_table.specs.Merging.{IsRefused, IsUnfitSource, first_unfit, new_ke
 use Rattle.nb_table.specs.Refusals.{IsNew, below, is_lesser}
 use Rattle.nb_table.specs.Shared.FragmentLemmas.{join_one}
 use Rattle.nb_table.specs.Shared.KeyCountLemmas.{entries_kept, keys_kept}
-use Rattle.nb_table.specs.Shared.MapsLemmas.{T_left, T_right, and_left, and_right, tied_self}
+use Rattle.nb_entries.specs.Shared.MapsLemmas.{T_left, T_right, and_left, and_right, tied_self}
 use Rattle.nb_datagram.specs.KeyOrder.{key_cmp_total, key_cmp_exact}
 use Rattle.nb_table.proofs.Limits.GroupLemmas.{few_insert, few_join, filter_at_most, fit_held, held_every, held_join, source_decides}
 use Rattle.nb_table.proofs.Limits.SourceLemmas.{is_less}

@@ -1,4 +1,5 @@
 -- The least key that doesn't fit among those of its address: found by going through the addresses, ascending.
+use Rattle.std.proofs.Common.{append-nil}
 use Rattle.std.proofs.Common.{◌≡◌, ◌≢◌, ◌≤◌, ◌-◌, ◌+◌, ◌&&◌, ◌++◌, ℕ, suc, zero, cond, Bool, true, false, List, [], ◌∷◌, filter, map, length, slice_get, is_none, Option, Some, None, refl, sym, ◌∙◌, ap, subst, arith}
 use Rattle.std.proofs.lemmas.List.{length-map}
 use Rattle.std.proofs.lemmas.Option.{none-some, same_Some, slice_get_past}
@@ -12,11 +13,11 @@ use Rattle.std.specs.FinMap.Entries.{below_all}
 use Rattle.std.specs.FinMap as maps
 use Rattle.nb_datagram.specs.declared.key.Key.{Key}
 use Rattle.nb_datagram.specs.Key.{key_cmp}
-use Rattle.nb_table.specs.Entry.{EntryValue}
+use Rattle.nb_entries.specs.Entry.{EntryValue}
 use Rattle.nb_table.specs.Contents.{Contents}
 use Rattle.nb_table.specs.KeyCounts.{of_source, held_keys}
 use Rattle.nb_table.specs.Merging.{first_unfit, new_keys, SourcesFit, IsUnfitSource}
-use Rattle.nb_table.specs.Shared.MapsLemmas.{T_left, T_right}
+use Rattle.nb_entries.specs.Shared.MapsLemmas.{T_left, T_right}
 use Rattle.nb_datagram.specs.KeyOrder.{key_cmp_total}
 use Rattle.nb_table.proofs.Limits.GroupLemmas.{held_at_most, filter_at_most, source_decides}
 use Rattle.nb_table.proofs.Limits.SourceLemmas.{ip_cmp, is_less, lower_ip, lower_key, strictly}
@@ -137,12 +138,8 @@ gone_turn n s t before after all e es g none last = record {
   sorted = T_right _ _ g.sorted;
 }
 
-append_none : (xs : List (Key × EntryValue)) → xs ++ [] ≡ xs
-append_none [] = refl
-append_none (x ∷ xs) = ap (λ (r : List (Key × EntryValue)). x ∷ r) (append_none xs)
-
 pub gone_all : (n : ℕ) (s t : Contents) (before : Option Key) → Gone n s t before (maps.entries t) [] → SourcesFit n s t
-gone_all n s t before g = all_fit n s t (subst (AllByRecursion (λ f. unfit n s t f.0 ≡ None)) (sym (g.is ∙ append_none g.done)) g.none)
+gone_all n s t before g = all_fit n s t (subst (AllByRecursion (λ f. unfit n s t f.0 ≡ None)) (sym (g.is ∙ append-nil g.done)) g.none)
 
 -- the same address as that of the key before
 pub gone_same : (n : ℕ) (s t : Contents) (before : Option Key) (all : List (Key × EntryValue)) (e : Key × EntryValue) (es : List (Key × EntryValue)) → Gone n s t before all (e ∷ es) → MatchOption before ⊥ (λ b. b.ip ≡ e.0.ip) → Gone n s t before all es

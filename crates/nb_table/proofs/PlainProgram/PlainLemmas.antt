@@ -7,15 +7,15 @@ use Rattle.std.proofs.lemmas.Option.{slice_get-get_or, slice_get_within, none-so
 use Rattle.nb_datagram.specs.declared.key.Key.{Key}
 use Rattle.nb_datagram.specs.Key.{same_key}
 use Rattle.nb_datagram.specs.Fragment.{FragmentParts, core_of, cores_of, Core, Covers, reach, byte_of, end_of_one}
-use Rattle.nb_table.specs.Entry.{facts_agree, facts_of}
+use Rattle.nb_entries.specs.Entry.{facts_agree, facts_of}
 use Rattle.nb_table.specs.Conflict.{Overlap, PastEnd, BreaksPromise, Conflict, kinds, sources, destinations, overlap, ends, past_end, past_other_end, breaks, breaks_other}
 use Rattle.nb_table.specs.ConflictTests.{conflicts, some_conflict, with_key, is_spoilt}
 use Rattle.nb_table.specs.Code.Plain.{differ, SameHeader}
-use Rattle.nb_table.specs.Promise.{promise_of_one}
-use Rattle.nb_table.specs.Shared.PromiseLemmas.{promise_of_decides}
-use Rattle.nb_table.specs.Shared.EntryLemmas.{facts_fit_of}
+use Rattle.nb_entries.specs.Promise.{promise_of_one}
+use Rattle.nb_entries.specs.Shared.PromiseLemmas.{promise_of_decides}
+use Rattle.nb_entries.specs.Shared.EntryLemmas.{facts_fit_of}
 use Rattle.nb_table.proofs.Conflict.ConflictLemmas.{conflicts_decides, past_from, covers}
-use Rattle.nb_table.proofs.Covers.PlacedLemmas.{byte_of_decides, end_of_decides, covers_below}
+use Rattle.nb_entries.specs.Shared.PlacedLemmas.{byte_of_decides, end_of_decides, covers_below}
 
 -- ---- overlaps
 

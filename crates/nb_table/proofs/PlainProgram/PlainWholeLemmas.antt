@@ -6,12 +6,13 @@ use Rattle.nb_datagram.specs.declared.key.Key.{Key}
 use Rattle.nb_datagram.specs.Fragment.{Core}
 use Rattle.nb_datagram.specs.Datagram.{DatagramParts}
 use Rattle.nb_datagram.specs.declared.limits.TheConstants.{MAX_LENGTH}
-use Rattle.nb_table.specs.Slot.{Spoilt, Held}
-use Rattle.nb_table.specs.Entry.{EntryValue}
+use Rattle.nb_entries.specs.declared.slot.Slot.TheVariants.{Spoilt, Held}
+use Rattle.nb_entries.specs.Entry.{EntryValue}
 use Rattle.nb_table.specs.Conflict.{IsSpoilt}
 use Rattle.nb_table.specs.ConflictTests.{some_conflict, with_key, is_spoilt}
 use Rattle.nb_table.specs.Contents.{first_end, byte_at, end_of, cover_in, facts_in, entry_in, table_of}
-use Rattle.nb_table.specs.Whole.{IsWhole, bytes_below, bytes_to, datagram_with, datagram_of, datagram_at}
+use Rattle.nb_entries.specs.Whole.{IsWhole, bytes_below, bytes_to, datagram_with, datagram_of}
+use Rattle.nb_table.specs.Whole.{datagram_at}
 use Rattle.nb_table.specs.Whole.{IsWholeAt}
 use Rattle.nb_table.specs.Plain.{IsLong}
 use Rattle.nb_table.specs.Code.Plain.{CoversBelow, datagram_to}
@@ -21,7 +22,7 @@ use Rattle.nb_table.proofs.Conflict.ConflictLemmas.{is_spoilt_decides}
 use Rattle.nb_table.proofs.Contents.ContentsLemmas.{get-cover_in}
 use Rattle.nb_table.specs.Shared.FragmentLemmas.{get-table_of}
 use Rattle.nb_table.proofs.Contents.SayingLemmas.{spoilt_exactly, held_says}
-use Rattle.nb_table.proofs.Wholeness.WholeLemmas.{whole_exactly, with_found, below_found}
+use Rattle.nb_entries.specs.Shared.WholeLemmas.{whole_exactly, with_found, below_found}
 
 -- ---- places that are covered
 

@@ -7,15 +7,16 @@ use Rattle.nb_datagram.specs.declared.kind.Kind.TheVariants.{Group}
 use Rattle.nb_datagram.specs.Key.{key_cmp}
 use Rattle.nb_datagram.specs.Kind.{type_of}
 use Rattle.nb_datagram.specs.Packet.{name_bytes}
-use Rattle.nb_table.specs.declared.saved.form.SavedForm.{SavedForm}
-use Rattle.nb_table.specs.declared.saved.form.SavedForm.TheVariants.{First, Second}
-use Rattle.nb_table.specs.Slot.{Held}
-use Rattle.nb_table.specs.Entry.{EntryValue}
-use Rattle.nb_table.specs.Runs.{RunValue, map_of_runs, runs_of_map}
-use Rattle.nb_table.specs.Saved.{end_bytes, entries_bytes, key_bytes, magic, promise_bytes, runs_bytes, saved, saved_as, saved_first}
+use Rattle.nb_entries.specs.declared.saved.form.SavedForm.{SavedForm}
+use Rattle.nb_entries.specs.declared.saved.form.SavedForm.TheVariants.{First, Second}
+use Rattle.nb_entries.specs.declared.slot.Slot.TheVariants.{Held}
+use Rattle.nb_entries.specs.Entry.{EntryValue}
+use Rattle.nb_entries.specs.Runs.{RunValue, map_of_runs, runs_of_map}
+use Rattle.nb_entries.specs.Saved.{end_bytes, promise_bytes, runs_bytes}
+use Rattle.nb_table.specs.Saved.{entries_bytes, key_bytes, magic, saved, saved_as, saved_first}
 use Rattle.nb_table.specs.SavedExample.{example_facts, example_key, example_runs, example_saved, example_saved_first, example_table}
 use Rattle.nb_datagram.specs.KeyOrder.{key_cmp_total}
-use Rattle.nb_table.proofs.Runs.RunsLemmas.{runs_back}
+use Rattle.nb_entries.specs.Shared.RunsLemmas.{runs_back}
 
 nothing_of : {X : Type 0} (xs : List X) → length xs ≡ 0 → xs ≡ []
 nothing_of [] h = refl

@@ -4,11 +4,11 @@ use Rattle.std.proofs.lemmas.Bool.{true≢false}
 use Rattle.std.specs.Prelude.{Decides}
 use Rattle.std.specs.FinMap as maps
 use Rattle.nb_datagram.specs.declared.key.Key.{Key}
-use Rattle.nb_table.specs.declared.load_fault.LoadFault.{LoadFault}
-use Rattle.nb_table.specs.declared.load_fault.LoadFault.TheVariants.{TooLong, FullSource, Full, NoMemory}
-use Rattle.nb_table.specs.declared.saved.form.SavedForm.{SavedForm}
+use Rattle.nb_entries.specs.declared.load_fault.LoadFault.{LoadFault}
+use Rattle.nb_entries.specs.declared.load_fault.LoadFault.TheVariants.{TooLong, FullSource, Full, NoMemory}
+use Rattle.nb_entries.specs.declared.saved.form.SavedForm.{SavedForm}
 use Rattle.nb_table.specs.Contents.{Contents}
-use Rattle.nb_table.specs.Entry.{EntryValue}
+use Rattle.nb_entries.specs.Entry.{EntryValue}
 use Rattle.nb_table.specs.KeyCounts.{FewOfEach, of_source}
 use Rattle.nb_table.specs.Limits.{Limits, KeepsLimits}
 use Rattle.nb_table.specs.LoadFaults.{IsReadAs, LoadFails, too_long, full_source, full, no_memory}
@@ -17,7 +17,8 @@ use Rattle.nb_table.specs.SavedReading.{IsRead, entries_at}
 use Rattle.nb_names.specs.Labels.{StandsAt}
 use Rattle.nb_table.specs.Code.SavedTables.{IsJudged, AreKept}
 use Rattle.nb_table.proofs.SavedReading.LoadedLemmas.{table_with, read_inside, read_entries, read_len, read_saved, read_formed, read_short}
-use Rattle.nb_table.proofs.SavedReading.OutcomeLemmas.{same_fault, same_value, apart, one_form, one_read, one_entries}
+use Rattle.nb_entries.specs.Shared.OutcomeLemmas.{same_fault, same_value, apart}
+use Rattle.nb_table.proofs.SavedReading.OutcomeLemmas.{one_form, one_read, one_entries}
 
 -- a judged input has no fault
 pub judged_sound : (input : List ℕ) (limit most count : ℕ) (short few : Bool) → IsJudged input limit most count short few → (f : LoadFault) → IsRead input (Err f) → ⊥

@@ -1,45 +1,43 @@
 -- An input that was read is the saved bytes of the table of its entries.
-use Rattle.std.proofs.Common.{◌≡◌, ◌≤◌, ◌&&◌, inl, inr, ℕ, suc, zero, List, [], ◌∷◌, ◌++◌, length, Bool, true, false, cond, Option, None, Some, Ok, refl, sym, ap, ap₂, subst, ◌∙◌}
+use Rattle.std.proofs.Common.{◌≡◌, inl, inr, ℕ, suc, zero, List, ◌∷◌, ◌++◌, length, Option, None, Some, Ok, sym, ap, ap₂, subst, ◌∙◌, ◌&&◌, [], Bool, true, false, cond, refl}
 use Rattle.std.specs.Prelude.{T, Decides}
-use Rattle.std.proofs.lemmas.Option.{none-some, same_Some}
-use Rattle.std.specs.declared.cmp.Ordering.{Ordering}
-use Rattle.std.specs.declared.cmp.Ordering.TheVariants.{Less, Equal, Greater}
 use Rattle.std.specs.Int.{w32, to_be_bytes}
 use Rattle.std.specs.List.{list_all, AllByRecursion}
-use Rattle.std.specs.Ordering.{is_lt, eq_by_cmp}
 use Rattle.std.specs.FinMap as maps
 use Rattle.std.specs.FinMap.{is_sorted}
 use Rattle.std.specs.FinMap.Entries.{below_all}
 use Rattle.nb_datagram.specs.declared.key.Key.{Key}
 use Rattle.nb_datagram.specs.Key.{key_cmp}
-use Rattle.nb_table.specs.declared.saved.form.SavedForm.{SavedForm}
-use Rattle.nb_table.specs.declared.saved.form.SavedForm.TheVariants.{First, Second}
+use Rattle.nb_entries.specs.declared.saved.form.SavedForm.{SavedForm}
+use Rattle.nb_entries.specs.declared.saved.form.SavedForm.TheVariants.{First, Second}
 use Rattle.nb_table.specs.Contents.{Contents}
-use Rattle.nb_table.specs.Cover.{AreCoverFacts}
-use Rattle.nb_table.specs.Entry.{EntryFacts, EntryValue, IsEntry}
+use Rattle.nb_entries.specs.Entry.{EntryValue, IsEntry}
 use Rattle.nb_table.specs.Join.{IsTable}
 use Rattle.nb_table.specs.Merging.{AllShort}
-use Rattle.nb_table.specs.Code.Fitting.{is_short}
-use Rattle.nb_table.specs.Runs.{RunValue, run_end, AreApart, map_of_runs}
+use Rattle.nb_entries.specs.Short.{is_short}
 use Rattle.nb_table.specs.Saved.{magic, entries_bytes, saved_as, IsSaved}
-use Rattle.nb_table.specs.SavedReading.{gives, goes_on, whole, good, is_0, is_1, IsAfter, most_of, facts_at, entry_at, entries_at, IsRead, after_magic}
-use Rattle.nb_table.specs.Slot.{Held, OnHeld}
+use Rattle.nb_entries.specs.SavedReading.{gives, goes_on, whole, good}
+use Rattle.nb_table.specs.SavedReading.{IsAfter, entries_at, IsRead, after_magic}
+use Rattle.nb_entries.specs.declared.slot.Slot.TheVariants.{Held}
+use Rattle.nb_entries.specs.Slot.{OnHeld}
 use Rattle.nb_names.specs.Labels.{StandsAt}
-use Rattle.nb_table.specs.Shared.CoverLemmas.{bytes_below_decides}
-use Rattle.nb_table.specs.Shared.MapsLemmas.{T_left, T_right}
 use Rattle.nb_datagram.specs.KeyOrder.{key_cmp_total, key_cmp_exact}
-use Rattle.nb_table.proofs.Runs.EachPutLemmas.{sorted_entries}
+use Rattle.nb_entries.specs.Shared.MapsLemmas.{sorted_entries, T_left, T_right}
 use Rattle.nb_table.proofs.Limits.FittingLemmas.{all_short_decides}
-use Rattle.nb_table.proofs.SavedReading.FoundLemmas.{IsPromise, key_found, promise_found, runs_found, entries_found, read_found}
-use Rattle.nb_table.proofs.Runs.RowLemmas.{map_below, all_short}
+use Rattle.nb_table.proofs.SavedReading.FoundLemmas.{key_found, entries_found, read_found}
+use Rattle.nb_entries.specs.Shared.LoadedLemmas.{entry_formed, entry_plain}
+use Rattle.std.proofs.lemmas.Option.{none-some, same_Some}
+use Rattle.std.specs.declared.cmp.Ordering.{Ordering}
+use Rattle.std.specs.declared.cmp.Ordering.TheVariants.{Less, Equal, Greater}
+use Rattle.std.specs.Ordering.{is_lt, eq_by_cmp}
 
 -- ---- keys ascend
 
-T_both : (a b : Bool) → T a → T b → T (a && b)
+pub T_both : (a b : Bool) → T a → T b → T (a && b)
 T_both true b g h = h
 T_both false b g h = absurd g
 
-less_is : (r : Ordering) → r ≡ Less → T (is_lt r)
+pub less_is : (r : Ordering) → r ≡ Less → T (is_lt r)
 less_is r e = subst (λ x. T (is_lt x)) (sym e) tt
 
 is_less : (r : Ordering) → T (is_lt r) → r ≡ Less
@@ -47,7 +45,7 @@ is_less Less h = refl
 is_less Equal h = absurd h
 is_less Greater h = absurd h
 
-below_less : (b k : Key) (es : List (Key × EntryValue)) → key_cmp b k ≡ Less → T (below_all key_cmp k es) → T (below_all key_cmp b es)
+pub below_less : (b k : Key) (es : List (Key × EntryValue)) → key_cmp b k ≡ Less → T (below_all key_cmp k es) → T (below_all key_cmp b es)
 below_less b k [] h t = tt
 below_less b k (e ∷ es) h t =
     T_both _ _ (less_is (key_cmp b e.0) (key_cmp_total.trans b k e.0 h (is_less (key_cmp k e.0) (T_left _ _ t)))) (below_less b k es h (T_right _ _ t))
@@ -57,17 +55,25 @@ abbrev pub Above : Option Key → List (Key × EntryValue) → Type 0
 Above None es = Unit {0}
 Above (Some before) es = T (below_all key_cmp before es)
 
-above_none : (before : Option Key) → Above before []
+pub above_none : (before : Option Key) → Above before []
 above_none None = tt
 above_none (Some b) = tt
-
-above_more : (before : Option Key) (key : Key) (e : EntryValue) (es : List (Key × EntryValue)) → IsAfter before key → T (below_all key_cmp key es) → Above before ((key, e) ∷ es)
-above_more None key e es h t = tt
-above_more (Some b) key e es h t = T_both _ _ (less_is (key_cmp b key) h) (below_less b key es h t)
 
 pub record Ascend (before : Option Key) (es : List (Key × EntryValue)) : Type 0 where
   pub sorted : T (is_sorted key_cmp es)
   pub above : Above before es
+
+pub found_in : (P : EntryValue → Type 0) (es : List (Key × EntryValue)) → AllByRecursion (λ (e : Key × EntryValue). P e.1) es → (q : Key) (x : EntryValue) → maps.find key_cmp q es ≡ Some x → P x
+found_in P [] h q x f = absurd (none-some x f)
+found_in P (e ∷ es) h q x f = step (eq_by_cmp key_cmp q e.0) f (found_in P es h.1 q x)
+  where
+    step : (b : Bool) → cond b (Some e.1) (maps.find key_cmp q es) ≡ Some x → (maps.find key_cmp q es ≡ Some x → P x) → P x
+    step true g rec = subst P (same_Some e.1 x g) h.0
+    step false g rec = rec g
+
+above_more : (before : Option Key) (key : Key) (e : EntryValue) (es : List (Key × EntryValue)) → IsAfter before key → T (below_all key_cmp key es) → Above before ((key, e) ∷ es)
+above_more None key e es h t = tt
+above_more (Some b) key e es h t = T_both _ _ (less_is (key_cmp b key) h) (below_less b key es h t)
 
 pub entries_ascend : (form : SavedForm) (input : List ℕ) (count : ℕ) (before : Option Key) (at next : ℕ) (es : List (Key × EntryValue)) → entries_at form input count before at (Ok (es, next)) → Ascend before es
 entries_ascend form input zero before at next es gives = record { sorted = tt; above = above_none before }
@@ -78,38 +84,10 @@ entries_ascend form input (suc count) before at next es (goes_on key a k (goes_o
       above = above_more before key e fs (key_found input before at a key k).1 rest.above;
     }
 
--- ---- entries are well formed
-
--- runs that don't pass the end lie below it
-pub covers_formed : (runs : List RunValue) (end promise : Option ℕ) → AreApart runs → AllByRecursion (λ (r : RunValue). run_end r ≤ most_of end) runs → IsPromise end promise →
-    AreCoverFacts (record { bytes = map_of_runs runs; end = end; promise = promise })
-covers_formed runs end promise apart short kept n e =
-    let below = subst (λ (m : ℕ). AllByRecursion (λ (r : RunValue). run_end r ≤ m) runs) (ap most_of e) short in
-    record {
-      bytes = (bytes_below_decides n (map_of_runs runs)).0 (map_below n runs apart ∙ all_short n runs below);
-      promise = λ r f. kept.below r f n e;
-    }
-
-facts_formed : (form : SavedForm) (input : List ℕ) (at next : ℕ) (e : EntryFacts) → facts_at form input at (Ok (e, next)) → AreCoverFacts e.cover
-facts_formed form input at next e (goes_on kind a k (goes_on source b s (goes_on destination c d (goes_on end m n (goes_on promise p q (goes_on runs l r gives)))))) =
-    let row = runs_found input (most_of end) p l runs r in covers_formed runs end promise row.1 row.2 (promise_found form input end m p promise q).1
-
-entry_formed : (form : SavedForm) (input : List ℕ) (at next : ℕ) (e : EntryValue) → entry_at form input at (Ok (e, next)) → IsEntry e
-entry_formed form input at next e (goes_on state n h (is_0 z gives)) = tt
-entry_formed form input at next e (goes_on state n h (is_1 z (goes_on f m k gives))) = facts_formed form input n m f k
-
 entries_formed : (form : SavedForm) (input : List ℕ) (count : ℕ) (before : Option Key) (at next : ℕ) (es : List (Key × EntryValue)) → entries_at form input count before at (Ok (es, next)) → AllByRecursion (λ (e : Key × EntryValue). IsEntry e.1) es
 entries_formed form input zero before at next es gives = tt
 entries_formed form input (suc count) before at next es (goes_on key a k (goes_on e b h (goes_on fs c r gives))) =
     (entry_formed form input a b e h, entries_formed form input count (Some key) b c fs r)
-
-found_in : (P : EntryValue → Type 0) (es : List (Key × EntryValue)) → AllByRecursion (λ (e : Key × EntryValue). P e.1) es → (q : Key) (x : EntryValue) → maps.find key_cmp q es ≡ Some x → P x
-found_in P [] h q x f = absurd (none-some x f)
-found_in P (e ∷ es) h q x f = step (eq_by_cmp key_cmp q e.0) f (found_in P es h.1 q x)
-  where
-    step : (b : Bool) → cond b (Some e.1) (maps.find key_cmp q es) ≡ Some x → (maps.find key_cmp q es ≡ Some x → P x) → P x
-    step true g rec = subst P (same_Some e.1 x g) h.0
-    step false g rec = rec g
 
 -- ---- the whole input
 
@@ -140,16 +118,6 @@ read_entries input es last h = sorted_entries key_cmp_total key_cmp_exact es (re
 
 pub read_len : (input : List ℕ) (es : List (Key × EntryValue)) (last : ℕ) → IsRead input (Ok (es, last)) → maps.len (table_with es) ≡ length es
 read_len input es last h = maps.len-entries (table_with es) ∙ ap length (read_entries input es last h)
-
--- ---- what was saved
-
--- the first form has no promises
-facts_plain : (input : List ℕ) (at next : ℕ) (e : EntryFacts) → facts_at First input at (Ok (e, next)) → e.cover.promise ≡ None
-facts_plain input at next e (goes_on kind a k (goes_on source b s (goes_on destination c d (goes_on end m n (goes_on promise p gives (goes_on runs l r gives)))))) = refl
-
-entry_plain : (input : List ℕ) (at next : ℕ) (e : EntryValue) → entry_at First input at (Ok (e, next)) → OnHeld (λ a. a.cover.promise ≡ None) e
-entry_plain input at next e (goes_on state n h (is_0 z gives)) = tt
-entry_plain input at next e (goes_on state n h (is_1 z (goes_on f m k gives))) = facts_plain input n m f k
 
 entries_plain : (input : List ℕ) (count : ℕ) (before : Option Key) (at next : ℕ) (es : List (Key × EntryValue)) → entries_at First input count before at (Ok (es, next)) → AllByRecursion (λ (e : Key × EntryValue). OnHeld (λ a. a.cover.promise ≡ None) e.1) es
 entries_plain input zero before at next es gives = tt

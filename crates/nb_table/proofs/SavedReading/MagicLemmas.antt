@@ -7,12 +7,13 @@ use Rattle.std.specs.List.{starts_with}
 use Rattle.std.proofs.lemmas.Bool.{true≢false}
 use Rattle.nb_names.specs.Labels.{StandsAt}
 use Rattle.nb_names.specs.Numbers.{NumberAt}
-use Rattle.nb_table.specs.declared.load_fault.LoadFault.{LoadFault}
-use Rattle.nb_table.specs.declared.load_fault.LoadFault.TheVariants.{NotCanonical}
-use Rattle.nb_table.specs.declared.saved.form.SavedForm.{SavedForm}
-use Rattle.nb_table.specs.declared.saved.form.SavedForm.TheVariants.{First, Second}
+use Rattle.nb_entries.specs.declared.load_fault.LoadFault.{LoadFault}
+use Rattle.nb_entries.specs.declared.load_fault.LoadFault.TheVariants.{NotCanonical}
+use Rattle.nb_entries.specs.declared.saved.form.SavedForm.{SavedForm}
+use Rattle.nb_entries.specs.declared.saved.form.SavedForm.TheVariants.{First, Second}
 use Rattle.nb_table.specs.Saved.{magic}
-use Rattle.nb_table.specs.SavedReading.{Field, IsRead, after_magic, stops, goes_on, good, bad, entries_at}
+use Rattle.nb_entries.specs.SavedReading.{Field, stops, goes_on, good, bad}
+use Rattle.nb_table.specs.SavedReading.{IsRead, after_magic, entries_at}
 use Rattle.nb_table.specs.Code.SavedTables.{AreJudged, IsJudged}
 use Rattle.nb_table.proofs.SavedReading.FoundLemmas.{entries_found}
 

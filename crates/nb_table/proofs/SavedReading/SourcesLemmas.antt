@@ -14,7 +14,7 @@ use Rattle.nb_table.specs.declared.saved.sources.Sources.{Sources}
 use Rattle.nb_table.specs.KeyCounts.{of_source}
 use Rattle.nb_table.specs.SavedReading.{IsAfter}
 use Rattle.nb_table.specs.Code.SavedTables.{AreFew, SourcesSoFar}
-use Rattle.nb_table.specs.Shared.MapsLemmas.{and_left, and_right}
+use Rattle.nb_entries.specs.Shared.MapsLemmas.{and_left, and_right}
 use Rattle.nb_table.proofs.Limits.GroupLemmas.{source_decides}
 use Rattle.nb_table.proofs.Limits.SourceLemmas.{ip_cmp, lower_ip, same_ip, strictly, le_both, itself_le}
 

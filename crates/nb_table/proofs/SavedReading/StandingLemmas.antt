@@ -1,14 +1,11 @@
 -- Keys and bytes that stand in saved bytes.
-use Rattle.std.proofs.Common.{◌≡◌, ◌≢◌, ◌+◌, ◌≤◌, ℕ, [], ◌∷◌, List, length, drop, get_or, refl, arith}
+use Rattle.std.proofs.Common.{◌≡◌, ◌+◌, ◌≤◌, ℕ, [], ◌∷◌, List, length, drop, get_or, refl, arith}
 use Rattle.std.proofs.lemmas.List.{drop_more}
 use Rattle.std.specs.Int.{w16, to_be_bytes}
 use Rattle.nb_names.specs.Labels.{StandsAt}
 use Rattle.nb_names.specs.Numbers.{NumberAt}
-use Rattle.nb_datagram.specs.declared.kind.Kind.{Kind}
-use Rattle.nb_datagram.specs.declared.kind.Kind.TheVariants.{Unique, Group, Broadcast}
-use Rattle.nb_datagram.specs.Kind.{type_of}
 use Rattle.nb_table.specs.SavedReading.{KeyAt}
-use Rattle.nb_table.proofs.SavedReading.FoundLemmas.{Spells, spells_then}
+use Rattle.nb_entries.specs.Shared.FoundLemmas.{Spells, spells_then}
 
 four_there : (input : List ℕ) (at : ℕ) → at + 4 ≤ length input → StandsAt input at (get_or input at 0 ∷ get_or input (at + 1) 0 ∷ get_or input (at + 2) 0 ∷ get_or input (at + 3) 0 ∷ [])
 four_there input at fits =
@@ -33,9 +30,3 @@ key_there input at port id fits p q =
       fits = record { ip = refl; port = p.fits; id = q.fits };
       stands = (spells_then input at (at + 4) (at + 8) _ _ ip rest).there;
     }
-
--- no kind has another type
-pub no_kind : (type : ℕ) → type ≢ 16 → type ≢ 17 → type ≢ 18 → (kind : Kind) → type ≢ type_of kind
-no_kind type a b c Unique = a
-no_kind type a b c Group = b
-no_kind type a b c Broadcast = c

@@ -5,9 +5,9 @@ use Rattle.std.specs.Cmp.Lexicographic.{pointwise, pointwise_decides}
 use Rattle.nb_datagram.specs.declared.key.Key.{Key}
 use Rattle.nb_datagram.specs.Equality.{key_eq}
 use Rattle.nb_datagram.specs.EqualityFacts.{key_eq_decides}
-use Rattle.nb_table.specs.Entry.{EntryValue}
-use Rattle.nb_table.specs.Equal.{same_entry}
-use Rattle.nb_table.specs.Shared.EqualLemmas.{entry_decides}
+use Rattle.nb_entries.specs.Entry.{EntryValue}
+use Rattle.nb_entries.specs.Equal.{same_entry}
+use Rattle.nb_entries.specs.Shared.EqualLemmas.{entry_decides}
 
 item_decides : (p q : Key × EntryValue) → Decides (key_eq p.0 q.0 && same_entry p.1 q.1) (p ≡ q)
 item_decides p q =

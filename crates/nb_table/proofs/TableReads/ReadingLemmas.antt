@@ -4,17 +4,17 @@ use Rattle.std.proofs.lemmas.Option.{none-some, same_Some}
 use Rattle.std.specs.FinMap as maps
 use Rattle.nb_datagram.specs.declared.key.Key.{Key}
 use Rattle.nb_datagram.specs.Key.{same_key}
-use Rattle.nb_table.specs.declared.state.State.{State}
-use Rattle.nb_table.specs.declared.state.State.TheVariants.{Absent, Partial, Whole, Spoilt}
-use Rattle.nb_table.specs.Slot.{Held}
-use Rattle.nb_table.specs.Slot.{Spoilt as Clashed}
-use Rattle.nb_table.specs.Entry.{EntryValue}
+use Rattle.nb_entries.specs.declared.state.State.{State}
+use Rattle.nb_entries.specs.declared.state.State.TheVariants.{Absent, Partial, Whole, Spoilt}
+use Rattle.nb_entries.specs.declared.slot.Slot.TheVariants.{Held}
+use Rattle.nb_entries.specs.declared.slot.Slot.TheVariants.{Spoilt as Clashed}
+use Rattle.nb_entries.specs.Entry.{EntryValue}
 use Rattle.nb_table.specs.Contents.{Contents}
-use Rattle.nb_table.specs.Equal.{same_entry}
+use Rattle.nb_entries.specs.Equal.{same_entry}
 use Rattle.nb_table.specs.Limits.{TableValue, KeepsLimits}
 use Rattle.nb_table.specs.State.{IsState}
-use Rattle.nb_table.specs.Code.State.{IsEntryState}
-use Rattle.nb_table.specs.Shared.EqualLemmas.{entry_decides}
+use Rattle.nb_entries.specs.EntryState.{IsEntryState}
+use Rattle.nb_entries.specs.Shared.EqualLemmas.{entry_decides}
 use Rattle.nb_datagram.specs.KeyOrder.{key_cmp_total}
 use Rattle.nb_table.proofs.Limits.GroupLemmas.{few_remove}
 

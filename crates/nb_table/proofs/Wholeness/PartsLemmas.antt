@@ -5,7 +5,7 @@ use Rattle.std.proofs.lemmas.Option.{slice_get_within}
 use Rattle.nb_datagram.specs.Fragment.{Core, Covers, EndsAt, reach}
 use Rattle.nb_datagram.specs.Datagram.{DatagramParts}
 use Rattle.nb_datagram.specs.Pieces.{IsPart}
-use Rattle.nb_table.specs.Cover.{BytesBelow, cover_of}
+use Rattle.nb_entries.specs.Cover.{BytesBelow, cover_of}
 use Rattle.nb_table.specs.Conflict.{BreaksPromise, Conflict, kinds, sources, destinations, overlap, ends, past_end, past_other_end, breaks, breaks_other, IsSpoilt}
 use Rattle.nb_table.specs.Contents.{first_byte, first_end}
 use Rattle.nb_table.specs.Sender.{HasPartsAlone}

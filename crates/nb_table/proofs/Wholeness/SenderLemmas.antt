@@ -5,15 +5,16 @@ use Rattle.std.specs.FinMap as maps
 use Rattle.nb_datagram.specs.Fragment.{Core, reach}
 use Rattle.nb_datagram.specs.Datagram.{DatagramParts}
 use Rattle.nb_datagram.specs.Pieces.{IsPart}
-use Rattle.nb_table.specs.Slot.{Spoilt, Held}
-use Rattle.nb_table.specs.Entry.{EntryFacts, EntryValue}
+use Rattle.nb_entries.specs.declared.slot.Slot.TheVariants.{Spoilt, Held}
+use Rattle.nb_entries.specs.Entry.{EntryFacts, EntryValue}
 use Rattle.nb_table.specs.ConflictTests.{with_key}
 use Rattle.nb_table.specs.Contents.{table_of, Says}
-use Rattle.nb_table.specs.Whole.{IsWholeCover, IsWhole, IsWholeAt, datagram_of}
+use Rattle.nb_entries.specs.Whole.{IsWholeCover, IsWhole, datagram_of}
+use Rattle.nb_table.specs.Whole.{IsWholeAt}
 use Rattle.nb_table.specs.Sender.{HasPartsAlone, IsOf, HasAll, Gives}
 use Rattle.nb_table.proofs.Conflict.ConflictLemmas.{in_with_key, with_key_in}
 use Rattle.nb_table.proofs.Contents.SayingLemmas.{absent_exactly, spoilt_exactly, held_says}
-use Rattle.nb_table.proofs.Wholeness.WholeLemmas.{datagram_from}
+use Rattle.nb_entries.specs.Shared.WholeLemmas.{datagram_from}
 use Rattle.nb_table.proofs.Contents.FirstLemmas.{first_byte_from, first_end_from, first_byte_there, first_end_there}
 use Rattle.nb_table.proofs.Wholeness.PartsLemmas.{parts_not_spoilt, byte_of_parts, end_of_parts}
 

@@ -2,7 +2,7 @@
 use Rattle.std.specs.Prelude.{List, [], ◌∷◌}
 use Rattle.std.specs.declared.cmp.Ordering.{Ordering}
 use Rattle.std.specs.FinMap as maps
-use Rattle.nb_table.specs.Maps.{joined_onto}
+use Rattle.nb_entries.specs.Maps.{joined_onto}
 
 module _ {K X : Type 0} {R : K → K → Ordering} where
   -- with_each m es: the map m, and each of these entries

@@ -6,7 +6,7 @@ use Rattle.nb_datagram.specs.Fragment.{Core}
 use Rattle.nb_datagram.specs.Datagram.{DatagramParts}
 use Rattle.nb_table.specs.ConflictTests.{with_key}
 use Rattle.nb_table.specs.Contents.{byte_at, cover_in, facts_in}
-use Rattle.nb_table.specs.Whole.{bytes_below, datagram_with}
+use Rattle.nb_entries.specs.Whole.{bytes_below, datagram_with}
 
 -- there are both, and they differ
 abbrev pub differ : Option ℕ → Option ℕ → Bool

@@ -8,15 +8,15 @@ use Rattle.std.specs.FinMap as maps
 use Rattle.nb_datagram.specs.declared.key.Key.{Key}
 use Rattle.nb_datagram.specs.Header.{IsKey}
 use Rattle.nb_datagram.specs.Key.{key_cmp}
-use Rattle.nb_table.specs.declared.saved.form.SavedForm.{SavedForm}
+use Rattle.nb_entries.specs.declared.saved.form.SavedForm.{SavedForm}
 use Rattle.nb_table.specs.declared.saved.sources.Sources.{Sources}
-use Rattle.nb_table.specs.Entry.{EntryValue}
+use Rattle.nb_entries.specs.Entry.{EntryValue}
 use Rattle.nb_table.specs.Contents.{Contents}
 use Rattle.nb_table.specs.KeyCounts.{of_source}
-use Rattle.nb_table.specs.Code.Fitting.{is_short}
-use Rattle.nb_table.specs.SavedFits.{IsNamed}
+use Rattle.nb_entries.specs.Short.{is_short}
+use Rattle.nb_entries.specs.SavedFits.{IsNamed}
 use Rattle.nb_table.specs.SavedReading.{entries_at, IsRead}
-use Rattle.nb_table.specs.Slot.{OnHeld}
+use Rattle.nb_entries.specs.Slot.{OnHeld}
 
 -- the key is one, and the entry is spoilt or its names are names
 abbrev pub HasNames : Key × EntryValue → Type 0

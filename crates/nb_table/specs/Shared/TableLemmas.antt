@@ -3,13 +3,13 @@ use Rattle.std.proofs.Common.{◌≡◌, Option, Some, None, refl, sym, ◌∙�
 use Rattle.std.proofs.lemmas.Option.{same_Some}
 use Rattle.std.specs.FinMap as maps
 use Rattle.nb_datagram.specs.declared.key.Key.{Key}
-use Rattle.nb_table.specs.Maps.{joined_at}
-use Rattle.nb_table.specs.Entry.{EntryValue, join_entry, IsEntry}
+use Rattle.nb_entries.specs.Maps.{joined_at}
+use Rattle.nb_entries.specs.Entry.{EntryValue, join_entry, IsEntry}
 use Rattle.nb_table.specs.Contents.{Contents}
 use Rattle.nb_table.specs.Join.{join, IsTable}
-use Rattle.nb_table.specs.Shared.MapsLemmas.{get-joined, joined-comm, joined-assoc, joined-idem}
+use Rattle.nb_entries.specs.Shared.MapsLemmas.{get-joined, joined-comm, joined-assoc, joined-idem}
 use Rattle.nb_datagram.specs.KeyOrder.{key_cmp_total, key_cmp_exact}
-use Rattle.nb_table.specs.Shared.EntryLemmas.{join_entry-comm, join_entry-assoc, join_entry-idem, join_entry_formed}
+use Rattle.nb_entries.specs.Shared.EntryLemmas.{join_entry-comm, join_entry-assoc, join_entry-idem, join_entry_formed}
 
 -- tables with the same look-ups are one
 pub same_table : (a b : Contents) → ((k : Key) → maps.get a k ≡ maps.get b k) → a ≡ b

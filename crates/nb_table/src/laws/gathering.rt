@@ -4,8 +4,8 @@ ghost use Rattle.std.specs.Prelude.{◌≡◌, ◌≢◌, ◌≤◌, ◌↔◌, 
 ghost use Rattle.std.specs.FinMap as maps;
 ghost use Rattle.nb_datagram.specs.declared.key.Key.{Key};
 ghost use Rattle.nb_datagram.specs.Fragment.{Core};
-ghost use Rattle.nb_table.specs.Slot.{Spoilt, Held};
-ghost use Rattle.nb_table.specs.Entry.{EntryFacts};
+ghost use Rattle.nb_entries.specs.declared.slot.Slot.TheVariants.{Spoilt, Held};
+ghost use Rattle.nb_entries.specs.Entry.{EntryFacts};
 ghost use Rattle.nb_table.specs.Conflict.{IsSpoilt};
 ghost use Rattle.nb_table.specs.ConflictTests.{keyed};
 ghost use Rattle.nb_table.specs.Contents.{Contents, IsTableOf, HasByte, HasEnd, HasPromise, Says, table_of, entry_at};

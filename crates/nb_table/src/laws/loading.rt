@@ -5,13 +5,14 @@ ghost use Rattle.nb_datagram.specs.declared.key.Key.{Key};
 ghost use Rattle.nb_datagram.specs.declared.limits.TheConstants.{MAX_LENGTH};
 ghost use Rattle.nb_datagram.specs.Key.{key_cmp};
 ghost use Rattle.nb_table.specs.Contents.{Contents};
-ghost use Rattle.nb_table.specs.Entry.{EntryValue};
+ghost use Rattle.nb_entries.specs.Entry.{EntryValue};
 ghost use Rattle.nb_table.specs.Join.{IsTable};
 ghost use Rattle.nb_table.specs.LoadFaults.{IsReadAs};
 ghost use Rattle.nb_table.specs.Merging.{AllShort};
 ghost use Rattle.nb_table.specs.Saved.{HasNoPromise, IsSaved, saved, saved_first};
 ghost use Rattle.nb_table.specs.SavedFits.{FitsSaved};
-ghost use Rattle.nb_table.specs.SavedReading.{Outcome, IsRead};
+ghost use Rattle.nb_entries.specs.SavedReading.{Outcome};
+ghost use Rattle.nb_table.specs.SavedReading.{IsRead};
 
 /// Of an input either a saved table is read or one fault, and no other.
 pub fn saved_bytes_have_one_reading()

@@ -4,7 +4,7 @@ ghost use Rattle.std.specs.FinMap as maps;
 ghost use Rattle.nb_datagram.specs.Fragment.{Core, core_of};
 ghost use Rattle.nb_datagram.specs.Datagram.{DatagramParts};
 ghost use Rattle.nb_datagram.specs.Pieces.{pieces};
-ghost use Rattle.nb_table.specs.Slot.{Spoilt};
+ghost use Rattle.nb_entries.specs.declared.slot.Slot.TheVariants.{Spoilt};
 ghost use Rattle.nb_table.specs.Conflict.{IsSpoilt};
 ghost use Rattle.nb_table.specs.Contents.{table_of};
 ghost use Rattle.nb_table.specs.Sender.{HasPartsAlone, HasAll, Gives};

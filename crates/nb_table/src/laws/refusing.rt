@@ -4,7 +4,7 @@ ghost use Rattle.std.specs.FinMap as maps;
 ghost use Rattle.nb_datagram.specs.declared.key.Key.{Key};
 ghost use Rattle.nb_datagram.specs.Fragment.{FragmentParts};
 ghost use Rattle.nb_table.specs.declared.fault.TableFault.TheVariants.{Full, FullSource};
-ghost use Rattle.nb_table.specs.declared.load_fault.LoadFault.TheVariants as faults;
+ghost use Rattle.nb_entries.specs.declared.load_fault.LoadFault.TheVariants as faults;
 ghost use Rattle.nb_table.specs.Contents.{Contents};
 ghost use Rattle.nb_table.specs.Insert.{Refuses, with_fragment};
 ghost use Rattle.nb_table.specs.Join.{join};

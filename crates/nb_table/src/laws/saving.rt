@@ -4,13 +4,14 @@ ghost use Rattle.std.specs.FinMap as maps;
 ghost use Rattle.nb_datagram.specs.declared.key.Key.{Key};
 ghost use Rattle.nb_datagram.specs.declared.limits.TheConstants.{MAX_LENGTH};
 ghost use Rattle.nb_datagram.specs.Header.{IsKey};
-ghost use Rattle.nb_table.specs.Slot.{OnHeld};
-ghost use Rattle.nb_table.specs.Entry.{EntryValue};
+ghost use Rattle.nb_entries.specs.Slot.{OnHeld};
+ghost use Rattle.nb_entries.specs.Entry.{EntryValue};
 ghost use Rattle.nb_table.specs.Contents.{Contents};
 ghost use Rattle.nb_table.specs.Merging.{AllShort};
 ghost use Rattle.nb_table.specs.Saved.{saved, saved_first};
 ghost use Rattle.nb_table.specs.SavedExample.{example_saved, example_saved_first, example_table};
-ghost use Rattle.nb_table.specs.SavedFits.{IsNamed, FitsSaved};
+ghost use Rattle.nb_entries.specs.SavedFits.{IsNamed};
+ghost use Rattle.nb_table.specs.SavedFits.{FitsSaved};
 
 use nb_names::laws::labels_tell_the_name;
 

@@ -4,11 +4,11 @@ ghost use Rattle.nb_datagram.specs.Key.{same_key};
 ghost use Rattle.nb_datagram.specs.Fragment.{core_of, cores_of};
 ghost use Rattle.nb_datagram.specs.Fragment.{byte_of as core_byte};
 ghost use Rattle.nb_datagram.specs.Fragment.{end_of_one as core_end};
-ghost use Rattle.nb_table.specs.Promise.{promise_of_one as core_promise};
+ghost use Rattle.nb_entries.specs.Promise.{promise_of_one as core_promise};
 ghost use Rattle.nb_table.specs.Contents.{byte_at as list_byte};
 ghost use Rattle.nb_table.specs.Contents.{end_of as list_end};
 ghost use Rattle.nb_table.specs.Contents.{promise_of as list_promise};
-ghost use Rattle.nb_table.specs.Promise.{greater};
+ghost use Rattle.nb_entries.specs.Promise.{greater};
 
 use nb_datagram::{Fragment, Key};
 

@@ -7,7 +7,7 @@ ghost use Rattle.nb_table.specs.ConflictTests.{with_key};
 ghost use Rattle.nb_table.specs.Contents.{cover_in, table_of};
 ghost use Rattle.nb_table.specs.Contents.{byte_at as list_byte};
 ghost use Rattle.nb_table.specs.Whole.{datagram_at};
-ghost use Rattle.nb_table.specs.Whole.{bytes_below as cover_bytes};
+ghost use Rattle.nb_entries.specs.Whole.{bytes_below as cover_bytes};
 ghost use Rattle.nb_table.specs.Whole.{IsWholeAt};
 ghost use Rattle.nb_table.specs.Plain.{IsLong};
 ghost use Rattle.nb_table.specs.Code.Plain.{CoversBelow, datagram_to};

@@ -2,8 +2,8 @@
 ghost use Rattle.std.specs.Prelude.{◌≡◌, ◌++◌, [], OnOk, OnErr};
 ghost use Rattle.nb_table.specs.Code.Waiting.{Passes, Breaks};
 
-use super::sink::ByteSink;
 use arrayvec::ArrayVec;
+use nb_entries::saved::ByteSink;
 use nb_names::output::write_digits;
 use nb_names::{Counted, DeviceFault};
 use std::io::Write;

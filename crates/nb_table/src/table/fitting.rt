@@ -4,7 +4,7 @@ ghost use Rattle.std.specs.List.{list_all};
 ghost use Rattle.std.specs.FinMap as maps;
 ghost use Rattle.nb_table.specs.KeyCounts.{every_key};
 ghost use Rattle.nb_table.specs.Merging.{AllShort, Fits, IsRefused};
-ghost use Rattle.nb_table.specs.Code.Fitting.{is_short};
+ghost use Rattle.nb_entries.specs.Short.{is_short};
 ghost use Rattle.nb_table.specs.Merging.{first_unfit as least_unfit};
 
 use super::Table;

@@ -3,12 +3,12 @@ ghost use Rattle.std.specs.Prelude.{◌≡◌, ℕ, Err, IfOk, IfErr};
 ghost use Rattle.nb_table.specs.LoadFaults.{IsReadAs, LoadFails};
 ghost use Rattle.nb_table.specs.Saved.{IsSaved};
 ghost use Rattle.nb_table.specs.SavedReading.{IsRead};
-ghost use Rattle.nb_table.specs.declared.load_fault.LoadFault.{LoadFault};
+ghost use Rattle.nb_entries.specs.declared.load_fault.LoadFault.{LoadFault};
 
 use super::{Table, are_counted};
-use crate::load_fault::LoadFault;
 use crate::saved::entries::load_entries;
 use crate::saved::tables::{form_of, judge};
+use nb_entries::LoadFault;
 use std::alloc::Global;
 
 /// The table whose saved bytes these are, with these limits: how many keys it may hold, how many of

@@ -5,7 +5,7 @@ ghost use Rattle.nb_table.specs.Limits.{with_contents};
 ghost use Rattle.nb_table.specs.Merging.{Fits, IsRefused, newly_handed};
 
 mod merging_entries;
-mod moving;
+mod others;
 mod taking_back;
 mod taking_in;
 
@@ -14,6 +14,7 @@ use crate::fault::TableFault;
 use crate::join::Join;
 use merging_entries::merge_entries;
 use nb_datagram::Datagrams;
+use nb_entries::Handing;
 pub use taking_in::take_in_all;
 
 impl Table {
@@ -37,7 +38,8 @@ impl Table {
         ensures err { OnErr result (self.new ≡ self.old) }
     {
         self.fits(other)?;
-        Ok(merge_entries(self.alloc, &mut self.entries, &other.entries)?)
+        let others = other.entries.iter();
+        Ok(merge_entries(self.alloc, &mut self.entries, others, Handing::Over)?)
     }
 }
 
@@ -83,7 +85,8 @@ impl Join for Table {
         ensures err { OnErr result (self.new ≡ self.old) }
     {
         self.fits(other)?;
-        merge_entries(self.alloc, &mut self.entries, &other.entries)?;
+        let others = other.entries.iter();
+        merge_entries(self.alloc, &mut self.entries, others, Handing::Kept)?;
         Ok(())
     }
 }

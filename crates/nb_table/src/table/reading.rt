@@ -5,9 +5,8 @@ ghost use Rattle.nb_table.specs.Ranges.{ranges_at};
 ghost use Rattle.nb_table.specs.Whole.{datagram_at};
 
 use super::Table;
-use crate::outline::Outline;
-use crate::ranges::Ranges;
 use nb_datagram::{Datagram, Key};
+use nb_entries::{Outline, Ranges};
 use nb_names::NoMemory;
 
 impl Table {

@@ -1,16 +1,14 @@
 //! `nbt name`: the spelling of a name's text, and the text of a spelling.
 ghost use Rattle.std.specs.Prelude.{◌≡◌, ℕ, List, codes, IfOk, IfErr, OnOk, string_bytes};
-ghost use Rattle.nb_names.specs.Hexadecimal.{HexText};
 ghost use Rattle.nb_names.specs.Devices.{ShowsWriteFault};
 ghost use Rattle.nbt.specs.NameCommand.{IsValue, IsFlag, OutcomeOf};
-ghost use Rattle.nbt.specs.Printing.{Leaves, PrintsSpelling, PrintsName, IsSpellingOf, IsSpellingFault, IsNameOf, IsNameFault, IsDecodeFault, IsNoWrite};
+ghost use Rattle.nbt.specs.Printing.{Leaves, PrintsSpelling, PrintsName, IsSpellingOf, IsSpellingFault, IsNameOf, IsNameFault, IsNoWrite};
 
 use crate::fault::Fault;
 use crate::output::Output;
 use clap::ArgMatches;
 use nb_names::{
-    Bytes, DigitsFault, Pointers, bytes_of_digits, name_from_text, name_text, push_digits,
-    read_name, write_domain,
+    Pointers, bytes_of_digits, name_from_text, name_text, push_digits, read_name, write_domain,
 };
 use std::alloc::Global;
 use std::io::Write;
@@ -113,22 +111,10 @@ fn name_of(alloc: Global, digits: &str) -> Result<String, Fault>
     ensures found { IfOk result (λ text. IsNameOf digits.now (string_bytes text)) }
     ensures fault { IfErr result (λ fault. IsNameFault digits.now fault × IsNoWrite fault) }
 {
-    let bytes = decoded(alloc, digits)?;
+    let bytes = bytes_of_digits(alloc, digits.as_bytes())?;
     let (name, next) = read_name(bytes.as_slice(), 0, Pointers::Refused)?;
     if next < bytes.as_slice().len() {
         return Err(Fault::TrailingBytes(next));
     }
     Ok(name_text(alloc, &name)?)
-}
-
-/// The bytes that the digits give.
-fn decoded(alloc: Global, digits: &str) -> Result<Bytes, Fault>
-    ensures found { IfOk result (λ bytes. HexText bytes digits.now) }
-    ensures fault { IfErr result (IsDecodeFault digits.now) }
-{
-    match bytes_of_digits(alloc, digits.as_bytes()) {
-        Ok(bytes) => Ok(bytes),
-        Err(DigitsFault::BadDigits) => Err(Fault::BadHex),
-        Err(DigitsFault::NoMemory) => Err(Fault::Memory),
-    }
 }

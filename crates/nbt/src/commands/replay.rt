@@ -1,8 +1,8 @@
 //! `nbt replay`: the report of a capture, in a member with names.
-ghost use Rattle.std.specs.Prelude.{◌≡◌, map, Err, OnOk, IfOk, IfErr};
+ghost use Rattle.std.specs.Prelude.{map, OnOk, IfOk, IfErr};
 ghost use Rattle.nb_names.specs.NameText.{IsFaultOf};
 ghost use Rattle.nbt.specs.Commands.{ReplayCommand, streams};
-ghost use Rattle.nbt.specs.Replaying.{AddsEach, AddsName, AreTexts, Begins, EndsWith, IsNamesFault, IsRefusedName, IsUnbegun};
+ghost use Rattle.nbt.specs.Replaying.{AddsEach, AddsName, AreTexts, Begins, IsNamesFault, IsRefusedName, IsUnbegun};
 ghost use Rattle.nbt.specs.Settings.{IsCapacity};
 
 use crate::fault::Fault;
@@ -11,7 +11,7 @@ use crate::printing_lines::print_objects;
 use crate::settings::{capacity_of, is_json, options_of, settings_with};
 use crate::telling::Outcomes;
 use clap::ArgMatches;
-use nb_member::{AddFault, LocalNames, Member, ReplayFault, replay_with};
+use nb_member::{AddFault, LocalNames, Member, replay_with};
 use nb_names::{Counted, name_from_text};
 use std::alloc::Global;
 use std::io::{Read, Write};
@@ -41,9 +41,10 @@ pub fn run_replay<R: Read, W: Write>(
     let options = options_of(matches);
     if is_json(matches) {
         let told = Outcomes { alloc, member };
-        return print_objects(alloc, told, options, input, &mut output.device);
+        return print_objects(alloc, told, options, input, output);
     }
-    outcome_of(replay_with(alloc, input, &mut output.device, &mut member, options))
+    replay_with(alloc, input, &mut output.device, &mut member, options)?;
+    Ok(())
 }
 
 /// The member that a replay begins with: new, with the names of the words.
@@ -62,20 +63,6 @@ fn member_of(alloc: Global, matches: &ArgMatches<'_>) -> Result<Member, Fault>
     };
     let names = names_of(alloc, words)?;
     Ok(Member::new(alloc, settings_with(capacity), names))
-}
-
-/// What the program answers where a replay answers this.
-fn outcome_of(replayed: Result<u64, ReplayFault>) -> Result<(), Fault>
-    ensures ends { EndsWith (λ answer. answer ≡ replayed) result }
-    ensures write { result ≡ Err Fault.Write → replayed ≡ Err ReplayFault.Write }
-{
-    match replayed {
-        Ok(_) => Ok(()),
-        Err(ReplayFault::Line(number)) => Err(Fault::Line(number as usize)),
-        Err(ReplayFault::Read) => Err(Fault::Read),
-        Err(ReplayFault::Write) => Err(Fault::Write),
-        Err(ReplayFault::NoMemory) => Err(Fault::Memory),
-    }
 }
 
 /// The names that the words stand for, each once.

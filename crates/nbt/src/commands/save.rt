@@ -1,14 +1,14 @@
 //! `nbt save`: what a capture says of datagrams, as a saved table.
-ghost use Rattle.std.specs.Prelude.{◌≡◌, Some, IfOk, IfErr, OnOk};
+ghost use Rattle.std.specs.Prelude.{Some, IfOk, IfErr, OnOk};
 ghost use Rattle.nbt.specs.Commands.{SaveCommand, streams};
-ghost use Rattle.nbt.specs.SaveFaults.{PayloadStops, SaidStops, StopsSaving, saving_fault};
+ghost use Rattle.nbt.specs.SaveFaults.{PayloadStops, SaidStops, StopsSaving};
 ghost use Rattle.nbt.specs.Saving.{TakesInput, TakesPayload, TakesSaid};
 
 use crate::fault::Fault;
 use crate::output::Output;
 use crate::settings::{Capacity, PORT, capacity_of, input_limit_of, settings_with};
 use clap::ArgMatches;
-use nb_member::{Line, LineTaker, LinesFault, LocalNames, Member, MemberFault, take_lines};
+use nb_member::{Line, LineTaker, LocalNames, Member, MemberFault, take_lines};
 use nb_names::Counted;
 use nb_table::TableFault;
 use std::alloc::Global;
@@ -56,24 +56,9 @@ fn member_after<R: Read>(
     let mut saver = Saver {
         member: Member::new(alloc, settings_with(capacity), LocalNames::new(alloc)),
     };
-    let taken = take_lines(alloc, most, input, &mut saver);
+    take_lines(alloc, most, input, &mut saver)?;
     let Saver { member } = saver;
-    match taken {
-        Ok(_) => Ok(member),
-        Err(fault) => Err(fault_of(fault)),
-    }
-}
-
-/// What the program answers where the lines of an input weren't all taken, for this.
-fn fault_of(fault: LinesFault<Fault>) -> Fault
-    ensures { result ≡ saving_fault fault }
-{
-    match fault {
-        LinesFault::Line(number) => Fault::Line(number as usize),
-        LinesFault::Read => Fault::Read,
-        LinesFault::NoMemory => Fault::Memory,
-        LinesFault::NotTaken(fault) => fault,
-    }
+    Ok(member)
 }
 
 /// A member that takes the payloads of port 138, and sets its clock at the ticks.
@@ -102,22 +87,14 @@ impl LineTaker for Saver {
     ghost fails = { λ kept. UnsavedLine };
 
     fn take(&mut self, _number: u64, _line: &[u8], said: &Option<Line>) -> Result<(), Fault> {
-        take_said(said, &mut self.member)
+        match said {
+            Some(said) => take_value(said, &mut self.member),
+            None => Ok(()),
+        }
     }
 }
 
 /// Has the member take a payload of port 138, or set its clock; all else is passed over.
-fn take_said(said: &Option<Line>, member: &mut Member) -> Result<(), Fault>
-    ensures took { OnOk result (TakesSaid member.old said.now member.new) }
-    ensures stops { IfErr result (SaidStops member.old said.now) }
-{
-    match said {
-        Some(said) => take_value(said, member),
-        None => Ok(()),
-    }
-}
-
-/// The same of what a line says.
 fn take_value(said: &Line, member: &mut Member) -> Result<(), Fault>
     ensures took { OnOk result (TakesSaid member.old (Some said.now) member.new) }
     ensures stops { IfErr result (SaidStops member.old (Some said.now)) }

@@ -1,24 +1,25 @@
 //! `nbt show`: the packets of a capture as text, or as JSON.
 ghost use Rattle.std.specs.Prelude.{◌≡◌, ◌++◌, ℕ, List, codes, OnOk, string_bytes};
 ghost use Rattle.std.specs.Fmt.{decimal};
-ghost use Rattle.nbt.specs.Commands.{ShowCommand, streams};
+ghost use Rattle.nbt.specs.Commands.{ShowCommand, ShowsAs, streams};
 ghost use Rattle.nbt.specs.Showing.{ShowsSaid, ShowsValue};
 
 use crate::fault::Fault;
 use crate::output::Output;
+use crate::payload_text::PayloadText;
+use crate::phrases::Phrases;
 use crate::printing_lines::{print_objects, print_text};
-use crate::settings::{is_json, options_of};
-use crate::telling::Packets;
+use crate::settings::{is_brief, is_json, options_of};
+use crate::telling::{LineFields, Packets};
 use clap::ArgMatches;
 use nb_member::{Comments, Line, push_comment};
 use nb_names::{Counted, NoMemory, push_decimal};
-use nb_text::push_packet;
 use std::alloc::Global;
 use std::io::{Read, Write};
 
-/// `nbt show [--input-limit BYTES] [--comments] [--json]`: shows the packets of the input in order,
-/// each line as it comes, with `--comments` the comments between them, or prints an object for
-/// each.
+/// `nbt show [--input-limit BYTES] [--comments] [--brief] [--json]`: shows the packets of the input
+/// in order, each line as it comes, with `--comments` the comments between them, or prints an
+/// object for each; with `--brief` it says what each is in a phrase.
 ///
 /// # Errors
 ///
@@ -34,34 +35,57 @@ pub fn run_show<R: Read, W: Write>(
     ensures { ShowCommand matches.now (streams R.remaining W.contents
         input.old input.new output.old output.new) result }
 {
+    if is_brief(matches) {
+        return show_as(alloc, Phrases::new(alloc), matches, input, output);
+    }
+    show_as(alloc, Packets, matches, input, output)
+}
+
+/// Shows the packets of the input in this form.
+fn show_as<R: Read, W: Write, P: PayloadText + LineFields + Drop>(
+    alloc: Global,
+    form: P,
+    matches: &ArgMatches<'_>,
+    input: &mut Counted<R>,
+    output: &mut Output<W>,
+) -> Result<(), Fault>
+    ensures { ShowsAs P.is_text P.are_fields (P.state form) matches.now
+        (streams R.remaining W.contents input.old input.new output.old output.new) result }
+{
     let options = options_of(matches);
     if is_json(matches) {
-        return print_objects(alloc, Packets, options, input, &mut output.device);
+        return print_objects(alloc, form, options, input, output);
     }
-    print_text(alloc, options, input, &mut output.device)
+    print_text(alloc, form, options, input, output)
 }
 
 /// Adds the text of what a line says, or of its comment.
-pub fn push_said(
+pub fn push_said<P: PayloadText>(
     number: u64,
     line: &[u8],
     said: &Option<Line>,
     comments: Comments,
+    form: &mut P,
     text: &mut String,
 ) -> Result<(), NoMemory>
     ensures { OnOk result ((shown : List ℕ) ×
-        ShowsSaid comments number line.now said.now shown ×
+        ShowsSaid P.is_text comments number line.now said.now shown ×
         (string_bytes text.new ≡ string_bytes text.old ++ shown)) }
 {
     match said {
-        Some(said) => push_line(number, said, text),
+        Some(said) => push_line(number, said, form, text),
         None => push_comment(comments, line, text),
     }
 }
 
 /// Adds the text of what a line says.
-fn push_line(number: u64, said: &Line, text: &mut String) -> Result<(), NoMemory>
-    ensures { OnOk result ((shown : List ℕ) × ShowsValue number said.now shown ×
+fn push_line<P: PayloadText>(
+    number: u64,
+    said: &Line,
+    form: &mut P,
+    text: &mut String,
+) -> Result<(), NoMemory>
+    ensures { OnOk result ((shown : List ℕ) × ShowsValue P.is_text number said.now shown ×
         (string_bytes text.new ≡ string_bytes text.old ++ shown)) }
 {
     match said {
@@ -72,7 +96,7 @@ fn push_line(number: u64, said: &Line, text: &mut String) -> Result<(), NoMemory
             payload,
         } => {
             push_front(number, *port, text)?;
-            push_packet(*port, payload.as_slice(), text)
+            form.push(*port, payload.as_slice(), text)
         }
     }
 }

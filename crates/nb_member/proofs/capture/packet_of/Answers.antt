@@ -1,5 +1,5 @@
 use Rattle.std.proofs.lemmas.Result.{err_from_is_err_and}
-use Rattle.nb_member.proofs.CaptureLemmas.Words.{packet_behind, packet_at_space, packet_has_space, packet_err}
+use Rattle.nb_member.proofs.CaptureLemmas.Words.{packet_behind, packet_at_space, packet_has_space, payload_refused}
 use Rattle.nb_member.proofs.capture.packet_of.Goals as goal
 use Rattle.nb_member.specs.Capture.{packet}
 
@@ -18,7 +18,7 @@ pub returns-in_err-payload : goal.returns-in_err-payload
 returns-in_err-payload c =
     let p = err_from_is_err_and c.from_residual.result c.from_residual.ensures.1 in
     λ text port.
-    rw (p.1, p.2) (packet_err c.args.port c.in-Some-moment_of.moment text c.args.words.now c.in-Some.digits.now c.in-Some.hexadecimal.now c.in_err-payload.field-0.0 port c.in-Some.ensures.0 c.in-Some.ensures.1 c.in-Some-moment_of.ensures c.in_err-payload.ensures)
+    rw p.1 (payload_refused c.args.port c.in-Some-moment_of.moment text c.args.words.now c.in-Some.digits.now c.in-Some.hexadecimal.now _ _ p.2 port c.in-Some.ensures.0 c.in-Some.ensures.1 c.in-Some-moment_of.ensures c.in_err-payload.ensures)
 
 pub returns : goal.returns
 returns c =

@@ -4,11 +4,11 @@ use Rattle.nb_member.proofs.replaying.replay_with.Goals as goal
 
 pub returns-clause-replays : goal.returns-clause-replays
 returns-clause-replays g c =
-    replays_bytes _ _ _ _ _ c.args.reader.now.counts c.take_lines.new.reader.counts _ _ _ _ c.take_lines.result _ (search rules) (search rules) c.answer_of.ensures c.take_lines.ensures.taken
+    replays_bytes _ _ _ _ _ c.args.reader.now.counts c.take_lines.new.reader.counts _ _ _ _ c.take_lines.result (search rules) (search rules) c.take_lines.ensures.taken
 
 pub returns-clause-write : goal.returns-clause-write
 returns-clause-write g c =
-    let shows = shows_write _ _ _ _ _ c.args.reader.now.counts c.take_lines.new.reader.counts _ _ c.take_lines.result _ c.answer_of.ensures c.take_lines.ensures.taken in search rules
+    let shows = shows_write _ _ _ _ _ c.args.reader.now.counts c.take_lines.new.reader.counts _ _ c.take_lines.result c.take_lines.ensures.taken in search rules
 
 pub returns-clause-settings : goal.returns-clause-settings
 returns-clause-settings g c =

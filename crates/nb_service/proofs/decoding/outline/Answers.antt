@@ -1,16 +1,18 @@
-use Rattle.std.proofs.Common.{ap}
+use Rattle.std.proofs.Common.{length, ap, arith}
 use Rattle.std.proofs.lemmas.Result.{err_from_is_err_and}
 use Rattle.nb_service.specs.Packet.{header_of}
+use Rattle.nb_service.specs.ServiceFaults.{cut_header}
+use Rattle.nb_service.proofs.PacketLemmas.{header_within}
 use Rattle.nb_service.proofs.decoding.outline.Goals as goal
 
 pub returns-in_err-header-clause-only : goal.returns-in_err-header-clause-only
 returns-in_err-header-clause-only c packet used h =
-    absurd (c.one_service_fault.ensures.alone _ _ packet used c.in_err-header.ensures.fault (rw c.packet.ensures h))
+    absurd (omega (arith, header_within _ _ h.header, ap length c.packet.ensures, c.in_err-header.ensures.fault.1))
 
 pub returns-in_err-header-clause-fault : goal.returns-in_err-header-clause-fault
 returns-in_err-header-clause-fault c =
     let p = err_from_is_err_and c.from_residual.result c.from_residual.ensures.1 in
-    rw (p.1, p.2, ← c.packet.ensures) c.in_err-header.ensures.fault
+    rw (p.1, p.2, c.in_err-header.ensures.fault.0, ← c.packet.ensures) (cut_header c.in_err-header.ensures.fault.1)
 
 pub returns-in_err-used-clause-only : goal.returns-in_err-used-clause-only
 returns-in_err-used-clause-only c packet used h = absurd (c.one_service_fault.ensures.alone _ _ packet used c.in_err-used.ensures.fault h)

@@ -1,5 +1,6 @@
-use Rattle.nb_service.specs.ServiceFaults.{cut_header}
+use Rattle.std.proofs.Common.{arith}
 use Rattle.nb_service.proofs.header.read_header.Goals as goal
 
-pub returns-then-packet-lt-HEADER_LENGTH-clause-fault : goal.returns-then-packet-lt-HEADER_LENGTH-clause-fault
-returns-then-packet-lt-HEADER_LENGTH-clause-fault c = cut_header c.if-packet-lt-HEADER_LENGTH.true
+pub returns-then-packet-lt-HEADER_LENGTH-clause-only : goal.returns-then-packet-lt-HEADER_LENGTH-clause-only
+returns-then-packet-lt-HEADER_LENGTH-clause-only c header there =
+    absurd (omega (arith, c.one_header.ensures.whole _ header there, c.if-packet-lt-HEADER_LENGTH.true))

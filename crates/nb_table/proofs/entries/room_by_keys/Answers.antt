@@ -3,7 +3,7 @@ use Rattle.std.specs.BTreeMap.Range.{entries_between}
 use Rattle.std.specs.declared.ops.Bound.TheVariants.{Included, Unbounded}
 use Rattle.nb_datagram.specs.declared.key.Key.{Key}
 use Rattle.nb_datagram.specs.Key.{key_cmp}
-use Rattle.nb_table.specs.Entry.{EntryValue}
+use Rattle.nb_entries.specs.Entry.{EntryValue}
 use Rattle.nb_table.specs.KeyCounts.{of_source}
 use Rattle.nb_datagram.specs.KeyOrder.{key_cmp_total, key_cmp_exact}
 use Rattle.nb_table.specs.Shared.TreeLemmas.{entries_are, sorted_is}

@@ -4,12 +4,12 @@ use Rattle.std.specs.FinMap as maps
 use Rattle.nb_names.specs.declared.bytes.NoMemory.{NoMemory}
 use Rattle.nb_datagram.specs.declared.key.Key.{Key}
 use Rattle.nb_datagram.specs.Fragment.{core_of}
-use Rattle.nb_table.specs.Maps.{joined_onto}
-use Rattle.nb_table.specs.Slot.{Held}
-use Rattle.nb_table.specs.Entry.{EntryValue, facts_of, join_entry}
-use Rattle.nb_table.specs.declared.change.Handing.{Handing}
-use Rattle.nb_table.specs.Change.{Change}
-use Rattle.nb_table.specs.Code.Change.{KeyChange, Tells}
+use Rattle.nb_entries.specs.Maps.{joined_onto}
+use Rattle.nb_entries.specs.declared.slot.Slot.TheVariants.{Held}
+use Rattle.nb_entries.specs.Entry.{EntryValue, facts_of, join_entry}
+use Rattle.nb_entries.specs.declared.change.Handing.{Handing}
+use Rattle.nb_entries.specs.Change.{Change}
+use Rattle.nb_entries.specs.Change.{KeyChange, Tells}
 use Rattle.nb_datagram.specs.KeyOrder.{key_cmp_total, key_cmp_exact}
 use Rattle.nb_table.proofs.Joins.TakenBackLemmas.{put_same}
 use Rattle.nb_table.proofs.Changes.InsertLemmas.{needs_more, on_err_both, on_any_err}

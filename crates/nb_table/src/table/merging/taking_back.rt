@@ -4,8 +4,8 @@ ghost use Rattle.std.specs.FinMap as maps;
 ghost use Rattle.nb_table.specs.Code.TakenBack.{put_back as with_before, taken_back};
 
 use crate::entries::Entries;
-use crate::entry::Entry;
 use nb_datagram::Key;
+use nb_entries::Entry;
 use nb_names::NoMemory;
 
 /// Puts in the entry of a key, and notes what stood there before. Where memory runs out, nothing

@@ -4,14 +4,14 @@ ghost use Rattle.nb_table.specs.Join.{join, joined_all, AreTaken};
 ghost use Rattle.nb_table.specs.Limits.{TableValue, with_contents};
 ghost use Rattle.nb_table.specs.Merging.{Fits, IsRefused};
 
-use super::moving::move_entries;
+use super::merging_entries::merge_entries;
 use crate::fault::TableFault;
 use crate::table::Table;
+use nb_entries::Handing;
 
 impl Table {
     /// Takes the other table in: this one is then as [`Table::merge`] leaves it. No datagram is
-    /// handed over, and where no keys are counted by address, which is where `per_source` is
-    /// greater than `keys`, the entries of new keys are moved.
+    /// handed over, and the entries of new keys are moved.
     ///
     /// # Errors
     ///
@@ -26,7 +26,9 @@ impl Table {
         ensures err { OnErr result (self.new ≡ self.old) }
     {
         self.fits(&other)?;
-        Ok(move_entries(self.alloc, &mut self.entries, other.entries)?)
+        let others = other.entries.into_iter();
+        merge_entries(self.alloc, &mut self.entries, others, Handing::Kept)?;
+        Ok(())
     }
 }
 

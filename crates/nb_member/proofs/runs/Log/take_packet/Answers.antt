@@ -13,7 +13,7 @@ returns-then-not-has_made_room-clause-step c = λ L stands.
     let m = c.args.member.now in
     let before : HandedOut = record { deliveries = c.args.self.now.deliveries.items; errors = c.args.self.now.errors.items } in
     let after : HandedOut = record { deliveries = c.has_made_room.new.self.deliveries.items; errors = c.has_made_room.new.self.errors.items } in
-    subst (λ (stop : RunStop). RunsEvent m L (Packet c.args.moment c.args.payload.now) m before after (Err stop)) (sym c.stop_of.ensures)
+    subst (λ (stop : RunStop). RunsEvent m L (Packet c.args.moment c.args.payload.now) m before after (Err stop)) (sym c.unwrap_or.ensures)
     (no_room_step m L c.args.moment c.args.payload.now c.limit_met.result before after stands c.limit_met.ensures
     c.has_made_room.ensures.deliveries c.has_made_room.ensures.errors)
 

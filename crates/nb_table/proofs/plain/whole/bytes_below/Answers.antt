@@ -3,7 +3,7 @@ use Rattle.nb_datagram.specs.Fragment.{cores_of}
 use Rattle.nb_table.specs.ConflictTests.{with_key}
 use Rattle.nb_table.specs.Contents.{cover_in}
 use Rattle.nb_table.proofs.Contents.ContentsLemmas.{get-cover_in}
-use Rattle.nb_table.proofs.Wholeness.WholeLemmas.{below_none, below_more}
+use Rattle.nb_entries.specs.Shared.WholeLemmas.{below_none, below_more}
 use Rattle.nb_table.proofs.plain.whole.bytes_below.Goals as goal
 
 pub returns-in-None : goal.returns-in-None

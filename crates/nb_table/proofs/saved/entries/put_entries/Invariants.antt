@@ -1,7 +1,7 @@
 use Rattle.std.specs.List.{AllByRecursion}
-use Rattle.nb_table.specs.declared.saved.form.SavedForm.TheVariants.{Second}
+use Rattle.nb_entries.specs.declared.saved.form.SavedForm.TheVariants.{Second}
 use Rattle.nb_table.specs.Code.SavedTables.{HasNames}
-use Rattle.nb_table.specs.Code.Sinks.{ToPut}
+use Rattle.nb_entries.specs.Sinks.{ToPut}
 use Rattle.nb_table.specs.Saved.{entries_bytes}
 use Rattle.nb_table.proofs.saved.entries.put_entries.Given as goal
 

@@ -5,7 +5,8 @@ use Rattle.nb_datagram.specs.Fragment.{core_of}
 use Rattle.nb_datagram.specs.declared.limits.TheConstants.{MAX_LENGTH}
 use Rattle.nb_table.specs.Contents.{Contents}
 use Rattle.nb_table.specs.Limits.{TableValue, KeepsLimits}
-use Rattle.nb_table.specs.Change.{Change, IsChange}
+use Rattle.nb_entries.specs.Change.{Change}
+use Rattle.nb_table.specs.Change.{IsChange}
 use Rattle.nb_table.specs.Insert.{Refuses, Takes}
 use Rattle.nb_table.specs.Shared.FragmentLemmas.{join_one}
 use Rattle.nb_table.proofs.Changes.InsertLemmas.{short_more, memory_alone, spared, insert_keeps, change_at}

@@ -1,18 +1,15 @@
-use Rattle.nbt.proofs.ShowingTurns.{shows_capture}
 use Rattle.nbt.proofs.commands.show.run_show.Goals as goal
 
-pub returns-then-is_json : goal.returns-then-is_json
-returns-then-is_json g c =
-    rw (← c.output.view_is) (record {
-      text = λ text. absurd (cc (c.is_json.ensures.text text, c.if-is_json.true));
-      json = λ json. shows_capture _ _ _ c.options_of-options.result _ _ _ _ _ _ _ c.options_of-options.ensures c.print_objects.ensures.printed;
-      why = c.print_objects.ensures.why;
-    })
+pub returns-then-is_brief : goal.returns-then-is_brief
+returns-then-is_brief g c = record {
+  whole = λ whole. absurd (cc (c.is_brief.ensures.whole whole, c.if-is_brief.true));
+  brief = λ brief. c.show_as.ensures;
+  why = c.show_as.ensures.why;
+}
 
 pub returns : goal.returns
-returns g c =
-    rw (← c.output.view_is) (record {
-      text = λ text. shows_capture _ _ _ c.options_of-options.result _ _ _ _ _ _ _ c.options_of-options.ensures c.print_text.ensures.printed;
-      json = λ json. absurd (cc (c.is_json.ensures.json json, c.if-is_json.false));
-      why = c.print_text.ensures.why;
-    })
+returns g c = record {
+  whole = λ whole. c.show_as.ensures;
+  brief = λ brief. absurd (cc (c.is_brief.ensures.brief brief, c.if-is_brief.false));
+  why = c.show_as.ensures.why;
+}

@@ -1,35 +1,25 @@
-use Rattle.std.proofs.Common.{◌∙◌, sym, ap}
-use Rattle.std.proofs.lemmas.Result.{IfOk-weaker}
+use Rattle.std.proofs.Common.{◌∙◌, sym, ap, ap₂, subst, option_and_then}
 use Rattle.nb_datagram.specs.declared.limits.TheConstants.{MAX_LENGTH}
-use Rattle.nb_table.specs.Maps.{joined_onto}
-use Rattle.nb_table.specs.Entry.{join_entry}
-use Rattle.nb_table.proofs.Changes.InsertLemmas.{short_join}
-use Rattle.nb_table.proofs.Limits.HandedLemmas.{handed_held, handed_new}
+use Rattle.nb_entries.specs.Maps.{joined_onto}
+use Rattle.nb_entries.specs.Entry.{join_entry}
+use Rattle.nb_entries.specs.Short.{IsShort}
+use Rattle.nb_entries.specs.Whole.{datagram_of, newly}
+use Rattle.nb_entries.specs.Change.{handed_by}
+use Rattle.nb_table.proofs.Changes.InsertLemmas.{short_onto}
 use Rattle.nb_table.proofs.table.merging.merging_entries.joined_at.Goals as goal
 
-pub joined-requires : goal.joined-requires
-joined-requires c =
-    let at = sym c.in-Some.ensures in
-    short_join MAX_LENGTH c.in-Some.entry.now c.args.other.now (c.requires.own c.args.key c.in-Some.entry.now at) c.requires.other
+pub handed-requires : goal.handed-requires
+handed-requires g c =
+    let v = g.O.Other.value c.args.other in
+    let is = c.in_ok-joined.ensures ∙ ap (λ o. joined_onto join_entry o v) c.get-held.ensures in
+    subst (IsShort MAX_LENGTH) (sym is) (short_onto MAX_LENGTH _ v (c.requires.own c.args.key) c.requires.other)
 
-pub returns-in-Some-clause-entry : goal.returns-in-Some-clause-entry
-returns-in-Some-clause-entry c =
-    let at = sym c.in-Some.ensures in
-    IfOk-weaker c.joined.result _ _ (λ made is. is ∙ sym (ap (λ o. joined_onto join_entry o c.args.other.now) at)) c.joined.ensures.entry
+pub returns-clause-entry : goal.returns-clause-entry
+returns-clause-entry g c = c.in_ok-joined.ensures ∙ ap (λ o. joined_onto join_entry o (g.O.Other.value c.args.other)) c.get-held.ensures
 
-pub returns-in-Some-clause-datagram : goal.returns-in-Some-clause-datagram
-returns-in-Some-clause-datagram c =
-    let at = sym c.in-Some.ensures in
-    IfOk-weaker c.joined.result _ _
-    (λ made is. handed_held c.args.entries.now c.args.key c.args.other.now c.in-Some.entry.now made.1 at is)
-    c.joined.ensures.datagram
-
-pub returns-in_ok-copy-in-None-clause-entry : goal.returns-in_ok-copy-in-None-clause-entry
-returns-in_ok-copy-in-None-clause-entry c =
-    let none = sym c.in-None.ensures in
-    c.in_ok-copy-in-None.ensures ∙ sym (ap (λ o. joined_onto join_entry o c.args.other.now) none)
-
-pub returns-in_ok-copy-in-None-clause-datagram : goal.returns-in_ok-copy-in-None-clause-datagram
-returns-in_ok-copy-in-None-clause-datagram c =
-    let none = sym c.in-None.ensures in
-    handed_new c.args.entries.now c.args.key c.args.other.now c.in_ok-datagram-in-None.datagram none c.in_ok-datagram-in-None.ensures.value
+pub returns-clause-datagram : goal.returns-clause-datagram
+returns-clause-datagram g c =
+    let k = c.args.key in
+    let is = c.in_ok-joined.ensures ∙ ap (λ o. joined_onto join_entry o (g.O.Other.value c.args.other)) c.get-held.ensures in
+    c.in_ok-datagram.ensures
+    ∙ ap₂ (λ o j. handed_by c.args.handing (newly (option_and_then (datagram_of k) o) (datagram_of k j))) c.get-held.ensures is

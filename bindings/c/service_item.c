@@ -1,0 +1,37 @@
+/* The question and the record of a registration of port 137, and of one that is cut off. */
+#include <nbt.h>
+#include <stdio.h>
+
+static const uint8_t registration[] = "\0\2\x29\x10" "\0\1\0\0\0\0\0\1" "\x20" "EGFCEFEECACACACACACACACACACACACA" "\0" "\0\x20\0\1"
+    "\xc0\x0c" "\0\x20\0\1" "\0\4\x93\xe0" "\0\6" "\0\0\x0a\0\0\5";
+
+static void items(size_t length) {
+    struct nbt_service_item item;
+    uint8_t text[64];
+    size_t place = 12, at, used;
+    uint32_t number = 0, status;
+    while ((status = nbt_service_item(registration, length, number, place, &item, &at)) == NBT_DONE) {
+        if (item.netbios == 1 && nbt_name_text(item.name, item.name_length, text, sizeof text, &used, &at) == NBT_DONE)
+            printf("section %u, %.*s, type %04x, %u s, %zu bytes at %zu\n", (unsigned)item.section, (int)used,
+                   (const char *)text, item.type, (unsigned)item.time_to_live, item.data_length, item.data);
+        place = item.next;
+        number += 1;
+    }
+    if (status == NBT_NO_ITEM)
+        printf("no further one, at %zu\n", place);
+    else
+        printf("status %u at %zu\n", (unsigned)status, at);
+}
+
+int main(void) {
+    items(sizeof registration - 1);
+    items(60);
+    return 0;
+}
+/* Prints:
+ * section 0, FRED<20>, type 0020, 0 s, 0 bytes at 50
+ * section 3, FRED<20>, type 0020, 300000 s, 6 bytes at 62
+ * no further one, at 68
+ * section 0, FRED<20>, type 0020, 0 s, 0 bytes at 50
+ * status 50 at 60
+ */

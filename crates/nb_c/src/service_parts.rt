@@ -1,0 +1,161 @@
+//! Parts of RDATA of the name service, by their numbers.
+ghost use Rattle.std.specs.Prelude.{◌≡◌};
+ghost use Rattle.nb_c.specs.declared.service_parts.NbtServiceAddress.{NbtServiceAddress};
+ghost use Rattle.nb_c.specs.declared.service_parts.NbtServiceNode.{NbtServiceNode};
+ghost use Rattle.nb_c.specs.declared.service_parts.NbtServiceUnit.{NbtServiceUnit};
+ghost use Rattle.nb_c.specs.Outputs.{Alone, Fills};
+ghost use Rattle.nb_c.specs.ServiceParts.{ReadsAddress, ReadsNode, ReadsUnit, address_numbers, node_numbers, part_answer, unit_answer};
+
+use crate::output::fill;
+use crate::refusal::Refusal;
+use crate::statuses::{NO_PART, OTHER_RDATA, TRUNCATED};
+use nb_names::limits::NAME_LENGTH;
+use nb_service::limits::UNIT_ID_LENGTH;
+use nb_service::{AddressEntries, NodeStatus};
+
+/// An address of a NetBIOS name, and the flags that go with it.
+#[repr(C)]
+#[derive(Clone, Copy)]
+pub struct NbtServiceAddress {
+    /// NB_ADDRESS.
+    pub address: u32,
+    /// NB_FLAGS.
+    pub flags: u16,
+}
+
+/// One of a node's names, and the flags that go with it.
+#[repr(C)]
+#[derive(Clone, Copy)]
+pub struct NbtServiceNode {
+    /// NAME_FLAGS.
+    pub flags: u16,
+    /// The sixteen bytes.
+    pub name: [u8; NAME_LENGTH],
+}
+
+/// The unit identifier of a node.
+#[repr(C)]
+#[derive(Clone, Copy)]
+pub struct NbtServiceUnit {
+    /// UNIT_ID.
+    pub bytes: [u8; UNIT_ID_LENGTH],
+}
+
+/// Reads the entry of a number, counted from 0, of RDATA of a kind. No memory is taken.
+///
+/// RFC 1002 section 4.2.13.
+#[unsafe(no_mangle)]
+pub extern "C" fn nbt_service_address(
+    kind: u16,
+    contents: &[u8],
+    number: usize,
+    address: &mut NbtServiceAddress,
+    at: &mut usize,
+) -> u32
+    ensures { Fills NbtServiceAddress (ReadsAddress kind contents.now number)
+        address.old address.new at.old at.new result }
+{
+    fill(address_at(kind, contents, number), address, at)
+}
+
+/// The entry of a number of RDATA of a kind.
+fn address_at(kind: u16, contents: &[u8], number: usize) -> Result<NbtServiceAddress, Refusal>
+    ensures { Alone NbtServiceAddress (ReadsAddress kind contents.now number) result }
+{
+    match AddressEntries::of_rdata(kind, contents) {
+        Some(entries) => address_of(&entries, number),
+        None => Err(Refusal::Fault(OTHER_RDATA)),
+    }
+}
+
+/// The entry of a number.
+fn address_of(entries: &AddressEntries<'_>, number: usize) -> Result<NbtServiceAddress, Refusal>
+    ensures { result ≡ part_answer address_numbers entries.now number }
+{
+    match entries.get(number) {
+        Some(entry) => Ok(NbtServiceAddress {
+            address: u32::from_be_bytes(entry.address),
+            flags: entry.flags,
+        }),
+        None => Err(Refusal::FaultAt(NO_PART, entries.len())),
+    }
+}
+
+/// Reads a node's name of a number, counted from 0, of RDATA of a kind. No memory is taken.
+///
+/// RFC 1002 section 4.2.18.
+#[unsafe(no_mangle)]
+pub extern "C" fn nbt_service_node(
+    kind: u16,
+    contents: &[u8],
+    number: usize,
+    node: &mut NbtServiceNode,
+    at: &mut usize,
+) -> u32
+    ensures { Fills NbtServiceNode (ReadsNode kind contents.now number)
+        node.old node.new at.old at.new result }
+{
+    fill(node_at(kind, contents, number), node, at)
+}
+
+/// A node's name of a number of RDATA of a kind.
+fn node_at(kind: u16, contents: &[u8], number: usize) -> Result<NbtServiceNode, Refusal>
+    ensures { Alone NbtServiceNode (ReadsNode kind contents.now number) result }
+{
+    match NodeStatus::of_rdata(kind, contents) {
+        Some(status) => node_of(&status, number),
+        None => Err(Refusal::Fault(OTHER_RDATA)),
+    }
+}
+
+/// A node's name of a number.
+fn node_of(status: &NodeStatus<'_>, number: usize) -> Result<NbtServiceNode, Refusal>
+    ensures { result ≡ part_answer node_numbers status.now.names number }
+{
+    match status.get(number) {
+        Some(node) => {
+            let name = node.bytes;
+            Ok(NbtServiceNode {
+                flags: node.flags,
+                name,
+            })
+        }
+        None => Err(Refusal::FaultAt(NO_PART, status.len())),
+    }
+}
+
+/// Reads the unit identifier of a node of RDATA of a kind. No memory is taken.
+///
+/// RFC 1002 section 4.2.18.
+#[unsafe(no_mangle)]
+pub extern "C" fn nbt_service_unit(
+    kind: u16,
+    contents: &[u8],
+    unit: &mut NbtServiceUnit,
+    at: &mut usize,
+) -> u32
+    ensures { Fills NbtServiceUnit (ReadsUnit kind contents.now)
+        unit.old unit.new at.old at.new result }
+{
+    fill(unit_at(kind, contents), unit, at)
+}
+
+/// The unit identifier of RDATA of a kind.
+fn unit_at(kind: u16, contents: &[u8]) -> Result<NbtServiceUnit, Refusal>
+    ensures { Alone NbtServiceUnit (ReadsUnit kind contents.now) result }
+{
+    match NodeStatus::of_rdata(kind, contents) {
+        Some(status) => unit_of(&status, contents.len()),
+        None => Err(Refusal::Fault(OTHER_RDATA)),
+    }
+}
+
+/// The unit identifier of a status that ends after so many bytes.
+fn unit_of(status: &NodeStatus<'_>, size: usize) -> Result<NbtServiceUnit, Refusal>
+    ensures { result ≡ unit_answer status.now.statistics size }
+{
+    match status.unit_id() {
+        Some(bytes) => Ok(NbtServiceUnit { bytes }),
+        None => Err(Refusal::FaultAt(TRUNCATED, size)),
+    }
+}

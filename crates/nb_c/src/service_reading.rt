@@ -1,0 +1,267 @@
+//! Payloads of the name service, read.
+ghost use Rattle.std.specs.Prelude.{◌≡◌};
+ghost use Rattle.nb_c.specs.declared.service_reading.NbtServiceHeader.{NbtServiceHeader};
+ghost use Rattle.nb_c.specs.declared.service_reading.NbtServiceItem.{NbtServiceItem};
+ghost use Rattle.nb_c.specs.Outputs.{Alone, Fills};
+ghost use Rattle.nb_c.specs.Services.{ReadsHeader, ReadsItem, ReadsPacket, header_numbers, item_numbers, netbios_number, numbers, section_number};
+ghost use Rattle.nb_service.specs.Header.{HasHeader, header_value};
+ghost use Rattle.nb_service.specs.Items.{item_of};
+
+use crate::output::fill;
+use crate::refusal::{Refusal, service_refusal};
+use crate::statuses::NO_ITEM;
+use nb_names::limits::{MAX_SPELLING, POINTED_OFFSETS};
+use nb_names::{DomainName, Name, NameReader};
+use nb_service::laws::{one_header, one_item, one_packet, one_service_fault};
+use nb_service::limits::{HEADER_LENGTH, SHORT_PACKET};
+use nb_service::{Extent, Header, Item, Section, outline, read_header, read_item};
+use nb_text::laws::labels_of_one_name;
+
+/// The header of a packet of the name service, and how many bytes there are of what was read.
+#[repr(C)]
+#[derive(Clone, Copy)]
+pub struct NbtServiceHeader {
+    /// NAME_TRN_ID.
+    pub identifier: u16,
+    /// R, OPCODE, NM_FLAGS and RCODE.
+    pub word: u16,
+    /// QDCOUNT.
+    pub questions: u16,
+    /// ANCOUNT.
+    pub answers: u16,
+    /// NSCOUNT.
+    pub authorities: u16,
+    /// ARCOUNT.
+    pub additional: u16,
+    /// How many bytes the packet has, or the header.
+    pub used: usize,
+}
+
+/// A question or a record of the name service: its numbers, its name, and where its parts stand.
+#[repr(C)]
+#[derive(Clone, Copy)]
+pub struct NbtServiceItem {
+    /// 0 a question, 1 an answer, 2 an authority, 3 an additional record.
+    pub section: u32,
+    /// TTL, in seconds; 0 of a question.
+    pub time_to_live: u32,
+    /// QUESTION_TYPE or RR_TYPE.
+    pub kind: u16,
+    /// QUESTION_CLASS or RR_CLASS.
+    pub class: u16,
+    /// Where RDATA stands; of a question, where it ends.
+    pub contents: usize,
+    /// How many bytes it has.
+    pub contents_length: usize,
+    /// Where the next one stands.
+    pub next: usize,
+    /// 1 where the name is a NetBIOS name, else 0.
+    pub netbios: u8,
+    /// How many bytes the spelling of the name has.
+    pub name_length: u8,
+    /// The spelling of the name, and bytes of zero after it.
+    pub name: [u8; MAX_SPELLING],
+}
+
+/// Reads the header at the front of a payload of port 137. No memory is taken.
+///
+/// RFC 1002 section 4.2.1.1.
+#[unsafe(no_mangle)]
+pub extern "C" fn nbt_service_header(
+    payload: &[u8],
+    header: &mut NbtServiceHeader,
+    at: &mut usize,
+) -> u32
+    ensures { Fills NbtServiceHeader (ReadsHeader payload.now)
+        header.old header.new at.old at.new result }
+{
+    fill(front(payload), header, at)
+}
+
+/// The header at the front of a payload.
+fn front(payload: &[u8]) -> Result<NbtServiceHeader, Refusal>
+    ensures { Alone NbtServiceHeader (ReadsHeader payload.now) result }
+{
+    // For the clause: a payload has one header at most. The call does nothing.
+    one_header();
+    match read_header(payload) {
+        Ok(header) => Ok(header_numbers(&header, HEADER_LENGTH)),
+        Err(fault) => Err(service_refusal(fault)),
+    }
+}
+
+/// The fields of a header, and how many bytes there are of what was read.
+fn header_numbers(header: &Header, used: usize) -> NbtServiceHeader
+    ensures { result ≡ header_numbers (header_value header.now) used }
+{
+    NbtServiceHeader {
+        identifier: header.id,
+        word: header.word,
+        questions: header.questions,
+        answers: header.answers,
+        authorities: header.authorities,
+        additional: header.additional,
+        used,
+    }
+}
+
+/// Reads the header of the packet at the front of a payload of port 137, and how many bytes the
+/// packet has. No memory is taken.
+///
+/// RFC 1002 section 4.2.1.
+#[unsafe(no_mangle)]
+pub extern "C" fn nbt_service_read(
+    payload: &[u8],
+    header: &mut NbtServiceHeader,
+    at: &mut usize,
+) -> u32
+    ensures { Fills NbtServiceHeader (ReadsPacket payload.now)
+        header.old header.new at.old at.new result }
+{
+    fill(read(payload), header, at)
+}
+
+/// The header and the length of the packet at the front of a payload.
+fn read(payload: &[u8]) -> Result<NbtServiceHeader, Refusal>
+    ensures { Alone NbtServiceHeader (ReadsPacket payload.now) result }
+{
+    if payload.len() <= SHORT_PACKET {
+        return judge(&NameReader::of(payload, &mut []));
+    }
+    let mut ends = [0; POINTED_OFFSETS];
+    judge(&NameReader::of(payload, &mut ends))
+}
+
+/// The header and the length of the packet whose names are read so.
+fn judge(names: &NameReader<'_, '_>) -> Result<NbtServiceHeader, Refusal>
+    ensures { Alone NbtServiceHeader (ReadsPacket names.now) result }
+{
+    // For the clause: a payload has one packet or one fault. The calls do nothing.
+    one_packet();
+    one_service_fault();
+    match outline(names) {
+        Ok((header, used)) => Ok(header_numbers(&header, used)),
+        Err(fault) => Err(service_refusal(fault)),
+    }
+}
+
+/// Reads the item of a number, counted from 0, that stands at an offset of a payload of port 137.
+/// No memory is taken.
+///
+/// RFC 1002 sections 4.2.1.2 and 4.2.1.3.
+#[unsafe(no_mangle)]
+pub extern "C" fn nbt_service_item(
+    payload: &[u8],
+    number: u32,
+    place: usize,
+    item: &mut NbtServiceItem,
+    at: &mut usize,
+) -> u32
+    ensures { Fills NbtServiceItem (ReadsItem payload.now number place)
+        item.old item.new at.old at.new result }
+{
+    fill(item_at(payload, number as usize, place), item, at)
+}
+
+/// The item of a number that stands at an offset of a payload.
+fn item_at(payload: &[u8], number: usize, place: usize) -> Result<NbtServiceItem, Refusal>
+    ensures { Alone NbtServiceItem (ReadsItem payload.now number place) result }
+{
+    // For the clause: a payload has one header at most, and one item there. The calls do nothing.
+    one_header();
+    one_item();
+    match read_header(payload) {
+        Ok(header) => item_of(&NameReader::of(payload, &mut []), &header, number, place),
+        Err(fault) => Err(service_refusal(fault)),
+    }
+}
+
+/// The item of a number that stands at an offset of a packet of this header.
+fn item_of(
+    names: &NameReader<'_, '_>,
+    header: &Header,
+    number: usize,
+    place: usize,
+) -> Result<NbtServiceItem, Refusal>
+    requires { HasHeader names.now (header_value header.now) }
+    ensures { Alone NbtServiceItem (ReadsItem names.now number place) result }
+{
+    // For the clause: a payload has one header at most, and one item there. The calls do nothing.
+    one_header();
+    one_item();
+    match read_item(names, header, number, place) {
+        Ok(Some((item, extent))) => Ok(item_numbers(&item, extent)),
+        Ok(None) => Err(Refusal::Fault(NO_ITEM)),
+        Err(fault) => Err(service_refusal(fault)),
+    }
+}
+
+/// The numbers of an item that reaches so far.
+fn item_numbers(item: &Item<'_>, extent: Extent) -> NbtServiceItem
+    ensures { result ≡ item_numbers (item_of item.now) extent }
+{
+    match item {
+        Item::Question(question) => {
+            numbers(0, 0, question.kind, question.class, &question.name, extent)
+        }
+        Item::Record(section, record) => numbers(
+            section_number(*section),
+            record.ttl(),
+            record.kind(),
+            record.class(),
+            record.name(),
+            extent,
+        ),
+    }
+}
+
+/// The number of a section.
+fn section_number(section: Section) -> u32
+    ensures { result ≡ section_number section }
+{
+    match section {
+        Section::Answer => 1,
+        Section::Authority => 2,
+        Section::Additional => 3,
+    }
+}
+
+/// These numbers, with the name and the places of an item.
+fn numbers(
+    section: u32,
+    time_to_live: u32,
+    kind: u16,
+    class: u16,
+    domain: &DomainName,
+    extent: Extent,
+) -> NbtServiceItem
+    ensures { result ≡ numbers section time_to_live kind class domain.now extent }
+{
+    let spelling = domain.spelling();
+    let mut name = [0; MAX_SPELLING];
+    name[..spelling.len()].copy_from_slice(spelling);
+    NbtServiceItem {
+        section,
+        time_to_live,
+        kind,
+        class,
+        contents: extent.rdata,
+        contents_length: extent.next.saturating_sub(extent.rdata),
+        next: extent.next,
+        netbios: netbios_number(domain),
+        name_length: spelling.len() as u8,
+        name,
+    }
+}
+
+/// 1 for the labels of a NetBIOS name, 0 for others.
+fn netbios_number(domain: &DomainName) -> u8
+    ensures { result ≡ netbios_number domain.now }
+{
+    // For the clause; the call does nothing.
+    labels_of_one_name();
+    match Name::from_domain(domain) {
+        Ok(_) => 1,
+        Err(_) => 0,
+    }
+}

@@ -1,0 +1,20 @@
+//! The version of the library.
+ghost use Rattle.std.specs.Prelude.{Ok, codes};
+ghost use Rattle.nb_c.specs.Outputs.{Answers};
+
+use crate::output::put;
+
+/// The version, that of `nbt --version` and of NBT_VERSION in include/nbt.h.
+const VERSION: &str = "0.1.0";
+
+/// Writes the version.
+///
+/// The form is our choice.
+#[unsafe(no_mangle)]
+pub extern "C" fn nbt_version(into: &mut [u8], used: &mut usize) -> u32
+    ensures { Answers (Ok (codes "0.1.0"))
+        (record { buffer = into.old; used = used.old; place = 0 })
+        (record { buffer = into.new; used = used.new; place = 0 }) result }
+{
+    put(VERSION.as_bytes(), into, used)
+}

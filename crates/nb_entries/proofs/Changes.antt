@@ -1,0 +1,2 @@
+-- On specs/Change.
+pub mod ChangeLemmas

@@ -1,0 +1,5 @@
+mod Changes
+mod Covers
+mod KeptRuns
+mod Runs
+mod SavedReading

@@ -1,0 +1,3 @@
+-- On specs/SavedReading.
+pub mod StandingLemmas
+pub mod TurnLemmas

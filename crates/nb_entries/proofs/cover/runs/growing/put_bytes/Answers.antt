@@ -1,0 +1,66 @@
+use Rattle.std.proofs.Common.{◌<◌, length, sym, subst, arith, refl, ◌∙◌}
+use Rattle.std.proofs.lemmas.Bool.{eqb-true}
+use Rattle.std.proofs.lemmas.Result.{on_ok_weaker}
+use Rattle.nb_entries.specs.Code.RunSteps.{values_of, run_at, IsPut}
+use Rattle.nb_entries.proofs.Covers.CoverFactsLemmas.{not_empty}
+use Rattle.nb_entries.proofs.KeptRuns.RunPutLemmas.{put_empty}
+use Rattle.nb_entries.proofs.KeptRuns.RunPlaceLemmas.{Lies, lies_of, some_run, meet_at, touch_at, order_at, none_there, one_there, more_there}
+use Rattle.nb_entries.proofs.cover.runs.growing.put_bytes.Goals as goal
+
+pub returns-then-is_empty-clause-ok : goal.returns-then-is_empty-clause-ok
+returns-then-is_empty-clause-ok c =
+    put_empty (values_of c.args.runs.now.items) (run_at c.args.start c.args.bytes.now) c.requires.apart (eqb-true _ 0 (sym c.is_empty.ensures ∙ c.if-is_empty.true))
+
+pub returns-then-past-first-clause-ok : goal.returns-then-past-first-clause-ok
+returns-then-past-first-clause-ok c =
+    let xs = c.args.runs.now.items in
+    let f = run_at c.args.start c.args.bytes.now in
+    let lies : Lies xs f c.first_from-first.result c.past_to-past.result = lies_of xs _ _ f _ _ c.deref.ensures.value c.deref-2.ensures.value c.first_from-first.ensures.within c.first_from-first.ensures.before c.first_from-first.ensures.after c.past_to-past.ensures.within c.past_to-past.ensures.before c.past_to-past.ensures.after in
+    let some : 0 < length c.args.bytes.now = not_empty c.args.bytes.now c.args.bytes.now refl (sym c.is_empty.ensures ∙ c.if-is_empty.false) in
+    on_ok_weaker c.insert_at.result (λ e. subst (λ rs. IsPut (values_of xs) f rs) (sym e) (none_there xs f _ _ lies c.if-past-first.true c.requires.apart some)) c.insert_at.ensures.ok
+
+pub join_one-requires-clause-meet : goal.join_one-requires-clause-meet
+join_one-requires-clause-meet c = λ d.
+    let xs = c.args.runs.now.items in
+    let f = run_at c.args.start c.args.bytes.now in
+    let lies : Lies xs f c.first_from-first.result c.past_to-past.result = lies_of xs _ _ f _ _ c.deref.ensures.value c.deref-2.ensures.value c.first_from-first.ensures.within c.first_from-first.ensures.before c.first_from-first.ensures.after c.past_to-past.ensures.within c.past_to-past.ensures.before c.past_to-past.ensures.after in
+    meet_at xs f _ _ d lies (omega arith)
+
+pub returns-then-past-first-2-clause-ok : goal.returns-then-past-first-2-clause-ok
+returns-then-past-first-2-clause-ok c =
+    let xs = c.args.runs.now.items in
+    let f = run_at c.args.start c.args.bytes.now in
+    let lies : Lies xs f c.first_from-first.result c.past_to-past.result = lies_of xs _ _ f _ _ c.deref.ensures.value c.deref-2.ensures.value c.first_from-first.ensures.within c.first_from-first.ensures.before c.first_from-first.ensures.after c.past_to-past.ensures.within c.past_to-past.ensures.before c.past_to-past.ensures.after in
+    let within = lies.past_within in
+    let d = some_run xs c.first_from-first.result (omega (arith, within)) in
+    on_ok_weaker c.join_one.result (λ e. subst (λ rs. IsPut (values_of xs) f rs) (sym e) (one_there xs f _ _ d lies (omega arith) c.requires.apart c.requires.agree)) (c.join_one.ensures.ok d)
+
+pub join_more-requires-clause-first : goal.join_more-requires-clause-first
+join_more-requires-clause-first c = λ d.
+    let xs = c.args.runs.now.items in
+    let f = run_at c.args.start c.args.bytes.now in
+    let lies : Lies xs f c.first_from-first.result c.past_to-past.result = lies_of xs _ _ f _ _ c.deref.ensures.value c.deref-2.ensures.value c.first_from-first.ensures.within c.first_from-first.ensures.before c.first_from-first.ensures.after c.past_to-past.ensures.within c.past_to-past.ensures.before c.past_to-past.ensures.after in
+    meet_at xs f _ _ d lies (omega arith)
+
+pub join_more-requires-clause-last : goal.join_more-requires-clause-last
+join_more-requires-clause-last c = λ d.
+    let xs = c.args.runs.now.items in
+    let f = run_at c.args.start c.args.bytes.now in
+    let lies : Lies xs f c.first_from-first.result c.past_to-past.result = lies_of xs _ _ f _ _ c.deref.ensures.value c.deref-2.ensures.value c.first_from-first.ensures.within c.first_from-first.ensures.before c.first_from-first.ensures.after c.past_to-past.ensures.within c.past_to-past.ensures.before c.past_to-past.ensures.after in
+    touch_at xs f c.first_from-first.result _ d lies (omega arith)
+
+pub join_more-requires-clause-order : goal.join_more-requires-clause-order
+join_more-requires-clause-order c = λ d e.
+    let xs = c.args.runs.now.items in
+    let f = run_at c.args.start c.args.bytes.now in
+    let lies : Lies xs f c.first_from-first.result c.past_to-past.result = lies_of xs _ _ f _ _ c.deref.ensures.value c.deref-2.ensures.value c.first_from-first.ensures.within c.first_from-first.ensures.before c.first_from-first.ensures.after c.past_to-past.ensures.within c.past_to-past.ensures.before c.past_to-past.ensures.after in
+    order_at xs f _ _ d e lies (omega arith) c.requires.apart
+
+pub returns-clause-ok : goal.returns-clause-ok
+returns-clause-ok c =
+    let xs = c.args.runs.now.items in
+    let f = run_at c.args.start c.args.bytes.now in
+    let lies : Lies xs f c.first_from-first.result c.past_to-past.result = lies_of xs _ _ f _ _ c.deref.ensures.value c.deref-2.ensures.value c.first_from-first.ensures.within c.first_from-first.ensures.before c.first_from-first.ensures.after c.past_to-past.ensures.within c.past_to-past.ensures.before c.past_to-past.ensures.after in
+    let within = lies.past_within in
+    let d = some_run xs c.first_from-first.result (omega (arith, within)) in
+    on_ok_weaker c.join_more.result (λ e. subst (λ rs. IsPut (values_of xs) f rs) (sym e) (more_there xs f _ _ d d lies (omega arith) c.requires.apart c.requires.agree)) (c.join_more.ensures.ok d d)

@@ -1,0 +1,12 @@
+use Rattle.std.proofs.Common.{◌<◌, ◌^◌, rules, sym, subst}
+use Rattle.nb_datagram.specs.declared.limits.TheConstants.{MAX_LENGTH}
+use Rattle.nb_entries.specs.Entry.{EntryFacts}
+use Rattle.nb_entries.specs.Short.{AreShort}
+use Rattle.nb_entries.proofs.Runs.FewLemmas.{few_runs_of}
+use Rattle.nb_entries.proofs.entry.EntryFacts.run_count.Goals as goal
+
+pub overflow_cast-result : goal.overflow_cast-result
+overflow_cast-result c =
+    let short = subst (λ (f : EntryFacts). AreShort MAX_LENGTH f) (sym c.self.view_is) c.requires in
+    let few : c.run_count.result < 2 ^ 32 = subst (λ n. n < 2 ^ 32) (sym c.run_count.ensures) (few_runs_of c.self.inside.cover short.below) in
+    search rules

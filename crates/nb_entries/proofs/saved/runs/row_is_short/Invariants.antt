@@ -1,0 +1,12 @@
+use Rattle.std.proofs.Common.{◌≡◌, ◌-◌}
+use Rattle.std.specs.Prelude.{nat_le}
+use Rattle.std.specs.List.{list_all}
+use Rattle.nb_entries.specs.Runs.{run_end}
+use Rattle.nb_entries.specs.Code.SavedRuns.{row_of, RowThere}
+use Rattle.nb_entries.proofs.saved.runs.row_is_short.Given as goal
+
+abbrev pub invariant-loop : goal.invariant-loop
+invariant-loop l = record {
+  there : RowThere (l.count - l.counter) l.rest;
+  left : list_all (λ r. nat_le (run_end r) l.limit) (row_of (l.count - l.counter) l.rest) ≡ list_all (λ r. nat_le (run_end r) l.limit) (row_of l.count l.bytes);
+}

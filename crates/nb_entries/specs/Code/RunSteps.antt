@@ -1,0 +1,126 @@
+-- What the code's own functions do to rows of runs; no public contract cites this.
+use Rattle.std.specs.Prelude.{◌≡◌, ◌+◌, ◌-◌, ◌<◌, ◌≤◌, ◌++◌, ℕ, List, [], ◌∷◌, length, map, take, drop, min, cond, nat_le, slice_get, Option, Some, None, box_value}
+use Rattle.std.specs.Vec.{vec_capacity}
+use Rattle.std.specs.List.{AllByRecursion}
+use Rattle.nb_entries.specs.Maps.{first_of}
+use Rattle.nb_entries.specs.Runs.{RunValue, run_end, AreApart}
+use Rattle.nb_entries.specs.declared.cover.runs.Run.{Run}
+use Rattle.nb_entries.specs.declared.cover.runs.Stretch.{Stretch}
+
+-- what a run's box has, as the run's value
+abbrev pub stretch_of : Stretch → RunValue
+stretch_of s = record { start = s.start; bytes = s.bytes.items }
+
+-- a run of the code as its value
+abbrev pub value_of : Run → RunValue
+value_of r = stretch_of (box_value r.stretch)
+
+-- how many bytes a run has room for
+abbrev pub room_in : Run → ℕ
+room_in r = vec_capacity (box_value r.stretch).bytes
+
+-- the values of runs of the code
+abbrev pub values_of : List Run → List RunValue
+values_of rs = map value_of rs
+
+-- how many bytes the runs have
+abbrev pub held_in : List RunValue → ℕ
+held_in [] = 0
+held_in (r ∷ rs) = length r.bytes + held_in rs
+
+-- run_at i xs: these bytes, from place i on
+abbrev pub run_at : ℕ → List ℕ → RunValue
+run_at i xs = record { start = i; bytes = xs }
+
+-- the byte that a run has at a place
+abbrev pub byte_in : RunValue → ℕ → Option ℕ
+byte_in r i = cond (nat_le r.start i) (slice_get r.bytes (i - r.start)) None
+
+-- the first byte that runs have at a place
+abbrev pub look_in : List RunValue → ℕ → Option ℕ
+look_in [] i = None
+look_in (r ∷ rs) i = first_of (byte_in r i) (look_in rs i)
+
+-- grown r f: the run r, and the bytes of f before and after it
+abbrev pub grown : RunValue → RunValue → RunValue
+grown r f = record {
+  start = min f.start r.start;
+  bytes = take (r.start - f.start) f.bytes ++ (r.bytes ++ drop (run_end r - f.start) f.bytes);
+}
+
+-- two runs overlap or touch
+pub record Meet (r f : RunValue) : Type 0 where
+  pub before : r.start ≤ run_end f
+  pub after : f.start ≤ run_end r
+
+-- these runs end before the place n
+abbrev pub EndBefore : ℕ → List RunValue → Type 0
+EndBefore n rs = AllByRecursion (λ (r : RunValue). run_end r < n) rs
+
+-- these runs end at the place n, or after it
+abbrev pub EndFrom : ℕ → List RunValue → Type 0
+EndFrom n rs = AllByRecursion (λ (r : RunValue). n ≤ run_end r) rs
+
+-- these runs start at the place n, or before it
+abbrev pub StartTo : ℕ → List RunValue → Type 0
+StartTo n rs = AllByRecursion (λ (r : RunValue). r.start ≤ n) rs
+
+-- these runs start after the place n
+abbrev pub StartAfter : ℕ → List RunValue → Type 0
+StartAfter n rs = AllByRecursion (λ (r : RunValue). n < r.start) rs
+
+-- no place has another byte in the runs than in the run
+pub record Agree (rs : List RunValue) (f : RunValue) : Type 0 where
+  pub same : (q x y : ℕ) → look_in rs q ≡ Some x → byte_in f q ≡ Some y → x ≡ y
+
+-- the row has become one that has these bytes too
+pub record IsPut (rs : List RunValue) (f : RunValue) (new : List RunValue) : Type 0 where
+  pub apart : AreApart new
+  pub look : (q : ℕ) → look_in new q ≡ first_of (byte_in f q) (look_in rs q)
+
+-- where two runs have a place in common, they have one byte there
+pub record AgreeOne (r f : RunValue) : Type 0 where
+  pub same : (q x y : ℕ) → byte_in r q ≡ Some x → byte_in f q ≡ Some y → x ≡ y
+
+-- these are the bytes at the places from `from` up to `to`
+pub record AreBetween (rs : List RunValue) (from to : ℕ) (xs : List ℕ) : Type 0 where
+  pub sized : length xs ≡ to - from
+  pub each : (k : ℕ) → k < to - from → look_in rs (from + k) ≡ slice_get xs k
+
+-- one of the places from `from` up to `to` has no byte
+pub record Lacks (rs : List RunValue) (from to : ℕ) : Type 0 where
+  pub place : ℕ
+  pub least : from ≤ place
+  pub most : place < to
+  pub none : look_in rs place ≡ None
+
+-- the byte at a place of the runs with others, which come first
+abbrev pub look_with : List RunValue → RunValue → ℕ → Option ℕ
+look_with rs f i = first_of (byte_in f i) (look_in rs i)
+
+-- these are the bytes at the places below n
+pub record AreFirst (look : ℕ → Option ℕ) (n : ℕ) (xs : List ℕ) : Type 0 where
+  pub sized : length xs ≡ n
+  pub each : (k : ℕ) → k < n → look k ≡ slice_get xs k
+
+-- one of the places below n has no byte
+pub record LacksOne (look : ℕ → Option ℕ) (n : ℕ) : Type 0 where
+  pub place : ℕ
+  pub most : place < n
+  pub none : look place ≡ None
+
+-- no place has another byte in the one row than in the other
+pub record RowsAgree (rs ss : List RunValue) : Type 0 where
+  pub same : (q x y : ℕ) → look_in rs q ≡ Some x → look_in ss q ≡ Some y → x ≡ y
+
+-- a row has the bytes of both others
+pub record IsUnion (rs ss all : List RunValue) : Type 0 where
+  pub apart : AreApart all
+  pub look : (q : ℕ) → look_in all q ≡ first_of (look_in rs q) (look_in ss q)
+
+-- a row has the bytes of the first i runs of the one row, and of the first j of the other
+pub record IsMerged (rs ss : List RunValue) (i j : ℕ) (made : List RunValue) : Type 0 where
+  pub within : i ≤ length rs
+  pub other_within : j ≤ length ss
+  pub apart : AreApart made
+  pub look : (q : ℕ) → look_in made q ≡ first_of (look_in (take i rs) q) (look_in (take j ss) q)

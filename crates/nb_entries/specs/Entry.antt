@@ -1,0 +1,62 @@
+-- Entries: what is known of one datagram, that is of one key (our choice).
+use Rattle.std.specs.Prelude.{◌≡◌, ◌&&◌, Bool}
+use Rattle.nb_names.specs.Name.{NetbiosName, name_eq}
+use Rattle.nb_datagram.specs.declared.kind.Kind.{Kind}
+use Rattle.nb_datagram.specs.Kind.{same_kind}
+use Rattle.nb_datagram.specs.Fragment.{Core}
+use Rattle.nb_entries.specs.Slot.{Slot, join_slot, OnHeld}
+use Rattle.nb_entries.specs.Cover.{CoverFacts, CoversFit, covers_agree, covers_together, cover_of, AreCoverFacts}
+
+-- the kind, both names, and the cover's facts
+pub record EntryFacts : Type 0 where
+  pub kind : Kind
+  pub source : NetbiosName
+  pub destination : NetbiosName
+  pub cover : CoverFacts
+
+-- the two don't contradict each other: one kind, the same names, and covers that don't
+pub record FactsFit (a b : EntryFacts) : Type 0 where
+  pub kind : a.kind ≡ b.kind
+  pub source : a.source ≡ b.source
+  pub destination : a.destination ≡ b.destination
+  pub cover : CoversFit a.cover b.cover
+
+-- the two don't contradict each other, as a test
+abbrev pub facts_agree : EntryFacts → EntryFacts → Bool
+facts_agree a b =
+    same_kind a.kind b.kind
+    && (name_eq a.source b.source && (name_eq a.destination b.destination && covers_agree a.cover b.cover))
+
+-- what two that agree say together
+abbrev pub facts_together : EntryFacts → EntryFacts → EntryFacts
+facts_together a b = record {
+  kind = a.kind;
+  source = a.source;
+  destination = a.destination;
+  cover = covers_together a.cover b.cover;
+}
+
+-- an entry: spoilt, or what is known
+abbrev pub EntryValue : Type 0
+EntryValue = Slot EntryFacts
+
+-- the join of two entries
+abbrev pub join_entry : EntryValue → EntryValue → EntryValue
+join_entry = join_slot facts_agree facts_together
+
+-- every place that it has a byte for, and its promise, lie below its end, if it has one
+abbrev pub AreEntryFacts : EntryFacts → Type 0
+AreEntryFacts a = AreCoverFacts a.cover
+
+-- the entry is well formed
+abbrev pub IsEntry : EntryValue → Type 0
+IsEntry = OnHeld AreEntryFacts
+
+-- what one fragment says of its datagram
+abbrev pub facts_of : Core → EntryFacts
+facts_of f = record {
+  kind = f.kind;
+  source = f.source;
+  destination = f.destination;
+  cover = cover_of f;
+}

@@ -1,0 +1,248 @@
+//! Covers: what is known of a datagram's data.
+//!
+//! That the bytes are kept as runs is known in this folder alone, and by what loads them.
+ghost use Rattle.std.specs.Option.{option_eq};
+ghost use Rattle.std.specs.Prelude.{◌≡◌, ◌==◌, ◌↔◌, ◌&&◌, ℕ, IfOk, IsTrue, OnOk, OnErr, Some, length, None, Ok};
+ghost use Rattle.std.specs.FinMap as maps;
+ghost use Rattle.nb_datagram.specs.Fragment.{core_of};
+ghost use Rattle.nb_entries.specs.Slot.{Held};
+ghost use Rattle.nb_entries.specs.Cover.{CoversFit, cover_of, covers_agree, covers_together, is_below_end, bytes_lie_below};
+ghost use Rattle.nb_entries.specs.Cover.{bytes_agree as same_bytes};
+ghost use Rattle.nb_entries.specs.Code.CoverFacts.{Holds};
+ghost use Rattle.nb_entries.specs.Runs.{runs_of_map};
+ghost use Rattle.nb_entries.specs.Whole.{bytes_to, IsWholeCover};
+
+mod end;
+mod loading;
+mod promise;
+mod reading;
+pub(crate) mod runs;
+mod saving;
+mod uniting;
+
+use crate::slot::Slot;
+use end::{end_of, ends_agree, has_end, is_below};
+use nb_datagram::{Fragment, LentFragment};
+use nb_names::{Bytes, NoMemory};
+use promise::{greater, is_before, is_promised, promise_of};
+use runs::Runs;
+use std::alloc::Global;
+use std::marker::Model;
+
+/// The bytes by place, the end, if it is known, and the greatest promise, if there is one. No byte
+/// lies at or past the end, and no promise.
+///
+/// Places count from the first byte of the datagram's data.
+#[derive(Drop)]
+pub struct CoverFacts {
+    bytes: Runs,
+    end: Option<u32>,
+    promise: Option<u32>,
+}
+
+impl Model for CoverFacts {
+    ghost use Rattle.nb_entries.specs.Codes.{cover_facts_code};
+    ghost use Rattle.nb_entries.specs.Cover.{CoverFacts, AreCoverFacts};
+
+    ghost Value = { CoverFacts };
+
+    ghost coded = { cover_facts_code };
+
+    ghost view = { λ p. record { bytes = p.bytes; end = p.end; promise = p.promise } };
+
+    ghost invariant = { λ p.
+        AreCoverFacts (record { bytes = p.bytes; end = p.end; promise = p.promise }) };
+}
+
+/// The bytes that are known of a datagram's data, by place, its end, if that is known, and the
+/// greatest promise of its fragments, if there is one; or clashed, by facts that contradict each
+/// other.
+///
+/// A fragment with M set promises a byte at its reach or after it (our choice).
+pub type Cover = Slot<CoverFacts>;
+
+impl Slot<CoverFacts> {
+    /// What one fragment says of its datagram's data. Memory is taken for its bytes.
+    ///
+    /// # Errors
+    ///
+    /// `NoMemory` where memory ran out.
+    pub fn of(alloc: Global, fragment: &Fragment<'_>) -> Result<Cover, NoMemory>
+        ensures { IfOk result (λ cover. cover ≡ Held (cover_of (core_of fragment.now))) }
+    {
+        Ok(Slot::Held(CoverFacts::of(alloc, &fragment.lent())?))
+    }
+}
+
+impl CoverFacts {
+    /// What a fragment says.
+    pub(crate) fn of(alloc: Global, fragment: &LentFragment<'_>) -> Result<CoverFacts, NoMemory>
+        ensures { IfOk result (λ cover. cover ≡ cover_of (core_of fragment.now)) }
+    {
+        let mut bytes = Runs::new(alloc);
+        let end = end_of(fragment);
+        let promise = promise_of(fragment);
+        bytes.put(alloc, u32::from(fragment.offset()), fragment.bytes())?;
+        Ok(CoverFacts {
+            bytes,
+            end,
+            promise,
+        })
+    }
+
+    /// Whether each byte lies below this place.
+    fn bytes_are_below(&self, place: u32) -> bool
+        ensures { result ≡ bytes_lie_below place self.now.bytes }
+    {
+        self.bytes.lie_below(place)
+    }
+
+    /// Whether each byte and the promise lie below the end, if there is one.
+    fn is_below(&self, end: Option<u32>) -> bool
+        ensures { result ≡ is_below_end end self.now }
+    {
+        match end {
+            Some(end) => self.bytes_are_below(end) && is_before(self.promise, end),
+            None => true,
+        }
+    }
+
+    /// Whether no place has another byte in a fragment.
+    fn bytes_agree_with(&self, fragment: &LentFragment<'_>) -> bool
+        ensures { result ≡ same_bytes self.now.bytes (cover_of (core_of fragment.now)).bytes }
+    {
+        let start = u32::from(fragment.offset());
+        self.bytes.agree(start, fragment.bytes())
+    }
+
+    /// Whether what is known lies below a fragment's end, and the fragment below the known end.
+    fn is_below_with(&self, fragment: &LentFragment<'_>) -> bool
+        ensures { result ≡ (is_below_end (cover_of (core_of fragment.now)).end self.now
+            && is_below_end self.now.end (cover_of (core_of fragment.now))) }
+    {
+        self.is_below(end_of(fragment)) && is_below(fragment, self.end)
+    }
+
+    /// Whether a fragment doesn't contradict what is known.
+    pub(crate) fn agrees_with(&self, fragment: &LentFragment<'_>) -> bool
+        ensures { result ≡ covers_agree self.now (cover_of (core_of fragment.now)) }
+    {
+        if !self.bytes_agree_with(fragment) {
+            return false;
+        }
+        ends_agree(self.end, end_of(fragment)) && self.is_below_with(fragment)
+    }
+
+    /// Whether each byte of a fragment is known.
+    fn holds_bytes(&self, fragment: &LentFragment<'_>) -> bool
+        ensures { IsTrue result ↔ ((i x : ℕ)
+            → maps.get (cover_of (core_of fragment.now)).bytes i ≡ Some x
+            → maps.get self.now.bytes i ≡ Some x) }
+    {
+        let start = u32::from(fragment.offset());
+        self.bytes.hold(start, fragment.bytes())
+    }
+
+    /// Whether all that a fragment says is known.
+    pub(crate) fn holds(&self, fragment: &LentFragment<'_>) -> bool
+        ensures { IsTrue result ↔ Holds self.now (cover_of (core_of fragment.now)) }
+    {
+        if !has_end(self.end, end_of(fragment)) {
+            return false;
+        }
+        if !is_promised(self.promise, promise_of(fragment)) {
+            return false;
+        }
+        self.holds_bytes(fragment)
+    }
+
+    /// Adds what a fragment says, which doesn't contradict what is known. All memory is taken
+    /// before anything changes.
+    pub(crate) fn add(&mut self, alloc: Global, fragment: &LentFragment<'_>) -> Result<(), NoMemory>
+        requires { CoversFit self.old (cover_of (core_of fragment.now)) }
+        ensures ok { OnOk result
+            (self.new ≡ covers_together self.old (cover_of (core_of fragment.now))) }
+        ensures err { OnErr result (self.new ≡ self.old) }
+    {
+        let start = u32::from(fragment.offset());
+        self.bytes.put(alloc, start, fragment.bytes())?;
+        self.end = self.end.or(end_of(fragment));
+        self.promise = greater(self.promise, promise_of(fragment));
+        Ok(())
+    }
+
+    /// The bytes up to the end, in order, of what is known with what a fragment says, which doesn't
+    /// contradict it, if all are known. No memory is taken where one isn't.
+    pub(crate) fn whole_with(
+        &self,
+        alloc: Global,
+        fragment: &LentFragment<'_>,
+    ) -> Result<Option<Bytes>, NoMemory>
+        requires { CoversFit self.now (cover_of (core_of fragment.now)) }
+        ensures { IfOk result (λ bytes. bytes
+            ≡ bytes_to (covers_together self.now (cover_of (core_of fragment.now))).bytes
+            (covers_together self.now (cover_of (core_of fragment.now))).end) }
+    {
+        let start = u32::from(fragment.offset());
+        match self.end.or(end_of(fragment)) {
+            Some(end) => self.bytes.bytes_with(alloc, end, start, fragment.bytes()),
+            None => Ok(None),
+        }
+    }
+
+    /// The bytes up to the end, in order, if all are known. No memory is taken where one isn't.
+    pub(crate) fn whole(&self, alloc: Global) -> Result<Option<Bytes>, NoMemory>
+        ensures value { IfOk result (λ bytes. bytes ≡ bytes_to self.now.bytes self.now.end) }
+        ensures no_memory_needed { bytes_to self.now.bytes self.now.end ≡ None
+            → result ≡ Ok None }
+    {
+        match self.end {
+            Some(end) => self.bytes.bytes_below(alloc, end),
+            None => Ok(None),
+        }
+    }
+
+    /// How many runs the bytes make up.
+    pub(crate) fn run_count(&self) -> usize
+        ensures { result ≡ length (runs_of_map self.now.bytes) }
+    {
+        self.bytes.count()
+    }
+
+    /// Whether the two have the same end and the same promise.
+    fn ends_like(&self, other: &CoverFacts) -> bool
+        ensures { result ≡ (option_eq ◌==◌ self.now.end other.now.end
+            && option_eq ◌==◌ self.now.promise other.now.promise) }
+    {
+        self.end == other.end && self.promise == other.promise
+    }
+
+    /// Whether the end and each byte before it are known.
+    pub(crate) fn is_whole(&self) -> bool
+        ensures { IsTrue result ↔ IsWholeCover self.now }
+    {
+        match self.end {
+            Some(end) => self.bytes.cover_below(end),
+            None => false,
+        }
+    }
+}
+
+impl PartialEq for CoverFacts {
+    ghost use Rattle.nb_entries.specs.Shared.EqualLemmas.{cover_facts_per};
+    ghost use Rattle.nb_entries.specs.Equal.{same_cover_facts};
+
+    ghost eq = { same_cover_facts };
+
+    ghost laws = { cover_facts_per };
+
+    fn eq(&self, other: &Self) -> bool {
+        self.bytes.are(&other.bytes) && self.ends_like(other)
+    }
+}
+
+impl Eq for CoverFacts {
+    ghost use Rattle.nb_entries.specs.Shared.EqualLemmas.{cover_facts_equiv};
+
+    ghost laws = { cover_facts_equiv };
+}

@@ -1,0 +1,241 @@
+//! Bytes by place, kept as runs: places that follow one another.
+ghost use Rattle.std.specs.Prelude.{◌≡◌, ◌↔◌, ◌+◌, ◌<◌, ℕ, length, IsTrue, IfOk, OnOk, OnErr, Some, true, None, Ok};
+ghost use Rattle.std.specs.Ordering.{nat_cmp};
+ghost use Rattle.std.specs.List.{list_all};
+ghost use Rattle.std.specs.FinMap as maps;
+ghost use Rattle.nb_entries.specs.Maps.{union};
+ghost use Rattle.nb_entries.specs.Cover.{bytes_agree, placed, same_where};
+ghost use Rattle.nb_entries.specs.Code.CoverFacts.{is_there, with_bytes, AreCovered};
+ghost use Rattle.nb_entries.specs.Runs.{AreApart, run_end, map_of_runs, runs_of_map};
+ghost use Rattle.nb_entries.specs.Saved.{runs_bytes};
+ghost use Rattle.nb_entries.specs.Whole.{bytes_below as map_below};
+ghost use Rattle.nb_entries.specs.Code.RunSteps.{value_of, values_of, run_at};
+ghost use Rattle.nb_entries.specs.Sinks.{Puts};
+
+mod counting;
+mod growing;
+mod reading;
+mod saving;
+mod searching;
+mod uniting;
+
+use crate::saved::sink::ByteSink;
+use nb_names::{Bytes, NoMemory};
+pub(crate) use saving::add_run;
+use std::alloc::Global;
+use std::marker::Model;
+
+/// The place of the first of these bytes, and the bytes, in order.
+#[derive(Drop, PartialEq)]
+struct Stretch {
+    start: u32,
+    bytes: Vec<u8>,
+}
+
+/// Bytes at places that follow one another. They lie in a box, so that a run that is put between
+/// others moves eight bytes for each of them.
+#[derive(Drop, PartialEq)]
+pub(crate) struct Run {
+    stretch: Box<Stretch>,
+}
+
+impl Run {
+    /// The run of a copy of these bytes, from `start` on.
+    fn copy(alloc: Global, start: u32, bytes: &[u8]) -> Result<Run, NoMemory>
+        ensures { IfOk result (λ run. value_of run ≡ run_at start bytes.now) }
+    {
+        let mut kept = Vec::with_capacity(alloc, bytes.len())?;
+        kept.extend_from_slice(bytes)?;
+        let stretch = Box::new(alloc, Stretch { start, bytes: kept })?;
+        Ok(Run { stretch })
+    }
+
+    /// The place of the first byte.
+    pub(crate) fn start(&self) -> u32
+        ensures { result ≡ (value_of self.now).start }
+    {
+        self.stretch.start
+    }
+
+    /// The bytes.
+    fn bytes(&self) -> &[u8]
+        ensures { result.now ≡ (value_of self.now).bytes }
+    {
+        &self.stretch.bytes
+    }
+
+    /// The place after the last byte.
+    pub(crate) fn end(&self) -> usize
+        ensures { result ≡ run_end (value_of self.now) }
+    {
+        self.stretch.start as usize + self.stretch.bytes.len()
+    }
+}
+
+/// Bytes by place, in runs that are apart.
+#[derive(Drop)]
+pub(crate) struct Runs {
+    runs: Vec<Run>,
+}
+
+impl Model for Runs {
+    ghost use Rattle.std.specs.Prelude.{ℕ};
+    ghost use Rattle.std.specs.Ordering.{nat_cmp};
+    ghost use Rattle.std.specs.FinMap as maps;
+    ghost use Rattle.nb_entries.specs.Code.RunCodes.{bytes_code};
+
+    ghost Value = { maps.FinMap nat_cmp ℕ };
+
+    ghost coded = { bytes_code };
+
+    ghost use Rattle.nb_entries.specs.Runs.{AreApart, map_of_runs};
+    ghost use Rattle.nb_entries.specs.Code.RunSteps.{values_of};
+
+    ghost view = { λ r. map_of_runs (values_of r.runs.items) };
+
+    ghost invariant = { λ r. AreApart (values_of r.runs.items) };
+}
+
+impl Runs {
+    /// No bytes.
+    pub(crate) fn new(alloc: Global) -> Runs
+        ensures { result ≡ maps.empty }
+    {
+        Runs {
+            runs: Vec::new(alloc),
+        }
+    }
+
+    /// Whether no place has another byte among these, which stand from `start` on.
+    pub(crate) fn agree(&self, start: u32, bytes: &[u8]) -> bool
+        ensures { result
+            ≡ list_all (λ e. same_where (maps.get self.now e.0) e.1) (placed start bytes.now) }
+    {
+        reading::bytes_agree(&self.runs, start, bytes)
+    }
+
+    /// Whether each of these bytes, which stand from `start` on, is there.
+    pub(crate) fn hold(&self, start: u32, bytes: &[u8]) -> bool
+        ensures { result
+            ≡ list_all (λ e. is_there (maps.get self.now e.0) e.1) (placed start bytes.now) }
+    {
+        let place = start as usize;
+        match reading::bytes_between(&self.runs, place, place + bytes.len()) {
+            Some(held) => held == bytes,
+            None => false,
+        }
+    }
+
+    /// Puts bytes that don't contradict them, from `start` on.
+    pub(crate) fn put(&mut self, alloc: Global, start: u32, bytes: &[u8]) -> Result<(), NoMemory>
+        requires { list_all (λ e. same_where (maps.get self.old e.0) e.1) (placed start bytes.now)
+            ≡ true }
+        ensures ok { OnOk result (self.new ≡ with_bytes self.old start bytes.now) }
+        ensures err { OnErr result (self.new ≡ self.old) }
+    {
+        growing::put_bytes(alloc, &mut self.runs, start, bytes)
+    }
+
+    /// Whether each place lies below the end.
+    pub(crate) fn lie_below(&self, end: u32) -> bool
+        ensures { IsTrue result ↔ ((i x : ℕ) → maps.get self.now i ≡ Some x → i < end) }
+    {
+        reading::end_by(&self.runs, end as usize)
+    }
+
+    /// Whether each place below the end is covered.
+    pub(crate) fn cover_below(&self, end: u32) -> bool
+        ensures { IsTrue result ↔ AreCovered (maps.get self.now) end }
+    {
+        match reading::bytes_between(&self.runs, 0, end as usize) {
+            Some(_) => true,
+            None => false,
+        }
+    }
+
+    /// The bytes at the places below the end, in order, if each is covered. No memory is taken
+    /// where one isn't.
+    pub(crate) fn bytes_below(&self, alloc: Global, end: u32) -> Result<Option<Bytes>, NoMemory>
+        ensures value { IfOk result (λ bytes. bytes ≡ map_below self.now end) }
+        ensures no_memory_needed { map_below self.now end ≡ None → result ≡ Ok None }
+    {
+        match reading::bytes_between(&self.runs, 0, end as usize) {
+            Some(bytes) => Ok(Some(Bytes::copy(alloc, bytes)?)),
+            None => Ok(None),
+        }
+    }
+
+    /// The bytes below the end, in order, together with these, which stand from `start` on, if each
+    /// place is covered. No memory is taken where one isn't.
+    pub(crate) fn bytes_with(
+        &self,
+        alloc: Global,
+        end: u32,
+        start: u32,
+        bytes: &[u8],
+    ) -> Result<Option<Bytes>, NoMemory>
+        ensures { IfOk result (λ made.
+            made ≡ map_below (with_bytes self.now start bytes.now) end) }
+    {
+        match reading::bytes_with(alloc, &self.runs, end as usize, start, bytes)? {
+            Some(made) => Ok(Some(Bytes::from_vec(made))),
+            None => Ok(None),
+        }
+    }
+
+    /// How many runs there are.
+    pub(crate) fn count(&self) -> usize
+        ensures { result ≡ length (runs_of_map self.now) }
+    {
+        self.runs.len()
+    }
+
+    /// Whether both have the same bytes.
+    pub(crate) fn are(&self, other: &Runs) -> bool
+        ensures { IsTrue result ↔ (self.now ≡ other.now) }
+    {
+        reading::are_equal(&self.runs, &other.runs)
+    }
+
+    /// The bytes of runs that are apart.
+    pub(crate) fn of_runs(runs: Vec<Run>) -> Runs
+        requires { AreApart (values_of runs.items) }
+        ensures { result ≡ map_of_runs (values_of runs.items) }
+    {
+        Runs { runs }
+    }
+
+    /// Whether no place has another byte in the one than in the other.
+    pub(crate) fn agree_all(&self, other: &Runs) -> bool
+        ensures { result ≡ bytes_agree self.now other.now }
+    {
+        uniting::rows_agree(&self.runs, &other.runs)
+    }
+
+    /// The bytes of both, which don't contradict each other.
+    pub(crate) fn together(&self, other: &Runs) -> Result<Runs, NoMemory>
+        requires { bytes_agree self.now other.now ≡ true }
+        ensures { IfOk result (λ runs. runs ≡ union self.now other.now) }
+    {
+        let alloc = *self.runs.allocator();
+        let runs = uniting::united(alloc, &self.runs, &other.runs)?;
+        Ok(Runs { runs })
+    }
+
+    /// A copy.
+    pub(crate) fn copied(&self) -> Result<Runs, NoMemory>
+        ensures { IfOk result (λ runs. runs ≡ self.now) }
+    {
+        let alloc = *self.runs.allocator();
+        let runs = saving::copied(alloc, &self.runs)?;
+        Ok(Runs { runs })
+    }
+
+    /// Puts the maximal runs.
+    pub(crate) fn put_to<S: ByteSink>(&self, sink: &mut S) -> Result<(), S::Fault>
+        ensures { Puts S.takes S.breaks sink.old sink.new
+            (runs_bytes (runs_of_map self.now)) result }
+    {
+        saving::put_runs(sink, &self.runs)
+    }
+}

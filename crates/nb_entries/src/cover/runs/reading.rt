@@ -1,0 +1,112 @@
+//! What runs have that are apart.
+ghost use Rattle.std.specs.Prelude.{◌≡◌, ◌↔◌, ◌≤◌, ◌<◌, ℕ, IsTrue, IfOk, MatchOption, Some};
+ghost use Rattle.nb_entries.specs.Runs.{AreApart};
+ghost use Rattle.nb_entries.specs.Code.RunSteps.{value_of, values_of, run_at, Meet, Agree, AgreeOne, look_in, look_with, AreBetween, Lacks, AreFirst, LacksOne};
+
+use super::Run;
+use super::searching::{first_from, past_to};
+use nb_names::NoMemory;
+use std::alloc::Global;
+
+/// The bytes from one place up to another, in order, if each is there.
+pub(super) fn bytes_between<'a>(runs: &'a [Run], from: usize, to: usize) -> Option<&'a [u8]>
+    requires apart { AreApart (values_of runs.now) }
+    requires order { from ≤ to }
+    ensures { MatchOption result (Lacks (values_of runs.now) from to)
+        (λ bytes. AreBetween (values_of runs.now) from to bytes.now) }
+{
+    if from == to {
+        return Some(&[]);
+    }
+    let place = first_from(runs, to);
+    if place == runs.len() {
+        return None;
+    }
+    let run = &runs[place];
+    let start = run.start() as usize;
+    if from < start {
+        return None;
+    }
+    Some(&run.bytes()[from - start..to - start])
+}
+
+/// Whether a run has no other byte at a place of these, which overlap or touch it.
+fn agrees(run: &Run, start: u32, bytes: &[u8]) -> bool
+    requires { Meet (value_of run.now) (run_at start bytes.now) }
+    ensures { IsTrue result ↔ AgreeOne (value_of run.now) (run_at start bytes.now) }
+{
+    let own = run.start() as usize;
+    let place = start as usize;
+    let from = own.max(place);
+    let to = run.end().min(place + bytes.len());
+    run.bytes()[from - own..to - own] == bytes[from - place..to - place]
+}
+
+/// Whether no place has another byte among these.
+pub(super) fn bytes_agree(runs: &[Run], start: u32, bytes: &[u8]) -> bool
+    requires { AreApart (values_of runs.now) }
+    ensures { IsTrue result ↔ Agree (values_of runs.now) (run_at start bytes.now) }
+{
+    let first = first_from(runs, start as usize);
+    let past = past_to(runs, start as usize + bytes.len());
+    if past <= first {
+        return true;
+    }
+    let touched = &runs[first..past];
+    for run in touched {
+        if !agrees(run, start, bytes) {
+            return false;
+        }
+    }
+    true
+}
+
+/// The bytes below a place, in order, of the runs with others, if each is there. No memory is taken
+/// where one isn't.
+pub(super) fn bytes_with(
+    alloc: Global,
+    runs: &[Run],
+    end: usize,
+    start: u32,
+    bytes: &[u8],
+) -> Result<Option<Vec<u8>>, NoMemory>
+    requires { AreApart (values_of runs.now) }
+    ensures { IfOk result (λ made. MatchOption made
+        (LacksOne (look_with (values_of runs.now) (run_at start bytes.now)) end)
+        (λ bytes_made. AreFirst (look_with (values_of runs.now) (run_at start bytes.now)) end
+        bytes_made.items)) }
+{
+    let first = (start as usize).min(end);
+    let count = bytes.len().min(end - first);
+    let front = match bytes_between(runs, 0, first) {
+        Some(front) => front,
+        None => return Ok(None),
+    };
+    let back = match bytes_between(runs, first + count, end) {
+        Some(back) => back,
+        None => return Ok(None),
+    };
+    let mut made = Vec::with_capacity(alloc, end)?;
+    made.extend_from_slice(front)?;
+    made.extend_from_slice(&bytes[..count])?;
+    made.extend_from_slice(back)?;
+    Ok(Some(made))
+}
+
+/// Whether two rows of runs are one.
+pub(super) fn are_equal(runs: &[Run], others: &[Run]) -> bool
+    ensures { IsTrue result ↔ (values_of runs.now ≡ values_of others.now) }
+{
+    runs == others
+}
+
+/// Whether each run ends at a place or before it.
+pub(super) fn end_by(runs: &[Run], end: usize) -> bool
+    requires { AreApart (values_of runs.now) }
+    ensures { IsTrue result ↔ ((q x : ℕ) → look_in (values_of runs.now) q ≡ Some x → q < end) }
+{
+    match runs.last() {
+        Some(run) => run.end() <= end,
+        None => true,
+    }
+}

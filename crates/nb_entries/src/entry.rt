@@ -1,0 +1,277 @@
+//! Entries: what is known of one datagram.
+ghost use Rattle.std.specs.Prelude.{◌≡◌, ◌≢◌, ◌↔◌, ◌≤◌, ℕ, IfOk, OnOk, OnErr, IsTrue, Some, None, length, Ok};
+ghost use Rattle.nb_datagram.specs.Fragment.{core_of, reach};
+ghost use Rattle.nb_datagram.specs.declared.limits.TheConstants.{MAX_LENGTH};
+ghost use Rattle.nb_entries.specs.Slot.{Spoilt, Held};
+ghost use Rattle.nb_entries.specs.Entry.{facts_agree, facts_of, join_entry};
+ghost use Rattle.nb_entries.specs.Short.{AreShort, IsShort};
+ghost use Rattle.nb_entries.specs.Runs.{runs_of_map};
+ghost use Rattle.nb_entries.specs.RunCount.{entry_run_count};
+ghost use Rattle.nb_entries.specs.Whole.{IsWholeCover, bytes_to, datagram_with};
+ghost use Rattle.nb_entries.specs.Change.{Tells};
+ghost use Rattle.nb_entries.specs.EntryState.{IsEntryState};
+
+mod growing;
+mod joining;
+mod reading;
+mod uniting;
+mod whole;
+
+use crate::change::{Handing, KeptChange};
+use crate::cover::CoverFacts;
+use crate::parties::Parties;
+use crate::slot::Slot;
+use crate::state::State;
+use nb_datagram::{Fragment, KeptDatagram, Key, Kind, LentFragment};
+use nb_names::{Bytes, LentName, NoMemory};
+use std::alloc::Global;
+use std::marker::Model;
+
+/// The kind, both names, and the known bytes with their places.
+#[derive(Drop)]
+pub struct EntryFacts {
+    pub(crate) kind: Kind,
+    pub(crate) parties: Parties,
+    pub(crate) cover: CoverFacts,
+}
+
+impl Model for EntryFacts {
+    ghost use Rattle.nb_entries.specs.Entry.{EntryFacts};
+    ghost use Rattle.nb_entries.specs.Codes.{entry_facts_code};
+    ghost use Rattle.nb_entries.specs.Cover.{AreCoverFacts};
+
+    ghost Value = { EntryFacts };
+
+    ghost coded = { entry_facts_code };
+
+    ghost view = { λ f. record {
+      kind = f.kind;
+      source = f.parties.source;
+      destination = f.parties.destination;
+      cover = f.cover;
+    } };
+
+    ghost invariant = { λ f. AreCoverFacts f.cover };
+}
+
+impl EntryFacts {
+    /// The facts of these parts. The names are copied.
+    pub(crate) fn new(
+        alloc: Global,
+        kind: Kind,
+        source: &LentName<'_>,
+        destination: &LentName<'_>,
+        cover: CoverFacts,
+    ) -> Result<EntryFacts, NoMemory>
+        ensures { IfOk result (λ facts. facts ≡ record {
+          kind = kind;
+          source = source.now;
+          destination = destination.now;
+          cover = cover;
+        }) }
+    {
+        let parties = Parties::copy(alloc, source, destination)?;
+        Ok(EntryFacts {
+            kind,
+            parties,
+            cover,
+        })
+    }
+
+    /// What one fragment says.
+    pub(crate) fn of(alloc: Global, fragment: &LentFragment<'_>) -> Result<EntryFacts, NoMemory>
+        ensures { IfOk result (λ facts. facts ≡ facts_of (core_of fragment.now)) }
+    {
+        let cover = CoverFacts::of(alloc, fragment)?;
+        let kind = fragment.kind();
+        EntryFacts::new(
+            alloc,
+            kind,
+            fragment.source(),
+            fragment.destination(),
+            cover,
+        )
+    }
+
+    /// Whether a fragment doesn't contradict what is known.
+    pub(crate) fn agrees_with(&self, fragment: &LentFragment<'_>) -> bool
+        ensures { result ≡ facts_agree self.now (facts_of (core_of fragment.now)) }
+    {
+        self.kind == fragment.kind()
+            && self.parties.source().is(fragment.source())
+            && self.parties.destination().is(fragment.destination())
+            && self.cover.agrees_with(fragment)
+    }
+
+    /// The datagram of the key with this kind, these names and these bytes.
+    fn datagram_from(&self, alloc: Global, key: Key, bytes: Bytes) -> Result<KeptDatagram, NoMemory>
+        requires { length bytes ≤ MAX_LENGTH }
+        ensures { IfOk result (λ datagram. datagram ≡ record {
+          key = key;
+          kind = self.now.kind;
+          source = self.now.source;
+          destination = self.now.destination;
+          bytes = bytes;
+        }) }
+    {
+        let source = self.parties.source();
+        let destination = self.parties.destination();
+        KeptDatagram::new(alloc, key, self.kind, &source, &destination, bytes)
+    }
+
+    /// The datagram of the key with this kind and these names, and with these places, if they are
+    /// whole. No memory is taken where they aren't.
+    fn datagram(
+        &self,
+        alloc: Global,
+        key: Key,
+        cover: &CoverFacts,
+    ) -> Result<Option<KeptDatagram>, NoMemory>
+        requires { (n : ℕ) → cover.now.end ≡ Some n → n ≤ MAX_LENGTH }
+        ensures value { IfOk result (λ datagram.
+            datagram ≡ datagram_with key self.now (bytes_to cover.now.bytes cover.now.end)) }
+        ensures no_memory_needed { bytes_to cover.now.bytes cover.now.end ≡ None
+            → result ≡ Ok None }
+    {
+        match cover.whole(alloc)? {
+            Some(bytes) => Ok(Some(self.datagram_from(alloc, key, bytes)?)),
+            None => Ok(None),
+        }
+    }
+
+    /// How many runs the bytes make up.
+    pub(crate) fn run_count(&self) -> u32
+        requires { AreShort MAX_LENGTH self.now }
+        ensures { result ≡ length (runs_of_map self.now.cover.bytes) }
+    {
+        self.cover.run_count() as u32
+    }
+
+    /// Whether the end and each byte before it are known.
+    pub(crate) fn is_whole(&self) -> bool
+        ensures { IsTrue result ↔ IsWholeCover self.now.cover }
+    {
+        self.cover.is_whole()
+    }
+}
+
+impl PartialEq for EntryFacts {
+    ghost use Rattle.nb_entries.specs.Shared.EqualLemmas.{entry_facts_per};
+    ghost use Rattle.nb_entries.specs.Equal.{same_entry_facts};
+
+    ghost eq = { same_entry_facts };
+
+    ghost laws = { entry_facts_per };
+
+    fn eq(&self, other: &Self) -> bool {
+        self.kind == other.kind
+            && self.parties.source().is(&other.parties.source())
+            && self.parties.destination().is(&other.parties.destination())
+            && self.cover == other.cover
+    }
+}
+
+impl Eq for EntryFacts {
+    ghost use Rattle.nb_entries.specs.Shared.EqualLemmas.{entry_facts_equiv};
+
+    ghost laws = { entry_facts_equiv };
+}
+
+/// What is known of one datagram: its kind, both names and its cover; or spoilt, by facts that
+/// contradict each other.
+pub type Entry = Slot<EntryFacts>;
+
+impl Slot<EntryFacts> {
+    /// What one fragment says of its datagram. Memory is taken for its bytes.
+    ///
+    /// # Errors
+    ///
+    /// `NoMemory` where memory ran out.
+    pub fn of(alloc: Global, fragment: &Fragment<'_>) -> Result<Entry, NoMemory>
+        ensures { IfOk result (λ entry. entry ≡ Held (facts_of (core_of fragment.now))) }
+    {
+        Ok(Slot::Held(EntryFacts::of(alloc, &fragment.lent())?))
+    }
+
+    /// What one fragment says of its datagram, and what that changes at its key, which was new. The
+    /// fragment reaches no further than a datagram may.
+    ///
+    /// # Errors
+    ///
+    /// `NoMemory` where memory ran out.
+    pub fn first(
+        alloc: Global,
+        fragment: &LentFragment<'_>,
+        handing: Handing,
+    ) -> Result<(Entry, KeptChange), NoMemory>
+        requires { reach (core_of fragment.now) ≤ MAX_LENGTH }
+        ensures entry { IfOk result (λ made. made.0 ≡ Held (facts_of (core_of fragment.now))) }
+        ensures change { IfOk result (λ made.
+            Tells handing fragment.now.key None (Some made.0) made.1) }
+    {
+        let (facts, change) = EntryFacts::first(alloc, fragment, handing)?;
+        Ok((Slot::Held(facts), change))
+    }
+
+    /// Joins a fragment in place. All memory is taken before anything changes, and none where the
+    /// join is spoilt or adds nothing. Neither the entry nor the fragment reaches further than a
+    /// datagram may.
+    ///
+    /// # Errors
+    ///
+    /// `NoMemory` where memory ran out; the entry is then as it was.
+    pub fn add(
+        &mut self,
+        alloc: Global,
+        fragment: &LentFragment<'_>,
+        handing: Handing,
+    ) -> Result<KeptChange, NoMemory>
+        requires entry { IsShort MAX_LENGTH self.old }
+        requires fragment { reach (core_of fragment.now) ≤ MAX_LENGTH }
+        ensures joined { OnOk result
+            (self.new ≡ join_entry self.old (Held (facts_of (core_of fragment.now)))) }
+        ensures change { IfOk result (λ change.
+            Tells handing fragment.now.key (Some self.old) (Some self.new) change) }
+        ensures kept { OnErr result (self.new ≡ self.old) }
+        ensures not_spoilt { OnErr result
+            (join_entry self.old (Held (facts_of (core_of fragment.now))) ≢ Spoilt) }
+        ensures more { OnErr result
+            (join_entry self.old (Held (facts_of (core_of fragment.now))) ≢ self.old) }
+    {
+        let Slot::Held(facts) = self else {
+            return Ok(KeptChange::Same);
+        };
+        if !facts.agrees_with(fragment) {
+            *self = Slot::Spoilt;
+            return Ok(KeptChange::Spoilt);
+        }
+        facts.grow(alloc, fragment, handing)
+    }
+
+    /// How many runs its bytes make up, if it isn't spoilt.
+    pub fn run_count(&self) -> Option<u32>
+        requires { IsShort MAX_LENGTH self.now }
+        ensures { result ≡ entry_run_count self.now }
+    {
+        match self {
+            Slot::Held(facts) => Some(facts.run_count()),
+            Slot::Spoilt => None,
+        }
+    }
+
+    /// What is known of the datagram. No memory is taken.
+    pub fn state(&self) -> State
+        ensures { IsEntryState self.now result }
+    {
+        match self {
+            Slot::Spoilt => State::Spoilt,
+            Slot::Held(facts) => {
+                if facts.is_whole() {
+                    State::Whole
+                } else {
+                    State::Partial
+                }
+            }
+        }
+    }
+}

@@ -1,0 +1,41 @@
+//! Entries that are whole, and their datagrams.
+ghost use Rattle.std.specs.Prelude.{◌≡◌, ◌↔◌, IsTrue, IfOk, None, Ok};
+ghost use Rattle.nb_datagram.specs.declared.limits.TheConstants.{MAX_LENGTH};
+ghost use Rattle.nb_entries.specs.Short.{IsShort};
+ghost use Rattle.nb_entries.specs.Whole.{IsWhole};
+ghost use Rattle.nb_entries.specs.Whole.{datagram_of as entry_datagram};
+
+use super::EntryFacts;
+use crate::slot::Slot;
+use nb_datagram::{Datagram, Key};
+use nb_names::NoMemory;
+use std::alloc::Global;
+
+impl Slot<EntryFacts> {
+    /// Whether it isn't spoilt, and its end and each byte before it are known.
+    pub fn is_whole(&self) -> bool
+        ensures { IsTrue result ↔ IsWhole self.now }
+    {
+        match self {
+            Slot::Held(facts) => facts.is_whole(),
+            Slot::Spoilt => false,
+        }
+    }
+
+    /// The datagram of the key, if the entry is whole. No memory is taken where it isn't. The entry
+    /// reaches no further than a datagram may.
+    ///
+    /// # Errors
+    ///
+    /// `NoMemory` where memory ran out.
+    pub fn datagram_of(&self, alloc: Global, key: Key) -> Result<Option<Datagram>, NoMemory>
+        requires { IsShort MAX_LENGTH self.now }
+        ensures value { IfOk result (λ datagram. datagram ≡ entry_datagram key self.now) }
+        ensures no_memory_needed { entry_datagram key self.now ≡ None → result ≡ Ok None }
+    {
+        match self {
+            Slot::Held(facts) => facts.datagram_of(alloc, key),
+            Slot::Spoilt => Ok(None),
+        }
+    }
+}

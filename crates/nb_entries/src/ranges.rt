@@ -1,0 +1,89 @@
+//! Ranges of places: where the bytes of a datagram's data are known.
+ghost use Rattle.std.specs.Prelude.{◌≡◌, ◌≤◌, [], map};
+ghost use Rattle.nb_datagram.specs.declared.limits.TheConstants.{MAX_LENGTH};
+ghost use Rattle.nb_entries.specs.Ranges.{range_of};
+ghost use Rattle.nb_entries.specs.Runs.{run_end};
+ghost use Rattle.nb_entries.specs.Code.RangeSteps.{EndBy};
+ghost use Rattle.nb_entries.specs.Code.RunSteps.{value_of, values_of};
+
+use crate::cover::runs::Run;
+use std::marker::Model;
+
+/// Places that follow one another, of which there is at least one.
+#[derive(Clone, Copy, Debug, PartialEq, Eq)]
+pub struct PlaceRange {
+    /// The first of them.
+    pub from: u32,
+    /// The place after the last of them.
+    pub to: u32,
+}
+
+/// The ranges of the places at which bytes of a datagram's data are known, ascending. No memory is
+/// taken.
+#[derive(Drop)]
+pub struct Ranges<'a> {
+    runs: &'a [Run],
+}
+
+impl<'a> Model for Ranges<'a> {
+    ghost use Rattle.std.specs.Prelude.{List, map};
+    ghost use Rattle.nb_datagram.specs.declared.limits.TheConstants.{MAX_LENGTH};
+    ghost use Rattle.nb_entries.specs.declared.ranges.PlaceRange.{PlaceRange};
+    ghost use Rattle.nb_entries.specs.Ranges.{range_of};
+    ghost use Rattle.nb_entries.specs.Code.RangeSteps.{EndBy};
+    ghost use Rattle.nb_entries.specs.Code.RunSteps.{values_of};
+
+    ghost Value = { List PlaceRange };
+
+    ghost view = { λ r. map range_of (values_of r.runs.now) };
+
+    ghost invariant = { λ r. EndBy MAX_LENGTH (values_of r.runs.now) };
+}
+
+impl<'a> Ranges<'a> {
+    /// No ranges.
+    pub fn none() -> Ranges<'a>
+        ensures { result ≡ [] }
+    {
+        Ranges { runs: &[] }
+    }
+
+    /// Those of these runs, each of which ends where a datagram may at most.
+    pub(crate) fn of(runs: &'a [Run]) -> Ranges<'a>
+        requires { EndBy MAX_LENGTH (values_of runs.now) }
+        ensures { result ≡ map range_of (values_of runs.now) }
+    {
+        Ranges { runs }
+    }
+}
+
+/// The places of a run that ends where a datagram may at most.
+fn places_of(run: &Run) -> PlaceRange
+    requires { run_end (value_of run.now) ≤ MAX_LENGTH }
+    ensures { result ≡ range_of (value_of run.now) }
+{
+    PlaceRange {
+        from: run.start(),
+        to: run.end() as u32,
+    }
+}
+
+impl<'a> Iterator for Ranges<'a> {
+    type Item = PlaceRange;
+
+    ghost use Rattle.std.specs.Iterator.{YieldsFirst, item_count};
+
+    ghost next_gives = { YieldsFirst (λ r. r) };
+
+    ghost remaining = { item_count (λ r. r) };
+
+    fn next(&mut self) -> Option<PlaceRange> {
+        match self.runs.split_first() {
+            Some((run, rest)) => {
+                self.runs = rest;
+                Some(places_of(run))
+            }
+            None => None,
+        }
+    }
+}

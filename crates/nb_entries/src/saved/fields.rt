@@ -1,0 +1,225 @@
+//! The fields of saved entries: each read where it stands, and written.
+ghost use Rattle.std.specs.Prelude.{◌≡◌, ◌↔◌, IsTrue, MatchResult};
+ghost use Rattle.std.specs.Int.{w16, w32, to_be_bytes};
+ghost use Rattle.nb_names.specs.Numbers.{NumberAt};
+ghost use Rattle.nb_entries.specs.Sinks.{Puts};
+ghost use Rattle.nb_entries.specs.Saved.{end_bytes};
+ghost use Rattle.nb_entries.specs.SavedReading.{Field, Then, Judged, PromisesBelow, fault_of_name};
+ghost use Rattle.nb_entries.specs.SavedReading.{byte_at as byte_reading};
+ghost use Rattle.nb_entries.specs.SavedReading.{number_at as number_reading};
+ghost use Rattle.nb_entries.specs.SavedReading.{bytes_at as bytes_reading};
+ghost use Rattle.nb_entries.specs.SavedReading.{kind_at as kind_reading};
+ghost use Rattle.nb_entries.specs.SavedReading.{name_at as name_reading};
+ghost use Rattle.nb_entries.specs.SavedReading.{end_at as end_reading};
+ghost use Rattle.nb_entries.specs.SavedReading.{promise_at as promise_reading};
+ghost use Rattle.nb_entries.specs.declared.saved.form.SavedForm.TheVariants.{Second};
+
+use super::form::SavedForm;
+use super::sink::ByteSink;
+use crate::load_fault::LoadFault;
+use nb_datagram::Kind;
+use nb_names::numbers::{number_16, number_32};
+use nb_names::{LentName, NameFault, read_lent_name};
+
+/// The byte at an offset.
+pub(crate) fn read_byte(input: &[u8], at: usize) -> Result<(u8, usize), LoadFault>
+    ensures { byte_reading input.now at result }
+{
+    if input.len().saturating_sub(at) < 1 {
+        return Err(LoadFault::Truncated);
+    }
+    Ok((input[at], at + 1))
+}
+
+/// The number in the two bytes at an offset.
+pub(crate) fn read_number(input: &[u8], at: usize) -> Result<(u16, usize), LoadFault>
+    ensures { number_reading input.now at result }
+{
+    if input.len().saturating_sub(at) < 2 {
+        return Err(LoadFault::Truncated);
+    }
+    Ok((number_16(input, at), at + 2))
+}
+
+/// Puts the two low bytes of a number, the high one of them first.
+#[inline]
+pub(crate) fn put_two_bytes<S: ByteSink>(sink: &mut S, number: u64) -> Result<(), S::Fault>
+    ensures { Puts S.takes S.breaks sink.old sink.new (to_be_bytes w16 number) result }
+{
+    let bytes = number.to_be_bytes();
+    sink.put(&[bytes[6], bytes[7]])
+}
+
+/// The number in the four bytes at an offset, and the offset after them.
+///
+/// # Errors
+///
+/// `Truncated` where the input ends before them or inside them.
+pub fn read_count(input: &[u8], at: usize) -> Result<(u32, usize), LoadFault>
+    ensures { Field input.now at 4 (NumberAt input.now at w32) result }
+{
+    if input.len().saturating_sub(at) < 4 {
+        return Err(LoadFault::Truncated);
+    }
+    Ok((number_32(input, at), at + 4))
+}
+
+/// Puts the four low bytes of a number, the high one of them first.
+///
+/// # Errors
+///
+/// Why the sink takes no more.
+pub fn put_four_bytes<S: ByteSink>(sink: &mut S, count: u64) -> Result<(), S::Fault>
+    ensures { Puts S.takes S.breaks sink.old sink.new (to_be_bytes w32 count) result }
+{
+    let bytes = count.to_be_bytes();
+    sink.put(&[bytes[4], bytes[5], bytes[6], bytes[7]])
+}
+
+/// This many bytes at an offset.
+pub(crate) fn read_bytes<'a>(
+    input: &'a [u8],
+    at: usize,
+    size: u16,
+) -> Result<(&'a [u8], usize), LoadFault>
+    ensures { MatchResult result
+        (λ read. bytes_reading input.now at size (Ok (read.0.now, read.1)))
+        (λ fault. bytes_reading input.now at size (Err fault)) }
+{
+    if at > input.len() {
+        return Err(LoadFault::Truncated);
+    }
+    let size = usize::from(size);
+    let left = input.len() - at;
+    if left < size {
+        return Err(LoadFault::Truncated);
+    }
+    let after = at + size;
+    Ok((&input[at..after], after))
+}
+
+/// The kind at an offset.
+pub(crate) fn read_kind(input: &[u8], at: usize) -> Result<(Kind, usize), LoadFault>
+    ensures { kind_reading input.now at result }
+{
+    let (number, next) = read_byte(input, at)?;
+    match number {
+        0x10 => Ok((Kind::Unique, next)),
+        0x11 => Ok((Kind::Group, next)),
+        0x12 => Ok((Kind::Broadcast, next)),
+        _ => Err(LoadFault::NotCanonical(at)),
+    }
+}
+
+/// What the fault of a name at an offset comes to.
+fn name_fault(at: usize, fault: NameFault) -> LoadFault
+    ensures { result ≡ fault_of_name at fault }
+{
+    match fault {
+        NameFault::Truncated(_) => LoadFault::Truncated,
+        _ => LoadFault::NotCanonical(at),
+    }
+}
+
+/// The name that is spelled at an offset, with no pointer.
+pub(crate) fn read_plain_name<'a>(
+    input: &'a [u8],
+    at: usize,
+) -> Result<(LentName<'a>, usize), LoadFault>
+    ensures { name_reading input.now at result }
+{
+    match read_lent_name(input, at) {
+        Ok(read) => Ok(read),
+        Err(fault) => Err(name_fault(at, fault)),
+    }
+}
+
+/// The end at an offset, if there is one.
+pub(crate) fn read_end(input: &[u8], at: usize) -> Result<(Option<u32>, usize), LoadFault>
+    ensures { end_reading input.now at result }
+{
+    let (mark, next) = read_byte(input, at)?;
+    match mark {
+        0 => Ok((None, next)),
+        1 => {
+            let (end, after) = read_number(input, next)?;
+            Ok((Some(u32::from(end)), after))
+        }
+        _ => Err(LoadFault::NotCanonical(at)),
+    }
+}
+
+/// Whether the promise lies below the end, if that is known.
+fn is_below_end(end: Option<u32>, promise: u32) -> bool
+    ensures { IsTrue result ↔ PromisesBelow end promise }
+{
+    match end {
+        Some(end) => promise < end,
+        None => true,
+    }
+}
+
+/// The promise in the two bytes at an offset, which has to lie below the end. Its mark stands at
+/// the other offset.
+fn read_promised(
+    input: &[u8],
+    end: Option<u32>,
+    mark: usize,
+    at: usize,
+) -> Result<(u32, usize), LoadFault>
+    ensures { Then (number_reading input.now at) (Judged mark (PromisesBelow end)) result }
+{
+    let (number, after) = read_number(input, at)?;
+    let promise = u32::from(number);
+    if !is_below_end(end, promise) {
+        return Err(LoadFault::NotCanonical(mark));
+    }
+    Ok((promise, after))
+}
+
+/// The promise at an offset, if there is one, in the form that has it.
+fn read_marked_promise(
+    input: &[u8],
+    end: Option<u32>,
+    at: usize,
+) -> Result<(Option<u32>, usize), LoadFault>
+    ensures { promise_reading Second input.now end at result }
+{
+    let (mark, next) = read_byte(input, at)?;
+    match mark {
+        0 => Ok((None, next)),
+        1 => {
+            let (promise, after) = read_promised(input, end, at, next)?;
+            Ok((Some(promise), after))
+        }
+        _ => Err(LoadFault::NotCanonical(at)),
+    }
+}
+
+/// The promise at an offset, if there is one. The first form has no such field.
+pub(crate) fn read_promise(
+    form: SavedForm,
+    input: &[u8],
+    end: Option<u32>,
+    at: usize,
+) -> Result<(Option<u32>, usize), LoadFault>
+    ensures { promise_reading form input.now end at result }
+{
+    match form {
+        SavedForm::First => Ok((None, at)),
+        SavedForm::Second => read_marked_promise(input, end, at),
+    }
+}
+
+/// Puts an end or a promise, or that there is none.
+pub(crate) fn put_end<S: ByteSink>(sink: &mut S, end: Option<u32>) -> Result<(), S::Fault>
+    ensures { Puts S.takes S.breaks sink.old sink.new (end_bytes end) result }
+{
+    match end {
+        Some(end) => {
+            let bytes = end.to_be_bytes();
+            sink.put(&[1, bytes[2], bytes[3]])
+        }
+        None => sink.put(&[0]),
+    }
+}

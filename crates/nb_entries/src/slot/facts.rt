@@ -1,0 +1,37 @@
+//! Facts that may contradict each other.
+ghost use Rattle.std.specs.Prelude.{◌≡◌, Bool, true, IfOk};
+ghost use Rattle.nb_entries.specs.Shared.SlotLemmas.{Unites};
+
+use nb_names::NoMemory;
+
+/// Facts that may contradict each other, and are united where they don't: those of a cover, and
+/// those of an entry.
+pub trait Facts: Drop {
+    // Whether two don't contradict each other.
+    ghost agrees: { Self → Self → Bool };
+
+    // What two that don't say together.
+    ghost union: { Self → Self → Self };
+
+    // What is known of each.
+    ghost AreFormed: { Self → Type 0 };
+
+    /// Whether the two don't contradict each other.
+    fn agree(&self, other: &Self) -> bool
+        ensures value { result ≡ agrees self.now other.now }
+        ensures formed { AreFormed self.now };
+
+    /// What two that don't contradict each other say together.
+    ///
+    /// # Errors
+    ///
+    /// `NoMemory` where memory ran out.
+    fn together(&self, other: &Self) -> Result<Self, NoMemory>
+        requires { agrees self.now other.now ≡ true }
+        ensures value { IfOk result (λ facts. facts ≡ union self.now other.now) }
+        ensures formed { IfOk result AreFormed };
+
+    ghost unites: { Unites agrees union };
+
+    ghost formed_agree: { (a : Self) → AreFormed a → agrees a a ≡ true };
+}

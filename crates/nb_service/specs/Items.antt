@@ -1,0 +1,81 @@
+-- The items of a packet, one by one: its questions and its records (RFC 1002 sections 4.2.1.2, 4.2.1.3), in the order of
+-- section 4.2.1: questions, answers, authorities, additional records. The first stands after the header. They are counted from 0.
+--
+-- Our choice: of bytes that begin with no packet the items are those that stand whole, one after another, before the first
+-- that doesn't.
+use Rattle.std.specs.Prelude.{◌≡◌, ℕ, ◌+◌, ◌<◌, ◌≤◌, List, [], ◌∷◌, ◌++◌, length, map}
+use Rattle.nb_service.specs.declared.extent.Extent.{Extent}
+use Rattle.nb_service.specs.declared.fault.ServiceFault.{ServiceFault}
+use Rattle.nb_service.specs.declared.item.Item.{Item}
+use Rattle.nb_service.specs.declared.item.Item.TheVariants as declared
+use Rattle.nb_service.specs.declared.limits.TheConstants.{HEADER_LENGTH}
+use Rattle.nb_service.specs.declared.question.Question.{Question}
+use Rattle.nb_service.specs.declared.section.Section.{Section}
+use Rattle.nb_service.specs.declared.section.Section.TheVariants.{Answer, Authority, Additional}
+use Rattle.nb_service.specs.Header.{PacketHeader, HasHeader}
+use Rattle.nb_service.specs.Record.{ResourceRecord}
+use Rattle.nb_service.specs.Packet.{QuestionAt, RecordAt, ServicePacket}
+use Rattle.nb_service.specs.ServiceFaults.{QuestionFails, RdataBegins, RecordFails, item_count}
+
+-- an item: a question, or a record of a section
+pub data PacketItem : Type 0 where
+  asked : Question → PacketItem
+  told : Section → ResourceRecord → PacketItem
+
+-- the item that a value of the code stands for
+abbrev pub item_of : Item → PacketItem
+item_of (declared.Question question) = asked question
+item_of (declared.Record section entry) = told section entry
+
+-- IsRecordOf header number section: by the counts of the header the item of this number is a record of this section
+abbrev pub IsRecordOf : PacketHeader → ℕ → Section → Type 0
+IsRecordOf header number Answer =
+    (header.questions ≤ number) × (number < header.questions + header.answers)
+IsRecordOf header number Authority =
+    (header.questions + header.answers ≤ number) × (number < header.questions + header.answers + header.authorities)
+IsRecordOf header number Additional =
+    (header.questions + header.answers + header.authorities ≤ number)
+    × (number < header.questions + header.answers + header.authorities + header.additional)
+
+-- ItemAt packet header number at item next: in a packet of this header the item of this number stands at this offset
+pub data ItemAt (packet : List ℕ) (header : PacketHeader) (number at : ℕ) : PacketItem → ℕ → Type 0 where
+  question_there : (question : Question) (next : ℕ) → number < header.questions → QuestionAt packet at question next
+      → ItemAt packet header number at (asked question) next
+  record_there : (section : Section) (entry : ResourceRecord) (next : ℕ) → IsRecordOf header number section
+      → RecordAt packet at entry next → ItemAt packet header number at (told section entry) next
+
+-- ItemFails packet header number at fault: the item of this number doesn't stand at this offset, and this is its first
+-- fault
+pub data ItemFails (packet : List ℕ) (header : PacketHeader) (number at : ℕ) (fault : ServiceFault) : Type 0 where
+  question_fails : number < header.questions → QuestionFails packet at fault → ItemFails packet header number at fault
+  record_fails : header.questions ≤ number → number < item_count header → RecordFails packet at fault
+      → ItemFails packet header number at fault
+
+-- IsExtent packet at item extent: of this item, which stands at this offset, RDATA reaches from `extent.rdata` to `extent.next`;
+-- a question has none
+abbrev pub IsExtent : List ℕ → ℕ → PacketItem → Extent → Type 0
+IsExtent packet at (asked question) extent = extent.rdata ≡ extent.next
+IsExtent packet at (told section entry) extent =
+    (size : ℕ) × RdataBegins packet at entry.kind size extent.rdata × (extent.next ≡ extent.rdata + size)
+
+-- ItemsAt packet header number at items next: from this offset on the items stand, one after another, of which the first
+-- has this number
+pub data ItemsAt (packet : List ℕ) (header : PacketHeader) : ℕ → ℕ → List PacketItem → ℕ → Type 0 where
+  no_item : {number at : ℕ} → ItemsAt packet header number at [] at
+  one_more : {number at next : ℕ} (between : ℕ) (item : PacketItem) (items : List PacketItem)
+      → ItemAt packet header number at item between → ItemsAt packet header (number + 1) between items next
+      → ItemsAt packet header number at (item ∷ items) next
+
+-- HasItems bytes header items next: these bytes begin with this header, and from its end on these items stand, one after
+-- another, and no further one
+pub record HasItems (bytes : List ℕ) (header : PacketHeader) (items : List PacketItem) (next : ℕ) : Type 0 where
+  pub header_there : HasHeader bytes header
+  pub items_there : ItemsAt bytes header 0 HEADER_LENGTH items next
+  pub no_further : (item : PacketItem) (after : ℕ) → ¬ ItemAt bytes header (length items) next item after
+
+-- the items of a packet, in the order in which they stand
+abbrev pub items_of : ServicePacket → List PacketItem
+items_of packet =
+    map asked packet.questions
+    ++ (map (told Answer) packet.answers
+    ++ (map (told Authority) packet.authorities ++ map (told Additional) packet.additional))

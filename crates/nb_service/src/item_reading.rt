@@ -1,0 +1,83 @@
+//! Items of a packet, read one by one where they stand.
+ghost use Rattle.std.specs.Prelude.{◌≡◌, ◌≤◌, ℕ, length, IfOk, IfErr, IfSome, IsOkAnd, IsSomeAnd, MatchOption};
+ghost use Rattle.nb_service.specs.Header.{header_value};
+ghost use Rattle.nb_service.specs.Items.{IsExtent, IsRecordOf, ItemAt, ItemFails, PacketItem, item_of};
+ghost use Rattle.nb_service.specs.ServiceFaults.{item_count};
+
+use crate::extent::Extent;
+use crate::fault::ServiceFault;
+use crate::header::Header;
+use crate::item::Item;
+use crate::laws::one_item;
+use crate::reading::{read_question, read_reaching_record};
+use crate::section::Section;
+use nb_names::NameReader;
+
+/// The section of the record that is the item of a number; none past the last record.
+fn section_of(header: &Header, number: usize) -> Option<Section>
+    requires { header.now.questions ≤ number }
+    ensures { MatchOption result (item_count (header_value header.now) ≤ number)
+        (IsRecordOf (header_value header.now) number) }
+{
+    let answers_end = header.questions as usize + header.answers as usize;
+    let authorities_end = answers_end + header.authorities as usize;
+    if number < answers_end {
+        return Some(Section::Answer);
+    }
+    if number < authorities_end {
+        return Some(Section::Authority);
+    }
+    if number < authorities_end + header.additional as usize {
+        return Some(Section::Additional);
+    }
+    None
+}
+
+/// The item of a number, counted from 0, that stands at an offset of a packet of this header, and
+/// how far it reaches; none where the header says that there are no more. No memory is taken.
+///
+/// The first item, of number 0, stands at byte 12
+/// ([`HEADER_LENGTH`](crate::limits::HEADER_LENGTH)), and each other where the one before it ends.
+/// Whether the packet stands whole isn't looked at: read so, the items of a packet of which the
+/// front alone is there are all that stand whole.
+///
+/// # Errors
+///
+/// What is wrong first with this item, as [`read_question`] and
+/// [`read_record`](crate::read_record) say it; never `NoMemory`.
+///
+/// RFC 1002 section 4.2.1.
+pub fn read_item<'a>(
+    names: &NameReader<'a, '_>,
+    header: &Header,
+    number: usize,
+    at: usize,
+) -> Result<Option<(Item<'a>, Extent)>, ServiceFault>
+    // What is answered stands there, and what stands there is answered.
+    ensures found { IfOk result (λ read. MatchOption read
+        (item_count (header_value header.now) ≤ number) (λ seen.
+        ItemAt names.now (header_value header.now) number at (item_of seen.0) seen.1.next)) }
+    ensures reaches { IfOk result (λ read. IfSome read
+        (λ seen. IsExtent names.now at (item_of seen.0) seen.1)) }
+    ensures only { (item : PacketItem) (next : ℕ) →
+        ItemAt names.now (header_value header.now) number at item next →
+        IsOkAnd result (λ read. IsSomeAnd read
+        (λ seen. (item_of seen.0 ≡ item) × (seen.1.next ≡ next))) }
+    ensures within { IfOk result (λ read. IfSome read (λ seen. seen.1.next ≤ length names.now)) }
+
+    // Which fault it is, and where.
+    ensures fault { IfErr result (ItemFails names.now (header_value header.now) number at) }
+{
+    // The law on which the clause `only` stands; the call does nothing.
+    one_item();
+    if number < header.questions as usize {
+        let (question, next) = read_question(names, at)?;
+        let extent = Extent { rdata: next, next };
+        return Ok(Some((Item::Question(question), extent)));
+    }
+    let Some(section) = section_of(header, number) else {
+        return Ok(None);
+    };
+    let (record, extent) = read_reaching_record(names, at)?;
+    Ok(Some((Item::Record(section, record), extent)))
+}

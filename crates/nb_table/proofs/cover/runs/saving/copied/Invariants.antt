@@ -1,6 +1,0 @@
-use Rattle.std.proofs.Common.{◌≡◌, take}
-use Rattle.nb_table.specs.Code.RunSteps.{values_of}
-use Rattle.nb_table.proofs.cover.runs.saving.copied.Given as goal
-
-abbrev pub invariant-loop-run : goal.invariant-loop-run
-invariant-loop-run l = values_of l.made.items ≡ take l.run-index (values_of l.runs)

@@ -1,6 +1,0 @@
-use Rattle.std.proofs.Common.{sym, ◌∙◌}
-use Rattle.nb_table.proofs.Runs.RowLemmas.{map_below}
-use Rattle.nb_table.proofs.saved.runs.SavedRuns.are_short.Goals as goal
-
-pub returns : goal.returns
-returns c = rw (← c.self.view_is) (c.row_is_short.ensures ∙ sym (map_below c.args.limit _ c.self.invariant.1))

@@ -1,0 +1,10 @@
+use Rattle.nb_text.proofs.SaidPackets.{front_lacks, refused_said, session_follows, unplaced_said}
+use Rattle.nb_text.proofs.laws.endings.refusals_in_words.Goals as goal
+
+pub returns : goal.returns
+returns c = record {
+  placed = refused_said;
+  unplaced = unplaced_said;
+  fronts = front_lacks;
+  followed = session_follows;
+}

@@ -1,0 +1,167 @@
+//! Laws of the phrases of packets: what a phrase says stands in the packet's own values.
+ghost use Rattle.std.specs.Prelude.{◌≡◌, ℕ, ◌<◌, Bool, true, false, List, [], ◌∷◌, ◌++◌, length, codes, if◌then◌else◌};
+ghost use Rattle.std.specs.Fmt.{decimal};
+ghost use Rattle.std.specs.Int.{w16, to_be_bytes};
+ghost use Rattle.nb_names.specs.Addresses.{address_text};
+ghost use Rattle.nb_names.specs.Name.{NetbiosName, IsName};
+ghost use Rattle.nb_names.specs.NameText.{written};
+ghost use Rattle.nb_service.specs.Requests.{claim, query_packet, refresh_packet, registration_packet, release_packet, status_packet};
+ghost use Rattle.nb_session.specs.declared.packet.Packet.TheVariants as sessions;
+ghost use Rattle.nb_session.specs.declared.parsing.Parsed.TheVariants.{Whole};
+ghost use Rattle.nb_datagram.specs.declared.key.Key.{Key};
+ghost use Rattle.nb_datagram.specs.declared.kind.Kind.TheVariants.{Broadcast, Group, Unique};
+ghost use Rattle.nb_datagram.specs.declared.packet.Packet.TheVariants.{Direct};
+ghost use Rattle.nb_datagram.specs.Fragment.{has_more};
+ghost use Rattle.nb_text.specs.DatagramFields.{datagram_fields};
+ghost use Rattle.nb_text.specs.Said.{said};
+ghost use Rattle.nb_text.specs.ServiceFields.{service_fields};
+ghost use Rattle.nb_text.specs.SessionFields.{session_fields};
+ghost use Rattle.nb_text.specs.Words.{is_set};
+
+/// Requests of port 137, after which no bytes follow: a query says the name that it asks for (RFC
+/// 1002 sections 4.2.12 and 4.2.17); a registration (4.2.2), one that overwrites (4.2.3), one of a
+/// host of several addresses (our choice) and a refresh (4.2.4) the name, the address and the time
+/// of the record, and whether G is set in it; a release (4.2.9) the same without a time.
+pub fn requests_in_words()
+    ensures queries { (id used : ℕ) (name : NetbiosName) (broadcast : Bool) → IsName name →
+        said (service_fields (query_packet id name broadcast) used) used
+        ≡ codes "asks for " ++ written name }
+    ensures statuses { (id used : ℕ) (name : NetbiosName) (broadcast : Bool) → IsName name →
+        said (service_fields (status_packet id name broadcast) used) used
+        ≡ codes "asks for the node status of " ++ written name }
+    ensures registrations { (id used ttl flags a b c d : ℕ) (name : NetbiosName)
+        (broadcast : Bool) → IsName name → flags < 65536 →
+        said (service_fields (registration_packet id name broadcast ttl
+        (to_be_bytes w16 flags ++ a ∷ b ∷ c ∷ d ∷ [])) used) used
+        ≡ codes "claims " ++ (written name
+        ++ ((if is_set flags 32768 then codes " as a group for " else codes " for ")
+        ++ (address_text (a ∷ b ∷ c ∷ d ∷ [])
+        ++ (codes ", for " ++ (decimal ttl ++ codes " s"))))) }
+    ensures overwrites { (id used ttl flags a b c d : ℕ) (name : NetbiosName) → IsName name →
+        flags < 65536 →
+        said (service_fields (claim id 10240 name ttl
+        (to_be_bytes w16 flags ++ a ∷ b ∷ c ∷ d ∷ [])) used) used
+        ≡ codes "overwrites " ++ (written name
+        ++ ((if is_set flags 32768 then codes " as a group for " else codes " for ")
+        ++ (address_text (a ∷ b ∷ c ∷ d ∷ [])
+        ++ (codes ", for " ++ (decimal ttl ++ codes " s"))))) }
+    ensures several { (id used ttl flags a b c d : ℕ) (name : NetbiosName) → IsName name →
+        flags < 65536 →
+        said (service_fields (claim id 30976 name ttl
+        (to_be_bytes w16 flags ++ a ∷ b ∷ c ∷ d ∷ [])) used) used
+        ≡ codes "claims as one of several addresses " ++ (written name
+        ++ ((if is_set flags 32768 then codes " as a group for " else codes " for ")
+        ++ (address_text (a ∷ b ∷ c ∷ d ∷ [])
+        ++ (codes ", for " ++ (decimal ttl ++ codes " s"))))) }
+    ensures refreshes { (id used ttl flags a b c d : ℕ) (name : NetbiosName)
+        (broadcast : Bool) → IsName name → flags < 65536 →
+        said (service_fields (refresh_packet id name broadcast ttl
+        (to_be_bytes w16 flags ++ a ∷ b ∷ c ∷ d ∷ [])) used) used
+        ≡ codes "refreshes " ++ (written name
+        ++ ((if is_set flags 32768 then codes " as a group for " else codes " for ")
+        ++ (address_text (a ∷ b ∷ c ∷ d ∷ [])
+        ++ (codes ", for " ++ (decimal ttl ++ codes " s"))))) }
+    ensures releases { (id used flags a b c d : ℕ) (name : NetbiosName) (broadcast : Bool) →
+        IsName name → flags < 65536 →
+        said (service_fields (release_packet id name broadcast
+        (to_be_bytes w16 flags ++ a ∷ b ∷ c ∷ d ∷ [])) used) used
+        ≡ codes "releases " ++ (written name
+        ++ ((if is_set flags 32768 then codes " as a group for " else codes " for ")
+        ++ address_text (a ∷ b ∷ c ∷ d ∷ []))) }
+{}
+
+/// Datagrams of port 138 (RFC 1002 sections 4.4.1 and 4.4.2), after which no bytes follow: who
+/// sends, to whom, how many bytes, and which where they aren't all.
+pub fn datagrams_in_words()
+    ensures unique { (flags used : ℕ) (key : Key) (source destination : NetbiosName)
+        (bytes : List ℕ) → has_more flags ≡ false →
+        said (datagram_fields (Direct (record {
+          kind = Unique;
+          flags = flags;
+          key = key;
+          offset = 0;
+          source = source;
+          destination = destination;
+          bytes = bytes;
+        })) used) used
+        ≡ codes "datagram from " ++ (written source ++ (codes " to " ++ (written destination
+        ++ (codes ", " ++ (decimal (length bytes) ++ codes " bytes"))))) }
+    ensures group { (flags used : ℕ) (key : Key) (source destination : NetbiosName)
+        (bytes : List ℕ) → has_more flags ≡ false →
+        said (datagram_fields (Direct (record {
+          kind = Group;
+          flags = flags;
+          key = key;
+          offset = 0;
+          source = source;
+          destination = destination;
+          bytes = bytes;
+        })) used) used
+        ≡ codes "group datagram from " ++ (written source ++ (codes " to "
+        ++ (written destination ++ (codes ", " ++ (decimal (length bytes)
+        ++ codes " bytes"))))) }
+    ensures broadcast { (flags used : ℕ) (key : Key) (source destination : NetbiosName)
+        (bytes : List ℕ) → has_more flags ≡ false →
+        said (datagram_fields (Direct (record {
+          kind = Broadcast;
+          flags = flags;
+          key = key;
+          offset = 0;
+          source = source;
+          destination = destination;
+          bytes = bytes;
+        })) used) used
+        ≡ codes "broadcast datagram from " ++ (written source ++ (codes " to "
+        ++ (written destination ++ (codes ", " ++ (decimal (length bytes)
+        ++ codes " bytes"))))) }
+    ensures front { (flags used offset : ℕ) (key : Key) (source destination : NetbiosName)
+        (bytes : List ℕ) → has_more flags ≡ true →
+        said (datagram_fields (Direct (record {
+          kind = Unique;
+          flags = flags;
+          key = key;
+          offset = offset;
+          source = source;
+          destination = destination;
+          bytes = bytes;
+        }))
+        used) used
+        ≡ codes "datagram from " ++ (written source ++ (codes " to " ++ (written destination
+        ++ (codes ", " ++ (decimal (length bytes) ++ (codes " bytes at offset "
+        ++ (decimal offset ++ codes " of one that goes on"))))))) }
+    ensures last { (flags used offset : ℕ) (key : Key) (source destination : NetbiosName)
+        (bytes : List ℕ) → has_more flags ≡ false → 0 < offset →
+        said (datagram_fields (Direct (record {
+          kind = Unique;
+          flags = flags;
+          key = key;
+          offset = offset;
+          source = source;
+          destination = destination;
+          bytes = bytes;
+        }))
+        used) used
+        ≡ codes "datagram from " ++ (written source ++ (codes " to " ++ (written destination
+        ++ (codes ", " ++ (decimal (length bytes) ++ (codes " bytes at offset "
+        ++ (decimal offset ++ codes ", the last"))))))) }
+{}
+
+/// Packets of port 139, after which no bytes follow (RFC 1002 section 4.3): a request says who is
+/// called, and as whom.
+pub fn sessions_in_words()
+    ensures requests { (called calling : NetbiosName) (used : ℕ) →
+        said (session_fields (Whole (sessions.Request called calling) used)) used
+        ≡ codes "calls " ++ (written called ++ (codes " as " ++ written calling)) }
+    ensures messages { (bytes : List ℕ) (used : ℕ) →
+        said (session_fields (Whole (sessions.Message bytes) used)) used
+        ≡ codes "sends " ++ (decimal (length bytes) ++ codes " bytes") }
+    ensures positives { (used : ℕ) →
+        said (session_fields (Whole sessions.Positive used)) used ≡ codes "accepts" }
+    ensures retargets { (address : List ℕ) (port used : ℕ) →
+        said (session_fields (Whole (sessions.Retarget address port) used)) used
+        ≡ codes "sends the caller to " ++ (address_text address
+        ++ (codes ", port " ++ decimal port)) }
+    ensures keepalives { (used : ℕ) →
+        said (session_fields (Whole sessions.Keepalive used)) used
+        ≡ codes "keeps the session alive" }
+{}

@@ -1,0 +1,120 @@
+#!/usr/bin/env python3
+"""What `nbt show --brief` prints, beside a model that makes the phrases from payloads.
+
+Usage: tests/lib/brief_phrases.py [--seed N] [--payloads N] [PROGRAM]; its last line is 'N passed, M failed', the one before says
+what was compared. Captures are the payloads of the examples of crates/nb_examples, and such as are made by chance, until so
+many payloads (10,000) were said. The lines of each are a case, and so is each phrase of docs/FORMATS.md: it was said. Objects with
+phrases are held against the same model by tests/lib/json_objects.py.
+"""
+import argparse
+import collections
+import os
+import random
+import re
+import subprocess
+import sys
+
+from brief_model import said
+from fuzz_inputs import ROOT, capture_lines, example_bytes
+from object_inputs import Inputs, ServicePacket
+
+LONGEST_PAYLOAD = 2_000
+OPERATIONS = (0, 0, 5, 5, 6, 7, 8, 9, 15)
+OUTCOMES = (0, 0, 0, 1, 2, 3, 4, 5, 6, 7, 8)
+CODES = (0x80, 0x81, 0x82, 0x83, 0x84, 0x8f)
+IN_CAPTURE = 100
+PHRASES = re.compile(r'^\| .* \| `([^`]+)` \|$', re.MULTILINE)
+BY = re.compile(r'[A-Z]+|[.*+?^$()\[\]{}|\\]')
+LONGEST_PRINTED = 1_000
+
+
+def phrases():
+    """The phrases of the tables of docs/FORMATS.md, as patterns; words in capitals stand for others."""
+    with open(os.path.join(ROOT, 'docs', 'FORMATS.md'), encoding='utf-8') as page:
+        part = page.read().partition('### Phrases\n')[2].partition('\n### ')[0]
+    return [re.compile(BY.sub(lambda it: '.*' if it[0].isalpha() else re.escape(it[0]), it)) for it in PHRASES.findall(part)]
+
+
+def likely(rng, port, payload):
+    """A payload, mostly with a flag word or a code that the standard has."""
+    changed = bytearray(payload)
+    if port == 137 and len(payload) >= 12 and rng.random() < 0.8:
+        word = rng.choice((0, 0x8000)) | rng.choice(OPERATIONS) << 11 | rng.randrange(128) << 4 | rng.choice(OUTCOMES)
+        changed[2:4] = word.to_bytes(2, 'big')
+    if port == 138 and payload[:1] == b'\x13' and len(payload) >= 11 or port == 139 and payload[:1] == b'\x83' and len(payload) >= 5:
+        changed[4 if port == 139 else 10] = rng.choice(CODES)
+    return port, bytes(changed)
+
+
+def made_by_chance(rng, count):
+    """So many payloads made by chance, with their ports."""
+    inputs = Inputs(rng, [it for it in example_bytes() if len(it) <= LONGEST_PAYLOAD], list(capture_lines()))
+    for at in range(count):
+        payload = (137, ServicePacket(rng, inputs.traffic.name).made()) if at % 2 else inputs.payload()
+        yield likely(rng, *payload)
+
+
+class Cases:
+    """Runs commands, holds what they print against the model, and counts."""
+
+    def __init__(self, program):
+        self.program = program
+        self.passed = 0
+        self.failed = 0
+        self.said = []
+        self.compared = collections.Counter()
+
+    def count(self, why):
+        """One case more, which went well if nothing is wrong."""
+        self.passed += not why
+        self.failed += bool(why)
+        if why:
+            print(f'failed: {why[:LONGEST_PRINTED]}', flush=True)
+
+    def run(self, given):
+        """The lines that `nbt show --brief` prints of an input."""
+        made = subprocess.run([self.program, 'show', '--brief'], input=given, capture_output=True, timeout=600, check=False)
+        return made.stdout.decode('ascii').splitlines() if made.returncode == 0 else [f'status {made.returncode}']
+
+    def check(self, payloads):
+        """The phrases of a capture of these payloads."""
+        given = b''.join(b'%d 7 %b\n' % (port, payload.hex().encode() or b'empty') for port, payload in payloads) + b'tick 9\n'
+        said_so = [said(*it) for it in payloads]
+        lines = [f'{number} {port} {phrase}' for number, ((port, _), phrase) in enumerate(zip(payloads, said_so), 1)]
+        self.count(difference(self.run(given), [*lines, f'{len(lines) + 1} tick 9'], payloads))
+        self.said += said_so
+        self.compared['payloads'] += len(payloads)
+
+
+def difference(found, right, payloads):
+    """The first line that differs, or nothing."""
+    for number, (line, wanted) in enumerate(zip(found, right)):
+        if line != wanted:
+            port, payload = payloads[number] if number < len(payloads) else (0, b'')
+            return f'{line!r}, not {wanted!r}, of {port} {payload.hex()[:300]}'
+    return '' if len(found) == len(right) else f'{len(found)} lines, not {len(right)}: {found[-1:]}'
+
+
+def main():
+    """Runs all cases."""
+    parser = argparse.ArgumentParser()
+    parser.add_argument('--seed', type=int, default=1)
+    parser.add_argument('--payloads', type=int, default=10_000)
+    parser.add_argument('program', nargs='?', default=os.path.join(ROOT, 'crates', 'nbt', 'out', 'nbt'))
+    given = parser.parse_args()
+    cases = Cases(os.path.abspath(given.program))
+    payloads = [(port, payload) for port in (137, 138, 139) for payload in example_bytes()]
+    payloads += made_by_chance(random.Random(given.seed), given.payloads)
+    for at in range(0, len(payloads), IN_CAPTURE):
+        cases.check(payloads[at:at + IN_CAPTURE])
+    for phrase in phrases():
+        is_said = any(map(phrase.fullmatch, cases.said))
+        cases.count('' if is_said else f'nothing is said as {phrase.pattern}')
+        cases.compared['phrases'] += is_said
+    print('compared: ' + ', '.join(f'{cases.compared[it]} {it}' for it in sorted(cases.compared)))
+    print(f'{cases.passed} passed, {cases.failed} failed')
+    return 1 if cases.failed else 0
+
+
+if __name__ == '__main__':
+    sys.exit(main())

@@ -130,20 +130,6 @@ impl KeptDatagram {
             bytes,
         })
     }
-
-    /// The sender's name.
-    pub fn source(&self) -> LentName<'_>
-        ensures { result ≡ self.now.source }
-    {
-        self.source.lent()
-    }
-
-    /// The name that it is for.
-    pub fn destination(&self) -> LentName<'_>
-        ensures { result ≡ self.now.destination }
-    {
-        self.destination.lent()
-    }
 }
 
 impl<N: NameForm> DatagramOf<N> {
@@ -159,6 +145,13 @@ impl<N: NameForm> DatagramOf<N> {
         ensures { result ≡ self.now.kind }
     {
         self.kind
+    }
+
+    /// The name that it is for, lent.
+    pub fn lent_destination(&self) -> LentName<'_>
+        ensures { result ≡ self.now.destination }
+    {
+        self.destination.lent()
     }
 
     /// The data.

@@ -210,18 +210,30 @@ impl<'a, N: NameForm> Fragment<'a, N> {
         u32::from(self.offset) + self.bytes.len() as u32
     }
 
+    /// The same fragment, with the same names in another form.
+    fn with_names<M: NameForm>(&self, source: M, destination: M) -> Fragment<'a, M>
+        requires source { M.name source ≡ self.now.source }
+        requires destination { M.name destination ≡ self.now.destination }
+        ensures { result ≡ self.now }
+    {
+        Fragment {
+            kind: self.kind,
+            flags: self.flags,
+            key: self.key,
+            offset: self.offset,
+            source,
+            destination,
+            bytes: self.bytes,
+        }
+    }
+
     /// The same fragment, with its names in place. No memory is taken.
     pub fn to_fragment(&self) -> Fragment<'a>
         ensures { result ≡ self.now }
     {
-        Fragment::with_parts(
-            self.kind,
-            self.flags,
-            self.key,
-            self.offset,
+        self.with_names(
             self.source.lent().to_name(),
             self.destination.lent().to_name(),
-            self.bytes,
         )
     }
 
@@ -229,15 +241,7 @@ impl<'a, N: NameForm> Fragment<'a, N> {
     pub fn lent(&self) -> LentFragment<'_>
         ensures { result ≡ self.now }
     {
-        Fragment::with_parts(
-            self.kind,
-            self.flags,
-            self.key,
-            self.offset,
-            self.source.lent(),
-            self.destination.lent(),
-            self.bytes,
-        )
+        self.with_names(self.source.lent(), self.destination.lent())
     }
 }
 

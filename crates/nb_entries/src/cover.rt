@@ -82,7 +82,7 @@ impl CoverFacts {
         let mut bytes = Runs::new(alloc);
         let end = end_of(fragment);
         let promise = promise_of(fragment);
-        bytes.put(alloc, u32::from(fragment.offset()), fragment.bytes())?;
+        bytes.insert(alloc, u32::from(fragment.offset()), fragment.bytes())?;
         Ok(CoverFacts {
             bytes,
             end,
@@ -156,16 +156,20 @@ impl CoverFacts {
         self.holds_bytes(fragment)
     }
 
-    /// Adds what a fragment says, which doesn't contradict what is known. All memory is taken
+    /// Inserts what a fragment says, which doesn't contradict what is known. All memory is taken
     /// before anything changes.
-    pub(crate) fn add(&mut self, alloc: Global, fragment: &LentFragment<'_>) -> Result<(), NoMemory>
+    pub(crate) fn insert(
+        &mut self,
+        alloc: Global,
+        fragment: &LentFragment<'_>,
+    ) -> Result<(), NoMemory>
         requires { CoversFit self.old (cover_of (core_of fragment.now)) }
         ensures ok { OnOk result
             (self.new ≡ covers_together self.old (cover_of (core_of fragment.now))) }
         ensures err { OnErr result (self.new ≡ self.old) }
     {
         let start = u32::from(fragment.offset());
-        self.bytes.put(alloc, start, fragment.bytes())?;
+        self.bytes.insert(alloc, start, fragment.bytes())?;
         self.end = self.end.or(end_of(fragment));
         self.promise = greater(self.promise, promise_of(fragment));
         Ok(())

@@ -213,14 +213,14 @@ impl Slot<EntryFacts> {
         Ok((Slot::Held(facts), change))
     }
 
-    /// Joins a fragment in place. All memory is taken before anything changes, and none where the
+    /// Inserts a fragment in place. All memory is taken before anything changes, and none where the
     /// join is spoilt or adds nothing. Neither the entry nor the fragment reaches further than a
     /// datagram may.
     ///
     /// # Errors
     ///
     /// `NoMemory` where memory ran out; the entry is then as it was.
-    pub fn add(
+    pub fn insert(
         &mut self,
         alloc: Global,
         fragment: &LentFragment<'_>,
@@ -245,7 +245,7 @@ impl Slot<EntryFacts> {
             *self = Slot::Spoilt;
             return Ok(KeptChange::Spoilt);
         }
-        facts.grow(alloc, fragment, handing)
+        facts.insert(alloc, fragment, handing)
     }
 
     /// How many runs its bytes make up, if it isn't spoilt.

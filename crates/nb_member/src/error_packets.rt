@@ -42,7 +42,7 @@ impl Settings {
 
     /// The error packet about a payload that is refused with this fault, which is sent where a name
     /// of a direct unique datagram is bad.
-    pub(crate) fn refusal(&self, payload: &[u8], fault: DatagramFault) -> Option<ErrorPacket>
+    pub(crate) fn error_for(&self, payload: &[u8], fault: DatagramFault) -> Option<ErrorPacket>
         ensures { result ≡ refusal self.now payload.now fault }
     {
         match fault {

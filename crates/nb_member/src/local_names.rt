@@ -4,8 +4,8 @@ ghost use Rattle.nb_member.specs.declared.limits.TheConstants.{MAX_NAMES};
 ghost use Rattle.nb_member.specs.Hearing.{Adds, holds, holds_scope, hears, HoldsScope, Hears};
 
 use crate::limits::MAX_NAMES;
-use nb_datagram::{Datagram, KeptDatagram, Kind};
-use nb_names::{LentName, Name, Scope};
+use nb_datagram::{DatagramOf, Kind};
+use nb_names::{LentName, Name, NameForm, Scope};
 use std::alloc::Global;
 use std::error::Error;
 use std::fmt;
@@ -115,21 +115,11 @@ impl LocalNames {
     /// where one has its destination's scope. A member asks this of each datagram that becomes
     /// whole; a station's program asks it where it has a datagram without a member. RFC 1002
     /// section 5.3; that the two types of direct datagrams are heard alike is our choice.
-    pub fn hears(&self, datagram: &Datagram) -> bool
+    pub fn hears<N: NameForm>(&self, datagram: &DatagramOf<N>) -> bool
         ensures value { result ≡ hears self.now datagram.now }
         ensures heard { IsTrue result ↔ Hears self.now datagram.now }
     {
-        match datagram.kind() {
-            Kind::Unique | Kind::Group => self.holds(datagram.destination()),
-            Kind::Broadcast => self.holds_scope(datagram.destination().scope()),
-        }
-    }
-
-    /// Whether a station with these names hears a datagram that keeps its names.
-    pub(crate) fn hears_kept(&self, datagram: &KeptDatagram) -> bool
-        ensures { result ≡ hears self.now datagram.now }
-    {
-        let destination = datagram.destination();
+        let destination = datagram.lent_destination();
         match datagram.kind() {
             Kind::Unique | Kind::Group => is_among(&self.names, &destination),
             Kind::Broadcast => self.holds_scope(destination.to_name().scope()),

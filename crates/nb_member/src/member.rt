@@ -90,7 +90,7 @@ impl Member {
             Ok((LentPacket::Direct(fragment), _)) => self.take_fragment(moment, &fragment),
             Ok((LentPacket::Error(_), _)) => Ok(Outcome::Other),
             Ok((LentPacket::Query(_), _)) => Ok(Outcome::Other),
-            Err(fault) => Err(MemberFault::Packet(fault, self.settings.refusal(payload, fault))),
+            Err(fault) => Err(MemberFault::Packet(fault, self.settings.error_for(payload, fault))),
         }
     }
 
@@ -110,7 +110,7 @@ impl Member {
             Ok((LentPacket::Direct(fragment), _)) => self.hold_fragment(moment, &fragment),
             Ok((LentPacket::Error(_), _)) => Ok(()),
             Ok((LentPacket::Query(_), _)) => Ok(()),
-            Err(fault) => Err(MemberFault::Packet(fault, self.settings.refusal(payload, fault))),
+            Err(fault) => Err(MemberFault::Packet(fault, self.settings.error_for(payload, fault))),
         }
     }
 
@@ -203,7 +203,7 @@ fn outcome_of(settings: &Settings, names: &LocalNames, key: Key, change: KeptCha
 fn handed(settings: &Settings, names: &LocalNames, key: Key, datagram: KeptDatagram) -> Outcome
     ensures { result ≡ handed settings.now names.now key datagram }
 {
-    if names.hears_kept(&datagram) {
+    if names.hears(&datagram) {
         return Outcome::Delivered(datagram.into_datagram());
     }
     Outcome::Unheard(key, settings.unheard(&datagram))

@@ -62,7 +62,7 @@ fn count_more(counts: &mut Option<SourceCounts>, ip: [u8; 4]) -> Result<(), NoMe
     ensures kept { OnErr result (counts.new ≡ counts.old) }
 {
     match counts {
-        Some(counts) => counts.add(ip),
+        Some(counts) => counts.add_key(ip),
         None => Ok(()),
     }
 }
@@ -72,7 +72,7 @@ fn count_less(counts: &mut Option<SourceCounts>, ip: [u8; 4])
     ensures { Takes counts.old counts.new ip }
 {
     if let Some(counts) = counts {
-        counts.take(ip);
+        counts.remove_key(ip);
     }
 }
 
@@ -156,9 +156,9 @@ impl Entries {
 
     /// Puts in the entry of a key, in the place of the one that is held. The one that was held.
     /// Where memory runs out, the entries stay as they were.
-    pub(crate) fn put(&mut self, key: Key, entry: Entry) -> Result<Option<Entry>, NoMemory>
+    pub(crate) fn insert(&mut self, key: Key, entry: Entry) -> Result<Option<Entry>, NoMemory>
         ensures before { IfOk result (λ before. before ≡ maps.get self.old key) }
-        ensures put { OnOk result (self.new ≡ maps.insert self.old key entry) }
+        ensures inserted { OnOk result (self.new ≡ maps.insert self.old key entry) }
         ensures kept { OnErr result (self.new ≡ self.old) }
     {
         // For the proof alone: a map's length is below 2^63, and so is each count.
@@ -177,11 +177,11 @@ impl Entries {
     }
 
     /// Puts in the entry of a new key. Where memory runs out, the entries stay as they were.
-    pub(crate) fn insert(&mut self, key: Key, entry: Entry) -> Result<(), NoMemory>
+    pub(crate) fn insert_new(&mut self, key: Key, entry: Entry) -> Result<(), NoMemory>
         ensures inserted { OnOk result (self.new ≡ maps.insert self.old key entry) }
         ensures kept { OnErr result (self.new ≡ self.old) }
     {
-        self.put(key, entry)?;
+        self.insert(key, entry)?;
         Ok(())
     }
 

@@ -16,9 +16,9 @@ use nb_entries::{Entry, Handing, KeptChange};
 use nb_names::NoMemory;
 use std::alloc::Global;
 
-/// Joins a fragment to the entry of its key, in place where the key is held. The limits are not
+/// Inserts a fragment into the entry of its key, in place where the key is held. The limits are not
 /// looked at.
-pub(crate) fn join_fragment(
+pub(crate) fn insert_fragment(
     entries: &mut Entries,
     alloc: Global,
     fragment: &LentFragment<'_>,
@@ -38,10 +38,10 @@ pub(crate) fn join_fragment(
 {
     let key = fragment.key();
     match entries.get_mut(&key) {
-        Some(entry) => entry.add(alloc, fragment, handing),
+        Some(entry) => entry.insert(alloc, fragment, handing),
         None => {
             let (entry, change) = Entry::first(alloc, fragment, handing)?;
-            match entries.insert(key, entry) {
+            match entries.insert_new(key, entry) {
                 Ok(()) => Ok(change),
                 Err(fault) => Err(fault),
             }

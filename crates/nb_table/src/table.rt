@@ -19,7 +19,7 @@ mod saving;
 
 use crate::entries::Entries;
 use crate::fault::TableFault;
-use crate::inserting::join_fragment;
+use crate::inserting::insert_fragment;
 use crate::keys::Keys;
 pub use loading::load;
 pub use merging::take_in_all;
@@ -171,7 +171,7 @@ impl Table {
         if let Some(fault) = self.refusal_of_lent(fragment) {
             return Err(fault);
         }
-        let change = join_fragment(&mut self.entries, self.alloc, fragment, handing)?;
+        let change = insert_fragment(&mut self.entries, self.alloc, fragment, handing)?;
         Ok(change)
     }
 

@@ -126,14 +126,14 @@ impl Runs {
         }
     }
 
-    /// Puts bytes that don't contradict them, from `start` on.
-    pub(crate) fn put(&mut self, alloc: Global, start: u32, bytes: &[u8]) -> Result<(), NoMemory>
+    /// Inserts bytes that don't contradict them, from `start` on.
+    pub(crate) fn insert(&mut self, alloc: Global, start: u32, bytes: &[u8]) -> Result<(), NoMemory>
         requires { list_all (λ e. same_where (maps.get self.old e.0) e.1) (placed start bytes.now)
             ≡ true }
         ensures ok { OnOk result (self.new ≡ with_bytes self.old start bytes.now) }
         ensures err { OnErr result (self.new ≡ self.old) }
     {
-        growing::put_bytes(alloc, &mut self.runs, start, bytes)
+        growing::insert_bytes(alloc, &mut self.runs, start, bytes)
     }
 
     /// Whether each place lies below the end.

@@ -77,9 +77,9 @@ impl EntryFacts {
         self.datagram_with(alloc, fragment)
     }
 
-    /// Joins a fragment, which doesn't contradict what is known. All memory is taken before
+    /// Inserts a fragment, which doesn't contradict what is known. All memory is taken before
     /// anything changes.
-    pub(crate) fn grow(
+    pub(crate) fn insert(
         &mut self,
         alloc: Global,
         fragment: &LentFragment<'_>,
@@ -102,7 +102,7 @@ impl EntryFacts {
             return Ok(KeptChange::Same);
         }
         let datagram = self.newly_whole_with(alloc, fragment, handing)?;
-        self.cover.add(alloc, fragment)?;
+        self.cover.insert(alloc, fragment)?;
         Ok(grown_to(datagram))
     }
 

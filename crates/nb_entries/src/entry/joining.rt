@@ -105,7 +105,7 @@ impl Slot<EntryFacts> {
         ensures err { OnErr result (self.new ≡ self.old) }
     {
         if let Some(fragment) = other.as_fragment(key) {
-            let change = self.add(alloc, &fragment, handing)?;
+            let change = self.insert(alloc, &fragment, handing)?;
             return Ok(datagram_of(change.into_change()));
         }
         let joined = self.joined(other)?;

@@ -46,7 +46,7 @@ impl SourceCounts {
     }
 
     /// Counts one key more of this address.
-    pub(crate) fn add(&mut self, ip: [u8; 4]) -> Result<(), NoMemory>
+    pub(crate) fn add_key(&mut self, ip: [u8; 4]) -> Result<(), NoMemory>
         requires { count_of self.old ip < 9223372036854775808 }
         ensures counted { OnOk result ((q : List ℕ) → count_of self.new q
             ≡ count_of self.old q + if_same ip q) }
@@ -65,7 +65,7 @@ impl SourceCounts {
     }
 
     /// Counts one key less of this address. No memory is taken.
-    pub(crate) fn take(&mut self, ip: [u8; 4])
+    pub(crate) fn remove_key(&mut self, ip: [u8; 4])
         ensures { (q : List ℕ) → count_of self.new q ≡ count_of self.old q - if_same ip q }
     {
         let count = self.of(ip);

@@ -72,7 +72,7 @@ pub(crate) fn judge_entries(
 fn keep(map: &mut Entries, key: Key, entry: Entry) -> Result<(), NoMemory>
     ensures { OnOk result (map.new ≡ maps.insert map.old key entry) }
 {
-    map.put(key, entry)?;
+    map.insert(key, entry)?;
     Ok(())
 }
 

@@ -212,8 +212,8 @@ fn insert_at(
     put_at(runs, place, run)
 }
 
-/// Puts bytes that don't contradict them into the runs.
-pub(super) fn put_bytes(
+/// Inserts bytes that don't contradict them into the runs.
+pub(super) fn insert_bytes(
     alloc: Global,
     runs: &mut Vec<Run>,
     start: u32,

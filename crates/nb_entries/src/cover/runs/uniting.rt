@@ -5,7 +5,7 @@ ghost use Rattle.nb_entries.specs.Cover.{placed};
 ghost use Rattle.nb_entries.specs.Runs.{AreApart};
 ghost use Rattle.nb_entries.specs.Code.RunSteps.{values_of, RowsAgree, IsUnion, IsMerged};
 
-use super::growing::put_bytes;
+use super::growing::insert_bytes;
 use super::reading::bytes_agree;
 use super::{Run, Runs};
 use nb_names::NoMemory;
@@ -61,11 +61,11 @@ fn put_next(
 {
     if comes_first(runs, place, others, other_place) {
         let run = &runs[place];
-        put_bytes(alloc, made, run.start(), run.bytes())?;
+        insert_bytes(alloc, made, run.start(), run.bytes())?;
         return Ok((place + 1, other_place));
     }
     let run = &others[other_place];
-    put_bytes(alloc, made, run.start(), run.bytes())?;
+    insert_bytes(alloc, made, run.start(), run.bytes())?;
     Ok((place, other_place + 1))
 }
 

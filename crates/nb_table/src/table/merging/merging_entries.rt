@@ -109,7 +109,7 @@ fn join_in_place<O: Other>(
         Some(entry) => entry.join_in_place(alloc, key, other.as_entry(), handing),
         None => {
             let (joined, datagram) = joined_at(alloc, entries, key, other, handing)?;
-            entries.insert(key, joined)?;
+            entries.insert_new(key, joined)?;
             Ok(datagram)
         }
     }

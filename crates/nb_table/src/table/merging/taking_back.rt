@@ -21,7 +21,7 @@ pub(super) fn put_noted(
         ≡ taken_back entries.old changes.old.items }
 {
     changes.reserve(1)?;
-    let before = entries.put(key, entry)?;
+    let before = entries.insert(key, entry)?;
     changes.push((key, before)).unwrap();
     Ok(())
 }

@@ -8,12 +8,12 @@ use Rattle.nb_entries.proofs.Covers.PutLemmas.{put_alone}
 use Rattle.nb_entries.proofs.KeptRuns.RunFactsLemmas.{empty_agrees}
 use Rattle.nb_entries.proofs.cover.CoverFacts.of.Goals as goal
 
-pub put-requires : goal.put-requires
-put-requires c = empty_agrees _ _ _ c.new-bytes.ensures
+pub insert-requires : goal.insert-requires
+insert-requires c = empty_agrees _ _ _ c.new-bytes.ensures
 
-facts_are : (c : goal.In_ok-put) → ◌≡◌ {A = CoverFacts} (record { bytes = c.put.new.self; end = c.end_of-end.result; promise = c.promise_of-promise.result }) (cover_of (core_of c.args.fragment.now))
+facts_are : (c : goal.In_ok-insert) → ◌≡◌ {A = CoverFacts} (record { bytes = c.insert.new.self; end = c.end_of-end.result; promise = c.promise_of-promise.result }) (cover_of (core_of c.args.fragment.now))
 facts_are c =
-    let bytes = c.in_ok-put.ensures.ok
+    let bytes = c.in_ok-insert.ensures.ok
     ∙ ap (λ m. with_bytes m c.from.result c.bytes.result.now) c.new-bytes.ensures
     ∙ ap₂ (with_bytes maps.empty) (c.from.ensures ∙ c.offset.ensures) c.bytes.ensures.value
     ∙ put_alone c.args.fragment.now.offset c.args.fragment.now.bytes in

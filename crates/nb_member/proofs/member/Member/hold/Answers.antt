@@ -35,4 +35,4 @@ returns-in-Ok-Query-default-clause-taken c =
 
 pub returns-in-Err-clause-refused : goal.returns-in-Err-clause-refused
 returns-in-Err-clause-refused c =
-    rw c.refusal.ensures (rw (← c.self.view_is) (no_packet c.in-Err.fault c.in-Err.ensures.fault refl))
+    rw c.error_for.ensures (rw (← c.self.view_is) (no_packet c.in-Err.fault c.in-Err.ensures.fault refl))

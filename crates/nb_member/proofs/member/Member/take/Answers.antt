@@ -23,4 +23,4 @@ returns-in-Ok-Query-default c =
 
 pub returns-in-Err : goal.returns-in-Err
 returns-in-Err c =
-    rw c.refusal.ensures (rw (← c.self.view_is) (no_packet c.in-Err.fault c.in-Err.ensures.fault refl))
+    rw c.error_for.ensures (rw (← c.self.view_is) (no_packet c.in-Err.fault c.in-Err.ensures.fault refl))

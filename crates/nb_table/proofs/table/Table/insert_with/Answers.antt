@@ -13,16 +13,16 @@ use Rattle.nb_table.proofs.Changes.InsertLemmas.{short_more, memory_alone, spare
 use Rattle.nb_table.proofs.table.Table.insert_with.Goals.{After-from_residual}
 use Rattle.nb_table.proofs.table.Table.insert_with.Goals as goal
 
-pub join_fragment-requires-clause-fragment : goal.join_fragment-requires-clause-fragment
-join_fragment-requires-clause-fragment c =
+pub insert_fragment-requires-clause-fragment : goal.insert_fragment-requires-clause-fragment
+insert_fragment-requires-clause-fragment c =
     let most : c.self.inside.longest ≤ MAX_LENGTH = search rules in
     let takes = MatchOption-at_none (Takes c.args.self.now c.args.fragment.now) (Refuses c.args.self.now c.args.fragment.now) c.in_default.is c.refusal_of_lent.ensures.refusal in
     let short = takes.passes.short in
     let limit = ap (λ (t : TableValue). t.limits.longest) c.self.view_is in
     omega (arith, short, most, limit)
 
-pub join_fragment-requires-clause-entry : goal.join_fragment-requires-clause-entry
-join_fragment-requires-clause-entry c e g =
+pub insert_fragment-requires-clause-entry : goal.insert_fragment-requires-clause-entry
+insert_fragment-requires-clause-entry c e g =
     let most : c.self.inside.longest ≤ MAX_LENGTH = search rules in
     short_more c.self.inside.longest MAX_LENGTH e most (c.self.invariant.short c.args.fragment.now.key e g)
 

@@ -40,7 +40,7 @@ returns-in-Some-clause-err g c =
     (λ same. put_same key_cmp_total key_cmp_exact c.args.entries.now (c.get_mut.follows.lender c.join_in_place.new.self) c.args.key c.in-Some.entry.now c.join_in_place.new.self c.in-Some.ensures.value same lent)
     c.join_in_place.ensures.err
 
-pub returns-in_ok-insert-in-None-clause-joined : goal.returns-in_ok-insert-in-None-clause-joined
-returns-in_ok-insert-in-None-clause-joined g c =
-    let put = rw c.get_mut.follows.holds-at-none at c.in_ok-insert-in-None.ensures.inserted in
+pub returns-in_ok-insert_new-in-None-clause-joined : goal.returns-in_ok-insert_new-in-None-clause-joined
+returns-in_ok-insert_new-in-None-clause-joined g c =
+    let put = rw c.get_mut.follows.holds-at-none at c.in_ok-insert_new-in-None.ensures.inserted in
     put ∙ ap (maps.insert c.args.entries.now c.args.key) (rw c.get_mut.follows.holds-at-none at c.in_ok-joined-in-None.ensures.entry)

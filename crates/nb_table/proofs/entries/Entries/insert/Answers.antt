@@ -6,7 +6,7 @@ use Rattle.nb_table.specs.Code.SourceCounts.{AreCounted}
 use Rattle.nb_datagram.specs.KeyOrder.{key_cmp_total, key_cmp_exact}
 use Rattle.nb_table.specs.Shared.TreeLemmas.{get_is, insert_is, len_is, remove_is, taken_back}
 use Rattle.nb_table.proofs.Limits.CountLemmas.{kept_held, kept_more, none_at, room_for_one}
-use Rattle.nb_table.proofs.entries.Entries.put.Goals as goal
+use Rattle.nb_table.proofs.entries.Entries.insert.Goals as goal
 
 -- ---- a held key
 
@@ -21,8 +21,8 @@ invariant_of-self-then-is_some c =
 pub returns-then-is_some-clause-before : goal.returns-then-is_some-clause-before
 returns-then-is_some-clause-before c = rw (← c.self.view_is) (c.in_ok-before.ensures.old ∙ sym (get_is key_cmp_total c.self.inside.map c.args.key))
 
-pub returns-then-is_some-clause-put : goal.returns-then-is_some-clause-put
-returns-then-is_some-clause-put c = rw (← c.self.view_is) (insert_is key_cmp_total key_cmp_exact c.self.inside.map c.insert.new.self c.args.key c.args.entry c.in_ok-before.ensures.updates)
+pub returns-then-is_some-clause-inserted : goal.returns-then-is_some-clause-inserted
+returns-then-is_some-clause-inserted c = rw (← c.self.view_is) (insert_is key_cmp_total key_cmp_exact c.self.inside.map c.insert.new.self c.args.key c.args.entry c.in_ok-before.ensures.updates)
 
 -- ---- a new key
 
@@ -60,8 +60,8 @@ returns-in-Ok-clause-before c =
     let s : Contents = maps.from_entries {R = key_cmp} m.entries in
     rw (← c.self.view_is) (sym (none_at (maps.get s c.args.key) (ap is_some (get_is key_cmp_total m c.args.key ∙ sym c.in_ok-before.ensures.old) ∙ sym c.is_some.ensures ∙ c.if-is_some.false)))
 
-pub returns-in-Ok-clause-put : goal.returns-in-Ok-clause-put
-returns-in-Ok-clause-put c = rw (← c.self.view_is) (insert_is key_cmp_total key_cmp_exact c.self.inside.map c.insert.new.self c.args.key c.args.entry c.in_ok-before.ensures.updates)
+pub returns-in-Ok-clause-inserted : goal.returns-in-Ok-clause-inserted
+returns-in-Ok-clause-inserted c = rw (← c.self.view_is) (insert_is key_cmp_total key_cmp_exact c.self.inside.map c.insert.new.self c.args.key c.args.entry c.in_ok-before.ensures.updates)
 
 pub returns-clause-kept : goal.returns-clause-kept
 returns-clause-kept c =

@@ -4,7 +4,7 @@ use Rattle.std.specs.FinMap as maps
 use Rattle.nb_table.specs.Code.SourceCounts.{ip_cmp, count_of}
 use Rattle.nb_table.specs.Shared.TreeLemmas.{get_is, changed_is, insert_is}
 use Rattle.nb_table.proofs.Limits.CountLemmas.{ip_cmp_exact, put_more}
-use Rattle.nb_table.proofs.entries.counts.SourceCounts.add.Goals as goal
+use Rattle.nb_table.proofs.entries.counts.SourceCounts.add_key.Goals as goal
 
 pub overflow_add-count : goal.overflow_add-count
 overflow_add-count c =

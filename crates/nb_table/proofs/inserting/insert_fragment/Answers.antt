@@ -14,7 +14,7 @@ use Rattle.nb_datagram.specs.KeyOrder.{key_cmp_total, key_cmp_exact}
 use Rattle.nb_table.proofs.Joins.TakenBackLemmas.{put_same}
 use Rattle.nb_table.proofs.Changes.InsertLemmas.{needs_more, on_err_both, on_any_err}
 use Rattle.nb_table.specs.Shared.FragmentLemmas.{needs_new}
-use Rattle.nb_table.proofs.inserting.join_fragment.Goals as goal
+use Rattle.nb_table.proofs.inserting.insert_fragment.Goals as goal
 
 -- ---- a held key
 
@@ -30,8 +30,8 @@ change_joined h (Ok c) k e new b o at joined change =
       change.2,
     )
 
-pub add-requires-clause-entry : goal.add-requires-clause-entry
-add-requires-clause-entry c =
+pub insert-requires-clause-entry : goal.insert-requires-clause-entry
+insert-requires-clause-entry c =
     let m = c.args.entries.now in
     let at = ap (maps.get m) (sym c.key-key.ensures) ∙ sym c.in-Some.ensures.value in
     c.requires.entry c.in-Some.entry.now at
@@ -42,13 +42,13 @@ returns-in-Some-clause-needed c =
     let t = m in
     let e = c.in-Some.entry.now in
     let at = ap (maps.get t) (sym c.key-key.ensures) ∙ sym c.in-Some.ensures.value in
-    on_err_both c.add.result (needs_more t (core_of c.args.fragment.now) e at) c.add.ensures.not_spoilt c.add.ensures.more
+    on_err_both c.insert.result (needs_more t (core_of c.args.fragment.now) e at) c.insert.ensures.not_spoilt c.insert.ensures.more
 
 pub returns-in-Some-clause-kept : goal.returns-in-Some-clause-kept
 returns-in-Some-clause-kept c =
-    let lent = rw c.in-Some.is at c.get_mut.follows.holds c.add.new.self in
-    on_err_weaker c.add.result
-    (λ same. put_same key_cmp_total key_cmp_exact c.args.entries.now (c.get_mut.follows.lender c.add.new.self) c.key-key.result c.in-Some.entry.now c.add.new.self c.in-Some.ensures.value same lent) c.add.ensures.kept
+    let lent = rw c.in-Some.is at c.get_mut.follows.holds c.insert.new.self in
+    on_err_weaker c.insert.result
+    (λ same. put_same key_cmp_total key_cmp_exact c.args.entries.now (c.get_mut.follows.lender c.insert.new.self) c.key-key.result c.in-Some.entry.now c.insert.new.self c.in-Some.ensures.value same lent) c.insert.ensures.kept
 
 pub returns-in-Some-clause-joined : goal.returns-in-Some-clause-joined
 returns-in-Some-clause-joined c =
@@ -56,11 +56,11 @@ returns-in-Some-clause-joined c =
     let t = m in
     let b = facts_of (core_of c.args.fragment.now) in
     let at = ap (maps.get t) (sym c.key-key.ensures) ∙ sym c.in-Some.ensures.value in
-    let lent = rw c.in-Some.is at c.get_mut.follows.holds c.add.new.self in
-    on_ok_weaker c.add.result
+    let lent = rw c.in-Some.is at c.get_mut.follows.holds c.insert.new.self in
+    on_ok_weaker c.insert.result
     (λ joined.
     lent
-    ∙ ap₂ (maps.insert t) c.key-key.ensures (joined ∙ ap (λ o. joined_onto join_entry o (Held b)) (sym at))) c.add.ensures.joined
+    ∙ ap₂ (maps.insert t) c.key-key.ensures (joined ∙ ap (λ o. joined_onto join_entry o (Held b)) (sym at))) c.insert.ensures.joined
 
 pub returns-in-Some-clause-change : goal.returns-in-Some-clause-change
 returns-in-Some-clause-change c =
@@ -69,7 +69,7 @@ returns-in-Some-clause-change c =
     let k = c.args.fragment.now.key in
     let b = facts_of (core_of c.args.fragment.now) in
     let at = ap (maps.get t) (sym c.key-key.ensures) ∙ sym c.in-Some.ensures.value in
-    change_joined c.args.handing c.add.result k c.in-Some.entry.now c.add.new.self (Held b) (maps.get t k) at c.add.ensures.joined c.add.ensures.change
+    change_joined c.args.handing c.insert.result k c.in-Some.entry.now c.insert.new.self (Held b) (maps.get t k) at c.insert.ensures.joined c.insert.ensures.change
 
 -- ---- a new key
 

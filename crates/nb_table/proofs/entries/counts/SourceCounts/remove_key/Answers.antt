@@ -4,7 +4,7 @@ use Rattle.std.specs.FinMap as maps
 use Rattle.nb_table.specs.Code.SourceCounts.{ip_cmp, count_of}
 use Rattle.nb_table.specs.Shared.TreeLemmas.{get_is, changed_is, remove_is}
 use Rattle.nb_table.proofs.Limits.CountLemmas.{ip_cmp_exact, put_less, gone_less}
-use Rattle.nb_table.proofs.entries.counts.SourceCounts.take.Goals as goal
+use Rattle.nb_table.proofs.entries.counts.SourceCounts.remove_key.Goals as goal
 
 pub returns-in-Some : goal.returns-in-Some
 returns-in-Some c q =

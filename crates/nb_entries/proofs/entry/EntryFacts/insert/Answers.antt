@@ -10,7 +10,7 @@ use Rattle.nb_entries.proofs.Changes.ChangeLemmas.{facts_held, key_grown, told_g
 use Rattle.nb_entries.specs.Shared.PlacedLemmas.{cover_of_formed}
 use Rattle.nb_entries.proofs.Covers.CoverFactsLemmas.{together_formed}
 use Rattle.std.proofs.lemmas.Bool.Decides.{not_from_Decides}
-use Rattle.nb_entries.proofs.entry.EntryFacts.grow.Goals as goal
+use Rattle.nb_entries.proofs.entry.EntryFacts.insert.Goals as goal
 
 pub returns-then-holds-clause-joined : goal.returns-then-holds-clause-joined
 returns-then-holds-clause-joined c =
@@ -22,13 +22,13 @@ pub invariant_of-self-2 : goal.invariant_of-self-2
 invariant_of-self-2 c =
     let b = facts_of (core_of c.args.fragment.now) in
     let fit = subst (λ (x : EntryFacts). FactsFit x b) (sym c.self.view_is) c.requires.fits in
-    subst AreCoverFacts (sym c.in_ok-add.ensures.ok) (together_formed c.self.inside.cover b.cover fit.cover c.self.invariant (cover_of_formed (core_of c.args.fragment.now)))
+    subst AreCoverFacts (sym c.in_ok-insert.ensures.ok) (together_formed c.self.inside.cover b.cover fit.cover c.self.invariant (cover_of_formed (core_of c.args.fragment.now)))
 
 pub returns-clause-formed : goal.returns-clause-formed
 returns-clause-formed c =
     let b = facts_of (core_of c.args.fragment.now) in
     let fit = subst (λ (x : EntryFacts). FactsFit x b) (sym c.self.view_is) c.requires.fits in
-    subst AreCoverFacts (sym c.in_ok-add.ensures.ok) (together_formed c.self.inside.cover b.cover fit.cover c.self.invariant (cover_of_formed (core_of c.args.fragment.now)))
+    subst AreCoverFacts (sym c.in_ok-insert.ensures.ok) (together_formed c.self.inside.cover b.cover fit.cover c.self.invariant (cover_of_formed (core_of c.args.fragment.now)))
 
 pub returns-clause-change : goal.returns-clause-change
 returns-clause-change c =
@@ -37,8 +37,8 @@ returns-clause-change c =
     let h = c.args.handing in
     let old : EntryFacts = record { kind = c.self.inside.kind; source = c.self.inside.parties.source; destination = c.self.inside.parties.destination; cover = c.self.inside.cover } in
     let fit = subst (λ (x : EntryFacts). FactsFit x b) (sym c.self.view_is) c.requires.fits in
-    let made = c.in_ok-add.ensures.ok in
-    let new : ◌≡◌ {A = EntryFacts} (record { kind = c.self.inside.kind; source = c.self.inside.parties.source; destination = c.self.inside.parties.destination; cover = c.add.new.self }) (facts_together old b) =
+    let made = c.in_ok-insert.ensures.ok in
+    let new : ◌≡◌ {A = EntryFacts} (record { kind = c.self.inside.kind; source = c.self.inside.parties.source; destination = c.self.inside.parties.destination; cover = c.insert.new.self }) (facts_together old b) =
     λ i. record { kind = c.self.inside.kind; source = c.self.inside.parties.source; destination = c.self.inside.parties.destination; cover = made i } in
     let datagram =
     c.in_ok-datagram.ensures
@@ -48,7 +48,7 @@ returns-clause-change c =
     let whole = newly (datagram_of k (Held old)) (datagram_of k (Held (facts_together old b))) in
     let told = c.grown_to.ensures ∙ ap grown_to datagram ∙ told_grown h whole in (
       grown_to whole,
-      subst (λ (x : EntryFacts). KeyChange k (Some (Held x)) (Some (Held (record { kind = c.self.inside.kind; source = c.self.inside.parties.source; destination = c.self.inside.parties.destination; cover = c.add.new.self }))) (grown_to whole)) c.self.view_is
+      subst (λ (x : EntryFacts). KeyChange k (Some (Held x)) (Some (Held (record { kind = c.self.inside.kind; source = c.self.inside.parties.source; destination = c.self.inside.parties.destination; cover = c.insert.new.self }))) (grown_to whole)) c.self.view_is
           (subst (λ (x : EntryFacts). KeyChange k (Some (Held old)) (Some (Held x)) (grown_to whole)) (sym new) grown),
       told,
     )

@@ -5,7 +5,7 @@ use Rattle.nb_entries.specs.Code.RunSteps.{values_of, run_at, IsPut}
 use Rattle.nb_entries.proofs.Covers.CoverFactsLemmas.{not_empty}
 use Rattle.nb_entries.proofs.KeptRuns.RunPutLemmas.{put_empty}
 use Rattle.nb_entries.proofs.KeptRuns.RunPlaceLemmas.{Lies, lies_of, some_run, meet_at, touch_at, order_at, none_there, one_there, more_there}
-use Rattle.nb_entries.proofs.cover.runs.growing.put_bytes.Goals as goal
+use Rattle.nb_entries.proofs.cover.runs.growing.insert_bytes.Goals as goal
 
 pub returns-then-is_empty-clause-ok : goal.returns-then-is_empty-clause-ok
 returns-then-is_empty-clause-ok c =

@@ -160,6 +160,13 @@ uint32_t nbt_show(uint16_t port, const uint8_t *payload, size_t payload_length,
 uint32_t nbt_json(uint16_t port, const uint8_t *payload, size_t payload_length,
                   uint8_t *into, size_t into_length, size_t *used);
 
+/* The phrase of a payload that came to this port, without a line feed: what the command `nbt show --brief` prints of it
+ * after the two numbers of its line (the words are our choice). Ports are as of nbt_show. It has at most 200 bytes where
+ * no name has more than 19.
+ * NBT_NO_MEMORY, NBT_NO_ROOM. */
+uint32_t nbt_brief(uint16_t port, const uint8_t *payload, size_t payload_length,
+                   uint8_t *into, size_t into_length, size_t *used);
+
 /* The header of a packet of the name service: RFC 1002 section 4.2.1.1. */
 struct nbt_service_header {
     uint16_t identifier;  /* NAME_TRN_ID */

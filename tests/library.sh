@@ -108,12 +108,20 @@ objects() {
     count $? "tests/lib/library.c prints the objects of nbt show --json: $(tail -n 1 "$room/errors")"
 }
 
+# phrases LINES: the phrases of payloads are those that `nbt show --brief` prints.
+phrases() {
+    sed 's/ / 0 /' "$1" | ended "$program" show --brief --input-limit 4294967296 >"$1.phrases"
+    [ $? -eq 0 ] && [ -s "$1.phrases" ] && ended "$room/plain" 0 brief <"$1" 2>"$room/errors" | cmp -s "$1.phrases" -
+    count $? "tests/lib/library.c prints the phrases of nbt show --brief: $(tail -n 1 "$room/errors")"
+}
+
 callers() {
     compiled plain
     compiled sanitized -fsanitize=address,undefined -fno-sanitize-recover=all
     lines "$payloads" 1
     worst plain "$room/lines1" 64
     objects "$room/lines1"
+    phrases "$room/lines1"
     worst sanitized "$room/lines1" 8
 }
 

@@ -107,21 +107,25 @@ static int again(uint32_t status)
     return status == NBT_NO_MEMORY;
 }
 
-/* The object of a payload, in no room first, then in more than it wants; the line of it, if it is to be printed. */
-static void object(uint16_t port, const uint8_t *payload, size_t length, int is_printed)
+/* A call that tells what a payload says. */
+typedef uint32_t telling(uint16_t port, const uint8_t *payload, size_t length, uint8_t *into, size_t into_length, size_t *used);
+
+/* The object or the phrase of a payload, in no room first, then in more than it wants; the line of it, if it is to be
+ * printed. */
+static void told(telling *tell, const char *name, uint16_t port, const uint8_t *payload, size_t length, int is_printed)
 {
     uint8_t *into;
     size_t wanted = 77, used = 77;
     uint32_t status;
     do
-        status = nbt_json(port, payload, length, room(texts, 0), 0, &wanted);
+        status = tell(port, payload, length, room(texts, 0), 0, &wanted);
     while (again(status));
-    expect(status == NBT_NO_ROOM, "nbt_json: no room");
+    expect(status == NBT_NO_ROOM, name);
     into = room(texts, wanted + 3);
     do
-        status = nbt_json(port, payload, length, into, wanted + 3, &used);
+        status = tell(port, payload, length, into, wanted + 3, &used);
     while (again(status));
-    expect(status == NBT_DONE && used == wanted && is_filled(into + wanted, 3), "nbt_json: more room");
+    expect(status == NBT_DONE && used == wanted && is_filled(into + wanted, 3), name);
     if (is_printed)
         printf("%lu %u %.*s\n", number, port, (int)used, (const char *)into);
 }
@@ -493,6 +497,10 @@ static void nowhere(void)
     while (again(status));
     expect(status == NBT_NO_ROOM, "nbt_json: null");
     do
+        status = nbt_brief(138, NULL, 0, NULL, 0, &used);
+    while (again(status));
+    expect(status == NBT_NO_ROOM, "nbt_brief: null");
+    do
         status = nbt_session_write(0, NULL, 0, NULL, 0, &used, &at);
     while (again(status));
     expect(status == NBT_NO_ROOM && used == 4, "nbt_session_write: null");
@@ -564,7 +572,8 @@ int main(int count, char **words)
         number += 1;
         if (count < 3)
             shown(port, payload, length, rooms);
-        object(port, payload, length, count > 2);
+        told(nbt_json, "nbt_json", port, payload, length, count > 2 && *words[2] == 'j');
+        told(nbt_brief, "nbt_brief", port, payload, length, count > 2 && *words[2] == 'b');
         service(payload, length);
         datagram(payload, length);
         session(payload, length);

@@ -1,5 +1,6 @@
--- What the calls on a payload's text and its object answer.
+-- What the calls on a payload's text, its phrase and its object answer.
 use Rattle.std.specs.Prelude.{ℕ, List, Result, Ok, Err}
+use Rattle.nb_text.specs.SaysPacket.{IsSaid}
 use Rattle.nb_text.specs.Shown.{Shown}
 use Rattle.nb_text.specs.Tells.{IsObject}
 use Rattle.nb_c.specs.declared.refusal.Refusal.{Refusal}
@@ -8,6 +9,11 @@ use Rattle.nb_c.specs.declared.refusal.Refusal.{Refusal}
 abbrev pub Shows : List ℕ → ℕ → Result (List ℕ) Refusal → Type 0
 Shows payload port (Ok text) = Shown payload port text
 Shows payload port (Err refusal) = ⊥
+
+-- Phrases payload port answer: this is the phrase of a payload that came to the port, which has one
+abbrev pub Phrases : List ℕ → ℕ → Result (List ℕ) Refusal → Type 0
+Phrases payload port (Ok phrase) = IsSaid payload port phrase
+Phrases payload port (Err refusal) = ⊥
 
 -- Objects payload port answer: this is the JSON object of a payload that came to the port, which has one
 abbrev pub Objects : List ℕ → ℕ → Result (List ℕ) Refusal → Type 0

@@ -1,18 +1,16 @@
-//! The texts of packets, and their JSON objects.
+//! The texts of packets, their phrases, and their JSON objects.
 ghost use Rattle.std.specs.Prelude.{IfOk};
 ghost use Rattle.nb_c.specs.Outputs.{Answers, Does, none_late, of_memory};
-ghost use Rattle.nb_c.specs.Showing.{Objects, Shows};
+ghost use Rattle.nb_c.specs.Showing.{Objects, Phrases, Shows};
+ghost use Rattle.nb_text.specs.SaysPacket.{IsSaid};
 ghost use Rattle.nb_text.specs.Shown.{Shown};
 
 use crate::output::{put, write_bytes};
 use crate::statuses::NO_MEMORY;
-use nb_datagram::laws as datagrams;
 use nb_names::{Bytes, NoMemory};
-use nb_service::laws as names;
-use nb_session::laws as sessions;
 use nb_telling::JsonRoom;
-use nb_text::laws::one_text;
-use nb_text::{packet_object, push_packet};
+use nb_text::laws::{one_list_of_fields, one_text};
+use nb_text::{BriefSink, packet_object, push_brief, push_packet};
 use std::alloc::Global;
 
 /// Writes the text of a payload that came to a port, as `nbt show` prints it.
@@ -44,6 +42,36 @@ fn shown(alloc: Global, port: u16, payload: &[u8]) -> Result<Bytes, NoMemory>
     Ok(Bytes::from_vec(text.into_bytes()))
 }
 
+/// Writes the phrase of a payload that came to a port, as `nbt show --brief` prints it.
+///
+/// The words are our choice, in those of RFC 1002.
+#[unsafe(no_mangle)]
+pub extern "C" fn nbt_brief(
+    alloc: Global,
+    port: u16,
+    payload: &[u8],
+    into: &mut [u8],
+    used: &mut usize,
+) -> u32
+    ensures { Does none_late (Phrases payload.now port)
+        (record { buffer = into.old; used = used.old; place = 0 })
+        (record { buffer = into.new; used = used.new; place = 0 }) result }
+{
+    // For the clause: a payload has one list of fields. The call does nothing.
+    one_list_of_fields();
+    write_bytes(phrase(alloc, port, payload), into, used)
+}
+
+/// The phrase of a payload.
+fn phrase(alloc: Global, port: u16, payload: &[u8]) -> Result<Bytes, NoMemory>
+    ensures { IfOk result (IsSaid payload.now port) }
+{
+    let mut sink = BriefSink::new(alloc);
+    let mut text = String::new(alloc);
+    push_brief(port, payload, &mut sink, &mut text)?;
+    Ok(Bytes::from_vec(text.into_bytes()))
+}
+
 /// Writes the JSON object of a payload that came to a port: the members that `nbt show --json`
 /// prints of it, but for those of its line.
 ///
@@ -60,12 +88,8 @@ pub extern "C" fn nbt_json(
         (record { buffer = into.old; used = used.old; place = 0 })
         (record { buffer = into.new; used = used.new; place = 0 }) result }
 {
-    // For the clause: a payload has one packet or one fault. The calls do nothing.
-    names::one_packet();
-    names::one_service_fault();
-    datagrams::one_packet();
-    datagrams::one_datagram_fault();
-    sessions::one_answer();
+    // For the clause: a payload has one list of fields. The call does nothing.
+    one_list_of_fields();
     write_object(
         packet_object(port, payload, JsonRoom::new(alloc)),
         into,

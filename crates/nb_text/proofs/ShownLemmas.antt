@@ -1,86 +1,58 @@
--- Texts of payloads: one for each port.
+-- Texts and fields of payloads: one for each port.
 use Rattle.std.proofs.Common.{◌≡◌, ◌≢◌, ◌⊎◌, inl, inr, ℕ, List, refl, sym, ap, ap₂, ◌∙◌, subst, arith}
 use Rattle.std.proofs.lemmas.Bool.{cases_eq}
 use Rattle.nb_service.specs.declared.fault.ServiceFault.{ServiceFault}
-use Rattle.nb_service.specs.FaultTexts.{service_fault_text}
+use Rattle.nb_service.specs.FaultTexts.{service_fault_place, service_fault_text}
 use Rattle.nb_service.specs.Packet as service
 use Rattle.nb_service.specs.ServiceFaults as service_faults
 use Rattle.nb_datagram.specs.declared.fault.DatagramFault.{DatagramFault}
 use Rattle.nb_datagram.specs.Packet.{Packet}
-use Rattle.nb_datagram.specs.FaultTexts.{datagram_fault_text}
+use Rattle.nb_datagram.specs.FaultTexts.{datagram_fault_place, datagram_fault_text}
 use Rattle.nb_datagram.specs.Packet as datagrams
 use Rattle.nb_datagram.specs.DatagramFaults as datagram_faults
 use Rattle.nb_session.specs.declared.parsing.Parsed.{Parsed}
 use Rattle.nb_session.specs.Parsing.{Parses}
-use Rattle.nb_text.specs.Lines.{refused_text}
-use Rattle.nb_text.specs.ServiceText.{service_text}
+use Rattle.nb_telling.specs.Fields.{Field}
+use Rattle.nb_text.specs.DatagramFields.{datagram_fields}
 use Rattle.nb_text.specs.DatagramText.{datagram_text}
+use Rattle.nb_text.specs.LineFields.{refused_fields}
+use Rattle.nb_text.specs.Lines.{refused_text}
+use Rattle.nb_text.specs.ServiceFields.{service_fields}
+use Rattle.nb_text.specs.ServiceText.{service_text}
+use Rattle.nb_text.specs.SessionFields.{session_fields}
 use Rattle.nb_text.specs.SessionText.{session_text}
 use Rattle.nb_text.specs.Shown.{Shown, names, no_names, datagram, no_datagram, session}
+use Rattle.nb_text.specs.Tells as tells
+use Rattle.nb_text.specs.Tells.{Tells}
 
--- ---- the text by the port
+-- ---- what is made of a payload, by its port
 
-abbrev NamesText : List ℕ → List ℕ → Type 0
-NamesText payload text =
-    ((packet : service.ServicePacket) × (used : ℕ) × service.IsPacket payload packet used × (text ≡ service_text packet used))
-    ⊎ ((fault : ServiceFault) × service_faults.PacketFails payload fault × (text ≡ refused_text (service_fault_text fault)))
+-- what is made of a packet, of a fault, and of what a session packet is parsed as
+record Made (B : Type 0) : Type 0 where
+  of_names : service.ServicePacket → ℕ → B
+  of_no_names : ServiceFault → B
+  of_datagram : Packet → ℕ → B
+  of_no_datagram : DatagramFault → B
+  of_session : Parsed → B
 
-abbrev DatagramsText : List ℕ → List ℕ → Type 0
-DatagramsText payload text =
-    ((packet : Packet) × (used : ℕ) × datagrams.IsPacket payload packet used × (text ≡ datagram_text packet used))
-    ⊎ ((fault : DatagramFault) × datagram_faults.PacketFails payload fault × (text ≡ refused_text (datagram_fault_text fault)))
+-- it is made of what stands, or of the fault
+abbrev Either : {A F B : Type 0} → (A → ℕ → Type 0) → (F → Type 0) → (A → ℕ → B) → (F → B) → B → Type 0
+Either {A} {F} Stands Fails whole refused b =
+    ((packet : A) × (used : ℕ) × Stands packet used × (b ≡ whole packet used)) ⊎ ((fault : F) × Fails fault × (b ≡ refused fault))
 
-abbrev SessionsText : List ℕ → List ℕ → Type 0
-SessionsText payload text = (parsed : Parsed) × Parses payload parsed × (text ≡ session_text parsed)
+abbrev OfNames : {B : Type 0} → Made B → List ℕ → B → Type 0
+OfNames made payload = Either (service.IsPacket payload) (service_faults.PacketFails payload) made.of_names made.of_no_names
 
-Shown-cases : (payload : List ℕ) (port : ℕ) (text : List ℕ) → Shown payload port text
-    → ((port ≡ 137) × NamesText payload text)
-    ⊎ (((port ≡ 138) × DatagramsText payload text) ⊎ ((port ≢ 137) × (port ≢ 138) × SessionsText payload text))
-Shown-cases payload _ _ (names packet used h) = inl (refl, inl (packet, used, h, refl))
-Shown-cases payload _ _ (no_names fault h) = inl (refl, inr (fault, h, refl))
-Shown-cases payload _ _ (datagram packet used h) = inr (inl (refl, inl (packet, used, h, refl)))
-Shown-cases payload _ _ (no_datagram fault h) = inr (inl (refl, inr (fault, h, refl)))
-Shown-cases payload _ _ (session port parsed a b h) = inr (inr (a, b, (parsed, h, refl)))
+abbrev OfDatagram : {B : Type 0} → Made B → List ℕ → B → Type 0
+OfDatagram made payload = Either (datagrams.IsPacket payload) (datagram_faults.PacketFails payload) made.of_datagram made.of_no_datagram
 
--- ---- one text
+abbrev OfSession : {B : Type 0} → Made B → List ℕ → B → Type 0
+OfSession made payload b = (parsed : Parsed) × Parses payload parsed × (b ≡ made.of_session parsed)
 
-one_names : (payload text other : List ℕ)
-    → ((packet same : service.ServicePacket) (used after : ℕ) → service.IsPacket payload packet used → service.IsPacket payload same after
-    → (packet ≡ same) × (used ≡ after))
-    → ((fault : ServiceFault) (packet : service.ServicePacket) (used : ℕ) → service_faults.PacketFails payload fault
-    → ¬ service.IsPacket payload packet used)
-    → ((fault same : ServiceFault) → service_faults.PacketFails payload fault → service_faults.PacketFails payload same → fault ≡ same)
-    → NamesText payload text → NamesText payload other → text ≡ other
-one_names payload text other one alone same x y =
-    elim x [
-      | inl p ↦ elim y [
-        | inl q ↦ let e = one p.0 q.0 p.1 q.1 p.2 q.2 in p.3 ∙ ap₂ service_text e.0 e.1 ∙ sym q.3
-        | inr g ↦ absurd (alone g.0 p.0 p.1 g.1 p.2)
-      ]
-      | inr f ↦ elim y [
-        | inl q ↦ absurd (alone f.0 q.0 q.1 f.1 q.2)
-        | inr g ↦ f.2 ∙ ap (λ (fault : ServiceFault). refused_text (service_fault_text fault)) (same f.0 g.0 f.1 g.1) ∙ sym g.2
-      ]
-    ]
-
-one_datagrams : (payload text other : List ℕ)
-    → ((packet same : Packet) (used after : ℕ) → datagrams.IsPacket payload packet used → datagrams.IsPacket payload same after
-    → (packet ≡ same) × (used ≡ after))
-    → ((fault : DatagramFault) (packet : Packet) (used : ℕ) → datagram_faults.PacketFails payload fault
-    → ¬ datagrams.IsPacket payload packet used)
-    → ((fault same : DatagramFault) → datagram_faults.PacketFails payload fault → datagram_faults.PacketFails payload same → fault ≡ same)
-    → DatagramsText payload text → DatagramsText payload other → text ≡ other
-one_datagrams payload text other one alone same x y =
-    elim x [
-      | inl p ↦ elim y [
-        | inl q ↦ let e = one p.0 q.0 p.1 q.1 p.2 q.2 in p.3 ∙ ap₂ datagram_text e.0 e.1 ∙ sym q.3
-        | inr g ↦ absurd (alone g.0 p.0 p.1 g.1 p.2)
-      ]
-      | inr f ↦ elim y [
-        | inl q ↦ absurd (alone f.0 q.0 q.1 f.1 q.2)
-        | inr g ↦ f.2 ∙ ap (λ (fault : DatagramFault). refused_text (datagram_fault_text fault)) (same f.0 g.0 f.1 g.1) ∙ sym g.2
-      ]
-    ]
+abbrev ByPort : {B : Type 0} → Made B → List ℕ → ℕ → B → Type 0
+ByPort made payload port b =
+    ((port ≡ 137) × OfNames made payload b)
+    ⊎ (((port ≡ 138) × OfDatagram made payload b) ⊎ ((port ≢ 137) × (port ≢ 138) × OfSession made payload b))
 
 -- OneFor payload: the laws that a payload's text stands on
 pub record OneFor (payload : List ℕ) : Type 0 where
@@ -96,34 +68,94 @@ pub record OneFor (payload : List ℕ) : Type 0 where
   pub datagram_fault : (fault same : DatagramFault) → datagram_faults.PacketFails payload fault → datagram_faults.PacketFails payload same → fault ≡ same
   pub one_parsed : (parsed same : Parsed) → Parses payload parsed → Parses payload same → parsed ≡ same
 
+one_either : {A F B : Type 0} (Stands : A → ℕ → Type 0) (Fails : F → Type 0) (whole : A → ℕ → B) (refused : F → B)
+    → ((a b : A) (m n : ℕ) → Stands a m → Stands b n → (a ≡ b) × (m ≡ n)) → ((f : F) (a : A) (n : ℕ) → Fails f → ¬ Stands a n)
+    → ((f g : F) → Fails f → Fails g → f ≡ g) → (one other : B)
+    → Either Stands Fails whole refused one → Either Stands Fails whole refused other → one ≡ other
+one_either Stands Fails whole refused same alone same_fault one other x y = elim x [
+  | inl p ↦ elim y [
+    | inl q ↦ let e = same p.0 q.0 p.1 q.1 p.2 q.2 in p.3 ∙ ap₂ whole e.0 e.1 ∙ sym q.3
+    | inr g ↦ absurd (alone g.0 p.0 p.1 g.1 p.2)
+  ]
+  | inr f ↦ elim y [
+    | inl q ↦ absurd (alone f.0 q.0 q.1 f.1 q.2)
+    | inr g ↦ f.2 ∙ ap refused (same_fault f.0 g.0 f.1 g.1) ∙ sym g.2
+  ]
+]
+
+one_by_port : {B : Type 0} (made : Made B) (payload : List ℕ) (port : ℕ) (one other : B) → OneFor payload → ByPort made payload port one
+    → ByPort made payload port other → one ≡ other
+one_by_port made payload port one other laws a b = elim a [
+  | inl x ↦ elim b [
+    | inl y ↦ one_either (service.IsPacket payload) (service_faults.PacketFails payload) made.of_names made.of_no_names laws.one_name laws.name_alone laws.name_fault one other x.1 y.1
+    | inr z ↦ elim z [
+      | inl y ↦ let here = x.0 in let there = y.0 in absurd (omega (arith, here, there))
+      | inr y ↦ absurd (y.0 x.0)
+    ]
+  ]
+  | inr w ↦ elim w [
+    | inl x ↦ elim b [
+      | inl y ↦ let here = x.0 in let there = y.0 in absurd (omega (arith, here, there))
+      | inr z ↦ elim z [
+        | inl y ↦ one_either (datagrams.IsPacket payload) (datagram_faults.PacketFails payload) made.of_datagram made.of_no_datagram laws.one_datagram laws.datagram_alone laws.datagram_fault one other x.1 y.1
+        | inr y ↦ absurd (y.1 x.0)
+      ]
+    ]
+    | inr x ↦ elim b [
+      | inl y ↦ absurd (x.0 y.0)
+      | inr z ↦ elim z [
+        | inl y ↦ absurd (x.1 y.0)
+        | inr y ↦ x.2.2 ∙ ap made.of_session (laws.one_parsed x.2.0 y.2.0 x.2.1 y.2.1) ∙ sym y.2.2
+      ]
+    ]
+  ]
+]
+
+-- ---- one text
+
+texts : Made (List ℕ)
+texts = record {
+  of_names = service_text;
+  of_no_names = λ fault. refused_text (service_fault_text fault);
+  of_datagram = datagram_text;
+  of_no_datagram = λ fault. refused_text (datagram_fault_text fault);
+  of_session = session_text;
+}
+
+text_by_port : (payload : List ℕ) (port : ℕ) (text : List ℕ) → Shown payload port text → ByPort texts payload port text
+text_by_port payload _ _ (names packet used h) = inl (refl, inl (packet, used, h, refl))
+text_by_port payload _ _ (no_names fault h) = inl (refl, inr (fault, h, refl))
+text_by_port payload _ _ (datagram packet used h) = inr (inl (refl, inl (packet, used, h, refl)))
+text_by_port payload _ _ (no_datagram fault h) = inr (inl (refl, inr (fault, h, refl)))
+text_by_port payload _ _ (session port parsed a b h) = inr (inr (a, b, (parsed, h, refl)))
+
 pub one_shown : (payload : List ℕ) (port : ℕ) (text other : List ℕ) → OneFor payload → Shown payload port text → Shown payload port other
     → text ≡ other
 one_shown payload port text other laws a b =
-    elim (Shown-cases payload port text a) [
-      | inl x ↦ elim (Shown-cases payload port other b) [
-        | inl y ↦ one_names payload text other laws.one_name laws.name_alone laws.name_fault x.1 y.1
-        | inr z ↦ elim z [
-          | inl y ↦ let here = x.0 in let there = y.0 in absurd (omega (arith, here, there))
-          | inr y ↦ absurd (y.0 x.0)
-        ]
-      ]
-      | inr w ↦ elim w [
-        | inl x ↦ elim (Shown-cases payload port other b) [
-          | inl y ↦ let here = x.0 in let there = y.0 in absurd (omega (arith, here, there))
-          | inr z ↦ elim z [
-            | inl y ↦ one_datagrams payload text other laws.one_datagram laws.datagram_alone laws.datagram_fault x.1 y.1
-            | inr y ↦ absurd (y.1 x.0)
-          ]
-        ]
-        | inr x ↦ elim (Shown-cases payload port other b) [
-          | inl y ↦ absurd (x.0 y.0)
-          | inr z ↦ elim z [
-            | inl y ↦ absurd (x.1 y.0)
-            | inr y ↦ x.2.2 ∙ ap session_text (laws.one_parsed x.2.0 y.2.0 x.2.1 y.2.1) ∙ sym y.2.2
-          ]
-        ]
-      ]
-    ]
+    one_by_port texts payload port text other laws (text_by_port payload port text a) (text_by_port payload port other b)
+
+-- ---- one list of fields
+
+lists : Made (List Field)
+lists = record {
+  of_names = service_fields;
+  of_no_names = λ fault. refused_fields (service_fault_text fault) (service_fault_place fault);
+  of_datagram = datagram_fields;
+  of_no_datagram = λ fault. refused_fields (datagram_fault_text fault) (datagram_fault_place fault);
+  of_session = session_fields;
+}
+
+fields_by_port : (payload : List ℕ) (port : ℕ) (fields : List Field) → Tells payload port fields → ByPort lists payload port fields
+fields_by_port payload _ _ (tells.names packet used h) = inl (refl, inl (packet, used, h, refl))
+fields_by_port payload _ _ (tells.no_names fault h) = inl (refl, inr (fault, h, refl))
+fields_by_port payload _ _ (tells.datagram packet used h) = inr (inl (refl, inl (packet, used, h, refl)))
+fields_by_port payload _ _ (tells.no_datagram fault h) = inr (inl (refl, inr (fault, h, refl)))
+fields_by_port payload _ _ (tells.session port parsed a b h) = inr (inr (a, b, (parsed, h, refl)))
+
+pub one_told : (payload : List ℕ) (port : ℕ) (fields others : List Field) → OneFor payload → Tells payload port fields → Tells payload port others
+    → fields ≡ others
+one_told payload port fields others laws a b =
+    one_by_port lists payload port fields others laws (fields_by_port payload port fields a) (fields_by_port payload port others b)
 
 -- ---- some text
 

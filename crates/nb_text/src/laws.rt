@@ -66,6 +66,18 @@ pub fn one_text()
     sessions::one_answer();
 }
 
+/// A payload has one list of fields for a port.
+pub fn one_list_of_fields()
+    ensures { (payload : List ℕ) (port : ℕ) (fields others : List Field) →
+        Tells payload port fields → Tells payload port others → fields ≡ others }
+{
+    names::one_packet();
+    names::one_service_fault();
+    datagrams::one_packet();
+    datagrams::one_datagram_fault();
+    sessions::one_answer();
+}
+
 /// Each payload has a text, whatever the port.
 pub fn some_text()
     ensures { (payload : List ℕ) (port : ℕ) → AreBytes payload →

@@ -113,7 +113,7 @@ one_by_port made payload port one other laws a b = elim a [
 
 -- ---- one text
 
-texts : Made (List ℕ)
+abbrev texts : Made (List ℕ)
 texts = record {
   of_names = service_text;
   of_no_names = λ fault. refused_text (service_fault_text fault);
@@ -136,7 +136,7 @@ one_shown payload port text other laws a b =
 
 -- ---- one list of fields
 
-lists : Made (List Field)
+abbrev lists : Made (List Field)
 lists = record {
   of_names = service_fields;
   of_no_names = λ fault. refused_fields (service_fault_text fault) (service_fault_place fault);

@@ -13,6 +13,7 @@ const MOST_PACKET = 65_535;
  *
  * @typedef {object} Waiting
  * @property {bigint} first when the first fragment came
+ * @property {bigint} last
  * @property {number[]} frames
  * @property {Part[]} parts
  * @property {number | null} end where the packet ends, once its last fragment came
@@ -29,25 +30,29 @@ export class Fragments {
     }
 
     /**
-     * Takes a fragment.
+     * Takes a fragment. One of which the file has a part is as one that isn't there.
      *
      * @param {import('./internet.js').Internet} packet
      * @param {import('./frames.js').Frame} frame
      * @returns {{whole: import('./internet.js').Internet | null, lost: {frames: number[], why: string}[]}} the packet that is whole
-     * by it, and the packets that never will be
+     * by it, and what never will be
      */
     take(packet, frame) {
         const fragment = packet.fragment;
         if (!fragment) return { whole: packet, lost: [] };
-        const lost = this.late(fragment.key, frame.time);
+        if (packet.payload.length < packet.size) {
+            return { whole: null, lost: [{ frames: [frame.number], why: 'the file has a part of a fragment of IP' }] };
+        }
         const entry = this.entry(fragment.key, packet, frame);
         entry.frames.push(frame.number);
-        if (packet.payload.length < packet.size) entry.why ??= 'the file has a part of a fragment of IP';
+        [entry.first, entry.last] = [frame.time < entry.first ? frame.time : entry.first, frame.time > entry.last ? frame.time : entry.last];
         this.place(entry, fragment, packet.payload);
         const bytes = joined(entry);
-        if (!bytes) return { whole: null, lost: lost.concat(this.passedOver()) };
-        this.forget(fragment.key, entry);
-        return { whole: { ...packet, protocol: entry.protocol, payload: bytes, size: bytes.length, fragment: null }, lost };
+        if (!bytes) return { whole: null, lost: this.passedOver() };
+        const loss = this.forget(fragment.key, entry);
+        if (entry.last - entry.first > TIMER) entry.why ??= 'its fragments of IP lie more than 60 s apart';
+        if (entry.why) return { whole: null, lost: [{ ...loss, why: entry.why }] };
+        return { whole: { ...packet, protocol: entry.protocol, payload: bytes, size: bytes.length, fragment: null }, lost: [] };
     }
 
     /** What never came together. */
@@ -64,7 +69,7 @@ export class Fragments {
         const held = this.waiting.get(key);
         if (held) return held;
         /** @type {Waiting} */
-        const entry = { first: frame.time, frames: [], parts: [], end: null, why: null, protocol: packet.protocol };
+        const entry = { first: frame.time, last: frame.time, frames: [], parts: [], end: null, why: null, protocol: packet.protocol };
         this.waiting.set(key, entry);
         return entry;
     }
@@ -84,17 +89,6 @@ export class Fragments {
         }
         entry.parts.push({ offset: fragment.offset, bytes });
         this.held += bytes.length;
-    }
-
-    /**
-     * The packet of this key, where it has waited too long.
-     *
-     * @param {string} key
-     * @param {bigint} now
-     */
-    late(key, now) {
-        const entry = this.waiting.get(key);
-        return entry && now - entry.first > TIMER ? [this.forget(key, entry)] : [];
     }
 
     /** The packets that wait the longest, where too many wait. */
@@ -129,16 +123,16 @@ function lossOf(entry) {
  * @param {Waiting} entry
  */
 function joined(entry) {
-    if (entry.why || entry.end === null) return null;
+    if (entry.end === null) return null;
     entry.parts.sort((one, other) => one.offset - other.offset);
     const bytes = new Uint8Array(entry.end);
     let known = 0;
     for (const part of entry.parts) {
         if (part.offset > known) return null;
-        bytes.set(part.bytes.subarray(0, Math.max(0, entry.end - part.offset)), part.offset);
+        if (part.offset < entry.end) bytes.set(part.bytes.subarray(0, entry.end - part.offset), part.offset);
         known = Math.max(known, part.offset + part.bytes.length);
     }
-    return known === entry.end ? bytes : null;
+    return known >= entry.end ? bytes : null;
 }
 
 /**

@@ -2,26 +2,29 @@ import assert from 'node:assert/strict';
 import test from 'node:test';
 
 import { PayloadReader, framesOf } from '../src/containers/payloads.js';
+import { CUT, FRAGMENTS, FRAGMENTS_MISSING, FRAGMENTS_UNKNOWN, GAP, NO_REST, NO_START, RESET } from '../src/containers/report.js';
+import { slicesOf } from '../src/containers/slices.js';
 import { bytesOf, block, enhanced, ethernet, face, ipv4, ipv6, message, number, pcap, section, tcp, udp } from './building.mjs';
 
 const QUERY = bytesOf([0, 3, 1, 0x10, 0, 1, 0, 0, 0, 0, 0, 0]);
 
 /** What a file gives: payloads and what is left out in their order, how many frames were of no use by why, and the fault. */
 function read(file) {
-    const reader = new PayloadReader();
     const seen = [];
+    const reader = new PayloadReader((each) => seen.push(each));
     let fault = null;
     try {
-        for (const frame of framesOf(file)) seen.push(...reader.read(frame));
+        for (const frame of framesOf(slicesOf(file))) reader.read(frame);
     } catch (error) {
         fault = error.message;
     }
-    seen.push(...reader.finish());
+    reader.finish();
     return { seen, others: Object.fromEntries(reader.others), fault };
 }
 
 const payloads = (file) => read(file).seen.filter((each) => each.kind === 'payload').map((each) => Buffer.from(each.bytes).toString('hex'));
-const leftOut = (file) => read(file).seen.filter((each) => each.kind === 'left out').map((each) => [each.frames, each.why, each.bytes]);
+const leftOut = (file) => read(file).seen.filter((each) => each.kind === 'left out').map((each) => [each.mark.frame, each.why]);
+const comments = (file) => read(file).seen.filter((each) => each.kind === 'comment').map((each) => each.text);
 const hex = (bytes) => Buffer.from(bytes).toString('hex');
 
 test('a frame of each byte order and unit of time has its payload and its moment', () => {
@@ -30,9 +33,9 @@ test('a frame of each byte order and unit of time has its payload and its moment
         for (const nanoseconds of [true, false]) {
             const file = pcap([{ bytes, seconds: 7, rest: 5 }], { little, nanoseconds });
             const [seen] = read(file).seen;
-            assert.equal(seen.time, 7_000_000_000n + (nanoseconds ? 5n : 5_000n));
-            assert.equal(seen.source, '10.0.0.5:137');
-            assert.equal(seen.destination, '10.0.0.9:137');
+            assert.equal(seen.mark.time, 7_000_000_000n + (nanoseconds ? 5n : 5_000n));
+            assert.equal(seen.mark.source, '10.0.0.5:137');
+            assert.equal(seen.mark.destination, '10.0.0.9:137');
             assert.equal(seen.mac, '02:00:00:00:00:09');
             assert.equal(hex(seen.bytes), hex(QUERY));
         }
@@ -48,7 +51,7 @@ test('pcapng: sections of both orders, several interfaces, their clocks, and blo
         section(false), face(101, { options: powers, little: false }), enhanced(0, 1536, packet, { little: false }));
     const { seen, fault } = read(file);
     assert.equal(fault, null);
-    assert.deepEqual(seen.map((each) => [each.frame, each.time]), [[1, 1_500_000_000n], [2, 1_500_000_000n], [3, 1_500_000_000n]]);
+    assert.deepEqual(seen.map((each) => [each.mark.frame, each.mark.time]), [[1, 1_500_000_000n], [2, 1_500_000_000n], [3, 1_500_000_000n]]);
 });
 
 test('tags, cooked frames, loopbacks and raw packets lead to the same payload', () => {
@@ -64,7 +67,7 @@ test('IPv6, also behind extension headers', () => {
     const options = { protocol: 0, rest: [0, 1, 4, 0, 0, 0, 0] };
     for (const headers of [[], [options], [options, { protocol: 60, rest: [0, 1, 4, 0, 0, 0, 0] }]]) {
         const [seen] = read(pcap([{ bytes: ethernet(ipv6(udp(QUERY), { headers })) }])).seen;
-        assert.equal(seen.source, '[fe80::5]:137');
+        assert.equal(seen.mark.source, '[fe80::5]:137');
         assert.equal(hex(seen.bytes), hex(QUERY));
     }
 });
@@ -75,14 +78,14 @@ test('fragments of IP come together in any order, and one that is missing is lef
         ({ bytes: ethernet(ipv4(whole.subarray(from, to), { offset: from, more })) }));
     assert.deepEqual(payloads(pcap([parts[2], parts[0], parts[1]])), [hex(whole.subarray(8))]);
     assert.deepEqual(payloads(pcap([parts[0], parts[0], parts[1], parts[2]])), [hex(whole.subarray(8))]);
-    assert.deepEqual(leftOut(pcap([parts[0], parts[2]])), [[[1, 2], 'a fragment of IP whose rest is missing', null]]);
+    assert.deepEqual(leftOut(pcap([parts[0], parts[2]])), [[1, FRAGMENTS_MISSING], [2, FRAGMENTS_MISSING]]);
     const late = [{ ...parts[0], seconds: 0 }, { ...parts[1], seconds: 61 }, { ...parts[2], seconds: 61 }];
-    assert.deepEqual(leftOut(pcap(late)), [[[1, 2, 3], 'its fragments of IP lie more than 60 s apart', null]]);
+    assert.deepEqual(leftOut(pcap(late)), [[3, FRAGMENTS]]);
     const other = whole.slice();
     other[20] ^= 1;
     const differing = { bytes: ethernet(ipv4(other.subarray(16, 40), { offset: 16, more: true })) };
-    assert.deepEqual(leftOut(pcap([parts[0], parts[1], differing, parts[2]])).map(([, why]) => why),
-        ['its fragments of IP differ where they overlap']);
+    assert.deepEqual(leftOut(pcap([parts[0], parts[1], differing, parts[2]])), [[4, FRAGMENTS]]);
+    assert.deepEqual(leftOut(pcap([parts[1]])), [[1, FRAGMENTS_UNKNOWN]]);
 });
 
 test('session packets are cut from a stream in the order of its numbers', () => {
@@ -94,10 +97,10 @@ test('session packets are cut from a stream in the order of its numbers', () => 
     const wanted = [hex(first), hex(second)];
     assert.deepEqual(payloads(pcap([start, segment(0, 15)])), wanted);
     assert.deepEqual(payloads(pcap([start, segment(9, 15), segment(0, 5), segment(3, 9), segment(0, 5)])), wanted);
-    assert.deepEqual(leftOut(pcap([start, segment(0, 7), segment(9, 15)])), [[[3], 'bytes after a gap in a TCP stream', 6]]);
-    assert.deepEqual(leftOut(pcap([start, segment(0, 9)])), [[[2], 'the rest of a session packet is missing', 2]]);
-    assert.deepEqual(leftOut(pcap([segment(0, 3)])), [[[1], 'bytes of a stream whose start the file lacks', 3]]);
-    assert.deepEqual(leftOut(pcap([start, segment(0, 7, { flags: 4 })])), [[[2], 'bytes that come with RST', 7]]);
+    assert.deepEqual(leftOut(pcap([start, segment(0, 7), segment(9, 15)])), [[3, GAP]]);
+    assert.deepEqual(leftOut(pcap([start, segment(0, 9)])), [[2, NO_REST]]);
+    assert.deepEqual(leftOut(pcap([segment(0, 3)])), [[1, NO_START]]);
+    assert.deepEqual(leftOut(pcap([start, segment(0, 7, { flags: 4 })])), [[2, RESET]]);
 });
 
 test('numbers of a stream pass 2^32', () => {
@@ -110,9 +113,9 @@ test('numbers of a stream pass 2^32', () => {
 
 test('what is cut by the snap length is left out with how much is missing', () => {
     const bytes = ethernet(ipv4(udp(QUERY)));
-    assert.deepEqual(leftOut(pcap([{ bytes: bytes.subarray(0, 48), size: bytes.length }])), [[[1], 'cut by the snap length', 6]]);
-    assert.deepEqual(leftOut(pcap([{ bytes: bytes.subarray(0, 36), size: bytes.length }])), [[[1], 'the file ends before its ports', null]]);
-    assert.deepEqual(leftOut(pcap([{ bytes: bytes.subarray(0, 39), size: bytes.length }])), [[[1], 'the file ends inside its UDP header', null]]);
+    assert.deepEqual(leftOut(pcap([{ bytes: bytes.subarray(0, 48), size: bytes.length }])), [[1, CUT]]);
+    assert.deepEqual(leftOut(pcap([{ bytes: bytes.subarray(0, 36), size: bytes.length }])), [[1, CUT]]);
+    assert.deepEqual(leftOut(pcap([{ bytes: bytes.subarray(0, 39), size: bytes.length }])), [[1, CUT]]);
 });
 
 test('frames of no use are counted by why', () => {
@@ -137,7 +140,7 @@ test('files that lie end in one fault, with its place, after what stood before',
     for (const [file, words, count] of faults) {
         const { seen, fault } = read(file);
         assert.equal(fault, words);
-        assert.equal(seen.length, count);
+        assert.equal(seen.filter((each) => each.kind === 'payload').length, count);
     }
-    assert.equal(framesOf(bytesOf([1, 2, 3])), null);
+    assert.equal(framesOf(slicesOf(bytesOf([1, 2, 3]))), null);
 });

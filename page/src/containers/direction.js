@@ -1,34 +1,48 @@
 /** The bytes that one side of a TCP stream sends: put into order, and cut into session packets. */
+import { Early, unlike } from './early.js';
+import { Growing } from './growing.js';
+import { GAP, NO_PACKET, NO_REST } from './report.js';
 import { HEADER, hasHeader, sizeAt } from './session.js';
 
-/** How much is held of one side past missing bytes. */
-const MOST_EARLY = 4 << 20;
-const MOST_PIECES = 4_096;
+/** How many bytes are shown of those that are in no packet. */
+const SHOWN = 32;
 const [HALF, ALL] = [2 ** 31, 2 ** 32];
-
-/**
- * A piece of a stream: where it begins, its bytes, and the frame that had them.
- *
- * @typedef {object} Piece
- * @property {number} place
- * @property {Uint8Array} bytes
- * @property {number} frame
- */
 
 /** One side of a stream. Places count bytes on from its first sequence number, past 2^32. */
 export class Direction {
-    /** @param {number} first the place of its first byte */
-    constructor(first) {
+    /**
+     * @param {string} title
+     * @param {import('./recent.js').Recent} recent
+     * @param {import('./report.js').Report} report
+     * @param {number} first the place of its first byte
+     */
+    constructor(title, recent, report, first) {
+        this.title = title;
+        this.recent = recent;
+        this.report = report;
         this.first = first;
         this.due = first;
-        /** @type {Piece[]} pieces past the next byte, in order, none over another */
-        this.early = [];
-        this.held = new Uint8Array(0);
-        /** @type {{end: number, frame: number}[]} the frames of the bytes that are held, and where they end */
+        this.early = new Early();
+        /** Bytes in order that aren't cut yet, or the first of those that never are. */
+        this.held = new Growing();
+        /** The latest bytes before the next one. */
+        this.past = new Growing();
+        this.uncut = 0;
+        /** @type {{end: number, mark: import('./report.js').Mark}[]} where bytes of frames end that are in no packet yet */
         this.frames = [];
         this.isCut = true;
+        /** @type {{missing: number, after: number} | null} how many bytes were missing where that was given up, and how many came after */
+        this.lost = null;
         /** @type {number | null} the place after the last byte, by FIN */
         this.end = null;
+    }
+
+    get size() {
+        return this.held.length + this.early.size;
+    }
+
+    get isOver() {
+        return this.end !== null && this.due >= this.end;
     }
 
     /** @param {number} sequence */
@@ -36,122 +50,137 @@ export class Direction {
         return this.due + modulo(sequence - this.due + HALF, ALL) - HALF;
     }
 
-    get isOver() {
-        return this.end !== null && this.due >= this.end;
-    }
-
     /**
-     * Takes the bytes of a segment.
+     * Keeps what is new of the latest frame's segment.
      *
      * @param {number} place
      * @param {Uint8Array} bytes
-     * @param {number} frame
+     * @returns {number} how many of its bytes differ from those that came first
      */
-    take(place, bytes, frame) {
-        if (isKeptAlive(this, place, bytes)) return;
-        const known = Math.max(0, Math.min(this.due - place, bytes.length));
-        this.put({ place: place + known, bytes: bytes.subarray(known), frame });
-        while (this.early.length && this.early[0].place <= this.due) {
-            const piece = /** @type {Piece} */ (this.early.shift());
-            this.append(piece);
+    take(place, bytes) {
+        if (this.isKeptAlive(place, bytes)) return 0;
+        let differing = 0;
+        if (place < this.due) {
+            differing = this.compare(place, bytes);
+            bytes = bytes.subarray(this.due - place);
+            place = this.due;
         }
+        if (!bytes.length) return differing;
+        if (this.lost) {
+            this.lost.after += bytes.length;
+            this.report.count(this.report.mark, GAP);
+        } else if (place === this.due && this.early.isEmpty) {
+            this.append(bytes, this.report.mark);
+        } else {
+            differing += this.early.put(place, bytes, this.report.mark);
+            for (let piece = this.early.at(this.due); piece; piece = this.early.at(this.due)) this.append(piece.bytes, piece.mark);
+            if (this.early.isTooMuch) this.giveUp();
+        }
+        return differing;
     }
 
     /**
-     * Keeps those of a piece's bytes that weren't there: what came first stays.
+     * Whether it is the last byte again, whose value has no meaning then: it keeps a connection alive.
      *
-     * @param {Piece} piece
+     * @param {number} place
+     * @param {Uint8Array} bytes
      */
-    put(piece) {
-        const end = piece.place + piece.bytes.length;
-        let place = piece.place;
-        /** @type {Piece[]} */
-        const added = [];
-        for (const other of this.early) {
-            if (other.place >= end) break;
-            if (place < other.place) added.push(partOf(piece, place, other.place));
-            place = Math.max(place, other.place + other.bytes.length);
-        }
-        if (place < end) added.push(partOf(piece, place, end));
-        if (!added.length) return;
-        this.early = this.early.concat(added).sort((one, other) => one.place - other.place);
-    }
-
-    /** @param {Piece} piece the next bytes */
-    append(piece) {
-        this.due += piece.bytes.length;
-        const held = new Uint8Array(this.held.length + piece.bytes.length);
-        held.set(this.held);
-        held.set(piece.bytes, this.held.length);
-        this.held = held;
-        this.frames.push({ end: this.due, frame: piece.frame });
-    }
-
-    /** Whether more is held past missing bytes than is waited for. */
-    get isTooEarly() {
-        return this.early.length > MOST_PIECES || this.early.reduce((sum, piece) => sum + piece.bytes.length, 0) > MOST_EARLY;
+    isKeptAlive(place, bytes) {
+        return bytes.length === 1 && (place + 1 === this.due || place + 1 === (this.early.end ?? this.due));
     }
 
     /**
-     * The session packets that are whole. Nothing is cut after a header that no session packet has.
+     * How many of these bytes differ from the latest ones.
      *
-     * @returns {Uint8Array[]}
+     * @param {number} place
+     * @param {Uint8Array} bytes
      */
-    packets() {
-        const packets = [];
-        let at = 0;
-        while (this.isCut && at + HEADER <= this.held.length) {
-            const size = sizeAt(this.held, at);
-            if (at + size > this.held.length) break;
-            packets.push(this.held.subarray(at, at + size));
-            this.isCut = hasHeader(this.held, at);
-            at += size;
-        }
-        this.held = this.held.subarray(at);
-        const cut = this.due - this.held.length;
-        this.frames = this.frames.filter((each) => each.end > cut);
-        return packets;
+    compare(place, bytes) {
+        const start = this.due - this.past.length;
+        const begin = Math.max(place, start);
+        const end = Math.min(place + bytes.length, this.due);
+        return begin < end ? unlike(this.past.bytes.subarray(begin - start, end - start), bytes.subarray(begin - place, end - place)) : 0;
     }
 
     /**
-     * What is in no packet, by reason, with the frames that have it.
-     *
-     * @returns {{why: string, frames: number[], bytes: number}[]}
+     * @param {Uint8Array} bytes the next ones
+     * @param {import('./report.js').Mark} mark their frame
      */
-    leftOver() {
-        const lost = [];
-        if (this.held.length) {
-            const why = this.isCut ? 'the rest of a session packet is missing' : 'bytes after a header that no session packet has';
-            lost.push({ why, frames: this.frames.map((each) => each.frame), bytes: this.held.length });
+    append(bytes, mark) {
+        this.due += bytes.length;
+        this.uncut += bytes.length;
+        this.recent.keep(this.past, bytes);
+        if (this.isCut) {
+            this.frames.push({ end: this.due, mark });
+            this.held.push(bytes);
+        } else {
+            this.report.count(mark, NO_PACKET);
+            this.held.push(bytes.subarray(0, Math.max(0, SHOWN - this.held.length)));
         }
-        if (this.early.length) {
-            const bytes = this.early.reduce((sum, piece) => sum + piece.bytes.length, 0);
-            lost.push({ why: 'bytes after a gap in a TCP stream', frames: this.early.map((piece) => piece.frame), bytes });
+    }
+
+    /** Waits no longer for missing bytes: counts what comes after them. */
+    giveUp() {
+        this.lost = { missing: this.early.start - this.due, after: this.early.size };
+        this.countFrames();
+        this.early = new Early();
+    }
+
+    /**
+     * The session packets that are whole by now. Nothing is cut after a header that no session packet has.
+     *
+     * @returns {Generator<Uint8Array, void, void>}
+     */
+    *packets() {
+        while (this.isCut && this.held.length >= HEADER) {
+            const size = sizeAt(this.held.bytes, 0);
+            if (this.held.length < size) return;
+            const packet = this.held.bytes.slice(0, size);
+            this.held.drop(size);
+            this.uncut -= size;
+            const cut = this.due - this.uncut;
+            this.frames = this.frames.filter((each) => each.end > cut);
+            this.isCut = hasHeader(packet, 0);
+            yield packet;
         }
-        return lost;
+        if (this.isCut) return;
+        this.held = first(this.held, SHOWN);
+        this.countFrames();
+    }
+
+    /** Counts the frames of the bytes that are in no packet: none comes any more. */
+    countFrames() {
+        for (const { mark } of this.frames) this.report.count(mark, this.isCut ? NO_REST : NO_PACKET);
+        for (const { mark } of this.early.pieces) this.report.count(mark, GAP);
+        this.frames = [];
+    }
+
+    /** The comment on the bytes that are in no packet. */
+    tell() {
+        const early = this.early.isEmpty ? null : { missing: this.early.start - this.due, after: this.early.size };
+        const lost = this.lost ?? early;
+        if (!this.uncut && !lost) return;
+        this.countFrames();
+        const digits = Array.from(this.held.bytes.subarray(0, SHOWN), (each) => each.toString(16).padStart(2, '0')).join('');
+        const shown = this.uncut ? ` (${digits}${this.uncut > SHOWN ? '..' : ''})` : '';
+        const after = lost ? `, then missing: ${lost.missing}, then captured: ${lost.after}` : '';
+        this.report.comment(`${this.title}: bytes left over: ${this.uncut}${shown}${after}`);
+    }
+
+    /** Gives back the bytes that might have come again. */
+    letGo() {
+        this.past.drop(this.past.length);
     }
 }
 
 /**
- * Whether it is the last byte again, whose value has no meaning then: it keeps a connection alive.
- *
- * @param {Direction} direction
- * @param {number} place
- * @param {Uint8Array} bytes
+ * @param {Growing} held
+ * @param {number} most
  */
-function isKeptAlive(direction, place, bytes) {
-    const last = direction.early.at(-1);
-    const end = last ? last.place + last.bytes.length : direction.due;
-    return bytes.length === 1 && (place + 1 === direction.due || place + 1 === end);
-}
-
-/**
- * @param {Piece} piece
- * @param {number} from
- * @param {number} to
- */
-function partOf(piece, from, to) {
-    return { place: from, bytes: piece.bytes.subarray(from - piece.place, to - piece.place), frame: piece.frame };
+function first(held, most) {
+    const found = new Growing();
+    found.push(held.bytes.subarray(0, most));
+    return found;
 }
 
 /**

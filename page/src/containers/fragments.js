@@ -1,10 +1,14 @@
 /** Fragments of IP, put together where all of a packet came within 60 seconds (RFC 8200 section 4.5) and none contradicts another. */
+import { FRAGMENTS_CUT, FRAGMENTS_MISSING, FRAGMENTS_UNKNOWN } from './report.js';
 
 const TIMER = 60_000_000_000n;
 /** How many packets wait for fragments at a time, and how many bytes of them. */
 const MOST_WAITING = 4_096;
 const MOST_HELD = 64 << 20;
 const MOST_PACKET = 65_535;
+/** A packet of more fragments never comes together. */
+const MOST_PARTS = 8_192;
+const DIFFER = 'its fragments differ where they overlap';
 
 /**
  * @typedef {object} Part
@@ -14,16 +18,25 @@ const MOST_PACKET = 65_535;
  * @typedef {object} Waiting
  * @property {bigint} first when the first fragment came
  * @property {bigint} last
- * @property {number[]} frames
+ * @property {{mark: import('./report.js').Mark, isCut: boolean}[]} marks
  * @property {Part[]} parts
  * @property {number | null} end where the packet ends, once its last fragment came
- * @property {string | null} why why it never comes together
+ * @property {string | null} why why it can't be taken
  * @property {number} protocol
+ *
+ * @typedef {import('./internet.js').Internet} Internet
  */
 
 /** The packets that wait for fragments. */
 export class Fragments {
-    constructor() {
+    /**
+     * @param {import('./report.js').Report} report
+     * @param {(packet: {protocol: number, payload: Uint8Array}) => boolean | null} isOurs whether what begins so is of these ports;
+     * null where that isn't known
+     */
+    constructor(report, isOurs) {
+        this.report = report;
+        this.isOurs = isOurs;
         /** @type {Map<string, Waiting>} */
         this.waiting = new Map();
         this.held = 0;
@@ -32,44 +45,42 @@ export class Fragments {
     /**
      * Takes a fragment. One of which the file has a part is as one that isn't there.
      *
-     * @param {import('./internet.js').Internet} packet
-     * @param {import('./frames.js').Frame} frame
-     * @returns {{whole: import('./internet.js').Internet | null, lost: {frames: number[], why: string}[]}} the packet that is whole
-     * by it, and what never will be
+     * @param {Internet} packet
+     * @param {NonNullable<Internet['fragment']>} fragment
+     * @param {bigint} time
+     * @returns {{packet: Internet, why: string | null} | null} the packet that is whole by it, and why it can't be taken
      */
-    take(packet, frame) {
-        const fragment = packet.fragment;
-        if (!fragment) return { whole: packet, lost: [] };
-        if (packet.payload.length < packet.size) {
-            return { whole: null, lost: [{ frames: [frame.number], why: 'the file has a part of a fragment of IP' }] };
+    take(packet, fragment, time) {
+        const entry = this.entry(fragment.key, packet, time);
+        const isCut = packet.payload.length < packet.size;
+        entry.marks.push({ mark: this.report.mark, isCut });
+        [entry.first, entry.last] = [time < entry.first ? time : entry.first, time > entry.last ? time : entry.last];
+        if (!isCut && entry.parts.length < MOST_PARTS) this.place(entry, fragment, packet.payload);
+        const payload = joined(entry);
+        if (!payload) {
+            this.passOver();
+            return null;
         }
-        const entry = this.entry(fragment.key, packet, frame);
-        entry.frames.push(frame.number);
-        [entry.first, entry.last] = [frame.time < entry.first ? frame.time : entry.first, frame.time > entry.last ? frame.time : entry.last];
-        this.place(entry, fragment, packet.payload);
-        const bytes = joined(entry);
-        if (!bytes) return { whole: null, lost: this.passedOver() };
-        const loss = this.forget(fragment.key, entry);
-        if (entry.last - entry.first > TIMER) entry.why ??= 'its fragments of IP lie more than 60 s apart';
-        if (entry.why) return { whole: null, lost: [{ ...loss, why: entry.why }] };
-        return { whole: { ...packet, protocol: entry.protocol, payload: bytes, size: bytes.length, fragment: null }, lost: [] };
+        this.forget(fragment.key, entry);
+        if (entry.last - entry.first > TIMER) entry.why ??= 'its fragments lie more than 60 s apart';
+        return { packet: { ...packet, protocol: entry.protocol, payload, size: payload.length, fragment: null }, why: entry.why };
     }
 
-    /** What never came together. */
+    /** Says what never came together. */
     finish() {
-        return Array.from(this.waiting.values(), lossOf);
+        for (const entry of this.waiting.values()) this.tell(entry);
     }
 
     /**
      * @param {string} key
-     * @param {import('./internet.js').Internet} packet
-     * @param {import('./frames.js').Frame} frame
+     * @param {Internet} packet
+     * @param {bigint} time
      */
-    entry(key, packet, frame) {
+    entry(key, packet, time) {
         const held = this.waiting.get(key);
         if (held) return held;
         /** @type {Waiting} */
-        const entry = { first: frame.time, last: frame.time, frames: [], parts: [], end: null, why: null, protocol: packet.protocol };
+        const entry = { first: time, last: time, marks: [], parts: [], end: null, why: null, protocol: packet.protocol };
         this.waiting.set(key, entry);
         return entry;
     }
@@ -81,24 +92,22 @@ export class Fragments {
      */
     place(entry, fragment, bytes) {
         const end = fragment.offset + bytes.length;
-        if (end > MOST_PACKET) entry.why ??= 'its fragments of IP pass 65,535 bytes';
-        if (!fragment.more && entry.end !== null && entry.end !== end) entry.why ??= 'its fragments of IP differ where they end';
-        if (!fragment.more) entry.end = end;
-        if (entry.parts.some((part) => contradicts(part, fragment.offset, bytes))) {
-            entry.why ??= 'its fragments of IP differ where they overlap';
-        }
-        entry.parts.push({ offset: fragment.offset, bytes });
+        const isLast = !fragment.more;
+        if (end > MOST_PACKET || (isLast && entry.end !== null && entry.end !== end)) entry.why ??= DIFFER;
+        if (isLast) entry.end ??= end;
+        if (entry.parts.some((part) => contradicts(part, fragment.offset, bytes))) entry.why ??= DIFFER;
+        if (entry.parts.some((part) => part.offset === fragment.offset && part.bytes.length === bytes.length)) return;
+        entry.parts.push({ offset: fragment.offset, bytes: bytes.slice() });
         this.held += bytes.length;
     }
 
-    /** The packets that wait the longest, where too many wait. */
-    passedOver() {
-        const lost = [];
+    /** Lets the packets go that wait the longest, where too many wait. */
+    passOver() {
         for (const [key, entry] of this.waiting) {
             if (this.waiting.size <= MOST_WAITING && this.held <= MOST_HELD) break;
-            lost.push(this.forget(key, entry));
+            this.forget(key, entry);
+            this.tell(entry);
         }
-        return lost;
     }
 
     /**
@@ -108,13 +117,20 @@ export class Fragments {
     forget(key, entry) {
         this.waiting.delete(key);
         for (const part of entry.parts) this.held -= part.bytes.length;
-        return lossOf(entry);
     }
-}
 
-/** @param {Waiting} entry */
-function lossOf(entry) {
-    return { frames: entry.frames, why: entry.why ?? 'a fragment of IP whose rest is missing' };
+    /**
+     * Counts the fragments of a packet that isn't whole, but where it is known that it is of other ports.
+     *
+     * @param {Waiting} entry
+     */
+    tell(entry) {
+        const start = entry.parts.find((part) => part.offset === 0);
+        const isOurs = this.isOurs({ protocol: entry.protocol, payload: start?.bytes ?? new Uint8Array(0) });
+        if (isOurs === false) return;
+        const missing = isOurs ? FRAGMENTS_MISSING : FRAGMENTS_UNKNOWN;
+        for (const { mark, isCut } of entry.marks) this.report.count(mark, isCut ? FRAGMENTS_CUT : missing);
+    }
 }
 
 /**
@@ -125,14 +141,17 @@ function lossOf(entry) {
 function joined(entry) {
     if (entry.end === null) return null;
     entry.parts.sort((one, other) => one.offset - other.offset);
-    const bytes = new Uint8Array(entry.end);
     let known = 0;
     for (const part of entry.parts) {
         if (part.offset > known) return null;
-        if (part.offset < entry.end) bytes.set(part.bytes.subarray(0, entry.end - part.offset), part.offset);
         known = Math.max(known, part.offset + part.bytes.length);
     }
-    return known >= entry.end ? bytes : null;
+    if (known < entry.end) return null;
+    const bytes = new Uint8Array(entry.end);
+    for (const part of entry.parts) {
+        if (part.offset < entry.end) bytes.set(part.bytes.subarray(0, entry.end - part.offset), part.offset);
+    }
+    return bytes;
 }
 
 /**

@@ -3,10 +3,11 @@
  *
  * @typedef {object} Frame
  * @property {number} number the first frame of a file is 1
- * @property {bigint} time nanoseconds since the start of 1970
+ * @property {bigint | null} time nanoseconds since the start of 1970; null of a frame whose file doesn't say it
  * @property {number} link how the frame begins: a LINKTYPE of tcpdump.org
  * @property {Uint8Array} bytes what the file has of it
  * @property {number} size how many bytes it had
+ * @property {number} end the place in the file after it
  */
 
 /** Why a file, or what follows of it, can't be read: words, and the place in the file. */

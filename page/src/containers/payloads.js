@@ -4,161 +4,186 @@ import { internetIn } from './internet.js';
 import { packetIn } from './link.js';
 import { isPcap, pcapFrames } from './pcap.js';
 import { isPcapng, pcapngFrames } from './pcapng.js';
+import { BAD_LENGTH, CUT, FRAGMENTS, Report } from './report.js';
 import { Streams } from './streams.js';
-import { TCP, UDP, datagramIn, portsIn, segmentIn } from './transport.js';
+import { TCP, TCP_HEADER, UDP, UDP_HEADER, datagramIn, portsIn, segmentIn } from './transport.js';
 
 const NAME = 137;
 const DATAGRAM = 138;
 const SESSION = 139;
+/** Of how many streams the number is known. */
+const MOST_STREAMS = 262_144;
 
 /**
- * A payload: what one packet of these ports has, and who sent it to whom. A time is in nanoseconds since 1970.
+ * A payload: what one packet of these ports has, and the frame that completes it.
  *
  * @typedef {object} Payload
  * @property {'payload'} kind
- * @property {number} frame
- * @property {bigint} time
  * @property {137 | 138 | 139} port
- * @property {string} source an address and a port
- * @property {string} destination
- * @property {string | null} mac
+ * @property {import('./report.js').Mark} mark
+ * @property {string | null} mac that of who sent the frame
  * @property {number | null} vlan
- * @property {Uint8Array} bytes
+ * @property {Uint8Array} bytes a part of what is held of the file
  *
- * Something that is left out: why, in which frames, and how many bytes, where that is known.
+ * @typedef {Payload | import('./report.js').LeftOut | import('./report.js').Comment} Seen
  *
- * @typedef {object} LeftOut
- * @property {'left out'} kind
- * @property {number} frame the first of them
- * @property {number[]} frames
- * @property {bigint} time that of the frame at which it was known
- * @property {string} why
- * @property {number | null} bytes
- *
- * @typedef {Payload | LeftOut} Seen
+ * @typedef {{mac: string | null, vlan: number | null}} Below
  */
 
 /**
  * The frames of a file; null of one that is neither pcap nor pcapng.
  *
- * @param {Uint8Array} file
+ * @param {import('./slices.js').Slices} file
  */
 export function framesOf(file) {
     if (isPcap(file)) return pcapFrames(file);
     return isPcapng(file) ? pcapngFrames(file) : null;
 }
 
-/** Reads frames one after another. */
+/** Reads frames one after another, and gives what they have, in its order. */
 export class PayloadReader {
-    constructor() {
-        this.fragments = new Fragments();
-        this.streams = new Streams();
+    /** @param {(seen: Seen) => void} give */
+    constructor(give) {
+        this.give = give;
+        this.report = new Report(give);
+        this.fragments = new Fragments(this.report, isOurs);
+        this.streams = new Streams(this.report);
         this.frames = 0;
+        this.ours = 0;
         /** Frames that are of none of these ports, by why. @type {Map<string, number>} */
         this.others = new Map();
-        this.now = 0n;
+        /** @type {bigint | null} */
+        this.now = null;
+        /** @type {Map<string, {number: number, starts: Map<string, number>}>} */
+        this.numbers = new Map();
     }
 
-    /**
-     * What a frame gives, in the order of its bytes.
-     *
-     * @param {import('./frames.js').Frame} frame
-     * @returns {Seen[]}
-     */
+    /** @param {import('./frames.js').Frame} frame */
     read(frame) {
         this.frames += 1;
-        this.now = frame.time;
-        const packet = packetIn(frame.link, frame.bytes);
-        if (typeof packet === 'string') return this.other(packet);
-        const internet = internetIn(frame.bytes.subarray(packet.at));
+        this.now = frame.time ?? this.now;
+        const mark = { frame: frame.number, time: this.now, source: '', destination: '', captured: frame.bytes.length, size: frame.size, counted: false };
+        this.report.begin(mark);
+        const below = packetIn(frame.link, frame.bytes);
+        if (typeof below === 'string') return this.other(below);
+        const internet = internetIn(frame.bytes.subarray(below.at));
         if (!internet) return this.other('cut');
-        const { whole, lost } = this.fragments.take(internet, frame);
-        const seen = lost.map((each) => this.leftOut(each.frames, each.why, null));
-        return whole ? [...seen, ...this.packet(whole, { frame, mac: packet.mac, vlan: packet.vlan })] : seen;
+        [mark.source, mark.destination] = [internet.source, internet.destination];
+        if (!internet.fragment) return this.packet(internet, below, null);
+        const joined = this.fragments.take(internet, internet.fragment, this.now ?? 0n);
+        if (joined) this.packet(joined.packet, below, joined.why);
     }
 
-    /** What is left over at the end of a file. */
+    /** Says what is left over at the end of a file. */
     finish() {
-        const parts = this.fragments.finish().map((each) => this.leftOut(each.frames, each.why, null));
-        return parts.concat(this.streams.finish().map((each) => this.leftOut(each.frames, each.why, each.bytes)));
+        this.fragments.finish();
+        this.streams.finish();
     }
 
     /**
      * @param {import('./internet.js').Internet} internet
-     * @param {{frame: import('./frames.js').Frame, mac: string | null, vlan: number | null}} of
-     * @returns {Seen[]}
+     * @param {Below} below
+     * @param {string | null} why why it can't be taken
      */
-    packet(internet, of) {
+    packet(internet, below, why) {
         if (internet.protocol !== UDP && internet.protocol !== TCP) return this.other('another protocol');
         const ports = portsIn(internet.payload);
-        if (!ports) return [this.leftOut([of.frame.number], 'the file ends before its ports', null)];
-        if (internet.protocol === TCP) return this.segment(internet, of);
-        const port = [ports.source, ports.destination].find((each) => each === NAME || each === DATAGRAM);
-        return port ? [this.datagram(internet, of, /** @type {137 | 138} */ (port))] : this.other('another port');
-    }
-
-    /**
-     * @param {import('./internet.js').Internet} internet
-     * @param {{frame: import('./frames.js').Frame, mac: string | null, vlan: number | null}} of
-     * @param {137 | 138} port
-     * @returns {Seen}
-     */
-    datagram(internet, of, port) {
-        const datagram = datagramIn(internet);
-        if (!datagram.payload) return this.leftOut([of.frame.number], 'the file ends inside its UDP header', null);
-        if (datagram.payload.length < datagram.size) {
-            return this.leftOut([of.frame.number], 'cut by the snap length', datagram.size - datagram.payload.length);
+        if (!ports) {
+            if (internet.size) this.report.leaveOut(this.report.cut, 'the file ends before its ports');
+            return;
         }
-        return this.payload(internet, datagram, of, port, datagram.payload);
+        this.report.mark.source = `${internet.source}:${ports.source}`;
+        this.report.mark.destination = `${internet.destination}:${ports.destination}`;
+        const stream = internet.protocol === TCP ? this.streamOf(internet) : 0;
+        if (!isOurs(internet)) return this.other('another port');
+        this.ours += 1;
+        if (why) return this.report.leaveOut(FRAGMENTS, why);
+        if (internet.protocol === TCP) return this.segment(internet, below, stream);
+        this.datagram(internet, below, ports.source === NAME || ports.source === DATAGRAM ? ports.source : ports.destination);
     }
 
     /**
      * @param {import('./internet.js').Internet} internet
-     * @param {{frame: import('./frames.js').Frame, mac: string | null, vlan: number | null}} of
-     * @returns {Seen[]}
+     * @param {Below} below
+     * @param {number} port
      */
-    segment(internet, of) {
+    datagram(internet, below, port) {
+        const { payload, size } = datagramIn(internet);
+        if (!payload) return this.report.leaveOut(this.report.cut, 'the file ends inside its UDP header');
+        if (size < 0 || payload.length < size) {
+            const reason = payload.length < size && this.report.cut === CUT ? CUT : BAD_LENGTH;
+            const there = `its UDP length is ${size + UDP_HEADER}, and the file has ${payload.length} bytes of its payload`;
+            return this.report.leaveOut(reason, there);
+        }
+        this.payload(/** @type {137 | 138} */ (port), below, payload);
+    }
+
+    /**
+     * @param {import('./internet.js').Internet} internet
+     * @param {Below} below
+     * @param {number} stream
+     */
+    segment(internet, below, stream) {
         const segment = segmentIn(internet);
-        if (segment.source !== SESSION && segment.destination !== SESSION) return this.other('another port');
-        if (!segment.payload) return [this.leftOut([of.frame.number], 'the file ends inside its TCP header', null)];
-        const { packets, lost } = this.streams.take(internet, segment, of.frame.number);
-        const seen = packets.map((bytes) => this.payload(internet, segment, of, SESSION, bytes));
-        return [...seen, ...lost.map((each) => this.leftOut(each.frames, each.why, each.bytes))];
+        if (!segment.payload) {
+            if (internet.size > TCP_HEADER) this.report.leaveOut(this.report.cut, 'the file ends inside its TCP header');
+            return;
+        }
+        const { source, destination } = this.report.mark;
+        const title = `stream ${stream} from ${internet.source.replace(/^\[|\]$/g, '')} port ${segment.source}`;
+        for (const bytes of this.streams.take({ stream, from: source, to: destination, title, segment })) this.payload(SESSION, below, bytes);
     }
 
     /**
-     * @param {import('./internet.js').Internet} host
-     * @param {{source: number, destination: number}} ports
-     * @param {{frame: import('./frames.js').Frame, mac: string | null, vlan: number | null}} of
+     * The number of a stream: that of its ends, and a new one where both begin anew.
+     *
+     * @param {import('./internet.js').Internet} internet
+     */
+    streamOf(internet) {
+        const { source, destination } = this.report.mark;
+        const ends = source < destination ? `${source} ${destination}` : `${destination} ${source}`;
+        let known = this.numbers.get(ends);
+        const segment = segmentIn(internet);
+        const isAnew = segment.syn && known?.starts.has(source) && known.starts.get(source) !== segment.sequence;
+        if (!known || isAnew) {
+            known = { number: this.streamCount++, starts: new Map() };
+            if (this.numbers.size >= MOST_STREAMS) this.numbers.clear();
+            this.numbers.set(ends, known);
+        }
+        if (segment.syn) known.starts.set(source, segment.sequence);
+        return known.number;
+    }
+
+    streamCount = 0;
+
+    /**
      * @param {137 | 138 | 139} port
+     * @param {Below} below
      * @param {Uint8Array} bytes
-     * @returns {Payload}
      */
-    payload(host, ports, of, port, bytes) {
-        const source = `${host.source}:${ports.source}`;
-        const destination = `${host.destination}:${ports.destination}`;
-        const { frame, mac, vlan } = of;
-        return { kind: 'payload', frame: frame.number, time: frame.time, port, source, destination, mac, vlan, bytes };
-    }
-
-    /**
-     * @param {number[]} frames
-     * @param {string} why
-     * @param {number | null} bytes
-     * @returns {LeftOut}
-     */
-    leftOut(frames, why, bytes) {
-        return { kind: 'left out', frame: frames[0], frames, time: this.now, why, bytes };
+    payload(port, below, bytes) {
+        this.give({ kind: 'payload', port, mark: this.report.mark, mac: below.mac, vlan: below.vlan, bytes });
     }
 
     /**
      * Counts a frame of which nothing is of these ports.
      *
      * @param {string} why
-     * @returns {Seen[]}
      */
     other(why) {
         this.others.set(why, (this.others.get(why) ?? 0) + 1);
-        return [];
     }
+}
+
+/**
+ * Whether what begins so is of these ports; null where that isn't known.
+ *
+ * @param {{protocol: number, payload: Uint8Array}} packet
+ */
+function isOurs(packet) {
+    if (packet.protocol !== UDP && packet.protocol !== TCP) return false;
+    const ports = portsIn(packet.payload);
+    if (!ports) return null;
+    const both = [ports.source, ports.destination];
+    return packet.protocol === TCP ? both.includes(SESSION) : both.includes(NAME) || both.includes(DATAGRAM);
 }

@@ -1,5 +1,6 @@
 /** pcap: a header, and records one after another, in either byte order, in microseconds or nanoseconds. */
 import { FileFault, MOST_FRAME } from './frames.js';
+import { number32 } from './slices.js';
 
 const HEADER = 24;
 const RECORD = 16;
@@ -9,7 +10,7 @@ const NANOSECONDS = 0xa1b23c4d;
 /**
  * Whether a file begins as pcap does.
  *
- * @param {Uint8Array} file
+ * @param {import('./slices.js').Slices} file
  */
 export function isPcap(file) {
     return orderOf(file) !== null;
@@ -18,44 +19,41 @@ export function isPcap(file) {
 /**
  * The frames of a file.
  *
- * @param {Uint8Array} file
+ * @param {import('./slices.js').Slices} file
  * @returns {Generator<import('./frames.js').Frame, void, void>}
  * @throws {FileFault} where a record isn't whole, or its lengths can't be; the frames before it came.
  */
 export function* pcapFrames(file) {
     const order = orderOf(file);
     if (!order) throw new FileFault('no header of pcap', 0);
-    if (file.length < HEADER) throw new FileFault('the header of pcap is cut', file.length);
-    const view = new DataView(file.buffer, file.byteOffset, file.byteLength);
+    if (file.size < HEADER) throw new FileFault('the header of pcap is cut', file.size);
+    const { little, unit } = order;
     // The upper bits say how long a checksum the frames end with.
-    const link = view.getUint32(20, order.little) & 0xffff;
-    for (let at = HEADER, number = 1; at < file.length; number++) {
-        if (at + RECORD > file.length) throw new FileFault('the header of a frame is cut', at);
-        const captured = view.getUint32(at + 8, order.little);
-        const size = view.getUint32(at + 12, order.little);
+    const link = number32(file.bytes(0, HEADER), 20, little) & 0xffff;
+    for (let at = HEADER, number = 1; at < file.size; number++) {
+        if (at + RECORD > file.size) throw new FileFault('the header of a frame is cut', at);
+        const record = file.bytes(at, at + RECORD);
+        const [seconds, rest, captured, size] = [0, 4, 8, 12].map((place) => number32(record, place, little));
         if (captured > MOST_FRAME) throw new FileFault(`a frame of ${captured} bytes`, at);
         const from = at + RECORD;
-        if (from + captured > file.length) throw new FileFault('a frame is cut', from);
-        const seconds = BigInt(view.getUint32(at, order.little));
-        const rest = BigInt(view.getUint32(at + 4, order.little));
-        const time = seconds * 1_000_000_000n + rest * order.unit;
-        yield { number, time, link, bytes: file.subarray(from, from + captured), size: Math.max(size, captured) };
         at = from + captured;
+        if (at > file.size) throw new FileFault('a frame is cut', from);
+        const time = BigInt(seconds) * 1_000_000_000n + BigInt(rest * unit);
+        yield { number, time, link, bytes: file.bytes(from, at), size: Math.max(size, captured), end: at };
     }
 }
 
 /**
  * The byte order, and the nanoseconds of a unit of time; null of another file.
  *
- * @param {Uint8Array} file
+ * @param {import('./slices.js').Slices} file
  */
 function orderOf(file) {
-    if (file.length < 4) return null;
-    const view = new DataView(file.buffer, file.byteOffset, file.byteLength);
+    if (file.size < 4) return null;
     for (const little of [true, false]) {
-        const magic = view.getUint32(0, little);
-        if (magic === MICROSECONDS) return { little, unit: 1_000n };
-        if (magic === NANOSECONDS) return { little, unit: 1n };
+        const magic = number32(file.bytes(0, 4), 0, little);
+        if (magic === MICROSECONDS) return { little, unit: 1_000 };
+        if (magic === NANOSECONDS) return { little, unit: 1 };
     }
     return null;
 }

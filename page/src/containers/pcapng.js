@@ -1,5 +1,6 @@
 /** pcapng: blocks one after another. Sections have their own byte order and interfaces; blocks of other kinds are passed over. */
 import { FileFault, MOST_FRAME } from './frames.js';
+import { number16, number32 } from './slices.js';
 
 const SECTION = 0x0a0d0d0a;
 const INTERFACE = 1;
@@ -28,42 +29,41 @@ const MICROSECOND = { per: 1_000_000n, seconds: 0n };
 /**
  * Whether a file begins as pcapng does.
  *
- * @param {Uint8Array} file
+ * @param {import('./slices.js').Slices} file
  */
 export function isPcapng(file) {
-    return file.length >= 4 && file[0] === 0x0a && file[1] === 0x0d && file[2] === 0x0d && file[3] === 0x0a;
+    return file.size >= 4 && number32(file.bytes(0, 4), 0, false) === SECTION;
 }
 
 /**
  * The frames of a file.
  *
- * @param {Uint8Array} file
+ * @param {import('./slices.js').Slices} file
  * @returns {Generator<import('./frames.js').Frame, void, void>}
  * @throws {FileFault} where a block isn't whole, or what it says can't be; the frames before it came.
  */
 export function* pcapngFrames(file) {
-    const view = new DataView(file.buffer, file.byteOffset, file.byteLength);
     let little = true;
     /** @type {Interface[]} */
     let interfaces = [];
     let number = 0;
-    for (let at = 0; at < file.length;) {
-        if (at + LEAST > file.length) throw new FileFault('a block is cut', at);
+    for (let at = 0; at < file.size;) {
+        if (at + LEAST > file.size) throw new FileFault('a block is cut', at);
+        const head = file.bytes(at, at + LEAST);
         // The type of a section's block reads the same in both orders.
-        const isSection = view.getUint32(at, true) === SECTION;
-        if (isSection) {
-            little = orderOf(view, at);
+        if (number32(head, 0, true) === SECTION) {
+            little = orderOf(head, at);
             interfaces = [];
         }
-        const size = sizeOf(view, at, little);
+        const size = sizeOf(file, at, number32(head, 4, little));
+        const type = number32(head, 0, little);
         const body = new Body(file, at, size, little);
-        const type = view.getUint32(at, little);
         if (type === INTERFACE) {
             if (interfaces.length === MOST_INTERFACES) throw new FileFault(`more than ${MOST_INTERFACES} interfaces`, at);
             interfaces.push(interfaceOf(body));
         } else if (type === PACKET || type === SIMPLE_PACKET || type === OLD_PACKET) {
             number += 1;
-            yield frameOf(type, body, interfaces, number);
+            yield { ...frameOf(type, body, interfaces), number, end: at + size };
         }
         at += size;
     }
@@ -72,7 +72,7 @@ export function* pcapngFrames(file) {
 /** What a block has between its lengths. */
 class Body {
     /**
-     * @param {Uint8Array} file
+     * @param {import('./slices.js').Slices} file
      * @param {number} at where the block begins
      * @param {number} size
      * @param {boolean} little
@@ -80,20 +80,21 @@ class Body {
     constructor(file, at, size, little) {
         this.at = at;
         this.little = little;
-        this.bytes = file.subarray(at + 8, at + size - 4);
-        this.view = new DataView(this.bytes.buffer, this.bytes.byteOffset, this.bytes.byteLength);
+        const block = file.bytes(at, at + size);
+        if (number32(block, size - 4, little) !== size) throw new FileFault('a block with two lengths', at + size - 4);
+        this.bytes = block.subarray(8, size - 4);
     }
 
     /** @param {number} place */
     number32(place) {
         if (place + 4 > this.bytes.length) throw new FileFault('a block is too short', this.at);
-        return this.view.getUint32(place, this.little);
+        return number32(this.bytes, place, this.little);
     }
 
     /** @param {number} place */
     number16(place) {
         if (place + 2 > this.bytes.length) throw new FileFault('a block is too short', this.at);
-        return this.view.getUint16(place, this.little);
+        return number16(this.bytes, place, this.little);
     }
 
     /**
@@ -115,27 +116,25 @@ class Body {
 }
 
 /**
- * @param {DataView} view
+ * @param {Uint8Array} head
  * @param {number} at
  */
-function orderOf(view, at) {
-    if (view.getUint32(at + 8, true) === ORDER) return true;
-    if (view.getUint32(at + 8, false) === ORDER) return false;
+function orderOf(head, at) {
+    if (number32(head, 8, true) === ORDER) return true;
+    if (number32(head, 8, false) === ORDER) return false;
     throw new FileFault('a section of no byte order', at + 8);
 }
 
 /**
- * How many bytes a block has.
+ * How many bytes a block has, by what it says.
  *
- * @param {DataView} view
+ * @param {import('./slices.js').Slices} file
  * @param {number} at
- * @param {boolean} little
+ * @param {number} size
  */
-function sizeOf(view, at, little) {
-    const size = view.getUint32(at + 4, little);
+function sizeOf(file, at, size) {
     if (size < LEAST || size % 4 !== 0 || size > MOST_BLOCK) throw new FileFault(`a block of ${size} bytes`, at + 4);
-    if (at + size > view.byteLength) throw new FileFault('a block is cut', at);
-    if (view.getUint32(at + size - 4, little) !== size) throw new FileFault('a block with two lengths', at + size - 4);
+    if (at + size > file.size) throw new FileFault('a block is cut', at);
     return size;
 }
 
@@ -167,23 +166,21 @@ function unitsOf(value) {
  * @param {number} type
  * @param {Body} body
  * @param {Interface[]} interfaces
- * @param {number} number
- * @returns {import('./frames.js').Frame}
  */
-function frameOf(type, body, interfaces, number) {
+function frameOf(type, body, interfaces) {
     const which = type === PACKET ? body.number32(0) : type === OLD_PACKET ? body.number16(0) : 0;
     const face = interfaces[which];
     if (!face) throw new FileFault(`a frame of interface ${which}, which the section lacks`, body.at);
     if (type === SIMPLE_PACKET) {
         const size = body.number32(0);
         const captured = Math.min(size, face.snap || size, body.bytes.length - 4);
-        return { number, time: 0n, link: face.link, bytes: body.bytes.subarray(4, 4 + captured), size };
+        return { time: null, link: face.link, bytes: body.bytes.subarray(4, 4 + captured), size };
     }
     const units = (BigInt(body.number32(4)) << 32n) | BigInt(body.number32(8));
     const captured = body.number32(12);
     const size = body.number32(16);
     if (captured > MOST_FRAME) throw new FileFault(`a frame of ${captured} bytes`, body.at);
     if (20 + captured > body.bytes.length) throw new FileFault('a frame is longer than its block', body.at);
-    const time = face.clock.seconds * 1_000_000_000n + (units * 1_000_000_000n) / face.clock.per;
-    return { number, time, link: face.link, bytes: body.bytes.subarray(20, 20 + captured), size: Math.max(size, captured) };
+    const time = BigInt.asIntN(64, face.clock.seconds * 1_000_000_000n + (units * 1_000_000_000n) / face.clock.per);
+    return { time, link: face.link, bytes: body.bytes.subarray(20, 20 + captured), size: Math.max(size, captured) };
 }

@@ -3,8 +3,8 @@ import { word } from './link.js';
 
 export const UDP = 17;
 export const TCP = 6;
-const UDP_HEADER = 8;
-const TCP_HEADER = 20;
+export const UDP_HEADER = 8;
+export const TCP_HEADER = 20;
 
 /**
  * A datagram. `payload` is what the file has of its bytes, of which there were `size`; it is null where the header isn't whole.
@@ -50,7 +50,7 @@ export function datagramIn(packet) {
     const ports = { source: word(bytes, 0), destination: word(bytes, 2) };
     if (bytes.length < 6) return { ...ports, payload: null, size: 0 };
     const size = word(bytes, 4) - UDP_HEADER;
-    return { ...ports, payload: size < 0 ? null : bytes.subarray(UDP_HEADER, UDP_HEADER + size), size };
+    return { ...ports, payload: bytes.subarray(UDP_HEADER, Math.max(UDP_HEADER, UDP_HEADER + size)), size };
 }
 
 /**

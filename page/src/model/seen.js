@@ -45,9 +45,9 @@ export class Seen {
         this.queries.take(service, ends);
     }
 
-    /** @param {import('../containers/payloads.js').LeftOut} item */
+    /** @param {import('../containers/report.js').LeftOut} item */
     leave(item) {
-        count(this.leftOut, item.why, item.frame);
+        count(this.leftOut, item.why, item.mark.frame);
     }
 }
 

@@ -50,7 +50,10 @@ export class PayloadReader {
         this.streams = new Streams(this.report);
         this.frames = 0;
         this.ours = 0;
-        /** Frames that are of none of these ports, by why. @type {Map<string, number>} */
+        /**
+         * Frames that are of none of these ports, by why.
+         * @type {Map<string, number>}
+         */
         this.others = new Map();
         /** @type {bigint | null} */
         this.now = null;

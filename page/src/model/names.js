@@ -11,18 +11,23 @@ const KINDS = new Map(Object.entries({
 }));
 const ENDED = ['released', 'refused'];
 const SECOND = 1_000_000_000n;
+/** How many claims of a name are looked at for conflicts. */
 const MOST_HOLDERS = 16;
 
 /**
- * That an address has a name: as a group or not, how that is known, since when and until when.
+ * That an address has a name: by whom, as a group or not, how that is known, since when and until when.
  *
  * @typedef {object} Claim
  * @property {string} name
  * @property {string} address
+ * @property {string} source
  * @property {boolean} group
  * @property {string} how
- * @property {bigint} since
+ * @property {bigint | null} since
  * @property {bigint | null} until null where it has no end
+ * @property {number} refusals
+ *
+ * Of a name: its conflicts, and the refusals that are told to others than those who claim it.
  *
  * @typedef {{conflicts: number, refusals: number}} Faults
  */
@@ -38,14 +43,14 @@ export function kindOf(name, group) {
     return group ? shared || unique : unique || shared;
 }
 
-/** The claims of names. */
+/** The claims of names, and what became of them. */
 export class Names {
     constructor() {
         /** @type {Room<Claim>} by name and address */
         this.claims = new Room();
         /** @type {Room<Faults>} by name */
         this.faults = new Room();
-        /** @type {Room<Set<string>>} who claimed a name for a single station, by name */
+        /** @type {Room<Map<string, Claim>>} the first claims of each name, by address */
         this.holders = new Room();
     }
 
@@ -56,10 +61,7 @@ export class Names {
     take(service, ends) {
         const name = subject(service);
         if (isResponse(service)) return this.answered(service, ends, name);
-        if (isClaim(service)) {
-            this.claimed(service, ends.time, 'claims');
-            return this.contested(service, ends, name);
-        }
+        if (isClaim(service)) return this.claimed(service, ends, 'claims');
         if (service.op !== 'release') return;
         for (const { address } of entriesOf(service)) {
             const claim = this.claims.entries.get(`${name} ${address}`);
@@ -74,66 +76,57 @@ export class Names {
      */
     answered(service, ends, name) {
         if (service.rcode === 'ok') {
-            if (service.op === 'query') this.claimed(service, ends.time, 'is said to be');
+            if (service.op === 'query') this.claimed(service, ends, 'is said to be');
             return;
         }
         const isConflict = service.rcode === 'CFT_ERR';
         if (service.op === 'query' && !isConflict) return;
+        const claim = this.claims.entries.get(`${name} ${ends.destination}`);
+        if (claim && !isConflict) {
+            claim.how = 'refused';
+            claim.refusals += 1;
+            return;
+        }
         this.count(name, isConflict ? 'conflicts' : 'refusals');
-        const claim = this.claims.entries.get(`${name} ${hostOf(ends.destination)}`);
-        if (claim && service.op !== 'query' && !isConflict) claim.how = 'refused';
     }
 
     /**
      * Takes the addresses of each record.
      *
      * @param {import('./objects.js').Service} service
-     * @param {bigint} time
+     * @param {import('./seen.js').Ends} ends
      * @param {string} how
      */
-    claimed(service, time, how) {
+    claimed(service, ends, how) {
+        const { time, source } = ends;
         for (const record of [...service.answers, ...service.additional]) {
             for (const entry of record.entries ?? []) {
                 const { name } = record;
                 const { address } = entry;
-                const until = record.ttl ? time + BigInt(record.ttl) * SECOND : null;
-                const claim = this.claims.get(`${name} ${address}`, () => ({ name, address, group: false, how, since: time, until }));
+                const made = { name, address, source, group: isGroup(entry), how, since: time, until: null, refusals: 0 };
+                const claim = this.claims.get(`${name} ${address}`, () => made);
                 if (!claim) continue;
+                if (how === 'claims') this.contest(claim, source, isGroup(entry));
                 if (how === 'claims' || ENDED.includes(claim.how)) claim.how = how;
-                Object.assign(claim, { group: isGroup(entry), until });
+                claim.group = isGroup(entry);
+                claim.until = record.ttl && time !== null ? time + BigInt(record.ttl) * SECOND : null;
             }
         }
     }
 
     /**
-     * Counts a claim of a unique name that another station claims.
+     * Counts a claim of a unique name that another station claims, once for each of them.
      *
-     * @param {import('./objects.js').Service} service
-     * @param {import('./seen.js').Ends} ends
-     * @param {string} name
+     * @param {Claim} claim
+     * @param {string} source
+     * @param {boolean} group
      */
-    contested(service, ends, name) {
-        const entries = entriesOf(service);
-        if (entries.some(isGroup)) return;
-        const host = hostOf(ends.source);
-        const holders = this.holders.get(name, () => new Set([host]));
-        if (!holders || holders.has(host) || holders.size >= MOST_HOLDERS) return;
-        const own = entries.map((entry) => entry.address);
-        if (this.isHeldByAnother(name, own)) this.count(name, 'conflicts');
-        holders.add(host);
-    }
-
-    /**
-     * Whether the claim of another address stands.
-     *
-     * @param {string} name
-     * @param {string[]} own
-     */
-    isHeldByAnother(name, own) {
-        for (const claim of this.claims.entries.values()) {
-            if (claim.name === name && !own.includes(claim.address) && !ENDED.includes(claim.how)) return true;
-        }
-        return false;
+    contest(claim, source, group) {
+        const holders = this.holders.get(claim.name, () => new Map());
+        if (!holders || holders.has(claim.address) || holders.size >= MOST_HOLDERS) return;
+        const isContested = [...holders.values()].some((other) => other.source !== source && !ENDED.includes(other.how));
+        holders.set(claim.address, claim);
+        if (isContested && !group) this.count(claim.name, 'conflicts');
     }
 
     /**
@@ -145,30 +138,25 @@ export class Names {
         if (faults) faults[what] += 1;
     }
 
-    /** A row for each claim, and for each name that has only faults, by name and address. */
+    /** A row for each claim, and for each name that nobody claims, by name and address. */
     rows() {
-        const claims = Array.from(this.claims.entries.values(), (claim) =>
-            ({ ...claim, kind: kindOf(claim.name, claim.group), ...(this.faults.entries.get(claim.name) ?? { conflicts: 0, refusals: 0 }) }));
+        const claims = Array.from(this.claims.entries.values(), ({ source, ...claim }) =>
+            ({ ...claim, kind: kindOf(claim.name, claim.group), conflicts: this.faults.entries.get(claim.name)?.conflicts ?? 0 }));
         const claimed = new Set(claims.map((claim) => claim.name));
-        const unclaimed = Array.from(this.faults.entries).filter(([name]) => !claimed.has(name)).map(([name, faults]) =>
+        const others = Array.from(this.faults.entries).filter(([name, { refusals }]) => refusals || !claimed.has(name)).map(([name, faults]) =>
             ({ name, address: '', group: false, how: 'nobody', since: null, until: null, kind: kindOf(name, false), ...faults }));
-        return [...claims, ...unclaimed].sort((one, other) => compare(one.name, other.name) || compare(one.address, other.address));
+        return [...claims, ...others].sort((one, other) => compare(one.name, other.name) || compare(one.address, other.address));
     }
-}
 
-/**
- * The address of an end, without its port.
- *
- * @param {string} end
- */
-export function hostOf(end) {
-    return end.slice(0, end.lastIndexOf(':'));
+    get others() {
+        return this.claims.others + this.faults.others;
+    }
 }
 
 /**
  * @param {string} one
  * @param {string} other
  */
-function compare(one, other) {
+export function compare(one, other) {
     return Number(one > other) - Number(one < other);
 }

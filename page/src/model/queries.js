@@ -1,5 +1,5 @@
 /** Queries, and requests for a node's status, that nobody answers. */
-import { hostOf } from './names.js';
+import { compare } from './names.js';
 import { asksStatus, isResponse, subject } from './objects.js';
 import { Room } from './room.js';
 
@@ -13,7 +13,7 @@ const MOST_WAITING = 4_096;
  * @property {string} by
  * @property {number} times
  * @property {number} frame the first of them
- * @property {bigint} since
+ * @property {bigint | null} since
  */
 
 /** The queries that wait, by sender, name and identifier; and those without an answer, by name and sender. */
@@ -30,13 +30,13 @@ export class Queries {
      * @param {import('./seen.js').Ends} ends
      */
     take(service, ends) {
-        if (service.op !== 'query') return;
+        if (service.op !== 'query' && service.op !== 'wack') return;
         const name = subject(service);
         if (isResponse(service)) {
-            this.waiting.delete(`${hostOf(ends.destination)} ${service.id} ${name}`);
+            if (service.op === 'query') this.waiting.delete(`${ends.destination} ${service.id} ${name}`);
             return;
         }
-        const by = hostOf(ends.source);
+        const by = ends.source;
         const key = `${by} ${service.id} ${name}`;
         /** @type {Query} */
         const made = { name, kind: asksStatus(service) ? 'status' : 'query', by, times: 0, frame: ends.frame, since: ends.time };
@@ -60,6 +60,7 @@ export class Queries {
     rows() {
         const all = new Queries();
         for (const query of [...this.room.entries.values(), ...this.waiting.values()]) all.unanswered(query);
-        return Array.from(all.room.entries.values());
+        return Array.from(all.room.entries.values()).sort((one, other) =>
+            compare(one.name, other.name) || compare(one.kind, other.kind) || compare(one.by, other.by));
     }
 }

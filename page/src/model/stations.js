@@ -1,5 +1,5 @@
 /** The stations: who sends packets, and what they are called. */
-import { hostOf } from './names.js';
+import { compare } from './names.js';
 import { entriesOf, isClaim, isResponse, serviceOf, subject } from './objects.js';
 import { Room } from './room.js';
 
@@ -28,7 +28,7 @@ export class Stations {
      * @param {import('./seen.js').Ends} ends
      */
     take(told, ends) {
-        const sender = this.station(hostOf(ends.source));
+        const sender = this.station(ends.source);
         if (sender) {
             sender.packets += 1;
             sender.mac = ends.mac ?? sender.mac;
@@ -36,8 +36,8 @@ export class Stations {
         const service = serviceOf(told);
         if (service) return this.service(service, sender);
         if (told.source !== undefined && told.key !== undefined) this.named(told.key.split(':')[0], told.source);
-        if (told.calling !== undefined) this.named(hostOf(ends.source), told.calling);
-        if (told.called !== undefined) this.named(hostOf(ends.destination), told.called);
+        if (told.calling !== undefined) this.named(ends.source, told.calling);
+        if (told.called !== undefined) this.named(ends.destination, told.called);
     }
 
     /**
@@ -71,6 +71,6 @@ export class Stations {
     }
 
     rows() {
-        return Array.from(this.room.entries.values()).sort((one, other) => other.packets - one.packets);
+        return Array.from(this.room.entries.values()).sort((one, other) => compare(one.address, other.address));
     }
 }

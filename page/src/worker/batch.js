@@ -1,5 +1,5 @@
 /** Rows on their way to the page. */
-import { Texts } from './columns.js';
+import { Texts } from '../model/columns.js';
 import { NO_TIME } from './packets.js';
 
 /**

@@ -3,7 +3,7 @@ import { bytesOf, digitsOf } from '../containers/digits.js';
 import { linesOf } from '../containers/lines.js';
 import { LEFT_OUT } from './packets.js';
 import { slicesOf } from './reading.js';
-import { momentOf, utc } from './times.js';
+import { momentOf, utc } from '../model/times.js';
 
 const TIMER = 2_000;
 

@@ -5,7 +5,7 @@ import { outOf } from './out.js';
 import { Reading } from './reading.js';
 import { compared, handedTo, listed, tableOf } from './tables.js';
 import { Tap } from './tap.js';
-import { utc } from './times.js';
+import { utc } from '../model/times.js';
 
 /** How many bytes the module's memory may have. */
 const LIMIT = 192 << 20;

@@ -24,3 +24,16 @@ export function utc(time) {
 export function momentOf(time, first) {
     return time > first ? Number((time - first) / MILLISECOND) : 0;
 }
+
+/**
+ * A span in seconds, as nbt-look writes it; before the first frame it is negative.
+ *
+ * @param {bigint | null} time
+ * @param {bigint | null} first
+ */
+export function since(time, first) {
+    if (time === null) return '-';
+    const span = time - (first ?? 0n);
+    const whole = span < 0n ? -span : span;
+    return `${span < 0n ? '-' : ''}${whole / SECOND}.${String((whole % SECOND) / 1000n).padStart(6, '0')}`;
+}

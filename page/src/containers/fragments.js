@@ -62,6 +62,7 @@ export class Fragments {
             return null;
         }
         this.forget(fragment.key, entry);
+        if (entry.parts.some((part) => part.offset + part.bytes.length > payload.length)) entry.why ??= DIFFER;
         if (entry.last - entry.first > TIMER) entry.why ??= 'its fragments lie more than 60 s apart';
         return { packet: { ...packet, protocol: entry.protocol, payload, size: payload.length, fragment: null }, why: entry.why };
     }

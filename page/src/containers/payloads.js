@@ -72,8 +72,11 @@ export class PayloadReader {
         const internet = internetIn(frame.bytes.subarray(below.at));
         if (!internet) return this.other('cut');
         [mark.source, mark.destination] = [internet.source, internet.destination];
-        if (!internet.fragment) return this.packet(internet, below, null);
-        const joined = this.fragments.take(internet, internet.fragment, this.now ?? 0n);
+        const { fragment } = internet;
+        // The first fragment of IPv4 that is cut is read by itself: its headers are there.
+        const isAlone = fragment && fragment.offset === 0 && internet.payload.length < internet.size && !internet.source.startsWith('[');
+        if (!fragment || isAlone) return this.packet(internet, below, null);
+        const joined = this.fragments.take(internet, fragment, this.now ?? 0n);
         if (joined) this.packet(joined.packet, below, joined.why);
     }
 
@@ -92,7 +95,7 @@ export class PayloadReader {
         if (internet.protocol !== UDP && internet.protocol !== TCP) return this.other('another protocol');
         const ports = portsIn(internet.payload);
         if (!ports) {
-            if (internet.size) this.report.leaveOut(this.report.cut, 'the file ends before its ports');
+            if (internet.protocol === UDP || internet.size > TCP_HEADER) this.report.leaveOut(this.report.cut, 'the file ends before its ports');
             return;
         }
         this.report.mark.source = `${internet.source}:${ports.source}`;
@@ -138,7 +141,7 @@ export class PayloadReader {
     }
 
     /**
-     * The number of a stream: that of its ends, and a new one where both begin anew.
+     * The number of a stream: that of its ends, and a new one where they begin anew.
      *
      * @param {import('./internet.js').Internet} internet
      */
@@ -147,7 +150,8 @@ export class PayloadReader {
         const ends = source < destination ? `${source} ${destination}` : `${destination} ${source}`;
         let known = this.numbers.get(ends);
         const segment = segmentIn(internet);
-        const isAnew = segment.syn && known?.starts.has(source) && known.starts.get(source) !== segment.sequence;
+        if (!segment.payload) return 0;
+        const isAnew = segment.syn && !segment.ack && known?.starts.has(source) && known.starts.get(source) !== segment.sequence;
         if (!known || isAnew) {
             known = { number: this.streamCount++, starts: new Map() };
             if (this.numbers.size >= MOST_STREAMS) this.numbers.clear();

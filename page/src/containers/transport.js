@@ -5,6 +5,8 @@ export const UDP = 17;
 export const TCP = 6;
 export const UDP_HEADER = 8;
 export const TCP_HEADER = 20;
+/** How much of a header of TCP has to be there: up to its checksum. */
+const LEAST_OF_TCP = 16;
 
 /**
  * A datagram. `payload` is what the file has of its bytes, of which there were `size`; it is null where the header isn't whole.
@@ -26,6 +28,7 @@ export const TCP_HEADER = 20;
  * @property {boolean} syn
  * @property {boolean} fin
  * @property {boolean} rst
+ * @property {boolean} ack
  * @property {Uint8Array | null} payload
  * @property {number} size
  */
@@ -63,12 +66,12 @@ export function segmentIn(packet) {
     const bytes = packet.payload;
     const ports = { source: word(bytes, 0), destination: word(bytes, 2) };
     const header = bytes.length > 12 ? (bytes[12] >> 4) * 4 : TCP_HEADER;
-    if (bytes.length < TCP_HEADER || header < TCP_HEADER) {
-        return { ...ports, sequence: 0, syn: false, fin: false, rst: false, payload: null, size: packet.size };
+    if (bytes.length < LEAST_OF_TCP || header < TCP_HEADER) {
+        return { ...ports, sequence: 0, syn: false, fin: false, rst: false, ack: false, payload: null, size: packet.size };
     }
     const flags = bytes[13];
     const sequence = word(bytes, 4) * 0x10000 + word(bytes, 6);
-    const [fin, syn, rst] = [1, 2, 4].map((flag) => (flags & flag) !== 0);
+    const [fin, syn, rst, ack] = [1, 2, 4, 16].map((flag) => (flags & flag) !== 0);
     const payload = bytes.subarray(Math.min(header, bytes.length));
-    return { ...ports, sequence, syn, fin, rst, payload, size: Math.max(0, packet.size - header) };
+    return { ...ports, sequence, syn, fin, rst, ack, payload, size: Math.max(0, packet.size - header) };
 }

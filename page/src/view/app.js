@@ -2,7 +2,7 @@
 import { hashOf, placeOf } from './address.js';
 import { Advice } from './advice.js';
 import { Desk } from './desk.js';
-import { byId, counted, element, say } from './dom.js';
+import { byId, counted, element, number, say } from './dom.js';
 import { NamesView } from './names.js';
 import { OutView } from './out.js';
 import { PacketPanel } from './packet.js';
@@ -220,12 +220,12 @@ export class App {
         document.title = names.length ? `${names.join(' and ')} · nbt` : 'nbt';
         const counts = byId('counts', HTMLElement);
         const { tap } = this;
-        const parts = tap && tap.kind !== 'table' ? [[tap.counts.packets, 'packets'], [tap.counts.names, 'names'], [tap.counts.refused, 'refused'],
-            [tap.counts.leftOut, 'left out']] : [];
-        const text = parts.map(([count, word]) => `${count} ${word}`).join(' · ');
+        const parts = tap && tap.kind !== 'table' ? [[tap.counts.packets, tap.counts.packets === 1 ? 'packet' : 'packets'],
+            [tap.counts.names, tap.counts.names === 1 ? 'name' : 'names'], [tap.counts.refused, 'refused'], [tap.counts.leftOut, 'left out']] : [];
+        const text = parts.map(([count, word]) => `${number(Number(count))} ${word}`).join(' · ');
         if (counts.textContent !== text) {
             counts.replaceChildren(...parts.flatMap(([count, word], at) => [at ? ' · ' : '',
-                element('b', { class: count && at > 1 ? 'bad' : null }, String(count)), ` ${word}`]));
+                element('b', { class: count && at > 1 ? 'bad' : null }, number(Number(count))), ` ${word}`]));
         }
         this.choice();
     }

@@ -7,7 +7,7 @@
  * @property {number} tap
  * @property {number} done how many bytes are read
  * @property {number} size
- * @property {import('../worker/packets.js').Rows} rows
+ * @property {import('../model/packets.js').Rows} rows
  * @property {Counts} counts
  *
  * @typedef {{frames: number, packets: number, refused: number, leftOut: number, names: number}} Counts

@@ -1,5 +1,5 @@
 /** A table of any number of rows, of which those are in the page that are in sight. */
-import { element, say } from './dom.js';
+import { element } from './dom.js';
 
 const HEIGHT = 24;
 /** No engine lets an element be as high as millions of rows: past this the place of the bar stands for a part of them. */
@@ -108,7 +108,7 @@ export class Grid {
         element.className = `row ${kind}${isSelected ? ' selected' : ''}`;
         element.setAttribute('aria-rowindex', String(at + 2));
         element.setAttribute('aria-selected', String(isSelected));
-        for (const [place, text] of cells.entries()) say(element.children[place], text);
+        for (const [place, text] of cells.entries()) name(element.children[place], text);
     }
 
     /** @param {MouseEvent} event */
@@ -156,4 +156,19 @@ export class Grid {
         }
         this.draw();
     }
+}
+
+/** A name as the library writes it: FRED<20>, FRED<20>.NETBIOS.COM. */
+const NAME = /([^\s,:<>]+<[0-9a-f]{2}>(?:\.[^\s,:]+)?)/;
+
+/**
+ * Sets the text of a cell where it differs, with the names in it in bold.
+ *
+ * @param {Element} cell
+ * @param {string} text
+ */
+function name(cell, text) {
+    if (cell.textContent === text) return;
+    if (!text.includes('<')) cell.textContent = text;
+    else cell.replaceChildren(...text.split(NAME).map((part, at) => (at % 2 ? element('b', {}, part) : part)));
 }

@@ -11,7 +11,7 @@ const MOST_DIGITS = 128;
 /**
  * A packet as the worker answers it.
  *
- * @typedef {import('../worker/packets.js').Kept & {utc: string, said: string, told: Record<string, unknown> | null}} Shown
+ * @typedef {import('../model/packets.js').Kept & {utc: string, said: string, told: Record<string, unknown> | null}} Shown
  */
 
 export class PacketPanel {

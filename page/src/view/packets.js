@@ -1,5 +1,5 @@
 /** The packets' view: a table, a filter with counts, and all of the selected packet. */
-import { NO_TIME } from '../worker/packets.js';
+import { NO_TIME } from '../model/packets.js';
 import { since } from '../model/times.js';
 import { byId, counted, element, number, say } from './dom.js';
 import { Filter } from './filter.js';
@@ -25,6 +25,7 @@ export class PacketsView {
         this.rows = null;
         this.selected = -1;
         this.words.addEventListener('input', () => this.refilter());
+        this.words.form?.addEventListener('submit', (event) => event.preventDefault());
         this.words.addEventListener('keydown', (event) => this.key(event));
         for (const each of Object.values(this.selects)) each.addEventListener('change', () => this.refilter());
         addEventListener('beforeprint', () => this.print());

@@ -36,7 +36,7 @@ export class Rows {
         return this.frame.length;
     }
 
-    /** @param {import('../worker/packets.js').Rows} batch */
+    /** @param {import('../model/packets.js').Rows} batch */
     add(batch) {
         this.texts.push(...batch.texts);
         const said = batch.frame.length ? batch.said.split('\n') : [];

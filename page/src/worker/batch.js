@@ -1,6 +1,6 @@
 /** Rows on their way to the page. */
 import { Texts } from '../model/columns.js';
-import { NO_TIME } from './packets.js';
+import { NO_TIME } from '../model/packets.js';
 
 /**
  * A row: where a packet comes from and goes to, what it says, and the words by which it is filtered.
@@ -33,7 +33,7 @@ export class Batch {
     /**
      * The rows since the last time.
      *
-     * @returns {import('./packets.js').Rows}
+     * @returns {import('../model/packets.js').Rows}
      */
     take() {
         const { rows, texts } = this;

@@ -1,6 +1,6 @@
 /** The worker: holds the library and the files, and answers what the page asks. */
 import { load } from '../../../bindings/javascript/nbt.mjs';
-import { LEFT_OUT } from './packets.js';
+import { LEFT_OUT } from '../model/packets.js';
 import { outOf } from './out.js';
 import { Reading } from './reading.js';
 import { compared, handedTo, listed, tableOf } from './tables.js';

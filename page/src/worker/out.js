@@ -1,6 +1,6 @@
 /** What is given out of a file: each is byte for byte what the program prints. */
 import { digitsOf } from '../containers/digits.js';
-import { captureOf, commentOf, textOf } from './capture.js';
+import { commentOf, textOf } from '../model/capture.js';
 import { pause } from './reading.js';
 import { tableOf } from './tables.js';
 
@@ -21,7 +21,7 @@ export async function outOf(tap, form) {
 
 /** @param {import('./tap.js').Tap} tap */
 function* lines(tap) {
-    for (const line of captureOf(tap)) yield textOf(line);
+    for (const line of tap.capture()) yield textOf(line);
 }
 
 /**
@@ -32,7 +32,7 @@ function* lines(tap) {
 function* objects(tap) {
     let number = 0;
     let comment = '';
-    for (const line of captureOf(tap)) {
+    for (const line of tap.capture()) {
         number += 1;
         if (line.kind === 'payload') {
             yield `{"line":${number},"port":${line.port},"moment":${line.moment},${comment}${tap.library.json(line.port, line.bytes).slice(1)}`;

@@ -2,19 +2,13 @@
 import { FileFault } from '../containers/frames.js';
 import { linesOf, payloadsIn } from '../containers/lines.js';
 import { PayloadReader, framesOf } from '../containers/payloads.js';
-import { Slices } from '../containers/slices.js';
+import { slicesOf } from './file.js';
 import { kindOf, tablesOf } from './kinds.js';
 
 /** How long the worker reads before it looks whether something is wanted of it, in milliseconds. */
 const WHILE = 24;
 const MOST_TABLE = 64 << 20;
 const FULL = 'more than the page keeps: what follows is left out; nbt-look reads all of it';
-
-/** @param {Blob} file */
-export function slicesOf(file) {
-    const reader = new FileReaderSync();
-    return new Slices(file.size, (from, to) => new Uint8Array(reader.readAsArrayBuffer(file.slice(from, to))));
-}
 
 /** Lets the messages be handled that have come. */
 const channel = new MessageChannel();
@@ -55,7 +49,7 @@ export class Reading {
         return this.isStopped ? `stopped after frame ${this.tap.frames}` : null;
     }
 
-    /** @param {Slices} file */
+    /** @param {import('../containers/slices.js').Slices} file */
     async frames(file) {
         const { tap } = this;
         tap.kind = 'frames';
@@ -72,7 +66,7 @@ export class Reading {
         if (!tap.frames) throw new FileFault('the file has no frame', file.size);
     }
 
-    /** @param {Slices} file */
+    /** @param {import('../containers/slices.js').Slices} file */
     async lines(file) {
         const { tap } = this;
         tap.kind = 'lines';
@@ -85,7 +79,7 @@ export class Reading {
     }
 
     /**
-     * @param {Slices} file
+     * @param {import('../containers/slices.js').Slices} file
      * @param {boolean} isBinary
      */
     tables(file, isBinary) {

@@ -1,6 +1,5 @@
 /** Datagrams put together, by the library: the table of a file, what it lists, and what a station with chosen names is handed. */
 import { digitsOf } from '../containers/digits.js';
-import { captureOf } from './capture.js';
 import { pause } from './reading.js';
 
 const KEYS = 65_535;
@@ -32,7 +31,7 @@ export async function tableOf(tap) {
     const station = new tap.library.Station([], '0.0.0.0', { keys: KEYS });
     let count = 0;
     try {
-        for (const line of captureOf(tap)) {
+        for (const line of tap.capture()) {
             if (line.kind !== 'payload' || line.port !== DATAGRAMS) continue;
             pass(() => station.take(0, line.bytes));
             count += 1;
@@ -75,7 +74,7 @@ export async function handedTo(tap, names) {
     const handed = [];
     let [count, more] = [0, 0];
     try {
-        for (const line of captureOf(tap)) {
+        for (const line of tap.capture()) {
             if (line.kind === 'tick') station.tick(BigInt(line.moment));
             if (line.kind !== 'payload' || line.port !== DATAGRAMS) continue;
             const delivery = pass(() => station.take(BigInt(line.moment), line.bytes))?.delivery;

@@ -1,9 +1,11 @@
 /** What is known of one file. */
 import { hostOf, portOf, shown } from '../containers/ends.js';
+import { made, written } from '../model/capture.js';
 import { Seen, withoutPlace } from '../model/seen.js';
 import { kindsOf } from '../model/objects.js';
 import { Batch } from './batch.js';
-import { LEFT_OUT, Packets } from './packets.js';
+import { slicesOf } from './file.js';
+import { LEFT_OUT, Packets } from '../model/packets.js';
 
 const SERVICES = ['137', '138', '139'];
 
@@ -82,6 +84,11 @@ export class Tap {
         const { frame, time } = mark;
         const ends = { source: shown(mark.source, own), destination: shown(mark.destination, own), sender: hostOf(mark.source) };
         this.batch.add({ frame, time, port, kinds, reason, said, ...ends });
+    }
+
+    /** The lines of the capture that the file gives, or that it is. */
+    capture() {
+        return this.kind === 'lines' ? written(slicesOf(this.file)) : made(this);
     }
 
     /** What is counted. */

@@ -1,5 +1,5 @@
 /** The packets of a file, and the frames that are left out, in the order in which it is known what becomes of them. */
-import { Blocks, Column, Texts } from '../model/columns.js';
+import { Blocks, Column, Texts } from './columns.js';
 
 /** Stands for no time. */
 export const NO_TIME = -(2n ** 63n);

@@ -2,7 +2,6 @@
 import { bytesOf, digitsOf } from '../containers/digits.js';
 import { linesOf } from '../containers/lines.js';
 import { LEFT_OUT } from './packets.js';
-import { slicesOf } from './reading.js';
 import { momentOf, utc } from '../model/times.js';
 
 const TIMER = 2_000;
@@ -15,22 +14,14 @@ const TIMER = 2_000;
  */
 
 /**
- * @param {import('./tap.js').Tap} tap
- * @returns {Generator<CaptureLine, void, void>}
- */
-export function captureOf(tap) {
-    return tap.kind === 'lines' ? written(tap) : made(tap);
-}
-
-/**
  * The lines of a file that is a capture.
  *
- * @param {import('./tap.js').Tap} tap
+ * @param {import('../containers/slices.js').Slices} file
  * @returns {Generator<CaptureLine, void, void>}
  */
-function* written(tap) {
+export function* written(file) {
     try {
-        for (const line of linesOf(slicesOf(tap.file))) {
+        for (const line of linesOf(file)) {
             if (line.kind !== 'payload') yield line;
             else yield { kind: 'payload', port: line.port, moment: line.moment, bytes: bytesOf(line.digits), row: null };
         }
@@ -42,10 +33,10 @@ function* written(tap) {
 /**
  * The lines that are made of frames: comments on them, payloads, and ticks of the clock.
  *
- * @param {import('./tap.js').Tap} tap
+ * @param {{packets: import('./packets.js').Packets, first: bigint | null}} of
  * @returns {Generator<CaptureLine, void, void>}
  */
-function* made({ packets, first }) {
+export function* made({ packets, first }) {
     const clock = new Ticks();
     let [next, moment] = [0, 0];
     for (let row = 0; row <= packets.count; row++) {

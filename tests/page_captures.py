@@ -32,7 +32,7 @@ REASONS = re.compile('([0-9]+) (?:a length that the packet lacks|fragments of IP
 
 def summed(summary):
     """A summary without those two reasons, and how many frames they have together."""
-    return REASONS.sub('0 of both', summary) + ', %d of both' % sum(map(int, REASONS.findall(summary)))
+    return REASONS.sub('0 of both', summary.strip()) + ', %d of both' % sum(map(int, REASONS.findall(summary)))
 
 
 def untunneled(packet):

@@ -144,6 +144,7 @@ function joined(entry) {
     entry.parts.sort((one, other) => one.offset - other.offset);
     let known = 0;
     for (const part of entry.parts) {
+        if (known >= entry.end) break;
         if (part.offset > known) return null;
         known = Math.max(known, part.offset + part.bytes.length);
     }

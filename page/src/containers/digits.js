@@ -1,6 +1,7 @@
 /** Bytes as hexadecimal digits. */
 
-const DIGITS = Array.from({ length: 256 }, (_, each) => each.toString(16).padStart(2, '0'));
+/** The digits of each byte. */
+export const DIGITS = Array.from({ length: 256 }, (_, each) => each.toString(16).padStart(2, '0'));
 
 /** @param {Uint8Array} bytes */
 export function digitsOf(bytes) {

@@ -44,12 +44,11 @@ function internet4(bytes) {
     const total = word(bytes, 2) || bytes.length;
     if (total < header) return null;
     const protocol = bytes[9];
-    const source = address4(bytes.subarray(12, 16));
-    const destination = address4(bytes.subarray(16, 20));
+    const source = address4(bytes, 12);
+    const destination = address4(bytes, 16);
     const offset = (word(bytes, 6) & 0x1fff) * 8;
     const more = (bytes[6] & 0x20) !== 0;
-    const key = `${source} ${destination} ${protocol} ${word(bytes, 4)}`;
-    const fragment = offset || more ? { key, offset, more } : null;
+    const fragment = offset || more ? { key: `${source} ${destination} ${protocol} ${word(bytes, 4)}`, offset, more } : null;
     return { source, destination, protocol, payload: bytes.subarray(header, total), size: total - header, fragment };
 }
 

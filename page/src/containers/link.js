@@ -1,4 +1,5 @@
 /** What stands before IP: link layers, and VLAN tags. */
+import { DIGITS } from './digits.js';
 
 const IPV4 = 0x0800;
 const IPV6 = 0x86dd;
@@ -108,5 +109,7 @@ export function word(bytes, at) {
  */
 function macOf(bytes, at) {
     if (at + 6 > bytes.length) return null;
-    return Array.from(bytes.subarray(at, at + 6), (each) => each.toString(16).padStart(2, '0')).join(':');
+    let text = DIGITS[bytes[at]];
+    for (let place = at + 1; place < at + 6; place++) text += `:${DIGITS[bytes[place]]}`;
+    return text;
 }

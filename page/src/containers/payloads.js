@@ -100,11 +100,12 @@ export class PayloadReader {
         }
         this.report.mark.source = `${internet.source}:${ports.source}`;
         this.report.mark.destination = `${internet.destination}:${ports.destination}`;
-        const stream = internet.protocol === TCP ? this.streamOf(internet) : 0;
+        const segment = internet.protocol === TCP ? segmentIn(internet) : null;
+        const stream = segment?.payload ? this.streamOf(segment) : 0;
         if (!isOurs(internet)) return this.other('another port');
         this.ours += 1;
         if (why) return this.report.leaveOut(FRAGMENTS, why);
-        if (internet.protocol === TCP) return this.segment(internet, below, stream);
+        if (segment) return this.segment(internet, below, segment, stream);
         this.datagram(internet, below, ports.source === NAME || ports.source === DATAGRAM ? ports.source : ports.destination);
     }
 
@@ -127,10 +128,10 @@ export class PayloadReader {
     /**
      * @param {import('./internet.js').Internet} internet
      * @param {Below} below
+     * @param {import('./transport.js').Segment} segment
      * @param {number} stream
      */
-    segment(internet, below, stream) {
-        const segment = segmentIn(internet);
+    segment(internet, below, segment, stream) {
         if (!segment.payload) {
             if (internet.size > TCP_HEADER) this.report.leaveOut(this.report.cut, 'the file ends inside its TCP header');
             return;
@@ -143,14 +144,12 @@ export class PayloadReader {
     /**
      * The number of a stream: that of its ends, and a new one where they begin anew.
      *
-     * @param {import('./internet.js').Internet} internet
+     * @param {import('./transport.js').Segment} segment
      */
-    streamOf(internet) {
+    streamOf(segment) {
         const { source, destination } = this.report.mark;
         const ends = source < destination ? `${source} ${destination}` : `${destination} ${source}`;
         let known = this.numbers.get(ends);
-        const segment = segmentIn(internet);
-        if (!segment.payload) return 0;
         const isAnew = segment.syn && !segment.ack && known?.starts.has(source) && known.starts.get(source) !== segment.sequence;
         if (!known || isAnew) {
             known = { number: this.streamCount++, starts: new Map() };

@@ -64,14 +64,17 @@ export function datagramIn(packet) {
  */
 export function segmentIn(packet) {
     const bytes = packet.payload;
-    const ports = { source: word(bytes, 0), destination: word(bytes, 2) };
+    const source = word(bytes, 0);
+    const destination = word(bytes, 2);
     const header = bytes.length > 12 ? (bytes[12] >> 4) * 4 : TCP_HEADER;
     if (bytes.length < LEAST_OF_TCP || header < TCP_HEADER) {
-        return { ...ports, sequence: 0, syn: false, fin: false, rst: false, ack: false, payload: null, size: packet.size };
+        return { source, destination, sequence: 0, syn: false, fin: false, rst: false, ack: false, payload: null, size: packet.size };
     }
     const flags = bytes[13];
     const sequence = word(bytes, 4) * 0x10000 + word(bytes, 6);
-    const [fin, syn, rst, ack] = [1, 2, 4, 16].map((flag) => (flags & flag) !== 0);
     const payload = bytes.subarray(Math.min(header, bytes.length));
-    return { ...ports, sequence, syn, fin, rst, ack, payload, size: Math.max(0, packet.size - header) };
+    return {
+        source, destination, sequence, payload, size: Math.max(0, packet.size - header),
+        fin: (flags & 1) !== 0, syn: (flags & 2) !== 0, rst: (flags & 4) !== 0, ack: (flags & 16) !== 0,
+    };
 }

@@ -11,6 +11,8 @@ const HEADINGS = [
     { name: 'port', title: '137 names, 138 datagrams, 139 sessions' }, { name: 'says', title: 'What it says, in words' },
 ];
 const MOST_PRINTED = 2_000;
+/** How often the counts of what can be chosen are drawn while rows come, in milliseconds. */
+const OFFERING = 2_000;
 
 export class PacketsView {
     /** @param {import('./app.js').App} app */
@@ -77,7 +79,7 @@ export class PacketsView {
     more() {
         this.grid.draw();
         this.count();
-        this.offer();
+        if (performance.now() - this.offered > OFFERING) this.offer();
     }
 
     filter() {
@@ -108,6 +110,7 @@ export class PacketsView {
     offer() {
         const { rows, selects } = this;
         if (!rows) return;
+        this.offered = performance.now();
         const offers = /** @type {const} */ ([['kind', 'kinds', 'Every kind'], ['sender', 'sender', 'Every sender'],
             ['reason', 'reason', 'Refused or left out: all']]);
         for (const [name, column, all] of offers) {

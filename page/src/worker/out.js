@@ -1,7 +1,7 @@
 /** What is given out of a file: each is byte for byte what the program prints. */
 import { digitsOf } from '../containers/digits.js';
 import { commentOf, textOf } from '../model/capture.js';
-import { pause } from './reading.js';
+import { pause } from './pause.js';
 import { tableOf } from './tables.js';
 
 /** How many characters are put together before the worker looks whether something is wanted of it. */

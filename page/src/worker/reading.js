@@ -4,21 +4,12 @@ import { linesOf, payloadsIn } from '../containers/lines.js';
 import { PayloadReader, framesOf } from '../containers/payloads.js';
 import { slicesOf } from './file.js';
 import { kindOf, tablesOf } from './kinds.js';
+import { pause } from './pause.js';
 
 /** How long the worker reads before it looks whether something is wanted of it, in milliseconds. */
 const WHILE = 24;
 const MOST_TABLE = 64 << 20;
 const FULL = 'more than the page keeps: what follows is left out; nbt-look reads all of it';
-
-/** Lets the messages be handled that have come. */
-const channel = new MessageChannel();
-/** @returns {Promise<void>} */
-export function pause() {
-    return new Promise((done) => {
-        channel.port1.onmessage = () => done();
-        channel.port2.postMessage(null);
-    });
-}
 
 /** One reading of a file into a tap. */
 export class Reading {

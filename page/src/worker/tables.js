@@ -1,6 +1,6 @@
 /** Datagrams put together, by the library: the table of a file, what it lists, and what a station with chosen names is handed. */
 import { digitsOf } from '../containers/digits.js';
-import { pause } from './reading.js';
+import { pause } from './pause.js';
 
 const KEYS = 65_535;
 const DATAGRAMS = 138;

@@ -21,7 +21,7 @@ const reader = new PayloadReader((item) => {
         left.set(item.why, (left.get(item.why) ?? 0) + 1);
     }
 });
-for (const frame of framesOf(slicesOf(readFileSync(process.argv[2]))) ?? []) {
+for (const frame of framesOf(slicesOf(new Uint8Array(readFileSync(process.argv[2])))) ?? []) {
     first ??= frame.time;
     reader.read(frame);
 }

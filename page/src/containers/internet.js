@@ -22,34 +22,36 @@ const MOST_EXTENSIONS = 16;
  */
 
 /**
- * The packet that begins here; null where its header isn't whole, or is none of IP.
+ * The packet that begins at a place; null where its header isn't whole, or is none of IP.
  *
  * @param {Uint8Array} bytes
+ * @param {number} at
  * @returns {Internet | null}
  */
-export function internetIn(bytes) {
-    const version = bytes.length ? bytes[0] >> 4 : 0;
-    if (version === 4) return internet4(bytes);
-    return version === 6 ? internet6(bytes) : null;
+export function internetIn(bytes, at) {
+    const version = at < bytes.length ? bytes[at] >> 4 : 0;
+    if (version === 4) return internet4(bytes, at);
+    return version === 6 ? internet6(bytes.subarray(at)) : null;
 }
 
 /**
  * @param {Uint8Array} bytes
+ * @param {number} at
  * @returns {Internet | null}
  */
-function internet4(bytes) {
-    const header = (bytes[0] & 15) * 4;
-    if (header < 20 || bytes.length < header) return null;
+function internet4(bytes, at) {
+    const header = (bytes[at] & 15) * 4;
+    if (header < 20 || bytes.length < at + header) return null;
     // A length of 0 is that of a packet which the network card cuts into segments: all that is there.
-    const total = word(bytes, 2) || bytes.length;
+    const total = word(bytes, at + 2) || bytes.length - at;
     if (total < header) return null;
-    const protocol = bytes[9];
-    const source = address4(bytes, 12);
-    const destination = address4(bytes, 16);
-    const offset = (word(bytes, 6) & 0x1fff) * 8;
-    const more = (bytes[6] & 0x20) !== 0;
-    const fragment = offset || more ? { key: `${source} ${destination} ${protocol} ${word(bytes, 4)}`, offset, more } : null;
-    return { source, destination, protocol, payload: bytes.subarray(header, total), size: total - header, fragment };
+    const protocol = bytes[at + 9];
+    const source = address4(bytes, at + 12);
+    const destination = address4(bytes, at + 16);
+    const offset = (word(bytes, at + 6) & 0x1fff) * 8;
+    const more = (bytes[at + 6] & 0x20) !== 0;
+    const fragment = offset || more ? { key: `${source} ${destination} ${protocol} ${word(bytes, at + 4)}`, offset, more } : null;
+    return { source, destination, protocol, payload: bytes.subarray(at + header, at + total), size: total - header, fragment };
 }
 
 /**

@@ -69,7 +69,7 @@ export class PayloadReader {
         this.report.begin(mark);
         const below = packetIn(frame.link, frame.bytes);
         if (typeof below === 'string') return this.other(below);
-        const internet = internetIn(frame.bytes.subarray(below.at));
+        const internet = internetIn(frame.bytes, below.at);
         if (!internet) return this.other('cut');
         [mark.source, mark.destination] = [internet.source, internet.destination];
         const { fragment } = internet;

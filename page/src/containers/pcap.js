@@ -32,8 +32,11 @@ export function* pcapFrames(file) {
     const link = number32(file.bytes(0, HEADER), 20, little) & 0xffff;
     for (let at = HEADER, number = 1; at < file.size; number++) {
         if (at + RECORD > file.size) throw new FileFault('the header of a frame is cut', at);
-        const record = file.bytes(at, at + RECORD);
-        const [seconds, rest, captured, size] = [0, 4, 8, 12].map((place) => number32(record, place, little));
+        const place = file.place(at, at + RECORD);
+        const seconds = number32(file.held, place, little);
+        const rest = number32(file.held, place + 4, little);
+        const captured = number32(file.held, place + 8, little);
+        const size = number32(file.held, place + 12, little);
         if (captured > MOST_FRAME) throw new FileFault(`a frame of ${captured} bytes`, at);
         const from = at + RECORD;
         at = from + captured;

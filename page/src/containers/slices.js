@@ -21,12 +21,23 @@ export class Slices {
      * @param {number} to
      */
     bytes(from, to) {
+        const place = this.place(from, to);
+        return this.held.subarray(place, place + Math.max(0, Math.min(to, this.size) - from));
+    }
+
+    /**
+     * Where in what is held the bytes between two places begin.
+     *
+     * @param {number} from
+     * @param {number} to
+     */
+    place(from, to) {
         const end = Math.min(to, this.size);
         if (from < this.from || end > this.from + this.held.length) {
             this.held = this.read(from, Math.min(Math.max(end, from + STEP), this.size));
             this.from = from;
         }
-        return this.held.subarray(from - this.from, Math.max(end, from) - this.from);
+        return from - this.from;
     }
 }
 
@@ -45,8 +56,11 @@ export function slicesOf(bytes) {
  * @param {boolean} little
  */
 export function number32(bytes, at, little) {
-    const [one, two, three, four] = [bytes[at], bytes[at + 1], bytes[at + 2], bytes[at + 3]];
-    return (little ? one | (two << 8) | (three << 16) | (four << 24) : four | (three << 8) | (two << 16) | (one << 24)) >>> 0;
+    const one = little ? bytes[at + 3] : bytes[at];
+    const two = little ? bytes[at + 2] : bytes[at + 1];
+    const three = little ? bytes[at + 1] : bytes[at + 2];
+    const four = little ? bytes[at] : bytes[at + 3];
+    return ((one << 24) | (two << 16) | (three << 8) | four) >>> 0;
 }
 
 /**

@@ -26,6 +26,7 @@ export class PacketsView {
         /** @type {import('./rows.js').Rows | null} */
         this.rows = null;
         this.selected = -1;
+        this.offered = 0;
         this.words.addEventListener('input', () => this.refilter());
         this.words.form?.addEventListener('submit', (event) => event.preventDefault());
         this.words.addEventListener('keydown', (event) => this.key(event));

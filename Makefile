@@ -13,7 +13,7 @@ GATE =
 # The shell is given what users choose in the environment, whatever characters it has.
 export PROGRAM DESTDIR PREFIX DEB LIBRARY TARGETS DIST
 
-.PHONY: run build try check test bench fuzz completions install uninstall deb lib install-lib uninstall-lib targets fuzz-coverage dist
+.PHONY: run build try check test bench fuzz completions install uninstall deb lib install-lib uninstall-lib targets page fuzz-coverage dist
 
 # Prove and build the program, and replay a capture in a station with these names.
 run: build
@@ -91,6 +91,10 @@ targets:
 	tools/module "$$TARGETS/nbt.bc"
 	tools/library crates/nb_c/out/libnb_c.a "$$LIBRARY" "$$PREFIX"
 	tools/targets make "$$TARGETS/nbt.bc" "$$TARGETS" "$$PREFIX"
+
+# Make the page of what targets makes: one file for a browser, nbt.html in TARGETS, with the module in it.
+page: targets $(PROGRAM)
+	tools/page "$$TARGETS/nbt.wasm" "$$PROGRAM" "$$TARGETS/nbt.html"
 
 # Give the library random and changed inputs, with counters of what they reach, over the module that targets keeps.
 fuzz-coverage: $(TARGETS)/nbt.bc

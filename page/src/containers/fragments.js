@@ -135,24 +135,26 @@ export class Fragments {
 }
 
 /**
- * The bytes of a packet all of whose fragments came; null before.
+ * The bytes of a packet all of whose fragments came; null before. Of bytes at one place those of the part count that begins first.
  *
  * @param {Waiting} entry
  */
-function joined(entry) {
-    if (entry.end === null) return null;
-    entry.parts.sort((one, other) => one.offset - other.offset);
+function joined({ parts, end }) {
+    if (end === null) return null;
+    parts.sort((one, other) => one.offset - other.offset);
+    /** @type {Part[]} */
+    const used = [];
     let known = 0;
-    for (const part of entry.parts) {
-        if (known >= entry.end) break;
+    for (const part of parts) {
+        if (known >= end) break;
         if (part.offset > known) return null;
-        known = Math.max(known, part.offset + part.bytes.length);
+        const stop = Math.min(part.offset + part.bytes.length, end);
+        if (stop > known) used.push({ offset: known, bytes: part.bytes.subarray(known - part.offset, stop - part.offset) });
+        known = Math.max(known, stop);
     }
-    if (known < entry.end) return null;
-    const bytes = new Uint8Array(entry.end);
-    for (const part of entry.parts) {
-        if (part.offset < entry.end) bytes.set(part.bytes.subarray(0, entry.end - part.offset), part.offset);
-    }
+    if (known < end) return null;
+    const bytes = new Uint8Array(end);
+    for (const part of used) bytes.set(part.bytes, part.offset);
     return bytes;
 }
 

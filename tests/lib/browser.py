@@ -16,7 +16,7 @@ WORDS = ('--headless=new', '--no-sandbox', '--disable-dev-shm-usage', '--disable
 OWN = ('blob:', 'data:', 'about:', 'chrome://', 'chrome-extension://', 'devtools://')
 # What has to have a name, by its role in the accessibility tree.
 NAMED = {'button', 'link', 'textbox', 'searchbox', 'combobox', 'grid', 'columnheader', 'dialog', 'progressbar', 'navigation', 'img', 'region',
-         'table', 'main', 'complementary', 'MenuListPopup', 'ComboBoxMenuButton', 'ComboBoxSelect'}
+         'table', 'main', 'complementary'}
 
 
 class Browser:
@@ -32,13 +32,13 @@ class Browser:
         options.add_experimental_option('prefs', {'download.default_directory': folder, 'download.prompt_for_download': False})
         self.driver = webdriver.Chrome(service=Service(DRIVER), options=options)
         self.driver.set_script_timeout(120)
-        self.faults, self.requests = [], []
+        self.faults, self.requests, self.pages = [], [], set()
 
     def open(self, page, place=''):
         """Opens the page anew."""
         self.driver.get('about:blank')
-        self.page = f'file://{page}'
-        self.driver.get(self.page + place)
+        self.pages.add(f'file://{page}')
+        self.driver.get(f'file://{page}{place}')
 
     def id(self, name):
         return self.driver.find_element(By.ID, name)
@@ -130,7 +130,7 @@ class Browser:
             message = json.loads(entry['message'])['message']
             if message['method'] == 'Network.requestWillBeSent':
                 url = message['params']['request']['url']
-                if not url.startswith(OWN) and url.split('#')[0] != self.page:
+                if not url.startswith(OWN) and url.split('#')[0] not in self.pages:
                     self.requests.append(url)
 
     def picture(self, path, dark=False):

@@ -7,6 +7,11 @@ import { bytesOf, digitsOf } from '../containers/digits.js';
 const MOST_LOOKED_AT = 65_536;
 const TABLE = /^4e4254[0-9a-f]{2}/i;
 const TEXT = /^(?:[\t\r\n\x20-\x7e]|[^\0-\x7f])*$/;
+/** How a capture begins: its comments may have any bytes. */
+const CAPTURE = /^(?:#|13[789] |tick )/;
+
+/** What the decoder puts for bytes that are no text. */
+const REPLACED = '\ufffd';
 
 /**
  * @param {import('../containers/slices.js').Slices} file
@@ -19,7 +24,7 @@ export function kindOf(file) {
     const bytes = file.bytes(0, MOST_LOOKED_AT);
     if (TABLE.test(digitsOf(bytes.subarray(0, 4)))) return 'table';
     const text = new TextDecoder().decode(bytes);
-    if (!TEXT.test(text)) {
+    if (!CAPTURE.test(text) && (!TEXT.test(text) || text.includes(REPLACED))) {
         throw new FileFault(`no pcap, no pcapng, no capture and no saved table: it begins with ${digitsOf(bytes.subarray(0, 4))}`, 0);
     }
     const line = text.split('\n').find((each) => each.trim() !== '' && !each.startsWith('#')) ?? '';

@@ -36,10 +36,12 @@ check:
 test:
 	tests/all.sh
 
-# Build the program, and print what its commands cost: instructions, packets a second, memory; and what nbt-look costs.
+# Build the program, and print what its commands cost: instructions, packets a second, memory; what nbt-look costs; and, where the
+# page is made, what that costs.
 bench: build
 	tests/bench.py
 	tests/bench_look.py
+	[ ! -f "$$TARGETS/nbt.html" ] || tests/bench_page.py "$$TARGETS/nbt.html"
 
 # Build the program, and give it random and changed inputs: make fuzz SECONDS=600.
 fuzz: build

@@ -2,15 +2,19 @@
 
 /** @param {string} end */
 export function hostOf(end) {
-    const colon = end.lastIndexOf(':');
-    const host = colon > end.lastIndexOf(']') && colon >= 0 && /^\d+$/.test(end.slice(colon + 1)) ? end.slice(0, colon) : end;
-    return host.replace(/^\[|\]$/g, '');
+    if (end.startsWith('[')) return end.slice(1, end.indexOf(']'));
+    const colon = end.indexOf(':');
+    return colon < 0 ? end : end.slice(0, colon);
 }
 
-/** @param {string} end */
+/**
+ * The port, or an empty text where there is none.
+ *
+ * @param {string} end
+ */
 export function portOf(end) {
-    const match = /:(\d+)$/.exec(end);
-    return match && end.lastIndexOf(']') < match.index ? match[1] : '';
+    const colon = end.indexOf(':', end.indexOf(']') + 1);
+    return colon < 0 ? '' : end.slice(colon + 1);
 }
 
 /**

@@ -6,6 +6,7 @@ export const NO_TIME = -(2n ** 63n);
 /** How much is kept: what comes after that isn't. */
 const MOST_ROWS = 2_000_000;
 const MOST_BYTES = 512 << 20;
+const MOST_TEXTS = 500_000;
 const NO_VLAN = 0xffff;
 /** The port of what is left out. */
 export const LEFT_OUT = 0;
@@ -61,7 +62,7 @@ export class Packets {
     }
 
     get isFull() {
-        return this.count >= MOST_ROWS || this.bytes.size >= MOST_BYTES;
+        return this.count >= MOST_ROWS || this.bytes.size >= MOST_BYTES || this.texts.texts.length >= MOST_TEXTS;
     }
 
     /**

@@ -244,13 +244,39 @@ class Cases:
         self.browser.driver.back()
         self.browser.wait(lambda: self.browser.id('view-packets').is_displayed())
 
-    def pasted(self):
-        """A capture that is pasted as text."""
+    def given(self):
+        """A capture that is pasted or dropped, and one that is in the page from the start."""
         self.browser.open(self.page)
         self.browser.id('pasted').send_keys('139 0 85000000\n')
         self.browser.id('read').click()
         self.browser.wait(lambda: self.browser.rows())
         equal(self.browser.rows()[0][5], 'keeps the session alive', 'pasted text')
+        for event, transfer in (('drop', 'dataTransfer'), ('paste', 'clipboardData')):
+            self.browser.open(self.page)
+            self.browser.driver.execute_script(
+                'const files = new DataTransfer(); files.items.add(new File(["139 0 85000000\\n"], "keep.txt"));'
+                'const event = new Event(arguments[0], { bubbles: true, cancelable: true }); event[arguments[1]] = files;'
+                'document.body.dispatchEvent(event)', event, transfer)
+            self.browser.wait(lambda: self.browser.rows())
+            equal(self.browser.text('title'), 'keep.txt', f'a file by {event}')
+        path = self.program.page(self.page, f'{TOP}/examples/office.pcap')
+        self.browser.open(path)
+        self.browser.wait(lambda: self.browser.rows())
+        equal([self.browser.text('title'), len(self.browser.rows())], ['office.pcap', 15], 'nbt-look --html')
+
+    def stop(self):
+        """A long file is stopped: what was read stays, and can be looked at."""
+        path = f'{self.folder}/long.pcap'
+        subprocess.run([f'{TESTS}/big_pcap.py', '60000', path], check=True)
+        self.browser.open(self.page)
+        self.browser.id('file').send_keys(path)
+        self.browser.wait(lambda: self.browser.id('stop').is_enabled() and self.browser.rows())
+        self.browser.choose(self.browser.rows()[3][0])
+        self.browser.id('stop').click()
+        self.browser.wait(self.browser.message)
+        check(re.fullmatch('.*long.pcap: stopped after frame [0-9]+', self.browser.message()), f'stopped: {self.browser.message()}')
+        self.browser.choose(self.browser.rows()[5][0])
+        check(self.browser.rows(), 'the rows stay')
 
     def controls(self):
         """Each control has a name, in each view; narrow windows too."""
@@ -280,7 +306,7 @@ def first_difference(given, wanted):
     return f'at byte {at}: {given[at - 20:at + 60]!r}, not {wanted[at - 20:at + 60]!r}'
 
 
-PARTS = ('modules', 'rows', 'names', 'faults', 'filters', 'deliveries', 'taps', 'out', 'bad', 'hostile', 'keys', 'pasted', 'controls', 'quiet')
+PARTS = ('modules', 'rows', 'names', 'faults', 'filters', 'deliveries', 'taps', 'out', 'bad', 'hostile', 'keys', 'given', 'stop', 'controls', 'quiet')
 
 
 def main():

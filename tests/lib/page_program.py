@@ -2,6 +2,7 @@
 import json
 import os
 import re
+import shutil
 import subprocess
 import tempfile
 
@@ -12,6 +13,7 @@ class Program:
     """The program and its tools, by the names that they have once installed."""
 
     def __init__(self, program, top):
+        self.top = top
         self.folder = tempfile.TemporaryDirectory()
         for name, path in (('nbt', program), ('nbt-look', f'{top}/tools/nbt-look'), ('nbt-pcap2cap', f'{top}/tools/pcap2cap'),
                            ('nbt-cap2pcap', f'{top}/tools/cap2pcap')):
@@ -88,3 +90,13 @@ class Program:
     def pcap(self, lines):
         """A pcap file of a capture's lines."""
         return self.run(['nbt-cap2pcap'], ''.join(lines).encode())
+
+    def page(self, page, capture):
+        """The page with a capture in it, by nbt-look, beside which the page lies."""
+        folder = f'{self.folder.name}/share'
+        for module in ('nbt_look', 'nbt_pcap', 'nbt_shards'):
+            shutil.copytree(f'{self.top}/tools/{module}', f'{folder}/{module}')
+        shutil.copy(f'{self.top}/tools/nbt-look', folder)
+        shutil.copy(page, f'{folder}/nbt.html')
+        self.run([f'{folder}/nbt-look', '--html', f'{folder}/given.html', capture])
+        return f'{folder}/given.html'

@@ -52,6 +52,12 @@ export class Names {
         this.faults = new Room();
         /** @type {Room<Map<string, Claim>>} the first claims of each name, by address */
         this.holders = new Room();
+        this.conflicts = 0;
+        /**
+         * The names that are claimed, or said to be somebody's.
+         * @type {Set<string>}
+         */
+        this.named = new Set();
     }
 
     /**
@@ -106,6 +112,7 @@ export class Names {
                 const made = { name, address, source, group: isGroup(entry), how, since: time, until: null, refusals: 0 };
                 const claim = this.claims.get(`${name} ${address}`, () => made);
                 if (!claim) continue;
+                if (claim === made) this.named.add(name);
                 if (how === 'claims') this.contest(claim, source, isGroup(entry));
                 if (how === 'claims' || ENDED.includes(claim.how)) claim.how = how;
                 claim.group = isGroup(entry);
@@ -136,6 +143,7 @@ export class Names {
     count(name, what) {
         const faults = this.faults.get(name, () => ({ conflicts: 0, refusals: 0 }));
         if (faults) faults[what] += 1;
+        if (what === 'conflicts') this.conflicts += 1;
     }
 
     /** A row for each claim, and for each name that nobody claims, by name and address. */

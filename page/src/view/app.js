@@ -79,7 +79,7 @@ export class App {
      * @param {number} number of the tap
      */
     async open(file, name, number) {
-        const counts = { frames: 0, packets: 0, refused: 0, leftOut: 0, names: 0 };
+        const counts = { frames: 0, packets: 0, refused: 0, leftOut: 0, names: 0, conflicts: 0 };
         /** @type {Tap} */
         const tap = { name, size: file.size, kind: 'frames', rows: new Rows(), first: null, counts, isRead: false, fault: null };
         this.taps[number] = tap;
@@ -226,6 +226,12 @@ export class App {
         if (counts.textContent !== text) {
             counts.replaceChildren(...parts.flatMap(([count, word], at) => [at ? ' · ' : '',
                 element('b', { class: count && at > 1 ? 'bad' : null }, number(Number(count))), ` ${word}`]));
+        }
+        const conflicts = tap?.counts.conflicts ?? 0;
+        const link = byId('to-names', HTMLAnchorElement);
+        const words = conflicts ? `Names ${number(conflicts)}` : 'Names';
+        if (link.textContent !== words) {
+            link.replaceChildren('Names', ...(conflicts ? [' ', element('b', { title: counted(conflicts, 'conflict') }, number(conflicts))] : []));
         }
         this.choice();
     }

@@ -10,7 +10,7 @@
  * @property {import('../model/packets.js').Rows} rows
  * @property {Counts} counts
  *
- * @typedef {{frames: number, packets: number, refused: number, leftOut: number, names: number}} Counts
+ * @typedef {{frames: number, packets: number, refused: number, leftOut: number, names: number, conflicts: number}} Counts
  */
 
 export class Desk {

@@ -113,7 +113,7 @@ export class PacketsView {
         if (!rows) return;
         this.offered = performance.now();
         const offers = /** @type {const} */ ([['kind', 'kinds', 'Every kind'], ['sender', 'sender', 'Every sender'],
-            ['reason', 'reason', 'Refused or left out: all']]);
+            ['reason', 'reason', 'Every reason']]);
         for (const [name, column, all] of offers) {
             const select = selects[name];
             if (document.activeElement === select) continue;

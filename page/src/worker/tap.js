@@ -95,7 +95,7 @@ export class Tap {
     counts() {
         const { seen } = this;
         const left = Array.from(seen.leftOut.entries.values(), (each) => each.frames).reduce((sum, each) => sum + each, 0);
-        const names = new Set(Array.from(seen.names.claims.entries.values(), (claim) => claim.name)).size;
-        return { frames: this.frames, packets: seen.packets, refused: seen.refusedPackets, leftOut: left, names };
+        const { named, conflicts } = seen.names;
+        return { frames: this.frames, packets: seen.packets, refused: seen.refusedPackets, leftOut: left, names: named.size, conflicts };
     }
 }

@@ -7,6 +7,9 @@ const DATAGRAMS = 138;
 /** How many payloads go into a station before the worker looks whether something is wanted of it. */
 const PART = 256;
 const MOST_DELIVERIES = 10_000;
+/** Why a fragment isn't taken: for what stands in it, or for keys that there are. */
+const MALFORMED = ['MISPLACED_FIRST', 'LONG'];
+const NO_ROOM = ['FULL', 'FULL_SOURCE'];
 
 /**
  * A datagram that a station is handed: by which frame or line, and when.
@@ -33,7 +36,7 @@ export async function tableOf(tap) {
     try {
         for (const line of tap.capture()) {
             if (line.kind !== 'payload' || line.port !== DATAGRAMS) continue;
-            pass(() => station.take(0, line.bytes));
+            pass(() => station.take(0, line.bytes), MALFORMED);
             count += 1;
             if (count % PART === 0) await pause();
         }
@@ -46,17 +49,18 @@ export async function tableOf(tap) {
 }
 
 /**
- * Takes a payload; one that is refused for what stands in it is passed over.
+ * Takes a payload; one that is refused with a status of these is passed over.
  *
  * @template T
  * @param {() => T} take
+ * @param {string[]} statuses
  * @returns {T | null}
  */
-function pass(take) {
+function pass(take, statuses) {
     try {
         return take();
     } catch (error) {
-        if (['MISPLACED_FIRST', 'LONG'].includes(Reflect.get(Object(error), 'status'))) return null;
+        if (statuses.includes(Reflect.get(Object(error), 'status'))) return null;
         throw error;
     }
 }
@@ -77,7 +81,7 @@ export async function handedTo(tap, names) {
         for (const line of tap.capture()) {
             if (line.kind === 'tick') station.tick(BigInt(line.moment));
             if (line.kind !== 'payload' || line.port !== DATAGRAMS) continue;
-            const delivery = pass(() => station.take(BigInt(line.moment), line.bytes))?.delivery;
+            const delivery = pass(() => station.take(BigInt(line.moment), line.bytes), [...MALFORMED, ...NO_ROOM])?.delivery;
             if (delivery && handed.length === MOST_DELIVERIES) more += 1;
             else if (delivery) handed.push(described(delivery, line.row, line.moment));
             count += 1;

@@ -106,7 +106,7 @@ $(TARGETS)/nbt.bc:
 	@tools/targets check "$$TARGETS"
 	tools/module "$$TARGETS/nbt.bc"
 
-# Make packages for people who haven't the kit, in DIST: for Debian, Python, Rust and JavaScript. GATE names a file with what make test
+# Make packages for people who haven't the kit, in DIST: for Debian, Python, Rust and JavaScript, and the page. GATE names a file with what make test
 # printed, whose last lines go into PROOF.
 dist: targets $(PROGRAM)
 	tools/dist "$$TARGETS" "$$LIBRARY" "$$PROGRAM" "$$DIST" $(GATE)

@@ -70,6 +70,21 @@ test('show', () => {
     assert.equal(nbt.show(139, Uint8Array.of(0x85, 0, 0, 0)), 'keepalive used=4\n');
 });
 
+test('json and brief', () => {
+    const query = nbt.request('query', { identifier: 3, name: 'FRED<20>' });
+    assert.equal(nbt.brief(137, query), 'asks for FRED<20>');
+    assert.deepEqual(JSON.parse(nbt.json(139, Uint8Array.of(0x83, 0, 0, 1, 0x82))), { kind: 'negative', code: '82', used: 5 });
+    assert.deepEqual(JSON.parse(nbt.json(138, new Uint8Array())), { refused: 'truncated 0', at: 0 });
+    assert.equal(nbt.brief(138, new Uint8Array()), 'refused: truncated, at byte 0');
+    assert.equal(JSON.parse(nbt.json(137, query)).questions[0].name, 'FRED<20>');
+    const long = Uint8Array.of(0, 0, 0xff, 0xff, ...new Uint8Array(65_535));
+    assert.equal(JSON.parse(nbt.json(139, long)).data.length, 2 * 65_535);
+});
+
+test('version', () => {
+    assert.equal(nbt.version(), /NBT_VERSION "(.*)"/.exec(readFileSync(header, 'utf8'))[1]);
+});
+
 test('datagrams', () => {
     const pieces = nbt.writeDatagram(sent);
     assert.equal(pieces.length, 3);

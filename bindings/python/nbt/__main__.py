@@ -1,0 +1,13 @@
+"""Prints the version of the library, and where it was found: python3 -m nbt."""
+import argparse
+import sys
+
+from . import __version__
+from .library import found_at
+
+argparse.ArgumentParser(prog='python3 -m nbt', description=__doc__.partition(':')[0] + '.').parse_args()
+try:
+    print(f'nbt {__version__}, {found_at()}', flush=True)
+except OSError as error:
+    print(f'nbt: standard output: {error.strerror}', file=sys.stderr)
+    sys.exit(3)

@@ -1,0 +1,164 @@
+"""What records of the name service say: RFC 1002 sections 4.2.1.3, 4.2.13 and 4.2.18."""
+from __future__ import annotations
+
+import ctypes
+import enum
+import ipaddress
+from dataclasses import dataclass
+from typing import Any, Callable, Iterator, List, Optional, Tuple, Union
+
+from . import names
+from .library import ADDRESS, ALONE, DONE, LENGTH, call
+from .statuses import NbtError, Status
+
+NB, NBSTAT, NS = 0x0020, 0x0021, 0x0002
+# Two bits of a length byte say that a pointer begins there, of which fourteen bits are where it leads.
+POINTER = 0xc0
+
+
+class NodeType(enum.IntEnum):
+    """ONT: how a node claims its names and asks for those of others."""
+
+    B = 0
+    P = 1
+    M = 2
+    H = 3
+
+
+class Flagged:
+    """What NB_FLAGS and NAME_FLAGS have alike."""
+
+    flags: int
+
+    @property
+    def group(self) -> bool:
+        """G: whether it is a group's name."""
+        return self.flags & 0x8000 != 0
+
+    @property
+    def node_type(self) -> NodeType:
+        """ONT."""
+        return NodeType(self.flags >> 13 & 3)
+
+
+@dataclass(frozen=True)
+class NbEntry(Flagged):
+    """An address of a NetBIOS name, in RDATA of type NB."""
+
+    flags: int                      # NB_FLAGS
+    address: ipaddress.IPv4Address  # NB_ADDRESS
+
+
+@dataclass(frozen=True)
+class NodeName(Flagged):
+    """One of the names of a node."""
+
+    name: str   # as a text
+    flags: int  # NAME_FLAGS
+
+    @property
+    def deregistered(self) -> bool:
+        """DRG: whether it is being given up."""
+        return self.flags & 0x1000 != 0
+
+    @property
+    def conflict(self) -> bool:
+        """CNF: whether another node claims it."""
+        return self.flags & 0x0800 != 0
+
+    @property
+    def active(self) -> bool:
+        """ACT."""
+        return self.flags & 0x0400 != 0
+
+    @property
+    def permanent(self) -> bool:
+        """PRM: whether it is the node's permanent name."""
+        return self.flags & 0x0200 != 0
+
+
+@dataclass(frozen=True)
+class NodeStatus:
+    """The names of a node, in RDATA of type NBSTAT."""
+
+    names: Tuple[NodeName, ...]
+    unit: Optional[bytes]  # UNIT_ID, six bytes; None where the RDATA ends before
+
+
+@dataclass(frozen=True)
+class DomainName:
+    """A name as its labels. Its text is as `nbt show` prints it."""
+
+    labels: Tuple[bytes, ...]
+
+    def __str__(self) -> str:
+        spelling = b''.join(bytes([len(label)]) + label for label in self.labels) + b'\0'
+        try:
+            return names.text(spelling)
+        except NbtError:
+            return '.'.join(map(names.escaped, self.labels)) or '.'
+
+
+Rdata = Union[Tuple[NbEntry, ...], NodeStatus, DomainName, bytes]
+
+
+class FoundAddress(ctypes.Structure):
+    """struct nbt_service_address."""
+
+    _fields_ = [('address', ctypes.c_uint32), ('flags', ctypes.c_uint16)]
+
+
+class FoundNode(ctypes.Structure):
+    """struct nbt_service_node."""
+
+    _fields_ = [('flags', ctypes.c_uint16), ('name', ctypes.c_uint8 * 16)]
+
+
+def parts(name: str, structure: Any, made: Callable[[Any], Any]) -> Callable[[int, int, int], Optional[List[Any]]]:
+    """A call that fills in a structure for a part of RDATA, made for all of them, of each of which a value is made: None
+    where the RDATA hasn't the form."""
+    part_of = call(name, ctypes.c_uint16, ADDRESS, LENGTH, LENGTH, ADDRESS, ADDRESS, library=ALONE)
+
+    def read(kind: int, address: int, length: int) -> Optional[List[Any]]:
+        values: List[Any] = []
+        part, at = structure(), ctypes.c_size_t()
+        into, place = ctypes.addressof(part), ctypes.addressof(at)
+        while (status := part_of(kind, address, length, len(values), into, place)) == DONE:
+            values.append(made(part))
+        return values if status == Status.NO_PART else None
+
+    return read
+
+
+ADDRESSES = parts('nbt_service_address', FoundAddress, lambda it: NbEntry(it.flags, ipaddress.IPv4Address(it.address)))
+NODES = parts('nbt_service_node', FoundNode, lambda it: NodeName(names.text(names.spelled(bytes(it.name))), it.flags))
+UNIT = call('nbt_service_unit', ctypes.c_uint16, ADDRESS, LENGTH, ADDRESS, ADDRESS, library=ALONE)
+
+
+def read_rdata(kind: int, payload: int, place: int, length: int) -> Rdata:
+    """What the RDATA of a record says that the library found in the payload at this address."""
+    address = payload + place
+    if kind == NS:
+        return DomainName(tuple(labels_at(payload, place)))
+    if kind == NB and (entries := ADDRESSES(kind, address, length)) is not None:
+        return tuple(entries)
+    if kind == NBSTAT and (nodes := NODES(kind, address, length)) is not None:
+        return NodeStatus(tuple(nodes), read_unit(address, length))
+    return ctypes.string_at(address, length)
+
+
+def read_unit(address: int, length: int) -> Optional[bytes]:
+    """The unit that stands behind the names, if it does."""
+    unit, at = ctypes.create_string_buffer(6), ctypes.c_size_t()
+    status = UNIT(NBSTAT, address, length, ctypes.addressof(unit), ctypes.addressof(at))
+    return unit.raw if status == DONE else None
+
+
+def labels_at(payload: int, at: int) -> Iterator[bytes]:
+    """The labels of a name that the library found in the payload at this address: so its pointers go back."""
+    while first := ctypes.string_at(payload + at, 1)[0]:
+        if first < POINTER:
+            yield ctypes.string_at(payload + at + 1, first)
+            at += 1 + first
+        else:
+            at = (first - POINTER) << 8 | ctypes.string_at(payload + at + 1, 1)[0]

@@ -27,7 +27,7 @@ from .names import spell, text
 from .packets import json, show
 from .rdata import DomainName, NbEntry, NodeName, NodeStatus, NodeType, Rdata
 from .service import node_status, query, refresh, registration, release
-from .service_packets import Operation, Question, Record, Result, ServicePacket
+from .service_packets import Operation, Question, Record, ResultCode, ServicePacket
 from .sessions import SessionPacket, SessionStream, SessionType
 from .stations import Delivery, Outcome, Station, Taken
 from .statuses import MoreNeeded, NbtError, Status
@@ -36,6 +36,6 @@ from .turns import ReentryError
 
 __version__ = VERSION().decode()
 __all__ = ['Buffer', 'Datagram', 'DatagramType', 'Delivery', 'DomainName', 'MoreNeeded', 'NbEntry', 'NbtError', 'NodeName',
-           'NodeStatus', 'NodeType', 'Operation', 'Outcome', 'Question', 'Rdata', 'Record', 'ReentryError', 'Result',
+           'NodeStatus', 'NodeType', 'Operation', 'Outcome', 'Question', 'Rdata', 'Record', 'ReentryError', 'ResultCode',
            'ServicePacket', 'SessionPacket', 'SessionStream', 'SessionType', 'Station', 'Status', 'Taken', 'json', 'list_table',
            'merge', 'node_status', 'query', 'refresh', 'registration', 'release', 'show', 'spell', 'text']

@@ -27,7 +27,7 @@ class Operation(enum.IntEnum):
     OTHER_REFRESH = 9
 
 
-class Result(enum.IntEnum):
+class ResultCode(enum.IntEnum):
     """RCODE."""
 
     OK = 0
@@ -89,7 +89,7 @@ class ServicePacket:
     response: bool                      # R
     op: Union[Operation, int]           # OPCODE
     flags: int                          # NM_FLAGS where they stand in the header's second word, of the bits 0x07f0
-    rcode: Union[Result, int]           # RCODE
+    rcode: Union[ResultCode, int]           # RCODE
     counts: Tuple[int, int, int, int]   # QDCOUNT, ANCOUNT, NSCOUNT, ARCOUNT
     questions: Tuple[Question, ...]
     answers: Tuple[Record, ...]
@@ -168,7 +168,7 @@ def numbered(kind: Any) -> List[Any]:
     return [kind(each) if each in kind.__members__.values() else each for each in range(16)]
 
 
-OPERATIONS, RESULTS = numbered(Operation), numbered(Result)
+OPERATIONS, RESULTS = numbered(Operation), numbered(ResultCode)
 
 
 def read_items(payload: int, length: int) -> Tuple[List[List[Any]], int, Optional[NbtError]]:

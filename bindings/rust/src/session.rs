@@ -20,9 +20,13 @@
 //! # Ok::<(), nbt::Error>(())
 //! ```
 
+use std::fmt;
+use std::net::{Ipv4Addr, SocketAddrV4};
+
 use crate::calls::{nbt_session_read, nbt_session_write, FoundSession, DONE, MORE};
+use crate::names::spelled_length;
 use crate::room::written;
-use crate::{Error, Result, Status};
+use crate::{Error, Result, Spelling};
 
 /// TYPE: what a packet is.
 #[derive(Clone, Copy, Debug, PartialEq, Eq, Hash)]
@@ -42,12 +46,28 @@ pub enum Kind {
     KeepAlive = 0x85,
 }
 
-impl Kind {
-    /// The kind with this number.
-    fn from_number(number: u8) -> Option<Kind> {
+/// The kind with this number, of TYPE; `UnknownType` where none has it.
+impl TryFrom<u8> for Kind {
+    type Error = Error;
+
+    fn try_from(number: u8) -> Result<Kind> {
         use Kind::*;
         let all = [Message, Request, Positive, Negative, Retarget, KeepAlive];
-        all.into_iter().find(|it| *it as u8 == number)
+        let found = all.into_iter().find(|it| *it as u8 == number);
+        found.ok_or(Error::UNKNOWN_TYPE)
+    }
+}
+
+impl fmt::Display for Kind {
+    fn fmt(&self, out: &mut fmt::Formatter<'_>) -> fmt::Result {
+        out.pad(match self {
+            Kind::Message => "message",
+            Kind::Request => "request",
+            Kind::Positive => "positive",
+            Kind::Negative => "negative",
+            Kind::Retarget => "retarget",
+            Kind::KeepAlive => "keepalive",
+        })
     }
 }
 
@@ -60,6 +80,26 @@ pub struct Packet<'a> {
     pub body: &'a [u8],
     /// The bytes of the packet; what follows it isn't looked at.
     pub used: usize,
+}
+
+impl<'a> Packet<'a> {
+    /// CALLED_NAME and CALLING_NAME, of a request.
+    pub fn names(&self) -> Option<(Spelling<'a>, Spelling<'a>)> {
+        let spelled = spelled_length(self.body).filter(|_| self.kind == Kind::Request)?;
+        let (called, calling) = self.body.split_at(spelled);
+        Some((Spelling(called), Spelling(calling)))
+    }
+
+    /// Whom to call instead: RETARGET_IP_ADDRESS and RETARGET_PORT, of a retarget.
+    pub fn retarget(&self) -> Option<SocketAddrV4> {
+        match (self.kind, self.body) {
+            (Kind::Retarget, &[a, b, c, d, high, low]) => {
+                let port = u16::from_be_bytes([high, low]);
+                Some(SocketAddrV4::new(Ipv4Addr::new(a, b, c, d), port))
+            }
+            _ => None,
+        }
+    }
 }
 
 /// What stands at the front of what came over a connection.
@@ -81,15 +121,13 @@ pub fn read(bytes: &[u8]) -> Result<Next<'_>> {
     let (mut found, mut at) = (FoundSession::default(), 0);
     // SAFETY: the bytes are a slice, and what is written lies apart from it.
     let status = unsafe { nbt_session_read(bytes.as_ptr(), bytes.len(), &mut found, &mut at) };
-    match (status, Kind::from_number(found.kind)) {
-        (DONE, Some(kind)) => Ok(Next::Packet(Packet {
-            kind,
+    match status {
+        DONE => Ok(Next::Packet(Packet {
+            kind: Kind::try_from(found.kind)?,
             body: &bytes[found.body..found.body + found.body_length],
             used: found.used,
         })),
-        // The library answers no other type.
-        (DONE, None) => Err(Error::new(Status::UnknownType.number(), 0)),
-        (MORE, _) => Ok(Next::More(at)),
+        MORE => Ok(Next::More(at)),
         _ => Err(Error::new(status, at)),
     }
 }

@@ -1,6 +1,7 @@
 //! What the calls answer, by examples: the bytes that several of them have, and how a refusal looks.
 
 mod datagrams;
+mod errors;
 mod names;
 mod service;
 mod sessions;

@@ -86,3 +86,46 @@ fn packets_are_written() {
     let cut = joined(&[FRED, &FRED[..33], b"\xc0"]);
     assert_eq!(refused(write(Kind::Request, &cut)).0, Status::NameTruncated);
 }
+
+/// The packet that stands at the front of some bytes.
+#[track_caller]
+fn whole(bytes: &[u8]) -> Packet<'_> {
+    match read(bytes).unwrap() {
+        Next::Packet(packet) => packet,
+        more => panic!("{more:?}"),
+    }
+}
+
+#[test]
+fn bodies_have_parts() {
+    let bytes = joined(&[b"\x81\0\0\x48", &FRED[..33], b"\x03COM\0", JOE]);
+    let request = whole(&bytes);
+    let (called, calling) = request.names().unwrap();
+    assert_eq!(format!("{called} {calling}"), "FRED<20>.COM JOE<00>");
+    assert_eq!(request.retarget(), None);
+    let body = b"\x0a\0\0\x05\0\x8b";
+    let retarget = whole(b"\x84\0\0\x06\x0a\0\0\x05\0\x8b");
+    assert_eq!(retarget.retarget().unwrap().to_string(), "10.0.0.5:139");
+    assert_eq!((retarget.body, retarget.names()), (&body[..], None));
+    let message = whole(b"\0\0\0\x06\x0a\0\0\x05\0\x8b");
+    assert_eq!((message.retarget(), message.names()), (None, None));
+}
+
+#[test]
+fn numbers_are_kinds() {
+    let kinds: Vec<_> = (0..=255).filter_map(|it| Kind::try_from(it).ok()).collect();
+    assert!(kinds.iter().all(|it| Kind::try_from(*it as u8) == Ok(*it)));
+    let shown: Vec<_> = kinds.iter().map(Kind::to_string).collect();
+    assert_eq!(
+        shown,
+        [
+            "message",
+            "request",
+            "positive",
+            "negative",
+            "retarget",
+            "keepalive"
+        ]
+    );
+    assert_eq!(refused(Kind::try_from(0x86)), (Status::UnknownType, None));
+}

@@ -5,7 +5,7 @@ use std::thread;
 use crate::tables::EMPTY;
 use crate::{joined, refused};
 use nbt::datagram::{Datagram, Kind, Packets};
-use nbt::station::{Key, Outcome};
+use nbt::station::{Key, Outcome, OwnedDelivery};
 use nbt::{merge, Limits, Station, Status};
 
 /// A station at 10.0.0.9:138 with these names.
@@ -360,4 +360,30 @@ fn tables_that_are_not_taken_in() {
         );
         assert_eq!(station.save().unwrap(), before);
     }
+}
+
+#[test]
+fn deliveries_are_kept() {
+    let mut station = station(&["FRED<20>"]);
+    let mut kept = Vec::new();
+    for identifier in 1..4 {
+        for payload in pieces(identifier, "FRED<20>") {
+            if let Outcome::Delivered(it) = station.take(0, &payload).unwrap() {
+                kept.push((&it).to_owned());
+                let copy = kept.last().unwrap();
+                assert_eq!((copy.kind, copy.key), (it.kind, it.key));
+                assert_eq!(
+                    (copy.source, copy.destination),
+                    (it.source.into(), it.destination.into())
+                );
+                assert_eq!(copy.data, it.data);
+            }
+        }
+    }
+    drop(station);
+    let shown =
+        |it: &OwnedDelivery| format!("{} {} {} {}", it.key, it.kind, it.source, it.destination);
+    let shown: Vec<_> = kept.iter().map(shown).collect();
+    let wanted = [1, 2, 3].map(|it| format!("10.0.0.5:138/{it:04x} unique JOE<00> FRED<20>"));
+    assert_eq!(shown, wanted);
 }

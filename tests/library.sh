@@ -1,8 +1,9 @@
 #!/usr/bin/env bash
 # The library for C: what it is made of, the examples of bindings/c, a caller's worst (tests/lib/library.c) beside `nbt
-# show`, sanitizers, memory that runs out, the package for Python and its types, nbt-station, and the crate for Rust. Usage:
-# [AFTER_RT_CI=1] [MODULE=FILE] tests/library.sh [PROGRAM]; its last line is 'N passed, M failed, K skipped'. The library is built
-# over what `rt ci` has just left, where AFTER_RT_CI says so, and else by `rt lib`. MODULE then gets its LLVM module.
+# show`, sanitizers, memory that runs out, what payloads say beside a slow model, the programs of examples/, the package for
+# Python and its types, nbt-station, and the crate for Rust. Usage: [AFTER_RT_CI=1] [MODULE=FILE] tests/library.sh
+# [PROGRAM]; its last line is 'N passed, M failed, K skipped'. The library is built over what `rt ci` has just left, where
+# AFTER_RT_CI says so, and else by `rt lib`. MODULE then gets its LLVM module.
 set -uo pipefail
 # What stands last in a pipe counts its cases here.
 shopt -s lastpipe
@@ -13,6 +14,7 @@ built=$room/built
 CC=${CC:-cc}
 strict=(-std=c11 -O1 -g -Wall -Wextra -Wpedantic -Werror "-I$top/include")
 payloads=10000
+values=20000
 
 # same WANTED NAME: whether standard input is what is wanted.
 same() {
@@ -152,6 +154,60 @@ replayed() {
     replays_alike 'in C'
 }
 
+# said LINES: what a slow model reads in payloads.
+said() {
+    ended "$here/lib/values_model.py" <"$1" >"$1.wanted"
+    [ $? -eq 0 ] && [ "$(grep -cE '^[0-9]+ 13[789] ' "$1.wanted")" -eq "$(wc -l <"$1")" ]
+    count $? "what tests/lib/values_model.py reads in $(wc -l <"$1") payloads"
+}
+
+# reads LINES NAME COMMAND..: a caller of the library reads the same there.
+reads() {
+    "${@:3}" <"$1" >"$room/output" 2>"$room/errors"
+    count $? "$2: $(tail -n 1 "$room/errors")"
+    cmp -s "$1.wanted" "$room/output"
+    count $? "$2 reads what tests/lib/values_model.py does: $(diff "$1.wanted" "$room/output" | head -c 300)"
+}
+
+# in_python FILE [WORD]..: a program that uses the package, over the shared object.
+in_python() {
+    NBT_LIBRARY=$built/libnbt.so.0 PYTHONDONTWRITEBYTECODE=1 PYTHONPATH=$top/bindings/python ended python3 "$@"
+}
+
+# What payloads say, as values, and what stands of those that are refused: in C that of port 137.
+values() {
+    local each
+    "$here/lib/values_payloads.py" --seed 11 "$values" >"$room/values"
+    grep '^137 ' "$room/values" >"$room/values137"
+    said "$room/values"
+    said "$room/values137"
+    [ "$(grep -c ' whole$' "$room/values137.wanted")" -ge 3000 ] && [ "$(grep -c ' refused ' "$room/values137.wanted")" -ge 9000 ]
+    count $? "payloads that stand, and payloads that are refused"
+    for each in plain sanitized; do
+        $CC "${strict[@]}" $([ $each = plain ] || echo -fsanitize=address,undefined -fno-sanitize-recover=all) \
+            -o "$room/service_values-$each" "$here/lib/service_values.c" "$built/libnbt.a" >"$room/log" 2>&1
+        count $? "tests/lib/service_values.c, $each: $(head -n 1 "$room/log")"
+        reads "$room/values137" "tests/lib/service_values.c, $each," ended "$room/service_values-$each"
+    done
+    reads "$room/values" tests/lib/values_in_python.py in_python "$here/lib/values_in_python.py"
+}
+
+# The programs of examples/ in C and Python, over its pcaps; that in Rust is one of the part rust.
+programs() {
+    local each
+    for each in office samba; do
+        "$top/tools/pcap2cap" --quiet --bare "$top/examples/$each.pcap" >"$room/$each.txt" 2>"$room/errors"
+        count $? "examples/$each.pcap: $(tail -n 1 "$room/errors")"
+    done
+    $CC "${strict[@]}" -o "$room/claims" "$top/examples/claims.c" "$built/libnbt.a" >"$room/log" 2>&1
+    count $? "examples/claims.c: $(head -n 1 "$room/log")"
+    ended "$room/claims" <"$room/office.txt" | same "$(printf 'FRED<20> 10.0.0.6\n%.0s' 1 2 3)" 'the claims of the office'
+    ended "$room/claims" <"$room/samba.txt" | grep -c 'group$' | same 32 'the claims of groups that Samba sends'
+    in_python "$top/examples/claimants.py" <"$room/office.txt" | same 'no name has two claimants' 'the claimants of the office'
+    in_python "$top/examples/claimants.py" <"$room/samba.txt" | same "$(printf 'FRED<%s> 10.0.0.5 10.0.0.6\n' 00 03 20)" \
+        'the claimants of names that Samba sends'
+}
+
 # The package for Python, over the shared object, and beside `nbt show`.
 python() {
     (cd "$top/bindings/python" && NBT_LIBRARY=$built/libnbt.so.0 PYTHONDONTWRITEBYTECODE=1 PYTHONPATH=. \
@@ -224,7 +280,7 @@ installed() {
     $CC -std=c11 -Wall -Wextra -Werror -o "$room/example" "$room/first.c" $flags >"$room/log" 2>&1
     count $? "the program in C of docs/CALLING.md: $(head -n 1 "$room/log")"
     LD_LIBRARY_PATH=$room/root/lib ended "$room/example" | same "$(block text)" 'the program in C of docs/CALLING.md'
-    for each in 1 2; do
+    for each in 1 2 3; do
         block python $each >"$room/first.py"
         PYTHONPATH=$room/root/share/nbt/python PYTHONDONTWRITEBYTECODE=1 ended python3 "$room/first.py" 2>&1 \
             | same "$(block text $((each + 1)))" "program $each in Python of docs/CALLING.md"
@@ -271,6 +327,7 @@ in_rust_too() {
 
 # The crate for Rust: its tests and examples over the shared object, also in a program that links libnbt.a, and beside `nbt show`.
 rust() {
+    local each
     in_rust test --offline --locked
     passed=$((passed + $(awk '/^test result: ok/ { sum += $4 } END { print sum + 0 }' "$room/log")))
     in_rust_too fmt --check
@@ -281,13 +338,29 @@ rust() {
     LD_LIBRARY_PATH=$room/root/lib ended "$room/target/release/examples/show_lines" <"$room/lines4" >"$room/output" 2>"$room/errors"
     cmp -s "$room/lines4.wanted" "$room/output"
     count $? "nbt::show_into prints what nbt show prints: $(tail -n 1 "$room/errors")"
-    # The program of docs/CALLING.md in a folder of its own, over the crate that is installed.
-    mkdir -p "$room/user/src"
-    printf '[package]\nname = "first"\nversion = "0.1.0"\nedition = "2021"\n\n[dependencies]\nnbt = { path = "%s" }\n' \
-        "$room/root/share/nbt/rust" >"$room/user/Cargo.toml"
-    block rust >"$room/user/src/main.rs"
-    (cd "$room/user" && PKG_CONFIG_PATH=$room/root/lib/pkgconfig NBT_STATIC=1 CARGO_TARGET_DIR=$room/user/target \
-        ended cargo run --quiet --offline) 2>&1 | same "$(block text 4)" 'the program in Rust of docs/CALLING.md'
+    LD_LIBRARY_PATH=$room/root/lib reads "$room/values" show_values.rs ended "$room/target/release/examples/show_values"
+    block rust >"$room/first.rs"
+    user_program first "$room/first.rs" </dev/null | same "$(block text 5)" 'the program in Rust of docs/CALLING.md'
+    [ ! -f "$room/samba.txt" ] || for each in office samba; do
+        user_program node_statuses "$top/examples/node_statuses.rs" <"$room/$each.txt" >"$room/output" 2>&1
+        same "$(statuses_of $each)" "the node statuses of $each" <"$room/output"
+    done
+}
+
+# statuses_of NAME: what examples/node_statuses.rs prints of a pcap in examples/.
+statuses_of() {
+    [ "$1" = office ] || echo '00:00:00:00:00:00: FRED<00>, FRED<03>, FRED<20>, \01\02__MSBROWSE__\02<01> (group), OFFICE<00> (group),' \
+        'OFFICE<1d>, OFFICE<1e> (group)'
+}
+
+# user_program NAME FILE: a program in Rust in a folder of its own, over the crate that is installed, which runs.
+user_program() {
+    mkdir -p "$room/$1/src"
+    printf '[package]\nname = "%s"\nversion = "0.1.0"\nedition = "2021"\n\n[dependencies]\nnbt = { path = "%s" }\n' \
+        "$1" "$room/root/share/nbt/rust" >"$room/$1/Cargo.toml"
+    cp "$2" "$room/$1/src/main.rs"
+    (cd "$room/$1" && PKG_CONFIG_PATH=$room/root/lib/pkgconfig NBT_STATIC=1 CARGO_TARGET_DIR=$room/user \
+        ended cargo run --quiet --offline) 2>&1
 }
 
 # block LANGUAGE [NUMBER]: a block of docs/CALLING.md in this language, the first of them if no number is given.
@@ -305,6 +378,8 @@ if command -v valgrind >/dev/null; then part valgrind under_valgrind; else lacks
 part callers callers
 part memory refused
 part replay replayed
+part values values
+if command -v tshark >/dev/null; then part programs programs; else lacks programs tshark; fi
 part python python
 if command -v mypy >/dev/null; then part types types; else lacks types mypy; fi
 part station station

@@ -369,7 +369,7 @@ fn deliveries_are_kept() {
     for identifier in 1..4 {
         for payload in pieces(identifier, "FRED<20>") {
             if let Outcome::Delivered(it) = station.take(0, &payload).unwrap() {
-                kept.push((&it).to_owned());
+                kept.push(it.to_owned());
                 let copy = kept.last().unwrap();
                 assert_eq!((copy.kind, copy.key), (it.kind, it.key));
                 assert_eq!(

@@ -135,11 +135,11 @@ NODES = parts('nbt_service_node', FoundNode, lambda it: NodeName(names.text(name
 UNIT = call('nbt_service_unit', ctypes.c_uint16, ADDRESS, LENGTH, ADDRESS, ADDRESS, library=ALONE)
 
 
-def read_rdata(kind: int, payload: int, place: int, length: int) -> Rdata:
-    """What the RDATA of a record says that the library found in the payload at this address."""
+def read_rdata(kind: int, payload: int, payload_length: int, place: int, length: int) -> Rdata:
+    """What the RDATA of a record says that the library found at a place of the payload at this address."""
     address = payload + place
     if kind == NS:
-        return DomainName(tuple(labels_at(payload, place)))
+        return DomainName(tuple(labels_at(payload, payload_length, place)))
     if kind == NB and (entries := ADDRESSES(kind, address, length)) is not None:
         return tuple(entries)
     if kind == NBSTAT and (nodes := NODES(kind, address, length)) is not None:
@@ -154,11 +154,19 @@ def read_unit(address: int, length: int) -> Optional[bytes]:
     return unit.raw if status == DONE else None
 
 
-def labels_at(payload: int, at: int) -> Iterator[bytes]:
-    """The labels of a name that the library found in the payload at this address: so its pointers go back."""
-    while first := ctypes.string_at(payload + at, 1)[0]:
+def labels_at(payload: int, length: int, at: int) -> Iterator[bytes]:
+    """The labels of a name that the library found in the payload at this address, of this length. Whatever another thread
+    makes of the payload meanwhile, nothing outside of it is read, and there is an end."""
+    def byte(place: int) -> int:
+        return ctypes.string_at(payload + place, 1)[0] if place < length else 0
+
+    start = at
+    while first := byte(at):
         if first < POINTER:
-            yield ctypes.string_at(payload + at + 1, first)
+            yield ctypes.string_at(payload + at + 1, min(first, length - at - 1))
             at += 1 + first
         else:
-            at = (first - POINTER) << 8 | ctypes.string_at(payload + at + 1, 1)[0]
+            at = (first - POINTER) << 8 | byte(at + 1)
+            if at >= start:
+                return
+            start = at

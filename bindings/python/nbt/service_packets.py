@@ -178,17 +178,17 @@ def read_items(payload: int, length: int) -> Tuple[List[List[Any]], int, Optiona
     number, place, found, at = 0, HEADER_LENGTH, FoundItem(), ctypes.c_size_t()
     into, fault = ctypes.addressof(found), ctypes.addressof(at)
     while (status := ITEM(payload, length, number, place, into, fault)) == DONE:
-        sections[found.section].append(item_of(payload, found))
+        sections[found.section].append(item_of(payload, length, found))
         number, place = number + 1, found.next
     return sections, place, None if status == Status.NO_ITEM else error_of(status, at.value)
 
 
-def item_of(payload: int, found: FoundItem) -> Union[Question, Record]:
-    """The question or the record that was found."""
+def item_of(payload: int, length: int, found: FoundItem) -> Union[Question, Record]:
+    """The question or the record that was found in the payload."""
     name: Union[str, DomainName]
     spelling = ctypes.string_at(ctypes.addressof(found) + NAME_PLACE, found.name_length)
     name = names.text(spelling) if found.netbios else DomainName(tuple(names.labels(spelling)))
     if not found.section:
         return Question(name, found.type, found.class_number)
     return Record(name, found.type, found.class_number, found.time_to_live,
-                  read_rdata(found.type, payload, found.data, found.data_length))
+                  read_rdata(found.type, payload, length, found.data, found.data_length))

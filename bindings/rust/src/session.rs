@@ -1,26 +1,22 @@
 //! Packets of the session service, port 139: RFC 1002 section 4.3.
 //!
 //! ```
-//! use nbt::session::{read, write, Kind, Next};
+//! use nbt::session::{packets, write, Kind};
 //!
-//! let mut stream: &[u8] = b"\0\0\0\x05hello\x85\0\0\0\0\0\0\x05he";
+//! let mut stream = packets(b"\0\0\0\x05hello\x85\0\0\0\0\0\0\x05he");
 //! let mut bodies = Vec::new();
-//! let missing = loop {
-//!     match read(stream)? {
-//!         Next::Packet(packet) => {
-//!             bodies.push((packet.kind, packet.body));
-//!             stream = &stream[packet.used..];
-//!         }
-//!         Next::More(missing) => break missing,
-//!     }
-//! };
+//! for packet in &mut stream {
+//!     let packet = packet?;
+//!     bodies.push((packet.kind, packet.body));
+//! }
 //! assert_eq!(bodies, [(Kind::Message, &b"hello"[..]), (Kind::KeepAlive, b"")]);
-//! assert_eq!(missing, 3);
+//! assert_eq!((stream.rest(), stream.missing()), (&b"\0\0\0\x05he"[..], 3));
 //! assert_eq!(write(Kind::Message, b"hello")?, b"\0\0\0\x05hello");
 //! # Ok::<(), nbt::Error>(())
 //! ```
 
 use std::fmt;
+use std::iter::FusedIterator;
 use std::net::{Ipv4Addr, SocketAddrV4};
 
 use crate::calls::{nbt_session_read, nbt_session_write, FoundSession, DONE, MORE};
@@ -131,6 +127,62 @@ pub fn read(bytes: &[u8]) -> Result<Next<'_>> {
         _ => Err(Error::new(status, at)),
     }
 }
+
+/// The packets of what came over a connection to port 139, one after the other. Those that are there whole are handed out, and
+/// after them the error with which [`read`] refuses what follows, if it does.
+pub fn packets(bytes: &[u8]) -> Packets<'_> {
+    Packets {
+        rest: bytes,
+        missing: 0,
+        ended: false,
+    }
+}
+
+/// The packets that haven't been handed out yet.
+#[derive(Clone, Debug)]
+pub struct Packets<'a> {
+    rest: &'a [u8],
+    missing: usize,
+    ended: bool,
+}
+
+impl<'a> Packets<'a> {
+    /// What follows the packets that were handed out.
+    pub fn rest(&self) -> &'a [u8] {
+        self.rest
+    }
+
+    /// How many bytes are missing, at least, of the packet that begins there; 0 where nothing follows, and before the end.
+    pub fn missing(&self) -> usize {
+        self.missing
+    }
+}
+
+impl<'a> Iterator for Packets<'a> {
+    type Item = Result<Packet<'a>>;
+
+    fn next(&mut self) -> Option<Result<Packet<'a>>> {
+        if self.ended || self.rest.is_empty() {
+            return None;
+        }
+        match read(self.rest) {
+            Ok(Next::Packet(packet)) => {
+                self.rest = &self.rest[packet.used..];
+                Some(Ok(packet))
+            }
+            Ok(Next::More(missing)) => {
+                (self.missing, self.ended) = (missing, true);
+                None
+            }
+            Err(error) => {
+                self.ended = true;
+                Some(Err(error))
+            }
+        }
+    }
+}
+
+impl FusedIterator for Packets<'_> {}
 
 /// The packet of this kind with this body. What is written is what [`read`] reads.
 ///

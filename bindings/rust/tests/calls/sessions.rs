@@ -1,7 +1,7 @@
 //! Packets of port 139.
 
 use crate::{joined, refused, FRED, JOE};
-use nbt::session::{read, write, Kind, Next, Packet};
+use nbt::session::{packets, read, write, Kind, Next, Packet};
 use nbt::Status;
 
 #[test]
@@ -128,4 +128,37 @@ fn numbers_are_kinds() {
         ]
     );
     assert_eq!(refused(Kind::try_from(0x86)), (Status::UnknownType, None));
+}
+
+#[test]
+fn streams_are_cut() {
+    let front = b"\0\0\0\x05hello\x85\0\0\0";
+    for (rest, missing) in [
+        (&b""[..], 0),
+        (b"\x85", 3),
+        (b"\0\0\0\x05he", 3),
+        (b"\0\0\0", 1),
+    ] {
+        let bytes = joined(&[front, rest]);
+        let mut stream = packets(&bytes);
+        assert_eq!((stream.rest(), stream.missing()), (&bytes[..], 0));
+        let found: Vec<_> = (&mut stream).map(|it| it.unwrap().body).collect();
+        assert_eq!(found, [&b"hello"[..], b""]);
+        assert_eq!(
+            (stream.rest(), stream.missing(), stream.next()),
+            (rest, missing, None)
+        );
+    }
+}
+
+#[test]
+fn streams_end_where_no_packet_begins() {
+    let bytes = joined(&[b"\x85\0\0\0", b"\x86\0\0\0", b"\x85\0\0\0"]);
+    let mut stream = packets(&bytes);
+    assert_eq!(stream.next().unwrap().unwrap().kind, Kind::KeepAlive);
+    assert_eq!(refused(stream.next().unwrap()), (Status::UnknownType, None));
+    assert_eq!(
+        (stream.next(), stream.rest(), stream.missing()),
+        (None, &bytes[4..], 0)
+    );
 }

@@ -202,7 +202,7 @@ programs() {
     $CC "${strict[@]}" -o "$room/claims" "$top/examples/claims.c" "$built/libnbt.a" >"$room/log" 2>&1
     count $? "examples/claims.c: $(head -n 1 "$room/log")"
     ended "$room/claims" <"$room/office.txt" | same "$(printf 'FRED<20> 10.0.0.6\n%.0s' 1 2 3)" 'the claims of the office'
-    ended "$room/claims" <"$room/samba.txt" | grep -c 'group$' | same 32 'the claims of groups that Samba sends'
+    ended "$room/claims" <"$room/samba.txt" | grep -c 'group$' | same 28 'the claims of groups that Samba sends'
     in_python "$top/examples/claimants.py" <"$room/office.txt" | same 'no name has two claimants' 'the claimants of the office'
     in_python "$top/examples/claimants.py" <"$room/samba.txt" | same "$(printf 'FRED<%s> 10.0.0.5 10.0.0.6\n' 00 03 20)" \
         'the claimants of names that Samba sends'

@@ -4,8 +4,10 @@ from __future__ import annotations
 import ctypes
 import enum
 import ipaddress
+import struct
 from dataclasses import dataclass
-from typing import Any, Callable, Iterator, List, Optional, Tuple, Union
+from functools import lru_cache
+from typing import Any, Iterator, Optional, Tuple, Union
 
 from . import names
 from .library import ADDRESS, ALONE, DONE, LENGTH, call
@@ -102,36 +104,13 @@ class DomainName:
 Rdata = Union[Tuple[NbEntry, ...], NodeStatus, DomainName, bytes]
 
 
-class FoundAddress(ctypes.Structure):
-    """struct nbt_service_address."""
+# The addresses of a name, and the names of a node, of which a byte that counts them stands before the first.
+ENTRY, NODE, NODES_AT = struct.Struct('>HL'), struct.Struct('>16sH'), 1
+# What a call fills in for a part, at most, and a number that no part has.
+ROOM, NO_NUMBER = ctypes.c_char * 32, ctypes.c_size_t(-1).value
 
-    _fields_ = [('address', ctypes.c_uint32), ('flags', ctypes.c_uint16)]
-
-
-class FoundNode(ctypes.Structure):
-    """struct nbt_service_node."""
-
-    _fields_ = [('flags', ctypes.c_uint16), ('name', ctypes.c_uint8 * 16)]
-
-
-def parts(name: str, structure: Any, made: Callable[[Any], Any]) -> Callable[[int, int, int], Optional[List[Any]]]:
-    """A call that fills in a structure for a part of RDATA, made for all of them, of each of which a value is made: None
-    where the RDATA hasn't the form."""
-    part_of = call(name, ctypes.c_uint16, ADDRESS, LENGTH, LENGTH, ADDRESS, ADDRESS, library=ALONE)
-
-    def read(kind: int, address: int, length: int) -> Optional[List[Any]]:
-        values: List[Any] = []
-        part, at = structure(), ctypes.c_size_t()
-        into, place = ctypes.addressof(part), ctypes.addressof(at)
-        while (status := part_of(kind, address, length, len(values), into, place)) == DONE:
-            values.append(made(part))
-        return values if status == Status.NO_PART else None
-
-    return read
-
-
-ADDRESSES = parts('nbt_service_address', FoundAddress, lambda it: NbEntry(it.flags, ipaddress.IPv4Address(it.address)))
-NODES = parts('nbt_service_node', FoundNode, lambda it: NodeName(names.text(names.spelled(bytes(it.name))), it.flags))
+PART = ctypes.c_uint16, ADDRESS, LENGTH, LENGTH, ADDRESS, ADDRESS
+ADDRESSES, NODES = (call(name, *PART, library=ALONE) for name in ('nbt_service_address', 'nbt_service_node'))
 UNIT = call('nbt_service_unit', ctypes.c_uint16, ADDRESS, LENGTH, ADDRESS, ADDRESS, library=ALONE)
 
 
@@ -140,11 +119,26 @@ def read_rdata(kind: int, payload: int, payload_length: int, place: int, length:
     address = payload + place
     if kind == NS:
         return DomainName(tuple(labels_at(payload, payload_length, place)))
-    if kind == NB and (entries := ADDRESSES(kind, address, length)) is not None:
-        return tuple(entries)
-    if kind == NBSTAT and (nodes := NODES(kind, address, length)) is not None:
-        return NodeStatus(tuple(nodes), read_unit(address, length))
-    return ctypes.string_at(address, length)
+    data = ctypes.string_at(address, length)
+    if kind == NB and count_of(ADDRESSES, kind, address, length) is not None:
+        return tuple([NbEntry(flags, ipaddress.IPv4Address(number)) for flags, number in ENTRY.iter_unpack(data)])
+    if kind == NBSTAT and (count := count_of(NODES, kind, address, length)) is not None:
+        nodes = NODE.iter_unpack(data[NODES_AT:NODES_AT + count * NODE.size])
+        return NodeStatus(tuple([NodeName(node_text(name), flags) for name, flags in nodes]), read_unit(address, length))
+    return data
+
+
+def count_of(part_of: Any, kind: int, address: int, length: int) -> Optional[int]:
+    """How many parts RDATA has; None where it hasn't the form of its type."""
+    part, at = ROOM(), ctypes.c_size_t()
+    status = part_of(kind, address, length, NO_NUMBER, ctypes.addressof(part), ctypes.addressof(at))
+    return at.value if status == Status.NO_PART else None
+
+
+@lru_cache(4_096)
+def node_text(name: bytes) -> str:
+    """The text of a name of sixteen bytes."""
+    return names.text(names.spelled(name))
 
 
 def read_unit(address: int, length: int) -> Optional[bytes]:

@@ -3,7 +3,9 @@ from __future__ import annotations
 
 import ctypes
 import enum
+import struct
 from dataclasses import dataclass
+from functools import lru_cache
 from typing import Any, List, Optional, Tuple, Union, cast
 
 from . import names
@@ -11,7 +13,7 @@ from .buffers import Buffer, lend
 from .library import ADDRESS, ALONE, DONE, LENGTH, behind, call, error_of
 from .numbers import whole_number
 from .rdata import DomainName, Rdata, read_rdata
-from .statuses import NbtError, Status
+from .statuses import NbtError
 
 HEADER_LENGTH = 12
 
@@ -40,25 +42,12 @@ class ResultCode(enum.IntEnum):
     CFT_ERR = 7
 
 
-class FoundHeader(ctypes.Structure):
-    """struct nbt_service_header."""
-
-    _fields_ = [(each, ctypes.c_uint16) for each in ('identifier', 'word', 'questions', 'answers', 'authorities', 'additional')] \
-        + [('used', ctypes.c_size_t)]
-
-
-class FoundItem(ctypes.Structure):
-    """struct nbt_service_item."""
-
-    _fields_ = [('section', ctypes.c_uint32), ('time_to_live', ctypes.c_uint32), ('type', ctypes.c_uint16),
-                ('class_number', ctypes.c_uint16), ('data', ctypes.c_size_t), ('data_length', ctypes.c_size_t),
-                ('next', ctypes.c_size_t), ('netbios', ctypes.c_uint8), ('name_length', ctypes.c_uint8),
-                ('name', ctypes.c_uint8 * 255)]
-
+# struct nbt_service_header and struct nbt_service_item, and room for one.
+HEADER_LAYOUT, ITEM_LAYOUT = struct.Struct('@6HN'), struct.Struct('@2I2H3N2B255s0N')
+HEADER_ROOM, ITEM_ROOM = (ctypes.c_char * layout.size for layout in (HEADER_LAYOUT, ITEM_LAYOUT))
 
 HEADER = call('nbt_service_header', ADDRESS, LENGTH, ADDRESS, ADDRESS, library=ALONE)
 ITEM = call('nbt_service_item', ADDRESS, LENGTH, ctypes.c_uint32, LENGTH, ADDRESS, ADDRESS, library=ALONE)
-NAME_PLACE = FoundItem.name.offset
 
 
 @dataclass(frozen=True)
@@ -152,14 +141,14 @@ class ServicePacket:
 def read_at(address: int, length: int, offset: int) -> Tuple[Optional[ServicePacket], Optional[NbtError]]:
     """What stands at an offset of the bytes at an address, and the fault."""
     front, left = behind(address, length, offset)
-    header, at = FoundHeader(), ctypes.c_size_t()
+    header, at = HEADER_ROOM(), ctypes.c_size_t()
     status = HEADER(front, left, ctypes.addressof(header), ctypes.addressof(at))
     if status != DONE:
         return None, error_of(status, at.value)
-    sections, used, fault = read_items(front, left)
-    word, counts = header.word, (header.questions, header.answers, header.authorities, header.additional)
-    questions, answers, authorities, additional = [tuple(each) for each in sections]
-    return ServicePacket(header.identifier, word & 0x8000 != 0, OPERATIONS[word >> 11 & 15], word & 0x07f0, RESULTS[word & 15],
+    identifier, word, *numbers, _used = HEADER_LAYOUT.unpack(header)
+    sections, used, fault = read_items(front, left, sum(numbers))
+    counts, questions, answers, authorities, additional = [tuple(each) for each in (numbers, *sections)]
+    return ServicePacket(identifier, word & 0x8000 != 0, OPERATIONS[word >> 11 & 15], word & 0x07f0, RESULTS[word & 15],
                          counts, questions, answers, authorities, additional, used), fault
 
 
@@ -171,24 +160,25 @@ def numbered(kind: Any) -> List[Any]:
 OPERATIONS, RESULTS = numbered(Operation), numbered(ResultCode)
 
 
-def read_items(payload: int, length: int) -> Tuple[List[List[Any]], int, Optional[NbtError]]:
-    """The questions and records that stand in the payload at an address, by sections; where they end; and the fault of the next
-    one, if there should be one."""
-    sections: List[List[Any]] = [[], [], [], []]
-    number, place, found, at = 0, HEADER_LENGTH, FoundItem(), ctypes.c_size_t()
-    into, fault = ctypes.addressof(found), ctypes.addressof(at)
-    while (status := ITEM(payload, length, number, place, into, fault)) == DONE:
-        sections[found.section].append(item_of(payload, length, found))
-        number, place = number + 1, found.next
-    return sections, place, None if status == Status.NO_ITEM else error_of(status, at.value)
+def read_items(payload: int, length: int, count: int) -> Tuple[List[Any], int, Optional[NbtError]]:
+    """The questions and records that stand in the payload at an address, of so many, by sections; where they end; and the fault
+    of the next one, if there should be one."""
+    sections: List[Any] = [[], [], [], []]
+    place, room, at = HEADER_LENGTH, ITEM_ROOM(), ctypes.c_size_t()
+    into, fault = ctypes.addressof(room), ctypes.addressof(at)
+    for number in range(count):
+        status = ITEM(payload, length, number, place, into, fault)
+        if status != DONE:
+            return sections, place, error_of(status, at.value)
+        section, ttl, kind, class_number, data, data_length, place, netbios, name_length, spelling = ITEM_LAYOUT.unpack(room)
+        name = name_of(spelling[:name_length], netbios)
+        sections[section].append(
+            Record(name, kind, class_number, ttl, read_rdata(kind, payload, length, data, data_length)) if section
+            else Question(name, kind, class_number))
+    return sections, place, None
 
 
-def item_of(payload: int, length: int, found: FoundItem) -> Union[Question, Record]:
-    """The question or the record that was found in the payload."""
-    name: Union[str, DomainName]
-    spelling = ctypes.string_at(ctypes.addressof(found) + NAME_PLACE, found.name_length)
-    name = names.text(spelling) if found.netbios else DomainName(tuple(names.labels(spelling)))
-    if not found.section:
-        return Question(name, found.type, found.class_number)
-    return Record(name, found.type, found.class_number, found.time_to_live,
-                  read_rdata(found.type, payload, length, found.data, found.data_length))
+@lru_cache(4_096)
+def name_of(spelling: bytes, netbios: bool) -> Union[str, DomainName]:
+    """The text of a NetBIOS name, or the labels of another name."""
+    return names.text(spelling) if netbios else DomainName(tuple(names.labels(spelling)))

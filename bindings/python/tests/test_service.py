@@ -5,9 +5,11 @@ import json
 import pickle
 import unittest
 from dataclasses import FrozenInstanceError
+from unittest import mock
 
 import nbt
 from nbt import DomainName, NbEntry, NodeName, NodeStatus, NodeType, Operation, Question, Record, ResultCode, ServicePacket, Status
+from nbt import service_packets
 
 FRED = b'\x20EGFCEFEECACACACACACACACACACACACA\0'
 ADDRESS = ipaddress.IPv4Address('10.0.0.6')
@@ -126,6 +128,21 @@ class Refused(unittest.TestCase):
                                  ((b'\x3f' + bytes(63)) * 4, Status.NAME_LONG, start + 192)):
             found, place, front = self.refused(response(b'\0\2', data))
             self.assertEqual((found, place, front.records), (status, at, ()))
+
+    def test_changed_meanwhile(self):
+        """Another thread changes a buffer after a name was found in it, which then leads to itself, past the end, or over it."""
+        item, start = service_packets.ITEM, 12 + len(FRED) + 10
+        for changed, labels in ((bytes([0xc0, start, 0, 0]), ()), (b'\xff\xff\0\0', ()), (b'\x3fab\0', (b'ab\0',)), (b'\1a\xff\xff', (b'a',))):
+            buffer = bytearray(response(b'\0\2', b'\2ns\0'))
+
+            def found(*words):
+                status = item(*words)
+                buffer[start:] = changed
+                return status
+
+            with mock.patch.object(service_packets, 'ITEM', found):
+                packet = ServicePacket.read(buffer)
+            self.assertEqual(packet.answers[0].rdata, DomainName(labels))
 
     def test_outside(self):
         for call in ServicePacket.read, ServicePacket.read_front:

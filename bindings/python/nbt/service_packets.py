@@ -145,11 +145,11 @@ def read_at(address: int, length: int, offset: int) -> Tuple[Optional[ServicePac
     status = HEADER(front, left, ctypes.addressof(header), ctypes.addressof(at))
     if status != DONE:
         return None, error_of(status, at.value)
-    identifier, word, *numbers, _used = HEADER_LAYOUT.unpack(header)
-    sections, used, fault = read_items(front, left, sum(numbers))
-    counts, questions, answers, authorities, additional = [tuple(each) for each in (numbers, *sections)]
+    identifier, word, qd, an, ns, ar, _used = HEADER_LAYOUT.unpack(header)
+    sections, used, fault = read_items(front, left, qd + an + ns + ar)
+    questions, answers, authorities, additional = [tuple(each) for each in sections]
     return ServicePacket(identifier, word & 0x8000 != 0, OPERATIONS[word >> 11 & 15], word & 0x07f0, RESULTS[word & 15],
-                         counts, questions, answers, authorities, additional, used), fault
+                         (qd, an, ns, ar), questions, answers, authorities, additional, used), fault
 
 
 def numbered(kind: Any) -> List[Any]:

@@ -141,20 +141,20 @@ pub enum Outcome<'a> {
 }
 
 impl Station {
-    /// A station with the names that have these texts (a space in one stands between two names), an empty table, and
-    /// this much room. Error packets have this address. A key is kept from its first fragment on until the clock drops
+    /// A station with the names that have these texts, in a list of any kind (a space in one stands between two names), an
+    /// empty table, and this much room. Error packets have this address. A key is kept from its first fragment on until the clock drops
     /// it, some 200 bytes and the data each.
     ///
     /// # Errors
     ///
     /// The first fault of the names in order, whose place counts in the texts with one space between two: `BadText`,
     /// `LongText`, `NamePresent`, `TooManyNames`; `NoMemory`, which may come before them.
-    pub fn new(names: &[&str], address: SocketAddrV4, limits: Limits) -> Result<Station> {
-        // Joined, one empty text would be no text at all.
-        if names == [""] {
-            spell("")?;
-        }
-        let (texts, mut at) = (names.join(" "), 0);
+    pub fn new<N>(names: N, address: SocketAddrV4, limits: Limits) -> Result<Station>
+    where
+        N: IntoIterator,
+        N::Item: AsRef<str>,
+    {
+        let (texts, mut at) = (joined(names)?, 0);
         let mut handle = Handle {
             at: ptr::null_mut(),
         };
@@ -291,6 +291,24 @@ impl<'a> Iterator for Deliveries<'a> {
             data,
         })
     }
+}
+
+/// The texts with one space between two. One empty text would then be no text at all, and is refused.
+fn joined<N>(names: N) -> Result<String>
+where
+    N: IntoIterator,
+    N::Item: AsRef<str>,
+{
+    let (mut texts, mut count) = (String::new(), 0);
+    for name in names {
+        texts.extend((count > 0).then_some(' '));
+        texts += name.as_ref();
+        count += 1;
+    }
+    if count == 1 && texts.is_empty() {
+        spell("")?;
+    }
+    Ok(texts)
 }
 
 impl Drop for Station {

@@ -6,6 +6,7 @@ mod names;
 mod service;
 mod sessions;
 mod shown;
+mod station_values;
 mod stations;
 mod tables;
 

@@ -5,12 +5,12 @@ use std::thread;
 use crate::tables::EMPTY;
 use crate::{joined, refused};
 use nbt::datagram::{Datagram, Kind, Packets};
-use nbt::station::{Key, Outcome, OwnedDelivery};
+use nbt::station::{Key, Outcome};
 use nbt::{merge, Limits, Station, Status};
 
 /// A station at 10.0.0.9:138 with these names.
 #[track_caller]
-fn station(names: &[&str]) -> Station {
+pub fn station(names: &[&str]) -> Station {
     limited(names, Limits::default())
 }
 
@@ -33,7 +33,7 @@ fn datagram(identifier: u16, destination: &str) -> Datagram<'_> {
 }
 
 /// Its two pieces.
-fn pieces(identifier: u16, destination: &str) -> [Vec<u8>; 2] {
+pub fn pieces(identifier: u16, destination: &str) -> [Vec<u8>; 2] {
     let packets = datagram(identifier, destination).cut(6).unwrap();
     <[Vec<u8>; 2]>::try_from(payloads(&packets)).unwrap()
 }
@@ -148,7 +148,7 @@ fn the_longest_datagram_is_handed_over() {
 #[test]
 fn nobody_hears() {
     let address = "10.0.0.9:1138".parse().unwrap();
-    let mut station = Station::new(&[], address, Limits::default()).unwrap();
+    let mut station = Station::new([""; 0], address, Limits::default()).unwrap();
     let [first, second] = pieces(7, "ANN<20>");
     assert_eq!(station.take(0, &first).unwrap(), Outcome::Kept(key(7)));
     let answer = Some(&b"\x13\x02\0\x07\x0a\0\0\x09\x04\x72\x82"[..]);
@@ -360,30 +360,4 @@ fn tables_that_are_not_taken_in() {
         );
         assert_eq!(station.save().unwrap(), before);
     }
-}
-
-#[test]
-fn deliveries_are_kept() {
-    let mut station = station(&["FRED<20>"]);
-    let mut kept = Vec::new();
-    for identifier in 1..4 {
-        for payload in pieces(identifier, "FRED<20>") {
-            if let Outcome::Delivered(it) = station.take(0, &payload).unwrap() {
-                kept.push(it.to_owned());
-                let copy = kept.last().unwrap();
-                assert_eq!((copy.kind, copy.key), (it.kind, it.key));
-                assert_eq!(
-                    (copy.source, copy.destination),
-                    (it.source.into(), it.destination.into())
-                );
-                assert_eq!(copy.data, it.data);
-            }
-        }
-    }
-    drop(station);
-    let shown =
-        |it: &OwnedDelivery| format!("{} {} {} {}", it.key, it.kind, it.source, it.destination);
-    let shown: Vec<_> = kept.iter().map(shown).collect();
-    let wanted = [1, 2, 3].map(|it| format!("10.0.0.5:138/{it:04x} unique JOE<00> FRED<20>"));
-    assert_eq!(shown, wanted);
 }

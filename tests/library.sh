@@ -213,7 +213,7 @@ python() {
     grep -cE '\.\.\. ok$' "$room/log" >"$room/tests"
     passed=$((passed + $(cat "$room/tests")))
     lines "$payloads" 3
-    NBT_LIBRARY=$built/libnbt.so.0 PYTHONDONTWRITEBYTECODE=1 PYTHONPATH=$top/bindings/python ended python3 -c '
+    in_python -c '
 import sys, nbt
 for number, line in enumerate(sys.stdin, 1):
     port, digits = line.split()
@@ -223,14 +223,13 @@ for number, line in enumerate(sys.stdin, 1):
     count $? "nbt.show prints what nbt show prints: $(tail -n 1 "$room/errors")"
     grep -v '^tick' "$room/capture" | ended "$program" save --keys 65535 >"$room/table"
     ended "$program" list --keys 65535 <"$room/table" >"$room/listed"
-    NBT_LIBRARY=$built/libnbt.so.0 PYTHONDONTWRITEBYTECODE=1 PYTHONPATH=$top/bindings/python ended python3 -c '
+    in_python -c '
 import sys, nbt
 sys.stdout.write(nbt.list_table(bytes.fromhex(sys.stdin.read())))
 ' <"$room/table" >"$room/output" 2>"$room/errors"
     grep -q ' whole ' "$room/listed" && grep -q ' partial ' "$room/listed" && cmp -s "$room/listed" "$room/output"
     count $? "nbt.list_table prints what nbt list prints: $(tail -n 1 "$room/errors") $(diff "$room/listed" "$room/output" | head -c 300)"
-    NBT_LIBRARY=$built/libnbt.so.0 PYTHONDONTWRITEBYTECODE=1 PYTHONPATH=$top/bindings/python \
-        ended "$here/lib/library_replay.py" 'FRED<20>' 'JOE<00>' <"$room/capture" >"$room/output" 2>"$room/errors"
+    in_python "$here/lib/library_replay.py" 'FRED<20>' 'JOE<00>' <"$room/capture" >"$room/output" 2>"$room/errors"
     replays_alike 'in Python'
 }
 

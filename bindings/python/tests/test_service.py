@@ -3,6 +3,7 @@ import copy
 import ipaddress
 import json
 import pickle
+import sys
 import unittest
 from dataclasses import FrozenInstanceError
 from unittest import mock
@@ -17,6 +18,12 @@ ADDRESS = ipaddress.IPv4Address('10.0.0.6')
 REGISTRATION = (b'\0\2\x29\x10\0\1\0\0\0\0\0\1' + FRED + b'\0\x20\0\1' + b'\xc0\x0c\0\x20\0\1\0\4\x93\xe0\0\6\0\0\x0a\0\0\6')
 REGISTERED = ServicePacket(2, False, Operation.REGISTRATION, 0x0110, ResultCode.OK, (1, 0, 0, 1), (Question('FRED<20>', 0x20, 1),), (), (),
                            (Record('FRED<20>', 0x20, 1, 300_000, (NbEntry(0, ADDRESS),)),), 68)
+
+MATCH = '''
+match packet:
+    case ServicePacket(op=Operation.REGISTRATION, questions=[Question(name)], additional=[Record(rdata=[NbEntry(address=address)])]):
+        pass
+'''
 
 
 def response(kind, data, name=FRED, word=b'\x85\x80', counts=b'\0\0\0\1\0\0\0\0'):
@@ -163,6 +170,12 @@ class Values(unittest.TestCase):
                 self.assertEqual(each, other)
                 self.assertEqual(hash(each), hash(other))
         self.assertEqual(len(set(self.packets)), len(self.packets))
+
+    @unittest.skipIf(sys.version_info < (3, 10), 'Python 3.9 has no match')
+    def test_matched(self):
+        claimed = {'packet': self.packets[0], **vars(nbt)}
+        exec(MATCH, claimed)
+        self.assertEqual((claimed['name'], claimed['address']), ('FRED<20>', ADDRESS))
 
     def test_frozen(self):
         for each in (self.packets[0], *self.packets[0].questions, *self.packets[0].records, self.packets[1].records[0].rdata):

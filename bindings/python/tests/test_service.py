@@ -5,7 +5,8 @@ import json
 import pickle
 import sys
 import unittest
-from dataclasses import FrozenInstanceError
+from concurrent.futures import ThreadPoolExecutor
+from dataclasses import FrozenInstanceError, replace
 from unittest import mock
 
 import nbt
@@ -62,6 +63,12 @@ class Read(unittest.TestCase):
         found = [[it.time_to_live for it in section] for section in (packet.answers, packet.authorities, packet.additional, packet.records)]
         self.assertEqual(found, [[0], [1, 2], [3], [0, 1, 2, 3]])
         self.assertEqual({it.name for it in packet.records}, {'FRED<20>'})
+
+    def test_threads(self):
+        payloads = [REGISTRATION[:1] + bytes([each]) + REGISTRATION[2:] for each in range(256)] * 8
+        with ThreadPoolExecutor(4) as pool:
+            packets = list(pool.map(ServicePacket.read, payloads))
+        self.assertEqual(packets, [replace(REGISTERED, identifier=each) for each in range(256)] * 8)
 
     def test_other_names(self):
         for name, labels, text in ((b'\2ns\3a.b\0', (b'ns', b'a.b'), r'ns.a\2eb'), (b'\0', (), '.')):

@@ -113,10 +113,12 @@ static bool print_nodes(const uint8_t *data, size_t length) {
 static void print_item(const uint8_t *payload, const struct nbt_service_item *it) {
     const uint8_t *data = payload + it->data;
     printf("  %u ", (unsigned)it->section);
-    if (it->netbios)
+    if (it->netbios) {
         print_text(it->name, it->name_length);
-    else
+    } else {
+        printf("labels:");
         print_labels(it->name, it->name_length);
+    }
     printf(" %04x %04x", it->type, it->class_number);
     if (it->section != 0) {
         printf(" %u", (unsigned)it->time_to_live);

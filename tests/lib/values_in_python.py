@@ -35,10 +35,15 @@ def standing(packet):
     word = packet.response << 15 | packet.op << 11 | packet.flags | packet.rcode
     yield f'header {packet.identifier:04x} {word:04x} {" ".join(map(str, packet.counts))} used {packet.used}'
     for it in packet.questions:
-        yield f'0 {it.name} {it.type:04x} {it.class_number:04x}'
+        yield f'0 {marked(it.name)} {it.type:04x} {it.class_number:04x}'
     for section, records in enumerate((packet.answers, packet.authorities, packet.additional), 1):
         for it in records:
-            yield f'{section} {it.name} {it.type:04x} {it.class_number:04x} {it.time_to_live} {rdata(it.rdata)}'
+            yield f'{section} {marked(it.name)} {it.type:04x} {it.class_number:04x} {it.time_to_live} {rdata(it.rdata)}'
+
+
+def marked(name):
+    """A name, with what it is before one that is no NetBIOS name."""
+    return name if isinstance(name, str) else f'labels:{name}'
 
 
 def rdata(value):

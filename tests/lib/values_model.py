@@ -7,7 +7,7 @@ Of port 137 there is a line for the packet, one for its header and one for each 
 number of its status, and its place, or - where it has none."""
 import sys
 
-from fuzz_packets import KINDS, QUERIES, Name, Refused, header_of, read_fragment, read_labels, read_name_of
+from fuzz_packets import KINDS, QUERIES, Name, Refused, header_of, name_of, read_fragment, read_labels, read_name_of
 from fuzz_packets import key_text, session_end, text_of
 from object_model import domain_text
 
@@ -56,10 +56,18 @@ def item_at(payload, at, section):
     end = data + (number(payload, at + 8, 2) if section else 0)
     if data > len(payload) or end > len(payload):
         raise Fault(TRUNCATED, len(payload))
-    kind, front = number(payload, at, 2), f'{section} {domain_text(labels)} {number(payload, at, 2):04x} {number(payload, at + 2, 2):04x}'
+    kind, front = number(payload, at, 2), f'{section} {marked(labels)} {number(payload, at, 2):04x} {number(payload, at + 2, 2):04x}'
     if not section:
         return front, end
     return f'{front} {number(payload, at + 4, 4)} {rdata(payload, kind, data, end)}', end
+
+
+def marked(labels):
+    """The text of a name, with what it is before one that is no NetBIOS name."""
+    try:
+        return text_of(name_of(labels))
+    except Refused:
+        return f'labels:{domain_text(labels)}'
 
 
 def rdata(payload, kind, data, end):

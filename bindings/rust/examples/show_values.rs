@@ -8,6 +8,7 @@ use std::io::{self, BufRead, Write as _};
 use nbt::datagram::{self, Body};
 use nbt::service::{self, Packet, Rdata, Record, Section};
 use nbt::session::{self, Next};
+use nbt::Name;
 
 fn main() -> Result<(), Box<dyn Error>> {
     let mut out = io::BufWriter::new(io::stdout().lock());
@@ -54,7 +55,7 @@ fn standing(packet: &Packet<'_>) -> String {
         header.identifier, header.word, packet.used
     );
     for it in packet.questions() {
-        said += &format!("\n  0 {} {:04x} {:04x}", it.name, it.kind, it.class);
+        said += &format!("\n  0 {} {:04x} {:04x}", marked(it.name), it.kind, it.class);
     }
     let parts = [packet.answers(), packet.authorities(), packet.additional()];
     let count: usize = parts.iter().map(|it| it.len()).sum();
@@ -73,8 +74,14 @@ fn record_line(it: &Record<'_>) -> String {
         Section::Additional => 3,
     };
     let said = rdata_words(&it.rdata());
-    let (name, kind, class, seconds) = (it.name, it.kind, it.class, it.time_to_live);
+    let (name, kind, class, seconds) = (marked(it.name), it.kind, it.class, it.time_to_live);
     format!("\n  {section} {name} {kind:04x} {class:04x} {seconds} {said}")
+}
+
+/// A name, with what it is before one that is no NetBIOS name.
+fn marked(name: Name) -> String {
+    let mark = if name.is_netbios() { "" } else { "labels:" };
+    format!("{mark}{name}")
 }
 
 /// What RDATA says.

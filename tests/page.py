@@ -208,10 +208,12 @@ class Cases:
         self.browser.open(self.page)
         self.browser.give(self.path('<img src=x onerror=alert(1)>.txt', page_files.markup(self.program).encode()))
         self.browser.choose(1)
-        check('<img' in ' '.join(self.browser.texts('#packet dd')), f"markup in a name: {self.browser.texts('#packet dd')}")
-        for view in ('names', 'reassembly', 'out', 'packets'):
+        check('3cimg' in ' '.join(self.browser.texts('#packet dd')), f"markup in a name: {self.browser.texts('#packet dd')}")
+        for view in ('names', 'out', 'packets', 'reassembly'):
             self.browser.view(view)
             equal(self.browser.all('#views img, h1 img'), [], f'no element is made of a file, {view}')
+        self.browser.wait(self.browser.tables)
+        check('<img src=x>' in str(self.browser.tables().get('keys')), f'data is text: {self.browser.tables()}')
 
     def keys(self):
         """Keys, and the address."""

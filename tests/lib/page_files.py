@@ -65,7 +65,7 @@ def taps(program):
 def odd():
     """A capture of datagrams, fragments of IP and streams, with a snap length and bytes that are missing."""
     random_pcap.vxlan = random_pcap.nested = random_pcap.gre = lambda packet: packet
-    return random_pcap.pcap_of(random.Random('odd'))
+    return random_pcap.pcap_of(random.Random('page-0'))
 
 
 def markup(program):
@@ -94,9 +94,9 @@ def bad(program):
          'block.pcapng: a block of 4294967292 bytes, at byte 72'),
         ('faces.pcapng', faces, 'faces.pcapng: more than 65536 interfaces, at byte'),
         ('random.pcap', PCAP + frames + b'x', 'random.pcap: the header of a frame is cut, at byte'),
-        ('table.txt', table[:-2], 'table.txt: table: truncated'),
-        ('changed.txt', table[:8] + b'ffff' + table[12:], 'changed.txt: table: '),
-        ('version.txt', b'4e425433' + table[8:], 'version.txt: table: bad magic'),
+        ('table.txt', table[:-2], f'table.txt: table: truncated, at byte {len(table) // 2 - 1}'),
+        ('changed.txt', table[:8] + b'ffffffff' + table[16:], 'changed.txt: table: '),
+        ('version.txt', b'4e425433' + table[8:], 'version.txt: table: bad magic, at byte 0'),
         ('two', [('one.pcap', PCAP + good[:8]), ('two.png', b'\x89PNG')], 'two.png: no pcap, no pcapng'),
     ]
 

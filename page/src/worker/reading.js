@@ -1,4 +1,5 @@
 /** Reads a file a while at a time, so that the worker answers meanwhile, and can be stopped. */
+import { NbtError } from '../../../bindings/javascript/nbt.mjs';
 import { FileFault } from '../containers/frames.js';
 import { linesOf, payloadsIn } from '../containers/lines.js';
 import { PayloadReader, framesOf } from '../containers/payloads.js';
@@ -78,8 +79,8 @@ export class Reading {
         tap.kind = 'table';
         if (file.size > MOST_TABLE) throw new FileFault(`a saved table of ${file.size} bytes`, 0);
         const tables = isBinary ? [file.bytes(0, file.size).slice()] : tablesOf(file);
+        for (const each of tables) judge(each, tap.library);
         const [first, ...rest] = tables;
-        tap.library.list(first);
         tap.table = rest.reduce((joined, each) => tap.library.merge(joined, each), first);
     }
 
@@ -101,5 +102,20 @@ export class Reading {
             if (this.isStopped) return;
             began = performance.now();
         }
+    }
+}
+
+/**
+ * @param {Uint8Array} table
+ * @param {import('../../../bindings/javascript/nbt.mjs').Nbt} library
+ * @throws {FileFault} where it is no saved table
+ */
+function judge(table, library) {
+    try {
+        library.list(table);
+    } catch (error) {
+        if (!(error instanceof NbtError) || error.status === 'NO_MEMORY') throw error;
+        const words = error.message.replace(/ \d+$/, '');
+        throw new FileFault(words, error.at ?? (error.status === 'TABLE_TRUNCATED' ? table.length : 0));
     }
 }

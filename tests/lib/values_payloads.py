@@ -24,8 +24,8 @@ class Packets:
     def name(self):
         """A name: labels, and then a zero byte or a pointer to where some label stands."""
         rng, before = self.rng, list(self.places)
-        first = bytes(rng.choices(LETTERS, k=32))
-        for label in [[first], [b'NS', b'COM'], [first, b'a.b'], [], [rng.randbytes(rng.choice((1, 32, 63)))]][rng.randrange(5)]:
+        first, other = bytes(rng.choices(LETTERS, k=32)), bytes(rng.choices(LETTERS, k=rng.choice((31, 33))))
+        for label in rng.choice(([first], [b'NS', b'COM'], [first, b'a.b'], [], [rng.randbytes(rng.choice((1, 32, 63)))], [other])):
             self.places.append(len(self.packet))
             self.packet += bytes([len(label)]) + label
         if before and rng.random() < 0.5:

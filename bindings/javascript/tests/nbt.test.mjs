@@ -37,9 +37,11 @@ test('a module has each call of nbt.h', async () => {
     const { exports } = (await WebAssembly.instantiate(wasm, {})).instance;
     const calls = new Set(Array.from(readFileSync(header, 'utf8').matchAll(/\b(nbt_[a-z_]+)\(/g), ([, name]) => name));
     const source = readFileSync(`${folder}/nbt.mjs`, 'utf8');
+    // What these give, `json` has as members.
+    const told = ['header', 'read', 'item', 'address', 'node', 'unit'].map((part) => `nbt_service_${part}`);
     for (const name of calls) {
         assert.equal(typeof exports[name], 'function');
-        assert.equal(source.split(`'${name}'`).length, 3, `${name} is listed and called`);
+        assert.equal(source.split(`'${name}'`).length, told.includes(name) ? 1 : 3, `${name} is listed and called`);
     }
 });
 

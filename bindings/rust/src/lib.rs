@@ -39,6 +39,7 @@ mod names;
 mod packets;
 mod rdata;
 mod room;
+mod service_header;
 mod service_packets;
 mod status;
 mod tables;

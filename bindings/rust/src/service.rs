@@ -29,8 +29,9 @@ use crate::Result;
 
 pub use crate::codes::{NodeType, Operation, ResultCode};
 pub use crate::rdata::{Addresses, NodeName, NodeNames, NodeStatus, Rdata, NB, NBSTAT, NS};
+pub use crate::service_header::Header;
 pub use crate::service_packets::{
-    read, read_front, Front, Header, Packet, Question, Questions, Record, Records, Section,
+    read, read_front, Front, Packet, Question, Questions, Record, Records, Section,
 };
 
 /// What is said of a name: an entry of RDATA.

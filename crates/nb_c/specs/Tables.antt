@@ -49,15 +49,19 @@ Joins l s t (Ok bytes) = Fits l s t × (bytes ≡ saved (join s t))
 Joins l s t (Err refusal) =
     (fault : TableFault) × (fault ≢ tables.NoMemory) × IsRefused l s t fault × (refusal ≡ table_refusal fault)
 
--- Merges first second limits answer: this is answered of two saved tables: the first is read, then the second, then
--- they are joined, each under these limits
-pub data Merges (first second : List ℕ) (limits : Limits) : Result (List ℕ) Refusal → Type 0 where
+-- OfTwo first second limits Then answer: this is answered of two saved tables: the first is read, then the second, each
+-- under these limits, and then what is said of both
+pub data OfTwo {A : Type 0} (first second : List ℕ) (limits : Limits) (Then : Contents → Contents → Result A Refusal → Type 0) : Result A Refusal → Type 0 where
   first_fails : (fault : LoadFault) → fault ≢ loads.NoMemory → LoadFails first limits fault
-      → Merges first second limits (Err (first_refusal fault))
+      → OfTwo first second limits Then (Err (first_refusal fault))
   second_fails : (one : TableValue) (fault : LoadFault) → IsLoaded first limits one → fault ≢ loads.NoMemory
-      → LoadFails second limits fault → Merges first second limits (Err (second_refusal fault))
-  joined : (one other : TableValue) (answer : Result (List ℕ) Refusal) → IsLoaded first limits one
-      → IsLoaded second limits other → Joins limits one.contents other.contents answer → Merges first second limits answer
+      → LoadFails second limits fault → OfTwo first second limits Then (Err (second_refusal fault))
+  both : (one other : TableValue) (answer : Result A Refusal) → IsLoaded first limits one → IsLoaded second limits other
+      → Then one.contents other.contents answer → OfTwo first second limits Then answer
+
+-- Merges first second limits answer: this is answered of two saved tables that are joined, each of the three under these limits
+abbrev pub Merges : List ℕ → List ℕ → Limits → Result (List ℕ) Refusal → Type 0
+Merges first second limits = OfTwo first second limits (Joins limits)
 
 -- the statuses of the second table and of the join, which come after memory is taken for the first
 abbrev pub follow_the_first : ℕ → Bool

@@ -119,7 +119,7 @@ fn listed(alloc: Global, table: &[u8]) -> Result<Bytes, Refusal>
 }
 
 /// The lines of a table's keys.
-fn lines_of(alloc: Global, table: &Table) -> Result<Bytes, NoMemory>
+pub(crate) fn lines_of(alloc: Global, table: &Table) -> Result<Bytes, NoMemory>
     ensures { IfOk result (λ bytes. bytes ≡ listing table.now.contents) }
 {
     let lines = list_keys(alloc, table)?;

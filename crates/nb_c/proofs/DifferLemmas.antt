@@ -127,10 +127,13 @@ module _ (t u : Contents) where
     | inl e ↦ e
     | inr h ↦ absurd h
   ])
-  least_is a (Some k) first then = (b_differs a (Some k) first then, λ j below. elim (same_or_above a (Some k) first then j) [
-    | inl e ↦ e
-    | inr above ↦ absurd (above below)
-  ])
+  least_is a (Some k) first then = (
+    b_differs a (Some k) first then,
+    λ j below. elim (same_or_above a (Some k) first then j) [
+      | inl e ↦ e
+      | inr above ↦ absurd (above below)
+    ],
+  )
 
   -- ---- there is one
 

@@ -1,5 +1,6 @@
 -- The least of all keys at which two tables differ is found among the keys of both.
-use Rattle.std.proofs.Common.{◌≡◌, ◌≢◌, ◌∙◌, ◌||◌, Bool, true, false, List, [], ◌∷◌, Option, Some, None, is_some, Result, Ok, Err, inl, inr, ◌⊎◌, refl, sym, ap, subst, true≢false, ⊤}
+use Rattle.std.proofs.Common.{◌≡◌, ◌≢◌, ◌∙◌, ◌||◌, Bool, true, false, List, [], ◌∷◌, Option, Some, None, is_some, Result, Ok, Err, inl, inr, ◌⊎◌, refl, sym, ap, subst, true≢false}
+use Rattle.std.specs.Prelude.{⊤}
 use Rattle.std.specs.Cmp.{tied_itself}
 use Rattle.std.specs.FinMap as maps
 use Rattle.std.specs.List.{list_any}
@@ -53,7 +54,7 @@ still_above k (Some held) q h = lower_held k held q (key_cmp k held) refl h
 
 module _ (t u : Contents) where
   -- at the key the tables are the same, or it isn't below the least so far
-  IsJudged : Option Key → Key → Type 0
+  abbrev IsJudged : Option Key → Key → Type 0
   IsJudged least q = AreSameAt t u q ⊎ IsAbove least q
 
   -- the tables differ at the least so far, if there is one
@@ -108,6 +109,19 @@ module _ (t u : Contents) where
     | inr among ↦ found_by ks c b more q among
   ]
 
+  -- what is left of the keys narrows on from the next one
+  pub narrows_on : (k : Key) (rest left all : List Key) (from least next : Option Key) → rest ≡ k ∷ left → Narrows t u k least next
+      → ((new : Option Key) → NarrowsBy t u rest least new → NarrowsBy t u all from new)
+      → (new : Option Key) → NarrowsBy t u left next new → NarrowsBy t u all from new
+  narrows_on k rest left all from least next steps n before new more =
+      before new (subst (λ (ks : List Key). NarrowsBy t u ks least new) (sym steps) (at_one n more))
+
+  -- where nothing is left, all keys have narrowed it
+  pub narrowed_all : (rest all : List Key) (from least : Option Key) → rest ≡ []
+      → ((new : Option Key) → NarrowsBy t u rest least new → NarrowsBy t u all from new) → NarrowsBy t u all from least
+  narrowed_all rest all from least steps before =
+      before least (subst (λ (ks : List Key). NarrowsBy t u ks least least) (sym steps) at_none)
+
   -- ---- the keys of both tables
 
   module _ (a b : Option Key) (first : NarrowsBy t u (maps.keys t) None a) (then : NarrowsBy t u (maps.keys u) a b) where
@@ -155,3 +169,6 @@ module _ (t u : Contents) where
   pub late_difference : (answer : Result NbtDifference Refusal) → Differs t u answer → MayLack follow_the_first answer
   late_difference (Ok value) said = tt
   late_difference (Err refusal) (least, is, e) = absurd (cc e)
+
+  pub differ_said : (least : Option Key) → IsLeastDifference t u least → Differs t u (Ok (difference_of least))
+  differ_said least is = (least, is, refl)

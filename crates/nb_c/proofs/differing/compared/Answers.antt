@@ -1,3 +1,5 @@
+use Rattle.std.proofs.Common.{Ok}
+use Rattle.nb_c.specs.Differing.{difference_of}
 use Rattle.nb_c.proofs.DifferLemmas.{differ_said, late_difference}
 use Rattle.nb_c.proofs.LoadLemmas.{InputLaws}
 use Rattle.nb_c.proofs.TwoLemmas.{first_failed, second_failed, done}
@@ -16,4 +18,4 @@ returns-in-Err-loaded c =
 pub returns : goal.returns
 returns c =
     let laws : InputLaws c.args.first.now = record { one = c.an_input_is_read_as_one_table.ensures _; one_reading = c.saved_bytes_have_one_reading.ensures _ } in
-    rw c.difference_of.ensures (done _ _ _ _ laws late_difference _ _ _ c.in-Ok.ensures.found c.in-Ok-loaded.ensures.found (differ_said _ _ _ c.least_difference.ensures))
+    rw c.difference_of.ensures (done _ _ _ _ laws late_difference _ _ (Ok (difference_of c.least_difference.result)) c.in-Ok.ensures.found c.in-Ok-loaded.ensures.found (differ_said _ _ _ c.least_difference.ensures))

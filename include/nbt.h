@@ -375,6 +375,12 @@ uint32_t nbt_table_merge(const uint8_t *first, size_t first_length, const uint8_
 uint32_t nbt_table_list(const uint8_t *table, size_t table_length,
                         uint8_t *into, size_t into_length, size_t *used, size_t *at);
 
+/* What the command `nbt list --json` prints of a table: a JSON object (RFC 8259) for each key, ascending, line feeds
+ * included (our choice).
+ * 70 to 72, NBT_NO_MEMORY, NBT_NO_ROOM. */
+uint32_t nbt_table_json(const uint8_t *table, size_t table_length,
+                        uint8_t *into, size_t into_length, size_t *used, size_t *at);
+
 /* Whether two tables differ, and the least key at which they do: a key is below another by its address, then by its port,
  * then by its identifier. */
 struct nbt_difference {

@@ -412,6 +412,31 @@ static void listed_again(const uint8_t *text, size_t length)
     expect(memcmp(lines, text, length) == 0, "nbt_station_list: the lines of the table");
 }
 
+/* The objects of a saved table, as many as it has lines, in no room first, then in more than they want. */
+static void objects_listed(const uint8_t *table, size_t length, const uint8_t *lines, size_t lines_length)
+{
+    uint8_t *objects;
+    size_t wanted = 77, used = 77, at = 88, i, count = 0;
+    uint32_t status;
+    for (i = 0; i < lines_length; i++)
+        count += lines[i] == '\n';
+    do
+        status = nbt_table_json(table, length, room(packets, 0), 0, &wanted, &at);
+    while (again(status));
+    expect(status == (wanted == 0 ? NBT_DONE : NBT_NO_ROOM) && at == 88, "nbt_table_json: no room");
+    objects = room(packets, wanted + 3);
+    do
+        status = nbt_table_json(table, length, objects, wanted + 3, &used, &at);
+    while (again(status));
+    expect(status == NBT_DONE && used == wanted && at == 88 && is_filled(objects + wanted, 3), "nbt_table_json: more room");
+    for (i = 0; i < wanted; i++) {
+        if (i == 0 || objects[i - 1] == '\n')
+            expect(objects[i] == '{', "nbt_table_json: the front of a line");
+        count -= objects[i] == '\n';
+    }
+    expect(count == 0 && (wanted == 0 || objects[wanted - 1] == '\n'), "nbt_table_json: as many objects as lines");
+}
+
 /* The lines of a saved table: in no room first, and then in as much as that wants. */
 static void listed(const uint8_t *table, size_t length)
 {
@@ -429,6 +454,7 @@ static void listed(const uint8_t *table, size_t length)
     expect(status == NBT_DONE && used == wanted && at == 88, "nbt_table_list: the room that is wanted");
     expect(wanted == 0 || text[wanted - 1] == '\n', "nbt_table_list: the last line");
     listed_again(text, wanted);
+    objects_listed(table, length, text, wanted);
 }
 
 /* A saved table is equal to itself, and differs from one of no keys at its least, with which it begins. */
@@ -636,6 +662,7 @@ static void nowhere(void)
     expect(nbt_service_request(NBT_QUERY, 1, false, NULL, 0, 0, 0, 0, NULL, 0, &used, &at) == NBT_BAD_TEXT, "nbt_service_request: null");
     expect(nbt_table_merge(NULL, 0, NULL, 0, 1, 1, NULL, 0, &used, &at) == NBT_TABLE_BAD_MAGIC, "nbt_table_merge: null");
     expect(nbt_table_differ(NULL, 0, NULL, 0, &difference, &at) == NBT_TABLE_BAD_MAGIC, "nbt_table_differ: null");
+    expect(nbt_table_json(NULL, 0, NULL, 0, &used, &at) == NBT_TABLE_BAD_MAGIC, "nbt_table_json: null");
     expect(nbt_table_list(NULL, 0, NULL, 0, &used, &at) == NBT_TABLE_BAD_MAGIC, "nbt_table_list: null");
     do
         status = nbt_station_create(NULL, 0, 1, 138, 1, 1, &nameless.at, &at);

@@ -11,6 +11,7 @@ use Rattle.nb_table.specs.LoadFaults.{IsReadAs, LoadFails}
 use Rattle.nb_table.specs.Merging.{Fits, IsRefused}
 use Rattle.nb_table.specs.Saved.{saved}
 use Rattle.nb_member.specs.Listing.{listing}
+use Rattle.nb_member.specs.ObjectLines.{listed_objects}
 use Rattle.nb_c.specs.declared.refusal.Refusal.{Refusal}
 use Rattle.nb_c.specs.declared.refusal.Refusal.TheVariants.{Memory, Fault, FaultAt}
 use Rattle.nb_c.specs.declared.statuses.TheConstants as statuses
@@ -71,8 +72,16 @@ follow_the_first status = nat_le statuses.SECOND_BAD_MAGIC status
 abbrev pub widest : Limits
 widest = record { keys = 4294967295; per_source = 4294967295; longest = 65535 }
 
--- Lists table answer: this is answered of a saved table: it is read, then the lines of its keys are made
-pub data Lists (table : List ℕ) : Result (List ℕ) Refusal → Type 0 where
+-- OfOne table told answer: this is answered of a saved table: it is read, then what is told of what it holds
+pub data OfOne (table : List ℕ) (told : Contents → List ℕ) : Result (List ℕ) Refusal → Type 0 where
   not_read : (fault : LoadFault) → fault ≢ loads.NoMemory → LoadFails table widest fault
-      → Lists table (Err (first_refusal fault))
-  listed : (t : TableValue) → IsLoaded table widest t → Lists table (Ok (listing t.contents))
+      → OfOne table told (Err (first_refusal fault))
+  read : (t : TableValue) → IsLoaded table widest t → OfOne table told (Ok (told t.contents))
+
+-- Lists table answer: this is answered of the lines of a saved table's keys
+abbrev pub Lists : List ℕ → Result (List ℕ) Refusal → Type 0
+Lists table = OfOne table listing
+
+-- ListsObjects table answer: this is answered of their JSON objects, each a line
+abbrev pub ListsObjects : List ℕ → Result (List ℕ) Refusal → Type 0
+ListsObjects table = OfOne table listed_objects

@@ -119,6 +119,9 @@ enum nbt_status {
     NBT_NAME_PRESENT = 100,   /* a name stands there twice; *at: where its second text begins */
     NBT_TOO_MANY_NAMES = 101, /* more than 254 names; *at: where the text of the 255th begins */
 
+    /* A part of a packet. */
+    NBT_OTHER_TYPE = 110, /* the packet stands, but its type isn't the one that has the part */
+
     NBT_UNKNOWN_STATUS = 255 /* no number of this enum */
 };
 
@@ -280,6 +283,22 @@ uint32_t nbt_datagram_write(uint8_t type, uint16_t identifier, uint32_t address,
                             const uint8_t *data, size_t data_length, uint16_t most,
                             uint8_t *into, size_t into_length, size_t *used, size_t *at);
 
+/* An error packet with this code, which says why a datagram wasn't taken: 0x82 nobody has the name that it is for, 0x83 and
+ * 0x84 the format of its source's or of its destination's name. The address and the port are those of the station that
+ * sends the error, and the identifier is the datagram's. FLAGS are 0x02 (our choice).
+ * NBT_NO_MEMORY, NBT_NO_ROOM.
+ * RFC 1002 section 4.4.3. */
+uint32_t nbt_datagram_error(uint16_t identifier, uint32_t address, uint16_t port, uint8_t code,
+                            uint8_t *into, size_t into_length, size_t *used);
+
+/* A query to a distribution server about the name with this text, or its answer: `type` is 0x14 for the question, 0x15 for
+ * the answer that it has the name, 0x16 for the answer that it hasn't. FLAGS are 0x02 (our choice).
+ * NBT_UNKNOWN_TYPE, NBT_BAD_TEXT, NBT_LONG_TEXT, NBT_NO_MEMORY, NBT_NO_ROOM, judged in this order.
+ * RFC 1002 section 4.4.4. */
+uint32_t nbt_datagram_query(uint8_t type, uint16_t identifier, uint32_t address, uint16_t port,
+                            const uint8_t *name, size_t name_length,
+                            uint8_t *into, size_t into_length, size_t *used, size_t *at);
+
 /* A packet of the session service: RFC 1002 section 4.3. */
 struct nbt_session {
     uint8_t type;       /* TYPE: 0x00 a message, 0x81 a request, 0x82 and 0x83 its answers, 0x84 retarget, 0x85 alive */
@@ -292,6 +311,28 @@ struct nbt_session {
  * NBT_MORE for less than a header, NBT_UNKNOWN_TYPE, NBT_RESERVED_FLAGS, NBT_BAD_LENGTH, NBT_MORE, and of a request 20
  * to 24, NBT_TRAILING_BYTES, judged in this order. No memory is taken. */
 uint32_t nbt_session_read(const uint8_t *bytes, size_t bytes_length, struct nbt_session *packet, size_t *at);
+
+/* The names of a session request: RFC 1002 section 4.3.2. */
+struct nbt_session_names {
+    uint8_t called_length;  /* the bytes of the spelling of the name that is called, its last zero byte included */
+    uint8_t called[255];    /* the spelling, whose text nbt_name_text gives, and bytes of zero after it */
+    uint8_t calling_length; /* the same of the name that calls */
+    uint8_t calling[255];
+};
+
+/* Reads the names of the request at the front of what came over a connection to port 139.
+ * Those of nbt_session_read, then NBT_OTHER_TYPE for a packet that is no request. No memory is taken. */
+uint32_t nbt_session_names(const uint8_t *bytes, size_t bytes_length, struct nbt_session_names *names, size_t *at);
+
+/* Where a retarget leads: RFC 1002 section 4.3.5. */
+struct nbt_session_retarget {
+    uint32_t address; /* RETARGET_IP_ADDRESS */
+    uint16_t port;    /* PORT */
+};
+
+/* Reads where the retarget leads at the front of what came over a connection to port 139.
+ * Those of nbt_session_read, then NBT_OTHER_TYPE for a packet that is no retarget. No memory is taken. */
+uint32_t nbt_session_retarget(const uint8_t *bytes, size_t bytes_length, struct nbt_session_retarget *retarget, size_t *at);
 
 /* The packet with this type and this body. The body of a request is the spelling of the name that is called, then that
  * of the name that calls. What is written is what nbt_session_read reads.
@@ -333,6 +374,26 @@ uint32_t nbt_table_merge(const uint8_t *first, size_t first_length, const uint8_
  * 70 to 72, NBT_NO_MEMORY, NBT_NO_ROOM. */
 uint32_t nbt_table_list(const uint8_t *table, size_t table_length,
                         uint8_t *into, size_t into_length, size_t *used, size_t *at);
+
+/* What the command `nbt list --json` prints of a table: a JSON object (RFC 8259) for each key, ascending, line feeds
+ * included (our choice).
+ * 70 to 72, NBT_NO_MEMORY, NBT_NO_ROOM. */
+uint32_t nbt_table_json(const uint8_t *table, size_t table_length,
+                        uint8_t *into, size_t into_length, size_t *used, size_t *at);
+
+/* Whether two tables differ, and the least key at which they do: a key is below another by its address, then by its port,
+ * then by its identifier. */
+struct nbt_difference {
+    uint32_t address;    /* SOURCE_IP of the key, SOURCE_PORT and DGM_ID; zeros where the tables are equal */
+    uint16_t port;
+    uint16_t identifier;
+    uint8_t differ;      /* 1 where the tables differ, else 0 */
+};
+
+/* Compares two tables by what they know of each key. However many keys they have, none is too many.
+ * 70 to 72 of the first, 80 to 82 of the second, NBT_NO_MEMORY (which may come before those of the second). */
+uint32_t nbt_table_differ(const uint8_t *first, size_t first_length, const uint8_t *second, size_t second_length,
+                          struct nbt_difference *difference, size_t *at);
 
 /* A station: its names, and a table that the payloads of port 138 fill and the clock empties (RFC 1002 section 5.3).
  * A datagram is handed over once, by the payload that makes it whole, if one of the names hears it: the name that it is
@@ -399,6 +460,10 @@ uint32_t nbt_station_tick(struct nbt_station *station, uint64_t now, uint32_t *d
 /* Writes the station's table, saved. The names, the limits and the moments aren't in it.
  * NBT_NO_MEMORY, NBT_NO_ROOM. */
 uint32_t nbt_station_save(struct nbt_station *station, uint8_t *into, size_t into_length, size_t *used);
+
+/* What nbt_table_list writes of the station's table.
+ * NBT_NO_MEMORY, NBT_NO_ROOM. */
+uint32_t nbt_station_list(struct nbt_station *station, uint8_t *into, size_t into_length, size_t *used);
 
 /* Joins the saved table of another station to this one's, at this moment: the keys that are new came then. Writes the
  * datagrams that become whole by this, of those that one of the names hears, by ascending key. Each is its key, as in

@@ -137,13 +137,16 @@ pub enum Status {
     /// There are more than 254 names. The place: where the text of the 255th begins.
     TooManyNames = 101,
 
+    /// The packet stands, but its type isn't the one that has the part that is asked for.
+    OtherType = 110,
+
     /// A number that this version of the crate doesn't know: [`crate::Error::number`] keeps it.
     UnknownStatus = 255,
 }
 
 impl Status {
     /// All of them, by number.
-    pub const ALL: [Status; 58] = [
+    pub const ALL: [Status; 59] = [
         Status::NoMemory,
         Status::BadText,
         Status::LongText,
@@ -201,6 +204,7 @@ impl Status {
         Status::Full,
         Status::NamePresent,
         Status::TooManyNames,
+        Status::OtherType,
         Status::UnknownStatus,
     ];
 

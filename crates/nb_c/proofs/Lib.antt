@@ -1,5 +1,6 @@
 pub mod AbsorbLemmas
 pub mod AnswerLemmas
+pub mod DifferLemmas
 pub mod FrameLemmas
 pub mod HandleValues
 pub mod LengthLemmas
@@ -16,3 +17,4 @@ pub mod ShowLemmas
 pub mod StationNameLemmas
 pub mod TellLemmas
 pub mod TextLemmas
+pub mod TwoLemmas

@@ -1,6 +1,8 @@
 pub mod Absorbing
 pub mod Cutting
 pub mod Datagrams
+pub mod Dataless
+pub mod Differing
 pub mod Framing
 pub mod KeptCode
 pub mod Names

@@ -1,9 +1,10 @@
-//! Stations: made, shown the clock, saved and given back.
+//! Stations: made, shown the clock, saved, listed and given back.
 ghost use Rattle.std.specs.Prelude.{◌≡◌, ◌≢◌, ◌⊎◌, Ok};
 ghost use Rattle.nb_c.specs.Outputs.{Does, none_late};
 ghost use Rattle.nb_c.specs.Stations.{Creates, Ticks};
 ghost use Rattle.nb_c.specs.declared.statuses.TheConstants.{DONE, NO_MEMORY};
 ghost use Rattle.nb_table.specs.Saved.{saved as saved_bytes};
+ghost use Rattle.nb_member.specs.Listing.{listing};
 ghost use Rattle.nb_member.specs.Member.{contents, new_member};
 ghost use Rattle.std.specs.Int.{w32, to_be_bytes};
 
@@ -12,6 +13,7 @@ use crate::kept::Kept;
 use crate::naming::names_of;
 use crate::output::{refuse, write_bytes};
 use crate::statuses::{DONE, NO_MEMORY};
+use crate::tables::lines_of;
 use nb_member::{LocalNames, Member, Settings};
 use std::alloc::Global;
 
@@ -130,6 +132,31 @@ pub extern "C" fn nbt_station_save(
     };
     let kept = swapped(alloc, station, spare);
     let status = write_bytes(kept.member.table().save(), into, used);
+    let _spare = swapped(alloc, station, shut(kept));
+    status
+}
+
+/// Writes the lines of the station's keys, as `nbt list` prints them of its table.
+///
+/// The form is our choice.
+#[unsafe(no_mangle)]
+pub extern "C" fn nbt_station_list(
+    alloc: Global,
+    station: &mut NbtStation,
+    into: &mut [u8],
+    used: &mut usize,
+) -> u32
+    ensures listed { Does none_late
+        (λ answer. answer ≡ Ok (listing (contents station.old.value.member)))
+        (record { buffer = into.old; used = used.old; place = 0 })
+        (record { buffer = into.new; used = used.new; place = 0 }) result }
+    ensures stays { station.new.value ≡ station.old.value }
+{
+    let Ok(spare) = spare(alloc) else {
+        return NO_MEMORY;
+    };
+    let kept = swapped(alloc, station, spare);
+    let status = write_bytes(lines_of(alloc, kept.member.table()), into, used);
     let _spare = swapped(alloc, station, shut(kept));
     status
 }

@@ -29,7 +29,8 @@ use Rattle.nbt.specs.SaveFaults.{SaveFails}
 use Rattle.nbt.specs.Saved.{saved_line}
 use Rattle.nbt.specs.Saving.{SavesCapture}
 use Rattle.nbt.specs.Settings.{AreOptions, AsksBrief, AsksJson, AsksText, AsksWhole, IsCapacity, IsInputLimit, IsListed}
-use Rattle.nbt.specs.Objects.{BriefFields, ObjectSaid, OutcomeFields, PacketFields, listed_objects}
+use Rattle.nb_member.specs.ObjectLines.{listed_objects}
+use Rattle.nbt.specs.Objects.{BriefFields, ObjectSaid, OutcomeFields, PacketFields}
 use Rattle.nbt.specs.Showing.{IsBrief, PayloadText, ShowsCapture, ShowsLine, TellsLine}
 use Rattle.nbt.specs.Tables.{CompareFails, ComparesTables, FailsOn, PrintsJoin, Tells, TellsFront}
 

@@ -1,7 +1,7 @@
 use Rattle.std.proofs.Common.{arith}
 use Rattle.nb_member.specs.ListingFields.{key_fields}
-use Rattle.nbt.proofs.ObjectLemmas.{told_object}
-use Rattle.nbt.proofs.commands.list.key_object.Goals as goal
+use Rattle.nb_member.specs.Shared.ObjectLemmas.{told_object}
+use Rattle.nb_member.proofs.listing.objects.key_object.Goals as goal
 
 pub returns : goal.returns
 returns c =

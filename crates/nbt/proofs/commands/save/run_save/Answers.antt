@@ -10,11 +10,11 @@ returns g c =
     let r = c.print_saved.result in
     let prints = c.print_saved.ensures.prints in
     let given = c.in_ok-capacity.ensures.given in
-    let took = c.in_ok-member.ensures.took in record {
-      printed = on_ok_weaker r (λ printed. saves_capture _ _ _ _ _ c.in_ok-capacity.capacity _ c.in_ok-member.member _ given c.input_limit_of.ensures took c.table.ensures.value printed)
+    let took = c.in_ok-saver.ensures.took in record {
+      printed = on_ok_weaker r (λ printed. saves_capture _ _ _ _ _ c.in_ok-capacity.capacity _ c.in_ok-saver.member _ given c.input_limit_of.ensures took c.table.ensures.value printed)
           (prints_whole _ _ _ r prints);
       err = prints_kept _ _ _ r prints;
-      write = IfErr-weaker r _ _ (λ fault front write. saves_capture _ _ _ _ _ c.in_ok-capacity.capacity _ c.in_ok-member.member _ given c.input_limit_of.ensures took c.table.ensures.value (front write))
+      write = IfErr-weaker r _ _ (λ fault front write. saves_capture _ _ _ _ _ c.in_ok-capacity.capacity _ c.in_ok-saver.member _ given c.input_limit_of.ensures took c.table.ensures.value (front write))
           (prints_front _ _ _ r prints);
       fault = IfErr-weaker r _ _ (λ fault is. output_fails is) c.print_saved.ensures.fault;
       why = c.print_saved.ensures.why;
@@ -32,10 +32,10 @@ returns-in_err-capacity g c =
       why = λ write. absurd (cc (is, write));
     })
 
-pub returns-in_err-member : goal.returns-in_err-member
-returns-in_err-member g c =
-    let p = err_from_is_err_and c.from_residual-in_err-member.result c.from_residual-in_err-member.ensures.1 in
-    let stops = c.in_err-member.ensures.stops in
+pub returns-in_err-saver : goal.returns-in_err-saver
+returns-in_err-saver g c =
+    let p = err_from_is_err_and c.from_residual-in_err-saver.result c.from_residual-in_err-saver.ensures.1 in
+    let stops = c.in_err-saver.ensures.stops in
     rw (p.1, p.2) (record {
       printed = tt;
       err = λ other. Keeps-same _;

@@ -5,7 +5,7 @@ import re
 from process_inputs import COMMANDS, FRED, READING, captures, packet
 from process_runs import TESTS, at_terminal, limited, lines_of, quiet_terminal, rest_of, run, start, starts, wait, with_errors_shown
 
-LOOK = b'a pcap or pcapng file: `nbt-look FILE` shows its packets, `nbt-pcap2cap FILE` makes a capture of it\n'
+LOOK = b'a pcap or pcapng file: `nbt-look FILE` shows it, `nbt-pcap2cap FILE` makes a capture of it\n'
 PACKETS = (b'query, status, registration, refresh, release, response, request, message, positive, negative, retarget, '
            b'keepalive, unique, group, broadcast, error, find, found, missing')
 KEYED = ['10.0.0.5:138/0001', 'JOE<00>', 'FRED<20>']

@@ -14,8 +14,8 @@ use std::alloc::Global;
 use std::io::Write;
 
 /// What is said of an input that is a pcap file.
-const LOOK: &str = "a pcap or pcapng file: `nbt-look FILE` shows its packets, `nbt-pcap2cap FILE` \
-                    makes a capture of it\n";
+const LOOK: &str =
+    "a pcap or pcapng file: `nbt-look FILE` shows it, `nbt-pcap2cap FILE` makes a capture of it\n";
 
 /// Tells a person what a fault means and what to do then, as a line. Where there is no memory for
 /// it, or the device fails, nothing else changes.

@@ -40,7 +40,12 @@ fn push_packets(what: &str, line: &mut String) -> Result<(), NoMemory> {
 
 /// Says how many words a packet takes, and how many are given.
 fn push_count(form: &Form, given: usize, line: &mut String) -> Result<(), NoMemory> {
-    write!(line, "words after {}: {} wanted", form.what, form.fields.len())?;
+    write!(
+        line,
+        "words after {}: {} wanted",
+        form.what,
+        form.fields.len()
+    )?;
     for field in form.fields {
         line.push_str(" ")?;
         line.push_str(field.name())?;

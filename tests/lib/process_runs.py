@@ -145,9 +145,14 @@ def with_errors_shown(words, given=b'', before=None, **streams):
     terminal, slave = quiet_terminal()
     status, output, _ = run(words, given, before, stderr=slave, **streams)
     os.close(slave)
+    return status, output, rest_of_terminal(terminal)
+
+
+def rest_of_terminal(terminal):
+    """What a terminal shows that no program has open any more."""
     shown = b''
     with contextlib.suppress(OSError):
         while some := os.read(terminal, 4096):
             shown += some
     os.close(terminal)
-    return status, output, shown
+    return shown

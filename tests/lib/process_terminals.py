@@ -1,9 +1,11 @@
 """What the program prints at a terminal, for tests/process.py; each function gives (whether it is right, a name) for each case."""
 import os
 import re
+import time
 
 from process_inputs import COMMANDS, FRED, READING, captures, packet
-from process_runs import TESTS, at_terminal, limited, lines_of, quiet_terminal, rest_of, run, start, starts, wait, with_errors_shown
+from process_runs import (TESTS, at_terminal, limited, lines_of, quiet_terminal, rest_of, rest_of_terminal, run, start, starts, wait,
+                          with_errors_shown)
 
 LOOK = b'a pcap or pcapng file: `nbt-look FILE` shows it, `nbt-pcap2cap FILE` makes a capture of it\n'
 PACKETS = (b'query, status, registration, refresh, release, response, request, message, positive, negative, retarget, '
@@ -143,9 +145,24 @@ def looked():
             status, output, errors = run(words, given)
             yield status == 1 and output == b'' and errors.count(b'\n') == 1, f'nbt {words[0]} of a pcap, {front}'
             yield with_errors_shown(words, given) == (1, b'', errors + LOOK), f'nbt {words[0]} of a pcap, {front}, at a terminal'
+    for taken in (1, 2, 3):
+        yield came_by_parts(bytes.fromhex(PCAPS[1]) + b'\n', taken) == (1, b'nbt: line 1\n' + LOOK), f'a pcap, {taken} bytes of it first'
     for given in (b'\xd4\xc3\xb2\n', b'\n\r\r\r', b'x\xd4\xc3\xb2\xa1\n'):
         _, _, errors = run(['show'], given)
         yield with_errors_shown(['show'], given) == (1, b'', errors + meaning(errors)), f'nbt show of {given}, at a terminal'
+
+
+def came_by_parts(given, taken):
+    """The status and the errors, at a terminal, of `show` of an input that stops after some bytes."""
+    terminal, slave = quiet_terminal()
+    process = start(['show'], stderr=slave)
+    os.close(slave)
+    process.stdin.write(given[:taken])
+    time.sleep(0.05)
+    process.stdin.write(given[taken:])
+    process.stdin.close()
+    status, _ = wait(process)
+    return status, rest_of_terminal(terminal)
 
 
 def dropped():

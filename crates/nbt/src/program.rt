@@ -20,7 +20,7 @@ use crate::commands::name::run_name;
 use crate::commands::replay::run_replay;
 use crate::commands::save::run_save;
 use crate::commands::show::run_show;
-use crate::errors::Errors;
+use crate::errors::{Audience, Errors};
 use crate::fault::Fault;
 use crate::hints::{print_hint, print_mistake};
 use crate::output::Output;
@@ -55,6 +55,9 @@ pub fn run<R: Read, W: Write, E: Write>(
     ensures alone { AreAlone (map string_bytes words.now) → result ≢ Status.BadUsage }
     ensures usage { result ≡ Status.BadUsage →
         Keeps (W.contents output.old.inner) (W.contents output.new.inner) }
+    // Where all was done, standard error is as it was, but for a person.
+    ensures quiet { result ≡ Status.Done → errors.old.audience ≡ Audience.Programs →
+        errors.new ≡ errors.old }
 {
     if let Some(refusal) = asked(refusals(), words) {
         return report(alloc, done(print_advice(alloc, refusal, output)), errors);
@@ -89,6 +92,7 @@ fn run_command<R: Read, W: Write, E: Write>(
     ensures unread { ¬ DoesRead (subcommand_name_of matches.now) → input.new ≡ input.old }
     ensures why { IfErr result (λ fault. fault ≡ Fault.Write →
         ShowsWriteFault output.old.counts output.new.counts) }
+    ensures quiet { errors.old.audience ≡ Audience.Programs → errors.new ≡ errors.old }
 {
     let Some((word, matches)) = matches.subcommand() else {
         return Err(Fault::Arguments);
@@ -126,7 +130,8 @@ fn report_run<E: Write>(
     outcome: Result<Status, Fault>,
     errors: &mut Errors<'_, E>,
 ) -> Status
-    ensures { result ≡ status_after outcome }
+    ensures value { result ≡ status_after outcome }
+    ensures quiet { result ≡ Status.Done → errors.new ≡ errors.old }
 {
     match outcome {
         Err(Fault::Arguments) => {
@@ -148,6 +153,7 @@ pub fn report<E: Write>(
     ensures value { result ≡ status_after outcome }
     ensures no_usage { IfOk outcome (λ status. status ≢ Status.BadUsage)
         → result ≢ Status.BadUsage }
+    ensures quiet { result ≡ Status.Done → errors.new ≡ errors.old }
 {
     match outcome {
         Ok(status) => status,
@@ -168,8 +174,9 @@ fn report_unmatched<W: Write, E: Write>(
     output: &mut Output<W>,
     errors: &mut Errors<'_, E>,
 ) -> Status
-    ensures { Reports (answer_to (kind_of error.now)) result
+    ensures reports { Reports (answer_to (kind_of error.now)) result
         (W.contents output.old.inner) (W.contents output.new.inner) }
+    ensures quiet { result ≡ Status.Done → errors.new ≡ errors.old }
 {
     match ClapAnswer::to(error.kind()) {
         ClapAnswer::Asked => report(alloc, done(print_help(alloc, words, error, output)), errors),

@@ -1,10 +1,10 @@
 //! `nbt save`: what a capture says of datagrams, as a saved table.
-ghost use Rattle.std.specs.Prelude.{Some, IfOk, IfErr, OnOk};
+ghost use Rattle.std.specs.Prelude.{◌≡◌, Some, IfOk, IfErr, OnOk};
 ghost use Rattle.nbt.specs.Commands.{SaveCommand, streams};
 ghost use Rattle.nbt.specs.SaveFaults.{PayloadStops, SaidStops, StopsSaving};
 ghost use Rattle.nbt.specs.Saving.{TakesInput, TakesPayload, TakesSaid};
 
-use crate::errors::Errors;
+use crate::errors::{Audience, Errors};
 use crate::fault::Fault;
 use crate::hints::print_dropped;
 use crate::output::Output;
@@ -34,8 +34,9 @@ pub fn run_save<R: Read, W: Write, E: Write>(
     output: &mut Output<W>,
     errors: &mut Errors<'_, E>,
 ) -> Result<(), Fault>
-    ensures { SaveCommand matches.now (streams R.remaining W.contents
+    ensures command { SaveCommand matches.now (streams R.remaining W.contents
         input.old input.new output.old output.new) result }
+    ensures quiet { errors.old.audience ≡ Audience.Programs → errors.new ≡ errors.old }
 {
     let capacity = capacity_of(matches)?;
     let saver = saver_after(alloc, capacity, input_limit_of(matches), input)?;

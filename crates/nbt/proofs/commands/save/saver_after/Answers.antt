@@ -1,6 +1,6 @@
 use Rattle.std.proofs.lemmas.Result.{err_from_is_err_and}
 use Rattle.nbt.proofs.SavingTurns.{stops_saving, took_input}
-use Rattle.nbt.proofs.commands.save.member_after.Goals as goal
+use Rattle.nbt.proofs.commands.save.saver_after.Goals as goal
 
 pub returns-clause-took : goal.returns-clause-took
 returns-clause-took g c =

@@ -28,3 +28,4 @@ pub mod PhraseLemmas
 pub mod SaidPackets
 pub mod FirstNames
 pub mod PushLemmas
+pub mod RunLemmas

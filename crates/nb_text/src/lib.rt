@@ -5,8 +5,10 @@ mod brief;
 mod datagrams;
 mod faults;
 mod flags;
+mod fronts;
 pub mod keys;
 pub mod laws;
+mod name_fronts;
 mod names;
 mod objects;
 mod records;
@@ -16,5 +18,6 @@ mod statuses;
 mod words;
 
 pub use brief::{BriefSink, push_brief};
+pub use fronts::{push_front, tell_front};
 pub use objects::packet_object;
 pub use showing::{push_packet, tell_packet};

@@ -1,7 +1,7 @@
 //! The names of a station.
 ghost use Rattle.std.specs.Prelude.{◌≡◌, [], ◌≤◌, length, Contains, IsTrue, ◌↔◌};
 ghost use Rattle.nb_member.specs.declared.limits.TheConstants.{MAX_NAMES};
-ghost use Rattle.nb_member.specs.Hearing.{Adds, holds, holds_scope, hears, HoldsScope, Hears};
+ghost use Rattle.nb_member.specs.Hearing.{Adds, holds, holds_scope, hears, hears_as, HoldsScope, Hears};
 
 use crate::limits::MAX_NAMES;
 use nb_datagram::{DatagramOf, Kind};
@@ -119,9 +119,15 @@ impl LocalNames {
         ensures value { result ≡ hears self.now datagram.now }
         ensures heard { IsTrue result ↔ Hears self.now datagram.now }
     {
-        let destination = datagram.lent_destination();
-        match datagram.kind() {
-            Kind::Unique | Kind::Group => is_among(&self.names, &destination),
+        self.hears_as(datagram.kind(), &datagram.lent_destination())
+    }
+
+    /// Whether a station with these names hears what is sent so.
+    fn hears_as(&self, kind: Kind, destination: &LentName<'_>) -> bool
+        ensures { result ≡ hears_as self.now kind destination.now }
+    {
+        match kind {
+            Kind::Unique | Kind::Group => is_among(&self.names, destination),
             Kind::Broadcast => self.holds_scope(destination.to_name().scope()),
         }
     }

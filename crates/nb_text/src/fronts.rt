@@ -8,6 +8,7 @@ ghost use Rattle.nb_telling.specs.Telling.{Grows};
 ghost use Rattle.nb_text.specs.TellsFront.{FrontOf, IsFrontTold, ShowsFront};
 
 use crate::name_fronts::tell_name_front;
+use crate::packet_fronts::{tell_datagram_front, tell_session_front};
 use crate::showing::tell_packet;
 use nb_names::NoMemory;
 use nb_telling::Sink;
@@ -15,8 +16,10 @@ use nb_telling::Sink;
 /// Tells what the front of a payload that came to a port says to a sink, field by field: what
 /// [`tell_packet`] tells, and where the payload begins with no packet then what still stands there.
 ///
-/// Of port 137 that is the header, and the questions and records that stand whole, one after
-/// another; where the header isn't whole, nothing.
+/// That is the header, and nothing where it isn't whole; of port 137 also the questions and records
+/// that stand whole, one after another; of a fragment of port 138 also its names that stand whole,
+/// one or both. A payload of any port but 137 and 138 is taken for a session packet, port 139, of
+/// which the front of one that lacks bytes says what it has, too.
 ///
 /// # Errors
 ///
@@ -33,7 +36,7 @@ pub fn tell_front<S: Sink>(port: u16, payload: &[u8], sink: &mut S) -> Result<()
     tell_standing(port, payload, sink)
 }
 
-/// Tells what still stands at the front of a payload that begins with no packet.
+/// Tells what still stands at the front of a payload; nothing where it begins with a packet.
 fn tell_standing<S: Sink>(port: u16, payload: &[u8], sink: &mut S) -> Result<(), NoMemory>
     ensures told { OnOk result ((more : List Field) × FrontOf payload.now port more
         × (S.seen sink.new ≡ fold S.after (S.seen sink.old) more)) }
@@ -42,7 +45,10 @@ fn tell_standing<S: Sink>(port: u16, payload: &[u8], sink: &mut S) -> Result<(),
     if port == 137 {
         return tell_name_front(payload, sink);
     }
-    Ok(())
+    if port == 138 {
+        return tell_datagram_front(payload, sink);
+    }
+    tell_session_front(payload, sink)
 }
 
 /// Adds the text of what the front of a payload that came to a port says: that of its packet; or

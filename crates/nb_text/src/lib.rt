@@ -11,6 +11,7 @@ pub mod laws;
 mod name_fronts;
 mod names;
 mod objects;
+mod packet_fronts;
 mod records;
 mod sessions;
 mod showing;

@@ -36,9 +36,9 @@ pub struct FragmentFront<'a> {
     pub destination: Option<LentName<'a>>,
 }
 
-/// What stands at the front of bytes, whether or not they begin with a packet: its header, and after
-/// that of a fragment the names that stand whole, one or both. There is nothing where the header
-/// isn't whole: of a fragment that is fourteen bytes, of any other packet ten.
+/// What stands at the front of bytes, whether or not they begin with a packet: its header, and
+/// after that of a fragment the names that stand whole, one or both. There is nothing where the
+/// header isn't whole: of a fragment that is fourteen bytes, of any other packet ten.
 ///
 /// Names are read as by [`decode`](crate::decode), inside the bytes that DGM_LENGTH counts, as many
 /// of them as are there. No memory is taken.
@@ -75,7 +75,8 @@ fn is_fragment(message_type: u8) -> bool
 fn front_with<'a>(bytes: &[u8], fragment: Option<FragmentFront<'a>>) -> Front<'a>
     requires { HEADER_LENGTH ≤ length bytes.now }
     ensures key { IsKey result.key }
-    ensures stands { StandsAt bytes.now 0 (header_bytes result.message_type result.flags result.key) }
+    ensures stands { StandsAt bytes.now 0
+        (header_bytes result.message_type result.flags result.key) }
     ensures kind { result.message_type ≡ slice_index_or bytes.now 0 0 }
     ensures rest { result.fragment ≡ fragment.entry }
 {

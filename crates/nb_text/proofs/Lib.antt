@@ -29,3 +29,6 @@ pub mod SaidPackets
 pub mod FirstNames
 pub mod PushLemmas
 pub mod RunLemmas
+pub mod FrontMembers
+pub mod ItemParts
+pub mod OneFront

@@ -8,6 +8,7 @@ mod commands;
 mod differences;
 mod fault;
 mod flushing;
+mod fronts;
 mod help;
 mod joining_input;
 mod objects;

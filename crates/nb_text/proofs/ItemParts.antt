@@ -1,5 +1,5 @@
 -- A list of items is that of one set of lists.
-use Rattle.std.proofs.Common.{◌≡◌, ℕ, List, [], ◌∷◌, ◌++◌, map, refl, sym, ap, ap₂, ◌∙◌}
+use Rattle.std.proofs.Common.{◌≡◌, List, [], ◌∷◌, ◌++◌, map, refl, sym, ap, ap₂, ◌∙◌}
 use Rattle.std.specs.List.{flat_map}
 use Rattle.std.proofs.lemmas.Grind.{flat_map-append}
 use Rattle.std.proofs.lemmas.List.{append-nil}
@@ -9,7 +9,6 @@ use Rattle.nb_service.specs.declared.section.Section.TheVariants.{Answer, Author
 use Rattle.nb_service.specs.Items.{PacketItem, asked, told, items_of}
 use Rattle.nb_service.specs.Packet.{ServicePacket}
 use Rattle.nb_service.specs.Record.{ResourceRecord}
-use Rattle.nb_telling.specs.Fields.{Field}
 use Rattle.nb_text.specs.ServiceFields.{lists_fields}
 
 -- what an item adds to the questions, and to the records of each section

@@ -17,6 +17,8 @@ NO_PACKETS = {'': 'a file of another kind', 'json': 'JSON', 'mime_dlt': 'a file 
 class Reader:
     """Makes lines of the frames that tshark prints."""
 
+    passes_cut = False    # whether what the file has of a payload that the snap length cut is a line too
+
     def __init__(self, options, capture, report):
         self.services = {str(port): service for port, service in options.ports if service != 139}
         self.session_ports = {str(port) for port, service in options.ports if service == 139}
@@ -87,9 +89,13 @@ class Reader:
             digits = digits.replace(':', '')
         size = 2 * (int(length) - UDP_HEADER)
         if not 0 <= size <= len(digits):
-            reason = CUT if size > len(digits) and self.report.cut is CUT else BAD_LENGTH
-            self.report.leave_out(reason, 'its UDP length is %s, and the file has %d bytes of its payload' % (length, len(digits) // 2))
-            return
+            is_cut = size > len(digits) and self.report.cut is CUT
+            if not (is_cut and self.passes_cut and digits):
+                self.report.leave_out(CUT if is_cut else BAD_LENGTH,
+                                      'its UDP length is %s, and the file has %d bytes of its payload' % (length, len(digits) // 2))
+                return
+            self.report.note(CUT, 'frame %s is cut: the file has %d of the %d bytes of its payload'
+                             % (self.report.number, len(digits) // 2, size // 2))
         self.payload(row, self.services.get(packet.source) or self.services[packet.target], digits[:size], packet)
 
     def segment(self, row, packet):

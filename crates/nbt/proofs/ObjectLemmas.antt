@@ -9,6 +9,7 @@ use Rattle.nb_telling.proofs.FoldLemmas.{and_then}
 use Rattle.nb_text.specs.Keys.{kind_key}
 use Rattle.nb_text.specs.SaysPacket.{IsSaid}
 use Rattle.nb_text.specs.Tells.{IsTold, Tells}
+use Rattle.nb_text.specs.TellsFront.{TellsFront, IsFrontTold}
 use Rattle.std.specs.FinMap as maps
 use Rattle.nb_table.specs.declared.fault.TableFault.TheVariants.{NoMemory}
 use Rattle.nb_member.specs.declared.member_fault.MemberFault.{MemberFault}
@@ -21,7 +22,7 @@ use Rattle.nb_member.specs.ReportFields.{dropped_fields, passed_fields, result_f
 use Rattle.nb_member.specs.Taking.{Takes}
 use Rattle.nb_member.specs.declared.line.Line as capture
 use Rattle.nb_member.specs.declared.line.Line.TheVariants.{Packet, Tick}
-use Rattle.nbt.specs.Objects.{BriefFields, ObjectOf, OutcomeFields, PacketFields, PrintsComment, TellsFields, arrival_fields, brief_key, comment_fields, comment_key, head_fields, line_key, packet, phrased, tick, ticked, dropped, passed, taken}
+use Rattle.nbt.specs.Objects.{BriefFields, FrontFields, in_part, of_tick, ObjectOf, OutcomeFields, PacketFields, PrintsComment, TellsFields, arrival_fields, brief_key, comment_fields, comment_key, head_fields, line_key, packet, phrased, tick, ticked, dropped, passed, taken}
 
 -- ---- what objects of lines begin with
 
@@ -111,6 +112,30 @@ pub ticked_told : {A : Type 0} (after : A → Field → A) (value : capture.Line
 ticked_told after value s t now old new said told = record {
   fields = Text kind_key (codes "tick") ∷ [];
   are = subst (λ (v : capture.Line). BriefFields v s t (Text kind_key (codes "tick") ∷ [])) (sym said) (ticked now s t);
+  depth = 2;
+  low = omega arith;
+  members = member _ tt;
+  seen = told;
+}
+
+pub front_told : {A : Type 0} (after : A → Field → A) (value : capture.Line) (s t : Unit {0}) (port moment : ℕ) (payload : List ℕ) (old new : A)
+    → value ≡ Packet port moment payload
+    → ((p : List ℕ) (n : ℕ) (fields : List Field) → TellsFront p n fields → AreMembers 2 fields)
+    → IsFrontTold after payload port old new → TellsFields (FrontFields value s t) after old new
+front_told after value s t port moment payload old new said are told = record {
+  fields = told.fields;
+  are = subst (λ (v : capture.Line). FrontFields v s t told.fields) (sym said) (in_part port moment payload s t told.fields told.tells);
+  depth = 2;
+  low = omega arith;
+  members = are payload port told.fields told.tells;
+  seen = told.seen;
+}
+
+pub of_tick_told : {A : Type 0} (after : A → Field → A) (value : capture.Line) (s t : Unit {0}) (now : ℕ) (old new : A) → value ≡ Tick now
+    → new ≡ after old (Text kind_key (codes "tick")) → TellsFields (FrontFields value s t) after old new
+of_tick_told after value s t now old new said told = record {
+  fields = Text kind_key (codes "tick") ∷ [];
+  are = subst (λ (v : capture.Line). FrontFields v s t (Text kind_key (codes "tick") ∷ [])) (sym said) (of_tick now s t);
   depth = 2;
   low = omega arith;
   members = member _ tt;

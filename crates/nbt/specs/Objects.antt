@@ -9,6 +9,7 @@ use Rattle.nb_telling.specs.Members.{AreMembers}
 use Rattle.nb_text.specs.Keys.{kind_key}
 use Rattle.nb_text.specs.SaysPacket.{IsSaid}
 use Rattle.nb_text.specs.Tells.{Tells}
+use Rattle.nb_text.specs.TellsFront.{TellsFront}
 use Rattle.nb_member.specs.declared.comments.Comments.{Comments}
 use Rattle.nb_member.specs.declared.comments.Comments.TheVariants.{LeftOut, Printed}
 use Rattle.nb_member.specs.declared.line.Line as capture
@@ -76,6 +77,12 @@ pub data BriefFields : capture.Line → Unit {0} → Unit {0} → List Field →
   phrased : (port moment : ℕ) (payload phrase : List ℕ) (s t : Unit {0}) (fields : List Field) → IsSaid payload port phrase → Tells payload port fields
       → BriefFields (Packet port moment payload) s t (Text brief_key phrase ∷ fields)
   ticked : (now : ℕ) (s t : Unit {0}) → BriefFields (Tick now) s t (Text kind_key (codes "tick") ∷ [])
+
+-- the fields that `show` tells with what still stands at the fronts of payloads
+pub data FrontFields : capture.Line → Unit {0} → Unit {0} → List Field → Type 0 where
+  in_part : (port moment : ℕ) (payload : List ℕ) (s t : Unit {0}) (fields : List Field) → TellsFront payload port fields
+      → FrontFields (Packet port moment payload) s t fields
+  of_tick : (now : ℕ) (s t : Unit {0}) → FrontFields (Tick now) s t (Text kind_key (codes "tick") ∷ [])
 
 -- the fields that `replay` tells, by what its member m makes of the line; it becomes new. That memory ran out in it isn't told
 pub data OutcomeFields : capture.Line → MemberValue → MemberValue → List Field → Type 0 where

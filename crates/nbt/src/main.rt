@@ -11,6 +11,7 @@ mod fault;
 mod flushing;
 mod forms;
 mod front;
+mod fronts;
 mod help;
 mod hints;
 mod joining_input;

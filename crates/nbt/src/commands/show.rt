@@ -5,11 +5,12 @@ ghost use Rattle.nbt.specs.Commands.{ShowCommand, ShowsAs, streams};
 ghost use Rattle.nbt.specs.Showing.{ShowsSaid, ShowsValue};
 
 use crate::fault::Fault;
+use crate::fronts::Fronts;
 use crate::output::Output;
 use crate::payload_text::PayloadText;
 use crate::phrases::Phrases;
 use crate::printing_lines::{print_objects, print_text};
-use crate::settings::{is_brief, is_json, options_of};
+use crate::settings::{is_brief, is_json, is_partial, options_of};
 use crate::telling::{LineFields, Packets};
 use clap::ArgMatches;
 use nb_member::{Comments, Line, push_comment};
@@ -17,13 +18,15 @@ use nb_names::{Counted, NoMemory, push_decimal};
 use std::alloc::Global;
 use std::io::{Read, Write};
 
-/// `nbt show [--input-limit BYTES] [--comments] [--brief] [--json]`: shows the packets of the input
-/// in order, each line as it comes, with `--comments` the comments between them, or prints an
-/// object for each; with `--brief` it says what each is in a phrase.
+/// `nbt show [--input-limit BYTES] [--comments] [--brief] [--partial] [--json]`: shows the packets
+/// of the input in order, each line as it comes, with `--comments` the comments between them, or
+/// prints an object for each; with `--brief` it says what each is in a phrase, with `--partial`
+/// also what still stands of those that are refused or cut.
 ///
 /// # Errors
 ///
-/// The first that is met: [`Fault::Write`] where a line can't be written, [`Fault::Line`] for a
+/// [`Fault::Arguments`] where both `--brief` and `--partial` are given; nothing is read then. Else
+/// the first that is met: [`Fault::Write`] where a line can't be written, [`Fault::Line`] for a
 /// malformed line, [`Fault::Read`] where the input couldn't be read to its end, [`Fault::Memory`]
 /// where memory ran out. What stands before it is shown.
 pub fn run_show<R: Read, W: Write>(
@@ -35,7 +38,15 @@ pub fn run_show<R: Read, W: Write>(
     ensures { ShowCommand matches.now (streams R.remaining W.contents
         input.old input.new output.old output.new) result }
 {
-    if is_brief(matches) {
+    let brief = is_brief(matches);
+    let partial = is_partial(matches);
+    if brief && partial {
+        return Err(Fault::Arguments);
+    }
+    if partial {
+        return show_as(alloc, Fronts, matches, input, output);
+    }
+    if brief {
         return show_as(alloc, Phrases::new(alloc), matches, input, output);
     }
     show_as(alloc, Packets, matches, input, output)

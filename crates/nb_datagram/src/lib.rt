@@ -21,10 +21,11 @@ mod lists;
 mod packet;
 mod texts;
 mod too_long;
+mod user_data;
 
 pub use cut_fault::CutFault;
 pub use cutting::cut;
-pub use datagram::{Datagram, DatagramOf, KeptDatagram};
+pub use datagram::Datagram;
 pub use decoding::{decode, decode_lent};
 pub use encoding::encode;
 pub use fault::DatagramFault;
@@ -36,3 +37,4 @@ pub use lists::{Datagrams, ErrorPackets, Pieces};
 pub use packet::{ErrorPacket, LentPacket, LentQuery, Packet, QueryKind, QueryPacket};
 pub use texts::{kind_name, push_key};
 pub use too_long::TooLong;
+pub use user_data::UserData;

@@ -75,12 +75,16 @@ pub record ShowsAs {S : Type 0} (IsText : PayloadText) (AreFields : Line → S �
   pub json : AsksJson matches → ShowsCapture (AreOptions matches) (λ options. TellsLine (ObjectSaid AreFields options.comments)) ([], first) s.old_in s.new_in s.reads s.reads_after s.old_out s.new_out result
   pub why : WritesShow s result
 
--- `nbt show`; `--brief` and `--partial` together are refused before anything is read
+-- options that do not go together are refused, and nothing is read or printed
+abbrev pub IsUnshown : Streams → Result Unit Fault → Type 0
+IsUnshown s result = (result ≡ Err Arguments) × Keeps s.old_in s.new_in × Keeps s.old_out s.new_out
+
+-- `nbt show`
 pub record ShowCommand (matches : ArgMatches) (s : Streams) (result : Result Unit Fault) : Type 0 where
   pub whole : AsksWhole matches → AsksPackets matches → ShowsAs Shown PacketFields tt matches s result
   pub brief : AsksBrief matches → AsksPackets matches → ShowsAs IsBrief BriefFields tt matches s result
   pub fronts : AsksWhole matches → AsksFronts matches → ShowsAs ShowsFront FrontFields tt matches s result
-  pub both : AsksBrief matches → AsksFronts matches → (result ≡ Err Arguments) × Keeps s.old_in s.new_in × Keeps s.old_out s.new_out
+  pub both : AsksBrief matches → AsksFronts matches → IsUnshown s result
   pub why : WritesShow s result
 
 -- why a replay doesn't begin: nothing is read or printed then

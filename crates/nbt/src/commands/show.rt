@@ -1,8 +1,10 @@
 //! `nbt show`: the packets of a capture as text, or as JSON.
 ghost use Rattle.std.specs.Prelude.{◌≡◌, ◌++◌, ℕ, List, codes, OnOk, string_bytes};
 ghost use Rattle.std.specs.Fmt.{decimal};
-ghost use Rattle.nbt.specs.Commands.{ShowCommand, ShowsAs, streams};
-ghost use Rattle.nbt.specs.Showing.{ShowsSaid, ShowsValue};
+ghost use Rattle.nbt.specs.Commands.{IsUnshown, ShowCommand, ShowsAs, WritesShow, streams};
+ghost use Rattle.nbt.specs.Objects.{BriefFields};
+ghost use Rattle.nbt.specs.Settings.{AsksFronts, AsksPackets};
+ghost use Rattle.nbt.specs.Showing.{IsBrief, ShowsSaid, ShowsValue};
 
 use crate::fault::Fault;
 use crate::fronts::Fronts;
@@ -38,18 +40,33 @@ pub fn run_show<R: Read, W: Write>(
     ensures { ShowCommand matches.now (streams R.remaining W.contents
         input.old input.new output.old output.new) result }
 {
-    let brief = is_brief(matches);
-    let partial = is_partial(matches);
-    if brief && partial {
-        return Err(Fault::Arguments);
+    if is_brief(matches) {
+        return show_brief(alloc, matches, input, output);
     }
-    if partial {
+    if is_partial(matches) {
         return show_as(alloc, Fronts, matches, input, output);
     }
-    if brief {
-        return show_as(alloc, Phrases::new(alloc), matches, input, output);
-    }
     show_as(alloc, Packets, matches, input, output)
+}
+
+/// Shows what each packet of the input is in a phrase, which has no front.
+fn show_brief<R: Read, W: Write>(
+    alloc: Global,
+    matches: &ArgMatches<'_>,
+    input: &mut Counted<R>,
+    output: &mut Output<W>,
+) -> Result<(), Fault>
+    ensures packets { AsksPackets matches.now → ShowsAs IsBrief BriefFields tt matches.now
+        (streams R.remaining W.contents input.old input.new output.old output.new) result }
+    ensures fronts { AsksFronts matches.now → IsUnshown
+        (streams R.remaining W.contents input.old input.new output.old output.new) result }
+    ensures why { WritesShow
+        (streams R.remaining W.contents input.old input.new output.old output.new) result }
+{
+    if is_partial(matches) {
+        return Err(Fault::Arguments);
+    }
+    show_as(alloc, Phrases::new(alloc), matches, input, output)
 }
 
 /// Shows the packets of the input in this form.

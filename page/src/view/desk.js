@@ -30,7 +30,7 @@ export class Desk {
     }
 
     start() {
-        this.worker = new Worker(this.place, { type: 'module' });
+        this.worker = new Worker(this.place);
         this.worker.onmessage = ({ data }) => this.hear(data);
         this.worker.onerror = (event) => {
             event.preventDefault();

@@ -13,7 +13,7 @@ GATE =
 # The shell is given what users choose in the environment, whatever characters it has.
 export PROGRAM DESTDIR PREFIX DEB LIBRARY TARGETS DIST
 
-.PHONY: run build try check test bench fuzz completions install uninstall deb lib install-lib uninstall-lib targets fuzz-coverage dist
+.PHONY: run build try check test bench fuzz completions install uninstall deb lib install-lib uninstall-lib targets page fuzz-coverage dist
 
 # Prove and build the program, and replay a capture in a station with these names.
 run: build
@@ -36,10 +36,12 @@ check:
 test:
 	tests/all.sh
 
-# Build the program, and print what its commands cost: instructions, packets a second, memory; and what nbt-look costs.
+# Build the program, and print what its commands cost: instructions, packets a second, memory; what nbt-look costs; and, where the
+# page is made, what that costs.
 bench: build
 	tests/bench.py
 	tests/bench_look.py
+	[ ! -f "$$TARGETS/nbt.html" ] || tests/bench_page.py "$$TARGETS/nbt.html"
 
 # Build the program, and give it random and changed inputs: make fuzz SECONDS=600.
 fuzz: build
@@ -92,6 +94,10 @@ targets:
 	tools/library crates/nb_c/out/libnb_c.a "$$LIBRARY" "$$PREFIX"
 	tools/targets make "$$TARGETS/nbt.bc" "$$TARGETS" "$$PREFIX"
 
+# Make the page of what targets makes: one file for a browser, nbt.html in TARGETS, with the module in it.
+page: targets $(PROGRAM)
+	tools/page "$$TARGETS/nbt.wasm" "$$PROGRAM" "$$TARGETS/nbt.html"
+
 # Give the library random and changed inputs, with counters of what they reach, over the module that targets keeps.
 fuzz-coverage: $(TARGETS)/nbt.bc
 	tests/fuzz_coverage.py --seconds $(SECONDS) --module "$$TARGETS/nbt.bc"
@@ -100,7 +106,7 @@ $(TARGETS)/nbt.bc:
 	@tools/targets check "$$TARGETS"
 	tools/module "$$TARGETS/nbt.bc"
 
-# Make packages for people who haven't the kit, in DIST: for Debian, Python, Rust and JavaScript. GATE names a file with what make test
+# Make packages for people who haven't the kit, in DIST: for Debian, Python, Rust and JavaScript, and the page. GATE names a file with what make test
 # printed, whose last lines go into PROOF.
 dist: targets $(PROGRAM)
 	tools/dist "$$TARGETS" "$$LIBRARY" "$$PROGRAM" "$$DIST" $(GATE)

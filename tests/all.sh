@@ -86,7 +86,8 @@ for each in program.sh process.py examples.sh wireshark.sh look.sh manual.sh; do
     step $each 20 "$(least $each all)" "tests/$each"
 done
 step library.sh 40 "$(least library.sh all)" env AFTER_RT_CI=1 MODULE="$room/nbt.bc" tests/library.sh
-step targets.sh 20 "$(least targets.sh all)" env MODULE="$room/nbt.bc" tests/targets.sh
+step targets.sh 20 "$(least targets.sh all)" env MODULE="$room/nbt.bc" OUT="$room/out" tests/targets.sh
+step page.py 20 "$(least page.py all)" tests/page.py "$room/out"
 step scale.sh 20 "$(least scale.sh all)" tests/scale.sh
 cat "$room/skips" "$room/failures"
 echo "$passed passed, $failed failed, $skipped skipped"

@@ -1,8 +1,9 @@
 #!/usr/bin/env bash
 # The library for C: what it is made of, the examples of bindings/c, a caller's worst (tests/lib/library.c) beside `nbt
-# show`, sanitizers, memory that runs out, the package for Python and its types, nbt-station, and the crate for Rust. Usage:
-# [AFTER_RT_CI=1] [MODULE=FILE] tests/library.sh [PROGRAM]; its last line is 'N passed, M failed, K skipped'. The library is built
-# over what `rt ci` has just left, where AFTER_RT_CI says so, and else by `rt lib`. MODULE then gets its LLVM module.
+# show`, sanitizers, memory that runs out, what payloads say beside a slow model, the programs of examples/, the package for
+# Python and its types, nbt-station, and the crate for Rust. Usage: [AFTER_RT_CI=1] [MODULE=FILE] tests/library.sh
+# [PROGRAM]; its last line is 'N passed, M failed, K skipped'. The library is built over what `rt ci` has just left, where
+# AFTER_RT_CI says so, and else by `rt lib`. MODULE then gets its LLVM module.
 set -uo pipefail
 # What stands last in a pipe counts its cases here.
 shopt -s lastpipe
@@ -13,6 +14,7 @@ built=$room/built
 CC=${CC:-cc}
 strict=(-std=c11 -O1 -g -Wall -Wextra -Wpedantic -Werror "-I$top/include")
 payloads=10000
+values=25000
 
 # same WANTED NAME: whether standard input is what is wanted.
 same() {
@@ -160,6 +162,57 @@ replayed() {
     replays_alike 'in C'
 }
 
+# said LINES: what a slow model reads in payloads.
+said() {
+    ended "$here/lib/values_model.py" <"$1" >"$1.wanted"
+    [ $? -eq 0 ] && [ "$(grep -cE '^[0-9]+ 13[789] ' "$1.wanted")" -eq "$(wc -l <"$1")" ]
+    count $? "what tests/lib/values_model.py reads in $(wc -l <"$1") payloads"
+}
+
+# reads LINES NAME COMMAND..: a caller of the library reads the same there.
+reads() {
+    "${@:3}" <"$1" >"$room/output" 2>"$room/errors"
+    count $? "$2: $(tail -n 1 "$room/errors")"
+    cmp -s "$1.wanted" "$room/output"
+    count $? "$2 reads what tests/lib/values_model.py does: $(diff "$1.wanted" "$room/output" | head -c 300)"
+}
+
+# in_python FILE [WORD]..: a program that uses the package, over the shared object.
+in_python() {
+    NBT_LIBRARY=$built/libnbt.so.0 PYTHONDONTWRITEBYTECODE=1 PYTHONPATH=$top/bindings/python ended python3 "$@"
+}
+
+# What payloads say, as values, and what stands of those that are refused: in C that of port 137.
+values() {
+    "$here/lib/values_payloads.py" --seed 11 "$values" >"$room/values"
+    grep '^137 ' "$room/values" >"$room/values137"
+    said "$room/values"
+    said "$room/values137"
+    [ "$(grep -c ' whole$' "$room/values137.wanted")" -ge 4000 ] && [ "$(grep -c ' refused ' "$room/values137.wanted")" -ge 15000 ]
+    count $? 'at least 19,000 payloads of port 137, of which some stand and many are refused'
+    $CC "${strict[@]}" -fsanitize=address,undefined -fno-sanitize-recover=all -o "$room/service_values" \
+        "$here/lib/service_values.c" "$built/libnbt.a" >"$room/log" 2>&1
+    count $? "tests/lib/service_values.c: $(head -n 1 "$room/log")"
+    reads "$room/values137" tests/lib/service_values.c ended "$room/service_values"
+    reads "$room/values" tests/lib/values_in_python.py in_python "$here/lib/values_in_python.py"
+}
+
+# The programs of examples/ in C and Python, over its pcaps; that in Rust is one of the part rust.
+programs() {
+    local each
+    for each in office samba; do
+        "$top/tools/pcap2cap" --quiet --bare "$top/examples/$each.pcap" >"$room/$each.txt" 2>"$room/errors"
+        count $? "examples/$each.pcap: $(tail -n 1 "$room/errors")"
+    done
+    $CC "${strict[@]}" -o "$room/claims" "$top/examples/claims.c" "$built/libnbt.a" >"$room/log" 2>&1
+    count $? "examples/claims.c: $(head -n 1 "$room/log")"
+    ended "$room/claims" <"$room/office.txt" | same "$(printf 'FRED<20> 10.0.0.6\n%.0s' 1 2 3)" 'the claims of the office'
+    ended "$room/claims" <"$room/samba.txt" | grep -c 'group$' | same 28 'the claims of groups that Samba sends'
+    in_python "$top/examples/claimants.py" <"$room/office.txt" | same 'no name has two claimants' 'the claimants of the office'
+    in_python "$top/examples/claimants.py" <"$room/samba.txt" | same "$(printf 'FRED<%s> 10.0.0.5 10.0.0.6\n' 00 03 20)" \
+        'the claimants of names that Samba sends'
+}
+
 # The package for Python, over the shared object, and beside `nbt show`.
 python() {
     (cd "$top/bindings/python" && NBT_LIBRARY=$built/libnbt.so.0 PYTHONDONTWRITEBYTECODE=1 PYTHONPATH=. \
@@ -168,7 +221,7 @@ python() {
     grep -cE '\.\.\. ok$' "$room/log" >"$room/tests"
     passed=$((passed + $(cat "$room/tests")))
     lines "$payloads" 3
-    NBT_LIBRARY=$built/libnbt.so.0 PYTHONDONTWRITEBYTECODE=1 PYTHONPATH=$top/bindings/python ended python3 -c '
+    in_python -c '
 import sys, nbt
 for number, line in enumerate(sys.stdin, 1):
     port, digits = line.split()
@@ -178,14 +231,13 @@ for number, line in enumerate(sys.stdin, 1):
     count $? "nbt.show prints what nbt show prints: $(tail -n 1 "$room/errors")"
     grep -v '^tick' "$room/capture" | ended "$program" save --keys 65535 >"$room/table"
     ended "$program" list --keys 65535 <"$room/table" >"$room/listed"
-    NBT_LIBRARY=$built/libnbt.so.0 PYTHONDONTWRITEBYTECODE=1 PYTHONPATH=$top/bindings/python ended python3 -c '
+    in_python -c '
 import sys, nbt
 sys.stdout.write(nbt.list_table(bytes.fromhex(sys.stdin.read())))
 ' <"$room/table" >"$room/output" 2>"$room/errors"
     grep -q ' whole ' "$room/listed" && grep -q ' partial ' "$room/listed" && cmp -s "$room/listed" "$room/output"
     count $? "nbt.list_table prints what nbt list prints: $(tail -n 1 "$room/errors") $(diff "$room/listed" "$room/output" | head -c 300)"
-    NBT_LIBRARY=$built/libnbt.so.0 PYTHONDONTWRITEBYTECODE=1 PYTHONPATH=$top/bindings/python \
-        ended "$here/lib/library_replay.py" 'FRED<20>' 'JOE<00>' <"$room/capture" >"$room/output" 2>"$room/errors"
+    in_python "$here/lib/library_replay.py" 'FRED<20>' 'JOE<00>' <"$room/capture" >"$room/output" 2>"$room/errors"
     replays_alike 'in Python'
 }
 
@@ -232,7 +284,7 @@ installed() {
     $CC -std=c11 -Wall -Wextra -Werror -o "$room/example" "$room/first.c" $flags >"$room/log" 2>&1
     count $? "the program in C of docs/CALLING.md: $(head -n 1 "$room/log")"
     LD_LIBRARY_PATH=$room/root/lib ended "$room/example" | same "$(block text)" 'the program in C of docs/CALLING.md'
-    for each in 1 2; do
+    for each in 1 2 3; do
         block python $each >"$room/first.py"
         PYTHONPATH=$room/root/share/nbt/python PYTHONDONTWRITEBYTECODE=1 ended python3 "$room/first.py" 2>&1 \
             | same "$(block text $((each + 1)))" "program $each in Python of docs/CALLING.md"
@@ -289,13 +341,27 @@ rust() {
     LD_LIBRARY_PATH=$room/root/lib ended "$room/target/release/examples/show_lines" <"$room/lines4" >"$room/output" 2>"$room/errors"
     cmp -s "$room/lines4.wanted" "$room/output"
     count $? "nbt::show_into prints what nbt show prints: $(tail -n 1 "$room/errors")"
-    # The program of docs/CALLING.md in a folder of its own, over the crate that is installed.
-    mkdir -p "$room/user/src"
-    printf '[package]\nname = "first"\nversion = "0.1.0"\nedition = "2021"\n\n[dependencies]\nnbt = { path = "%s" }\n' \
-        "$room/root/share/nbt/rust" >"$room/user/Cargo.toml"
-    block rust >"$room/user/src/main.rs"
-    (cd "$room/user" && PKG_CONFIG_PATH=$room/root/lib/pkgconfig NBT_STATIC=1 CARGO_TARGET_DIR=$room/user/target \
-        ended cargo run --quiet --offline) 2>&1 | same "$(block text 4)" 'the program in Rust of docs/CALLING.md'
+    LD_LIBRARY_PATH=$room/root/lib reads "$room/values" show_values.rs ended "$room/target/release/examples/show_values"
+    block rust >"$room/first.rs"
+    user_program first "$room/first.rs" </dev/null | same "$(block text 5)" 'the program in Rust of docs/CALLING.md'
+    [ ! -f "$room/samba.txt" ] || node_statuses
+}
+
+# The program of examples/ in Rust, over its pcaps.
+node_statuses() {
+    user_program node_statuses "$top/examples/node_statuses.rs" <"$room/office.txt" | wc -c | same 0 'the office has no node status'
+    user_program node_statuses "$top/examples/node_statuses.rs" <"$room/samba.txt" | same '00:00:00:00:00:00: FRED<00>, FRED<03>, FRED<20>, '\
+'\01\02__MSBROWSE__\02<01> (group), OFFICE<00> (group), OFFICE<1d>, OFFICE<1e> (group)' 'the node status that Samba sends'
+}
+
+# user_program NAME FILE: a program in Rust in a folder of its own, over the crate that is installed, which runs.
+user_program() {
+    mkdir -p "$room/$1/src"
+    printf '[package]\nname = "%s"\nversion = "0.1.0"\nedition = "2021"\n\n[dependencies]\nnbt = { path = "%s" }\n' \
+        "$1" "$room/root/share/nbt/rust" >"$room/$1/Cargo.toml"
+    cp "$2" "$room/$1/src/main.rs"
+    (cd "$room/$1" && PKG_CONFIG_PATH=$room/root/lib/pkgconfig NBT_STATIC=1 CARGO_TARGET_DIR=$room/user \
+        ended cargo run --quiet --offline) 2>&1
 }
 
 # block LANGUAGE [NUMBER]: a block of docs/CALLING.md in this language, the first of them if no number is given.
@@ -313,6 +379,8 @@ if command -v valgrind >/dev/null; then part valgrind under_valgrind; else lacks
 part callers callers
 part memory refused
 part replay replayed
+part values values
+if command -v tshark >/dev/null; then part programs programs; else lacks programs tshark; fi
 part python python
 if command -v mypy >/dev/null; then part types types; else lacks types mypy; fi
 part station station

@@ -125,9 +125,9 @@ objects() {
     [ $? -eq 0 ] && [ "$(cat "$room/errors")" = '16 frames, 15 packets, 0 refused, 0 left out' ]
     count $? "nbt-look --json: $(cat "$room/errors")"
     # What stands after the frame is what nbt shows of the payload.
-    nbt show --json <"$room/capture" | grep -v '"kind":"tick"' | sed -E 's/^\{"line":[0-9]+,//; s/,?"comment":"[^"]*"//; s/^/{/' >"$room/wanted"
+    nbt show --json --brief <"$room/capture" | grep -v '"kind":"tick"' | sed -E 's/^\{"line":[0-9]+,//; s/,?"comment":"[^"]*"//; s/^/{/' >"$room/wanted"
     sed -E 's/^.*"captured":[0-9]+,/{/' "$room/objects" | diff "$room/wanted" - >"$room/difference"
-    count $? "the members of nbt show --json: $(head -n 3 "$room/difference")"
+    count $? "the members of nbt show --json --brief: $(head -n 3 "$room/difference")"
     [ "$(sed -n 10p "$room/objects" | cut -d , -f 1-12)" = '{"frame":11,"time":"1970-01-01T00:00:03.000000Z","source":"192.0.2.1","destination":"192.0.2.2","ports":[1024,139],"interface":null,"vlan":[],"mac":null,"size":112,"captured":112,"port":139' ]
     count $? "the members of a frame: $(sed -n 10p "$room/objects")"
     look --json --quiet --kind query "$office" 2>&1 | diff - <(grep '"op":"query"' "$room/objects")

@@ -174,7 +174,7 @@ prefixes() {
 offers() {
     cat <<'END'
 nbt s|show save
-nbt show -|--input-limit --comments --json --help
+nbt show -|--input-limit --comments --brief --json --help
 nbt save --|--keys --per-source --input-limit --help
 nbt replay --keys |
 nbt build r|registration refresh release response request retarget

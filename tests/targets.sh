@@ -1,14 +1,14 @@
 #!/usr/bin/env bash
 # The library for other targets, made of the module of which the one for x86-64 is made: the same calls answer the same on x86-64, on
 # aarch64 (by qemu) and in WebAssembly (in node), where memory runs out too; the examples of bindings/c, stations and tables on each;
-# the package for JavaScript; what is said where a tool is missing. Usage: [MODULE=FILE] tests/targets.sh [PROGRAM]; its last line is
-# 'N passed, M failed, K skipped'. MODULE is the module, if it is there; else tools/module makes it.
+# the package for JavaScript; what is said where a tool is missing. Usage: [MODULE=FILE] [OUT=FOLDER] tests/targets.sh [PROGRAM]; its last
+# line is 'N passed, M failed, K skipped'. MODULE is the module, if it is there; else tools/module makes it. OUT keeps what is made.
 set -uo pipefail
 shopt -s lastpipe
 . "$(dirname "$0")/lib/counting.sh"
 program=$(realpath "${1:-$here/../crates/nbt/out/nbt}")
 top=$(realpath "$here/..")
-out=$room/out
+out=${OUT:-$room/out}
 . "$here/lib/package_cases.sh"
 strict=(-std=c11 -O1 -g -Wall -Wextra -Wpedantic -Werror "-I$top/include")
 payloads=3000

@@ -128,6 +128,12 @@ export interface Nbt {
     text(spelling: Bytes): string;
     /** What the command `nbt show` prints of a payload that came to this port. */
     show(port: number, payload: Bytes): string;
+    /** The object of JSON that `nbt show --json` prints of it, without the members of a capture's line. */
+    json(port: number, payload: Bytes): string;
+    /** The phrase that `nbt show --brief` prints of it: who asks, claims, answers or sends what. */
+    brief(port: number, payload: Bytes): string;
+    /** The version of the library, as '0.1.0'. */
+    version(): string;
     /** Places count from the offset. */
     readDatagram(payload: Bytes, offset?: number): Datagram;
     /** The packets of a datagram, in order. */

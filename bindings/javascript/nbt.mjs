@@ -284,13 +284,17 @@ const stationOf = (calls) => class Station {
 
 /** All calls of one module but those of a station. */
 function libraryOf(calls) {
+    const said = (call) => (port, payload) =>
+        ascii.decode(calls.write(call, [numberOf(port, 16, 'port'), bytesOf(payload, 'payload'), INTO, USED]));
     return {
         Station: stationOf(calls),
         words: (status) => calls.words(numberOf(status, 32, 'status')),
         spell: (text) => calls.write('nbt_name_spell', [encoded(text, 'text'), INTO, USED, AT]).slice(),
         text: (spelling) => calls.name(bytesOf(spelling, 'spelling')),
-        show: (port, payload) =>
-            ascii.decode(calls.write('nbt_show', [numberOf(port, 16, 'port'), bytesOf(payload, 'payload'), INTO, USED])),
+        show: said('nbt_show'),
+        json: said('nbt_json'),
+        brief: said('nbt_brief'),
+        version: () => ascii.decode(calls.write('nbt_version', [INTO, USED])),
         list: (table) => ascii.decode(calls.write('nbt_table_list', [bytesOf(table, 'table'), INTO, USED, AT])),
 
         merge(first, second, { keys = 65_535, perSource = NO_LIMIT } = {}) {
@@ -353,9 +357,10 @@ const MEMORY64 = Uint8Array.of(0, 97, 115, 109, 1, 0, 0, 0, 5, 3, 1, 4, 1);
 
 /** What a module has to have. */
 const CALLS = [
-    'heap_give_back', 'heap_limit', 'heap_take', 'nbt_datagram_read', 'nbt_datagram_write', 'nbt_name_spell', 'nbt_name_text',
-    'nbt_service_request', 'nbt_session_read', 'nbt_session_write', 'nbt_show', 'nbt_station_absorb', 'nbt_station_create',
-    'nbt_station_free', 'nbt_station_save', 'nbt_station_take', 'nbt_station_tick', 'nbt_status_text', 'nbt_table_list', 'nbt_table_merge',
+    'heap_give_back', 'heap_limit', 'heap_take', 'nbt_brief', 'nbt_datagram_read', 'nbt_datagram_write', 'nbt_json', 'nbt_name_spell',
+    'nbt_name_text', 'nbt_service_request', 'nbt_session_read', 'nbt_session_write', 'nbt_show', 'nbt_station_absorb',
+    'nbt_station_create', 'nbt_station_free', 'nbt_station_save', 'nbt_station_take', 'nbt_station_tick', 'nbt_status_text',
+    'nbt_table_list', 'nbt_table_merge', 'nbt_version',
 ];
 
 /** Loads nbt.wasm: from beside this file, or what `module` is. Its memory grows to `limit` bytes at most. */

@@ -15,9 +15,11 @@ def example_bytes():
 
 
 def capture_lines():
-    """The lines of the captures in examples/."""
+    """The lines of the captures in examples/, and of other files there that are none."""
     folder = os.path.join(ROOT, 'examples')
     for name in sorted(os.listdir(folder)):
+        if not name.endswith(('.txt', '.pcap', '.sh')):
+            continue
         with open(os.path.join(folder, name), 'rb') as capture:
             yield from capture.read().splitlines()
 

@@ -26,4 +26,5 @@ queries      queries without an answer
 sessions     who called whom
 datagrams    which are whole, incomplete, spoilt
 rooms        how many entries a part keeps
+page         a page for a browser with a capture in it
 """

@@ -16,6 +16,7 @@ def options_of(words):
     parser.add_argument('--frame', type=number)
     parser.add_argument('--summary', action='store_true')
     parser.add_argument('--json', action='store_true')
+    parser.add_argument('--html')
     parser.add_argument('--name', dest='names', action='append', default=[])
     parser.add_argument('--host', dest='hosts', action='append', type=address, default=[])
     parser.add_argument('--kind', dest='kinds', action='append', type=kinds_in, default=[])
@@ -47,6 +48,8 @@ def judge(options):
         raise Stopped(2, USAGE)
     if options.frame is not None and (options.summary or options.json or options.live):
         raise Stopped(2, '--frame stands without --summary, --json and a network; --help says more')
+    if options.html is not None and (options.frame is not None or options.summary or options.json or options.live):
+        raise Stopped(2, '--html stands without --frame, --summary, --json and a network; --help says more')
     arguments.judge_ports(options.ports)
 
 

@@ -37,9 +37,11 @@ test('a module has each call of nbt.h', async () => {
     const { exports } = (await WebAssembly.instantiate(wasm, {})).instance;
     const calls = new Set(Array.from(readFileSync(header, 'utf8').matchAll(/\b(nbt_[a-z_]+)\(/g), ([, name]) => name));
     const source = readFileSync(`${folder}/nbt.mjs`, 'utf8');
+    // What these give, `json` has as members.
+    const told = ['header', 'read', 'item', 'address', 'node', 'unit'].map((part) => `nbt_service_${part}`);
     for (const name of calls) {
         assert.equal(typeof exports[name], 'function');
-        assert.equal(source.split(`'${name}'`).length, 3, `${name} is listed and called`);
+        assert.equal(source.split(`'${name}'`).length, told.includes(name) ? 1 : 3, `${name} is listed and called`);
     }
 });
 
@@ -68,6 +70,21 @@ test('show', () => {
     assert.match(long, /^message .*used=131075\n$/s);
     assert.ok(long.length > 262_142);
     assert.equal(nbt.show(139, Uint8Array.of(0x85, 0, 0, 0)), 'keepalive used=4\n');
+});
+
+test('json and brief', () => {
+    const query = nbt.request('query', { identifier: 3, name: 'FRED<20>' });
+    assert.equal(nbt.brief(137, query), 'asks for FRED<20>');
+    assert.deepEqual(JSON.parse(nbt.json(139, Uint8Array.of(0x83, 0, 0, 1, 0x82))), { kind: 'negative', code: '82', used: 5 });
+    assert.deepEqual(JSON.parse(nbt.json(138, new Uint8Array())), { refused: 'truncated 0', at: 0 });
+    assert.equal(nbt.brief(138, new Uint8Array()), 'refused: truncated, at byte 0');
+    assert.equal(JSON.parse(nbt.json(137, query)).questions[0].name, 'FRED<20>');
+    const long = Uint8Array.of(0, 0, 0xff, 0xff, ...new Uint8Array(65_535));
+    assert.equal(JSON.parse(nbt.json(139, long)).data.length, 2 * 65_535);
+});
+
+test('version', () => {
+    assert.equal(nbt.version(), /NBT_VERSION "(.*)"/.exec(readFileSync(header, 'utf8'))[1]);
 });
 
 test('datagrams', () => {

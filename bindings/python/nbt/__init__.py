@@ -2,9 +2,11 @@
 
 names       texts and spellings
 packets     what `nbt show` prints of a payload
+service     requests of port 137
+service_packets, rdata
+            packets of port 137
 datagrams   packets of port 138
 sessions    packets of port 139
-service     requests of port 137
 stations    stations, which put datagrams together
 tables      saved tables
 turns       calls on a station, one at a time
@@ -13,20 +15,27 @@ numbers     numbers, addresses and texts, judged before a call
 buffers     the bytes of buffers
 library     the shared library, found and loaded
 
+`python3 -m nbt` says which version of the library is loaded, and from which file.
+
 The calls may be made from any thread, and let other threads run meanwhile, but for those that read one packet. On one
 station a call waits for another to end.
 """
 from .buffers import Buffer
 from .datagrams import Datagram, DatagramType
+from .library import VERSION
 from .names import spell, text
-from .packets import show
+from .packets import json, show
+from .rdata import DomainName, NbEntry, NodeName, NodeStatus, NodeType, Rdata
 from .service import node_status, query, refresh, registration, release
+from .service_packets import Operation, Question, Record, ResultCode, ServicePacket
 from .sessions import SessionPacket, SessionStream, SessionType
 from .stations import Delivery, Outcome, Station, Taken
 from .statuses import MoreNeeded, NbtError, Status
 from .tables import list_table, merge
 from .turns import ReentryError
 
-__all__ = ['Buffer', 'Datagram', 'DatagramType', 'Delivery', 'MoreNeeded', 'NbtError', 'Outcome', 'ReentryError', 'SessionPacket',
-           'SessionStream', 'SessionType', 'Station', 'Status', 'Taken', 'list_table', 'merge', 'node_status', 'query', 'refresh',
-           'registration', 'release', 'show', 'spell', 'text']
+__version__ = VERSION().decode()
+__all__ = ['Buffer', 'Datagram', 'DatagramType', 'Delivery', 'DomainName', 'MoreNeeded', 'NbEntry', 'NbtError', 'NodeName',
+           'NodeStatus', 'NodeType', 'Operation', 'Outcome', 'Question', 'Rdata', 'Record', 'ReentryError', 'ResultCode',
+           'ServicePacket', 'SessionPacket', 'SessionStream', 'SessionType', 'Station', 'Status', 'Taken', 'json', 'list_table',
+           'merge', 'node_status', 'query', 'refresh', 'registration', 'release', 'show', 'spell', 'text']

@@ -49,6 +49,26 @@ def call(name: str, *arguments: Any, library: ctypes.CDLL = LIBRARY, answer: Any
     return function
 
 
+def behind(address: int, length: int, offset: int) -> Tuple[int, int]:
+    """Where the bytes at an address go on behind an offset, and how many they are; ValueError where it lies outside."""
+    if not 0 <= offset <= length:
+        raise ValueError(f'offset: {offset} lies outside of {length} bytes')
+    return address + offset, length - offset
+
+
+class Loaded(ctypes.Structure):
+    """Dl_info."""
+
+    _fields_ = [('file', ctypes.c_char_p), ('base', ctypes.c_void_p), ('symbol', ctypes.c_char_p), ('address', ctypes.c_void_p)]
+
+
+def found_at() -> str:
+    """The file of the library."""
+    loaded = Loaded()
+    ctypes.CDLL(None).dladdr(ctypes.cast(LIBRARY.nbt_version, ctypes.c_void_p), ctypes.byref(loaded))
+    return os.path.abspath(os.fsdecode(loaded.file))
+
+
 class Reader:
     """A call that fills in a structure of numbers, and of places: of each part where it begins and its length. It reads a
     buffer where that lies."""
@@ -63,11 +83,10 @@ class Reader:
         return lend(data, self.read, whole_number(offset, 'offset'))
 
     def read(self, address: int, length: int, offset: int) -> Tuple[Any, List[bytes]]:
-        """The same of the bytes at an address; ValueError where the offset lies outside."""
-        if not 0 <= offset <= length:
-            raise ValueError(f'offset: {offset} lies outside of {length} bytes')
-        found, at, front = self.structure(), ctypes.c_size_t(), address + offset
-        status = self.call(front, length - offset, ctypes.addressof(found), ctypes.addressof(at))
+        """The same of the bytes at an address."""
+        front, left = behind(address, length, offset)
+        found, at = self.structure(), ctypes.c_size_t()
+        status = self.call(front, left, ctypes.addressof(found), ctypes.addressof(at))
         if status != DONE:
             raise failure(status, at.value)
         return found, [ctypes.string_at(front + getattr(found, place), size) if (size := getattr(found, part_length)) else b''
@@ -116,6 +135,7 @@ def writer(name: str, *arguments: Any, places: bool = True) -> Callable[..., byt
     return write
 
 
+VERSION = writer('nbt_version', places=False)
 STATUS_TEXT = writer('nbt_status_text', ctypes.c_uint32, places=False)
 
 

@@ -3,6 +3,8 @@ section 4.1. The form of texts is the library's choice: the characters of the na
 digits between < and >, and the labels of its scope, each after a full stop."""
 from __future__ import annotations
 
+from typing import Iterator
+
 from .buffers import Buffer, given
 from .library import BYTES, writer
 from .numbers import encoded
@@ -27,3 +29,28 @@ def text(spelling: Buffer) -> str:
     """
     data = given(spelling)
     return TEXT(data, len(data)).decode()
+
+
+def spelled(name: bytes) -> bytes:
+    """The spelling of a name of sixteen bytes, which has no scope: each half of a byte is one of the letters A to P."""
+    return b'\x20' + bytes(ord('A') + half for byte in name for half in (byte >> 4, byte & 15)) + b'\0'
+
+
+def spelling_end(data: bytes, at: int) -> int:
+    """Where the spelling ends that begins there: after its zero byte."""
+    while data[at]:
+        at += 1 + data[at]
+    return at + 1
+
+
+def labels(spelling: bytes) -> Iterator[bytes]:
+    """The labels of a spelling."""
+    at = 0
+    while size := spelling[at]:
+        yield spelling[at + 1:at + 1 + size]
+        at += 1 + size
+
+
+def escaped(label: bytes) -> str:
+    """The text of a label, in which a backslash and two hexadecimal digits stand for a byte that isn't plain."""
+    return ''.join(chr(byte) if 0x21 <= byte <= 0x7e and byte not in b'.<>\\' else f'\\{byte:02x}' for byte in label)

@@ -1,4 +1,4 @@
-"""What the command `nbt show` prints of a payload."""
+"""What the command `nbt show` prints of a payload, as a text and as JSON."""
 from __future__ import annotations
 
 import ctypes
@@ -8,6 +8,7 @@ from .library import BYTES, writer
 from .numbers import number
 
 SHOW = writer('nbt_show', ctypes.c_uint16, *BYTES, places=False)
+JSON = writer('nbt_json', ctypes.c_uint16, *BYTES, places=False)
 
 
 def show(port: int, payload: Buffer) -> str:
@@ -15,3 +16,10 @@ def show(port: int, payload: Buffer) -> str:
     why it begins with none. 137 is the name service, 138 the datagram service; any other port is taken for a session."""
     data = given(payload)
     return SHOW(number(port, 16, 'port'), data, len(data)).decode()
+
+
+def json(port: int, payload: Buffer) -> str:
+    """The JSON object of a payload that came to this port, without a line feed: what `nbt show --json` prints of it, but for
+    the members `line`, `port`, `moment` and `comment`. Ports are as of `show`."""
+    data = given(payload)
+    return JSON(number(port, 16, 'port'), data, len(data)).decode()

@@ -3,9 +3,11 @@ from __future__ import annotations
 
 import ctypes
 import enum
+import ipaddress
 from dataclasses import dataclass
-from typing import Iterator
+from typing import Iterator, Optional, Tuple
 
+from . import names
 from .buffers import Buffer, given
 from .library import BYTES, Reader, writer
 from .numbers import number
@@ -42,6 +44,23 @@ class SessionPacket:
     body: bytes
     used: int  # the bytes of the packet: what follows them isn't looked at
 
+    @property
+    def called(self) -> Optional[str]:
+        """CALLED_NAME of a request, as a text."""
+        return called_and_calling(self)[0]
+
+    @property
+    def calling(self) -> Optional[str]:
+        """CALLING_NAME of a request, as a text."""
+        return called_and_calling(self)[1]
+
+    @property
+    def retarget(self) -> Optional[Tuple[ipaddress.IPv4Address, int]]:
+        """RETARGET_IP_ADDRESS and RETARGET_PORT: whom to call instead."""
+        if self.type != SessionType.RETARGET:
+            return None
+        return ipaddress.IPv4Address(self.body[:4]), int.from_bytes(self.body[4:], 'big')
+
     @classmethod
     def read(cls, data: Buffer, offset: int = 0) -> SessionPacket:
         """The packet at the front of what came over a connection to port 139, from an offset of the buffer on; places count
@@ -67,6 +86,14 @@ class SessionPacket:
         """
         data = given(body)
         return WRITE(number(type, 8, 'type'), data, len(data))
+
+
+def called_and_calling(packet: SessionPacket) -> Tuple[Optional[str], Optional[str]]:
+    """The names of a request, as texts."""
+    if packet.type != SessionType.REQUEST:
+        return None, None
+    end = names.spelling_end(packet.body, 0)
+    return names.text(packet.body[:end]), names.text(packet.body[end:])
 
 
 class SessionStream(Iterator[SessionPacket]):

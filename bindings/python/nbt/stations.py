@@ -195,18 +195,11 @@ def deliveries(written: bytes) -> List[Delivery]:
     found, at = [], 0
     while at < len(written):
         address, port, identifier = (int.from_bytes(written[at + start:at + end], 'big') for start, end in ((0, 4), (4, 6), (6, 8)))
-        source = spelled_end(written, at + 9)
-        destination = spelled_end(written, source)
+        source = spelled.spelling_end(written, at + 9)
+        destination = spelled.spelling_end(written, source)
         data = destination + 2
         end = data + int.from_bytes(written[destination:data], 'big')
         found.append(Delivery(DatagramType(written[at + 8]), ipaddress.IPv4Address(address), port, identifier,
                               spelled.text(written[at + 9:source]), spelled.text(written[source:destination]), written[data:end]))
         at = end
     return found
-
-
-def spelled_end(written: bytes, at: int) -> int:
-    """Where the spelling ends that begins there: after its zero byte."""
-    while written[at]:
-        at += 1 + written[at]
-    return at + 1

@@ -10,6 +10,7 @@ import nbt
 from nbt import SessionType, Status
 
 ALIVE, HELLO = b'\x85\0\0\0', b'\0\0\0\x05hello'
+CLAIM = nbt.registration(2, 'FRED<20>', 300_000, 0, '10.0.0.6', broadcast=True)
 DATAGRAM = nbt.Datagram.write(nbt.DatagramType.GROUP, 10, '10.0.0.5', 138, 'JOE<00>', 'FRED<20>', b'hello')[0]
 RUNS, SLACK = 3, 3
 
@@ -29,11 +30,13 @@ KINDS = (bytes, bytearray, memoryview, lambda data: memoryview(bytearray(data)),
 class Offsets(unittest.TestCase):
     def test_kinds(self):
         for kind in KINDS:
-            buffer = kind(b'xx' + HELLO + DATAGRAM + b'yy')
+            buffer = kind(b'xx' + HELLO + DATAGRAM + CLAIM + b'yy')
             with self.subTest(type(buffer).__name__):
                 packet = nbt.SessionPacket.read(buffer, offset=2)
                 self.assertEqual((packet.type, packet.body, packet.used), (SessionType.MESSAGE, b'hello', 9))
                 self.assertEqual(nbt.Datagram.read(buffer, offset=11), nbt.Datagram.read(DATAGRAM))
+                claim = 11 + len(DATAGRAM)
+                self.assertEqual(nbt.ServicePacket.read(buffer, offset=claim), nbt.ServicePacket.read(CLAIM))
 
     def test_every_second_byte(self):
         """A view whose bytes don't stand in a row."""
@@ -69,8 +72,9 @@ class Offsets(unittest.TestCase):
     def test_nothing_else_is_copied(self):
         """The peak of Python's memory over a read of a few bytes in a buffer of a megabyte."""
         for kind in KINDS:
-            buffer = kind(bytes(1 << 19) + HELLO + DATAGRAM + bytes(1 << 19))
-            for call, offset in ((nbt.SessionPacket.read, 1 << 19), (nbt.Datagram.read, (1 << 19) + 9)):
+            buffer = kind(bytes(1 << 19) + CLAIM + HELLO + DATAGRAM + bytes(1 << 19))
+            for call, offset in ((nbt.ServicePacket.read, 1 << 19), (nbt.SessionPacket.read, (1 << 19) + len(CLAIM)),
+                                 (nbt.Datagram.read, (1 << 19) + len(CLAIM + HELLO))):
                 call(buffer, offset)
                 tracemalloc.start()
                 call(buffer, offset)

@@ -28,3 +28,28 @@ def why(station: nbt.Station, payload: mmap.mmap) -> Optional[nbt.Status]:
     if refusal is None or refusal.number == refusal.at:
         return None
     return refusal.status
+
+
+def said(packet: nbt.ServicePacket) -> List[str]:
+    """What the records of a packet say."""
+    words = [f'{packet.op:d} {packet.rcode:d} {packet.flags:04x}'] if packet.broadcast else []
+    for record in packet.records:
+        it: nbt.Rdata = record.rdata
+        if isinstance(it, tuple):
+            words += [f'{entry.address} {entry.node_type.name}' for entry in it]
+        elif isinstance(it, nbt.NodeStatus):
+            words += [node.name for node in it.names if node.active] + [(it.unit or b'').hex()]
+        elif isinstance(it, nbt.DomainName):
+            words.append(str(it))
+        else:
+            words.append(it.hex())
+    return words
+
+
+def front(payload: bytearray) -> Optional[int]:
+    """Where a payload is refused."""
+    packet, fault = nbt.ServicePacket.read_front(payload, offset=1)
+    if packet is None or fault is None:
+        return None
+    retarget = nbt.SessionPacket.read(nbt.json(137, payload).encode()).retarget
+    return fault.at if retarget is None else retarget[1] + packet.counts[0] + len(nbt.__version__)

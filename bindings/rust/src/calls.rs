@@ -11,6 +11,67 @@ pub const DONE: u32 = 0;
 pub const NO_ROOM: u32 = 1;
 /// NBT_MORE: `at` is how many bytes of the packet are missing.
 pub const MORE: u32 = 52;
+/// NBT_NO_ITEM: a header counts fewer questions and records.
+pub const NO_ITEM: u32 = 57;
+/// NBT_NO_PART: RDATA has fewer parts; `at` is how many.
+pub const NO_PART: u32 = 59;
+
+/// struct nbt_service_header: the header of a packet of port 137.
+#[repr(C)]
+#[derive(Default)]
+pub struct FoundHeader {
+    pub identifier: u16,
+    pub word: u16,
+    pub counts: [u16; 4],
+    pub used: usize,
+}
+
+/// struct nbt_service_item: a question or a record, where its RDATA stands, and where the next one does.
+#[repr(C)]
+pub struct FoundItem {
+    pub section: u32,
+    pub time_to_live: u32,
+    pub kind: u16,
+    pub class: u16,
+    pub data: usize,
+    pub data_length: usize,
+    pub next: usize,
+    pub netbios: u8,
+    pub name_length: u8,
+    pub name: [u8; 255],
+}
+
+impl FoundItem {
+    /// What a call fills in.
+    pub const EMPTY: FoundItem = FoundItem {
+        section: 0,
+        time_to_live: 0,
+        kind: 0,
+        class: 0,
+        data: 0,
+        data_length: 0,
+        next: 0,
+        netbios: 0,
+        name_length: 0,
+        name: [0; 255],
+    };
+}
+
+/// struct nbt_service_address: an address of a NetBIOS name.
+#[repr(C)]
+#[derive(Default)]
+pub struct FoundAddress {
+    pub address: u32,
+    pub flags: u16,
+}
+
+/// struct nbt_service_node: one of the names of a node.
+#[repr(C)]
+#[derive(Default)]
+pub struct FoundNode {
+    pub flags: u16,
+    pub name: [u8; 16],
+}
 
 /// struct nbt_datagram: the numbers of a packet of port 138, and where its parts stand in the payload.
 #[repr(C)]
@@ -93,6 +154,66 @@ extern "C" {
         into: *mut u8,
         into_length: usize,
         used: *mut usize,
+    ) -> u32;
+
+    pub fn nbt_json(
+        port: u16,
+        payload: *const u8,
+        payload_length: usize,
+        into: *mut u8,
+        into_length: usize,
+        used: *mut usize,
+    ) -> u32;
+
+    pub fn nbt_version(into: *mut u8, into_length: usize, used: *mut usize) -> u32;
+
+    pub fn nbt_service_header(
+        payload: *const u8,
+        payload_length: usize,
+        header: *mut FoundHeader,
+        at: *mut usize,
+    ) -> u32;
+
+    pub fn nbt_service_read(
+        payload: *const u8,
+        payload_length: usize,
+        header: *mut FoundHeader,
+        at: *mut usize,
+    ) -> u32;
+
+    pub fn nbt_service_item(
+        payload: *const u8,
+        payload_length: usize,
+        number: u32,
+        place: usize,
+        item: *mut FoundItem,
+        at: *mut usize,
+    ) -> u32;
+
+    pub fn nbt_service_address(
+        kind: u16,
+        data: *const u8,
+        data_length: usize,
+        number: usize,
+        address: *mut FoundAddress,
+        at: *mut usize,
+    ) -> u32;
+
+    pub fn nbt_service_node(
+        kind: u16,
+        data: *const u8,
+        data_length: usize,
+        number: usize,
+        node: *mut FoundNode,
+        at: *mut usize,
+    ) -> u32;
+
+    pub fn nbt_service_unit(
+        kind: u16,
+        data: *const u8,
+        data_length: usize,
+        unit: *mut [u8; 6],
+        at: *mut usize,
     ) -> u32;
 
     pub fn nbt_datagram_read(

@@ -21,11 +21,12 @@
 //! # Ok::<(), Box<dyn std::error::Error>>(())
 //! ```
 
+use std::fmt;
 use std::net::{Ipv4Addr, SocketAddrV4};
 
 use crate::calls::{nbt_datagram_read, nbt_datagram_write, FoundDatagram, DONE};
 use crate::room::written;
-use crate::{Error, Result, Spelling, Status};
+use crate::{Error, Result, Spelling};
 
 /// What MSG_TYPE says of a fragment's datagram.
 #[derive(Clone, Copy, Debug, PartialEq, Eq, Hash)]
@@ -39,11 +40,24 @@ pub enum Kind {
     Broadcast = 0x12,
 }
 
-impl Kind {
-    /// The kind with this number.
-    pub(crate) fn from_number(number: u8) -> Option<Kind> {
+/// The kind with this number, of MSG_TYPE; `UnknownType` where it is no fragment's.
+impl TryFrom<u8> for Kind {
+    type Error = Error;
+
+    fn try_from(number: u8) -> Result<Kind> {
         let all = [Kind::Unique, Kind::Group, Kind::Broadcast];
-        all.into_iter().find(|it| *it as u8 == number)
+        let found = all.into_iter().find(|it| *it as u8 == number);
+        found.ok_or(Error::UNKNOWN_TYPE)
+    }
+}
+
+impl fmt::Display for Kind {
+    fn fmt(&self, out: &mut fmt::Formatter<'_>) -> fmt::Result {
+        out.pad(match self {
+            Kind::Unique => "unique",
+            Kind::Group => "group",
+            Kind::Broadcast => "broadcast",
+        })
     }
 }
 
@@ -57,6 +71,27 @@ pub enum Query {
     Found = 0x15,
     /// The answer that nobody has it.
     Missing = 0x16,
+}
+
+/// The query packet with this number, of MSG_TYPE; `UnknownType` where none has it.
+impl TryFrom<u8> for Query {
+    type Error = Error;
+
+    fn try_from(number: u8) -> Result<Query> {
+        let all = [Query::Find, Query::Found, Query::Missing];
+        let found = all.into_iter().find(|it| *it as u8 == number);
+        found.ok_or(Error::UNKNOWN_TYPE)
+    }
+}
+
+impl fmt::Display for Query {
+    fn fmt(&self, out: &mut fmt::Formatter<'_>) -> fmt::Result {
+        out.pad(match self {
+            Query::Find => "find",
+            Query::Found => "found",
+            Query::Missing => "missing",
+        })
+    }
 }
 
 /// A packet of port 138, whose names and data are lent from the payload.
@@ -135,12 +170,21 @@ pub fn read(payload: &[u8]) -> Result<Packet<'_>> {
     })
 }
 
+/// The packet at the front of a payload. Errors are those of [`read`].
+impl<'a> TryFrom<&'a [u8]> for Packet<'a> {
+    type Error = Error;
+
+    fn try_from(payload: &'a [u8]) -> Result<Packet<'a>> {
+        read(payload)
+    }
+}
+
 /// What the packet says that was found in this payload.
 fn body_of<'a>(payload: &'a [u8], found: &FoundDatagram) -> Result<Body<'a>> {
     let part = |start: usize, length: usize| &payload[start..start + length];
     let destination = Spelling(part(found.destination, found.destination_length));
     let data = part(found.data, found.data_length);
-    if let Some(kind) = Kind::from_number(found.kind) {
+    if let Ok(kind) = Kind::try_from(found.kind) {
         return Ok(Body::Fragment(Fragment {
             kind,
             offset: found.offset,
@@ -149,14 +193,11 @@ fn body_of<'a>(payload: &'a [u8], found: &FoundDatagram) -> Result<Body<'a>> {
             data,
         }));
     }
-    Ok(match (found.kind, data) {
-        (0x13, &[code]) => Body::Error(code),
-        (0x14, _) => Body::Query(Query::Find, destination),
-        (0x15, _) => Body::Query(Query::Found, destination),
-        (0x16, _) => Body::Query(Query::Missing, destination),
+    match (found.kind, data) {
+        (0x13, &[code]) => Ok(Body::Error(code)),
         // The library answers no other.
-        _ => return Err(Error::new(Status::UnknownType.number(), 0)),
-    })
+        (kind, _) => Query::try_from(kind).map(|query| Body::Query(query, destination)),
+    }
 }
 
 /// A datagram that is to be sent.

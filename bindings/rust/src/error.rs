@@ -1,6 +1,6 @@
 //! Why a call did nothing.
 
-use std::fmt;
+use std::{fmt, io};
 
 use crate::status::words;
 use crate::Status;
@@ -30,6 +30,13 @@ impl Error {
     pub(crate) const NO_MEMORY: Error = Error {
         status: Status::NoMemory,
         number: Status::NoMemory as u32,
+        at: None,
+    };
+
+    /// A number that no packet has for its type.
+    pub(crate) const UNKNOWN_TYPE: Error = Error {
+        status: Status::UnknownType,
+        number: Status::UnknownType as u32,
         at: None,
     };
 
@@ -65,3 +72,17 @@ impl fmt::Display for Error {
 }
 
 impl std::error::Error for Error {}
+
+/// `OutOfMemory` where memory ran out, `InvalidInput` where what is to be written is at fault, `Other` of a status that
+/// this version of the crate doesn't know, and else `InvalidData`. The error within is this one.
+impl From<Error> for io::Error {
+    fn from(error: Error) -> io::Error {
+        let kind = match error.number {
+            2 => io::ErrorKind::OutOfMemory,
+            10..=15 | 60..=62 | 100..=101 => io::ErrorKind::InvalidInput,
+            _ if error.status == Status::UnknownStatus => io::ErrorKind::Other,
+            _ => io::ErrorKind::InvalidData,
+        };
+        io::Error::new(kind, error)
+    }
+}

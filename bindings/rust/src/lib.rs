@@ -2,8 +2,9 @@
 //! proved to do what they say.
 //!
 //! - [`spell`] and [`text`]: names as texts, and as packets spell them
-//! - [`show`]: what the command `nbt show` prints of a payload
-//! - [`service`]: requests of port 137
+//! - [`Name`], [`Spelling`]: names that lie in place, and names that are lent from a packet
+//! - [`show`], [`json`]: what the command `nbt show` prints of a payload, and what it prints with `--json`
+//! - [`service`]: packets of port 137
 //! - [`datagram`]: packets of port 138
 //! - [`session`]: packets of port 139
 //! - [`station`]: stations, which put datagrams together
@@ -31,10 +32,15 @@
 #![deny(missing_docs, unsafe_op_in_unsafe_fn)]
 
 mod calls;
+mod codes;
 mod error;
+mod name;
 mod names;
 mod packets;
+mod rdata;
 mod room;
+mod service_header;
+mod service_packets;
 mod status;
 mod tables;
 
@@ -44,8 +50,9 @@ pub mod session;
 pub mod station;
 
 pub use error::Error;
+pub use name::{Labels, Name};
 pub use names::{spell, text, Spelling};
-pub use packets::{show, show_into};
+pub use packets::{json, json_into, show, show_into, version};
 pub use station::Station;
 pub use status::Status;
 pub use tables::{list_table, merge, Limits};

@@ -4,7 +4,7 @@ use std::fmt;
 
 use crate::calls::{nbt_name_spell, nbt_name_text};
 use crate::room::{text_of, written};
-use crate::Result;
+use crate::{Error, Result};
 
 /// The spelling of the name with this text: its labels, each after its length, then a zero byte; at most 255 bytes.
 ///
@@ -56,9 +56,9 @@ pub fn text(spelling: &[u8]) -> Result<String> {
     Ok(text_of(bytes?))
 }
 
-/// The spelling of a name, lent from the packet that it was read in. Equality is by bytes, so upper and lower case of
-/// a scope differ.
-#[derive(Clone, Copy, PartialEq, Eq, Hash)]
+/// The spelling of a name, lent from the packet that it was read in; a [`crate::Name`] is made of it to be kept. Equality and
+/// order are by bytes, so upper and lower case of a scope differ. It shows itself as a text, as in `JOE<00>`.
+#[derive(Clone, Copy, PartialEq, Eq, PartialOrd, Ord, Hash)]
 pub struct Spelling<'a>(pub(crate) &'a [u8]);
 
 impl<'a> Spelling<'a> {
@@ -77,8 +77,40 @@ impl<'a> Spelling<'a> {
     }
 }
 
+/// The spelling that these bytes are, of a NetBIOS name. Errors are those of [`text`].
+impl<'a> TryFrom<&'a [u8]> for Spelling<'a> {
+    type Error = Error;
+
+    fn try_from(bytes: &'a [u8]) -> Result<Spelling<'a>> {
+        text(bytes).map(|_| Spelling(bytes))
+    }
+}
+
+impl AsRef<[u8]> for Spelling<'_> {
+    fn as_ref(&self) -> &[u8] {
+        self.0
+    }
+}
+
+impl fmt::Display for Spelling<'_> {
+    fn fmt(&self, out: &mut fmt::Formatter<'_>) -> fmt::Result {
+        out.pad(&self.text().map_err(|_| fmt::Error)?)
+    }
+}
+
 impl fmt::Debug for Spelling<'_> {
     fn fmt(&self, out: &mut fmt::Formatter<'_>) -> fmt::Result {
-        write!(out, "Spelling({})", self.0.escape_ascii())
+        fmt::Display::fmt(self, out)
+    }
+}
+
+/// How many bytes the spelling at the front has, its zero byte among them.
+pub(crate) fn spelled_length(bytes: &[u8]) -> Option<usize> {
+    let mut length = 0;
+    loop {
+        match usize::from(*bytes.get(length)?) {
+            0 => return Some(length + 1),
+            size => length += 1 + size,
+        }
     }
 }

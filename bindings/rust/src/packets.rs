@@ -1,7 +1,7 @@
-//! What the command `nbt show` prints of a payload.
+//! What the command `nbt show` prints of a payload, as a text and as JSON; the version of the library.
 
-use crate::calls::nbt_show;
-use crate::room::{text_of, write_into};
+use crate::calls::{nbt_json, nbt_show, nbt_version};
+use crate::room::{text_of, write_into, written};
 use crate::Result;
 
 /// What the command `nbt show` prints of a payload that came to this port, line feeds included: the packet that it
@@ -37,4 +37,53 @@ pub fn show_into(port: u16, payload: &[u8], text: &mut Vec<u8>) -> Result<()> {
             )
         })
     }
+}
+
+/// The JSON object (RFC 8259) of a payload that came to this port, without a line feed: what `nbt show --json` prints of it, but for
+/// the members `line`, `port`, `moment` and `comment`. Ports are as of [`show`].
+///
+/// ```
+/// let object = nbt::json(139, &[0x85, 0, 0, 0])?;
+/// assert_eq!(object, r#"{"kind":"keepalive","used":4}"#);
+/// # Ok::<(), nbt::Error>(())
+/// ```
+///
+/// # Errors
+///
+/// `NoMemory`.
+pub fn json(port: u16, payload: &[u8]) -> Result<String> {
+    let mut text = Vec::new();
+    json_into(port, payload, &mut text)?;
+    Ok(text_of(text))
+}
+
+/// Puts what [`json`] answers into a buffer in the place of what it held, as [`show_into`] does.
+///
+/// # Errors
+///
+/// `NoMemory`; the buffer is then empty.
+pub fn json_into(port: u16, payload: &[u8], text: &mut Vec<u8>) -> Result<()> {
+    // SAFETY: the payload is a slice, and the room's parts lie apart from it.
+    unsafe {
+        write_into(text, |room| {
+            nbt_json(
+                port,
+                payload.as_ptr(),
+                payload.len(),
+                room.into,
+                room.length,
+                room.used,
+            )
+        })
+    }
+}
+
+/// The version of the library that is called, as `nbt --version` has it.
+///
+/// # Errors
+///
+/// `NoMemory`.
+pub fn version() -> Result<String> {
+    // SAFETY: the room's parts lie apart from each other.
+    unsafe { written(|room| nbt_version(room.into, room.length, room.used)) }.map(text_of)
 }

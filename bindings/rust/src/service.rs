@@ -1,12 +1,24 @@
-//! Requests of the name service, port 137: RFC 1002 sections 4.2.12, 4.2.17, 4.2.2, 4.2.4 and 4.2.9.
+//! Packets of the name service, port 137: RFC 1002 section 4.2. [`Request`] writes those of sections 4.2.12, 4.2.17, 4.2.2,
+//! 4.2.4 and 4.2.9, and [`read`] reads all.
 //!
 //! ```
-//! use nbt::service::Request;
+//! use nbt::service::{read, Entry, Operation, Rdata, Request};
 //!
-//! let packet = Request::Query.write(3, "FRED<20>", true)?;
-//! assert_eq!(packet.len(), 50);
-//! assert!(nbt::show(137, &packet)?.starts_with("id=0003 word=0110 op=query"));
-//! # Ok::<(), nbt::Error>(())
+//! let entry = Entry {
+//!     nb_flags: 0,
+//!     address: "10.0.0.6".parse()?,
+//! };
+//! let payload = Request::Registration(entry, 300_000).write(2, "FRED<20>", true)?;
+//! let packet = read(&payload)?;
+//! assert_eq!(packet.header.operation(), Ok(Operation::Registration));
+//! assert_eq!(packet.questions().len(), 1);
+//! for record in packet.additional() {
+//!     assert_eq!(record.name.to_string(), "FRED<20>");
+//!     if let Rdata::Addresses(mut claimants) = record.rdata() {
+//!         assert_eq!(claimants.next(), Some(entry));
+//!     }
+//! }
+//! # Ok::<(), Box<dyn std::error::Error>>(())
 //! ```
 
 use std::net::Ipv4Addr;
@@ -15,6 +27,13 @@ use crate::calls::nbt_service_request;
 use crate::room::written;
 use crate::Result;
 
+pub use crate::codes::{NodeType, Operation, ResultCode};
+pub use crate::rdata::{Addresses, NodeName, NodeNames, NodeStatus, Rdata, NB, NBSTAT, NS};
+pub use crate::service_header::Header;
+pub use crate::service_packets::{
+    read, read_front, Front, Packet, Question, Questions, Record, Records, Section,
+};
+
 /// What is said of a name: an entry of RDATA.
 #[derive(Clone, Copy, Debug, PartialEq, Eq, Hash)]
 pub struct Entry {
@@ -22,6 +41,18 @@ pub struct Entry {
     pub nb_flags: u16,
     /// Who has the name, or wants it.
     pub address: Ipv4Addr,
+}
+
+impl Entry {
+    /// G: whether it is a group's name.
+    pub fn is_group(&self) -> bool {
+        self.nb_flags & 0x8000 != 0
+    }
+
+    /// ONT.
+    pub fn node_type(&self) -> NodeType {
+        NodeType::of_flags(self.nb_flags)
+    }
 }
 
 /// What is asked about a name.

@@ -1,28 +1,28 @@
 //! Packets of the session service, port 139: RFC 1002 section 4.3.
 //!
 //! ```
-//! use nbt::session::{read, write, Kind, Next};
+//! use nbt::session::{packets, write, Kind};
 //!
-//! let mut stream: &[u8] = b"\0\0\0\x05hello\x85\0\0\0\0\0\0\x05he";
+//! let mut stream = packets(b"\0\0\0\x05hello\x85\0\0\0\0\0\0\x05he");
 //! let mut bodies = Vec::new();
-//! let missing = loop {
-//!     match read(stream)? {
-//!         Next::Packet(packet) => {
-//!             bodies.push((packet.kind, packet.body));
-//!             stream = &stream[packet.used..];
-//!         }
-//!         Next::More(missing) => break missing,
-//!     }
-//! };
+//! for packet in &mut stream {
+//!     let packet = packet?;
+//!     bodies.push((packet.kind, packet.body));
+//! }
 //! assert_eq!(bodies, [(Kind::Message, &b"hello"[..]), (Kind::KeepAlive, b"")]);
-//! assert_eq!(missing, 3);
+//! assert_eq!((stream.rest(), stream.missing()), (&b"\0\0\0\x05he"[..], 3));
 //! assert_eq!(write(Kind::Message, b"hello")?, b"\0\0\0\x05hello");
 //! # Ok::<(), nbt::Error>(())
 //! ```
 
+use std::fmt;
+use std::iter::FusedIterator;
+use std::net::{Ipv4Addr, SocketAddrV4};
+
 use crate::calls::{nbt_session_read, nbt_session_write, FoundSession, DONE, MORE};
+use crate::names::spelled_length;
 use crate::room::written;
-use crate::{Error, Result, Status};
+use crate::{Error, Result, Spelling};
 
 /// TYPE: what a packet is.
 #[derive(Clone, Copy, Debug, PartialEq, Eq, Hash)]
@@ -42,12 +42,28 @@ pub enum Kind {
     KeepAlive = 0x85,
 }
 
-impl Kind {
-    /// The kind with this number.
-    fn from_number(number: u8) -> Option<Kind> {
+/// The kind with this number, of TYPE; `UnknownType` where none has it.
+impl TryFrom<u8> for Kind {
+    type Error = Error;
+
+    fn try_from(number: u8) -> Result<Kind> {
         use Kind::*;
         let all = [Message, Request, Positive, Negative, Retarget, KeepAlive];
-        all.into_iter().find(|it| *it as u8 == number)
+        let found = all.into_iter().find(|it| *it as u8 == number);
+        found.ok_or(Error::UNKNOWN_TYPE)
+    }
+}
+
+impl fmt::Display for Kind {
+    fn fmt(&self, out: &mut fmt::Formatter<'_>) -> fmt::Result {
+        out.pad(match self {
+            Kind::Message => "message",
+            Kind::Request => "request",
+            Kind::Positive => "positive",
+            Kind::Negative => "negative",
+            Kind::Retarget => "retarget",
+            Kind::KeepAlive => "keepalive",
+        })
     }
 }
 
@@ -60,6 +76,26 @@ pub struct Packet<'a> {
     pub body: &'a [u8],
     /// The bytes of the packet; what follows it isn't looked at.
     pub used: usize,
+}
+
+impl<'a> Packet<'a> {
+    /// CALLED_NAME and CALLING_NAME, of a request.
+    pub fn names(&self) -> Option<(Spelling<'a>, Spelling<'a>)> {
+        let spelled = spelled_length(self.body).filter(|_| self.kind == Kind::Request)?;
+        let (called, calling) = self.body.split_at(spelled);
+        Some((Spelling(called), Spelling(calling)))
+    }
+
+    /// Whom to call instead: RETARGET_IP_ADDRESS and RETARGET_PORT, of a retarget.
+    pub fn retarget(&self) -> Option<SocketAddrV4> {
+        match (self.kind, self.body) {
+            (Kind::Retarget, &[a, b, c, d, high, low]) => {
+                let port = u16::from_be_bytes([high, low]);
+                Some(SocketAddrV4::new(Ipv4Addr::new(a, b, c, d), port))
+            }
+            _ => None,
+        }
+    }
 }
 
 /// What stands at the front of what came over a connection.
@@ -81,18 +117,72 @@ pub fn read(bytes: &[u8]) -> Result<Next<'_>> {
     let (mut found, mut at) = (FoundSession::default(), 0);
     // SAFETY: the bytes are a slice, and what is written lies apart from it.
     let status = unsafe { nbt_session_read(bytes.as_ptr(), bytes.len(), &mut found, &mut at) };
-    match (status, Kind::from_number(found.kind)) {
-        (DONE, Some(kind)) => Ok(Next::Packet(Packet {
-            kind,
+    match status {
+        DONE => Ok(Next::Packet(Packet {
+            kind: Kind::try_from(found.kind)?,
             body: &bytes[found.body..found.body + found.body_length],
             used: found.used,
         })),
-        // The library answers no other type.
-        (DONE, None) => Err(Error::new(Status::UnknownType.number(), 0)),
-        (MORE, _) => Ok(Next::More(at)),
+        MORE => Ok(Next::More(at)),
         _ => Err(Error::new(status, at)),
     }
 }
+
+/// The packets of what came over a connection to port 139, one after the other. Those that are there whole are handed out, and
+/// after them the error with which [`read`] refuses what follows, if it does.
+pub fn packets(bytes: &[u8]) -> Packets<'_> {
+    Packets {
+        rest: bytes,
+        missing: 0,
+        ended: false,
+    }
+}
+
+/// The packets that haven't been handed out yet.
+#[derive(Clone, Debug)]
+pub struct Packets<'a> {
+    rest: &'a [u8],
+    missing: usize,
+    ended: bool,
+}
+
+impl<'a> Packets<'a> {
+    /// What follows the packets that were handed out.
+    pub fn rest(&self) -> &'a [u8] {
+        self.rest
+    }
+
+    /// How many bytes are missing, at least, of the packet that begins there; 0 where nothing follows, and before the end.
+    pub fn missing(&self) -> usize {
+        self.missing
+    }
+}
+
+impl<'a> Iterator for Packets<'a> {
+    type Item = Result<Packet<'a>>;
+
+    fn next(&mut self) -> Option<Result<Packet<'a>>> {
+        if self.ended || self.rest.is_empty() {
+            return None;
+        }
+        match read(self.rest) {
+            Ok(Next::Packet(packet)) => {
+                self.rest = &self.rest[packet.used..];
+                Some(Ok(packet))
+            }
+            Ok(Next::More(missing)) => {
+                (self.missing, self.ended) = (missing, true);
+                None
+            }
+            Err(error) => {
+                self.ended = true;
+                Some(Err(error))
+            }
+        }
+    }
+}
+
+impl FusedIterator for Packets<'_> {}
 
 /// The packet of this kind with this body. What is written is what [`read`] reads.
 ///

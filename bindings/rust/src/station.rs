@@ -35,8 +35,9 @@ use crate::calls::{
     nbt_station_tick, Handle, Taken, DONE,
 };
 use crate::datagram::Kind;
+use crate::names::spelled_length;
 use crate::room::{write_into, written};
-use crate::{spell, Error, Limits, Result, Spelling, Status};
+use crate::{spell, Error, Limits, Name, Result, Spelling, Status};
 
 /// A station: its names, and a table that the payloads of port 138 fill and the clock empties. A datagram is handed over
 /// once, by the payload that makes it whole, if one of the names hears it: the name that it is for or, of a broadcast, a
@@ -60,6 +61,12 @@ pub struct Key {
     pub identifier: u16,
 }
 
+impl fmt::Display for Key {
+    fn fmt(&self, out: &mut fmt::Formatter<'_>) -> fmt::Result {
+        write!(out, "{}/{:04x}", self.sender, self.identifier)
+    }
+}
+
 /// A datagram that is handed over, lent from the station until its next call.
 #[derive(Clone, Copy, Debug, PartialEq, Eq, Hash)]
 pub struct Delivery<'a> {
@@ -73,6 +80,36 @@ pub struct Delivery<'a> {
     pub destination: Spelling<'a>,
     /// Its data, at most 65,535 bytes.
     pub data: &'a [u8],
+}
+
+impl Delivery<'_> {
+    /// The same, with a copy of its names and of its data, to be kept.
+    // On a reference, by which that of ToOwned would come first, too.
+    #[allow(clippy::wrong_self_convention)]
+    pub fn to_owned(&self) -> OwnedDelivery {
+        OwnedDelivery {
+            kind: self.kind,
+            key: self.key,
+            source: self.source.into(),
+            destination: self.destination.into(),
+            data: self.data.to_vec(),
+        }
+    }
+}
+
+/// A datagram that was handed over, and is kept.
+#[derive(Clone, Debug, PartialEq, Eq, Hash)]
+pub struct OwnedDelivery {
+    /// For whom it is.
+    pub kind: Kind,
+    /// Who sent it, and its identifier.
+    pub key: Key,
+    /// SOURCE_NAME.
+    pub source: Name,
+    /// DESTINATION_NAME.
+    pub destination: Name,
+    /// Its data.
+    pub data: Vec<u8>,
 }
 
 /// What became of a payload. An answer is an error packet, to be sent to where the payload came from; there is none where
@@ -104,20 +141,20 @@ pub enum Outcome<'a> {
 }
 
 impl Station {
-    /// A station with the names that have these texts (a space in one stands between two names), an empty table, and
-    /// this much room. Error packets have this address. A key is kept from its first fragment on until the clock drops
+    /// A station with the names that have these texts, in a list of any kind (a space in one stands between two names), an
+    /// empty table, and this much room. Error packets have this address. A key is kept from its first fragment on until the clock drops
     /// it, some 200 bytes and the data each.
     ///
     /// # Errors
     ///
     /// The first fault of the names in order, whose place counts in the texts with one space between two: `BadText`,
     /// `LongText`, `NamePresent`, `TooManyNames`; `NoMemory`, which may come before them.
-    pub fn new(names: &[&str], address: SocketAddrV4, limits: Limits) -> Result<Station> {
-        // Joined, one empty text would be no text at all.
-        if names == [""] {
-            spell("")?;
-        }
-        let (texts, mut at) = (names.join(" "), 0);
+    pub fn new<N>(names: N, address: SocketAddrV4, limits: Limits) -> Result<Station>
+    where
+        N: IntoIterator,
+        N::Item: AsRef<str>,
+    {
+        let (texts, mut at) = (joined(names)?, 0);
         let mut handle = Handle {
             at: ptr::null_mut(),
         };
@@ -244,7 +281,7 @@ impl<'a> Iterator for Deliveries<'a> {
         self.0 = &rest[2 + data.len()..];
         Some(Delivery {
             // The library writes no other kind.
-            kind: Kind::from_number(head[8])?,
+            kind: Kind::try_from(head[8]).ok()?,
             key: Key {
                 sender: SocketAddrV4::new(address, u16::from_be_bytes([head[4], head[5]])),
                 identifier: u16::from_be_bytes([head[6], head[7]]),
@@ -256,15 +293,22 @@ impl<'a> Iterator for Deliveries<'a> {
     }
 }
 
-/// How many bytes the spelling at the front has, its zero byte among them.
-fn spelled_length(bytes: &[u8]) -> Option<usize> {
-    let mut length = 0;
-    loop {
-        match usize::from(*bytes.get(length)?) {
-            0 => return Some(length + 1),
-            size => length += 1 + size,
-        }
+/// The texts with one space between two. One empty text would then be no text at all, and is refused.
+fn joined<N>(names: N) -> Result<String>
+where
+    N: IntoIterator,
+    N::Item: AsRef<str>,
+{
+    let (mut texts, mut count) = (String::new(), 0);
+    for name in names {
+        texts.extend((count > 0).then_some(' '));
+        texts += name.as_ref();
+        count += 1;
     }
+    if count == 1 && texts.is_empty() {
+        spell("")?;
+    }
+    Ok(texts)
 }
 
 impl Drop for Station {
@@ -308,7 +352,7 @@ fn delivery<'a>(key: Key, taken: &Taken, given: &'a [u8]) -> Result<Delivery<'a>
     let (destination, data) = rest.split_at(taken.destination_length);
     Ok(Delivery {
         // The library answers no other kind.
-        kind: Kind::from_number(taken.kind).ok_or(Error::new(Status::UnknownType.number(), 0))?,
+        kind: Kind::try_from(taken.kind)?,
         key,
         source: Spelling(source),
         destination: Spelling(destination),

@@ -4,7 +4,7 @@ use std::fmt;
 
 use crate::calls::nbt_status_text;
 use crate::room::{text_of, written};
-use crate::Result;
+use crate::{Error, Result};
 
 /// Why a call did nothing. Each is a number of `enum nbt_status`, which stands for one thing in all versions; its text
 /// is the library's words, as in `bad text`.
@@ -211,18 +211,29 @@ impl Status {
 
     /// The status with this number.
     pub(crate) fn from_number(number: u32) -> Status {
-        let known = Status::ALL.iter().find(|it| it.number() == number);
-        known.copied().unwrap_or(Status::UnknownStatus)
+        let known = Status::ALL.into_iter().find(|it| it.number() == number);
+        known.unwrap_or(Status::UnknownStatus)
     }
 
     /// Whether it comes with a place, in bytes of the input.
     pub fn has_place(self) -> bool {
         use Status::*;
         match self {
-            BadText | SourceBadText | DestinationBadText | Truncated | More | TrailingBytes | NameRdata | NoPart => true,
+            BadText | SourceBadText | DestinationBadText | Truncated | More | TrailingBytes
+            | NameRdata | NoPart => true,
             TableNotCanonical | SecondNotCanonical | NamePresent | TooManyNames => true,
             _ => (20..47).contains(&self.number()),
         }
+    }
+}
+
+/// The status with this number; an error that keeps the number, where none has it.
+impl TryFrom<u32> for Status {
+    type Error = Error;
+
+    fn try_from(number: u32) -> Result<Status> {
+        let known = Status::ALL.into_iter().find(|it| it.number() == number);
+        known.ok_or_else(|| Error::new(number, 0))
     }
 }
 

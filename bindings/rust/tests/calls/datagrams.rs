@@ -179,3 +179,29 @@ fn datagrams_that_cannot_be_cut() {
         assert_eq!(refused(datagram.cut(most)), (status, at));
     }
 }
+
+#[test]
+fn numbers_are_kinds() {
+    let shown = |number: u8| match (Kind::try_from(number), Query::try_from(number)) {
+        (Ok(kind), Err(_)) => Some(kind.to_string()),
+        (Err(_), Ok(query)) => Some(query.to_string()),
+        _ => None,
+    };
+    let found: Vec<_> = (0..=255).filter_map(shown).collect();
+    assert_eq!(
+        found,
+        ["unique", "group", "broadcast", "find", "found", "missing"]
+    );
+    assert_eq!(refused(Kind::try_from(0x13)), (Status::UnknownType, None));
+    assert_eq!(refused(Query::try_from(0x17)), (Status::UnknownType, None));
+}
+
+#[test]
+fn slices_are_packets() {
+    let payload = hello();
+    assert_eq!(Packet::try_from(&payload[..]), read(&payload));
+    assert_eq!(
+        refused(Packet::try_from(&payload[..9])),
+        (Status::Truncated, Some(9))
+    );
+}

@@ -1,10 +1,12 @@
 //! What the calls answer, by examples: the bytes that several of them have, and how a refusal looks.
 
 mod datagrams;
+mod errors;
 mod names;
 mod service;
 mod sessions;
 mod shown;
+mod station_values;
 mod stations;
 mod tables;
 

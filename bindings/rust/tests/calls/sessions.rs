@@ -1,7 +1,7 @@
 //! Packets of port 139.
 
 use crate::{joined, refused, FRED, JOE};
-use nbt::session::{read, write, Kind, Next, Packet};
+use nbt::session::{packets, read, write, Kind, Next, Packet};
 use nbt::Status;
 
 #[test]
@@ -85,4 +85,80 @@ fn packets_are_written() {
     assert_eq!(refused(write(Kind::KeepAlive, b"x")).0, Status::BadLength);
     let cut = joined(&[FRED, &FRED[..33], b"\xc0"]);
     assert_eq!(refused(write(Kind::Request, &cut)).0, Status::NameTruncated);
+}
+
+/// The packet that stands at the front of some bytes.
+#[track_caller]
+fn whole(bytes: &[u8]) -> Packet<'_> {
+    match read(bytes).unwrap() {
+        Next::Packet(packet) => packet,
+        more => panic!("{more:?}"),
+    }
+}
+
+#[test]
+fn bodies_have_parts() {
+    let bytes = joined(&[b"\x81\0\0\x48", &FRED[..33], b"\x03COM\0", JOE]);
+    let request = whole(&bytes);
+    let (called, calling) = request.names().unwrap();
+    assert_eq!(format!("{called} {calling}"), "FRED<20>.COM JOE<00>");
+    assert_eq!(request.retarget(), None);
+    let body = b"\x0a\0\0\x05\0\x8b";
+    let retarget = whole(b"\x84\0\0\x06\x0a\0\0\x05\0\x8b");
+    assert_eq!(retarget.retarget().unwrap().to_string(), "10.0.0.5:139");
+    assert_eq!((retarget.body, retarget.names()), (&body[..], None));
+    let message = whole(b"\0\0\0\x06\x0a\0\0\x05\0\x8b");
+    assert_eq!((message.retarget(), message.names()), (None, None));
+}
+
+#[test]
+fn numbers_are_kinds() {
+    let kinds: Vec<_> = (0..=255).filter_map(|it| Kind::try_from(it).ok()).collect();
+    assert!(kinds.iter().all(|it| Kind::try_from(*it as u8) == Ok(*it)));
+    let shown: Vec<_> = kinds.iter().map(Kind::to_string).collect();
+    assert_eq!(
+        shown,
+        [
+            "message",
+            "request",
+            "positive",
+            "negative",
+            "retarget",
+            "keepalive"
+        ]
+    );
+    assert_eq!(refused(Kind::try_from(0x86)), (Status::UnknownType, None));
+}
+
+#[test]
+fn streams_are_cut() {
+    let front = b"\0\0\0\x05hello\x85\0\0\0";
+    for (rest, missing) in [
+        (&b""[..], 0),
+        (b"\x85", 3),
+        (b"\0\0\0\x05he", 3),
+        (b"\0\0\0", 1),
+    ] {
+        let bytes = joined(&[front, rest]);
+        let mut stream = packets(&bytes);
+        assert_eq!((stream.rest(), stream.missing()), (&bytes[..], 0));
+        let found: Vec<_> = (&mut stream).map(|it| it.unwrap().body).collect();
+        assert_eq!(found, [&b"hello"[..], b""]);
+        assert_eq!(
+            (stream.rest(), stream.missing(), stream.next()),
+            (rest, missing, None)
+        );
+    }
+}
+
+#[test]
+fn streams_end_where_no_packet_begins() {
+    let bytes = joined(&[b"\x85\0\0\0", b"\x86\0\0\0", b"\x85\0\0\0"]);
+    let mut stream = packets(&bytes);
+    assert_eq!(stream.next().unwrap().unwrap().kind, Kind::KeepAlive);
+    assert_eq!(refused(stream.next().unwrap()), (Status::UnknownType, None));
+    assert_eq!(
+        (stream.next(), stream.rest(), stream.missing()),
+        (None, &bytes[4..], 0)
+    );
 }

@@ -3,7 +3,7 @@
 use std::collections::BTreeSet;
 use std::{env, fs, thread};
 
-use nbt::{show, show_into, Status};
+use nbt::{json, json_into, show, show_into, version, Status};
 
 #[test]
 fn payloads_are_shown() {
@@ -24,6 +24,28 @@ fn payloads_are_shown() {
     ] {
         assert_eq!(show(port, payload).unwrap(), text);
     }
+}
+
+#[test]
+fn objects_are_shown() {
+    for (port, payload, text) in [
+        (139, &b"\x85\0\0\0"[..], r#"{"kind":"keepalive","used":4}"#),
+        (7, b"\x85", r#"{"more":3}"#),
+        (138, b"\x85\0\0\0", r#"{"refused":"truncated 4","at":4}"#),
+    ] {
+        assert_eq!(json(port, payload).unwrap(), text);
+        let mut room = b"what stood there".to_vec();
+        json_into(port, payload, &mut room).unwrap();
+        assert_eq!(room, text.as_bytes());
+    }
+}
+
+/// The crate's version and the header's are the library's.
+#[test]
+fn versions_agree() {
+    let version = version().unwrap();
+    assert_eq!(version, env!("CARGO_PKG_VERSION"));
+    assert!(header().contains(&format!("#define NBT_VERSION \"{version}\"\n")));
 }
 
 #[test]
@@ -56,10 +78,15 @@ fn threads_show() {
     });
 }
 
+/// include/nbt.h.
+fn header() -> String {
+    let path = concat!(env!("CARGO_MANIFEST_DIR"), "/../../include/nbt.h");
+    fs::read_to_string(env::var("NBT_HEADER").unwrap_or(path.into())).unwrap()
+}
+
 /// The names and numbers of `enum nbt_status`, as include/nbt.h has them.
 fn header_statuses() -> Vec<(String, u32)> {
-    let path = concat!(env!("CARGO_MANIFEST_DIR"), "/../../include/nbt.h");
-    let header = fs::read_to_string(env::var("NBT_HEADER").unwrap_or(path.into())).unwrap();
+    let header = header();
     let (_, rest) = header.split_once("enum nbt_status {").unwrap();
     let (inside, _) = rest.split_once("};").unwrap();
     let numbered = inside

@@ -10,7 +10,7 @@ use nbt::{merge, Limits, Station, Status};
 
 /// A station at 10.0.0.9:138 with these names.
 #[track_caller]
-fn station(names: &[&str]) -> Station {
+pub fn station(names: &[&str]) -> Station {
     limited(names, Limits::default())
 }
 
@@ -33,7 +33,7 @@ fn datagram(identifier: u16, destination: &str) -> Datagram<'_> {
 }
 
 /// Its two pieces.
-fn pieces(identifier: u16, destination: &str) -> [Vec<u8>; 2] {
+pub fn pieces(identifier: u16, destination: &str) -> [Vec<u8>; 2] {
     let packets = datagram(identifier, destination).cut(6).unwrap();
     <[Vec<u8>; 2]>::try_from(payloads(&packets)).unwrap()
 }
@@ -148,7 +148,7 @@ fn the_longest_datagram_is_handed_over() {
 #[test]
 fn nobody_hears() {
     let address = "10.0.0.9:1138".parse().unwrap();
-    let mut station = Station::new(&[], address, Limits::default()).unwrap();
+    let mut station = Station::new([""; 0], address, Limits::default()).unwrap();
     let [first, second] = pieces(7, "ANN<20>");
     assert_eq!(station.take(0, &first).unwrap(), Outcome::Kept(key(7)));
     let answer = Some(&b"\x13\x02\0\x07\x0a\0\0\x09\x04\x72\x82"[..]);

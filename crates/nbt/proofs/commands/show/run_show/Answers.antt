@@ -9,7 +9,7 @@ returns-then-is_brief g c = record {
 
 pub returns : goal.returns
 returns g c = record {
-  whole = λ whole. c.show_as.ensures;
+  whole = λ whole. c.show_as-2.ensures;
   brief = λ brief. absurd (cc (c.is_brief.ensures.brief brief, c.if-is_brief.false));
-  why = c.show_as.ensures.why;
+  why = c.show_as-2.ensures.why;
 }

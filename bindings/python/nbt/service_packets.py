@@ -1,0 +1,184 @@
+"""Packets of the name service, port 137: RFC 1002 section 4.2."""
+from __future__ import annotations
+
+import ctypes
+import enum
+import struct
+from dataclasses import dataclass
+from functools import lru_cache
+from typing import Any, List, Optional, Tuple, Union, cast
+
+from . import names
+from .buffers import Buffer, lend
+from .library import ADDRESS, ALONE, DONE, LENGTH, behind, call, error_of
+from .numbers import whole_number
+from .rdata import DomainName, Rdata, read_rdata
+from .statuses import NbtError
+
+HEADER_LENGTH = 12
+
+
+class Operation(enum.IntEnum):
+    """OPCODE. That 8 and 9 are both a refresh is said by sections 4.2.1.1 and 4.2.4."""
+
+    QUERY = 0
+    REGISTRATION = 5
+    RELEASE = 6
+    WACK = 7
+    REFRESH = 8
+    OTHER_REFRESH = 9
+
+
+class ResultCode(enum.IntEnum):
+    """RCODE."""
+
+    OK = 0
+    FMT_ERR = 1
+    SRV_ERR = 2
+    NAM_ERR = 3
+    IMP_ERR = 4
+    RFS_ERR = 5
+    ACT_ERR = 6
+    CFT_ERR = 7
+
+
+# struct nbt_service_header and struct nbt_service_item, and room for one.
+HEADER_LAYOUT, ITEM_LAYOUT = struct.Struct('@6HN'), struct.Struct('@2I2H3N2B255s0N')
+HEADER_ROOM, ITEM_ROOM = (ctypes.c_char * layout.size for layout in (HEADER_LAYOUT, ITEM_LAYOUT))
+
+HEADER = call('nbt_service_header', ADDRESS, LENGTH, ADDRESS, ADDRESS, library=ALONE)
+ITEM = call('nbt_service_item', ADDRESS, LENGTH, ctypes.c_uint32, LENGTH, ADDRESS, ADDRESS, library=ALONE)
+
+
+@dataclass(frozen=True)
+class Question:
+    """What is asked for."""
+
+    name: Union[str, DomainName]  # the text of a NetBIOS name; a DomainName where it is none
+    type: int                     # QUESTION_TYPE: 0x0020 NB, 0x0021 NBSTAT
+    class_number: int             # QUESTION_CLASS
+
+
+@dataclass(frozen=True)
+class Record:
+    """What is said of a name."""
+
+    name: Union[str, DomainName]  # the text of a NetBIOS name; a DomainName where it is none
+    type: int                     # RR_TYPE: 0x0020 NB, 0x0021 NBSTAT, 0x0002 NS
+    class_number: int             # RR_CLASS
+    time_to_live: int             # TTL, in seconds
+    rdata: Rdata                  # the bytes, where it is of another type, or hasn't the form of its type
+
+
+@dataclass(frozen=True)
+class ServicePacket:
+    """A packet of port 137, or what stands of one."""
+
+    identifier: int                     # NAME_TRN_ID
+    response: bool                      # R
+    op: Union[Operation, int]           # OPCODE
+    flags: int                          # NM_FLAGS where they stand in the header's second word, of the bits 0x07f0
+    rcode: Union[ResultCode, int]           # RCODE
+    counts: Tuple[int, int, int, int]   # QDCOUNT, ANCOUNT, NSCOUNT, ARCOUNT
+    questions: Tuple[Question, ...]
+    answers: Tuple[Record, ...]
+    authorities: Tuple[Record, ...]
+    additional: Tuple[Record, ...]
+    used: int                           # the bytes of the packet, or of what stands: what follows them isn't looked at
+
+    @property
+    def authoritative(self) -> bool:
+        """AA."""
+        return self.flags & 0x0400 != 0
+
+    @property
+    def truncated(self) -> bool:
+        """TC."""
+        return self.flags & 0x0200 != 0
+
+    @property
+    def recursion_desired(self) -> bool:
+        """RD."""
+        return self.flags & 0x0100 != 0
+
+    @property
+    def recursion_available(self) -> bool:
+        """RA."""
+        return self.flags & 0x0080 != 0
+
+    @property
+    def broadcast(self) -> bool:
+        """B."""
+        return self.flags & 0x0010 != 0
+
+    @property
+    def records(self) -> Tuple[Record, ...]:
+        """The records of all sections, in order."""
+        return self.answers + self.authorities + self.additional
+
+    @staticmethod
+    def read(payload: Buffer, offset: int = 0) -> ServicePacket:
+        """The packet at the front of a payload of port 137, which begins at an offset of the buffer; places count from there.
+
+        NbtError: TRUNCATED, and of the first question or record that doesn't stand whole its first fault, which is
+        NAME_TRUNCATED, NAME_RESERVED_LABEL, NAME_LONG or NAME_BAD_POINTER of its name, TRUNCATED, the same four of a name
+        that is its RDATA, or NAME_RDATA.
+        """
+        packet, fault = ServicePacket.read_front(payload, offset)
+        if fault is not None:
+            raise fault
+        return cast(ServicePacket, packet)
+
+    @staticmethod
+    def read_front(payload: Buffer, offset: int = 0) -> Tuple[Optional[ServicePacket], Optional[NbtError]]:
+        """What stands of the packet at the front of a payload of port 137, and the fault with which `read` refuses it, or None.
+        The questions and records are those before the fault, and `counts` has how many there should be. There is no packet
+        where not even a header stands.
+        """
+        return lend(payload, read_at, whole_number(offset, 'offset'))
+
+
+def read_at(address: int, length: int, offset: int) -> Tuple[Optional[ServicePacket], Optional[NbtError]]:
+    """What stands at an offset of the bytes at an address, and the fault."""
+    front, left = behind(address, length, offset)
+    header, at = HEADER_ROOM(), ctypes.c_size_t()
+    status = HEADER(front, left, ctypes.addressof(header), ctypes.addressof(at))
+    if status != DONE:
+        return None, error_of(status, at.value)
+    identifier, word, qd, an, ns, ar, _used = HEADER_LAYOUT.unpack(header)
+    sections, used, fault = read_items(front, left, qd + an + ns + ar)
+    questions, answers, authorities, additional = [tuple(each) for each in sections]
+    return ServicePacket(identifier, word & 0x8000 != 0, OPERATIONS[word >> 11 & 15], word & 0x07f0, RESULTS[word & 15],
+                         (qd, an, ns, ar), questions, answers, authorities, additional, used), fault
+
+
+def numbered(kind: Any) -> List[Any]:
+    """The members of an enumeration by their numbers of four bits, and the number itself where it has none."""
+    return [kind(each) if each in kind.__members__.values() else each for each in range(16)]
+
+
+OPERATIONS, RESULTS = numbered(Operation), numbered(ResultCode)
+
+
+def read_items(payload: int, length: int, count: int) -> Tuple[List[Any], int, Optional[NbtError]]:
+    """The questions and records that stand in the payload at an address, of so many, by sections; where they end; and the fault
+    of the next one, if there should be one."""
+    sections: List[Any] = [[], [], [], []]
+    place, room, at = HEADER_LENGTH, ITEM_ROOM(), ctypes.c_size_t()
+    into, fault = ctypes.addressof(room), ctypes.addressof(at)
+    for number in range(count):
+        status = ITEM(payload, length, number, place, into, fault)
+        if status != DONE:
+            return sections, place, error_of(status, at.value)
+        section, ttl, kind, class_number, data, data_length, place, netbios, name_length, spelling = ITEM_LAYOUT.unpack(room)
+        name = name_of(spelling[:name_length], netbios)
+        sections[section].append(
+            Record(name, kind, class_number, ttl, read_rdata(kind, payload, length, data, data_length)) if section
+            else Question(name, kind, class_number))
+    return sections, place, None
+
+
+@lru_cache(4_096)
+def name_of(spelling: bytes, netbios: bool) -> Union[str, DomainName]:
+    """The text of a NetBIOS name, or the labels of another name."""
+    return names.text(spelling) if netbios else DomainName(tuple(names.labels(spelling)))

@@ -1,0 +1,164 @@
+//! What payloads say, read as values: lines with a port and hexadecimal digits, or `empty`, from standard input. Of port 137
+//! also what stands of a payload that is refused.
+
+use std::error::Error;
+use std::fmt::Write as _;
+use std::io::{self, BufRead, Write as _};
+
+use nbt::datagram::{self, Body};
+use nbt::service::{self, Packet, Rdata, Record, Section};
+use nbt::session::{self, Next};
+use nbt::Name;
+
+fn main() -> Result<(), Box<dyn Error>> {
+    let mut out = io::BufWriter::new(io::stdout().lock());
+    for (index, line) in io::stdin().lock().lines().enumerate() {
+        let line = line?;
+        let (port, digits) = line.split_once(' ').ok_or("a port and digits")?;
+        let payload = bytes_of(digits)?;
+        let said = match port {
+            "137" => service_lines(&payload),
+            "138" => datagram_line(&payload),
+            _ => session_line(&payload),
+        };
+        let said = said.unwrap_or_else(|error| refused(&error));
+        writeln!(out, "{} {port} {said}", index + 1)?;
+    }
+    Ok(out.flush()?)
+}
+
+/// The number of a status, and its place.
+fn refused(error: &nbt::Error) -> String {
+    let place = error.at().map_or("-".to_string(), |at| at.to_string());
+    format!("refused {} {place}", error.number())
+}
+
+/// The lines of a payload of port 137: its packet, and what stands of it.
+fn service_lines(payload: &[u8]) -> nbt::Result<String> {
+    let front = service::read_front(payload);
+    let mut said = match service::read(payload) {
+        Ok(_) => "whole".to_string(),
+        Err(error) => refused(&error),
+    };
+    assert_eq!(front.fault, service::read(payload).err());
+    if let Some(packet) = service::read(payload).ok().or(front.packet) {
+        said += &standing(&packet);
+    }
+    Ok(said)
+}
+
+/// The lines of a packet, or of what stands of one.
+fn standing(packet: &Packet<'_>) -> String {
+    let (header, [qd, an, ns, ar]) = (packet.header, packet.header.counts);
+    let mut said = format!(
+        "\n  header {:04x} {:04x} {qd} {an} {ns} {ar} used {}",
+        header.identifier, header.word, packet.used
+    );
+    for it in packet.questions() {
+        said += &format!("\n  0 {} {:04x} {:04x}", marked(it.name), it.kind, it.class);
+    }
+    let parts = [packet.answers(), packet.authorities(), packet.additional()];
+    let count: usize = parts.iter().map(|it| it.len()).sum();
+    assert_eq!(packet.records().len(), count);
+    for it in parts.into_iter().flatten() {
+        said += &record_line(&it);
+    }
+    said
+}
+
+/// The line of a record.
+fn record_line(it: &Record<'_>) -> String {
+    let section = match it.section {
+        Section::Answer => 1,
+        Section::Authority => 2,
+        Section::Additional => 3,
+    };
+    let said = rdata_words(&it.rdata());
+    let (name, kind, class, seconds) = (marked(it.name), it.kind, it.class, it.time_to_live);
+    format!("\n  {section} {name} {kind:04x} {class:04x} {seconds} {said}")
+}
+
+/// A name, with what it is before one that is no NetBIOS name.
+fn marked(name: Name) -> String {
+    let mark = if name.is_netbios() { "" } else { "labels:" };
+    format!("{mark}{name}")
+}
+
+/// What RDATA says.
+fn rdata_words(rdata: &Rdata<'_>) -> String {
+    match rdata {
+        Rdata::Addresses(addresses) => addresses.clone().fold("addresses".into(), |said, it| {
+            format!("{said} {:04x}/{}", it.nb_flags, it.address)
+        }),
+        Rdata::NodeStatus(status) => {
+            let unit = status.unit.map_or("-".into(), |it| digits_of(&it));
+            let names = status.names.clone();
+            names.fold(format!("nodes {unit}"), |said, it| {
+                format!("{said} {:04x}/{}", it.flags, it.name)
+            })
+        }
+        Rdata::NameServer(name) => format!("domain {name}"),
+        Rdata::Other(data) => format!("bytes {}", digits_of(data)),
+    }
+}
+
+/// The line of a payload of port 138.
+fn datagram_line(payload: &[u8]) -> nbt::Result<String> {
+    let packet = datagram::read(payload)?;
+    let (flags, sender, number) = (packet.flags, packet.sender, packet.identifier);
+    let (kind, said) = match packet.body {
+        Body::Fragment(it) => {
+            let (source, destination, data) = (it.source, it.destination, digits_of(it.data));
+            let said = format!("{} {source} {destination} {data}", it.offset);
+            (it.kind as u8, said)
+        }
+        Body::Error(code) => (0x13, format!("0 - - {code:02x}")),
+        Body::Query(query, name) => (query as u8, format!("0 - {name} empty")),
+    };
+    let used = packet.used;
+    Ok(format!(
+        "{kind:02x} {flags:02x} {sender}/{number:04x} {said} used {used}"
+    ))
+}
+
+/// The line of a payload of port 139.
+fn session_line(payload: &[u8]) -> nbt::Result<String> {
+    let packet = match session::read(payload)? {
+        Next::More(missing) => return Ok(format!("more {missing}")),
+        Next::Packet(packet) => packet,
+    };
+    let mut said = format!("{:02x} {}", packet.kind as u8, digits_of(packet.body));
+    if let Some((called, calling)) = packet.names() {
+        said += &format!(" called {called} calling {calling}");
+    }
+    if let Some(other) = packet.retarget() {
+        said += &format!(" retarget {other}");
+    }
+    Ok(format!("{said} used {}", packet.used))
+}
+
+/// Bytes as digits.
+fn digits_of(bytes: &[u8]) -> String {
+    let mut digits = String::new();
+    for byte in bytes {
+        let _ = write!(digits, "{byte:02x}");
+    }
+    if digits.is_empty() {
+        digits += "empty";
+    }
+    digits
+}
+
+/// The bytes with these digits; none for the word `empty`.
+fn bytes_of(digits: &str) -> Result<Vec<u8>, Box<dyn Error>> {
+    let digits = if digits == "empty" { "" } else { digits };
+    (0..digits.len())
+        .step_by(2)
+        .map(|at| {
+            Ok(u8::from_str_radix(
+                digits.get(at..at + 2).ok_or("an odd digit")?,
+                16,
+            )?)
+        })
+        .collect()
+}

@@ -1,0 +1,219 @@
+//! What records of the name service say: RFC 1002 sections 4.2.1.3, 4.2.13 and 4.2.18.
+
+use std::net::Ipv4Addr;
+
+use crate::calls::{
+    nbt_service_address, nbt_service_node, nbt_service_unit, FoundAddress, FoundNode, DONE, NO_PART,
+};
+use crate::codes::NodeType;
+use crate::service::Entry;
+use crate::Name;
+
+/// RR_TYPE of an address of a NetBIOS name.
+pub const NB: u16 = 0x0020;
+/// RR_TYPE of the status of a node.
+pub const NBSTAT: u16 = 0x0021;
+/// RR_TYPE of a name server.
+pub const NS: u16 = 0x0002;
+
+/// What a record says, by its type.
+#[derive(Clone, Debug)]
+// A name lies in place.
+#[allow(clippy::large_enum_variant)]
+pub enum Rdata<'a> {
+    /// Of type NB: who has the name.
+    Addresses(Addresses<'a>),
+    /// Of type NBSTAT: the names of a node.
+    NodeStatus(NodeStatus<'a>),
+    /// Of type NS: the name of a server.
+    NameServer(Name),
+    /// Of another type, or not of the form that its type has.
+    Other(&'a [u8]),
+}
+
+impl<'a> Rdata<'a> {
+    /// What this RDATA says of a type, a slice of the payload, which begins at a place.
+    pub(crate) fn of(kind: u16, payload: &'a [u8], place: usize, data: &'a [u8]) -> Rdata<'a> {
+        match kind {
+            NS => Rdata::NameServer(Name::at(payload, place)),
+            NB => Addresses::of(data).map_or(Rdata::Other(data), Rdata::Addresses),
+            NBSTAT => NodeNames::of(data).map_or(Rdata::Other(data), |names| {
+                Rdata::NodeStatus(NodeStatus {
+                    names,
+                    unit: unit_of(data),
+                })
+            }),
+            _ => Rdata::Other(data),
+        }
+    }
+}
+
+/// The addresses of a NetBIOS name that haven't been handed out yet: RFC 1002 section 4.2.13.
+#[derive(Clone, Debug)]
+pub struct Addresses<'a> {
+    data: &'a [u8],
+    next: usize,
+    count: usize,
+}
+
+impl<'a> Addresses<'a> {
+    /// Those of RDATA, which has a form if a call past the last one says how many there are.
+    fn of(data: &'a [u8]) -> Option<Addresses<'a>> {
+        let (status, _, count) = address_at(data, usize::MAX);
+        (status == NO_PART).then_some(Addresses {
+            data,
+            next: 0,
+            count,
+        })
+    }
+}
+
+impl Iterator for Addresses<'_> {
+    type Item = Entry;
+
+    fn next(&mut self) -> Option<Entry> {
+        let (status, found, _) = address_at(self.data, self.next);
+        if status != DONE {
+            return None;
+        }
+        self.next += 1;
+        Some(Entry {
+            nb_flags: found.flags,
+            address: Ipv4Addr::from(found.address),
+        })
+    }
+
+    fn size_hint(&self) -> (usize, Option<usize>) {
+        let left = self.count - self.next;
+        (left, Some(left))
+    }
+}
+
+impl ExactSizeIterator for Addresses<'_> {}
+
+/// What the library answers for the address of a number.
+fn address_at(data: &[u8], number: usize) -> (u32, FoundAddress, usize) {
+    let (mut found, mut at) = (FoundAddress::default(), 0);
+    // SAFETY: the data is a slice, and what is written lies apart from it.
+    let status =
+        unsafe { nbt_service_address(NB, data.as_ptr(), data.len(), number, &mut found, &mut at) };
+    (status, found, at)
+}
+
+/// The names of a node: RFC 1002 section 4.2.18.
+#[derive(Clone, Debug)]
+pub struct NodeStatus<'a> {
+    /// The names.
+    pub names: NodeNames<'a>,
+    /// UNIT_ID; `None` where the RDATA ends before it.
+    pub unit: Option<[u8; 6]>,
+}
+
+/// One of the names of a node.
+#[derive(Clone, Copy, Debug, PartialEq, Eq, Hash)]
+pub struct NodeName {
+    /// The name, without a scope.
+    pub name: Name,
+    /// NAME_FLAGS.
+    pub flags: u16,
+}
+
+impl NodeName {
+    /// G: whether it is a group's name.
+    pub fn is_group(&self) -> bool {
+        self.flags & 0x8000 != 0
+    }
+
+    /// ONT.
+    pub fn node_type(&self) -> NodeType {
+        NodeType::of_flags(self.flags)
+    }
+
+    /// DRG: whether it is being given up.
+    pub fn is_deregistered(&self) -> bool {
+        self.flags & 0x1000 != 0
+    }
+
+    /// CNF: whether another node claims it.
+    pub fn is_in_conflict(&self) -> bool {
+        self.flags & 0x0800 != 0
+    }
+
+    /// ACT.
+    pub fn is_active(&self) -> bool {
+        self.flags & 0x0400 != 0
+    }
+
+    /// PRM: whether it is the node's permanent name.
+    pub fn is_permanent(&self) -> bool {
+        self.flags & 0x0200 != 0
+    }
+}
+
+/// The names of a node that haven't been handed out yet.
+#[derive(Clone, Debug)]
+pub struct NodeNames<'a> {
+    data: &'a [u8],
+    next: usize,
+    count: usize,
+}
+
+impl<'a> NodeNames<'a> {
+    /// Those of RDATA, which has a form if a call past the last one says how many there are.
+    fn of(data: &'a [u8]) -> Option<NodeNames<'a>> {
+        let (status, _, count) = node_at(data, usize::MAX);
+        (status == NO_PART).then_some(NodeNames {
+            data,
+            next: 0,
+            count,
+        })
+    }
+}
+
+impl Iterator for NodeNames<'_> {
+    type Item = NodeName;
+
+    fn next(&mut self) -> Option<NodeName> {
+        let (status, found, _) = node_at(self.data, self.next);
+        if status != DONE {
+            return None;
+        }
+        self.next += 1;
+        Some(NodeName {
+            name: Name::from(found.name),
+            flags: found.flags,
+        })
+    }
+
+    fn size_hint(&self) -> (usize, Option<usize>) {
+        let left = self.count - self.next;
+        (left, Some(left))
+    }
+}
+
+impl ExactSizeIterator for NodeNames<'_> {}
+
+/// What the library answers for the name of a number.
+fn node_at(data: &[u8], number: usize) -> (u32, FoundNode, usize) {
+    let (mut found, mut at) = (FoundNode::default(), 0);
+    // SAFETY: the data is a slice, and what is written lies apart from it.
+    let status = unsafe {
+        nbt_service_node(
+            NBSTAT,
+            data.as_ptr(),
+            data.len(),
+            number,
+            &mut found,
+            &mut at,
+        )
+    };
+    (status, found, at)
+}
+
+/// The unit that stands behind the names, if it does.
+fn unit_of(data: &[u8]) -> Option<[u8; 6]> {
+    let (mut unit, mut at) = ([0; 6], 0);
+    // SAFETY: the data is a slice, and what is written lies apart from it.
+    let status = unsafe { nbt_service_unit(NBSTAT, data.as_ptr(), data.len(), &mut unit, &mut at) };
+    (status == DONE).then_some(unit)
+}

@@ -1,0 +1,52 @@
+//! Prints what each node status response of port 137 says: the unit of the node, and its names. A capture comes on standard
+//! input:
+//!     nbt-pcap2cap samba.pcap | cargo run
+//! in a program of which this is src/main.rs, and whose Cargo.toml has a line for nbt, as docs/CALLING.md says.
+
+use std::io::{self, BufRead, Write};
+
+use nbt::service::{read, NodeStatus, Rdata};
+
+fn main() -> io::Result<()> {
+    let mut out = io::stdout().lock();
+    for line in io::stdin().lock().lines() {
+        if let Some(payload) = payload_of(&line?) {
+            write_statuses(&mut out, &payload)?;
+        }
+    }
+    Ok(())
+}
+
+/// Writes a line for each node status in a payload of port 137, if a packet stands there.
+fn write_statuses(out: &mut impl Write, payload: &[u8]) -> io::Result<()> {
+    if let Ok(packet) = read(payload) {
+        for record in packet.answers() {
+            if let Rdata::NodeStatus(status) = record.rdata() {
+                writeln!(out, "{}", said(status))?;
+            }
+        }
+    }
+    Ok(())
+}
+
+/// The payload of a line of a capture, if it came to port 137.
+fn payload_of(line: &str) -> Option<Vec<u8>> {
+    let (_moment, digits) = line.strip_prefix("137 ")?.split_once(' ')?;
+    let pairs = (0..digits.len()).step_by(2);
+    pairs
+        .map(|at| u8::from_str_radix(digits.get(at..at + 2)?, 16).ok())
+        .collect()
+}
+
+/// The unit of a node, and its names.
+fn said(status: NodeStatus<'_>) -> String {
+    let unit = match status.unit {
+        Some([a, b, c, d, e, f]) => format!("{a:02x}:{b:02x}:{c:02x}:{d:02x}:{e:02x}:{f:02x}"),
+        None => "no unit".to_string(),
+    };
+    let names = status.names.map(|it| {
+        let group = if it.is_group() { " (group)" } else { "" };
+        format!("{}{group}", it.name)
+    });
+    format!("{unit}: {}", names.collect::<Vec<_>>().join(", "))
+}

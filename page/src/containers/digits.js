@@ -1,0 +1,22 @@
+/** Bytes as hexadecimal digits. */
+
+/** The digits of each byte. */
+export const DIGITS = Array.from({ length: 256 }, (_, each) => each.toString(16).padStart(2, '0'));
+
+/** @param {Uint8Array} bytes */
+export function digitsOf(bytes) {
+    let text = '';
+    for (const each of bytes) text += DIGITS[each];
+    return text;
+}
+
+/**
+ * The bytes that digits stand for: pairs of them, and nothing else.
+ *
+ * @param {string} digits
+ */
+export function bytesOf(digits) {
+    const bytes = new Uint8Array(digits.length / 2);
+    for (let at = 0; at < bytes.length; at++) bytes[at] = parseInt(digits.slice(2 * at, 2 * at + 2), 16);
+    return bytes;
+}

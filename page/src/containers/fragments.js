@@ -1,0 +1,175 @@
+/** Fragments of IP, put together where all of a packet came within 60 seconds (RFC 8200 section 4.5) and none contradicts another. */
+import { FRAGMENTS_CUT, FRAGMENTS_MISSING, FRAGMENTS_UNKNOWN } from './report.js';
+
+const TIMER = 60_000_000_000n;
+/** How many packets wait for fragments at a time, and how many bytes of them. */
+const MOST_WAITING = 4_096;
+const MOST_HELD = 64 << 20;
+const MOST_PACKET = 65_535;
+/** A packet of more fragments never comes together. */
+const MOST_PARTS = 8_192;
+const DIFFER = 'its fragments differ where they overlap';
+
+/**
+ * @typedef {object} Part
+ * @property {number} offset
+ * @property {Uint8Array} bytes
+ *
+ * @typedef {object} Waiting
+ * @property {bigint} first when the first fragment came
+ * @property {bigint} last
+ * @property {{mark: import('./report.js').Mark, isCut: boolean}[]} marks
+ * @property {Part[]} parts
+ * @property {number | null} end where the packet ends, once its last fragment came
+ * @property {string | null} why why it can't be taken
+ * @property {number} protocol
+ *
+ * @typedef {import('./internet.js').Internet} Internet
+ */
+
+/** The packets that wait for fragments. */
+export class Fragments {
+    /**
+     * @param {import('./report.js').Report} report
+     * @param {(packet: {protocol: number, payload: Uint8Array}) => boolean | null} isOurs whether what begins so is of these ports;
+     * null where that isn't known
+     */
+    constructor(report, isOurs) {
+        this.report = report;
+        this.isOurs = isOurs;
+        /** @type {Map<string, Waiting>} */
+        this.waiting = new Map();
+        this.held = 0;
+    }
+
+    /**
+     * Takes a fragment. One of which the file has a part is as one that isn't there.
+     *
+     * @param {Internet} packet
+     * @param {NonNullable<Internet['fragment']>} fragment
+     * @param {bigint} time
+     * @returns {{packet: Internet, why: string | null} | null} the packet that is whole by it, and why it can't be taken
+     */
+    take(packet, fragment, time) {
+        const entry = this.entry(fragment.key, packet, time);
+        const isCut = packet.payload.length < packet.size;
+        entry.marks.push({ mark: this.report.mark, isCut });
+        [entry.first, entry.last] = [time < entry.first ? time : entry.first, time > entry.last ? time : entry.last];
+        if (!isCut && entry.parts.length < MOST_PARTS) this.place(entry, fragment, packet.payload);
+        const payload = joined(entry);
+        if (!payload) {
+            this.passOver();
+            return null;
+        }
+        this.forget(fragment.key, entry);
+        if (entry.parts.some((part) => part.offset + part.bytes.length > payload.length)) entry.why ??= DIFFER;
+        if (entry.last - entry.first > TIMER) entry.why ??= 'its fragments lie more than 60 s apart';
+        return { packet: { ...packet, protocol: entry.protocol, payload, size: payload.length, fragment: null }, why: entry.why };
+    }
+
+    /** Says what never came together. */
+    finish() {
+        for (const entry of this.waiting.values()) this.tell(entry);
+    }
+
+    /**
+     * @param {string} key
+     * @param {Internet} packet
+     * @param {bigint} time
+     */
+    entry(key, packet, time) {
+        const held = this.waiting.get(key);
+        if (held) return held;
+        /** @type {Waiting} */
+        const entry = { first: time, last: time, marks: [], parts: [], end: null, why: null, protocol: packet.protocol };
+        this.waiting.set(key, entry);
+        return entry;
+    }
+
+    /**
+     * @param {Waiting} entry
+     * @param {{offset: number, more: boolean}} fragment
+     * @param {Uint8Array} bytes
+     */
+    place(entry, fragment, bytes) {
+        const end = fragment.offset + bytes.length;
+        const isLast = !fragment.more;
+        if (end > MOST_PACKET || (isLast && entry.end !== null && entry.end !== end)) entry.why ??= DIFFER;
+        if (isLast) entry.end ??= end;
+        if (entry.parts.some((part) => contradicts(part, fragment.offset, bytes))) entry.why ??= DIFFER;
+        if (entry.parts.some((part) => part.offset === fragment.offset && part.bytes.length === bytes.length)) return;
+        entry.parts.push({ offset: fragment.offset, bytes: bytes.slice() });
+        this.held += bytes.length;
+    }
+
+    /** Lets the packets go that wait the longest, where too many wait. */
+    passOver() {
+        for (const [key, entry] of this.waiting) {
+            if (this.waiting.size <= MOST_WAITING && this.held <= MOST_HELD) break;
+            this.forget(key, entry);
+            this.tell(entry);
+        }
+    }
+
+    /**
+     * @param {string} key
+     * @param {Waiting} entry
+     */
+    forget(key, entry) {
+        this.waiting.delete(key);
+        for (const part of entry.parts) this.held -= part.bytes.length;
+    }
+
+    /**
+     * Counts the fragments of a packet that isn't whole, but where it is known that it is of other ports.
+     *
+     * @param {Waiting} entry
+     */
+    tell(entry) {
+        const start = entry.parts.find((part) => part.offset === 0);
+        const isOurs = this.isOurs({ protocol: entry.protocol, payload: start?.bytes ?? new Uint8Array(0) });
+        if (isOurs === false) return;
+        const missing = isOurs ? FRAGMENTS_MISSING : FRAGMENTS_UNKNOWN;
+        for (const { mark, isCut } of entry.marks) this.report.count(mark, isCut ? FRAGMENTS_CUT : missing);
+    }
+}
+
+/**
+ * The bytes of a packet all of whose fragments came; null before. Of bytes at one place those of the part count that begins first.
+ *
+ * @param {Waiting} entry
+ */
+function joined({ parts, end }) {
+    if (end === null) return null;
+    parts.sort((one, other) => one.offset - other.offset);
+    /** @type {Part[]} */
+    const used = [];
+    let known = 0;
+    for (const part of parts) {
+        if (known >= end) break;
+        if (part.offset > known) return null;
+        const stop = Math.min(part.offset + part.bytes.length, end);
+        if (stop > known) used.push({ offset: known, bytes: part.bytes.subarray(known - part.offset, stop - part.offset) });
+        known = Math.max(known, stop);
+    }
+    if (known < end) return null;
+    const bytes = new Uint8Array(end);
+    for (const part of used) bytes.set(part.bytes, part.offset);
+    return bytes;
+}
+
+/**
+ * Whether a part has another byte at a place of these.
+ *
+ * @param {Part} part
+ * @param {number} offset
+ * @param {Uint8Array} bytes
+ */
+function contradicts(part, offset, bytes) {
+    const begin = Math.max(part.offset, offset);
+    const end = Math.min(part.offset + part.bytes.length, offset + bytes.length);
+    for (let at = begin; at < end; at++) {
+        if (part.bytes[at - part.offset] !== bytes[at - offset]) return true;
+    }
+    return false;
+}

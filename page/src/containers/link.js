@@ -1,0 +1,115 @@
+/** What stands before IP: link layers, and VLAN tags. */
+import { DIGITS } from './digits.js';
+
+const IPV4 = 0x0800;
+const IPV6 = 0x86dd;
+const TAGS = new Set([0x8100, 0x88a8, 0x9100]);
+const MOST_TAGS = 4;
+/** Link types of tcpdump.org. */
+const [NULL_LOOPBACK, ETHERNET, RAW_BSD, RAW_OPENBSD, RAW, LOOPBACK, COOKED, IPV4_ALONE, IPV6_ALONE, COOKED_2] =
+    [0, 1, 12, 14, 101, 108, 113, 228, 229, 276];
+/** AF_INET, and AF_INET6 of NetBSD, FreeBSD, Darwin and Linux. */
+const FAMILY_4 = 2;
+const FAMILIES_6 = new Set([24, 28, 30, 10]);
+
+/**
+ * Where IP begins, and the hardware address of who sent the frame; or why that isn't known.
+ *
+ * @typedef {{at: number, mac: string | null, vlan: number | null}} Packet
+ * @typedef {'unknown link type' | 'no IP' | 'cut'} WhyNoPacket
+ */
+
+/**
+ * Where IP begins in a frame.
+ *
+ * @param {number} link
+ * @param {Uint8Array} bytes
+ * @returns {Packet | WhyNoPacket}
+ */
+export function packetIn(link, bytes) {
+    switch (link) {
+        case ETHERNET:
+            return afterType(bytes, 12, macOf(bytes, 6));
+        case COOKED:
+            return afterType(bytes, 14, word(bytes, 4) === 6 ? macOf(bytes, 6) : null);
+        case COOKED_2:
+            return cooked2(bytes);
+        case RAW:
+        case RAW_BSD:
+        case RAW_OPENBSD:
+        case IPV4_ALONE:
+        case IPV6_ALONE:
+            return bytes.length ? { at: 0, mac: null, vlan: null } : 'cut';
+        case NULL_LOOPBACK:
+        case LOOPBACK:
+            return afterFamily(bytes);
+        default:
+            return 'unknown link type';
+    }
+}
+
+/**
+ * @param {Uint8Array} bytes
+ * @param {number} place where the type of what follows stands
+ * @param {string | null} mac
+ * @returns {Packet | WhyNoPacket}
+ */
+function afterType(bytes, place, mac) {
+    /** @type {number | null} */
+    let vlan = null;
+    for (let tags = 0; tags <= MOST_TAGS; tags++, place += 4) {
+        if (place + 2 > bytes.length) return 'cut';
+        const type = word(bytes, place);
+        if (type === IPV4 || type === IPV6) return { at: place + 2, mac, vlan };
+        if (!TAGS.has(type)) return 'no IP';
+        if (place + 4 > bytes.length) return 'cut';
+        vlan ??= word(bytes, place + 2) & 0xfff;
+    }
+    return 'no IP';
+}
+
+/**
+ * Linux cooked capture, version 2: the type comes first.
+ *
+ * @param {Uint8Array} bytes
+ * @returns {Packet | WhyNoPacket}
+ */
+function cooked2(bytes) {
+    if (bytes.length < 20) return 'cut';
+    const type = word(bytes, 0);
+    const mac = bytes[11] === 6 ? macOf(bytes, 12) : null;
+    if (type === IPV4 || type === IPV6) return { at: 20, mac, vlan: null };
+    return TAGS.has(type) ? afterType(bytes, 22, mac) : 'no IP';
+}
+
+/**
+ * A loopback of BSD: the family in four bytes, in the order of the machine that wrote it.
+ *
+ * @param {Uint8Array} bytes
+ * @returns {Packet | WhyNoPacket}
+ */
+function afterFamily(bytes) {
+    if (bytes.length < 4) return 'cut';
+    const family = bytes[0] === 0 && bytes[1] === 0 ? word(bytes, 2) : bytes[0] | (bytes[1] << 8);
+    const isPacket = family === FAMILY_4 || FAMILIES_6.has(family);
+    return isPacket ? { at: 4, mac: null, vlan: null } : 'no IP';
+}
+
+/**
+ * @param {Uint8Array} bytes
+ * @param {number} at
+ */
+export function word(bytes, at) {
+    return (bytes[at] << 8) | bytes[at + 1];
+}
+
+/**
+ * @param {Uint8Array} bytes
+ * @param {number} at
+ */
+function macOf(bytes, at) {
+    if (at + 6 > bytes.length) return null;
+    let text = DIGITS[bytes[at]];
+    for (let place = at + 1; place < at + 6; place++) text += `:${DIGITS[bytes[place]]}`;
+    return text;
+}

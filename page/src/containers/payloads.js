@@ -1,0 +1,195 @@
+/** The payloads of ports 137, 138 and 139 that a pcap or pcapng file has, and what is left out of it, by reason. */
+import { Fragments } from './fragments.js';
+import { internetIn } from './internet.js';
+import { packetIn } from './link.js';
+import { isPcap, pcapFrames } from './pcap.js';
+import { isPcapng, pcapngFrames } from './pcapng.js';
+import { BAD_LENGTH, CUT, FRAGMENTS, Report } from './report.js';
+import { Streams } from './streams.js';
+import { TCP, TCP_HEADER, UDP, UDP_HEADER, datagramIn, portsIn, segmentIn } from './transport.js';
+
+const NAME = 137;
+const DATAGRAM = 138;
+const SESSION = 139;
+/** Of how many streams the number is known. */
+const MOST_STREAMS = 262_144;
+
+/**
+ * A payload: what one packet of these ports has, and the frame that completes it.
+ *
+ * @typedef {object} Payload
+ * @property {'payload'} kind
+ * @property {137 | 138 | 139} port
+ * @property {import('./report.js').Mark} mark
+ * @property {string | null} mac that of who sent the frame
+ * @property {number | null} vlan
+ * @property {Uint8Array} bytes a part of what is held of the file
+ *
+ * @typedef {Payload | import('./report.js').LeftOut | import('./report.js').Comment} Seen
+ *
+ * @typedef {{mac: string | null, vlan: number | null}} Below
+ */
+
+/**
+ * The frames of a file; null of one that is neither pcap nor pcapng.
+ *
+ * @param {import('./slices.js').Slices} file
+ */
+export function framesOf(file) {
+    if (isPcap(file)) return pcapFrames(file);
+    return isPcapng(file) ? pcapngFrames(file) : null;
+}
+
+/** Reads frames one after another, and gives what they have, in its order. */
+export class PayloadReader {
+    /** @param {(seen: Seen) => void} give */
+    constructor(give) {
+        this.give = give;
+        this.report = new Report(give);
+        this.fragments = new Fragments(this.report, isOurs);
+        this.streams = new Streams(this.report);
+        this.frames = 0;
+        this.ours = 0;
+        /**
+         * Frames that are of none of these ports, by why.
+         * @type {Map<string, number>}
+         */
+        this.others = new Map();
+        /** @type {bigint | null} */
+        this.now = null;
+        /** @type {Map<string, {number: number, starts: Map<string, number>}>} */
+        this.numbers = new Map();
+    }
+
+    /** @param {import('./frames.js').Frame} frame */
+    read(frame) {
+        this.frames += 1;
+        this.now = frame.time ?? this.now;
+        const mark = { frame: frame.number, time: this.now, source: '', destination: '', captured: frame.bytes.length, size: frame.size, counted: false };
+        this.report.begin(mark);
+        const below = packetIn(frame.link, frame.bytes);
+        if (typeof below === 'string') return this.other(below);
+        const internet = internetIn(frame.bytes, below.at);
+        if (!internet) return this.other('cut');
+        [mark.source, mark.destination] = [internet.source, internet.destination];
+        const { fragment } = internet;
+        // The first fragment of IPv4 that is cut is read by itself: its headers are there.
+        const isAlone = fragment && fragment.offset === 0 && internet.payload.length < internet.size && !internet.source.startsWith('[');
+        if (!fragment || isAlone) return this.packet(internet, below, null);
+        const joined = this.fragments.take(internet, fragment, this.now ?? 0n);
+        if (joined) this.packet(joined.packet, below, joined.why);
+    }
+
+    /** Says what is left over at the end of a file. */
+    finish() {
+        this.fragments.finish();
+        this.streams.finish();
+    }
+
+    /**
+     * @param {import('./internet.js').Internet} internet
+     * @param {Below} below
+     * @param {string | null} why why it can't be taken
+     */
+    packet(internet, below, why) {
+        if (internet.protocol !== UDP && internet.protocol !== TCP) return this.other('another protocol');
+        const ports = portsIn(internet.payload);
+        if (!ports) {
+            if (internet.protocol === UDP || internet.size > TCP_HEADER) this.report.leaveOut(this.report.cut, 'the file ends before its ports');
+            return;
+        }
+        this.report.mark.source = `${internet.source}:${ports.source}`;
+        this.report.mark.destination = `${internet.destination}:${ports.destination}`;
+        const segment = internet.protocol === TCP ? segmentIn(internet) : null;
+        const stream = segment?.payload ? this.streamOf(segment) : 0;
+        if (!isOurs(internet)) return this.other('another port');
+        this.ours += 1;
+        if (why) return this.report.leaveOut(FRAGMENTS, why);
+        if (segment) return this.segment(internet, below, segment, stream);
+        this.datagram(internet, below, ports.source === NAME || ports.source === DATAGRAM ? ports.source : ports.destination);
+    }
+
+    /**
+     * @param {import('./internet.js').Internet} internet
+     * @param {Below} below
+     * @param {number} port
+     */
+    datagram(internet, below, port) {
+        const { payload, size } = datagramIn(internet);
+        if (!payload) return this.report.leaveOut(this.report.cut, 'the file ends inside its UDP header');
+        if (size < 0 || payload.length < size) {
+            const reason = payload.length < size && this.report.cut === CUT ? CUT : BAD_LENGTH;
+            const there = `its UDP length is ${size + UDP_HEADER}, and the file has ${payload.length} bytes of its payload`;
+            return this.report.leaveOut(reason, there);
+        }
+        this.payload(/** @type {137 | 138} */ (port), below, payload);
+    }
+
+    /**
+     * @param {import('./internet.js').Internet} internet
+     * @param {Below} below
+     * @param {import('./transport.js').Segment} segment
+     * @param {number} stream
+     */
+    segment(internet, below, segment, stream) {
+        if (!segment.payload) {
+            if (internet.size > TCP_HEADER) this.report.leaveOut(this.report.cut, 'the file ends inside its TCP header');
+            return;
+        }
+        const { source, destination } = this.report.mark;
+        const title = `stream ${stream} from ${internet.source.replace(/^\[|\]$/g, '')} port ${segment.source}`;
+        for (const bytes of this.streams.take({ stream, from: source, to: destination, title, segment })) this.payload(SESSION, below, bytes);
+    }
+
+    /**
+     * The number of a stream: that of its ends, and a new one where they begin anew.
+     *
+     * @param {import('./transport.js').Segment} segment
+     */
+    streamOf(segment) {
+        const { source, destination } = this.report.mark;
+        const ends = source < destination ? `${source} ${destination}` : `${destination} ${source}`;
+        let known = this.numbers.get(ends);
+        const isAnew = segment.syn && !segment.ack && known?.starts.has(source) && known.starts.get(source) !== segment.sequence;
+        if (!known || isAnew) {
+            known = { number: this.streamCount++, starts: new Map() };
+            if (this.numbers.size >= MOST_STREAMS) this.numbers.clear();
+            this.numbers.set(ends, known);
+        }
+        if (segment.syn) known.starts.set(source, segment.sequence);
+        return known.number;
+    }
+
+    streamCount = 0;
+
+    /**
+     * @param {137 | 138 | 139} port
+     * @param {Below} below
+     * @param {Uint8Array} bytes
+     */
+    payload(port, below, bytes) {
+        this.give({ kind: 'payload', port, mark: this.report.mark, mac: below.mac, vlan: below.vlan, bytes });
+    }
+
+    /**
+     * Counts a frame of which nothing is of these ports.
+     *
+     * @param {string} why
+     */
+    other(why) {
+        this.others.set(why, (this.others.get(why) ?? 0) + 1);
+    }
+}
+
+/**
+ * Whether what begins so is of these ports; null where that isn't known.
+ *
+ * @param {{protocol: number, payload: Uint8Array}} packet
+ */
+function isOurs(packet) {
+    if (packet.protocol !== UDP && packet.protocol !== TCP) return false;
+    const ports = portsIn(packet.payload);
+    if (!ports) return null;
+    const both = [ports.source, ports.destination];
+    return packet.protocol === TCP ? both.includes(SESSION) : both.includes(NAME) || both.includes(DATAGRAM);
+}

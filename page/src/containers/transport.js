@@ -1,0 +1,80 @@
+/** Headers of UDP (RFC 768) and TCP (RFC 9293). */
+import { word } from './link.js';
+
+export const UDP = 17;
+export const TCP = 6;
+export const UDP_HEADER = 8;
+export const TCP_HEADER = 20;
+/** How much of a header of TCP has to be there: up to its checksum. */
+const LEAST_OF_TCP = 16;
+
+/**
+ * A datagram. `payload` is what the file has of its bytes, of which there were `size`; it is null where the header isn't whole.
+ *
+ * @typedef {object} Datagram
+ * @property {number} source
+ * @property {number} destination
+ * @property {Uint8Array | null} payload
+ * @property {number} size
+ */
+
+/**
+ * A segment. `payload` is what the file has of its bytes, of which there were `size`; it is null where the header isn't whole.
+ *
+ * @typedef {object} Segment
+ * @property {number} source
+ * @property {number} destination
+ * @property {number} sequence
+ * @property {boolean} syn
+ * @property {boolean} fin
+ * @property {boolean} rst
+ * @property {boolean} ack
+ * @property {Uint8Array | null} payload
+ * @property {number} size
+ */
+
+/**
+ * The ports of a datagram or a segment; null where the file ends before them.
+ *
+ * @param {Uint8Array} bytes
+ */
+export function portsIn(bytes) {
+    return bytes.length < 4 ? null : { source: word(bytes, 0), destination: word(bytes, 2) };
+}
+
+/**
+ * The datagram that is in a packet of IP whose ports are known.
+ *
+ * @param {import('./internet.js').Internet} packet
+ * @returns {Datagram}
+ */
+export function datagramIn(packet) {
+    const bytes = packet.payload;
+    const ports = { source: word(bytes, 0), destination: word(bytes, 2) };
+    if (bytes.length < 6) return { ...ports, payload: null, size: 0 };
+    const size = word(bytes, 4) - UDP_HEADER;
+    return { ...ports, payload: bytes.subarray(UDP_HEADER, Math.max(UDP_HEADER, UDP_HEADER + size)), size };
+}
+
+/**
+ * The segment that is in a packet of IP whose ports are known.
+ *
+ * @param {import('./internet.js').Internet} packet
+ * @returns {Segment}
+ */
+export function segmentIn(packet) {
+    const bytes = packet.payload;
+    const source = word(bytes, 0);
+    const destination = word(bytes, 2);
+    const header = bytes.length > 12 ? (bytes[12] >> 4) * 4 : TCP_HEADER;
+    if (bytes.length < LEAST_OF_TCP || header < TCP_HEADER) {
+        return { source, destination, sequence: 0, syn: false, fin: false, rst: false, ack: false, payload: null, size: packet.size };
+    }
+    const flags = bytes[13];
+    const sequence = word(bytes, 4) * 0x10000 + word(bytes, 6);
+    const payload = bytes.subarray(Math.min(header, bytes.length));
+    return {
+        source, destination, sequence, payload, size: Math.max(0, packet.size - header),
+        fin: (flags & 1) !== 0, syn: (flags & 2) !== 0, rst: (flags & 4) !== 0, ack: (flags & 16) !== 0,
+    };
+}

@@ -1,0 +1,100 @@
+/** The lines of the capture that a file gives, as nbt-pcap2cap prints them, or as they stand in it. */
+import { bytesOf, digitsOf } from '../containers/digits.js';
+import { linesOf } from '../containers/lines.js';
+import { LEFT_OUT } from './packets.js';
+import { momentOf, utc } from '../model/times.js';
+
+const TIMER = 2_000;
+
+/**
+ * A line. A payload's has the row that it is of, where the capture is made of frames.
+ *
+ * @typedef {{kind: 'payload', port: number, moment: number | bigint, bytes: Uint8Array, row: number | null}} PayloadOf
+ * @typedef {{kind: 'tick', moment: number | bigint} | {kind: 'comment', text: string} | {kind: 'empty'} | PayloadOf} CaptureLine
+ */
+
+/**
+ * The lines of a file that is a capture.
+ *
+ * @param {import('../containers/slices.js').Slices} file
+ * @returns {Generator<CaptureLine, void, void>}
+ */
+export function* written(file) {
+    try {
+        for (const line of linesOf(file)) {
+            if (line.kind !== 'payload') yield line;
+            else yield { kind: 'payload', port: line.port, moment: line.moment, bytes: bytesOf(line.digits), row: null };
+        }
+    } catch {
+        // The line at which the capture ends was named when it was read.
+    }
+}
+
+/**
+ * The lines that are made of frames: comments on them, payloads, and ticks of the clock.
+ *
+ * @param {{packets: import('./packets.js').Packets, first: bigint | null}} of
+ * @returns {Generator<CaptureLine, void, void>}
+ */
+export function* made({ packets, first }) {
+    const clock = new Ticks();
+    let [next, moment] = [0, 0];
+    for (let row = 0; row <= packets.count; row++) {
+        for (; next < packets.comments.length && packets.comments[next].before === row; next++) {
+            yield { kind: 'comment', text: `# ${packets.comments[next].text}` };
+        }
+        if (row === packets.count) return;
+        const packet = packets.at(row);
+        if (packet.port === LEFT_OUT) continue;
+        if (packet.time !== null) moment = momentOf(packet.time, first ?? 0n);
+        for (const tick of clock.until(moment)) yield { kind: 'tick', moment: tick };
+        clock.latest = Math.max(clock.latest, moment);
+        yield { kind: 'comment', text: `# frame ${packet.frame} ${utc(packet.time)} ${packet.source} > ${packet.destination}` };
+        yield { kind: 'payload', port: packet.port, moment, bytes: packet.bytes, row };
+    }
+}
+
+/** The ticks: one for each second that begins; in a pause those that drop a key, and the last one. */
+class Ticks {
+    constructor() {
+        this.next = 1_000;
+        this.latest = 0;
+    }
+
+    /** @param {number} moment */
+    *until(moment) {
+        const end = moment - (moment % 1_000);
+        if (end < this.next) return;
+        const last = (Math.floor((this.latest + TIMER) / 1_000) + 1) * 1_000;
+        for (let at = this.next; at <= Math.min(end - 1, last); at += 1_000) yield at;
+        yield end;
+        this.next = end + 1_000;
+    }
+}
+
+/**
+ * A line as text.
+ *
+ * @param {CaptureLine} line
+ */
+export function textOf(line) {
+    switch (line.kind) {
+        case 'payload':
+            return `${line.port} ${line.moment} ${digitsOf(line.bytes) || 'empty'}`;
+        case 'tick':
+            return `tick ${line.moment}`;
+        case 'comment':
+            return line.text;
+        default:
+            return '';
+    }
+}
+
+/**
+ * A comment as `nbt show --json` has it: a byte that isn't printable is a backslash and two digits.
+ *
+ * @param {string} text a character a byte
+ */
+export function commentOf(text) {
+    return text.replace(/[^\x20-\x7e]/g, (each) => `\\${each.charCodeAt(0).toString(16).padStart(2, '0')}`);
+}

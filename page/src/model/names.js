@@ -1,0 +1,170 @@
+/** Who claims which name, and what came of it. */
+import { entriesOf, isClaim, isGroup, isResponse, subject } from './objects.js';
+import { Room } from './room.js';
+
+/** What the last byte of a name says: where it is unique, and where it is a group's. */
+const KINDS = new Map(Object.entries({
+    '00': ['workstation', 'domain'], '01': ['messenger', 'master browser'], '03': ['messenger', 'messenger'],
+    '06': ['remote access server', ''], '1b': ['domain master browser', ''], '1c': ['', 'domain controllers'],
+    '1d': ['master browser', ''], '1e': ['', 'browser elections'], '1f': ['NetDDE', ''], '20': ['file server', ''],
+    '21': ['remote access client', ''], be: ['network monitor', ''], bf: ['network monitor application', ''],
+}));
+const ENDED = ['released', 'refused'];
+const SECOND = 1_000_000_000n;
+/** How many claims of a name are looked at for conflicts. */
+const MOST_HOLDERS = 16;
+
+/**
+ * That an address has a name: by whom, as a group or not, how that is known, since when and until when.
+ *
+ * @typedef {object} Claim
+ * @property {string} name
+ * @property {string} address
+ * @property {string} source
+ * @property {boolean} group
+ * @property {string} how
+ * @property {bigint | null} since
+ * @property {bigint | null} until null where it has no end
+ * @property {number} refusals
+ *
+ * Of a name: its conflicts, and the refusals that are told to others than those who claim it.
+ *
+ * @typedef {{conflicts: number, refusals: number}} Faults
+ */
+
+/**
+ * The kind of a name in words, by its last byte.
+ *
+ * @param {string} name
+ * @param {boolean} group
+ */
+export function kindOf(name, group) {
+    const [unique, shared] = KINDS.get(name.slice(name.indexOf('<') + 1).slice(0, 2)) ?? ['', ''];
+    return group ? shared || unique : unique || shared;
+}
+
+/** The claims of names, and what became of them. */
+export class Names {
+    constructor() {
+        /** @type {Room<Claim>} by name and address */
+        this.claims = new Room();
+        /** @type {Room<Faults>} by name */
+        this.faults = new Room();
+        /** @type {Room<Map<string, Claim>>} the first claims of each name, by address */
+        this.holders = new Room();
+        this.conflicts = 0;
+        /**
+         * The names that are claimed, or said to be somebody's.
+         * @type {Set<string>}
+         */
+        this.named = new Set();
+    }
+
+    /**
+     * @param {import('./objects.js').Service} service
+     * @param {import('./seen.js').Ends} ends
+     */
+    take(service, ends) {
+        const name = subject(service);
+        if (isResponse(service)) return this.answered(service, ends, name);
+        if (isClaim(service)) return this.claimed(service, ends, 'claims');
+        if (service.op !== 'release') return;
+        for (const { address } of entriesOf(service)) {
+            const claim = this.claims.entries.get(`${name} ${address}`);
+            if (claim) Object.assign(claim, { until: ends.time, how: 'released' });
+        }
+    }
+
+    /**
+     * @param {import('./objects.js').Service} service
+     * @param {import('./seen.js').Ends} ends
+     * @param {string} name
+     */
+    answered(service, ends, name) {
+        if (service.rcode === 'ok') {
+            if (service.op === 'query') this.claimed(service, ends, 'is said to be');
+            return;
+        }
+        const isConflict = service.rcode === 'CFT_ERR';
+        if (service.op === 'query' && !isConflict) return;
+        const claim = this.claims.entries.get(`${name} ${ends.destination}`);
+        if (claim && !isConflict) {
+            claim.how = 'refused';
+            claim.refusals += 1;
+            return;
+        }
+        this.count(name, isConflict ? 'conflicts' : 'refusals');
+    }
+
+    /**
+     * Takes the addresses of each record.
+     *
+     * @param {import('./objects.js').Service} service
+     * @param {import('./seen.js').Ends} ends
+     * @param {string} how
+     */
+    claimed(service, ends, how) {
+        const { time, source } = ends;
+        for (const record of [...service.answers, ...service.additional]) {
+            for (const entry of record.entries ?? []) {
+                const { name } = record;
+                const { address } = entry;
+                const made = { name, address, source, group: isGroup(entry), how, since: time, until: null, refusals: 0 };
+                const claim = this.claims.get(`${name} ${address}`, () => made);
+                if (!claim) continue;
+                if (claim === made) this.named.add(name);
+                if (how === 'claims') this.contest(claim, source, isGroup(entry));
+                if (how === 'claims' || ENDED.includes(claim.how)) claim.how = how;
+                claim.group = isGroup(entry);
+                claim.until = record.ttl && time !== null ? time + BigInt(record.ttl) * SECOND : null;
+            }
+        }
+    }
+
+    /**
+     * Counts a claim of a unique name that another station claims, once for each of them.
+     *
+     * @param {Claim} claim
+     * @param {string} source
+     * @param {boolean} group
+     */
+    contest(claim, source, group) {
+        const holders = this.holders.get(claim.name, () => new Map());
+        if (!holders || holders.has(claim.address) || holders.size >= MOST_HOLDERS) return;
+        const isContested = [...holders.values()].some((other) => other.source !== source && !ENDED.includes(other.how));
+        holders.set(claim.address, claim);
+        if (isContested && !group) this.count(claim.name, 'conflicts');
+    }
+
+    /**
+     * @param {string} name
+     * @param {keyof Faults} what
+     */
+    count(name, what) {
+        const faults = this.faults.get(name, () => ({ conflicts: 0, refusals: 0 }));
+        if (faults) faults[what] += 1;
+        if (what === 'conflicts') this.conflicts += 1;
+    }
+
+    /** A row for each claim, and for each name that nobody claims, by name and address. */
+    rows() {
+        const claims = Array.from(this.claims.entries.values(), ({ source, ...claim }) =>
+            ({ ...claim, kind: kindOf(claim.name, claim.group), conflicts: this.faults.entries.get(claim.name)?.conflicts ?? 0 }));
+        const claimed = new Set(claims.map((claim) => claim.name));
+        const others = Array.from(this.faults.entries).filter(([name, { refusals }]) => refusals || !claimed.has(name)).map(([name, faults]) =>
+            ({ name, address: '', group: false, how: 'nobody', since: null, until: null, kind: kindOf(name, false), ...faults }));
+        return [...claims, ...others].sort((one, other) => compare(one.name, other.name) || compare(one.address, other.address));
+    }
+
+    get others() {
+        return this.claims.others + this.faults.others;
+    }
+}
+
+/**
+ * @param {string} one
+ * @param {string} other
+ */
+export function compare(one, other) {
+    return Number(one > other) - Number(one < other);
+}

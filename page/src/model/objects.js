@@ -1,0 +1,151 @@
+/** The objects in which the library tells a packet: the members are those of docs/FORMATS.md, "JSON". */
+
+/**
+ * @typedef {{name: string, type: string, class: string}} Question
+ * @typedef {{flags: string, ont: string, address: string}} Entry
+ * @typedef {{name: string, flags: string, ont: string, set: string[]}} NodeName
+ * @typedef {object} ResourceRecord
+ * @property {string} name
+ * @property {string} type
+ * @property {number} ttl
+ * @property {string} [data]
+ * @property {Entry[]} [entries]
+ * @property {NodeName[]} [names]
+ * @property {string} [unit]
+ *
+ * A packet of port 137.
+ *
+ * @typedef {object} Service
+ * @property {string} id
+ * @property {string} word
+ * @property {string | number} op
+ * @property {string | number} rcode
+ * @property {Question[]} questions
+ * @property {ResourceRecord[]} answers
+ * @property {ResourceRecord[]} authorities
+ * @property {ResourceRecord[]} additional
+ *
+ * Any packet, as far as the page looks at it.
+ *
+ * @typedef {object} Others
+ * @property {string} [kind]
+ * @property {string} [key]
+ * @property {string} [source]
+ * @property {string} [destination]
+ * @property {string} [called]
+ * @property {string} [calling]
+ * @property {string} [code]
+ * @property {string} [refused]
+ * @property {number} [at]
+ * @property {number} [length]
+ * @property {string} [flags]
+ * @property {number} [offset]
+ *
+ * @typedef {Partial<Service> & Others} Told
+ */
+
+/** The bit G of NB_FLAGS and NAME_FLAGS: a group's name. RFC 1002 sections 4.2.1.3 and 4.2.18. */
+const GROUP = 0x8000;
+const CLAIMS = new Set(['registration', 'refresh', 15]);
+const NBSTAT = '0021';
+
+/**
+ * The packet as one of port 137, if it is one.
+ *
+ * @param {Told} told
+ * @returns {Service | null}
+ */
+export function serviceOf(told) {
+    return told.op === undefined ? null : /** @type {Service} */ (told);
+}
+
+/** @param {Service} service */
+export function isResponse(service) {
+    return service.word[0] >= '8';
+}
+
+/** @param {Service} service */
+export function isClaim(service) {
+    return CLAIMS.has(service.op) && !isResponse(service);
+}
+
+/** @param {Service} service */
+export function asksStatus(service) {
+    return service.questions[0]?.type === NBSTAT;
+}
+
+/** @param {{flags: string}} entry */
+export function isGroup(entry) {
+    return (parseInt(entry.flags, 16) & GROUP) !== 0;
+}
+
+/**
+ * The records of all sections, in their order.
+ *
+ * @param {Service} service
+ */
+export function recordsOf(service) {
+    return [...service.answers, ...service.authorities, ...service.additional];
+}
+
+/**
+ * The name that a packet is about: that of its first question, else of its first record.
+ *
+ * @param {Service} service
+ */
+export function subject(service) {
+    return service.questions[0]?.name ?? recordsOf(service)[0]?.name ?? 'no name';
+}
+
+/**
+ * The addresses of all records of type NB.
+ *
+ * @param {Service} service
+ */
+export function entriesOf(service) {
+    return recordsOf(service).flatMap((record) => record.entries ?? []);
+}
+
+/**
+ * The texts of all names in a packet.
+ *
+ * @param {Told} told
+ * @returns {string[]}
+ */
+export function namesIn(told) {
+    const single = [told.source, told.destination, told.called, told.calling];
+    const service = serviceOf(told);
+    const listed = service ? [...service.questions, ...recordsOf(service)] : [];
+    const inside = service ? recordsOf(service).flatMap((record) => record.names ?? []) : [];
+    const texts = [...single, ...listed.map((each) => each.name), ...inside.map((each) => each.name)];
+    return texts.flatMap((each) => (each === undefined ? [] : [each]));
+}
+
+/**
+ * The words by which a packet is filtered and counted.
+ *
+ * @param {Told} told
+ * @param {number} port
+ * @returns {string[]}
+ */
+export function kindsOf(told, port) {
+    if (told.refused !== undefined) return ['refused'];
+    const service = serviceOf(told);
+    if (service) return serviceKinds(service);
+    const kind = told.kind ?? 'message';
+    if (port === 139) return [kind, 'session'];
+    return ['unique', 'group', 'broadcast'].includes(kind) ? [kind, 'datagram'] : [kind];
+}
+
+/**
+ * @param {Service} service
+ * @returns {string[]}
+ */
+function serviceKinds(service) {
+    const isStatus = [...service.questions, ...service.answers].some((each) => each.type === NBSTAT);
+    const operation = service.op === 15 ? 'registration' : String(service.op);
+    const kinds = [isStatus ? 'status' : operation];
+    if (isResponse(service)) kinds.push('response');
+    if (isResponse(service) && service.rcode === 'CFT_ERR') kinds.push('conflict');
+    return kinds;
+}

@@ -1,0 +1,97 @@
+/** What is made of the packets of a capture, one after another. */
+import { Names } from './names.js';
+import { serviceOf } from './objects.js';
+import { Queries } from './queries.js';
+import { Room } from './room.js';
+import { Sessions } from './sessions.js';
+import { Stations } from './stations.js';
+
+/**
+ * Where a packet stands in the file, and who sent it to whom.
+ *
+ * @typedef {object} Ends
+ * @property {number} frame
+ * @property {number} port the service's
+ * @property {bigint | null} time nanoseconds since 1970
+ * @property {string} source an address
+ * @property {string} sourcePort
+ * @property {string} destination
+ * @property {string} destinationPort
+ * @property {string | null} mac
+ *
+ * @typedef {{reason: string, packets: number, frame: number, byte: number | null}} Refusal
+ * @typedef {{reason: string, frames: number}} Loss
+ */
+
+/** All that is summed up. Its memory is by the number of names and stations, with a bound. */
+export class Seen {
+    constructor() {
+        this.packets = 0;
+        this.refusedPackets = 0;
+        this.names = new Names();
+        this.queries = new Queries();
+        this.stations = new Stations();
+        this.sessions = new Sessions();
+        /** @type {Room<Refusal>} */
+        this.refused = new Room();
+        /** @type {Room<Loss>} */
+        this.leftOut = new Room();
+    }
+
+    /**
+     * @param {import('./objects.js').Told} told
+     * @param {string} brief
+     * @param {Ends} ends
+     */
+    take(told, brief, ends) {
+        this.packets += 1;
+        if (told.refused !== undefined) this.refuse(told.refused, told.at ?? null, ends.frame);
+        this.stations.take(told, ends);
+        this.sessions.take(told, brief, ends);
+        const service = serviceOf(told);
+        if (!service) return;
+        this.names.take(service, ends);
+        this.queries.take(service, ends);
+    }
+
+    /**
+     * @param {string} refused
+     * @param {number | null} byte
+     * @param {number} frame
+     */
+    refuse(refused, byte, frame) {
+        this.refusedPackets += 1;
+        const reason = withoutPlace(refused);
+        const entry = this.refused.get(reason, () => ({ reason, packets: 0, frame, byte }));
+        if (entry) entry.packets += 1;
+    }
+
+    /** @param {string} reason */
+    leave(reason) {
+        const entry = this.leftOut.get(reason, () => ({ reason, frames: 0 }));
+        if (entry) entry.frames += 1;
+    }
+
+    /** The tables, by their titles. */
+    tables() {
+        return {
+            names: this.names.rows(), stations: this.stations.rows(), queries: this.queries.rows(), sessions: this.sessions.rows(),
+            refused: Array.from(this.refused.entries.values()), 'left out': Array.from(this.leftOut.entries.values()),
+        };
+    }
+
+    /** Of each table how many packets were more than are kept. */
+    notKept() {
+        const { names, stations, queries, sessions } = this;
+        return { names: names.others, stations: stations.room.others, queries: queries.room.others, sessions: sessions.room.others };
+    }
+}
+
+/**
+ * The text of a fault without the number with which it ends.
+ *
+ * @param {string} refused
+ */
+export function withoutPlace(refused) {
+    return refused.replace(/ \d+$/, '');
+}

@@ -1,0 +1,76 @@
+/** The stations: who sends packets, and what they are called. */
+import { compare } from './names.js';
+import { entriesOf, isClaim, isResponse, serviceOf, subject } from './objects.js';
+import { Room } from './room.js';
+
+/** How many names of a station are kept. */
+const MOST_NAMES = 64;
+
+/**
+ * @typedef {object} Station
+ * @property {string} address
+ * @property {string | null} mac
+ * @property {number} packets
+ * @property {Set<string>} names those that it uses
+ * @property {string[]} status those that a node status said
+ * @property {string | null} unit
+ */
+
+/** The stations, by address. */
+export class Stations {
+    constructor() {
+        /** @type {Room<Station>} */
+        this.room = new Room();
+    }
+
+    /**
+     * @param {import('./objects.js').Told} told
+     * @param {import('./seen.js').Ends} ends
+     */
+    take(told, ends) {
+        const sender = this.station(ends.source);
+        if (sender) {
+            sender.packets += 1;
+            sender.mac = ends.mac ?? sender.mac;
+        }
+        const service = serviceOf(told);
+        if (service) return this.service(service, sender);
+        if (told.source !== undefined && told.key !== undefined) this.named(told.key.split(':')[0], told.source);
+        if (told.calling !== undefined) this.named(ends.source, told.calling);
+        if (told.called !== undefined) this.named(ends.destination, told.called);
+    }
+
+    /**
+     * @param {import('./objects.js').Service} service
+     * @param {Station | null} sender
+     */
+    service(service, sender) {
+        if (isClaim(service)) {
+            for (const entry of entriesOf(service)) this.named(entry.address, subject(service));
+        }
+        if (!isResponse(service) || !sender) return;
+        for (const record of service.answers) {
+            if (!record.names?.length) continue;
+            sender.status = record.names.slice(0, MOST_NAMES).map((each) => each.name);
+            sender.unit = record.unit ?? null;
+        }
+    }
+
+    /** @param {string} address */
+    station(address) {
+        return this.room.get(address, () => ({ address, mac: null, packets: 0, names: new Set(), status: [], unit: null }));
+    }
+
+    /**
+     * @param {string} address
+     * @param {string} name
+     */
+    named(address, name) {
+        const station = this.station(address);
+        if (station && station.names.size < MOST_NAMES) station.names.add(name);
+    }
+
+    rows() {
+        return Array.from(this.room.entries.values()).sort((one, other) => compare(one.address, other.address));
+    }
+}

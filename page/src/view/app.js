@@ -1,0 +1,265 @@
+/** The page as a whole: the files that are open, the view, and what is said of all that. */
+import { hashOf, placeOf } from './address.js';
+import { Advice } from './advice.js';
+import { Desk } from './desk.js';
+import { byId, counted, element, number, say } from './dom.js';
+import { NamesView } from './names.js';
+import { OutView } from './out.js';
+import { PacketPanel } from './packet.js';
+import { PacketsView } from './packets.js';
+import { ReassemblyView } from './reassembly.js';
+import { Rows } from './rows.js';
+import { TapsView } from './taps.js';
+
+/** How long a worker may take to stop before it is ended, in milliseconds. */
+const PATIENCE = 2_000;
+
+/**
+ * A file that is open.
+ *
+ * @typedef {object} Tap
+ * @property {string} name
+ * @property {number} size
+ * @property {'frames' | 'lines' | 'table'} kind
+ * @property {Rows} rows
+ * @property {bigint | null} first
+ * @property {import('./desk.js').Counts} counts
+ * @property {boolean} isRead
+ * @property {string | null} fault
+ */
+
+export class App {
+    /**
+     * @param {string} code the worker's
+     * @param {Uint8Array} module
+     * @param {string[]} advice
+     */
+    constructor(code, module, advice) {
+        this.desk = new Desk(code, module, (news) => this.hear(news));
+        /** @type {(Tap | null)[]} */
+        this.taps = [null, null];
+        this.place = placeOf();
+        this.panel = new PacketPanel(new Advice(advice));
+        this.packets = new PacketsView(this);
+        this.views = {
+            packets: this.packets, names: new NamesView(this), reassembly: new ReassemblyView(this), taps: new TapsView(this), out: new OutView(this),
+        };
+        addEventListener('hashchange', () => this.go());
+        byId('stop', HTMLButtonElement).addEventListener('click', () => this.stop());
+        byId('tap', HTMLSelectElement).addEventListener('change', (event) =>
+            this.move({ tap: Number(/** @type {HTMLSelectElement} */ (event.target).value), frame: 0, packet: 1 }));
+        this.desk.loaded?.catch((error) => this.complain(error.message));
+    }
+
+    /** The file that is looked at. */
+    get tap() {
+        return this.taps[this.place.tap];
+    }
+
+    /**
+     * Asks the worker about the file that is looked at; null where it has no answer, which is then said.
+     *
+     * @param {string} what
+     * @param {object} asked
+     */
+    async ask(what, asked = {}) {
+        try {
+            return await this.desk.ask(what, { tap: this.place.tap, ...asked });
+        } catch (error) {
+            this.complain(error instanceof Error ? error.message : String(error));
+            return null;
+        }
+    }
+
+    /**
+     * Opens a file.
+     *
+     * @param {Blob} file
+     * @param {string} name
+     * @param {number} number of the tap
+     */
+    async open(file, name, number) {
+        const counts = { frames: 0, packets: 0, refused: 0, leftOut: 0, names: 0, conflicts: 0 };
+        /** @type {Tap} */
+        const tap = { name, size: file.size, kind: 'frames', rows: new Rows(), first: null, counts, isRead: false, fault: null };
+        this.taps[number] = tap;
+        const frame = this.place.tap === number ? this.place : { frame: 0, packet: 1 };
+        this.keep({ tap: number, frame: frame.frame, packet: frame.packet });
+        byId('message', HTMLElement).hidden = true;
+        this.show();
+        try {
+            await this.desk.loaded;
+            const end = await this.desk.ask('open', { tap: number, file, name });
+            Object.assign(tap, { fault: end.fault, kind: end.kind, counts: end.counts, first: end.first });
+        } catch (error) {
+            tap.fault = error instanceof Error ? error.message : String(error);
+        }
+        if (this.taps[number] === tap) await this.read(tap, number);
+    }
+
+    /**
+     * A file is read to its end, or to where it can't be read.
+     *
+     * @param {Tap} tap
+     * @param {number} number
+     */
+    async read(tap, number) {
+        tap.isRead = true;
+        if (tap.fault) this.complain(`${tap.name}: ${tap.fault}`);
+        const isNothing = !tap.rows.count && tap.kind !== 'table';
+        if (tap.fault && isNothing) {
+            this.taps[number] = null;
+            if (this.place.tap === number) this.keep({ tap: this.taps[0] ? 0 : this.taps[1] ? 1 : 0, frame: 0 });
+            this.show();
+            return;
+        }
+        this.progress(null);
+        if (tap === this.tap) {
+            await this.packets.refilter();
+            if (this.place.frame) await this.packets.select(this.place.frame, this.place.packet);
+        }
+        const { packets, refused, leftOut } = tap.counts;
+        this.tell(tap.kind === 'table' ? `${tap.name} is a saved table` :
+            `${tap.name}: ${counted(packets, 'packet')}, ${refused} refused, ${leftOut} left out`);
+        if (tap.kind === 'table' && this.place.view === 'packets') this.move({ view: 'reassembly' });
+        else this.show(false);
+    }
+
+    /** @param {import('./desk.js').News} news */
+    hear(news) {
+        const tap = this.taps[news.tap];
+        if (!tap || tap.isRead) return;
+        if (tap.first === null && news.rows.time.length) tap.first = news.rows.time[0];
+        tap.rows.add(news.rows);
+        tap.counts = news.counts;
+        this.progress(news);
+        this.head();
+        if (tap === this.tap) this.packets.more();
+    }
+
+    /** @param {import('./desk.js').News | null} news null where nothing is read */
+    progress(news) {
+        const bar = byId('progress', HTMLProgressElement);
+        const isReading = this.taps.some((tap) => tap && !tap.isRead);
+        bar.value = news && news.size ? news.done / news.size : 1;
+        byId('reading', HTMLElement).classList.toggle('idle', !isReading);
+        byId('stop', HTMLButtonElement).disabled = !isReading;
+    }
+
+    /** Ends what is read, with what is there by then. */
+    async stop() {
+        for (const [number, tap] of this.taps.entries()) {
+            if (!tap || tap.isRead) continue;
+            const isAnswered = await Promise.race([
+                this.desk.ask('stop', { tap: number }).then(() => true, () => true),
+                new Promise((done) => setTimeout(() => done(false), PATIENCE)),
+            ]);
+            if (isAnswered) continue;
+            this.taps = [null, null];
+            this.desk.restart('it was ended');
+            this.complain(`${tap.name}: it was ended, since the reading did not stop by itself`);
+            this.show();
+        }
+    }
+
+    /**
+     * Goes to another place.
+     *
+     * @param {Partial<import('./address.js').Place>} change
+     */
+    move(change) {
+        location.hash = hashOf({ ...this.place, ...change });
+    }
+
+    /**
+     * Keeps in the address what was chosen.
+     *
+     * @param {Partial<import('./address.js').Place>} change
+     */
+    keep(change) {
+        this.place = { ...this.place, ...change };
+        const hash = hashOf(this.place);
+        if (hash !== location.hash && !(hash === `#${this.place.view}` && location.hash === '')) history.replaceState(null, '', hash);
+    }
+
+    /** The address is another one. */
+    go() {
+        const { view, tap, frame, packet, filter } = this.place;
+        this.place = placeOf();
+        const isOther = this.place.tap !== tap;
+        this.show(isOther || (this.place.filter !== filter));
+        if (this.place.frame && (isOther || this.place.frame !== frame || this.place.packet !== packet)) {
+            this.packets.select(this.place.frame, this.place.packet);
+        }
+        if (view !== this.place.view) byId(`view-${this.place.view}`, HTMLElement).focus({ preventScroll: true });
+    }
+
+    /** @param {boolean} isOther whether the packets are of another file */
+    show(isOther = true) {
+        const isOpen = this.taps.some((tap) => tap !== null);
+        byId('start', HTMLElement).hidden = isOpen;
+        byId('views', HTMLElement).hidden = !isOpen;
+        for (const [name, view] of Object.entries(this.views)) {
+            const isShown = name === this.place.view;
+            byId(`view-${name}`, HTMLElement).hidden = !isShown;
+            const link = byId(`to-${name}`, HTMLAnchorElement);
+            link.href = hashOf({ ...this.place, view: name });
+            if (isShown) link.setAttribute('aria-current', 'page');
+            else link.removeAttribute('aria-current');
+            if (isShown && isOpen && (name !== 'packets' || isOther)) view.show();
+        }
+        if (isOther && this.place.view !== 'packets') this.packets.show();
+        this.head();
+        this.progress(null);
+    }
+
+    /** The names of the files, and what is counted. */
+    head() {
+        const names = this.taps.flatMap((tap) => tap?.name ?? []);
+        say(byId('title', HTMLElement), names.join(' and ') || 'nbt');
+        document.title = names.length ? `${names.join(' and ')} · nbt` : 'nbt';
+        const counts = byId('counts', HTMLElement);
+        const { tap } = this;
+        const parts = tap && tap.kind !== 'table' ? [[tap.counts.packets, tap.counts.packets === 1 ? 'packet' : 'packets'],
+            [tap.counts.names, tap.counts.names === 1 ? 'name' : 'names'], [tap.counts.refused, 'refused'], [tap.counts.leftOut, 'left out']] : [];
+        const text = parts.map(([count, word]) => `${number(Number(count))} ${word}`).join(' · ');
+        if (counts.textContent !== text) {
+            counts.replaceChildren(...parts.flatMap(([count, word], at) => [at ? ' · ' : '',
+                element('b', { class: count && at > 1 ? 'bad' : null }, number(Number(count))), ` ${word}`]));
+        }
+        const conflicts = tap?.counts.conflicts ?? 0;
+        const link = byId('to-names', HTMLAnchorElement);
+        const words = conflicts ? `Names ${number(conflicts)}` : 'Names';
+        if (link.textContent !== words) {
+            link.replaceChildren('Names', ...(conflicts ? [' ', element('b', { title: counted(conflicts, 'conflict') }, number(conflicts))] : []));
+        }
+        this.choice();
+    }
+
+    /** Which of two files is looked at. */
+    choice() {
+        const select = byId('tap', HTMLSelectElement);
+        const both = this.taps.every((tap) => tap !== null);
+        select.hidden = !both;
+        byId('opener', HTMLElement).textContent = this.tap ? 'Open another, or a second tap' : 'Open a file';
+        for (const [at, tap] of this.taps.entries()) {
+            const option = select.options[at];
+            const text = `Tap ${at + 1}: ${tap?.name ?? ''}`;
+            if (option.textContent !== text) option.textContent = text;
+        }
+        select.value = String(this.place.tap);
+    }
+
+    /** @param {string} words of one line */
+    complain(words) {
+        const message = byId('message', HTMLElement);
+        message.hidden = false;
+        say(byId('words-of-message', HTMLElement), words.replace(/\s+/g, ' '));
+        byId('reading', HTMLElement).classList.toggle('idle', true);
+    }
+
+    /** @param {string} words what is heard, where the page is read aloud */
+    tell(words) {
+        say(byId('live', HTMLElement), words);
+    }
+}

@@ -1,0 +1,85 @@
+/** The page's side of the worker: questions, each with its answer, and rows as they come. */
+
+/**
+ * What comes while a file is read.
+ *
+ * @typedef {object} News
+ * @property {number} tap
+ * @property {number} done how many bytes are read
+ * @property {number} size
+ * @property {import('../model/packets.js').Rows} rows
+ * @property {Counts} counts
+ *
+ * @typedef {{frames: number, packets: number, refused: number, leftOut: number, names: number, conflicts: number}} Counts
+ */
+
+export class Desk {
+    /**
+     * @param {string} code the worker's
+     * @param {Uint8Array} module the library's
+     * @param {(news: News) => void} tell
+     */
+    constructor(code, module, tell) {
+        this.place = URL.createObjectURL(new Blob([code], { type: 'text/javascript' }));
+        this.module = module;
+        this.tell = tell;
+        /** @type {Map<number, {done: (answer: any) => void, failed: (fault: Error) => void}>} */
+        this.waiting = new Map();
+        this.asked = 0;
+        this.start();
+    }
+
+    start() {
+        this.worker = new Worker(this.place, { type: 'module' });
+        this.worker.onmessage = ({ data }) => this.hear(data);
+        this.worker.onerror = (event) => {
+            event.preventDefault();
+            this.fail(event.message || 'the worker ended');
+        };
+        this.loaded = this.ask('load', { module: this.module });
+        this.loaded.catch(() => {});
+    }
+
+    /** @param {any} data */
+    hear(data) {
+        if (data.id === undefined) {
+            this.tell(data);
+            return;
+        }
+        const waiting = this.waiting.get(data.id);
+        this.waiting.delete(data.id);
+        if (data.fault === undefined) waiting?.done(data.answer);
+        else waiting?.failed(new Error(data.fault));
+    }
+
+    /**
+     * @param {string} what
+     * @param {object} asked
+     * @returns {Promise<any>}
+     */
+    ask(what, asked = {}) {
+        this.asked += 1;
+        const id = this.asked;
+        return new Promise((done, failed) => {
+            this.waiting.set(id, { done, failed });
+            this.worker?.postMessage({ id, what, ...asked });
+        });
+    }
+
+    /**
+     * Ends what the worker does, and begins with a new one: nothing is open then.
+     *
+     * @param {string} why
+     */
+    restart(why) {
+        this.worker?.terminate();
+        this.fail(why);
+        this.start();
+    }
+
+    /** @param {string} why */
+    fail(why) {
+        for (const { failed } of this.waiting.values()) failed(new Error(why));
+        this.waiting.clear();
+    }
+}

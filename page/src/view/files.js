@@ -1,0 +1,61 @@
+/** How files come into the page: dropped, chosen, or pasted. */
+import { byId, counted } from './dom.js';
+
+/**
+ * @param {import('./app.js').App} app
+ */
+export function takeFiles(app) {
+    const input = byId('file', HTMLInputElement);
+    for (const id of ['opener', 'choose']) byId(id, HTMLButtonElement).addEventListener('click', () => input.click());
+    input.addEventListener('change', () => {
+        openAll(app, Array.from(input.files ?? []));
+        input.value = '';
+    });
+    addEventListener('dragover', (event) => {
+        event.preventDefault();
+        document.body.classList.add('over');
+    });
+    addEventListener('dragleave', (event) => {
+        if (!event.relatedTarget) document.body.classList.remove('over');
+    });
+    addEventListener('drop', (event) => {
+        event.preventDefault();
+        document.body.classList.remove('over');
+        openAll(app, Array.from(event.dataTransfer?.files ?? []));
+    });
+    document.addEventListener('paste', (event) => {
+        if (event.target instanceof HTMLTextAreaElement || event.target instanceof HTMLInputElement) return;
+        const files = Array.from(event.clipboardData?.files ?? []);
+        const text = event.clipboardData?.getData('text/plain') ?? '';
+        if (files.length) openAll(app, files);
+        else if (text) openText(app, text);
+    });
+    const pasted = byId('pasted', HTMLTextAreaElement);
+    byId('read', HTMLButtonElement).addEventListener('click', () => {
+        openText(app, pasted.value);
+        pasted.value = '';
+    });
+}
+
+/**
+ * Opens one file, or two as two taps. Where one is open already, the next one is the second tap.
+ *
+ * @param {import('./app.js').App} app
+ * @param {File[]} files
+ */
+export async function openAll(app, files) {
+    const [one, two, ...others] = files;
+    if (!one) return;
+    const isOne = app.taps[0] !== null && !two;
+    await app.open(one, one.name, isOne ? 1 : 0);
+    if (two) await app.open(two, two.name, app.taps[0] === null ? 0 : 1);
+    if (others.length) app.complain(`${counted(others.length, 'file')} more than two: ${others[0].name} and what follows isn't opened`);
+}
+
+/**
+ * @param {import('./app.js').App} app
+ * @param {string} text
+ */
+function openText(app, text) {
+    openAll(app, [new File([text.replaceAll('\r\n', '\n')], 'pasted text')]);
+}

@@ -1,0 +1,77 @@
+/** Which packets are shown: words of a box, and what was chosen of the counts. */
+
+/** The kinds of packets, in the words of nbt-look. */
+export const KINDS = [
+    'query', 'status', 'registration', 'refresh', 'release', 'wack', 'response', 'conflict', 'datagram', 'unique', 'group', 'broadcast',
+    'error', 'find', 'found', 'missing', 'session', 'request', 'positive', 'negative', 'retarget', 'message', 'keepalive', 'refused', 'left-out',
+];
+const PORTS = ['137', '138', '139'];
+
+/**
+ * What is chosen; an empty text is all.
+ *
+ * @typedef {{words: string, kind: string, sender: string, reason: string}} Chosen
+ */
+
+export class Filter {
+    /** @param {Chosen} chosen */
+    constructor({ words, kind, sender, reason }) {
+        const parts = words.trim().split(/\s+/).filter((each) => each !== '');
+        this.kinds = parts.filter((each) => KINDS.includes(each)).concat(kind || []);
+        this.ports = parts.filter((each) => PORTS.includes(each)).map(Number);
+        this.sender = sender;
+        this.reason = reason;
+        const others = parts.filter((each) => !KINDS.includes(each) && !PORTS.includes(each));
+        this.patterns = others.map((each) => new RegExp(each.replace(/[.*+?^${}()|[\]\\]/g, '\\$&'), 'i'));
+        /** What was found of a text, by its number. @type {Map<number, boolean>[]} */
+        this.found = this.patterns.map(() => new Map());
+        /** @type {Map<number, boolean>} */
+        this.fitting = new Map();
+    }
+
+    get isAll() {
+        return !this.kinds.length && !this.ports.length && !this.patterns.length && !this.sender && !this.reason;
+    }
+
+    /**
+     * @param {import('./rows.js').Rows} rows
+     * @param {number} row
+     */
+    wants(rows, row) {
+        if (this.ports.length && !this.ports.includes(rows.port.at(row))) return false;
+        if (this.kinds.length && !this.fits(rows, rows.worded.kinds.at(row))) return false;
+        if (this.sender && rows.text('sender', row) !== this.sender) return false;
+        if (this.reason && rows.text('reason', row) !== this.reason) return false;
+        return this.patterns.every((pattern, at) => pattern.test(rows.said[row])
+            || this.has(rows, at, rows.worded.source.at(row)) || this.has(rows, at, rows.worded.destination.at(row)));
+    }
+
+    /**
+     * @param {import('./rows.js').Rows} rows
+     * @param {number} text
+     */
+    fits(rows, text) {
+        let fits = this.fitting.get(text);
+        if (fits === undefined) {
+            const kinds = rows.texts[text].split(' ');
+            fits = this.kinds.every((each) => kinds.includes(each));
+            this.fitting.set(text, fits);
+        }
+        return fits;
+    }
+
+    /**
+     * @param {import('./rows.js').Rows} rows
+     * @param {number} pattern
+     * @param {number} text
+     */
+    has(rows, pattern, text) {
+        const found = this.found[pattern];
+        let has = found.get(text);
+        if (has === undefined) {
+            has = this.patterns[pattern].test(rows.texts[text]);
+            found.set(text, has);
+        }
+        return has;
+    }
+}

@@ -1,0 +1,52 @@
+/** The view of what is given out, as files: each is byte for byte what the program prints. */
+import { byId, element, number } from './dom.js';
+
+/** Of each form the end of a file's name, its title, the words of its button, what it is, and the command that prints the same. */
+const FORMS = /** @type {const} */ ([
+    ['json', 'jsonl', 'JSON lines', 'Save JSON lines', 'an object for each packet', (/** @type {string} */ file) => `nbt-pcap2cap ${file} | nbt show --json`, 'nbt show --json <'],
+    ['capture', 'capture.txt', 'Capture', 'Save the capture', 'the packets as text, with their frames', (/** @type {string} */ file) => `nbt-pcap2cap ${file}`, 'cat '],
+    ['table', 'table.txt', 'Saved table', 'Save the table', 'what a station knows of all datagrams',
+        (/** @type {string} */ file) => `nbt-pcap2cap --no-ticks ${file} | nbt save --keys 65535`, 'nbt save --keys 65535 <'],
+]);
+
+export class OutView {
+    /** @param {import('./app.js').App} app */
+    constructor(app) {
+        this.app = app;
+        this.root = byId('view-out', HTMLElement);
+    }
+
+    show() {
+        const { tap } = this.app;
+        if (!tap) return;
+        const forms = FORMS.filter(([form]) => tap.kind !== 'table' || form === 'table');
+        this.root.replaceChildren(
+            element('p', { class: 'lead' }, 'What is saved here is byte for byte what the program prints. Nothing leaves this page but what you save.'),
+            ...forms.map(([form, end, title, save, what, command, ofText]) => {
+                const button = element('button', { type: 'button', id: `save-${form}` }, save);
+                const size = element('span', { class: 'quiet', role: 'status' });
+                button.addEventListener('click', () => this.save(form, end, size, button));
+                const words = tap.kind === 'frames' ? command(tap.name) : `${ofText}${tap.name}`;
+                return element('section', { class: 'card', 'aria-label': title }, element('h2', {}, title), element('p', {}, what),
+                    ...(tap.kind === 'table' ? [] : [element('p', {}, 'The same as ', element('code', {}, words))]), button, ' ', size);
+            }));
+    }
+
+    /**
+     * @param {string} form
+     * @param {string} end
+     * @param {HTMLElement} size
+     * @param {HTMLButtonElement} button
+     */
+    async save(form, end, size, button) {
+        const { tap } = this.app;
+        button.disabled = true;
+        const answer = await this.app.ask('out', { form });
+        button.disabled = false;
+        if (!answer || !tap) return;
+        const place = URL.createObjectURL(answer.blob);
+        element('a', { href: place, download: `${tap.name.replace(/\.\w+$/, '')}.${end}` }).click();
+        setTimeout(() => URL.revokeObjectURL(place), 60_000);
+        size.textContent = `${number(answer.blob.size)} bytes`;
+    }
+}

@@ -1,0 +1,109 @@
+/** All of one packet: where it comes from, what it says, its fault, its fields and bytes. */
+import { hostOf } from '../containers/ends.js';
+import { since } from '../model/times.js';
+import { byId, element } from './dom.js';
+import { dumpOf } from './dump.js';
+
+/** Of these the place is in the spelling of a name, and not in the packet. */
+const ELSEWHERE = /not netbios \d+$/;
+const MOST_DIGITS = 128;
+
+/**
+ * A packet as the worker answers it.
+ *
+ * @typedef {import('../model/packets.js').Kept & {utc: string, said: string, told: Record<string, unknown> | null}} Shown
+ */
+
+export class PacketPanel {
+    /** @param {import('./advice.js').Advice} advice */
+    constructor(advice) {
+        this.advice = advice;
+        this.root = byId('packet', HTMLElement);
+        this.clear();
+    }
+
+    clear() {
+        this.root.replaceChildren(element('p', { class: 'quiet' }, 'Choose a packet to see its fields and bytes.'));
+    }
+
+    /**
+     * @param {Shown} packet
+     * @param {bigint | null} first
+     * @param {string} phrase what its row says
+     */
+    show(packet, first, phrase) {
+        const refused = typeof packet.told?.refused === 'string' ? packet.told.refused : '';
+        const at = typeof packet.told?.at === 'number' && !ELSEWHERE.test(refused) ? packet.told.at : null;
+        this.root.replaceChildren(
+            element('h2', {}, `Frame ${packet.frame}`), element('p', { class: 'said' }, packet.said || phrase),
+            ...(refused ? [this.fault(refused)] : []), facts(packet, first),
+            ...(packet.told ? [fields(packet.told), ...dumpOf(packet.bytes, at)] : []), wireshark(packet));
+    }
+
+    /** @param {string} refused */
+    fault(refused) {
+        const elsewhere = ELSEWHERE.test(refused) ? [element('p', {}, 'The place is in the spelling of the name, not in the packet.')] : [];
+        return element('div', { class: 'fault', role: 'note', 'aria-label': 'Why it is refused' },
+            element('b', {}, refused), element('p', {}, this.advice.of(refused)), ...elsewhere);
+    }
+}
+
+/**
+ * @param {[string, string | Node][]} pairs
+ */
+function list(pairs) {
+    return element('dl', {}, ...pairs.flatMap(([term, value]) => [element('dt', {}, term), element('dd', {}, value)]));
+}
+
+/**
+ * @param {Shown} packet
+ * @param {bigint | null} first
+ */
+function facts(packet, first) {
+    /** @type {[string, string][]} */
+    const pairs = [['time', `${since(packet.time, first)} s${packet.utc === '-' ? '' : `, ${packet.utc}`}`]];
+    if (packet.source) pairs.push(['from', packet.source], ['to', packet.destination]);
+    if (packet.mac) pairs.push(['MAC', packet.mac]);
+    if (packet.vlan !== null) pairs.push(['VLAN', String(packet.vlan)]);
+    pairs.push(['captured', `${packet.captured} of ${packet.size} bytes`]);
+    if (packet.told) pairs.push(['payload', `${packet.bytes.length} bytes, port ${packet.port}`]);
+    return list(pairs);
+}
+
+/** @param {Record<string, unknown>} told */
+function fields(told) {
+    const pairs = Object.entries(told).filter(([key]) => key !== 'refused' && key !== 'at').flatMap(([key, value]) => pairsOf(key, value));
+    return list(pairs);
+}
+
+/**
+ * A field, or the fields of each of its parts.
+ *
+ * @param {string} key
+ * @param {unknown} value
+ * @returns {[string, string | Node][]}
+ */
+function pairsOf(key, value) {
+    if (!Array.isArray(value)) return [[key, textOf(value)]];
+    if (!value.length) return [[key, 'none']];
+    if (typeof value[0] !== 'object') return [[key, value.map(textOf).join('+')]];
+    return value.map((part, at) => [`${key} ${at + 1}`, list(Object.entries(part).flatMap(([inner, each]) => pairsOf(inner, each)))]);
+}
+
+/** @param {unknown} value */
+function textOf(value) {
+    const text = String(value);
+    return text.length > MOST_DIGITS ? `${text.slice(0, MOST_DIGITS)}.. (${text.length / 2} bytes)` : text || 'empty';
+}
+
+/** @param {Shown} packet */
+function wireshark(packet) {
+    const filters = [`frame.number == ${packet.frame}`];
+    const { told, bytes } = packet;
+    if (packet.port === 137 && bytes.length >= 2) {
+        filters.push(`nbns.id == 0x${Array.from(bytes.subarray(0, 2), (each) => each.toString(16).padStart(2, '0')).join('')}`);
+    } else if (packet.port === 138 && typeof told?.key === 'string') {
+        filters.push(`nbdgm.src.ip == ${hostOf(told.key.split('/')[0])} && nbdgm.dgram_id == 0x${told.key.split('/')[1]}`);
+    }
+    return element('p', { class: 'quiet' }, 'Wireshark: ', ...filters.flatMap((each, at) => [at ? ', of the same ' : '', element('code', {}, each)]));
+}

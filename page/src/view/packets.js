@@ -1,0 +1,173 @@
+/** The packets' view: a table, a filter with counts, and all of the selected packet. */
+import { NO_TIME } from '../model/packets.js';
+import { since } from '../model/times.js';
+import { byId, counted, element, number, say } from './dom.js';
+import { Filter } from './filter.js';
+import { Grid } from './grid.js';
+
+const HEADINGS = [
+    { name: 'frame', title: 'The number of the frame' }, { name: 'time', title: 'Seconds since the first frame' },
+    { name: 'from', title: 'Who sent it; a port where it is not the service\'s own' }, { name: 'to', title: 'To whom' },
+    { name: 'port', title: '137 names, 138 datagrams, 139 sessions' }, { name: 'says', title: 'What it says, in words' },
+];
+const MOST_PRINTED = 2_000;
+/** How often the counts of what can be chosen are drawn while rows come, in milliseconds. */
+const OFFERING = 2_000;
+
+export class PacketsView {
+    /** @param {import('./app.js').App} app */
+    constructor(app) {
+        this.app = app;
+        this.words = byId('words', HTMLInputElement);
+        this.selects = { kind: byId('kind', HTMLSelectElement), sender: byId('sender', HTMLSelectElement), reason: byId('reason', HTMLSelectElement) };
+        this.grid = new Grid(byId('grid', HTMLElement), HEADINGS, {
+            count: () => this.rows?.shown.length ?? 0, row: (at) => this.row(at), select: (at) => this.chosen(at),
+        });
+        /** @type {import('./rows.js').Rows | null} */
+        this.rows = null;
+        this.selected = -1;
+        this.offered = 0;
+        this.words.addEventListener('input', () => this.refilter());
+        this.words.form?.addEventListener('submit', (event) => event.preventDefault());
+        this.words.addEventListener('keydown', (event) => this.key(event));
+        for (const each of Object.values(this.selects)) each.addEventListener('change', () => this.refilter());
+        addEventListener('beforeprint', () => this.print());
+        addEventListener('afterprint', () => byId('printed', HTMLElement).replaceChildren());
+    }
+
+    /** @param {KeyboardEvent} event */
+    key(event) {
+        if (event.key !== 'Escape' && event.key !== 'ArrowDown') return;
+        event.preventDefault();
+        if (event.key === 'Escape' && this.words.value) {
+            this.words.value = '';
+            this.refilter();
+        }
+        byId('grid', HTMLElement).focus();
+    }
+
+    /**
+     * A row of those that are shown.
+     *
+     * @param {number} at
+     */
+    row(at) {
+        const rows = /** @type {import('./rows.js').Rows} */ (this.rows);
+        const row = rows.shown.at(at);
+        const time = rows.time.at(row);
+        const port = rows.port.at(row);
+        const cells = [
+            String(rows.frame.at(row)), since(time === NO_TIME ? null : time, this.app.tap?.first ?? null), rows.text('source', row),
+            rows.text('destination', row), port ? String(port) : '', rows.said[row],
+        ];
+        const kinds = rows.text('kinds', row).split(' ');
+        return { cells, kind: ['refused', 'left-out', 'conflict'].find((each) => kinds.includes(each)) ?? '' };
+    }
+
+    /** Shows the rows of another file. */
+    show() {
+        this.rows = this.app.tap?.rows ?? null;
+        this.selected = -1;
+        this.grid.scroller.scrollTop = 0;
+        this.grid.mark(-1);
+        this.app.panel.clear();
+        this.words.value = this.app.place.filter;
+        for (const each of Object.values(this.selects)) each.value = '';
+        this.refilter();
+    }
+
+    /** Shows rows that have come. */
+    more() {
+        this.grid.draw();
+        this.count();
+        if (performance.now() - this.offered > OFFERING) this.offer();
+    }
+
+    filter() {
+        const { kind, sender, reason } = this.selects;
+        const filter = new Filter({ words: this.words.value, kind: kind.value, sender: sender.value, reason: reason.value });
+        return filter.isAll ? null : filter;
+    }
+
+    async refilter() {
+        const { rows } = this;
+        this.app.keep({ filter: this.words.value });
+        if (!rows) return;
+        await rows.choose(this.filter(), () => {
+            this.grid.mark(this.selected < 0 ? -1 : rows.shown.room.subarray(0, rows.shown.length).indexOf(this.selected));
+            this.count();
+            this.offer();
+        });
+    }
+
+    count() {
+        const { rows } = this;
+        const all = rows?.count ?? 0;
+        const shown = rows?.shown.length ?? 0;
+        say(byId('shown', HTMLElement), shown === all ? counted(all, 'row') : `${number(shown)} of ${counted(all, 'row')}`);
+    }
+
+    /** Offers what can be chosen, with counts. */
+    offer() {
+        const { rows, selects } = this;
+        if (!rows) return;
+        this.offered = performance.now();
+        const offers = /** @type {const} */ ([['kind', 'kinds', 'Every kind'], ['sender', 'sender', 'Every sender'],
+            ['reason', 'reason', 'Every reason']]);
+        for (const [name, column, all] of offers) {
+            const select = selects[name];
+            if (document.activeElement === select) continue;
+            const counts = rows.countsOf(column).slice(0, 500);
+            const signature = JSON.stringify(counts);
+            if (select.dataset.counts === signature) continue;
+            const chosen = select.value;
+            select.dataset.counts = signature;
+            select.replaceChildren(element('option', { value: '' }, all),
+                ...counts.map(([text, count]) => element('option', { value: text }, `${text} (${number(count)})`)));
+            select.value = chosen;
+            if (select.value !== chosen) select.value = '';
+        }
+    }
+
+    /** @param {number} at a place among the rows that are shown */
+    chosen(at) {
+        const rows = /** @type {import('./rows.js').Rows} */ (this.rows);
+        this.open(rows.shown.at(at));
+    }
+
+    /**
+     * Selects a frame's packet, which the filter may leave out.
+     *
+     * @param {number} frame
+     * @param {number} packet
+     */
+    async select(frame, packet) {
+        const row = this.rows?.find(frame, packet) ?? -1;
+        if (!this.rows || row < 0 || row === this.selected) return;
+        const at = this.rows.shown.room.subarray(0, this.rows.shown.length).indexOf(row);
+        this.grid.mark(at);
+        await this.open(row);
+    }
+
+    /** @param {number} row */
+    async open(row) {
+        const { app, rows } = this;
+        if (!rows) return;
+        this.selected = row;
+        app.keep({ frame: rows.frame.at(row), packet: rows.packetNumber(row) });
+        const packet = await app.ask('packet', { row });
+        if (packet && this.selected === row && this.rows === rows) app.panel.show(packet, app.tap?.first ?? null, rows.said[row]);
+    }
+
+    /** Puts rows into the page that paper can have: those that are in sight are no table. */
+    print() {
+        const { rows } = this;
+        if (!rows || this.app.place.view !== 'packets') return;
+        const count = Math.min(rows.shown.length, MOST_PRINTED);
+        const lines = Array.from({ length: count }, (_, at) => element('tr', {}, ...this.row(at).cells.map((cell) => element('td', {}, cell))));
+        const rest = rows.shown.length - count;
+        byId('printed', HTMLElement).replaceChildren(
+            element('table', {}, element('thead', {}, element('tr', {}, ...HEADINGS.map(({ name }) => element('th', {}, name)))), element('tbody', {}, ...lines)),
+            ...(rest > 0 ? [element('p', {}, `and ${counted(rest, 'row')} more, which a filter makes fewer`)] : []));
+    }
+}

@@ -1,0 +1,96 @@
+/** The reassembly's view: each key as a bar, and what a station with chosen names is handed, and when. */
+import { byId, counted, element, number, table } from './dom.js';
+import { keyOf, missing } from './keys.js';
+
+const MOST_NAMES = 254;
+
+export class ReassemblyView {
+    /** @param {import('./app.js').App} app */
+    constructor(app) {
+        this.app = app;
+        this.keys = byId('keys', HTMLElement);
+        this.handed = byId('handed', HTMLElement);
+        this.names = byId('station', HTMLInputElement);
+        byId('station-form', HTMLFormElement).addEventListener('submit', (event) => {
+            event.preventDefault();
+            this.hand();
+        });
+    }
+
+    async show() {
+        const { app } = this;
+        const { tap } = app;
+        const answer = await app.ask('listed');
+        if (!answer || tap !== app.tap) return;
+        const keys = answer.lines.map(keyOf);
+        this.keys.replaceChildren(...tableOf(keys));
+        this.handed.replaceChildren();
+        const names = Array.from(new Set(keys.flatMap((/** @type {import('./keys.js').Key} */ key) => key.destination || [])));
+        byId('station-names', HTMLDataListElement).replaceChildren(...names.slice(0, MOST_NAMES).map((value) => element('option', { value })));
+        this.names.value = names.slice(0, MOST_NAMES).join(', ');
+        byId('station-form', HTMLFormElement).hidden = tap?.kind === 'table';
+        if (tap?.kind !== 'table' && names.length) await this.hand();
+    }
+
+    /** Shows what the station is handed. */
+    async hand() {
+        const names = this.names.value.split(',').map((each) => each.trim()).filter((each) => each !== '');
+        const { rows } = this.app.tap ?? {};
+        const answer = await this.app.ask('handed', { names });
+        if (!answer || !rows) return;
+        const { handed, more } = answer;
+        const cells = handed.map((/** @type {import('../worker/tables.js').Handed} */ each) => [
+            each.row === null ? '-' : String(rows.frame.at(each.row)), each.moment, each.key, each.source, each.destination,
+            `${each.data.length / 2}`, preview(each.data),
+        ]);
+        this.handed.replaceChildren(
+            element('p', {}, `A station with ${names.join(', ') || 'no name'} is handed ${counted(handed.length + more, 'datagram')}.`),
+            ...(cells.length ? [table('handed over', ['frame', 'moment, ms', 'key', 'from', 'to', 'bytes', 'text'], cells)] : []));
+    }
+}
+
+/** @param {import('./keys.js').Key[]} keys */
+export function tableOf(keys) {
+    if (!keys.length) return [element('p', { class: 'quiet' }, 'There are no datagrams of which a station holds anything.')];
+    const counts = ['whole', 'partial', 'spoilt'].map((state) => `${number(keys.filter((key) => key.state === state).length)} ${state}`);
+    const cells = keys.map((key) => [key.key, key.state, bar(key), key.source || '-', key.destination || '-', said(key)]);
+    return [element('p', { class: 'lead' }, `${counted(keys.length, 'key')}: ${counts.join(', ')}.`),
+        table('keys', ['key', 'state', 'places', 'from', 'to', 'missing, or the data'], cells, (at) => keys[at].state)];
+}
+
+/** @param {import('./keys.js').Key} key */
+function said(key) {
+    if (key.state === 'spoilt') return 'its fragments contradict each other';
+    return key.state === 'whole' ? preview(key.data) : missing(key).join(', ');
+}
+
+/**
+ * The places of a datagram as a bar: what is known, gaps, and an open end.
+ *
+ * @param {import('./keys.js').Key} key
+ */
+function bar(key) {
+    const wide = Math.max(key.wide, 1);
+    const known = key.places.map(([from, to]) => `${from} to ${to - 1}`).join(', ') || 'nothing';
+    const end = key.end === null ? 'its end is unknown' : `of ${key.end} bytes`;
+    const words = key.state === 'spoilt' ? 'spoilt' : `known: ${known}, ${end}`;
+    const made = element('span', { class: `bar ${key.state}${key.end === null ? ' open' : ''}`, role: 'img', 'aria-label': words, title: words });
+    for (const [from, to] of key.places) {
+        const part = element('span');
+        part.style.left = `${(100 * from) / wide}%`;
+        part.style.width = `${(100 * (to - from)) / wide}%`;
+        made.append(part);
+    }
+    return made;
+}
+
+/**
+ * The first bytes of data as text.
+ *
+ * @param {string} digits
+ */
+function preview(digits) {
+    const bytes = (digits.match(/../g) ?? []).slice(0, 48).map((each) => parseInt(each, 16));
+    const text = bytes.map((each) => (each >= 0x20 && each < 0x7f ? String.fromCharCode(each) : '.')).join('');
+    return digits.length > 96 ? `${text}..` : text;
+}

@@ -1,0 +1,108 @@
+/** The worker: holds the library and the files, and answers what the page asks. */
+import { load } from '../../../bindings/javascript/nbt.mjs';
+import { LEFT_OUT } from '../model/packets.js';
+import { outOf } from './out.js';
+import { Reading } from './reading.js';
+import { compared, handedTo, listed, tableOf } from './tables.js';
+import { Tap } from './tap.js';
+import { utc } from '../model/times.js';
+
+/** How many bytes the module's memory may have. */
+const LIMIT = 192 << 20;
+
+/** @type {import('../../../bindings/javascript/nbt.mjs').Nbt} */
+let library;
+/** @type {Map<number, Tap>} */
+const taps = new Map();
+/** @type {Map<number, Reading>} */
+const readings = new Map();
+
+/** @param {number} number */
+function tapOf(number) {
+    const tap = taps.get(number);
+    if (!tap) throw new Error('no file is open');
+    return tap;
+}
+
+/**
+ * @param {Tap} tap
+ * @param {number} row
+ */
+function packetOf(tap, row) {
+    const packet = tap.packets.at(row);
+    const isLeftOut = packet.port === LEFT_OUT;
+    return {
+        ...packet, bytes: packet.bytes.slice(), utc: utc(packet.time),
+        told: isLeftOut ? null : JSON.parse(library.json(packet.port, packet.bytes)),
+        said: isLeftOut ? '' : library.brief(packet.port, packet.bytes),
+    };
+}
+
+/** What the page may ask, and how that is answered. */
+const answers = {
+    /** @param {{module: ArrayBuffer}} asked */
+    async load({ module }) {
+        library = await load({ module, limit: LIMIT });
+        return { version: library.version() };
+    },
+
+    /** @param {{tap: number, file: Blob, name: string}} asked */
+    async open({ tap: number, file, name }) {
+        const tap = new Tap(file, name, library);
+        const reading = new Reading(tap, (done) => {
+            if (taps.get(number) === tap) postMessage({ tap: number, done, size: file.size, rows: tap.batch.take(), counts: tap.counts() });
+        });
+        const earlier = readings.get(number);
+        if (earlier) earlier.isStopped = true;
+        taps.set(number, tap);
+        readings.set(number, reading);
+        const fault = await reading.run();
+        return { fault, kind: tap.kind, counts: tap.counts(), first: tap.first };
+    },
+
+    /** @param {{tap: number}} asked */
+    close({ tap }) {
+        const reading = readings.get(tap);
+        if (reading) reading.isStopped = true;
+        taps.delete(tap);
+        return {};
+    },
+
+    /** @param {{tap: number}} asked */
+    stop({ tap }) {
+        const reading = readings.get(tap);
+        if (reading) reading.isStopped = true;
+        return {};
+    },
+
+    /** @param {{tap: number, row: number}} asked */
+    packet: ({ tap, row }) => packetOf(tapOf(tap), row),
+
+    /** @param {{tap: number}} asked */
+    tables: ({ tap }) => ({ tables: tapOf(tap).seen.tables(), notKept: tapOf(tap).seen.notKept() }),
+
+    /** @param {{tap: number}} asked */
+    async listed({ tap }) {
+        return { lines: listed(library, await tableOf(tapOf(tap))) };
+    },
+
+    /** @param {{tap: number, names: string[]}} asked */
+    handed: ({ tap, names }) => handedTo(tapOf(tap), names),
+
+    compared: () => compared(tapOf(0), tapOf(1)),
+
+    /** @param {{tap: number, form: 'json' | 'capture' | 'table'}} asked */
+    async out({ tap, form }) {
+        return { blob: await outOf(tapOf(tap), form) };
+    },
+};
+
+self.onmessage = async ({ data }) => {
+    const { id, what, ...asked } = data;
+    try {
+        const answer = /** @type {(asked: any) => any} */ (Reflect.get(answers, what));
+        postMessage({ id, answer: await answer(asked) });
+    } catch (error) {
+        postMessage({ id, fault: error instanceof Error ? error.message : String(error) });
+    }
+};

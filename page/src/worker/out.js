@@ -1,0 +1,62 @@
+/** What is given out of a file: each is byte for byte what the program prints. */
+import { digitsOf } from '../containers/digits.js';
+import { commentOf, textOf } from '../model/capture.js';
+import { pause } from './pause.js';
+import { tableOf } from './tables.js';
+
+/** How many characters are put together before the worker looks whether something is wanted of it. */
+const PART = 1 << 20;
+
+/**
+ * @param {import('./tap.js').Tap} tap
+ * @param {'json' | 'capture' | 'table'} form
+ * @returns {Promise<Blob>}
+ */
+export async function outOf(tap, form) {
+    if (form === 'table') return new Blob([`${digitsOf(await tableOf(tap))}\n`], { type: 'text/plain' });
+    if (tap.kind === 'table') throw new Error('a saved table has no packets: only itself can be saved');
+    if (form === 'capture' && tap.kind === 'lines') return tap.file;
+    return joined(form === 'json' ? objects(tap) : lines(tap));
+}
+
+/** @param {import('./tap.js').Tap} tap */
+function* lines(tap) {
+    for (const line of tap.capture()) yield textOf(line);
+}
+
+/**
+ * What `nbt show --json` prints of the capture.
+ *
+ * @param {import('./tap.js').Tap} tap
+ */
+function* objects(tap) {
+    let number = 0;
+    let comment = '';
+    for (const line of tap.capture()) {
+        number += 1;
+        if (line.kind === 'payload') {
+            yield `{"line":${number},"port":${line.port},"moment":${line.moment},${comment}${tap.library.json(line.port, line.bytes).slice(1)}`;
+        } else if (line.kind === 'tick') {
+            yield `{"line":${number},"moment":${line.moment},${comment}"kind":"tick"}`;
+        }
+        comment = line.kind === 'comment' ? `"comment":${JSON.stringify(commentOf(line.text))},` : '';
+    }
+}
+
+/**
+ * Lines, each with its line feed.
+ *
+ * @param {Iterable<string>} texts
+ */
+async function joined(texts) {
+    const parts = [];
+    let part = '';
+    for (const text of texts) {
+        part += `${text}\n`;
+        if (part.length < PART) continue;
+        parts.push(part);
+        part = '';
+        await pause();
+    }
+    return new Blob([...parts, part], { type: 'text/plain' });
+}

@@ -1,0 +1,128 @@
+/** Datagrams put together, by the library: the table of a file, what it lists, and what a station with chosen names is handed. */
+import { digitsOf } from '../containers/digits.js';
+import { pause } from './pause.js';
+
+const KEYS = 65_535;
+const DATAGRAMS = 138;
+/** How many payloads go into a station before the worker looks whether something is wanted of it. */
+const PART = 256;
+const MOST_DELIVERIES = 10_000;
+/** Why a fragment isn't taken: for what stands in it, or for keys that there are. */
+const MALFORMED = ['MISPLACED_FIRST', 'LONG'];
+const NO_ROOM = ['FULL', 'FULL_SOURCE'];
+
+/**
+ * A datagram that a station is handed: by which frame or line, and when.
+ *
+ * @typedef {object} Handed
+ * @property {number | null} row
+ * @property {string} moment milliseconds
+ * @property {string} key
+ * @property {string} source
+ * @property {string} destination
+ * @property {string} data digits
+ */
+
+/**
+ * The table of all of a file, whatever time its fragments took.
+ *
+ * @param {import('./tap.js').Tap} tap
+ * @returns {Promise<Uint8Array>}
+ */
+export async function tableOf(tap) {
+    if (tap.table) return tap.table;
+    const station = new tap.library.Station([], '0.0.0.0', { keys: KEYS });
+    let count = 0;
+    try {
+        for (const line of tap.capture()) {
+            if (line.kind !== 'payload' || line.port !== DATAGRAMS) continue;
+            pass(() => station.take(0, line.bytes), MALFORMED);
+            count += 1;
+            if (count % PART === 0) await pause();
+        }
+        const table = station.save();
+        if (tap.isRead) tap.table = table;
+        return table;
+    } finally {
+        station.close();
+    }
+}
+
+/**
+ * Takes a payload; one that is refused with a status of these is passed over.
+ *
+ * @template T
+ * @param {() => T} take
+ * @param {string[]} statuses
+ * @returns {T | null}
+ */
+function pass(take, statuses) {
+    try {
+        return take();
+    } catch (error) {
+        if (statuses.includes(Reflect.get(Object(error), 'status'))) return null;
+        throw error;
+    }
+}
+
+/**
+ * What a station with these names is handed of a file.
+ *
+ * @param {import('./tap.js').Tap} tap
+ * @param {string[]} names
+ * @returns {Promise<{handed: Handed[], more: number}>}
+ */
+export async function handedTo(tap, names) {
+    const station = new tap.library.Station(names, '0.0.0.0', { keys: KEYS });
+    /** @type {Handed[]} */
+    const handed = [];
+    let [count, more] = [0, 0];
+    try {
+        for (const line of tap.capture()) {
+            if (line.kind === 'tick') station.tick(BigInt(line.moment));
+            if (line.kind !== 'payload' || line.port !== DATAGRAMS) continue;
+            const delivery = pass(() => station.take(BigInt(line.moment), line.bytes), [...MALFORMED, ...NO_ROOM])?.delivery;
+            if (delivery && handed.length === MOST_DELIVERIES) more += 1;
+            else if (delivery) handed.push(described(delivery, line.row, line.moment));
+            count += 1;
+            if (count % PART === 0) await pause();
+        }
+        return { handed, more };
+    } finally {
+        station.close();
+    }
+}
+
+/**
+ * @param {import('../../../bindings/javascript/nbt.mjs').Delivery} delivery
+ * @param {number | null} row
+ * @param {number | bigint} moment
+ * @returns {Handed}
+ */
+function described({ address, port, identifier, source, destination, data }, row, moment) {
+    const key = `${address}:${port}/${identifier.toString(16).padStart(4, '0')}`;
+    return { row, moment: String(moment), key, source, destination, data: digitsOf(data) };
+}
+
+/**
+ * What the library lists of a table: a line a key.
+ *
+ * @param {import('../../../bindings/javascript/nbt.mjs').Nbt} library
+ * @param {Uint8Array} table
+ */
+export function listed(library, table) {
+    return library.list(table).split('\n').slice(0, -1);
+}
+
+/**
+ * What two tables list, and their join.
+ *
+ * @param {import('./tap.js').Tap} one
+ * @param {import('./tap.js').Tap} other
+ */
+export async function compared(one, other) {
+    const tables = [await tableOf(one), await tableOf(other)];
+    const joined = one.library.merge(tables[0], tables[1], { keys: KEYS });
+    const [first, second, both] = [...tables, joined].map((table) => listed(one.library, table));
+    return { first, second, both, joined: digitsOf(joined) };
+}

@@ -1,0 +1,33 @@
+// Prints the capture of a pcap or pcapng file as the page makes it, and on standard error what is left out, by reason. Usage:
+// node page/tests/capture.mjs FILE
+import { readFileSync } from 'node:fs';
+
+import { PayloadReader, framesOf } from '../src/containers/payloads.js';
+import { FRAGMENTS_CUT, FRAGMENTS_MISSING, FRAGMENTS_UNKNOWN } from '../src/containers/report.js';
+import { slicesOf } from '../src/containers/slices.js';
+import { made, textOf } from '../src/model/capture.js';
+import { LEFT_OUT, Packets } from '../src/model/packets.js';
+
+/** What nbt-pcap2cap doesn't count. */
+const ALONE = [FRAGMENTS_CUT, FRAGMENTS_MISSING, FRAGMENTS_UNKNOWN];
+const packets = new Packets();
+const left = new Map();
+let first = null;
+const reader = new PayloadReader((item) => {
+    if (item.kind === 'comment') packets.comment(item.text);
+    else if (item.kind === 'payload') packets.add(item.mark, item);
+    else if (!ALONE.includes(item.why)) {
+        packets.add(item.mark, { port: LEFT_OUT, mac: null, vlan: null, bytes: new Uint8Array(0) });
+        left.set(item.why, (left.get(item.why) ?? 0) + 1);
+    }
+});
+for (const frame of framesOf(slicesOf(new Uint8Array(readFileSync(process.argv[2])))) ?? []) {
+    first ??= frame.time;
+    reader.read(frame);
+}
+reader.finish();
+const text = Array.from(made({ packets, first }), (line) => `${textOf(line)}\n`).join('');
+process.stdout.write(text);
+const total = [...left.values()].reduce((sum, each) => sum + each, 0);
+const reasons = [...left].sort((one, other) => other[1] - one[1]).map(([why, count]) => `${count} ${why}`).join(', ');
+console.error(`${reader.frames} frames, ${reader.ours} of these ports, ${total} left out${reasons ? `: ${reasons}` : ''}`);

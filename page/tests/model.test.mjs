@@ -1,0 +1,160 @@
+import assert from 'node:assert/strict';
+import test from 'node:test';
+
+import { LineFault, linesOf, payloadsIn } from '../src/containers/lines.js';
+import { hostOf, portOf, shown } from '../src/containers/ends.js';
+import { slicesOf } from '../src/containers/slices.js';
+import { Blocks, Column, Texts } from '../src/model/columns.js';
+import { commentOf, made, textOf, written } from '../src/model/capture.js';
+import { LEFT_OUT, Packets } from '../src/model/packets.js';
+import { Seen } from '../src/model/seen.js';
+import { momentOf, since, utc } from '../src/model/times.js';
+import { Filter } from '../src/view/filter.js';
+import { keyOf, missing } from '../src/view/keys.js';
+import { hashOf, placeOf } from '../src/view/address.js';
+
+const bytes = (text) => Uint8Array.from(text, (each) => each.charCodeAt(0));
+const fileOf = (text) => slicesOf(bytes(text));
+const ends = (frame, source, destination, rest = {}) =>
+    ({ frame, port: 137, time: BigInt(frame) * 1_000_000_000n, source, sourcePort: '137', destination, destinationPort: '137', mac: null, ...rest });
+const entry = (address, flags = '0000') => ({ flags, ont: '0', address });
+
+function service(op, name, { word = '2910', rcode = 'ok', address = '10.0.0.5', flags = '0000', id = '0001', ttl = 300, type = '0020', names } = {}) {
+    const record = { name, type, ttl, entries: [entry(address, flags)], ...(names ? { names } : {}) };
+    const isRequest = word < '8';
+    return {
+        id, word, op, rcode, questions: isRequest ? [{ name, type, class: '0001' }] : [], answers: isRequest ? [] : [record], authorities: [],
+        additional: isRequest && op !== 'query' ? [record] : [],
+    };
+}
+
+test('ends with and without ports, of both kinds of addresses', () => {
+    for (const [end, host, port] of [['10.0.0.5:137', '10.0.0.5', '137'], ['[fe80::5]:138', 'fe80::5', '138'], ['[fe80::5]', 'fe80::5', ''],
+        ['10.0.0.5', '10.0.0.5', ''], ['', '', '']]) {
+        assert.equal(hostOf(end), host);
+        assert.equal(portOf(end), port);
+    }
+    assert.equal(shown('10.0.0.5:137', ['137']), '10.0.0.5');
+    assert.equal(shown('[fe80::5]:1024', ['137']), '[fe80::5]:1024');
+    assert.equal(shown('', ['137']), '-');
+});
+
+test('the lines of a capture, and the frames that comments name', () => {
+    const text = '# frame 7 2026-01-01T00:00:01.000002Z [fe80::5]:137 > 10.0.0.9:137\n137 5 00fF\n\n138 6 empty\ntick 7\n# last';
+    const [first, second] = Array.from(payloadsIn(linesOf(fileOf(text))), ({ seen }) => seen);
+    assert.deepEqual([first.mark.frame, first.mark.source, first.mark.time, [...first.bytes]],
+        [7, '[fe80::5]:137', 1_767_225_601_000_002_000n, [0, 255]]);
+    assert.deepEqual([second.mark.frame, second.mark.source, second.mark.time, second.bytes.length], [4, '', 6_000_000n, 0]);
+    assert.deepEqual(Array.from(written(fileOf(text)), textOf), ['# frame 7 2026-01-01T00:00:01.000002Z [fe80::5]:137 > 10.0.0.9:137',
+        '137 5 00ff', '', '138 6 empty', 'tick 7', '# last']);
+    for (const [bad, line] of [['137 0 0\n', 1], ['137 0 00\n140 0 00\n', 2], ['tick 18446744073709551616', 1], [`# ${'x'.repeat(262_200)}`, 1]]) {
+        assert.throws(() => Array.from(linesOf(fileOf(bad))), (error) => error instanceof LineFault && error.message.startsWith(`line ${line} `));
+    }
+});
+
+test('times', () => {
+    assert.equal(utc(1_700_000_000_123_456_789n), '2023-11-14T22:13:20.123456Z');
+    assert.equal(utc(-1n), '1969-12-31T23:59:59.999999Z');
+    assert.equal(utc(null), '-');
+    assert.equal(since(5n, 1_500_000_005n), '-1.500000');
+    assert.equal(since(1_500_000_005n, 5n), '1.500000');
+    assert.equal(momentOf(5n, 6n), 0);
+    assert.equal(momentOf(2_999_999n, 0n), 2);
+});
+
+test('columns, texts and blocks grow', () => {
+    const column = new Column(Uint16Array);
+    for (let at = 0; at < 5_000; at++) column.push(at);
+    assert.deepEqual([column.length, column.at(4_999), column.from(4_998).length], [5_000, 4_999, 2]);
+    const texts = new Texts();
+    assert.deepEqual(['a', 'b', 'a'].map((each) => texts.number(each)), [0, 1, 0]);
+    const blocks = new Blocks();
+    const long = new Uint8Array(3 << 20).fill(7);
+    const places = [bytes('abc'), long, long, bytes('')].map((each) => [blocks.add(each), each]);
+    for (const [place, each] of places) assert.deepEqual(blocks.at(place, each.length), each);
+});
+
+test('the capture of packets: ticks for each second, and in a pause those that drop a key', () => {
+    const packets = new Packets();
+    const mark = (frame, seconds) => ({ frame, time: BigInt(seconds * 1000) * 1_000_000n, source: '10.0.0.5:138', destination: '10.0.0.9:138', captured: 9, size: 9 });
+    const payload = { port: 138, mac: null, vlan: null, bytes: bytes('\x17') };
+    packets.add(mark(1, 100), payload);
+    packets.add(mark(2, 101.5), { ...payload, port: LEFT_OUT, bytes: bytes('') });
+    packets.comment('frame 2 is left out: why');
+    packets.add(mark(3, 110.25), payload);
+    const lines = Array.from(made({ packets, first: 100_000_000_000n }), textOf);
+    assert.deepEqual(lines, ['# frame 1 1970-01-01T00:01:40.000000Z 10.0.0.5:138 > 10.0.0.9:138', '138 0 17', '# frame 2 is left out: why',
+        'tick 1000', 'tick 2000', 'tick 3000', 'tick 10000', '# frame 3 1970-01-01T00:01:50.250000Z 10.0.0.5:138 > 10.0.0.9:138', '138 10250 17']);
+    assert.equal(commentOf('# a \\ "b" \x01\xff'), '# a \\ "b" \\01\\ff');
+});
+
+test('claims of one name: conflicts, refusals, releases', () => {
+    const seen = new Seen();
+    seen.take(service('registration', 'FRED<20>'), '', ends(1, '10.0.0.5', '10.0.0.255'));
+    seen.take(service('registration', 'FRED<20>'), '', ends(2, '10.0.0.5', '10.0.0.255'));
+    seen.take(service('registration', 'FRED<20>', { address: '10.0.0.6' }), '', ends(3, '10.0.0.6', '10.0.0.255'));
+    seen.take(service('registration', 'FRED<20>', { word: 'ad86', rcode: 'ACT_ERR' }), '', ends(4, '10.0.0.5', '10.0.0.6'));
+    seen.take(service('release', 'FRED<20>'), '', ends(5, '10.0.0.5', '10.0.0.255'));
+    seen.take(service('registration', 'ANN<00>', { word: 'ad87', rcode: 'CFT_ERR' }), '', ends(6, '10.0.0.7', '10.0.0.8'));
+    const rows = seen.tables().names.map(({ name, address, how, until, conflicts, refusals, kind }) => [name, address, how, until, conflicts, refusals, kind]);
+    assert.deepEqual(rows, [['ANN<00>', '', 'nobody', null, 1, 0, 'workstation'], ['FRED<20>', '10.0.0.5', 'released', 5_000_000_000n, 1, 0, 'file server'],
+        ['FRED<20>', '10.0.0.6', 'refused', 303_000_000_000n, 1, 1, 'file server']]);
+});
+
+test('queries without an answer', () => {
+    const seen = new Seen();
+    seen.take(service('query', 'FRED<20>', { word: '0110' }), '', ends(1, '10.0.0.5', '10.0.0.255'));
+    seen.take(service('query', 'ANN<00>', { word: '0110', id: '0002' }), '', ends(2, '10.0.0.5', '10.0.0.255'));
+    seen.take(service('query', 'ANN<00>', { word: '0110', id: '0003' }), '', ends(3, '10.0.0.5', '10.0.0.255'));
+    seen.take(service('query', 'FRED<20>', { word: '8500' }), '', ends(4, '10.0.0.6', '10.0.0.5'));
+    assert.deepEqual(seen.tables().queries.map(({ name, by, times, frame }) => [name, by, times, frame]), [['ANN<00>', '10.0.0.5', 2, 2]]);
+});
+
+test('sessions: who called whom, and what came of it', () => {
+    const seen = new Seen();
+    const at = (told, brief, isBack = false) => seen.take(told, brief, ends(1, isBack ? '10.0.0.9' : '10.0.0.5', isBack ? '10.0.0.5' : '10.0.0.9',
+        { port: 139, sourcePort: isBack ? '139' : '1024', destinationPort: isBack ? '1024' : '139' }));
+    at({ kind: 'request', called: 'FRED<20>', calling: 'JOE<00>' }, 'calls FRED<20> as JOE<00>');
+    at({ kind: 'positive' }, 'accepts', true);
+    at({ kind: 'message', length: 5 }, 'sends 5 bytes');
+    at({ kind: 'message', length: 7 }, 'sends 7 bytes', true);
+    at({ kind: 'request', called: 'FRED<20>', calling: 'JOE<00>' }, 'calls FRED<20> as JOE<00>');
+    at({ kind: 'negative', code: '82' }, 'refuses: called name not present (82)', true);
+    assert.deepEqual(seen.tables().sessions, [{ calling: 'JOE<00>', called: 'FRED<20>', from: '10.0.0.5', to: '10.0.0.9', calls: 2, accepted: 1,
+        refused: ['called name not present (82): 1'], sent: 5, received: 7 }]);
+});
+
+test('refusals are counted without their places', () => {
+    const seen = new Seen();
+    for (const [frame, refused, at] of [[3, 'name: bad pointer 50', 50], [4, 'name: bad pointer 12', 12], [5, 'unknown type', undefined]]) {
+        seen.take({ refused, at }, '', ends(frame, '10.0.0.5', '10.0.0.9'));
+    }
+    assert.deepEqual(seen.tables().refused, [{ reason: 'name: bad pointer', packets: 2, frame: 3, byte: 50 }, { reason: 'unknown type', packets: 1, frame: 5, byte: null }]);
+});
+
+test('the keys of a list, and what is missing of them', () => {
+    const whole = keyOf('10.0.0.5:138/0001 whole group JOE<00> FRED<20> 6162');
+    assert.deepEqual([whole.state, whole.places, whole.end, missing(whole)], ['whole', [[0, 2]], 2, []]);
+    const partial = keyOf('10.0.0.6:138/0003 partial unique JOE<00> ANN<20> 6/12 2 2-4,8-10');
+    assert.deepEqual([partial.places, partial.end, partial.wide, missing(partial)], [[[2, 4], [8, 10]], 12, 12, ['0 to 1', '4 to 7', '10 to 11']]);
+    const open = keyOf('10.0.0.5:138/0002 partial group JOE<00> FRED<20> 4/? 1 0-4 more 9');
+    assert.deepEqual([open.end, open.wide, missing(open)], [null, 9, ['from 4 on']]);
+    assert.equal(keyOf('10.0.0.9:138/0003 spoilt').state, 'spoilt');
+});
+
+test('the address keeps its place', () => {
+    const place = { view: 'names', tap: 1, frame: 41, packet: 2, filter: 'FRED<20> & 138' };
+    assert.deepEqual(placeOf(hashOf(place)), place);
+    assert.deepEqual(placeOf('#elsewhere?frame=x'), { view: 'packets', tap: 0, frame: 0, packet: 1, filter: '' });
+});
+
+test('words of the filter: kinds, ports, and parts of what is said', () => {
+    const texts = ['', '10.0.0.5', 'query response', 'refused'];
+    const rows = {
+        texts, said: ['answers: FRED<20> is at 10.0.0.9', 'refused: truncated, at byte 2'], port: { at: () => 137 },
+        worded: { kinds: { at: (row) => row + 2 }, source: { at: () => 1 }, destination: { at: () => 0 } }, text: () => '',
+    };
+    const wanted = (words) => [0, 1].filter((row) => new Filter({ words, kind: '', sender: '', reason: '' }).wants(rows, row));
+    assert.deepEqual([wanted(''), wanted('response'), wanted('fred<20>'), wanted('10.0.0.5 refused'), wanted('138'), wanted('a.c')],
+        [[0, 1], [0], [0], [1], [], []]);
+});

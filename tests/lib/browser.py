@@ -1,0 +1,146 @@
+"""The page in a browser without a window: Debian's chromium, by Selenium."""
+import json
+import os
+import time
+
+from selenium import webdriver
+from selenium.webdriver.chrome.options import Options
+from selenium.webdriver.chrome.service import Service
+from selenium.webdriver.common.by import By
+from selenium.webdriver.common.keys import Keys
+
+CHROMIUM, DRIVER = '/usr/bin/chromium', '/usr/bin/chromedriver'
+WORDS = ('--headless=new', '--no-sandbox', '--disable-dev-shm-usage', '--disable-background-networking', '--disable-component-update',
+         '--no-first-run', '--enable-precise-memory-info')
+# What may come after the page itself: what it makes of its own blocks.
+OWN = ('blob:', 'data:', 'about:', 'chrome://', 'chrome-extension://', 'devtools://')
+# What has to have a name, by its role in the accessibility tree.
+NAMED = {'button', 'link', 'textbox', 'searchbox', 'combobox', 'grid', 'columnheader', 'dialog', 'progressbar', 'navigation', 'img', 'region',
+         'table', 'main', 'complementary'}
+
+
+class Browser:
+    """One window, with the page in it."""
+
+    def __init__(self, folder, width=1400, height=800):
+        self.folder = folder
+        options = Options()
+        options.binary_location = CHROMIUM
+        for word in (*WORDS, f'--window-size={width},{height}', f'--user-data-dir={folder}/profile'):
+            options.add_argument(word)
+        options.set_capability('goog:loggingPrefs', {'browser': 'ALL', 'performance': 'ALL'})
+        options.add_experimental_option('prefs', {'download.default_directory': folder, 'download.prompt_for_download': False})
+        self.driver = webdriver.Chrome(service=Service(DRIVER), options=options)
+        self.driver.set_script_timeout(120)
+        self.faults, self.requests, self.pages = [], [], set()
+
+    def open(self, page, place=''):
+        """Opens the page anew."""
+        self.driver.get('about:blank')
+        self.pages.add(f'file://{page}')
+        self.driver.get(f'file://{page}{place}')
+
+    def id(self, name):
+        return self.driver.find_element(By.ID, name)
+
+    def all(self, selector):
+        return self.driver.find_elements(By.CSS_SELECTOR, selector)
+
+    def text(self, name):
+        return self.driver.execute_script('return document.getElementById(arguments[0]).textContent', name)
+
+    def texts(self, selector):
+        """The texts of elements; of what is hidden none."""
+        return self.driver.execute_script(
+            'return Array.from(document.querySelectorAll(arguments[0])).filter((each) => each.offsetParent !== null)'
+            '.map((each) => each.textContent)', selector)
+
+    def wait(self, what, seconds=60):
+        """Waits until a function has an answer that counts as true, and answers that."""
+        end = time.monotonic() + seconds
+        while not (found := what()):
+            if time.monotonic() > end:
+                raise TimeoutError(f'{what.__code__.co_names}: {self.text("words-of-message")} {self.text("live")}')
+            time.sleep(0.01)
+        return found
+
+    def give(self, *paths):
+        """Chooses files, and waits until they are read or refused."""
+        self.driver.execute_script('document.getElementById("live").textContent = ""; document.getElementById("dismiss").click()')
+        self.id('file').send_keys('\n'.join(paths))
+        self.wait(lambda: self.is_read() and (self.text('live') or self.message()))
+
+    def sample(self):
+        self.driver.execute_script('document.getElementById("live").textContent = ""')
+        self.id('try').click()
+        self.wait(lambda: self.text('live'))
+
+    def is_read(self):
+        return not self.id('stop').is_enabled()
+
+    def message(self):
+        """The line of a fault, if one is shown."""
+        return self.text('words-of-message') if self.id('message').is_displayed() else ''
+
+    def rows(self):
+        """The cells of the rows that are in sight."""
+        return self.driver.execute_script(
+            'return Array.from(document.querySelectorAll(".sight .row")).filter((row) => !row.hidden)'
+            '.map((row) => Array.from(row.children, (cell) => cell.textContent))')
+
+    def tables(self):
+        """The tables of the view that is shown: titles, and rows of cells, the head first."""
+        return dict(self.driver.execute_script(
+            'return Array.from(document.querySelectorAll(".view:not([hidden]) table")).map((table) => [table.caption?.textContent ?? "",'
+            'Array.from(table.rows, (row) => Array.from(row.cells, (cell) => cell.textContent))])'))
+
+    def view(self, name):
+        self.id(f'to-{name}').click()
+        self.wait(lambda: self.id(f'view-{name}').is_displayed())
+
+    def choose(self, frame):
+        """Chooses the row of a frame that is in sight, and waits for its packet."""
+        row = next(each for each in self.all('.sight .row:not([hidden])') if each.text.split('\n')[0] == str(frame))
+        row.click()
+        self.wait(lambda: self.texts('#packet h2') == [f'Frame {frame}'])
+
+    def key(self, *keys):
+        self.driver.switch_to.active_element.send_keys(*keys)
+
+    def saved(self, button, name):
+        """What a button saves: the bytes of the file with this name."""
+        path = os.path.join(self.folder, name)
+        if os.path.exists(path):
+            os.remove(path)
+        self.id(button).click()
+        self.wait(lambda: os.path.exists(path) and not os.path.exists(path + '.crdownload'))
+        with open(path, 'rb') as file:
+            return file.read()
+
+    def unnamed(self):
+        """The controls of what is shown that have no name."""
+        nodes = self.driver.execute_cdp_cmd('Accessibility.getFullAXTree', {})['nodes']
+        return [node['role']['value'] for node in nodes if not node.get('ignored') and node['role']['value'] in NAMED
+                and not node.get('name', {}).get('value', '').strip()]
+
+    def look(self):
+        """Keeps what the browser noted: faults in the console, and requests that leave the page."""
+        self.faults += [each['message'] for each in self.driver.get_log('browser') if each['level'] in ('SEVERE', 'WARNING')]
+        for entry in self.driver.get_log('performance'):
+            message = json.loads(entry['message'])['message']
+            if message['method'] == 'Network.requestWillBeSent':
+                url = message['params']['request']['url']
+                if not url.startswith(OWN) and url.split('#')[0] not in self.pages:
+                    self.requests.append(url)
+
+    def picture(self, path, dark=False):
+        scheme = {'name': 'prefers-color-scheme', 'value': 'dark' if dark else 'light'}
+        self.driver.execute_cdp_cmd('Emulation.setEmulatedMedia', {'features': [scheme]})
+        time.sleep(0.3)
+        self.driver.save_screenshot(path)
+
+    def close(self):
+        self.driver.quit()
+
+
+__all__ = ['Browser', 'Keys', 'By']

@@ -1,0 +1,110 @@
+"""Files for the tests of the page."""
+import random
+import struct
+
+import random_pcap
+
+PCAP = struct.pack('<LHHLLLL', 0xa1b2c3d4, 2, 4, 0, 0, 262_144, 1)
+SECTION = struct.pack('<LLLHHqL', 0x0a0d0d0a, 28, 0x1a2b3c4d, 1, 0, -1, 28)
+INTERFACE = struct.pack('<LLHHLL', 1, 20, 1, 0, 0, 20)
+
+
+def block(kind, body):
+    size = struct.pack('<L', 12 + len(body))
+    return struct.pack('<L', kind) + size + body + size
+
+
+def frame(data):
+    return struct.pack('<LLLL', 1, 0, len(data), len(data)) + data
+
+
+def at(line, moment, number, source='10.0.0.5', target='10.0.0.255'):
+    """A line of `nbt build` at a moment, after the comment on its frame."""
+    port, _, digits = line.split()
+    second = f'2026-01-01T00:00:{moment // 1000:02d}.{moment % 1000:03d}000Z'
+    return [f'# frame {number} {second} {source}:{port} > {target}:{port}\n', f'{port} {moment} {digits}\n']
+
+
+def conflicts(program):
+    """Claims of one name by several stations, refusals, a demand, node statuses, and a query without an answer."""
+    made = [
+        (program.build('registration', '0001', 'FRED<20>', '300', '0000', '10.0.0.5'), '10.0.0.5', '10.0.0.255'),
+        (program.build('registration', '0002', 'FRED<20>', '300', '0000', '10.0.0.6'), '10.0.0.6', '10.0.0.255'),
+        (program.build('response', '0002', 'ad86', 'FRED<20>', '0020', '0', '00000a000005'), '10.0.0.5', '10.0.0.6'),
+        (program.build('registration', '0003', 'GROUP<00>', '0', '8000', '10.0.0.5'), '10.0.0.5', '10.0.0.255'),
+        (program.build('registration', '0004', 'ANN<00>', '60', '0000', '10.0.0.7'), '10.0.0.7', '10.0.0.255'),
+        (program.build('registration', '0005', 'ANN<00>', '60', '0000', '10.0.0.8'), '10.0.0.8', '10.0.0.255'),
+        (program.build('response', '0005', 'ad07', 'ANN<00>', '0020', '0', '00000a000007'), '10.0.0.7', '10.0.0.8'),
+        (program.build('release', '0006', 'GROUP<00>', '8000', '10.0.0.5'), '10.0.0.5', '10.0.0.255'),
+        (program.build('query', '0007', 'NOBODY<20>'), '10.0.0.9', '10.0.0.255'),
+        (program.build('status', '0008', 'FRED<20>'), '10.0.0.9', '10.0.0.5'),
+        (program.build('response', '0008', '8400', 'FRED<20>', '0021', '0', '0146524544202020202020202020202020200400020000000001'), '10.0.0.5', '10.0.0.9'),
+        (['137 0 0003011000010000\n'], '10.0.0.66', '10.0.0.255'),
+    ]
+    return [line for number, (lines, source, target) in enumerate(made, 1) for each in lines
+            for line in at(each, 250 * number, number, source, target)]
+
+
+def refused(program):
+    """Packets each of which is refused for another reason, with and without a place in it."""
+    query = program.build('query', '0003', 'FRED<20>')[0].split()[2]
+    datagram = program.build('group', '10.0.0.5:138/0001', 'JOE<00>', 'FRED<20>', '6162', '2')[0].split()[2]
+    return [f'{line}\n' for line in (
+        '137 0 0003', f'137 0 {query[:24]}c0ff{query[28:]}', f'137 0 {query[:24]}40{query[26:]}', f'138 0 {datagram[:28]}20ff{datagram[32:]}',
+        '138 0 empty', '138 0 1700000000000000008a', '139 0 86000000', '139 0 85020000', '139 0 8300000200ff',
+        f'138 0 {datagram[:28]}c00e{datagram[32:]}', f'137 0 {query[:-4]}')]
+
+
+def taps(program):
+    """Two captures, each of which lacks a piece of one datagram; another one is whole in the second alone."""
+    sent = program.build('group', '10.0.0.5:138/0001', 'JOE<00>', 'FRED<20>', '68656c6c6f2c2046524544', '4')
+    other = program.build('unique', '10.0.0.6:138/0002', 'ANN<00>', 'FRED<20>', '6f6e6574776f', '3')
+    return ''.join([*sent[:2], other[0]]), ''.join([*sent[1:], *other])
+
+
+def odd():
+    """A capture of datagrams, fragments of IP and streams, with a snap length and bytes that are missing."""
+    random_pcap.vxlan = random_pcap.nested = random_pcap.gre = lambda packet: packet
+    return random_pcap.pcap_of(random.Random('page-0'))
+
+
+def markup(program):
+    """Packets whose names and comments would be elements, if they were read as HTML."""
+    sent = program.build('group', '10.0.0.5:138/0001', r'\3cimg\20src=x\3e<00>', 'FRED<20>', '3c696d67207372633d783e', '20')
+    return sent[0] + '# <img src=x onerror=alert(1)>\n'
+
+
+def bad(program):
+    """Files that can't be read, or not to their end: names, bytes, and what is said of each."""
+    table = program.run(['nbt', 'save'], ''.join(program.build('group', '10.0.0.5:138/0001', 'JOE<00>', 'FRED<20>', '6162', '1')[:1]).encode()).strip()
+    good = frame(bytes(60))
+    rng = random.Random('bad')
+    frames = b''.join(frame(rng.randbytes(rng.randrange(120))) for _ in range(500))
+    faces = SECTION + INTERFACE * 300_000
+    return [
+        ('empty.pcap', b'', 'empty.pcap: the file is empty, at byte 0'),
+        ('letter.txt', b'Dear all,\nhow are you?\n', 'letter.txt: line 1 is none of a capture'),
+        ('photo.png', b'\x89PNG\r\n\x1a\n' + bytes(100), 'photo.png: no pcap, no pcapng, no capture and no saved table: it begins with 89504e47, at byte 0'),
+        ('header.pcap', PCAP[:20], 'header.pcap: the header of pcap is cut, at byte 20'),
+        ('nothing.pcap', PCAP, 'nothing.pcap: the file has no frame, at byte 24'),
+        ('record.pcap', PCAP + good + good[:10], 'record.pcap: the header of a frame is cut, at byte 100'),
+        ('frame.pcap', PCAP + good + good[:40], 'frame.pcap: a frame is cut, at byte 116'),
+        ('long.pcap', PCAP + struct.pack('<LLLL', 0, 0, 2**32 - 1, 0), 'long.pcap: a frame of 4294967295 bytes, at byte 24'),
+        ('block.pcapng', SECTION + INTERFACE + block(0x0bad, bytes(8)) + struct.pack('<LLL', 6, 2**32 - 4, 0),
+         'block.pcapng: a block of 4294967292 bytes, at byte 72'),
+        ('faces.pcapng', faces, 'faces.pcapng: more than 65536 interfaces, at byte'),
+        ('random.pcap', PCAP + frames + b'x', 'random.pcap: the header of a frame is cut, at byte'),
+        ('table.txt', table[:-2], f'table.txt: table: truncated, at byte {len(table) // 2 - 1}'),
+        ('changed.txt', table[:8] + b'ffffffff' + table[16:], 'changed.txt: table: '),
+        ('version.txt', b'4e425433' + table[8:], 'version.txt: table: bad magic, at byte 0'),
+        ('two', [('one.pcap', PCAP + good[:8]), ('two.png', b'\x89PNG')], 'two.png: no pcap, no pcapng'),
+    ]
+
+
+def pictures(browser, page, folder):
+    """The page with a capture in it, light and dark, for README.md."""
+    for dark in (False, True):
+        browser.open(page)
+        browser.sample()
+        browser.choose(5)
+        browser.picture(f"{folder}/page-{'dark' if dark else 'light'}.png", dark)

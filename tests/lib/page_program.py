@@ -1,0 +1,102 @@
+"""What the program and its tools say, for the tests of the page."""
+import json
+import os
+import re
+import shutil
+import subprocess
+import tempfile
+
+ROW = re.compile(r' *(\d+) +(\S+) +(\S+) +(\S+) +(.*)')
+
+
+class Program:
+    """The program and its tools, by the names that they have once installed."""
+
+    def __init__(self, program, top):
+        self.top = top
+        self.folder = tempfile.TemporaryDirectory()
+        for name, path in (('nbt', program), ('nbt-look', f'{top}/tools/nbt-look'), ('nbt-pcap2cap', f'{top}/tools/pcap2cap'),
+                           ('nbt-cap2pcap', f'{top}/tools/cap2pcap')):
+            os.symlink(path, f'{self.folder.name}/{name}')
+        self.env = {**os.environ, 'PATH': f"{self.folder.name}:{os.environ['PATH']}", 'WIRESHARK_CONFIG_DIR': f'{self.folder.name}/settings'}
+
+    def run(self, words, given=b''):
+        return subprocess.run(words, input=given, capture_output=True, env=self.env, timeout=120, check=False).stdout
+
+    def text(self, words, given=''):
+        return self.run(words, given.encode()).decode()
+
+    def build(self, *words):
+        """The lines of a capture that `nbt build` prints."""
+        return self.text(['nbt', 'build', *words]).splitlines(keepends=True)
+
+    def listed(self, path, *options):
+        """The rows of nbt-look: frame, time, from, to, and what is said."""
+        return [list(ROW.fullmatch(line).groups()) for line in self.text(['nbt-look', *options, path]).splitlines()[:-1]]
+
+    def summary(self, path):
+        """The tables of nbt-look: by title rows of cells, the head first."""
+        tables = {}
+        for block in self.text(['nbt-look', '--summary', path]).split('\n\n'):
+            title, *lines = block.splitlines()
+            if not lines or not lines[0].startswith('  '):
+                continue
+            starts = [match.start() for match in re.finditer(r'(?<=  )\S', lines[0])]
+            ends = [*starts[1:], None]
+            tables[title] = [[line[start:end].strip() for start, end in zip(starts, ends)] for line in lines]
+        return tables
+
+    def told(self, line):
+        """What a packet of a capture says, as an object."""
+        return json.loads(self.text(['nbt', 'show', '--json', '--brief'], line))
+
+    def help(self, refused):
+        return self.text(['nbt', 'help', refused]).strip()
+
+    def capture(self, path, *options):
+        """The capture of a file, or the file that is one."""
+        if path.endswith('.pcap'):
+            return self.run(['nbt-pcap2cap', '--quiet', *options, path])
+        with open(path, 'rb') as file:
+            lines = file.readlines()
+        return b''.join(line for line in lines if '--no-ticks' not in options or not line.startswith(b'tick'))
+
+    def delivered(self, path, station):
+        """Key, source and destination of each datagram that is delivered."""
+        lines = self.run(['nbt', 'replay', '--keys', '65535', station], self.capture(path)).decode().splitlines()
+        return [[words[2], words[4], words[5]] for words in map(str.split, lines) if words[1] == 'delivered']
+
+    def table(self, path):
+        return self.run(['nbt', 'save', '--keys', '65535'], self.capture(path, '--no-ticks'))
+
+    def keys(self, path):
+        """Key and state of each key of a table."""
+        return [line.split()[:2] for line in self.run(['nbt', 'list', '--keys', '65535'], self.table(path)).decode().splitlines()]
+
+    def differing(self, one, two):
+        """Of each key that differs what the first and the second capture say of it."""
+        tables = b''.join(self.run(['nbt', 'save'], each.encode()) for each in (one, two))
+        lines = self.run(['nbt', 'agree', '--list'], tables).decode().splitlines()[1:]
+        parted = [line.split(' ', 2) for line in lines]
+        return [[first[1], first[2], second[2]] for first, second in zip(parted[::2], parted[1::2])]
+
+    def out(self, path, form):
+        """What the page gives out of a file in this form."""
+        if form == 'table':
+            return self.table(path)
+        capture = self.capture(path)
+        return self.run(['nbt', 'show', '--json'], capture) if form == 'json' else capture
+
+    def pcap(self, lines):
+        """A pcap file of a capture's lines."""
+        return self.run(['nbt-cap2pcap'], ''.join(lines).encode())
+
+    def page(self, page, capture):
+        """The page with a capture in it, by nbt-look, beside which the page lies."""
+        folder = f'{self.folder.name}/share'
+        for module in ('nbt_look', 'nbt_pcap', 'nbt_shards'):
+            shutil.copytree(f'{self.top}/tools/{module}', f'{folder}/{module}')
+        shutil.copy(f'{self.top}/tools/nbt-look', folder)
+        shutil.copy(page, f'{folder}/nbt.html')
+        self.run([f'{folder}/nbt-look', '--html', f'{folder}/given.html', capture])
+        return f'{folder}/given.html'

@@ -1,0 +1,98 @@
+#!/usr/bin/env python3
+"""Prints what tests/lib/values_model.py does, by the package for Python."""
+import sys
+
+import nbt
+from nbt import SessionType
+
+
+def digits(data):
+    """Bytes as digits."""
+    return data.hex() or 'empty'
+
+
+def fault(error):
+    """The number of a status, and its place."""
+    return f'refused {error.number} {"-" if error.at is None else error.at}'
+
+
+def service(payload):
+    """The lines of a payload of port 137: its packet, and what stands of it, which have to agree."""
+    front, refused = nbt.ServicePacket.read_front(payload)
+    try:
+        packet = nbt.ServicePacket.read(payload)
+        assert (packet, None) == (front, refused)
+        assert list(map(len, (packet.questions, packet.answers, packet.authorities, packet.additional))) == list(packet.counts)
+        lines = ['whole']
+    except nbt.NbtError as error:
+        assert error == refused
+        lines = [fault(error)]
+    return [*lines, *(standing(front) if front else [])]
+
+
+def standing(packet):
+    """The lines of a packet, or of what stands of it."""
+    word = packet.response << 15 | packet.op << 11 | packet.flags | packet.rcode
+    yield f'header {packet.identifier:04x} {word:04x} {" ".join(map(str, packet.counts))} used {packet.used}'
+    for it in packet.questions:
+        yield f'0 {marked(it.name)} {it.type:04x} {it.class_number:04x}'
+    for section, records in enumerate((packet.answers, packet.authorities, packet.additional), 1):
+        for it in records:
+            yield f'{section} {marked(it.name)} {it.type:04x} {it.class_number:04x} {it.time_to_live} {rdata(it.rdata)}'
+
+
+def marked(name):
+    """A name, with what it is before one that is no NetBIOS name."""
+    return name if isinstance(name, str) else f'labels:{name}'
+
+
+def rdata(value):
+    """What RDATA says."""
+    if isinstance(value, tuple):
+        return ' '.join(['addresses', *(f'{it.flags:04x}/{it.address}' for it in value)])
+    if isinstance(value, nbt.NodeStatus):
+        unit = '-' if value.unit is None else value.unit.hex()
+        return ' '.join(['nodes', unit, *(f'{it.flags:04x}/{it.name}' for it in value.names)])
+    return f'domain {value}' if isinstance(value, nbt.DomainName) else f'bytes {digits(value)}'
+
+
+def datagram(payload):
+    """The line of a payload of port 138."""
+    it = nbt.Datagram.read(payload)
+    return (f'{it.type:02x} {it.flags:02x} {it.address}:{it.port}/{it.identifier:04x} {it.offset} {it.source or "-"} '
+            f'{it.destination or "-"} {digits(it.data)} used {it.used}')
+
+
+def session(payload):
+    """The line of a payload of port 139."""
+    try:
+        it = nbt.SessionPacket.read(payload)
+    except nbt.MoreNeeded as more:
+        return f'more {more.missing}'
+    said = ''
+    if it.type == SessionType.REQUEST:
+        said = f' called {it.called} calling {it.calling}'
+    if it.retarget:
+        said = ' retarget {}:{}'.format(*it.retarget)
+    return f'{it.type:02x} {digits(it.body)}{said} used {it.used}'
+
+
+def lines_of(port, payload):
+    """The lines of a payload that came to a port."""
+    try:
+        return service(payload) if port == 137 else [datagram(payload) if port == 138 else session(payload)]
+    except nbt.NbtError as error:
+        return [fault(error)]
+
+
+def main():
+    """Prints those of the lines of standard input, each with its number and port."""
+    for place, line in enumerate(sys.stdin, 1):
+        port, payload = line.split()
+        first, *others = lines_of(int(port), bytes.fromhex(payload.replace('empty', '')))
+        print(place, port, first)
+        for each in others:
+            print(' ', each)
+
+
+main()

@@ -1,0 +1,116 @@
+#!/usr/bin/env python3
+"""Random captures through the page's own reading of files, beside tools/pcap2cap, which has tshark read them.
+
+Usage: tests/page_captures.py COUNT [SEED]
+
+Each has datagrams, fragments of IP and TCP streams as networks deliver them, below VLAN tags, with snap lengths, as pcap or pcapng, in
+either byte order; some of them cooked as Linux does, in both versions, or from a loopback. What both print has to be the same, byte for byte: payloads with their moments, frames and ends, comments on what is left
+out, ticks, and the summary with its counts by reason. Only where fragments contradict each other tshark doesn't always say so: then the
+frame is left out by both, and pcap2cap names the length of UDP that it has. Its last line is 'N passed, M failed'; a capture that fails is kept in the folder
+of temporary files, and named.
+"""
+import os
+import random
+import re
+import struct
+import subprocess
+import sys
+import tempfile
+
+sys.dont_write_bytecode = True
+sys.path.insert(1, f'{sys.path[0]}/lib')
+import random_pcap
+
+TOP = os.path.realpath(f'{sys.path[0]}/..')
+PROGRAM = ['node', f'{TOP}/page/tests/capture.mjs']
+TOOL = [f'{TOP}/tools/pcap2cap']
+
+
+DIFFER = re.compile('its fragments differ where they overlap')
+WHY = re.compile(DIFFER.pattern + '|its UDP length is [0-9]+, and the file has [0-9]+ bytes of its payload')
+REASONS = re.compile('([0-9]+) (?:a length that the packet lacks|fragments of IP that come late or differ)')
+
+
+def summed(summary):
+    """A summary without those two reasons, and how many frames they have together."""
+    return REASONS.sub('0 of both', summary.strip()) + ', %d of both' % sum(map(int, REASONS.findall(summary)))
+
+
+def untunneled(packet):
+    """The page reads no tunnels."""
+    return packet
+
+
+# Link layers of frames that were of Ethernet: their numbers, and what stands in the place of the addresses and the type.
+COOKED, COOKED_2, NULL, LOOPBACK = 113, 276, 0, 108
+IPV4, IPV6 = b'\x08\x00', b'\x86\xdd'
+
+
+def link_of(link, kind):
+    """The header of a link layer, before the packet that a type of Ethernet names."""
+    if link == COOKED:
+        return struct.pack('>HHH8s', 0, 1, 6, bytes(8)) + kind
+    if link == COOKED_2:
+        return kind + struct.pack('>HLHBB8s', 0, 1, 1, 0, 6, bytes(8))
+    family = 2 if kind == IPV4 else 30
+    return struct.pack('<L' if link == NULL else '>L', family)
+
+
+def relinked(data, rng):
+    """A pcap file of Ethernet with another link layer, or the same one."""
+    order = {b'\xd4\xc3\xb2\xa1': '<', b'\x4d\x3c\xb2\xa1': '<', b'\xa1\xb2\xc3\xd4': '>', b'\xa1\xb2\x3c\x4d': '>'}.get(data[:4])
+    link = rng.choice((None, COOKED, COOKED_2, NULL, LOOPBACK))
+    if order is None or link is None or struct.unpack(order + 'L', data[20:24])[0] != random_pcap.ETHERNET:
+        return data
+    parts, at = [data[:20] + struct.pack(order + 'L', link)], 24
+    while at < len(data):
+        second, part, captured, size = struct.unpack(order + '4L', data[at:at + 16])
+        frame, at = data[at + 16:at + 16 + captured], at + 16 + captured
+        if captured < 14 or (link in (NULL, LOOPBACK) and frame[12:14] not in (IPV4, IPV6)):
+            continue
+        front = link_of(link, frame[12:14])
+        parts.append(struct.pack(order + '4L', second, part, captured - 14 + len(front), size - 14 + len(front)) + front + frame[14:])
+    return b''.join(parts)
+
+
+def main():
+    count, seed = int(sys.argv[1]), sys.argv[2] if len(sys.argv) > 2 else 'page'
+    random_pcap.vxlan = random_pcap.nested = random_pcap.gre = untunneled
+    failed = sum(not agrees(f'{seed}-{number}') for number in range(count))
+    print(f'{count - failed} passed, {failed} failed')
+    return failed > 0
+
+
+def agrees(seed):
+    """Whether both print the same of the capture of this seed."""
+    path = os.path.join(tempfile.gettempdir(), f'page-{os.getpid()}-{seed}.pcap')
+    with open(path, 'wb') as file:
+        rng = random.Random(seed)
+        file.write(relinked(random_pcap.pcap_of(rng), rng))
+    given, wanted = (subprocess.run([*words, path], capture_output=True, text=True, timeout=120) for words in (PROGRAM, TOOL))
+    pairs = [(first.stdout, first.stderr) for first in (given, wanted)]
+    if DIFFER.search(given.stdout):
+        pairs = [(WHY.sub('its fragments differ or lack bytes', text), summed(summary)) for text, summary in pairs]
+    difference = first_difference(*(text.splitlines() for text, _ in pairs)) or first_difference(*(counts(summary) for _, summary in pairs))
+    if difference:
+        print(f'failed: {seed}: {difference} ({path})')
+    else:
+        os.remove(path)
+    return not difference
+
+
+def counts(summary):
+    """What a summary counts; the order of reasons with the same count is left to each."""
+    return sorted(set(re.split(': |, ', summary.strip())))
+
+
+def first_difference(given, wanted):
+    for number in range(max(len(given), len(wanted))):
+        one, other = given[number:number + 1], wanted[number:number + 1]
+        if one != other:
+            return f'line {number + 1}: {str(one)[:200]}, not {str(other)[:200]}'
+    return None
+
+
+if __name__ == '__main__':
+    sys.exit(main())

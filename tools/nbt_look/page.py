@@ -1,0 +1,55 @@
+"""The page with a capture in it, for a browser: `make page` makes the page."""
+import base64
+import html
+import os
+import sys
+
+from nbt_pcap.process import Stopped
+
+HERE = os.path.dirname(os.path.abspath(__file__))
+# Where the page is: beside the installed tools, or where `make page` puts it.
+PLACES = (os.path.join(HERE, '..', 'nbt.html'), os.path.join(HERE, '..', '..', 'out', 'nbt.html'))
+GIVEN = '<script type="application/octet-stream" id="given" data-name=""></script>'
+# How many bytes of a capture a page is given: it grows by a third more.
+MOST = 20_000_000
+
+
+def write(options):
+    """Writes the page; answers the exit status."""
+    place = next(filter(os.path.exists, PLACES), None)
+    if place is None:
+        raise Stopped(3, "the page isn't there: make page makes it, make install puts it beside this tool")
+    with open(place, encoding='utf-8') as file:
+        text = file.read()
+    if text.count(GIVEN) != 1:
+        raise Stopped(3, f'{place}: it is of another version, and has no room for a capture')
+    data = read(options.file)
+    name = 'standard input' if options.file == '-' else os.path.basename(options.file)
+    given = f'data-name="{html.escape(name)}">{base64.b64encode(data).decode()}</script>'
+    put(options.html, text.replace(GIVEN, GIVEN.replace('data-name=""></script>', given)))
+    return 0
+
+
+def read(path):
+    title = 'standard input' if path == '-' else path
+    try:
+        with (sys.stdin.buffer if path == '-' else open(path, 'rb')) as file:
+            data = file.read(MOST + 1)
+    except OSError as error:
+        raise Stopped(3, f'{title}: {error.strerror}') from error
+    if len(data) > MOST:
+        raise Stopped(2, f'{title}: it has more than {MOST} bytes, which a page is given at most: tshark -r FILE -Y FILTER -w PART makes it shorter')
+    return data
+
+
+def put(path, text):
+    """Writes the file whole, or not at all."""
+    part = f'{path}.part'
+    try:
+        with open(part, 'w', encoding='utf-8', errors='surrogateescape') as file:
+            file.write(text)
+        os.replace(part, path)
+    except OSError as error:
+        if os.path.exists(part):
+            os.remove(part)
+        raise Stopped(3, f'{path}: {error.strerror}') from error

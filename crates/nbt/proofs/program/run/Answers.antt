@@ -15,8 +15,8 @@ returns-in-Err-try_get_matches_from-clause-alone g c (program, word, words_are, 
 pub returns-in-Ok-try_get_matches_from-clause-ran :
     goal.returns-in-Ok-try_get_matches_from-clause-ran
 returns-in-Ok-try_get_matches_from-clause-ran g c taken asks_none =
-    ran_words _ _ c.in-Ok-try_get_matches_from.matches _ c.run_command.result _ c.in-Ok.ensures c.in-Ok-try_get_matches_from.ensures.matches
-    c.run_command.ensures.ran c.report_run.ensures.value
+    ran_words _ _ c.in-Ok-try_get_matches_from.matches _ c.run_command-outcome.result _ c.in-Ok.ensures c.in-Ok-try_get_matches_from.ensures.matches
+    c.run_command-outcome.ensures.ran c.report_run.ensures.value
 
 pub returns-in-Err-try_get_matches_from-clause-ran :
     goal.returns-in-Err-try_get_matches_from-clause-ran

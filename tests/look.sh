@@ -260,7 +260,7 @@ END
     made snapped
     look "$room/snapped.pcap" >"$room/output"
     [ "$(tail -n 1 "$room/output")" = '601 frames, 1 packets, 0 refused, 600 left out: 600 cut by the snap length' ] &&
-        [ "$(grep -c ' cut: datagram from JOE<00>, 54 of 1082 bytes$' "$room/output")" -eq 600 ]
+        [ "$(grep -c ' cut: group datagram from JOE<00>, 54 of 1082 bytes$' "$room/output")" -eq 600 ]
     count $? "packets that are cut: $(tail -n 1 "$room/output")"
     made fragments
     prints 'fragments whose others are missing' "$room/fragments.pcap" <<'END'

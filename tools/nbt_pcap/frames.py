@@ -88,15 +88,21 @@ class Reader:
         if ':' in digits:
             digits = digits.replace(':', '')
         size = 2 * (int(length) - UDP_HEADER)
-        if not 0 <= size <= len(digits):
-            is_cut = size > len(digits) and self.report.cut is CUT
-            if not (is_cut and self.passes_cut and digits):
-                self.report.leave_out(CUT if is_cut else BAD_LENGTH,
-                                      'its UDP length is %s, and the file has %d bytes of its payload' % (length, len(digits) // 2))
-                return
-            self.report.note(CUT, 'frame %s is cut: the file has %d of the %d bytes of its payload'
-                             % (self.report.number, len(digits) // 2, size // 2))
-        self.payload(row, self.services.get(packet.source) or self.services[packet.target], digits[:size], packet)
+        service = self.services.get(packet.source) or self.services[packet.target]
+        is_cut = size > len(digits) and self.report.cut is CUT
+        if 0 <= size <= len(digits):
+            self.payload(row, service, digits[:size], packet)
+        elif is_cut and self.passes_cut and digits:
+            self.cut_payload(row, service, digits, packet, size // 2)
+        else:
+            self.report.leave_out(CUT if is_cut else BAD_LENGTH,
+                                  'its UDP length is %s, and the file has %d bytes of its payload' % (length, len(digits) // 2))
+
+    def cut_payload(self, row, service, digits, packet, size):
+        """Takes what the file has of a payload of `size` bytes."""
+        self.report.note(CUT, 'frame %s is cut: the file has %d of the %d bytes of its payload'
+                         % (self.report.number, len(digits) // 2, size))
+        self.payload(row, service, digits, packet)
 
     def segment(self, row, packet):
         if packet.size and packet.flags:

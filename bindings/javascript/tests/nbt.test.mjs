@@ -216,6 +216,8 @@ test('where tables differ', () => {
     for (const [first, second, identifier] of [[[0xffff], [], 0xffff], [[], [3], 3], [[1, 3], [1, 2], 2], [[1, 2], [1, 3], 2]]) {
         assert.deepEqual(nbt.differ(spoilt(...first), spoilt(...second)), { address: '10.0.0.5', port: 138, identifier });
     }
+    const least = hex(`4e42543200000001${'00'.repeat(9)}`);
+    assert.deepEqual(nbt.differ(least, spoilt()), { address: '0.0.0.0', port: 0, identifier: 0 });
     assert.deepEqual(refused(() => nbt.differ(bytes('NBT3'), bytes('NBT3'))), ['TABLE_BAD_MAGIC', null]);
     assert.deepEqual(refused(() => nbt.differ(spoilt(2, 1), spoilt())), ['TABLE_NOT_CANONICAL', 17]);
     assert.deepEqual(refused(() => nbt.differ(spoilt(), bytes('NBT2'))), ['SECOND_TRUNCATED', null]);

@@ -217,6 +217,8 @@ class Tables(Refusing):
                                           (spoilt(1, 2), spoilt(1, 3), 2), (spoilt(1), spoilt(1, 9), 9)]:
             self.assertEqual(nbt.differ(first, second), nbt.Key(ADDRESS, 138, identifier))
         self.assertEqual(str(nbt.differ(spoilt(0xa0), EMPTY)), '10.0.0.5:138/00a0')
+        # A key whose numbers are all 0 is one, too.
+        self.assertEqual(nbt.differ(EMPTY, b'NBT2\0\0\0\1' + bytes(9)), nbt.Key(ipaddress.IPv4Address(0), 0, 0))
         with nbt.Station([], '10.0.0.9') as one, nbt.Station([], '10.0.0.9') as other:
             for first, second in zip(pieces(), reversed(pieces())):
                 one.take(0, first)

@@ -146,6 +146,8 @@ fn tables_differ() {
     ] {
         assert_eq!(differ(&spoilt(first), &spoilt(second)).unwrap(), found);
     }
+    let least = differ(&joined(&[b"NBT2\0\0\0\x01", &[0; 9]]), EMPTY).unwrap();
+    assert_eq!(least.unwrap().to_string(), "0.0.0.0:0/0000");
 }
 
 #[test]

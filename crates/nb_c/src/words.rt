@@ -10,7 +10,7 @@ use crate::statuses::{
     DESTINATION_RESERVED_LABEL, DESTINATION_TRUNCATED, DONE, FULL, FULL_SOURCE, LONG, LONG_DATA,
     LONG_TEXT, MISPLACED_FIRST, MORE, NAME_BAD_POINTER, NAME_LONG, NAME_NOT_NETBIOS, NAME_POINTER,
     NAME_PRESENT, NAME_RDATA, NAME_RESERVED_LABEL, NAME_TRAILING_BYTES, NAME_TRUNCATED, NO_ITEM,
-    NO_MEMORY, NO_PART, NO_ROOM, OTHER_RDATA, OTHER_TYPE, RESERVED_FLAGS, SECOND_BAD_MAGIC,
+    NO_MEMORY, NO_PART, NO_ROOM, NO_STATION, OTHER_RDATA, OTHER_TYPE, RESERVED_FLAGS, SECOND_BAD_MAGIC,
     SECOND_FULL, SECOND_FULL_SOURCE, SECOND_LONG, SECOND_NOT_CANONICAL, SECOND_TRUNCATED,
     SOURCE_BAD_POINTER, SOURCE_BAD_TEXT, SOURCE_LONG, SOURCE_LONG_TEXT, SOURCE_NOT_NETBIOS,
     SOURCE_POINTER, SOURCE_RESERVED_LABEL, SOURCE_TRUNCATED, TABLE_BAD_MAGIC, TABLE_FULL,
@@ -210,13 +210,14 @@ fn joining_words(status: u32) -> Option<&'static str>
     }
 }
 
-/// The words of a status on the names of a station.
+/// The words of a status on a station and its names.
 fn station_words(status: u32) -> Option<&'static str>
     ensures { option_map (λ words. words.now) result ≡ station_word status }
 {
     match status {
         NAME_PRESENT => Some("name: present"),
         TOO_MANY_NAMES => Some("too many names"),
+        NO_STATION => Some("no station"),
         _ => None,
     }
 }

@@ -41,12 +41,14 @@ pub extern "C" fn nbt_station_absorb(
         (record { buffer = into.old; used = used.old; place = at.old })
         (record { buffer = into.new; used = used.new; place = at.new }) result) }
 {
-    let Some(mut kept) = taken(alloc, station) else {
-        return NO_STATION;
-    };
-    let answer = absorb_saved(alloc, &mut kept.member, moment, table, into.len());
-    put_back(station, kept);
-    write_answer(answer, into, used, at)
+    match taken(alloc, station) {
+        None => NO_STATION,
+        Some(mut kept) => {
+            let answer = absorb_saved(alloc, &mut kept.member, moment, table, into.len());
+            put_back(station, kept);
+            write_answer(answer, into, used, at)
+        }
+    }
 }
 
 /// Joins a saved table to a member's, where there is room for the bytes of what it hands over.

@@ -9,8 +9,7 @@ use crate::kept::Kept;
 use crate::parts::Parts;
 use std::alloc::Global;
 use std::marker::Model;
-use std::mem;
-use std::ptr;
+use std::{mem, ptr};
 
 /// A station: the pointer to its box, or null. It owns what the box holds.
 #[repr(C)]

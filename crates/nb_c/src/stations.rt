@@ -107,12 +107,14 @@ pub extern "C" fn nbt_station_tick(
         (λ m after. Ticks m now after dropped.old dropped.new result)
         ((dropped.new ≡ dropped.old) × (result ≡ NO_STATION)) }
 {
-    let Some(mut kept) = taken(alloc, station) else {
-        return NO_STATION;
-    };
-    *dropped = kept.member.tick(now).keys;
-    put_back(station, kept);
-    DONE
+    match taken(alloc, station) {
+        None => NO_STATION,
+        Some(mut kept) => {
+            *dropped = kept.member.tick(now).keys;
+            put_back(station, kept);
+            DONE
+        }
+    }
 }
 
 /// Writes the station's table, saved.
@@ -133,12 +135,14 @@ pub extern "C" fn nbt_station_save(
         (record { buffer = into.old; used = used.old; place = 0 })
         (record { buffer = into.new; used = used.new; place = 0 }) result) }
 {
-    let Some(kept) = taken(alloc, station) else {
-        return NO_STATION;
-    };
-    let status = write_bytes(kept.member.table().save(), into, used);
-    put_back(station, kept);
-    status
+    match taken(alloc, station) {
+        None => NO_STATION,
+        Some(kept) => {
+            let status = write_bytes(kept.member.table().save(), into, used);
+            put_back(station, kept);
+            status
+        }
+    }
 }
 
 /// Writes the lines of the station's keys, as `nbt list` prints them of its table.
@@ -159,12 +163,14 @@ pub extern "C" fn nbt_station_list(
         (record { buffer = into.old; used = used.old; place = 0 })
         (record { buffer = into.new; used = used.new; place = 0 }) result) }
 {
-    let Some(kept) = taken(alloc, station) else {
-        return NO_STATION;
-    };
-    let status = write_bytes(lines_of(alloc, kept.member.table()), into, used);
-    put_back(station, kept);
-    status
+    match taken(alloc, station) {
+        None => NO_STATION,
+        Some(kept) => {
+            let status = write_bytes(lines_of(alloc, kept.member.table()), into, used);
+            put_back(station, kept);
+            status
+        }
+    }
 }
 
 /// Gives a station back. Of none it does nothing.

@@ -34,12 +34,14 @@ pub extern "C" fn nbt_station_take(
         (record { taken = taken.old; buffer = into.old; used = used.old })
         (record { taken = taken.new; buffer = into.new; used = used.new }) result) }
 {
-    let Some(mut kept) = handle::taken(alloc, station) else {
-        return NO_STATION;
-    };
-    let status = take(&mut kept.member, moment, payload, taken, into, used);
-    put_back(station, kept);
-    status
+    match handle::taken(alloc, station) {
+        None => NO_STATION,
+        Some(mut kept) => {
+            let status = take(&mut kept.member, moment, payload, taken, into, used);
+            put_back(station, kept);
+            status
+        }
+    }
 }
 
 /// Takes a payload, and tells what became of it, where the buffer has room.

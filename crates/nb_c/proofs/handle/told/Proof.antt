@@ -48,4 +48,4 @@ told_spec 𝓤 𝓛 𝓜 𝓡 wired =
     handle_made ! v $ feq_i ! (List Val) (vbool y ∷ []) (vbool y ∷ []) refl $ move ! (1 ∷ 0 ∷ []) $
     use2 𝓛 (‵ ((Tuple (Handle ∷ bool ∷ [])).own_val (v, y) (pair_val w (vbool y) ∷ []))) (pair_of 𝓛 Handle bool v y w (vbool y)) $
     use0 𝓛 (raw (fact 𝓤 Told)) (fact_i 𝓤 Told (emp 𝓤) (refl, refl, (compared p).2)) $ nothing ! $ nothing ! $ fjoin ! $
-    returns ! (look_at ! 0 refl) $ free_all ! refl $ keep ! (4 ∷ 0 ∷ 2 ∷ 1 ∷ []) $ by ! (leaves 𝓛 En hs c z (pair_val w (vbool y)) (v, y) (tt, tt) (tt, tt)))))
+    returns ! (look_at ! 0 refl) $ free_all ! refl $ keep ! (4 ∷ 0 ∷ 2 ∷ 1 ∷ []) $ by ! (leaves 𝓛 En hs c z (pair_val w (vbool y)) (v, y) (tt, tt) (tt, tt))))))

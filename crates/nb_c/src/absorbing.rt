@@ -44,11 +44,29 @@ pub extern "C" fn nbt_station_absorb(
     match taken(alloc, station) {
         None => NO_STATION,
         Some(mut kept) => {
-            let answer = absorb_saved(alloc, &mut kept.member, moment, table, into.len());
+            let status = absorb(alloc, &mut kept.member, moment, table, into, used, at);
             put_back(station, kept);
-            write_answer(answer, into, used, at)
+            status
         }
     }
+}
+
+/// Joins a saved table to a member's, and writes what it hands over.
+fn absorb(
+    alloc: Global,
+    member: &mut Member,
+    moment: u64,
+    table: &[u8],
+    into: &mut [u8],
+    used: &mut usize,
+    at: &mut usize,
+) -> u32
+    ensures { AbsorbsInto member.old moment table.now member.new
+        (record { buffer = into.old; used = used.old; place = at.old })
+        (record { buffer = into.new; used = used.new; place = at.new }) result }
+{
+    let answer = absorb_saved(alloc, member, moment, table, into.len());
+    write_answer(answer, into, used, at)
 }
 
 /// Joins a saved table to a member's, where there is room for the bytes of what it hands over.

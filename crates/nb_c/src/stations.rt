@@ -110,11 +110,19 @@ pub extern "C" fn nbt_station_tick(
     match taken(alloc, station) {
         None => NO_STATION,
         Some(mut kept) => {
-            *dropped = kept.member.tick(now).keys;
+            let status = tick(&mut kept.member, now, dropped);
             put_back(station, kept);
-            DONE
+            status
         }
     }
+}
+
+/// Shows a member the clock.
+fn tick(member: &mut Member, now: u64, dropped: &mut u32) -> u32
+    ensures { Ticks member.old now member.new dropped.old dropped.new result }
+{
+    *dropped = member.tick(now).keys;
+    DONE
 }
 
 /// Writes the station's table, saved.
@@ -138,11 +146,20 @@ pub extern "C" fn nbt_station_save(
     match taken(alloc, station) {
         None => NO_STATION,
         Some(kept) => {
-            let status = write_bytes(kept.member.table().save(), into, used);
+            let status = save(&kept.member, into, used);
             put_back(station, kept);
             status
         }
     }
+}
+
+/// Writes a member's table, saved.
+fn save(member: &Member, into: &mut [u8], used: &mut usize) -> u32
+    ensures { Writes (saved_bytes (contents member.now)) member.now member.now
+        (record { buffer = into.old; used = used.old; place = 0 })
+        (record { buffer = into.new; used = used.new; place = 0 }) result }
+{
+    write_bytes(member.table().save(), into, used)
 }
 
 /// Writes the lines of the station's keys, as `nbt list` prints them of its table.
@@ -166,11 +183,20 @@ pub extern "C" fn nbt_station_list(
     match taken(alloc, station) {
         None => NO_STATION,
         Some(kept) => {
-            let status = write_bytes(lines_of(alloc, kept.member.table()), into, used);
+            let status = list(alloc, &kept.member, into, used);
             put_back(station, kept);
             status
         }
     }
+}
+
+/// Writes the lines of a member's keys.
+fn list(alloc: Global, member: &Member, into: &mut [u8], used: &mut usize) -> u32
+    ensures { Writes (listing (contents member.now)) member.now member.now
+        (record { buffer = into.old; used = used.old; place = 0 })
+        (record { buffer = into.new; used = used.new; place = 0 }) result }
+{
+    write_bytes(lines_of(alloc, member.table()), into, used)
 }
 
 /// Gives a station back. Of none it does nothing.

@@ -1,6 +1,5 @@
 -- The pointers behind which stations stand (our choice): none stands behind null.
-use Rattle.std.specs.Prelude.{◌≡◌, Bool}
-use Rattle.std.specs.Bool.{MatchBool}
+use Rattle.std.specs.Prelude.{◌≡◌, Bool, MatchBool}
 use denote.RawPtr.{Ptr, null_ptr, InBlock}
 use Rattle.nb_c.specs.declared.kept.Kept.{Kept}
 

@@ -11,6 +11,7 @@ use types.Part.{agg, sub, whole}
 use contract.Monad.{fact, fact_i}
 use contract.Running.{tables}
 use denote.Builtin.{bool}
+use denote.Param.{layout}
 use denote.Exit.{yes}
 use denote.RattleType.{owns}
 use denote.Signature.{types_at, plain}
@@ -44,7 +45,7 @@ told_spec 𝓤 𝓛 𝓜 𝓡 wired =
     sets ! (of_opd ! (get_in ! (fld ! refl (stop !)) (sub ! 0 refl (whole !)))) refl (ptr_typed p) $
     sets ! (is ! (bin ! (get ! refl) (lit ! tt) (tests_null p may)) (compared p).1) refl (tt, tt) $
     sets ! (agg ! (and_then ! (get ! refl) (no_more !))) refl (alone_typed p) $
-    sets ! (agg ! (and_then ! (get ! refl) (and_then ! (get ! refl) (no_more !)))) refl (pair_Typed _ _ w (vbool y) (alone_typed p) (tt, tt)) $
+    sets ! (agg ! (and_then ! (get ! refl) (and_then ! (get ! refl) (no_more !)))) refl (pair_Typed (layout Handle) (layout bool) w (vbool y) (alone_typed p) (tt, tt)) $
     handle_made ! v $ feq_i ! (List Val) (vbool y ∷ []) (vbool y ∷ []) refl $ move ! (1 ∷ 0 ∷ []) $
     use2 𝓛 (‵ ((Tuple (Handle ∷ bool ∷ [])).own_val (v, y) (pair_val w (vbool y) ∷ []))) (pair_of 𝓛 Handle bool v y w (vbool y)) $
     use0 𝓛 (raw (fact 𝓤 Told)) (fact_i 𝓤 Told (emp 𝓤) (refl, refl, (compared p).2)) $ nothing ! $ nothing ! $ fjoin ! $

@@ -115,9 +115,10 @@ enum nbt_status {
     NBT_FULL_SOURCE = 92,     /* as many keys of the address are held as may be, and a further one is new */
     NBT_FULL = 93,            /* as many keys are held as may be in all, and a further one is new */
 
-    /* The names of a station. */
+    /* A station, and its names. */
     NBT_NAME_PRESENT = 100,   /* a name stands there twice; *at: where its second text begins */
     NBT_TOO_MANY_NAMES = 101, /* more than 254 names; *at: where the text of the 255th begins */
+    NBT_NO_STATION = 102,     /* the station is none */
 
     /* A part of a packet. */
     NBT_OTHER_TYPE = 110, /* the packet stands, but its type isn't the one that has the part */
@@ -400,7 +401,8 @@ uint32_t nbt_table_differ(const uint8_t *first, size_t first_length, const uint8
  * for or, of a broadcast, a name of that name's scope. -------------------------------------------------------------- */
 
 /* What nbt_station_create fills in, and nbt_station_free gives back, once each. The other calls move what it points to,
- * so a copy made before one isn't good after it. */
+ * so a copy made before one isn't good after it. One of all zero bytes is none: nbt_station_free does nothing with it, and
+ * each other call answers NBT_NO_STATION, before anything else, and changes nothing. */
 struct nbt_station {
     void *at;
 };
@@ -408,7 +410,7 @@ struct nbt_station {
 /* Makes a station with these names: their texts with one space between two, and none where the length is 0. Error
  * packets have this address and port. Its table is empty, and has room for `keys` keys, and for `per_source` of one
  * address, whatever its ports; UINT32_MAX is no limit. A key is kept from its first fragment on until the clock drops it,
- * some 200 bytes and the data each. `*station`, written at NBT_DONE alone, goes to `at` of a struct nbt_station.
+ * some 200 bytes and the data each. `*station` goes to `at` of a struct nbt_station; it is null unless the answer is NBT_DONE.
  * The first fault of the names in order: NBT_BAD_TEXT and NBT_LONG_TEXT (*at counts from the front of `names`),
  * NBT_NAME_PRESENT, NBT_TOO_MANY_NAMES; NBT_NO_MEMORY, which may come before those of a text after the first. */
 uint32_t nbt_station_create(const uint8_t *names, size_t names_length, uint32_t address, uint16_t port,
@@ -447,22 +449,22 @@ struct nbt_taken {
  * buffer has room for NBT_TAKE_ROOM bytes, whatever the payload: where it has less the answer is NBT_NO_ROOM, and
  * `*used` is NBT_TAKE_ROOM. So nothing can be lost for want of room once the payload is taken in. At NBT_DONE `*used`
  * bytes are written, and `*taken` says which.
- * NBT_NO_ROOM, NBT_MISPLACED_FIRST, NBT_LONG, NBT_FULL_SOURCE, NBT_FULL, NBT_NO_MEMORY (which may come before those that
+ * NBT_NO_STATION, NBT_NO_ROOM, NBT_MISPLACED_FIRST, NBT_LONG, NBT_FULL_SOURCE, NBT_FULL, NBT_NO_MEMORY (which may come before those that
  * follow the first). At each of these the station, the buffer and `*taken` are as they were. */
 uint32_t nbt_station_take(struct nbt_station *station, uint64_t moment, const uint8_t *payload, size_t payload_length,
                           struct nbt_taken *taken, uint8_t *into, size_t into_length, size_t *used);
 
 /* Looks at the clock, which shows `now`: drops each key that came at least 2,000 milliseconds before, whatever is known
  * of it. `*dropped` is how many. That a station has to be shown the clock is our choice; nothing else drops a key.
- * NBT_NO_MEMORY. */
+ * NBT_NO_STATION. No memory is taken. */
 uint32_t nbt_station_tick(struct nbt_station *station, uint64_t now, uint32_t *dropped);
 
 /* Writes the station's table, saved. The names, the limits and the moments aren't in it.
- * NBT_NO_MEMORY, NBT_NO_ROOM. */
+ * NBT_NO_STATION, NBT_NO_MEMORY, NBT_NO_ROOM. */
 uint32_t nbt_station_save(struct nbt_station *station, uint8_t *into, size_t into_length, size_t *used);
 
 /* What nbt_table_list writes of the station's table.
- * NBT_NO_MEMORY, NBT_NO_ROOM. */
+ * NBT_NO_STATION, NBT_NO_MEMORY, NBT_NO_ROOM. */
 uint32_t nbt_station_list(struct nbt_station *station, uint8_t *into, size_t into_length, size_t *used);
 
 /* Joins the saved table of another station to this one's, at this moment: the keys that are new came then. Writes the
@@ -470,12 +472,12 @@ uint32_t nbt_station_list(struct nbt_station *station, uint8_t *into, size_t int
  * saved tables (SOURCE_IP in four bytes, SOURCE_PORT and DGM_ID in two), MSG_TYPE in one, the spellings of the source
  * and of the destination, the length of the data in two, and the data; the higher byte of a number first (our choice).
  * Nothing is lost at NBT_NO_ROOM: the station is then as it was. The call takes memory for a copy of the table.
- * 70 to 75, NBT_FULL_SOURCE, NBT_FULL, NBT_NO_MEMORY (which may come before any of these), NBT_NO_ROOM. At each of these
+ * NBT_NO_STATION, 70 to 75, NBT_FULL_SOURCE, NBT_FULL, NBT_NO_MEMORY (which may come before those), NBT_NO_ROOM. At each of these
  * the station and the buffer are as they were. */
 uint32_t nbt_station_absorb(struct nbt_station *station, uint64_t moment, const uint8_t *table, size_t table_length,
                             uint8_t *into, size_t into_length, size_t *used, size_t *at);
 
-/* Gives a station back, with all that it kept. */
+/* Gives a station back, with all that it kept; nothing, if it is none. */
 void nbt_station_free(struct nbt_station station);
 
 #ifdef __cplusplus

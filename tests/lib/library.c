@@ -510,9 +510,8 @@ static void absorbed(const uint8_t *table, size_t length)
         status = nbt_station_absorb(&joiner, number, table, length, room(texts, 0), 0, &used, &at);
     while (again(status));
     expect(status == NBT_DONE && used == 0 && at == 88, "nbt_station_absorb: a table once more");
-    do
-        status = nbt_station_tick(&joiner, UINT64_MAX, &dropped);
-    while (again(status));
+    status = nbt_station_tick(&joiner, UINT64_MAX, &dropped);
+    calls += 1;
     expect(status == NBT_DONE, "nbt_station_tick: the end of time");
 }
 
@@ -557,9 +556,8 @@ static void stationed(const uint8_t *payload, size_t length)
             break;
         refusals += 1;
     }
-    do
-        status = nbt_station_tick(&station, number, &dropped);
-    while (again(status));
+    status = nbt_station_tick(&station, number, &dropped);
+    calls += 1;
     expect(status == NBT_DONE, "nbt_station_tick");
 }
 
@@ -688,6 +686,31 @@ static void nowhere(void)
     nbt_station_free(nameless);
 }
 
+/* A station that is none: each call says so and changes nothing, and one that isn't made is none. */
+static void no_station(void)
+{
+    static const uint8_t table[] = {'N', 'B', 'T', '2', 0, 0, 0, 0};
+    struct nbt_station none = {NULL};
+    struct nbt_taken taken;
+    uint8_t *into = room(texts, 8);
+    size_t used = 77, at = 88;
+    uint32_t dropped = 66;
+    memset(&taken, FILL, sizeof taken);
+    expect(nbt_station_take(&none, 1, table, 8, &taken, NULL, 0, &used) == NBT_NO_STATION, "nbt_station_take: no station, no room");
+    expect(nbt_station_take(&none, 1, table, 8, &taken, room(packets, NBT_TAKE_ROOM), NBT_TAKE_ROOM, &used) == NBT_NO_STATION, "nbt_station_take: no station");
+    expect(nbt_station_tick(&none, UINT64_MAX, &dropped) == NBT_NO_STATION && dropped == 66, "nbt_station_tick: no station");
+    expect(nbt_station_save(&none, into, 8, &used) == NBT_NO_STATION, "nbt_station_save: no station");
+    expect(nbt_station_list(&none, into, 8, &used) == NBT_NO_STATION, "nbt_station_list: no station");
+    expect(nbt_station_absorb(&none, 1, table, 8, into, 8, &used, &at) == NBT_NO_STATION, "nbt_station_absorb: no station");
+    expect(nbt_station_absorb(&none, 1, table, 3, into, 8, &used, &at) == NBT_NO_STATION, "nbt_station_absorb: no station, no table");
+    expect(none.at == NULL && used == 77 && at == 88 && is_filled(into, 8) && is_filled((const uint8_t *)&taken, sizeof taken), "no station: something is written");
+    nbt_station_free(none);
+    none.at = &taken;
+    expect(nbt_station_create((const uint8_t *)"?", 1, 1, 138, 1, 1, &none.at, &at) == NBT_BAD_TEXT && none.at == NULL, "nbt_station_create: a station that isn't made");
+    nbt_station_free(none);
+    calls += 10;
+}
+
 static int value(char digit)
 {
     return digit <= '9' ? digit - '0' : (digit | 32) - 'a' + 10;
@@ -715,6 +738,7 @@ int main(int count, char **words)
     judged();
     faulty();
     nowhere();
+    no_station();
     while (fgets(line, sizeof line, stdin) != NULL) {
         char *digits;
         uint16_t port = (uint16_t)strtoul(line, &digits, 10);

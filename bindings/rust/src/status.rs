@@ -136,6 +136,8 @@ pub enum Status {
     NamePresent = 100,
     /// There are more than 254 names. The place: where the text of the 255th begins.
     TooManyNames = 101,
+    /// The station is none. No call of this crate answers it.
+    NoStation = 102,
 
     /// The packet stands, but its type isn't the one that has the part that is asked for.
     OtherType = 110,
@@ -146,7 +148,7 @@ pub enum Status {
 
 impl Status {
     /// All of them, by number.
-    pub const ALL: [Status; 59] = [
+    pub const ALL: [Status; 60] = [
         Status::NoMemory,
         Status::BadText,
         Status::LongText,
@@ -204,6 +206,7 @@ impl Status {
         Status::Full,
         Status::NamePresent,
         Status::TooManyNames,
+        Status::NoStation,
         Status::OtherType,
         Status::UnknownStatus,
     ];

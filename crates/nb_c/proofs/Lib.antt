@@ -14,6 +14,7 @@ pub mod PlaceLemmas
 pub mod ReadLemmas
 pub mod ServiceLemmas
 pub mod ShowLemmas
+pub mod StationLemmas
 pub mod StationNameLemmas
 pub mod TellLemmas
 pub mod TextLemmas

@@ -4,6 +4,7 @@ pub mod Datagrams
 pub mod Dataless
 pub mod Differing
 pub mod Framing
+pub mod Handles
 pub mod KeptCode
 pub mod Names
 pub mod Outputs

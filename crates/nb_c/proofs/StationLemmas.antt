@@ -1,6 +1,6 @@
 -- What a call does to a station's member it does to the station, and of none it does nothing.
-use Rattle.std.proofs.Common.{◌≡◌, refl, subst}
-use denote.RawPtr.{Ptr, null_ptr, InBlock}
+use Rattle.std.proofs.Common.{◌≡◌, subst}
+use denote.RawPtr.{Ptr, InBlock}
 use Rattle.nb_member.specs.Member.{MemberValue}
 use Rattle.nb_c.specs.declared.handle.NbtStation.{NbtStation}
 use Rattle.nb_c.specs.Handles.{IsHere, IsNone}

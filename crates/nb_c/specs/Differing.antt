@@ -1,5 +1,5 @@
 -- What the call that compares two saved tables answers (our choice).
-use Rattle.std.specs.Prelude.{◌≡◌, ◌≢◌, ℕ, List, [], ◌∷◌, Option, Some, None, Result, Ok, Err}
+use Rattle.std.specs.Prelude.{◌≡◌, ℕ, List, [], ◌∷◌, Option, Some, None, Result, Ok}
 use Rattle.std.specs.Int.{w32, from_be_bytes}
 use Rattle.std.specs.FinMap as maps
 use Rattle.std.specs.declared.cmp.Ordering.{Ordering}

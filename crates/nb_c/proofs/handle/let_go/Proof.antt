@@ -1,26 +1,20 @@
 -- `let_go` takes the pointer out of a handle, and forgets it.
-use Rattle.std.proofs.Common.{◌≡◌, List, [], ◌∷◌, ◌++◌, refl, sym, subst, lit<}
-use mir.Val.{Val, vbool, vunit}
-use base.Logic.{SProp, ent, emp, id⊢}
+use Rattle.std.proofs.Common.{List, [], ◌∷◌, ◌++◌, refl, sym, subst}
+use mir.Val.{Val, vunit}
+use base.Logic.{SProp, ent, id⊢}
 use base.Fml.{ftrue}
 use prog.Wp.{WpFn}
-use types.Kit.{‵, raw, given, ◌⊛◌, ◌$◌, ◌∵◌, !, qed, by, move, keep, drop, split, fsplit, fjoin, feq_i, suffices, use0, use1, use2, learn}
-use types.Run.{stop, fld, lit, unit_lit, bin, of_opd, no_more, and_then, returns, enter}
-use types.ByLocal.{alloc_all, pass_all, free_all, look_at, get, get_in, is, sets}
-use types.Part.{agg, sub, whole}
-use contract.Monad.{fact, fact_i}
+use types.Kit.{‵, raw, ◌⊛◌, ◌$◌, ◌∵◌, !, qed, by, move, keep, drop, split, fsplit, fjoin, feq_i, suffices}
+use types.Run.{unit_lit, of_opd, returns, enter}
+use types.ByLocal.{alloc_all, pass_all, free_all, look_at, sets}
 use contract.Running.{tables}
-use denote.Builtin.{bool}
 use denote.Exit.{yes}
 use denote.RattleType.{owns}
 use denote.Signature.{types_at, plain}
-use denote.RawPtr.{Ptr, null_ptr, ptr_val, InBlock, Testable, tests_null}
-use denote.Steps.{nothing, heard}
-use denote.Struct.Tuple.{Tuple}
+use denote.RawPtr.{ptr_val}
+use denote.Steps.{nothing}
 use denote.Triple.Walked.{Stays, stay_dropped, walk_of}
 use Rattle.core.proofs.alloc.Calls.{Goes-blank}
-use Rattle.core.specs.Bool.{MatchBool}
-use Rattle.std_alloc.proofs.Pairs.{pair_of, pair_val, pair_Typed}
 use Rattle.std.proofs.raw_atomic.Walks.{proved_at, leaves}
 use Rattle.nb_c.proofs.HandleValues.{alone, Handle, alone_typed, handle_open}
 use Rattle.nb_c.specs.contracts.handle.let_go.{ended, clauses}

@@ -1,26 +1,19 @@
 -- `none` makes a handle of a null pointer, which owns nothing.
-use Rattle.std.proofs.Common.{◌≡◌, List, [], ◌∷◌, ◌++◌, refl, sym, subst, lit<}
-use mir.Val.{Val, vbool, vunit}
-use base.Logic.{SProp, ent, emp, id⊢}
+use Rattle.std.proofs.Common.{◌≡◌, [], ◌∷◌, refl, lit<}
+use mir.Val.{Val}
+use base.Logic.{SProp, emp}
 use base.Fml.{ftrue}
-use prog.Wp.{WpFn}
-use types.Kit.{‵, raw, given, ◌⊛◌, ◌$◌, ◌∵◌, !, qed, by, move, keep, drop, split, fsplit, fjoin, feq_i, suffices, use0, use1, use2, learn}
-use types.Run.{stop, fld, lit, unit_lit, bin, of_opd, no_more, and_then, returns, enter}
-use types.ByLocal.{alloc_all, pass_all, free_all, look_at, get, get_in, is, sets}
-use types.Part.{agg, sub, whole}
+use types.Kit.{‵, raw, ◌⊛◌, ◌$◌, ◌∵◌, !, qed, by, keep, split, use0}
+use types.Run.{lit, no_more, and_then, returns, enter}
+use types.ByLocal.{alloc_all, pass_all, free_all, look_at, sets}
+use types.Part.{agg}
 use contract.Monad.{fact, fact_i}
 use contract.Running.{tables}
-use denote.Builtin.{bool}
-use denote.Exit.{yes}
 use denote.RattleType.{owns}
-use denote.Signature.{types_at, plain}
-use denote.RawPtr.{Ptr, null_ptr, ptr_val, InBlock, Testable, tests_null}
-use denote.Steps.{nothing, heard}
-use denote.Struct.Tuple.{Tuple}
-use denote.Triple.Walked.{Stays, stay_dropped, walk_of}
-use Rattle.core.proofs.alloc.Calls.{Goes-blank}
-use Rattle.core.specs.Bool.{MatchBool}
-use Rattle.std_alloc.proofs.Pairs.{pair_of, pair_val, pair_Typed}
+use denote.Signature.{types_at}
+use denote.RawPtr.{null_ptr, ptr_val}
+use denote.Steps.{nothing}
+use denote.Triple.Walked.{walk_of}
 use Rattle.std.proofs.raw_atomic.Walks.{proved_at, leaves}
 use Rattle.nb_c.proofs.HandleValues.{alone, Handle, nobody, handle_made}
 use Rattle.nb_c.specs.contracts.handle.none.{ended, clauses}

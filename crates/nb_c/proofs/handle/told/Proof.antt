@@ -1,11 +1,11 @@
 -- `told` takes the pointer out of a handle, compares it with null, and makes the handle again.
-use Rattle.std.proofs.Common.{◌≡◌, Bool, List, [], ◌∷◌, ◌++◌, refl, sym, subst, lit<}
-use mir.Val.{Val, vbool, vunit}
+use Rattle.std.proofs.Common.{◌≡◌, Bool, List, [], ◌∷◌, ◌++◌, refl, sym, subst}
+use mir.Val.{Val, vbool}
 use base.Logic.{SProp, ent, emp, id⊢}
 use base.Fml.{ftrue}
 use prog.Wp.{WpFn}
-use types.Kit.{‵, raw, given, ◌⊛◌, ◌$◌, ◌∵◌, !, qed, by, move, keep, drop, split, fsplit, fjoin, feq_i, suffices, use0, use1, use2, learn}
-use types.Run.{stop, fld, lit, unit_lit, bin, of_opd, no_more, and_then, returns, enter}
+use types.Kit.{‵, raw, given, ◌⊛◌, ◌$◌, ◌∵◌, !, qed, by, move, keep, split, fsplit, fjoin, feq_i, suffices, use0, use1, use2, learn}
+use types.Run.{stop, fld, lit, bin, of_opd, no_more, and_then, returns, enter}
 use types.ByLocal.{alloc_all, pass_all, free_all, look_at, get, get_in, is, sets}
 use types.Part.{agg, sub, whole}
 use contract.Monad.{fact, fact_i}
@@ -16,7 +16,7 @@ use denote.Exit.{yes}
 use denote.RattleType.{owns}
 use denote.Signature.{types_at, plain}
 use denote.RawPtr.{Ptr, null_ptr, ptr_val, InBlock, Testable, tests_null}
-use denote.Steps.{nothing, heard}
+use denote.Steps.{nothing}
 use denote.Struct.Tuple.{Tuple}
 use denote.Triple.Walked.{Stays, stay_dropped, walk_of}
 use Rattle.core.proofs.alloc.Calls.{Goes-blank}

@@ -165,6 +165,11 @@ class Cases:
         equal([row[1:3] for row in tables['tables'][1:]], [['2', '0'], ['2', '1'], ['2', '2']], 'how many keys, and how many are whole')
         equal([row[:2] for row in tables['keys'][1:]], [['10.0.0.5:138/0001', 'whole']], 'what only the join makes whole')
         equal([row for row in tables['keys that differ'][1:]], self.program.differing(one, two), 'where they differ')
+        self.browser.give(self.path('third.png', b'\x89PNG'))
+        check('third.png: no pcap' in self.browser.message(), f'a bad third file: {self.browser.message()}')
+        equal(self.browser.text('title'), 'one.txt and two.txt', 'both taps stay')
+        equal(self.browser.wait(self.browser.tables), tables, 'what the taps have stays')
+        check(self.browser.text('live').startswith('two.txt: 4 packets'), f"the footer: {self.browser.text('live')}")
 
     def out(self):
         """What is given out is byte for byte what the program prints."""

@@ -82,6 +82,7 @@ export class App {
         const counts = { frames: 0, packets: 0, refused: 0, leftOut: 0, names: 0, conflicts: 0 };
         /** @type {Tap} */
         const tap = { name, size: file.size, kind: 'frames', rows: new Rows(), first: null, counts, isRead: false, fault: null };
+        const earlier = { tap: this.taps[number], place: this.place };
         this.taps[number] = tap;
         const frame = this.place.tap === number ? this.place : { frame: 0, packet: 1 };
         this.keep({ tap: number, frame: frame.frame, packet: frame.packet });
@@ -94,33 +95,41 @@ export class App {
         } catch (error) {
             tap.fault = error instanceof Error ? error.message : String(error);
         }
-        if (this.taps[number] === tap) await this.read(tap, number);
+        tap.isRead = true;
+        if (this.taps[number] !== tap) return;
+        if (tap.fault) this.complain(`${tap.name}: ${tap.fault}`);
+        if (tap.fault && !tap.rows.count) await this.putBack(earlier, number);
+        else await this.read(tap);
+    }
+
+    /**
+     * A file can't be read at all: what was open before it stays.
+     *
+     * @param {{tap: Tap | null, place: import('./address.js').Place}} earlier
+     * @param {number} number
+     */
+    async putBack({ tap, place }, number) {
+        this.taps[number] = tap;
+        if (this.place.tap === number && this.taps[place.tap]) this.keep({ tap: place.tap, frame: place.frame, packet: place.packet });
+        else if (this.place.tap === number) this.keep({ tap: this.taps[0] ? 0 : this.taps[1] ? 1 : 0, frame: 0 });
+        this.show();
+        if (!this.tap) return;
+        this.tellOf(this.tap);
+        if (this.place.frame) await this.packets.select(this.place.frame, this.place.packet);
     }
 
     /**
      * A file is read to its end, or to where it can't be read.
      *
      * @param {Tap} tap
-     * @param {number} number
      */
-    async read(tap, number) {
-        tap.isRead = true;
-        if (tap.fault) this.complain(`${tap.name}: ${tap.fault}`);
-        const isNothing = !tap.rows.count && tap.kind !== 'table';
-        if (tap.fault && isNothing) {
-            this.taps[number] = null;
-            if (this.place.tap === number) this.keep({ tap: this.taps[0] ? 0 : this.taps[1] ? 1 : 0, frame: 0 });
-            this.show();
-            return;
-        }
+    async read(tap) {
         this.progress(null);
         if (tap === this.tap) {
             await this.packets.refilter();
             if (this.place.frame) await this.packets.select(this.place.frame, this.place.packet);
         }
-        const { packets, refused, leftOut } = tap.counts;
-        this.tell(tap.kind === 'table' ? `${tap.name} is a saved table` :
-            `${tap.name}: ${counted(packets, 'packet')}, ${refused} refused, ${leftOut} left out`);
+        this.tellOf(tap);
         if (tap.kind === 'table' && this.place.view === 'packets') this.move({ view: 'reassembly' });
         else this.show(false);
     }
@@ -256,6 +265,11 @@ export class App {
         message.hidden = false;
         say(byId('words-of-message', HTMLElement), words.replace(/\s+/g, ' '));
         byId('reading', HTMLElement).classList.toggle('idle', true);
+    }
+
+    /** @param {Tap} tap */
+    tellOf({ name, kind, counts: { packets, refused, leftOut } }) {
+        this.tell(kind === 'table' ? `${name} is a saved table` : `${name}: ${counted(packets, 'packet')}, ${refused} refused, ${leftOut} left out`);
     }
 
     /** @param {string} words what is heard, where the page is read aloud */

@@ -52,11 +52,13 @@ const answers = {
         const reading = new Reading(tap, (done) => {
             if (taps.get(number) === tap) postMessage({ tap: number, done, size: file.size, rows: tap.batch.take(), counts: tap.counts() });
         });
-        const earlier = readings.get(number);
-        if (earlier) earlier.isStopped = true;
+        const earlier = taps.get(number);
+        const unfinished = readings.get(number);
+        if (unfinished) unfinished.isStopped = true;
         taps.set(number, tap);
         readings.set(number, reading);
         const fault = await reading.run();
+        if (fault !== null && !tap.packets.count && earlier && taps.get(number) === tap) taps.set(number, earlier);
         return { fault, kind: tap.kind, counts: tap.counts(), first: tap.first };
     },
 

@@ -101,9 +101,11 @@ class Cases:
             self.browser.wait(self.browser.tables)
             shown, wanted = self.browser.tables(), self.program.summary(path)
             wanted.pop('datagrams', None)
+            without_refused_ends(wanted['names'])
             equal(sorted(shown), sorted(wanted), f'the tables of {os.path.basename(path)}')
             for title, rows in wanted.items():
                 equal(shown.get(title), rows, f'{os.path.basename(path)}, {title}')
+        equal([row[6] for row in shown['names'][1:] if row[4] == 'refused'], ['-'], 'a refused claim has no lifetime')
         check('2 names have several claimants' in self.browser.texts('#view-names .lead')[0], f"several claimants: {self.browser.texts('#view-names .lead')}")
 
     def faults(self):
@@ -250,6 +252,23 @@ class Cases:
         check('#reassembly?frame=9' in self.browser.driver.current_url, 'the address keeps the view')
         self.browser.driver.back()
         self.browser.wait(lambda: self.browser.id('view-packets').is_displayed())
+        self.list_keys()
+
+    def list_keys(self):
+        """The list has the keys after each way to it."""
+        from browser import Keys
+        self.browser.view('names')
+        self.browser.wait(self.browser.tables)
+        self.browser.all('#view-names a[href*="frame="]')[0].click()
+        self.browser.wait(lambda: self.browser.id('view-packets').is_displayed())
+        equal(self.browser.driver.switch_to.active_element.get_attribute('id'), 'grid', 'a link to a frame leads to the list')
+        last = self.browser.rows()[-1][0]
+        for before, key, frame in (('names', Keys.END, last), ('packets', Keys.HOME, '1')):
+            self.browser.view(before)
+            self.browser.view('packets')
+            self.browser.key(key)
+            self.browser.wait(lambda: self.browser.texts('#packet h2') == [f'Frame {frame}'])
+            equal(self.browser.driver.switch_to.active_element.get_attribute('id'), 'grid', f'from {before} to the list')
 
     def given(self):
         """A capture that is pasted or dropped, and one that is in the page from the start."""
@@ -306,6 +325,14 @@ class Cases:
         self.browser.look()
         equal(self.browser.faults, [], 'the console')
         equal(self.browser.requests, [], 'requests')
+
+
+def without_refused_ends(names):
+    """Of the rows of names, takes out until when a refused claim would have lasted."""
+    head, *rows = names
+    for row in rows:
+        if row[head.index('how')] == 'refused':
+            row[head.index('until')] = '-'
 
 
 def first_difference(given, wanted):

@@ -46,6 +46,7 @@ export class App {
         };
         addEventListener('hashchange', () => this.go());
         byId('stop', HTMLButtonElement).addEventListener('click', () => this.stop());
+        byId('to-packets', HTMLAnchorElement).addEventListener('click', () => this.place.view === 'packets' && this.focus());
         byId('tap', HTMLSelectElement).addEventListener('change', (event) =>
             this.move({ tap: Number(/** @type {HTMLSelectElement} */ (event.target).value), frame: 0, packet: 1 }));
         this.desk.loaded?.catch((error) => this.complain(error.message));
@@ -200,7 +201,12 @@ export class App {
         if (this.place.frame && (isOther || this.place.frame !== frame || this.place.packet !== packet)) {
             this.packets.select(this.place.frame, this.place.packet);
         }
-        if (view !== this.place.view) byId(`view-${this.place.view}`, HTMLElement).focus({ preventScroll: true });
+        if (view !== this.place.view) this.focus();
+    }
+
+    /** What the keys are for: the list of packets, or else the view. */
+    focus() {
+        byId(this.place.view === 'packets' ? 'grid' : `view-${this.place.view}`, HTMLElement).focus({ preventScroll: true });
     }
 
     /** @param {boolean} isOther whether the packets are of another file */

@@ -120,8 +120,10 @@ class Cases:
             at = told.get('at') if 'not netbios' not in told['refused'] else None
             wanted = [] if at is None else ['  '] if at >= len(data) else [f'{data[at]:02x}']
             equal(self.browser.texts('#packet mark')[:1], wanted, f"the mark of {told['refused']}")
-            equal(self.browser.texts('#packet .fault b'), [told['refused']], 'the fault')
-            equal(self.browser.texts('#packet .fault p')[0], self.program.help(told['refused']), f"the advice on {told['refused']}")
+            equal(self.browser.texts('#packet .fault b'), [told['brief'].removeprefix('refused: ')], 'the fault')
+            advice = self.program.help(told['refused']).split(': ', 1)[1]
+            equal(self.browser.texts('#packet .fault p')[0], advice.replace('`', ''), f"the advice on {told['refused']}")
+            equal(self.browser.texts('#packet .fault p code'), advice.split('`')[1::2], f"the code in the advice on {told['refused']}")
         equal(self.browser.texts('.row.refused .says'), [self.program.told(line)['brief'] for line in lines], 'what the rows say')
 
     def filters(self):

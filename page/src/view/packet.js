@@ -1,7 +1,8 @@
 /** All of one packet: where it comes from, what it says, its fault, its fields and bytes. */
 import { hostOf } from '../containers/ends.js';
 import { since } from '../model/times.js';
-import { byId, element } from './dom.js';
+import { placed } from './advice.js';
+import { byId, element, withCode } from './dom.js';
 import { dumpOf } from './dump.js';
 
 /** Of these the place is in the spelling of a name, and not in the packet. */
@@ -44,7 +45,7 @@ export class PacketPanel {
     fault(refused) {
         const elsewhere = ELSEWHERE.test(refused) ? [element('p', {}, 'The place is in the spelling of the name, not in the packet.')] : [];
         return element('div', { class: 'fault', role: 'note', 'aria-label': 'Why it is refused' },
-            element('b', {}, refused), element('p', {}, this.advice.of(refused)), ...elsewhere);
+            element('b', {}, placed(refused)), element('p', {}, ...withCode(this.advice.of(refused))), ...elsewhere);
     }
 }
 

@@ -141,6 +141,12 @@ class Cases:
         for option in self.browser.driver.execute_script('return Array.from(document.querySelectorAll("#kind option"), (each) => each.textContent).slice(1)'):
             kind, count = option.split(' ')
             equal(count, f'({len(self.program.listed(path, "--kind", kind))})', f'how many are {kind}')
+        self.browser.choose(1)
+        for words, wanted in (('nobody has this', ['The filter hides this packet.']), ('', [])):
+            self.browser.driver.execute_script(
+                'const box = document.getElementById("words"); box.value = arguments[0]; box.dispatchEvent(new Event("input"))', words)
+            self.browser.wait(lambda: self.browser.text('shown').startswith('0 of ') == bool(words))
+            equal(self.browser.texts('#packet [role=status]'), wanted, f'the filter {words!r} with a packet selected')
 
     def deliveries(self):
         """What a station is handed is what `nbt replay` delivers."""

@@ -20,6 +20,7 @@ export class PacketPanel {
     constructor(advice) {
         this.advice = advice;
         this.root = byId('packet', HTMLElement);
+        this.hidden = element('p', { class: 'quiet', role: 'status', hidden: true }, 'The filter hides this packet.');
         this.clear();
     }
 
@@ -36,9 +37,14 @@ export class PacketPanel {
         const refused = typeof packet.told?.refused === 'string' ? packet.told.refused : '';
         const at = typeof packet.told?.at === 'number' && !ELSEWHERE.test(refused) ? packet.told.at : null;
         this.root.replaceChildren(
-            element('h2', {}, `Frame ${packet.frame}`), element('p', { class: 'said' }, packet.said || phrase),
+            this.hidden, element('h2', {}, `Frame ${packet.frame}`), element('p', { class: 'said' }, packet.said || phrase),
             ...(refused ? [this.fault(refused)] : []), facts(packet, first),
             ...(packet.told ? [fields(packet.told), ...dumpOf(packet.bytes, at)] : []), wireshark(packet));
+    }
+
+    /** @param {boolean} isHidden whether the packet is none of the list */
+    tellHidden(isHidden) {
+        this.hidden.hidden = !isHidden;
     }
 
     /** @param {string} refused */

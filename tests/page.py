@@ -161,7 +161,23 @@ class Cases:
             wanted = self.program.delivered(f'{TOP}/examples/{name}', station)
             given = [[row[2], row[3], row[4]] for row in self.browser.tables().get('handed over', [[]])[1:]]
             equal(given, wanted, f'{name}, what {station} is handed')
-            equal([row[:2] for row in self.browser.tables()['keys'][1:]], self.program.keys(f'{TOP}/examples/{name}'), f'{name}, the keys')
+            keys = self.program.keys(f'{TOP}/examples/{name}')
+            equal([row[:2] for row in self.browser.tables()['keys'][1:]], keys, f'{name}, the keys')
+            count = sum(state == 'partial' for _, state in keys)
+            equal(self.browser.text('to-reassembly'), f'Reassembly {count}' if count else 'Reassembly', f'{name}, how many keys are incomplete')
+        self.first_frames()
+
+    def first_frames(self):
+        """A key leads to the first frame of its datagram."""
+        self.browser.open(self.page)
+        self.browser.give(self.path('pieces.txt', page_files.taps(self.program)[1].encode()))
+        self.browser.view('reassembly')
+        self.browser.wait(lambda: self.browser.texts('#keys a'))
+        equal([each.get_attribute('href').split('#')[1] for each in self.browser.all('#keys a')], ['packets?frame=1', 'packets?frame=3'], 'the first frames')
+        self.browser.wait(lambda: self.browser.text('to-reassembly') == 'Reassembly 1')
+        self.browser.all('#keys a')[1].click()
+        self.browser.wait(lambda: self.browser.texts('#packet h2') == ['Frame 3'])
+        check('10.0.0.6:138/0002' in self.browser.texts('#packet dd'), f"the packet of the key: {self.browser.texts('#packet dd')}")
 
     def taps(self):
         """Two taps: the join, what only it makes whole, and where they differ."""

@@ -26,6 +26,7 @@ const PATIENCE = 2_000;
  * @property {import('./desk.js').Counts} counts
  * @property {boolean} isRead
  * @property {string | null} fault
+ * @property {number} incomplete how many keys lack a piece
  */
 
 export class App {
@@ -82,7 +83,7 @@ export class App {
     async open(file, name, number) {
         const counts = { frames: 0, packets: 0, refused: 0, leftOut: 0, names: 0, conflicts: 0 };
         /** @type {Tap} */
-        const tap = { name, size: file.size, kind: 'frames', rows: new Rows(), first: null, counts, isRead: false, fault: null };
+        const tap = { name, size: file.size, kind: 'frames', rows: new Rows(), first: null, counts, isRead: false, fault: null, incomplete: 0 };
         const earlier = { tap: this.taps[number], place: this.place };
         this.taps[number] = tap;
         const frame = this.place.tap === number ? this.place : { frame: 0, packet: 1 };
@@ -100,7 +101,18 @@ export class App {
         if (this.taps[number] !== tap) return;
         if (tap.fault) this.complain(`${tap.name}: ${tap.fault}`);
         if (tap.fault && !tap.rows.count) await this.putBack(earlier, number);
-        else await this.read(tap);
+        else await Promise.all([this.read(tap), this.countKeys(tap, number)]);
+    }
+
+    /**
+     * Counts the keys that lack a piece; where that can't be done the view of reassembly says why.
+     *
+     * @param {Tap} tap
+     * @param {number} number
+     */
+    async countKeys(tap, number) {
+        tap.incomplete = await this.desk.ask('incomplete', { tap: number }).catch(() => 0);
+        this.head();
     }
 
     /**
@@ -242,13 +254,24 @@ export class App {
             counts.replaceChildren(...parts.flatMap(([count, word], at) => [at ? ' · ' : '',
                 element('b', { class: count && at > 1 ? 'bad' : null }, number(Number(count))), ` ${word}`]));
         }
-        const conflicts = tap?.counts.conflicts ?? 0;
-        const link = byId('to-names', HTMLAnchorElement);
-        const words = conflicts ? `Names ${number(conflicts)}` : 'Names';
-        if (link.textContent !== words) {
-            link.replaceChildren('Names', ...(conflicts ? [' ', element('b', { title: counted(conflicts, 'conflict') }, number(conflicts))] : []));
-        }
+        const { incomplete = 0, counts: { conflicts } = { conflicts: 0 } } = tap ?? {};
+        this.badge('names', 'Names', conflicts, counted(conflicts, 'conflict'));
+        this.badge('reassembly', 'Reassembly', incomplete, `${counted(incomplete, 'key')} incomplete`);
         this.choice();
+    }
+
+    /**
+     * What is counted, beside the name of a view.
+     *
+     * @param {string} view
+     * @param {string} name
+     * @param {number} count
+     * @param {string} title
+     */
+    badge(view, name, count, title) {
+        const link = byId(`to-${view}`, HTMLAnchorElement);
+        if (link.textContent === (count ? `${name} ${number(count)}` : name)) return;
+        link.replaceChildren(name, ...(count ? [' ', element('b', { title }, number(count))] : []));
     }
 
     /** Which of two files is looked at. */

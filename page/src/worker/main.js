@@ -3,7 +3,7 @@ import { load } from '../../../bindings/javascript/nbt.mjs';
 import { LEFT_OUT } from '../model/packets.js';
 import { outOf } from './out.js';
 import { Reading } from './reading.js';
-import { compared, handedTo, listed, tableOf } from './tables.js';
+import { compared, handedTo, incompleteOf, listed, tableOf } from './tables.js';
 import { Tap } from './tap.js';
 import { utc } from '../model/times.js';
 
@@ -85,8 +85,12 @@ const answers = {
 
     /** @param {{tap: number}} asked */
     async listed({ tap }) {
-        return { lines: listed(library, await tableOf(tapOf(tap))) };
+        const of = tapOf(tap);
+        return { lines: listed(library, await tableOf(of)), firsts: of.seen.firsts.entries };
     },
+
+    /** @param {{tap: number}} asked */
+    incomplete: ({ tap }) => incompleteOf(tapOf(tap)),
 
     /** @param {{tap: number, names: string[]}} asked */
     handed: ({ tap, names }) => handedTo(tapOf(tap), names),

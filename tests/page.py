@@ -327,6 +327,24 @@ class Cases:
         check(re.fullmatch('.*long.pcap: stopped after frame [0-9]+', self.browser.message()), f'stopped: {self.browser.message()}')
         self.browser.choose(self.browser.rows()[5][0])
         check(self.browser.rows(), 'the rows stay')
+        self.bad_while_reading(path)
+
+    def bad_while_reading(self, path):
+        """A bad file is opened while the second tap is read: that goes on."""
+        self.browser.open(self.page)
+        self.browser.give(path)
+        whole = self.browser.text('shown')
+        self.browser.open(self.page)
+        self.browser.give(self.path('keep.txt', b'139 0 85000000\n'))
+        self.browser.id('file').send_keys(path)
+        self.browser.wait(lambda: self.browser.text('title') == 'keep.txt and long.pcap' and self.browser.rows())
+        check(not self.browser.is_read(), 'it is being read')
+        self.browser.id('file').send_keys(self.path('third.png', b'\x89PNG'))
+        self.browser.wait(self.browser.message)
+        check('third.png: no pcap' in self.browser.message(), f'a bad file meanwhile: {self.browser.message()}')
+        self.browser.wait(lambda: self.browser.is_read() and self.browser.text('live').startswith('long.pcap: '))
+        equal(self.browser.text('shown'), whole, 'all of it is read')
+        check('third.png: no pcap' in self.browser.message(), f'the message stays: {self.browser.message()}')
 
     def controls(self):
         """Each control has a name, in each view; narrow windows too."""

@@ -39,6 +39,9 @@ export class App {
         this.desk = new Desk(code, module, (news) => this.hear(news));
         /** @type {(Tap | null)[]} */
         this.taps = [null, null];
+        /** The files that are being read. @type {Map<number, Tap>} */
+        this.coming = new Map();
+        this.opened = 0;
         this.place = placeOf();
         this.panel = new PacketPanel(new Advice(advice));
         this.packets = new PacketsView(this);
@@ -86,18 +89,22 @@ export class App {
         const tap = { name, size: file.size, kind: 'frames', rows: new Rows(), first: null, counts, isRead: false, fault: null, incomplete: 0 };
         const earlier = { tap: this.taps[number], place: this.place };
         this.taps[number] = tap;
+        this.opened += 1;
+        const { opened } = this;
+        this.coming.set(opened, tap);
         const frame = this.place.tap === number ? this.place : { frame: 0, packet: 1 };
         this.keep({ tap: number, frame: frame.frame, packet: frame.packet });
         byId('message', HTMLElement).hidden = true;
         this.show();
         try {
             await this.desk.loaded;
-            const end = await this.desk.ask('open', { tap: number, file, name });
+            const end = await this.desk.ask('open', { tap: number, opened, file, name });
             Object.assign(tap, { fault: end.fault, kind: end.kind, counts: end.counts, first: end.first });
         } catch (error) {
             tap.fault = error instanceof Error ? error.message : String(error);
         }
         tap.isRead = true;
+        this.coming.delete(opened);
         if (this.taps[number] !== tap) return;
         if (tap.fault) this.complain(`${tap.name}: ${tap.fault}`);
         if (tap.fault && !tap.rows.count) await this.putBack(earlier, number);
@@ -149,8 +156,8 @@ export class App {
 
     /** @param {import('./desk.js').News} news */
     hear(news) {
-        const tap = this.taps[news.tap];
-        if (!tap || tap.isRead) return;
+        const tap = this.coming.get(news.opened);
+        if (!tap) return;
         if (tap.first === null && news.rows.time.length) tap.first = news.rows.time[0];
         tap.rows.add(news.rows);
         tap.counts = news.counts;

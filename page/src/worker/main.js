@@ -46,19 +46,24 @@ const answers = {
         return { version: library.version() };
     },
 
-    /** @param {{tap: number, file: Blob, name: string}} asked */
-    async open({ tap: number, file, name }) {
+    /** @param {{tap: number, opened: number, file: Blob, name: string}} asked */
+    async open({ tap: number, opened, file, name }) {
         const tap = new Tap(file, name, library);
+        const earlier = { tap: taps.get(number), reading: readings.get(number) };
+        const replace = () => earlier.reading && Object.assign(earlier.reading, { isStopped: true });
         const reading = new Reading(tap, (done) => {
-            if (taps.get(number) === tap) postMessage({ tap: number, done, size: file.size, rows: tap.batch.take(), counts: tap.counts() });
+            if (!tap.isRead) replace();
+            if (taps.get(number) === tap) postMessage({ opened, done, size: file.size, rows: tap.batch.take(), counts: tap.counts() });
         });
-        const earlier = taps.get(number);
-        const unfinished = readings.get(number);
-        if (unfinished) unfinished.isStopped = true;
         taps.set(number, tap);
         readings.set(number, reading);
         const fault = await reading.run();
-        if (fault !== null && !tap.packets.count && earlier && taps.get(number) === tap) taps.set(number, earlier);
+        if (fault === null || tap.packets.count) {
+            replace();
+        } else if (earlier.tap && earlier.reading && taps.get(number) === tap) {
+            taps.set(number, earlier.tap);
+            readings.set(number, earlier.reading);
+        }
         return { fault, kind: tap.kind, counts: tap.counts(), first: tap.first };
     },
 

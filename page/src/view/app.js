@@ -107,8 +107,12 @@ export class App {
         this.coming.delete(opened);
         if (this.taps[number] !== tap) return;
         if (tap.fault) this.complain(`${tap.name}: ${tap.fault}`);
-        if (tap.fault && !tap.rows.count) await this.putBack(earlier, number);
-        else await Promise.all([this.read(tap), this.countKeys(tap, number)]);
+        if (tap.fault && !tap.rows.count) {
+            await this.putBack(earlier, number);
+            return;
+        }
+        this.countKeys(tap, number);
+        await this.read(tap);
     }
 
     /**

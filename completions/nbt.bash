@@ -6,7 +6,7 @@ _nbt() {
     1:*) words='name show build replay save merge list agree help --help --version' ;;
     2:help) words='name show build replay save merge list agree' ;;
     *:name) words='--bytes --help' ;;
-    *:show) words='--input-limit --comments --brief --json --help' ;;
+    *:show) words='--input-limit --comments --brief --partial --json --help' ;;
     *:build)
         words='--broadcast --help'
         case $3 in build | --broadcast) words+=' query status registration refresh release response request message positive negative retarget keepalive unique group broadcast error find found missing' ;; esac
@@ -28,7 +28,7 @@ _nbt_tool() {
     local words=''
     case ${1##*/} in
     nbt-look) words='-i --live --summary --frame --json --html --name --host --port --kind --time --color --quiet -r --help' ;;
-    nbt-pcap2cap) words='--bare --no-ticks --quiet --port --live -i --help' ;;
+    nbt-pcap2cap) words='--bare --no-ticks --cut --quiet --port --live -i --partial --help' ;;
     nbt-cap2pcap) words='--help' ;;
     nbt-parallel) words='--force --program --shard-bytes --by-source --no-estimate --tables --quiet --jobs --sshlogin --retries --help --list' ;;
     nbt-dask) words='--force --program --shard-bytes --by-source --no-estimate --tables --quiet --scheduler --workers --send --wait --help' ;;

@@ -115,9 +115,13 @@ enum nbt_status {
     NBT_FULL_SOURCE = 92,     /* as many keys of the address are held as may be, and a further one is new */
     NBT_FULL = 93,            /* as many keys are held as may be in all, and a further one is new */
 
-    /* The names of a station. */
+    /* A station, and its names. */
     NBT_NAME_PRESENT = 100,   /* a name stands there twice; *at: where its second text begins */
     NBT_TOO_MANY_NAMES = 101, /* more than 254 names; *at: where the text of the 255th begins */
+    NBT_NO_STATION = 102,     /* the station is none */
+
+    /* A part of a packet. */
+    NBT_OTHER_TYPE = 110, /* the packet stands, but its type isn't the one that has the part */
 
     NBT_UNKNOWN_STATUS = 255 /* no number of this enum */
 };
@@ -280,6 +284,22 @@ uint32_t nbt_datagram_write(uint8_t type, uint16_t identifier, uint32_t address,
                             const uint8_t *data, size_t data_length, uint16_t most,
                             uint8_t *into, size_t into_length, size_t *used, size_t *at);
 
+/* An error packet with this code, which says why a datagram wasn't taken: 0x82 nobody has the name that it is for, 0x83 and
+ * 0x84 the format of its source's or of its destination's name. The address and the port are those of the station that
+ * sends the error, and the identifier is the datagram's. FLAGS are 0x02 (our choice).
+ * NBT_NO_MEMORY, NBT_NO_ROOM.
+ * RFC 1002 section 4.4.3. */
+uint32_t nbt_datagram_error(uint16_t identifier, uint32_t address, uint16_t port, uint8_t code,
+                            uint8_t *into, size_t into_length, size_t *used);
+
+/* A query to a distribution server about the name with this text, or its answer: `type` is 0x14 for the question, 0x15 for
+ * the answer that it has the name, 0x16 for the answer that it hasn't. FLAGS are 0x02 (our choice).
+ * NBT_UNKNOWN_TYPE, NBT_BAD_TEXT, NBT_LONG_TEXT, NBT_NO_MEMORY, NBT_NO_ROOM, judged in this order.
+ * RFC 1002 section 4.4.4. */
+uint32_t nbt_datagram_query(uint8_t type, uint16_t identifier, uint32_t address, uint16_t port,
+                            const uint8_t *name, size_t name_length,
+                            uint8_t *into, size_t into_length, size_t *used, size_t *at);
+
 /* A packet of the session service: RFC 1002 section 4.3. */
 struct nbt_session {
     uint8_t type;       /* TYPE: 0x00 a message, 0x81 a request, 0x82 and 0x83 its answers, 0x84 retarget, 0x85 alive */
@@ -292,6 +312,28 @@ struct nbt_session {
  * NBT_MORE for less than a header, NBT_UNKNOWN_TYPE, NBT_RESERVED_FLAGS, NBT_BAD_LENGTH, NBT_MORE, and of a request 20
  * to 24, NBT_TRAILING_BYTES, judged in this order. No memory is taken. */
 uint32_t nbt_session_read(const uint8_t *bytes, size_t bytes_length, struct nbt_session *packet, size_t *at);
+
+/* The names of a session request: RFC 1002 section 4.3.2. */
+struct nbt_session_names {
+    uint8_t called_length;  /* the bytes of the spelling of the name that is called, its last zero byte included */
+    uint8_t called[255];    /* the spelling, whose text nbt_name_text gives, and bytes of zero after it */
+    uint8_t calling_length; /* the same of the name that calls */
+    uint8_t calling[255];
+};
+
+/* Reads the names of the request at the front of what came over a connection to port 139.
+ * Those of nbt_session_read, then NBT_OTHER_TYPE for a packet that is no request. No memory is taken. */
+uint32_t nbt_session_names(const uint8_t *bytes, size_t bytes_length, struct nbt_session_names *names, size_t *at);
+
+/* Where a retarget leads: RFC 1002 section 4.3.5. */
+struct nbt_session_retarget {
+    uint32_t address; /* RETARGET_IP_ADDRESS */
+    uint16_t port;    /* PORT */
+};
+
+/* Reads where the retarget leads at the front of what came over a connection to port 139.
+ * Those of nbt_session_read, then NBT_OTHER_TYPE for a packet that is no retarget. No memory is taken. */
+uint32_t nbt_session_retarget(const uint8_t *bytes, size_t bytes_length, struct nbt_session_retarget *retarget, size_t *at);
 
 /* The packet with this type and this body. The body of a request is the spelling of the name that is called, then that
  * of the name that calls. What is written is what nbt_session_read reads.
@@ -334,12 +376,33 @@ uint32_t nbt_table_merge(const uint8_t *first, size_t first_length, const uint8_
 uint32_t nbt_table_list(const uint8_t *table, size_t table_length,
                         uint8_t *into, size_t into_length, size_t *used, size_t *at);
 
+/* What the command `nbt list --json` prints of a table: a JSON object (RFC 8259) for each key, ascending, line feeds
+ * included (our choice).
+ * 70 to 72, NBT_NO_MEMORY, NBT_NO_ROOM. */
+uint32_t nbt_table_json(const uint8_t *table, size_t table_length,
+                        uint8_t *into, size_t into_length, size_t *used, size_t *at);
+
+/* Whether two tables differ, and the least key at which they do: a key is below another by its address, then by its port,
+ * then by its identifier. */
+struct nbt_difference {
+    uint32_t address;    /* SOURCE_IP of the key, SOURCE_PORT and DGM_ID; zeros where the tables are equal */
+    uint16_t port;
+    uint16_t identifier;
+    uint8_t differ;      /* 1 where the tables differ, else 0 */
+};
+
+/* Compares two tables by what they know of each key. However many keys they have, none is too many.
+ * 70 to 72 of the first, 80 to 82 of the second, NBT_NO_MEMORY (which may come before those of the second). */
+uint32_t nbt_table_differ(const uint8_t *first, size_t first_length, const uint8_t *second, size_t second_length,
+                          struct nbt_difference *difference, size_t *at);
+
 /* A station: its names, and a table that the payloads of port 138 fill and the clock empties (RFC 1002 section 5.3).
  * A datagram is handed over once, by the payload that makes it whole, if one of the names hears it: the name that it is
  * for or, of a broadcast, a name of that name's scope. -------------------------------------------------------------- */
 
 /* What nbt_station_create fills in, and nbt_station_free gives back, once each. The other calls move what it points to,
- * so a copy made before one isn't good after it. */
+ * so a copy made before one isn't good after it. One of all zero bytes is none: nbt_station_free does nothing with it, and
+ * each other call answers NBT_NO_STATION, before anything else, and changes nothing. */
 struct nbt_station {
     void *at;
 };
@@ -347,7 +410,7 @@ struct nbt_station {
 /* Makes a station with these names: their texts with one space between two, and none where the length is 0. Error
  * packets have this address and port. Its table is empty, and has room for `keys` keys, and for `per_source` of one
  * address, whatever its ports; UINT32_MAX is no limit. A key is kept from its first fragment on until the clock drops it,
- * some 200 bytes and the data each. `*station`, written at NBT_DONE alone, goes to `at` of a struct nbt_station.
+ * some 200 bytes and the data each. `*station` goes to `at` of a struct nbt_station; it is null unless the answer is NBT_DONE.
  * The first fault of the names in order: NBT_BAD_TEXT and NBT_LONG_TEXT (*at counts from the front of `names`),
  * NBT_NAME_PRESENT, NBT_TOO_MANY_NAMES; NBT_NO_MEMORY, which may come before those of a text after the first. */
 uint32_t nbt_station_create(const uint8_t *names, size_t names_length, uint32_t address, uint16_t port,
@@ -386,31 +449,35 @@ struct nbt_taken {
  * buffer has room for NBT_TAKE_ROOM bytes, whatever the payload: where it has less the answer is NBT_NO_ROOM, and
  * `*used` is NBT_TAKE_ROOM. So nothing can be lost for want of room once the payload is taken in. At NBT_DONE `*used`
  * bytes are written, and `*taken` says which.
- * NBT_NO_ROOM, NBT_MISPLACED_FIRST, NBT_LONG, NBT_FULL_SOURCE, NBT_FULL, NBT_NO_MEMORY (which may come before those that
+ * NBT_NO_STATION, NBT_NO_ROOM, NBT_MISPLACED_FIRST, NBT_LONG, NBT_FULL_SOURCE, NBT_FULL, NBT_NO_MEMORY (which may come before those that
  * follow the first). At each of these the station, the buffer and `*taken` are as they were. */
 uint32_t nbt_station_take(struct nbt_station *station, uint64_t moment, const uint8_t *payload, size_t payload_length,
                           struct nbt_taken *taken, uint8_t *into, size_t into_length, size_t *used);
 
 /* Looks at the clock, which shows `now`: drops each key that came at least 2,000 milliseconds before, whatever is known
  * of it. `*dropped` is how many. That a station has to be shown the clock is our choice; nothing else drops a key.
- * NBT_NO_MEMORY. */
+ * NBT_NO_STATION. No memory is taken. */
 uint32_t nbt_station_tick(struct nbt_station *station, uint64_t now, uint32_t *dropped);
 
 /* Writes the station's table, saved. The names, the limits and the moments aren't in it.
- * NBT_NO_MEMORY, NBT_NO_ROOM. */
+ * NBT_NO_STATION, NBT_NO_MEMORY, NBT_NO_ROOM. */
 uint32_t nbt_station_save(struct nbt_station *station, uint8_t *into, size_t into_length, size_t *used);
+
+/* What nbt_table_list writes of the station's table.
+ * NBT_NO_STATION, NBT_NO_MEMORY, NBT_NO_ROOM. */
+uint32_t nbt_station_list(struct nbt_station *station, uint8_t *into, size_t into_length, size_t *used);
 
 /* Joins the saved table of another station to this one's, at this moment: the keys that are new came then. Writes the
  * datagrams that become whole by this, of those that one of the names hears, by ascending key. Each is its key, as in
  * saved tables (SOURCE_IP in four bytes, SOURCE_PORT and DGM_ID in two), MSG_TYPE in one, the spellings of the source
  * and of the destination, the length of the data in two, and the data; the higher byte of a number first (our choice).
  * Nothing is lost at NBT_NO_ROOM: the station is then as it was. The call takes memory for a copy of the table.
- * 70 to 75, NBT_FULL_SOURCE, NBT_FULL, NBT_NO_MEMORY (which may come before any of these), NBT_NO_ROOM. At each of these
+ * NBT_NO_STATION, 70 to 75, NBT_FULL_SOURCE, NBT_FULL, NBT_NO_MEMORY (which may come before those), NBT_NO_ROOM. At each of these
  * the station and the buffer are as they were. */
 uint32_t nbt_station_absorb(struct nbt_station *station, uint64_t moment, const uint8_t *table, size_t table_length,
                             uint8_t *into, size_t into_length, size_t *used, size_t *at);
 
-/* Gives a station back, with all that it kept. */
+/* Gives a station back, with all that it kept; nothing, if it is none. */
 void nbt_station_free(struct nbt_station station);
 
 #ifdef __cplusplus

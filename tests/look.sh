@@ -4,6 +4,7 @@
 # left out.
 set -uo pipefail
 . "$(dirname "$0")/lib/counting.sh"
+. "$here/lib/cut_cases.sh"
 program=$(realpath "${1:-$here/../crates/nbt/out/nbt}")
 
 if ! command -v tshark >/dev/null; then
@@ -132,7 +133,7 @@ objects() {
     count $? "the members of a frame: $(sed -n 10p "$room/objects")"
     look --json --quiet --kind query "$office" 2>&1 | diff - <(grep '"op":"query"' "$room/objects")
     count $? 'nbt-look --json --quiet --kind query'
-    # As many packets as tshark finds.
+    # As many as tshark finds.
     for each in 'nbns 137' 'nbdgm 138' 'nbss.type 139'; do
         [ "$(grep -c "\"port\":${each#* }" "$room/objects")" -eq "$(tshark -n -r "$office" -Y "${each% *}" -T fields -e frame.number 2>"$room/errors" | wc -l)" ]
         count $? "as many packets of $each as tshark finds"
@@ -259,7 +260,7 @@ END
     made snapped
     look "$room/snapped.pcap" >"$room/output"
     [ "$(tail -n 1 "$room/output")" = '601 frames, 1 packets, 0 refused, 600 left out: 600 cut by the snap length' ] &&
-        [ "$(grep -c ' left out: cut by the snap length, 96 of 1124 bytes$' "$room/output")" -eq 600 ]
+        [ "$(grep -c ' cut: group datagram from JOE<00>, 54 of 1082 bytes$' "$room/output")" -eq 600 ]
     count $? "packets that are cut: $(tail -n 1 "$room/output")"
     made fragments
     prints 'fragments whose others are missing' "$room/fragments.pcap" <<'END'
@@ -337,7 +338,7 @@ colours() {
     local PATH=$room/system:$PATH
     TERM=xterm on_terminal 200 nbt-look "$room/life.pcap" | grep -q $'\x1b\[31m.*refused: .*\x1b\[0m'
     count $? 'a refused packet is red on a terminal'
-    look --color always "$room/life.pcap" | grep -q $'\x1b\[33m.*left out: .*\x1b\[0m'
+    look --color always "$room/life.pcap" | grep -q $'\x1b\[33m.*cut: .*\x1b\[0m'
     count $? 'nbt-look --color always'
     python3 "$here/lib/summary_pictures.py" --check
     count $? 'docs/summary-light.svg and docs/summary-dark.svg have these words: tests/lib/summary_pictures.py draws them'
@@ -391,7 +392,7 @@ part summary summary
 part frames frames
 part bad bad
 part random random
-if /usr/bin/python3 -c 'import scapy' 2>/dev/null; then part scapy scapy; else lacks scapy python3-scapy; fi
+if /usr/bin/python3 -c 'import scapy' 2>/dev/null; then part scapy scapy; part cut cuts; else lacks scapy python3-scapy; lacks cut python3-scapy; fi
 part terminals terminals
 if /usr/bin/python3 -c 'import rich' 2>/dev/null; then part colours colours; else lacks colours python3-rich; fi
 part growing growing

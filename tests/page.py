@@ -101,9 +101,11 @@ class Cases:
             self.browser.wait(self.browser.tables)
             shown, wanted = self.browser.tables(), self.program.summary(path)
             wanted.pop('datagrams', None)
+            without_refused_ends(wanted['names'])
             equal(sorted(shown), sorted(wanted), f'the tables of {os.path.basename(path)}')
             for title, rows in wanted.items():
                 equal(shown.get(title), rows, f'{os.path.basename(path)}, {title}')
+        equal([row[6] for row in shown['names'][1:] if row[4] == 'refused'], ['-'], 'a refused claim has no lifetime')
         check('2 names have several claimants' in self.browser.texts('#view-names .lead')[0], f"several claimants: {self.browser.texts('#view-names .lead')}")
 
     def faults(self):
@@ -118,8 +120,10 @@ class Cases:
             at = told.get('at') if 'not netbios' not in told['refused'] else None
             wanted = [] if at is None else ['  '] if at >= len(data) else [f'{data[at]:02x}']
             equal(self.browser.texts('#packet mark')[:1], wanted, f"the mark of {told['refused']}")
-            equal(self.browser.texts('#packet .fault b'), [told['refused']], 'the fault')
-            equal(self.browser.texts('#packet .fault p')[0], self.program.help(told['refused']), f"the advice on {told['refused']}")
+            equal(self.browser.texts('#packet .fault b'), [told['brief'].removeprefix('refused: ')], 'the fault')
+            advice = self.program.help(told['refused']).split(': ', 1)[1]
+            equal(self.browser.texts('#packet .fault p')[0], advice.replace('`', ''), f"the advice on {told['refused']}")
+            equal(self.browser.texts('#packet .fault p code'), advice.split('`')[1::2], f"the code in the advice on {told['refused']}")
         equal(self.browser.texts('.row.refused .says'), [self.program.told(line)['brief'] for line in lines], 'what the rows say')
 
     def filters(self):
@@ -137,6 +141,12 @@ class Cases:
         for option in self.browser.driver.execute_script('return Array.from(document.querySelectorAll("#kind option"), (each) => each.textContent).slice(1)'):
             kind, count = option.split(' ')
             equal(count, f'({len(self.program.listed(path, "--kind", kind))})', f'how many are {kind}')
+        self.browser.choose(1)
+        for words, wanted in (('nobody has this', ['The filter hides this packet.']), ('', [])):
+            self.browser.driver.execute_script(
+                'const box = document.getElementById("words"); box.value = arguments[0]; box.dispatchEvent(new Event("input"))', words)
+            self.browser.wait(lambda: self.browser.text('shown').startswith('0 of ') == bool(words))
+            equal(self.browser.texts('#packet [role=status]'), wanted, f'the filter {words!r} with a packet selected')
 
     def deliveries(self):
         """What a station is handed is what `nbt replay` delivers."""
@@ -151,7 +161,23 @@ class Cases:
             wanted = self.program.delivered(f'{TOP}/examples/{name}', station)
             given = [[row[2], row[3], row[4]] for row in self.browser.tables().get('handed over', [[]])[1:]]
             equal(given, wanted, f'{name}, what {station} is handed')
-            equal([row[:2] for row in self.browser.tables()['keys'][1:]], self.program.keys(f'{TOP}/examples/{name}'), f'{name}, the keys')
+            keys = self.program.keys(f'{TOP}/examples/{name}')
+            equal([row[:2] for row in self.browser.tables()['keys'][1:]], keys, f'{name}, the keys')
+            count = sum(state == 'partial' for _, state in keys)
+            equal(self.browser.text('to-reassembly'), f'Reassembly {count}' if count else 'Reassembly', f'{name}, how many keys are incomplete')
+        self.first_frames()
+
+    def first_frames(self):
+        """A key leads to the first frame of its datagram."""
+        self.browser.open(self.page)
+        self.browser.give(self.path('pieces.txt', page_files.taps(self.program)[1].encode()))
+        self.browser.view('reassembly')
+        self.browser.wait(lambda: self.browser.texts('#keys a'))
+        equal([each.get_attribute('href').split('#')[1] for each in self.browser.all('#keys a')], ['packets?frame=1', 'packets?frame=3'], 'the first frames')
+        self.browser.wait(lambda: self.browser.text('to-reassembly') == 'Reassembly 1')
+        self.browser.all('#keys a')[1].click()
+        self.browser.wait(lambda: self.browser.texts('#packet h2') == ['Frame 3'])
+        check('10.0.0.6:138/0002' in self.browser.texts('#packet dd'), f"the packet of the key: {self.browser.texts('#packet dd')}")
 
     def taps(self):
         """Two taps: the join, what only it makes whole, and where they differ."""
@@ -165,6 +191,11 @@ class Cases:
         equal([row[1:3] for row in tables['tables'][1:]], [['2', '0'], ['2', '1'], ['2', '2']], 'how many keys, and how many are whole')
         equal([row[:2] for row in tables['keys'][1:]], [['10.0.0.5:138/0001', 'whole']], 'what only the join makes whole')
         equal([row for row in tables['keys that differ'][1:]], self.program.differing(one, two), 'where they differ')
+        self.browser.give(self.path('third.png', b'\x89PNG'))
+        check('third.png: no pcap' in self.browser.message(), f'a bad third file: {self.browser.message()}')
+        equal(self.browser.text('title'), 'one.txt and two.txt', 'both taps stay')
+        equal(self.browser.wait(self.browser.tables), tables, 'what the taps have stays')
+        check(self.browser.text('live').startswith('two.txt: 4 packets'), f"the footer: {self.browser.text('live')}")
 
     def out(self):
         """What is given out is byte for byte what the program prints."""
@@ -245,6 +276,23 @@ class Cases:
         check('#reassembly?frame=9' in self.browser.driver.current_url, 'the address keeps the view')
         self.browser.driver.back()
         self.browser.wait(lambda: self.browser.id('view-packets').is_displayed())
+        self.list_keys()
+
+    def list_keys(self):
+        """The list has the keys after each way to it."""
+        from browser import Keys
+        self.browser.view('names')
+        self.browser.wait(self.browser.tables)
+        self.browser.all('#view-names a[href*="frame="]')[0].click()
+        self.browser.wait(lambda: self.browser.id('view-packets').is_displayed())
+        equal(self.browser.driver.switch_to.active_element.get_attribute('id'), 'grid', 'a link to a frame leads to the list')
+        last = self.browser.rows()[-1][0]
+        for before, key, frame in (('names', Keys.END, last), ('packets', Keys.HOME, '1')):
+            self.browser.view(before)
+            self.browser.view('packets')
+            self.browser.key(key)
+            self.browser.wait(lambda: self.browser.texts('#packet h2') == [f'Frame {frame}'])
+            equal(self.browser.driver.switch_to.active_element.get_attribute('id'), 'grid', f'from {before} to the list')
 
     def given(self):
         """A capture that is pasted or dropped, and one that is in the page from the start."""
@@ -279,6 +327,24 @@ class Cases:
         check(re.fullmatch('.*long.pcap: stopped after frame [0-9]+', self.browser.message()), f'stopped: {self.browser.message()}')
         self.browser.choose(self.browser.rows()[5][0])
         check(self.browser.rows(), 'the rows stay')
+        self.bad_while_reading(path)
+
+    def bad_while_reading(self, path):
+        """A bad file is opened while the second tap is read: that goes on."""
+        self.browser.open(self.page)
+        self.browser.give(path)
+        whole = self.browser.text('shown')
+        self.browser.open(self.page)
+        self.browser.give(self.path('keep.txt', b'139 0 85000000\n'))
+        self.browser.id('file').send_keys(path)
+        self.browser.wait(lambda: self.browser.text('title') == 'keep.txt and long.pcap' and self.browser.rows())
+        check(not self.browser.is_read(), 'it is being read')
+        self.browser.id('file').send_keys(self.path('third.png', b'\x89PNG'))
+        self.browser.wait(self.browser.message)
+        check('third.png: no pcap' in self.browser.message(), f'a bad file meanwhile: {self.browser.message()}')
+        self.browser.wait(lambda: self.browser.is_read() and self.browser.text('live').startswith('long.pcap: '))
+        equal(self.browser.text('shown'), whole, 'all of it is read')
+        check('third.png: no pcap' in self.browser.message(), f'the message stays: {self.browser.message()}')
 
     def controls(self):
         """Each control has a name, in each view; narrow windows too."""
@@ -301,6 +367,14 @@ class Cases:
         self.browser.look()
         equal(self.browser.faults, [], 'the console')
         equal(self.browser.requests, [], 'requests')
+
+
+def without_refused_ends(names):
+    """Of the rows of names, takes out until when a refused claim would have lasted."""
+    head, *rows = names
+    for row in rows:
+        if row[head.index('how')] == 'refused':
+            row[head.index('until')] = '-'
 
 
 def first_difference(given, wanted):

@@ -5,6 +5,7 @@ Usage: tests/process.py [PROGRAM]; its last line is 'N passed, M failed, K skipp
 with a status of 0 to 3 and that status's text, and what it wrote has to be a front of what it writes otherwise.
 """
 import contextlib
+import itertools
 import os
 import resource
 import select
@@ -17,8 +18,9 @@ import time
 
 sys.path.insert(1, f'{sys.path[0]}/lib')
 from process_inputs import CAPTURE, COMMANDS, FRED, READING, REPORT, captures, chained, roomy
-from process_runs import (TESTS, at_terminal, broken_pipe, bytes_of, closed, instructions, limited, lines_of, quiet_terminal,
-                          rest_of, run, small_pipe, start, starts, wait)
+from process_runs import (TESTS, broken_pipe, bytes_of, closed, instructions, limited, lines_of, rest_of, run, small_pipe, start,
+                          starts, wait)
+from process_terminals import advised, at_terminals, dropped, looked, mistaken, plain, short_of_memory
 
 counts = {'passed': 0, 'failed': 0, 'skipped': 0}
 
@@ -217,25 +219,9 @@ def halting_inputs():
 
 
 def terminals():
-    """A terminal as all three streams: lines are acted on as they are typed, and ^D ends the input. Of a terminal that
-    is gone the system says either that the input has ended or that it can't be read."""
-    for words, given, status, output, errors in COMMANDS:
-        ended = at_terminal(words, given + b'\x04', output + errors)
-        check(ended == (status, output + errors), f'nbt {" ".join(words)} at a terminal')
-    for words in (['show'], ['replay', 'FRED<20>']):
-        report = {'show': b'1 tick 1\n2 tick 22\n', 'replay': b'1 dropped 0\n2 dropped 0\n'}[words[0]]
-        for typed, wanted, status in [(b'tick 1\ntick 22\n\x04', report, 0), (b'tick 1\ntick 22\x04\x04', report, 0),
-                                      (b'tick 1\nx\n', report[:report.index(b'\n') + 1] + b'nbt: line 2\n', 1)]:
-            check(at_terminal(words, typed, wanted) == (status, wanted), f'nbt {words[0]} at a terminal: {typed}')
-        terminal, slave = quiet_terminal()
-        process = start(words, stdin=slave)
-        os.close(slave)
-        os.write(terminal, b'tick 1\n')
-        first = lines_of(process.stdout, 1)
-        os.close(terminal)
-        rest = rest_of(process.stdout)
-        check(first + rest == report[:report.index(b'\n') + 1] and wait(process) in ((0, b''), (3, b'nbt: read\n')),
-              f'nbt {words[0]}, its terminal gone')
+    """A terminal as all three streams, and as standard error alone."""
+    for passed, name in itertools.chain(at_terminals(), advised(), mistaken(), looked(), dropped(), plain(), short_of_memory()):
+        check(passed, name)
 
 
 def full_disks():

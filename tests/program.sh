@@ -94,6 +94,11 @@ phrases() {
     counted_by brief_phrases.py "$program"
 }
 
+# What `--partial` prints of packets that are refused or cut, beside a model that reads what still stands.
+fronts() {
+    counted_by front_lines.py "$program"
+}
+
 # An output that has room for fewer bytes than there are.
 rooms() {
     counted_by output_rooms.py "$program" "$room/devices.so"
@@ -340,6 +345,7 @@ part saved saved
 part merges merges
 part objects objects
 part phrases phrases
+part fronts fronts
 part rooms rooms
 part streams streams
 part memory memory

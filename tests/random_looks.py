@@ -26,7 +26,7 @@ from pcap_reading import frames_of
 from random_pcap import pcap_of
 
 TOOL = f'{sys.path[0]}/../tools/nbt-look'
-FRAGMENTS = 'fragments of IP '
+CUT, FRAGMENTS = 'cut by the snap length', 'fragments of IP '
 SERVICES = '(nbns || nbdgm) && !icmp && !icmpv6'
 
 
@@ -54,8 +54,8 @@ def agrees(seed):
 def first_difference(path, frames):
     done = subprocess.run([TOOL, '--json', path], capture_output=True, text=True, timeout=120, check=False)
     objects = [json.loads(line) for line in done.stdout.splitlines()]
-    packets = [each for each in objects if 'left_out' not in each]
-    left_out = {each['frame']: each['left_out'] for each in objects if 'left_out' in each}
+    packets = [each for each in objects if 'left_out' not in each and 'cut' not in each]
+    left_out = {each['frame']: each.get('left_out', CUT) for each in objects if 'left_out' in each or 'cut' in each}
     expected = Expected(frames)
     given, wanted = collections.Counter(map(head_of, packets)), collections.Counter(heads_of(expected.lines))
     if given != wanted:

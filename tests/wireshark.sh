@@ -94,6 +94,25 @@ built() {
     count $? 'pcap2cap: the packets that were built'
 }
 
+# ---- What a snap length leaves of payloads: with --cut their fronts, without it those alone that are whole. The frames of
+# examples/office.pcap have 28 bytes before a payload of UDP.
+
+snapped() {
+    local length
+    pcap2cap --bare --no-ticks --quiet "$here/../examples/office.pcap" | grep -v '^139' >"$room/whole"
+    for length in 26 28 29 36 40 62 78 90 96 112 300; do
+        editcap -s $length "$here/../examples/office.pcap" "$room/snapped.pcap"
+        pcap2cap --cut --bare --no-ticks --quiet "$room/snapped.pcap" | grep '^13[78]' >"$room/cut"
+        awk -v size=$((length > 28 ? 2 * (length - 28) : 0)) 'size { print $1, $2, substr($3, 1, size) }' "$room/whole" | cmp -s - "$room/cut"
+        count $? "pcap2cap --cut: $length bytes of each frame"
+        [ "$(nbt show --partial <"$room/cut" | grep -c '^[0-9]')" -eq "$(wc -l <"$room/cut")" ]
+        count $? "nbt show --partial: $length bytes of each frame"
+        pcap2cap --bare --no-ticks --quiet "$room/snapped.pcap" | grep '^13[78]' >"$room/uncut"
+        awk -v size=$((2 * (length - 28))) 'length($3) <= size' "$room/whole" | cmp -s - "$room/uncut"
+        count $? "pcap2cap: $length bytes of each frame"
+    done
+}
+
 # ---- A network's packets, by tests/lib/network.py.
 
 payloads() { awk '$1 ~ /^13/ { print $1, $3 }' "$1"; }
@@ -336,6 +355,7 @@ office() {
 }
 
 part built built
+part snapped snapped
 part network network
 part odd odd
 part random random

@@ -53,11 +53,37 @@ export interface DatagramToWrite {
     most?: number;
 }
 
+/** An error packet to be written, which says why a datagram wasn't taken. */
+export interface DatagramErrorToWrite {
+    /** The datagram's. */
+    identifier: number;
+    /** Address and port are those of the station that sends the error; 138 without a port. */
+    address: Address;
+    port?: number;
+    /** 0x82 nobody has the name that it is for, 0x83 and 0x84 the format of its source's and of its destination's name. */
+    code: number;
+}
+
+/** A query to a distribution server, or its answer, to be written: 0x14 the question, 0x15 it has the name, 0x16 it hasn't. */
+export interface DatagramQueryToWrite {
+    type: number;
+    identifier: number;
+    address: Address;
+    /** 138 without it. */
+    port?: number;
+    name: string;
+}
+
 /** A packet of the session service, port 139: RFC 1002 section 4.3. */
 export interface SessionPacket {
     type: number;
     body: Uint8Array;
     used: number;
+    /** CALLED_NAME and CALLING_NAME as texts; null but in a request. */
+    called: string | null;
+    calling: string | null;
+    /** Whom to call instead: RETARGET_IP_ADDRESS and PORT; null but in a retarget. */
+    retarget: { address: string; port: number } | null;
 }
 
 /** What a request of the name service says. `timeToLive` is in seconds; 0 stands for a number or address that isn't given. */
@@ -76,12 +102,16 @@ export interface Limits {
     perSource?: number;
 }
 
-/** A datagram that is handed over. */
-export interface Delivery {
-    type: number;
+/** By what the fragments of a datagram belong together: SOURCE_IP, SOURCE_PORT and DGM_ID. */
+export interface Key {
     address: string;
     port: number;
     identifier: number;
+}
+
+/** A datagram that is handed over. */
+export interface Delivery extends Key {
+    type: number;
     source: string;
     destination: string;
     data: Uint8Array;
@@ -110,6 +140,8 @@ export interface Station {
     tick(now: Moment): number;
     /** Its table, saved. */
     save(): Uint8Array;
+    /** What `list` says of its table. */
+    list(): string;
     /** Joins another station's saved table: the datagrams that become whole by it and are heard, by ascending key. */
     absorb(moment: Moment, table: Bytes): Delivery[];
     /** Gives the station back; a second time does nothing. */
@@ -138,6 +170,8 @@ export interface Nbt {
     readDatagram(payload: Bytes, offset?: number): Datagram;
     /** The packets of a datagram, in order. */
     writeDatagram(datagram: DatagramToWrite): Uint8Array[];
+    writeDatagramError(error: DatagramErrorToWrite): Uint8Array;
+    writeDatagramQuery(query: DatagramQueryToWrite): Uint8Array;
     /** NbtError: MORE where the packet isn't there whole. */
     readSession(payload: Bytes, offset?: number): SessionPacket;
     writeSession(type: number, body?: Bytes): Uint8Array;
@@ -146,6 +180,10 @@ export interface Nbt {
     merge(first: Bytes, second: Bytes, limits?: Limits): Uint8Array;
     /** What the command `nbt list` prints of a saved table. */
     list(table: Bytes): string;
+    /** The objects of JSON that `nbt list --json` prints of it, a line each. */
+    tableJson(table: Bytes): string;
+    /** The least key at which two saved tables differ, by address, port and identifier; null where they know the same. */
+    differ(first: Bytes, second: Bytes): Key | null;
 }
 
 export interface LoadOptions {

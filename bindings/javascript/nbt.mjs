@@ -13,14 +13,14 @@ export const Status = Object.freeze({
     ZERO_PIECE: 61, LONG_DATA: 62, TABLE_BAD_MAGIC: 70, TABLE_TRUNCATED: 71, TABLE_NOT_CANONICAL: 72, TABLE_LONG: 73,
     TABLE_FULL_SOURCE: 74, TABLE_FULL: 75, SECOND_BAD_MAGIC: 80, SECOND_TRUNCATED: 81, SECOND_NOT_CANONICAL: 82, SECOND_LONG: 83,
     SECOND_FULL_SOURCE: 84, SECOND_FULL: 85, MISPLACED_FIRST: 90, LONG: 91, FULL_SOURCE: 92, FULL: 93, NAME_PRESENT: 100,
-    TOO_MANY_NAMES: 101, UNKNOWN_STATUS: 255,
+    TOO_MANY_NAMES: 101, NO_STATION: 102, OTHER_TYPE: 110, UNKNOWN_STATUS: 255,
 });
 const STATUS_NAMES = new Map(Object.entries(Status).map(([name, number]) => [number, name]));
 const OUTCOMES = ['KEPT', 'SPOILT', 'DELIVERED', 'UNHEARD', 'OTHER', 'REFUSED'];
 const REQUESTS = ['query', 'nodeStatus', 'registration', 'refresh', 'release'];
-const NO_LIMIT = 0xffff_ffff, TAKE_ROOM = 66_045;
+const REQUEST = 0x81, RETARGET = 0x84, NO_LIMIT = 0xffff_ffff, TAKE_ROOM = 66_045;
 // In front of the bytes that a call is given: how many it used, a place, and a structure of numbers. INTO is its room.
-const USED = { at: 0 }, AT = { at: 8 }, FOUND = { at: 16 }, FRONT = 96, INTO = {};
+const USED = { at: 0 }, AT = { at: 8 }, FOUND = { at: 16 }, FRONT = 528, INTO = {};
 // How much room an answer has at first, and how much is kept from one call to the next.
 const ROOM = 4_096, MOST_KEPT = 1 << 20;
 const utf8 = new TextEncoder(), ascii = new TextDecoder();
@@ -54,6 +54,7 @@ function addressOf(value) {
     throw new RangeError(`address: ${value} is none`);
 }
 
+const limitsOf = (keys, perSource) => [numberOf(keys, 32, 'keys'), numberOf(perSource, 32, 'perSource')];
 const addressText = (number) => [24, 16, 8, 0].map((bits) => (number >>> bits) & 255).join('.');
 
 function textOf(value, what) {
@@ -164,8 +165,9 @@ class Calls {
         return this.bytes.subarray(this.into, this.into + this.number(USED.at));
     }
 
-    /** The bytes that a structure has the place and the length of. */
+    /** The bytes that a structure has the place and the length of, and those that it has itself, behind their number. */
     part(bytes, at) { return bytes.slice(this.number(at), this.number(at) + this.number(at + 8)); }
+    counted(at) { return this.bytes.slice(this.at + at + 1, this.at + at + 1 + this.byte(at)); }
 
     free(handle) {
         this.call('nbt_station_free', [this.view.getBigInt64(handle, true)]);
@@ -173,12 +175,11 @@ class Calls {
     }
 
     byte(at) { return this.view.getUint8(this.at + at); }
-
     word(at) { return this.view.getUint16(this.at + at, true); }
-
     long(at) { return this.view.getUint32(this.at + at, true); }
-
     number(at) { return this.long(at) + this.long(at + 4) * 2 ** 32; }
+    endpoint(at) { return { address: addressText(this.long(at)), port: this.word(at + 4) }; }
+    key(at) { return { ...this.endpoint(at), identifier: this.word(at + 6) }; }
 
     /** Why a call did nothing. Without memory there is none to ask for the words. */
     error(status, at = status === Status.NO_MEMORY ? null : this.place()) {
@@ -189,7 +190,6 @@ class Calls {
     place() { return this.long(AT.at + 4) === NO_LIMIT ? null : this.number(AT.at); }
 
     words(status) { return ascii.decode(this.write('nbt_status_text', [status, INTO, USED])); }
-
     name(spelling) { return ascii.decode(this.write('nbt_name_text', [spelling, INTO, USED, AT])); }
 }
 
@@ -222,10 +222,7 @@ const stationOf = (calls) => class Station {
     #handle = 0;
 
     constructor(names, address, { port = 138, keys = 1_024, perSource = NO_LIMIT } = {}) {
-        const words = [
-            namesOf(names), addressOf(address), numberOf(port, 16, 'port'), numberOf(keys, 32, 'keys'),
-            numberOf(perSource, 32, 'perSource'),
-        ];
+        const words = [namesOf(names), addressOf(address), numberOf(port, 16, 'port'), ...limitsOf(keys, perSource)];
         const handle = calls.take(8);
         try {
             calls.fill('nbt_station_create', [...words, BigInt(handle), AT]);
@@ -247,8 +244,7 @@ const stationOf = (calls) => class Station {
         const written = calls.write('nbt_station_take', words, TAKE_ROOM).slice();
         const outcome = OUTCOMES[calls.long(16)], refusal = calls.long(64), at = calls.number(72), type = calls.byte(28);
         const source = calls.number(32), data = source + calls.number(40);
-        const isOfKey = outcome !== 'OTHER' && outcome !== 'REFUSED';
-        const key = { address: addressText(calls.long(20)), port: calls.word(24), identifier: calls.word(26) };
+        const key = calls.key(20), isOfKey = outcome !== 'OTHER' && outcome !== 'REFUSED';
         const taken = { outcome, ...(isOfKey ? key : { address: null, port: 0, identifier: 0 }), delivery: null, error: null, refusal: null };
         if (outcome === 'DELIVERED') {
             const names = [written.subarray(0, source), written.subarray(source, data)].map((spelling) => calls.name(spelling));
@@ -266,6 +262,7 @@ const stationOf = (calls) => class Station {
     }
 
     save() { return calls.write('nbt_station_save', [this.#open(), INTO, USED]).slice(); }
+    list() { return ascii.decode(calls.write('nbt_station_list', [this.#open(), INTO, USED])); }
 
     absorb(moment, table) {
         const words = [this.#open(), momentOf(moment, 'moment'), bytesOf(table, 'table'), INTO, USED, AT];
@@ -286,6 +283,8 @@ const stationOf = (calls) => class Station {
 function libraryOf(calls) {
     const said = (call) => (port, payload) =>
         ascii.decode(calls.write(call, [numberOf(port, 16, 'port'), bytesOf(payload, 'payload'), INTO, USED]));
+    const listed = (call) => (table) => ascii.decode(calls.write(call, [bytesOf(table, 'table'), INTO, USED, AT]));
+    const sender = (identifier, address, port) => [numberOf(identifier, 16, 'identifier'), addressOf(address), numberOf(port, 16, 'port')];
     return {
         Station: stationOf(calls),
         words: (status) => calls.words(numberOf(status, 32, 'status')),
@@ -295,29 +294,32 @@ function libraryOf(calls) {
         json: said('nbt_json'),
         brief: said('nbt_brief'),
         version: () => ascii.decode(calls.write('nbt_version', [INTO, USED])),
-        list: (table) => ascii.decode(calls.write('nbt_table_list', [bytesOf(table, 'table'), INTO, USED, AT])),
+        list: listed('nbt_table_list'),
+        tableJson: listed('nbt_table_json'),
 
         merge(first, second, { keys = 65_535, perSource = NO_LIMIT } = {}) {
-            const limits = [numberOf(keys, 32, 'keys'), numberOf(perSource, 32, 'perSource')];
-            return calls.write('nbt_table_merge', [bytesOf(first, 'first'), bytesOf(second, 'second'), ...limits, INTO, USED, AT]).slice();
+            const words = [bytesOf(first, 'first'), bytesOf(second, 'second'), ...limitsOf(keys, perSource), INTO, USED, AT];
+            return calls.write('nbt_table_merge', words).slice();
+        },
+
+        differ(first, second) {
+            calls.fill('nbt_table_differ', [bytesOf(first, 'first'), bytesOf(second, 'second'), FOUND, AT]);
+            return calls.byte(24) === 0 ? null : calls.key(16);
         },
 
         readDatagram(payload, offset) {
             const bytes = bytesOf(payload, 'payload', offset);
             calls.fill('nbt_datagram_read', [bytes, FOUND, AT]);
-            const read = {
-                type: calls.byte(16), flags: calls.byte(17), identifier: calls.word(18), address: addressText(calls.long(20)),
-                port: calls.word(24), offset: calls.word(26), used: calls.number(80),
-            };
+            const numbers = { type: calls.byte(16), flags: calls.byte(17), identifier: calls.word(18), offset: calls.word(26) };
+            const read = { ...numbers, ...calls.endpoint(20), used: calls.number(80) };
             const [source, destination, data] = [32, 48, 64].map((at) => calls.part(bytes, at));
             const named = (spelling) => (spelling.length > 0 ? calls.name(spelling) : null);
             return { ...read, source: named(source), destination: named(destination), data };
         },
 
         writeDatagram({ type, identifier, address, port = 138, source, destination, data, most = 512 }) {
-            const numbers = [numberOf(type, 8, 'type'), numberOf(identifier, 16, 'identifier'), addressOf(address), numberOf(port, 16, 'port')];
-            const texts = [encoded(source, 'source'), encoded(destination, 'destination')];
-            const words = [...numbers, ...texts, bytesOf(data, 'data'), numberOf(most, 16, 'most'), INTO, USED, AT];
+            const words = [numberOf(type, 8, 'type'), ...sender(identifier, address, port), encoded(source, 'source')];
+            words.push(encoded(destination, 'destination'), bytesOf(data, 'data'), numberOf(most, 16, 'most'), INTO, USED, AT);
             const written = calls.write('nbt_datagram_write', words), pieces = [];
             for (let at = 0, next; at < written.length; at = next) {
                 next = at + 2 + written[at] * 256 + written[at + 1];
@@ -326,10 +328,27 @@ function libraryOf(calls) {
             return pieces;
         },
 
+        writeDatagramError: ({ identifier, address, port = 138, code }) =>
+            calls.write('nbt_datagram_error', [...sender(identifier, address, port), numberOf(code, 8, 'code'), INTO, USED]).slice(),
+
+        writeDatagramQuery({ type, identifier, address, port = 138, name }) {
+            const words = [numberOf(type, 8, 'type'), ...sender(identifier, address, port), encoded(name, 'name'), INTO, USED, AT];
+            return calls.write('nbt_datagram_query', words).slice();
+        },
+
         readSession(payload, offset) {
             const bytes = bytesOf(payload, 'payload', offset);
             calls.fill('nbt_session_read', [bytes, FOUND, AT]);
-            return { type: calls.byte(16), body: calls.part(bytes, 24), used: calls.number(40) };
+            const type = calls.byte(16), used = calls.number(40), words = [bytes.subarray(0, used), FOUND, AT];
+            const read = { type, body: calls.part(bytes, 24), used, called: null, calling: null, retarget: null };
+            if (type === REQUEST) {
+                calls.fill('nbt_session_names', words);
+                [read.called, read.calling] = [16, 272].map((at) => calls.counted(at)).map((spelling) => calls.name(spelling));
+            } else if (type === RETARGET) {
+                calls.fill('nbt_session_retarget', words);
+                read.retarget = calls.endpoint(16);
+            }
+            return read;
         },
 
         writeSession: (type, body = new Uint8Array()) =>
@@ -357,10 +376,11 @@ const MEMORY64 = Uint8Array.of(0, 97, 115, 109, 1, 0, 0, 0, 5, 3, 1, 4, 1);
 
 /** What a module has to have. */
 const CALLS = [
-    'heap_give_back', 'heap_limit', 'heap_take', 'nbt_brief', 'nbt_datagram_read', 'nbt_datagram_write', 'nbt_json', 'nbt_name_spell',
-    'nbt_name_text', 'nbt_service_request', 'nbt_session_read', 'nbt_session_write', 'nbt_show', 'nbt_station_absorb',
-    'nbt_station_create', 'nbt_station_free', 'nbt_station_save', 'nbt_station_take', 'nbt_station_tick', 'nbt_status_text',
-    'nbt_table_list', 'nbt_table_merge', 'nbt_version',
+    'heap_give_back', 'heap_limit', 'heap_take', 'nbt_brief', 'nbt_datagram_error', 'nbt_datagram_query', 'nbt_datagram_read',
+    'nbt_datagram_write', 'nbt_json', 'nbt_name_spell', 'nbt_name_text', 'nbt_service_request', 'nbt_session_names',
+    'nbt_session_read', 'nbt_session_retarget', 'nbt_session_write', 'nbt_show', 'nbt_station_absorb', 'nbt_station_create',
+    'nbt_station_free', 'nbt_station_list', 'nbt_station_save', 'nbt_station_take', 'nbt_station_tick', 'nbt_status_text',
+    'nbt_table_differ', 'nbt_table_json', 'nbt_table_list', 'nbt_table_merge', 'nbt_version',
 ];
 
 /** Loads nbt.wasm: from beside this file, or what `module` is. Its memory grows to `limit` bytes at most. */

@@ -9,6 +9,7 @@ import { commentOf, made, textOf, written } from '../src/model/capture.js';
 import { LEFT_OUT, Packets } from '../src/model/packets.js';
 import { Seen } from '../src/model/seen.js';
 import { momentOf, since, utc } from '../src/model/times.js';
+import { Advice, placed } from '../src/view/advice.js';
 import { Filter } from '../src/view/filter.js';
 import { keyOf, missing } from '../src/view/keys.js';
 import { hashOf, placeOf } from '../src/view/address.js';
@@ -50,6 +51,15 @@ test('the lines of a capture, and the frames that comments name', () => {
     for (const [bad, line] of [['137 0 0\n', 1], ['137 0 00\n140 0 00\n', 2], ['tick 18446744073709551616', 1], [`# ${'x'.repeat(262_200)}`, 1]]) {
         assert.throws(() => Array.from(linesOf(fileOf(bad))), (error) => error instanceof LineFault && error.message.startsWith(`line ${line} `));
     }
+});
+
+test('advice on a refusal, with its place', () => {
+    const advice = new Advice(['trailing bytes AT: leave out the bytes from AT on', 'bad length: cut the stream']);
+    assert.equal(advice.of('source name: trailing bytes 34'), 'leave out the bytes from 34 on');
+    assert.equal(advice.of('trailing bytes'), 'leave out the bytes from there on');
+    assert.equal(advice.of('bad length'), 'cut the stream');
+    assert.equal(advice.of('bad'), '');
+    assert.deepEqual(['name: reserved label 12', 'bad length'].map(placed), ['name: reserved label, at byte 12', 'bad length']);
 });
 
 test('times', () => {
@@ -98,7 +108,7 @@ test('claims of one name: conflicts, refusals, releases', () => {
     seen.take(service('registration', 'ANN<00>', { word: 'ad87', rcode: 'CFT_ERR' }), '', ends(6, '10.0.0.7', '10.0.0.8'));
     const rows = seen.tables().names.map(({ name, address, how, until, conflicts, refusals, kind }) => [name, address, how, until, conflicts, refusals, kind]);
     assert.deepEqual(rows, [['ANN<00>', '', 'nobody', null, 1, 0, 'workstation'], ['FRED<20>', '10.0.0.5', 'released', 5_000_000_000n, 1, 0, 'file server'],
-        ['FRED<20>', '10.0.0.6', 'refused', 303_000_000_000n, 1, 1, 'file server']]);
+        ['FRED<20>', '10.0.0.6', 'refused', null, 1, 1, 'file server']]);
 });
 
 test('queries without an answer', () => {

@@ -265,6 +265,31 @@ static void service(const uint8_t *payload, size_t length)
     }
 }
 
+/* An error packet or a query is written as this packet, but for FLAGS: in no room first, then in more than it wants. */
+static void written_without_data(const uint8_t *payload, const struct nbt_datagram *read)
+{
+    uint8_t name[1024], *text, *into;
+    size_t name_length = 0, wanted = 77, used = 77, at = 88, rest;
+    uint32_t status;
+    int is_error = read->type == 0x13, i;
+    if (!is_error) {
+        named(payload + read->destination, read->destination_length, &text, &name_length);
+        expect(name_length <= sizeof name, "nbt_name_text: a text of more bytes than any");
+        memcpy(name, text, name_length);
+    }
+    for (i = 0; i < 2; i++) {
+        rest = i == 0 ? 0 : read->used + 3;
+        into = room(packets, rest);
+        do
+            status = is_error ? nbt_datagram_error(read->identifier, read->address, read->port, payload[read->data], into, rest, i == 0 ? &wanted : &used)
+                : nbt_datagram_query(read->type, read->identifier, read->address, read->port, name, name_length, into, rest, i == 0 ? &wanted : &used, &at);
+        while (again(status));
+        expect(status == (i == 0 ? NBT_NO_ROOM : NBT_DONE) && at == 88, is_error ? "nbt_datagram_error" : "nbt_datagram_query");
+    }
+    expect(wanted == read->used && used == wanted && is_filled(into + used, 3), "a packet of port 138 without data: its length");
+    expect(into[0] == payload[0] && into[1] == 2 && memcmp(into + 2, payload + 2, used - 2) == 0, "a packet of port 138 without data: the packet again");
+}
+
 static void datagram(const uint8_t *payload, size_t length)
 {
     struct nbt_datagram read;
@@ -287,6 +312,46 @@ static void datagram(const uint8_t *payload, size_t length)
     } else {
         expect(read.destination + read.destination_length <= read.used && read.data + read.data_length <= read.used,
                "nbt_datagram_read: the places of another packet");
+        written_without_data(payload, &read);
+    }
+}
+
+/* The spelling at the front of the bytes of a name in place, in the payload's own bytes, and zero after it. */
+static int in_place(const uint8_t *bytes, size_t length, const uint8_t *payload)
+{
+    size_t i;
+    for (i = length; i < 255; i++)
+        if (bytes[i] != 0)
+            return 0;
+    return length >= 34 && memcmp(bytes, payload, length) == 0;
+}
+
+/* The names of a request, and the address of a retarget, where the standard says that they stand; of another packet, and of
+ * none, neither. */
+static void session_parts(const uint8_t *payload, size_t length, uint32_t whole, size_t fault, const struct nbt_session *read)
+{
+    struct nbt_session_names names;
+    struct nbt_session_retarget retarget;
+    const uint8_t *body = payload + 4;
+    size_t at = 88, other = 88;
+    uint32_t named, led, none = whole == NBT_DONE ? NBT_OTHER_TYPE : whole;
+    memset(&names, FILL, sizeof names);
+    memset(&retarget, FILL, sizeof retarget);
+    named = nbt_session_names(payload, length, &names, &at);
+    led = nbt_session_retarget(payload, length, &retarget, &other);
+    calls += 2;
+    if (whole == NBT_DONE && read->type == 0x81) {
+        expect(named == NBT_DONE && at == 88 && (size_t)names.called_length + names.calling_length == read->body_length, "nbt_session_names: the lengths");
+        expect(in_place(names.called, names.called_length, body), "nbt_session_names: the name that is called");
+        expect(in_place(names.calling, names.calling_length, body + names.called_length), "nbt_session_names: the name that calls");
+    } else {
+        expect(named == none && at == fault && is_filled((const uint8_t *)&names, sizeof names), "nbt_session_names: no request");
+    }
+    if (whole == NBT_DONE && read->type == 0x84) {
+        expect(led == NBT_DONE && other == 88 && retarget.port == (body[4] << 8 | body[5]), "nbt_session_retarget: the port");
+        expect(retarget.address == ((uint32_t)body[0] << 24 | (uint32_t)body[1] << 16 | (uint32_t)body[2] << 8 | body[3]), "nbt_session_retarget: the address");
+    } else {
+        expect(led == none && other == fault && is_filled((const uint8_t *)&retarget, sizeof retarget), "nbt_session_retarget: no retarget");
     }
 }
 
@@ -299,6 +364,7 @@ static void session(const uint8_t *payload, size_t length)
     memset(&read, FILL, sizeof read);
     status = nbt_session_read(payload, length, &read, &at);
     calls += 1;
+    session_parts(payload, length, status, at, &read);
     if (status != NBT_DONE) {
         expect(is_filled((const uint8_t *)&read, sizeof read), "nbt_session_read: a packet is filled in though nothing is done");
         return;
@@ -328,6 +394,49 @@ static uint8_t *saved(size_t *used)
     return table;
 }
 
+/* The lines of the station's table are those of the saved one: in no room first, then in more than it wants. */
+static void listed_again(const uint8_t *text, size_t length)
+{
+    uint8_t *lines;
+    size_t wanted = 77, used = 77;
+    uint32_t status;
+    do
+        status = nbt_station_list(&station, room(packets, 0), 0, &wanted);
+    while (again(status));
+    expect(status == (length == 0 ? NBT_DONE : NBT_NO_ROOM) && wanted == length, "nbt_station_list: no room");
+    lines = room(packets, length + 3);
+    do
+        status = nbt_station_list(&station, lines, length + 3, &used);
+    while (again(status));
+    expect(status == NBT_DONE && used == length && is_filled(lines + length, 3), "nbt_station_list: more room");
+    expect(memcmp(lines, text, length) == 0, "nbt_station_list: the lines of the table");
+}
+
+/* The objects of a saved table, as many as it has lines, in no room first, then in more than they want. */
+static void objects_listed(const uint8_t *table, size_t length, const uint8_t *lines, size_t lines_length)
+{
+    uint8_t *objects;
+    size_t wanted = 77, used = 77, at = 88, i, count = 0;
+    uint32_t status;
+    for (i = 0; i < lines_length; i++)
+        count += lines[i] == '\n';
+    do
+        status = nbt_table_json(table, length, room(packets, 0), 0, &wanted, &at);
+    while (again(status));
+    expect(status == (wanted == 0 ? NBT_DONE : NBT_NO_ROOM) && at == 88, "nbt_table_json: no room");
+    objects = room(packets, wanted + 3);
+    do
+        status = nbt_table_json(table, length, objects, wanted + 3, &used, &at);
+    while (again(status));
+    expect(status == NBT_DONE && used == wanted && at == 88 && is_filled(objects + wanted, 3), "nbt_table_json: more room");
+    for (i = 0; i < wanted; i++) {
+        if (i == 0 || objects[i - 1] == '\n')
+            expect(objects[i] == '{', "nbt_table_json: the front of a line");
+        count -= objects[i] == '\n';
+    }
+    expect(count == 0 && (wanted == 0 || objects[wanted - 1] == '\n'), "nbt_table_json: as many objects as lines");
+}
+
 /* The lines of a saved table: in no room first, and then in as much as that wants. */
 static void listed(const uint8_t *table, size_t length)
 {
@@ -344,6 +453,35 @@ static void listed(const uint8_t *table, size_t length)
     while (again(status));
     expect(status == NBT_DONE && used == wanted && at == 88, "nbt_table_list: the room that is wanted");
     expect(wanted == 0 || text[wanted - 1] == '\n', "nbt_table_list: the last line");
+    listed_again(text, wanted);
+    objects_listed(table, length, text, wanted);
+}
+
+/* A saved table is equal to itself, and differs from one of no keys at its least, with which it begins. */
+static void compared(const uint8_t *table, size_t length)
+{
+    static const uint8_t empty[] = {'N', 'B', 'T', '2', 0, 0, 0, 0};
+    struct nbt_difference found;
+    size_t at = 88;
+    uint32_t status;
+    do
+        status = nbt_table_differ(table, length, table, length, &found, &at);
+    while (again(status));
+    expect(status == NBT_DONE && found.differ == 0 && found.address == 0 && found.port == 0 && found.identifier == 0, "nbt_table_differ: equal tables");
+    do
+        status = nbt_table_differ(empty, sizeof empty, table, length, &found, &at);
+    while (again(status));
+    expect(status == NBT_DONE && at == 88 && found.differ == (length > sizeof empty), "nbt_table_differ: an empty table");
+    if (length > sizeof empty) {
+        const uint8_t *key = table + 8;
+        expect(found.address == ((uint32_t)key[0] << 24 | (uint32_t)key[1] << 16 | (uint32_t)key[2] << 8 | key[3]), "nbt_table_differ: the address");
+        expect(found.port == (key[4] << 8 | key[5]) && found.identifier == (key[6] << 8 | key[7]), "nbt_table_differ: the port and the identifier");
+    }
+    memset(&found, FILL, sizeof found);
+    do
+        status = nbt_table_differ(table, length, table, length - 1, &found, &at);
+    while (again(status));
+    expect(status == NBT_SECOND_TRUNCATED && at == 88 && is_filled((const uint8_t *)&found, sizeof found), "nbt_table_differ: a table that is cut off");
 }
 
 /* The station's table, taken in by another station, and dropped there: with too little room first, which changes nothing. */
@@ -372,9 +510,8 @@ static void absorbed(const uint8_t *table, size_t length)
         status = nbt_station_absorb(&joiner, number, table, length, room(texts, 0), 0, &used, &at);
     while (again(status));
     expect(status == NBT_DONE && used == 0 && at == 88, "nbt_station_absorb: a table once more");
-    do
-        status = nbt_station_tick(&joiner, UINT64_MAX, &dropped);
-    while (again(status));
+    status = nbt_station_tick(&joiner, UINT64_MAX, &dropped);
+    calls += 1;
     expect(status == NBT_DONE, "nbt_station_tick: the end of time");
 }
 
@@ -389,6 +526,7 @@ static void stationed(const uint8_t *payload, size_t length)
     uint8_t *table = saved(&wanted);
     memcpy(before, table, wanted < sizeof before ? wanted : sizeof before);
     listed(table, wanted);
+    compared(table, wanted);
     absorbed(table, wanted);
     memset(&taken, FILL, sizeof taken);
     for (i = 0; i < 3; i++) {
@@ -418,9 +556,8 @@ static void stationed(const uint8_t *payload, size_t length)
             break;
         refusals += 1;
     }
-    do
-        status = nbt_station_tick(&station, number, &dropped);
-    while (again(status));
+    status = nbt_station_tick(&station, number, &dropped);
+    calls += 1;
     expect(status == NBT_DONE, "nbt_station_tick");
 }
 
@@ -472,7 +609,10 @@ static void nowhere(void)
     struct nbt_service_unit unit;
     struct nbt_datagram of_138;
     struct nbt_session of_139;
+    struct nbt_session_names both;
+    struct nbt_session_retarget retarget;
     struct nbt_taken taken;
+    struct nbt_difference difference;
     struct nbt_station nameless;
     size_t used = 77, at = 88;
     uint32_t status;
@@ -492,6 +632,8 @@ static void nowhere(void)
     expect(nbt_service_unit(0x21, NULL, 0, &unit, &at) == NBT_OTHER_RDATA, "nbt_service_unit: null");
     expect(nbt_datagram_read(NULL, 0, &of_138, &at) == NBT_TRUNCATED && at == 0, "nbt_datagram_read: null");
     expect(nbt_session_read(NULL, 0, &of_139, &at) == NBT_MORE && at == 4, "nbt_session_read: null");
+    expect(nbt_session_names(NULL, 0, &both, &at) == NBT_MORE && at == 4, "nbt_session_names: null");
+    expect(nbt_session_retarget(NULL, 0, &retarget, &at) == NBT_MORE && at == 4, "nbt_session_retarget: null");
     do
         status = nbt_json(138, NULL, 0, NULL, 0, &used);
     while (again(status));
@@ -509,8 +651,16 @@ static void nowhere(void)
     while (again(status));
     expect(status == NBT_NO_ROOM && used == 2 + 14 + 2 * 34, "nbt_datagram_write: null");
     expect(nbt_datagram_write(0x10, 1, 1, 138, NULL, 0, NULL, 0, NULL, 0, 1, NULL, 0, &used, &at) == NBT_SOURCE_BAD_TEXT, "nbt_datagram_write: no names");
+    do
+        status = nbt_datagram_error(1, 1, 138, 0x82, NULL, 0, &used);
+    while (again(status));
+    expect(status == NBT_NO_ROOM && used == 11, "nbt_datagram_error: null");
+    expect(nbt_datagram_query(0x14, 1, 1, 138, NULL, 0, NULL, 0, &used, &at) == NBT_BAD_TEXT, "nbt_datagram_query: null");
+    expect(nbt_datagram_query(0x13, 1, 1, 138, NULL, 0, NULL, 0, &used, &at) == NBT_UNKNOWN_TYPE, "nbt_datagram_query: an error's type");
     expect(nbt_service_request(NBT_QUERY, 1, false, NULL, 0, 0, 0, 0, NULL, 0, &used, &at) == NBT_BAD_TEXT, "nbt_service_request: null");
     expect(nbt_table_merge(NULL, 0, NULL, 0, 1, 1, NULL, 0, &used, &at) == NBT_TABLE_BAD_MAGIC, "nbt_table_merge: null");
+    expect(nbt_table_differ(NULL, 0, NULL, 0, &difference, &at) == NBT_TABLE_BAD_MAGIC, "nbt_table_differ: null");
+    expect(nbt_table_json(NULL, 0, NULL, 0, &used, &at) == NBT_TABLE_BAD_MAGIC, "nbt_table_json: null");
     expect(nbt_table_list(NULL, 0, NULL, 0, &used, &at) == NBT_TABLE_BAD_MAGIC, "nbt_table_list: null");
     do
         status = nbt_station_create(NULL, 0, 1, 138, 1, 1, &nameless.at, &at);
@@ -526,10 +676,39 @@ static void nowhere(void)
     while (again(status));
     expect(status == NBT_NO_ROOM, "nbt_station_save: null");
     do
+        status = nbt_station_list(&nameless, NULL, 0, &used);
+    while (again(status));
+    expect(status == NBT_DONE && used == 0, "nbt_station_list: null");
+    do
         status = nbt_station_absorb(&nameless, 0, NULL, 0, NULL, 0, &used, &at);
     while (again(status));
     expect(status == NBT_TABLE_BAD_MAGIC, "nbt_station_absorb: null");
     nbt_station_free(nameless);
+}
+
+/* A station that is none: each call says so and changes nothing, and one that isn't made is none. */
+static void no_station(void)
+{
+    static const uint8_t table[] = {'N', 'B', 'T', '2', 0, 0, 0, 0};
+    struct nbt_station none = {NULL};
+    struct nbt_taken taken;
+    uint8_t *into = room(texts, 8);
+    size_t used = 77, at = 88;
+    uint32_t dropped = 66;
+    memset(&taken, FILL, sizeof taken);
+    expect(nbt_station_take(&none, 1, table, 8, &taken, NULL, 0, &used) == NBT_NO_STATION, "nbt_station_take: no station, no room");
+    expect(nbt_station_take(&none, 1, table, 8, &taken, room(packets, NBT_TAKE_ROOM), NBT_TAKE_ROOM, &used) == NBT_NO_STATION, "nbt_station_take: no station");
+    expect(nbt_station_tick(&none, UINT64_MAX, &dropped) == NBT_NO_STATION && dropped == 66, "nbt_station_tick: no station");
+    expect(nbt_station_save(&none, into, 8, &used) == NBT_NO_STATION, "nbt_station_save: no station");
+    expect(nbt_station_list(&none, into, 8, &used) == NBT_NO_STATION, "nbt_station_list: no station");
+    expect(nbt_station_absorb(&none, 1, table, 8, into, 8, &used, &at) == NBT_NO_STATION, "nbt_station_absorb: no station");
+    expect(nbt_station_absorb(&none, 1, table, 3, into, 8, &used, &at) == NBT_NO_STATION, "nbt_station_absorb: no station, no table");
+    expect(none.at == NULL && used == 77 && at == 88 && is_filled(into, 8) && is_filled((const uint8_t *)&taken, sizeof taken), "no station: something is written");
+    nbt_station_free(none);
+    none.at = &taken;
+    expect(nbt_station_create((const uint8_t *)"?", 1, 1, 138, 1, 1, &none.at, &at) == NBT_BAD_TEXT && none.at == NULL, "nbt_station_create: a station that isn't made");
+    nbt_station_free(none);
+    calls += 10;
 }
 
 static int value(char digit)
@@ -559,6 +738,7 @@ int main(int count, char **words)
     judged();
     faulty();
     nowhere();
+    no_station();
     while (fgets(line, sizeof line, stdin) != NULL) {
         char *digits;
         uint16_t port = (uint16_t)strtoul(line, &digits, 10);

@@ -3,7 +3,7 @@
 
 Of each frame, the packets of both are the same: nbns by the number and the word of its header, nbdgm by its kind and number, nbss by
 its type and length. Of a packet that is refused their count alone is compared. A frame of which nbt-look leaves something out, with a
-reason, may differ: tshark has the front of what is cut by the snap length, and of a cut segment it doesn't put packets together. What
+reason, may differ: of a cut segment tshark doesn't put packets together. Of a packet that is cut the header is the same, where it stands. What
 ICMP quotes is no packet, and for tshark neither is a payload of no bytes.
 
 Its last line is 'N passed, M failed', of files.
@@ -39,12 +39,17 @@ def first_difference(path):
     objects = [json.loads(line) for line in done.stdout.splitlines()]
     if done.returncode or not done.stderr:
         return f'status {done.returncode}, {done.stderr.strip()}'
-    left_out = {each['frame'] for each in objects if 'left_out' in each}
+    cut = [each for each in objects if 'cut' in each]
+    left_out = {each['frame'] for each in objects if 'left_out' in each or 'cut' in each}
     ours = collections.defaultdict(list)
     for each in objects:
-        if 'left_out' not in each and each.get('refused') != EMPTY:
+        if 'left_out' not in each and 'cut' not in each and each.get('refused') != EMPTY:
             ours[each['frame'], each['port']].append(said(each))
     theirs = found_by_tshark(path)
+    for each in cut:
+        found = theirs.get((each['frame'], each['port']), [])
+        if ('id' in each or 'kind' in each) and found and said(each) not in (REFUSED, *found):
+            return f'a cut packet: {each}, and tshark has {found}'
     for key in sorted(ours.keys() | theirs.keys()):
         if not same(ours.get(key, []), theirs.get(key, []), key[0] in left_out):
             return 'frame %d, port %d: %s, and tshark has %s' % (*key, ours.get(key), theirs.get(key))

@@ -4,6 +4,7 @@ import collections
 import re
 
 from brief_model import said
+from fronts_model import front_of
 from fuzz_packets import LONGEST_LINE, Name, Refused, numbered, read_capture
 from fuzz_saved import joined
 from object_model import shown
@@ -17,7 +18,7 @@ LONGEST_SCOPE = 222
 MOST = {'--keys': 65_535, '--per-source': 65_535, '--input-limit': (1 << 64) - 1}
 USUAL = {'--keys': KEYS, '--per-source': PER_SOURCE, '--input-limit': LONGEST_INPUT}
 OPTIONS = {
-    'show': ('--input-limit', '--comments', '--brief', '--json'),
+    'show': ('--input-limit', '--comments', '--brief', '--partial', '--json'),
     'replay': ('--keys', '--per-source', '--input-limit', '--comments', '--json'),
     'list': ('--keys', '--per-source', '--json'),
 }
@@ -40,6 +41,8 @@ def wanted(words, given):
     station = stationed(names)
     if command == 'replay' and station is None:
         return Wanted([], 1, None)
+    if '--brief' in options and '--partial' in options:
+        return Wanted([], 1, b'nbt: arguments\n')
     return of_capture(command, options, station, given)
 
 
@@ -119,7 +122,7 @@ def of_capture(command, options, names, given):
     """What `nbt show` and `nbt replay` print."""
     finished, lines, *ending = read_within(given, number_of(options, '--input-limit'))
     table = Table(number_of(options, '--keys'), number_of(options, '--per-source'))
-    answers = {it.number: told(command, table, names, it, '--brief' in options) for it in lines}
+    answers = {it.number: told(command, table, names, it, options) for it in lines}
     comments = {number: line for number, line in finished if line.startswith(b'#')}
     objects = []
     for number in sorted(answers.keys() | comments.keys() if '--comments' in options else answers):
@@ -130,15 +133,16 @@ def of_capture(command, options, names, given):
     return Wanted(objects, *ending)
 
 
-def told(command, table, names, line, brief):
-    """The port and the moment of a line, and what is told of it, with its phrase where that is asked for."""
+def told(command, table, names, line, options):
+    """The port and the moment of a line, and what is told of it, with its phrase or its front where that is asked for."""
     moment = {'moment': line.moment}
     if command == 'replay':
         return ({} if line.port is None else {'port': line.port}) | moment, reported(table, names, line)
     if line.port is None:
         return moment, {'kind': 'tick'}
-    phrase = {'brief': said(line.port, line.payload)} if brief else {}
-    return {'port': line.port} | moment, phrase | shown(line.port, line.payload)
+    phrase = {'brief': said(line.port, line.payload)} if '--brief' in options else {}
+    front = front_of(line.port, line.payload) if '--partial' in options else {}
+    return {'port': line.port} | moment, phrase | shown(line.port, line.payload) | front
 
 
 def read_within(given, limit):

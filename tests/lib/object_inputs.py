@@ -214,8 +214,8 @@ class Inputs:
         rng, options = self.rng, []
         if command != 'list':
             options += [it for it in (['--comments'], self.input_limit(given)) if rng.random() < 0.5]
-        if command == 'show' and rng.random() < 0.3:
-            options.append(['--brief'])
+        if command == 'show' and rng.random() < 0.6:
+            options.append([rng.choice(('--brief', '--partial'))])
         if command != 'show':
             limits = some_limits(rng)[0]
             options += [[*it] if rng.random() < 0.5 else ['='.join(it)] for it in zip(limits[::2], limits[1::2])]

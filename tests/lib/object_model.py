@@ -106,15 +106,20 @@ def shown_service(packet):
     """A packet of port 137."""
     reading = Reading(packet)
     number, word, *counts = [reading.number(2) for _ in range(HEADER // 2)]
-    operation, result = word >> 11 & 15, word & 15
     sections = {}
     for section, count in zip(SECTIONS, counts):
         read = reading.question if section == 'questions' else reading.record
         sections[section] = [read() for _ in range(count)]
+    return header_members(number, word, counts) | {'used': reading.at, **sections}
+
+
+def header_members(number, word, counts):
+    """The members of the header of a packet of port 137."""
+    operation, result = word >> 11 & 15, word & 15
     return {
         'id': f'{number:04x}', 'word': f'{word:04x}', 'op': OPERATIONS.get(operation, operation),
         'flags': set_of(PACKET_FLAGS, word), 'rcode': RESULTS.get(result, result),
-        **dict(zip(('qd', 'an', 'ns', 'ar'), counts)), 'used': reading.at, **sections,
+        **dict(zip(('qd', 'an', 'ns', 'ar'), counts)),
     }
 
 

@@ -1,4 +1,5 @@
 """Runs of the built program over streams of any kind, for tests/process.py."""
+import contextlib
 import fcntl
 import os
 import re
@@ -137,3 +138,21 @@ def at_terminal(words, typed, wanted):
             break
     os.close(terminal)
     return status, output
+
+
+def with_errors_shown(words, given=b'', before=None, **streams):
+    """The status and the output of a whole run, and what it prints on standard error, which is a terminal."""
+    terminal, slave = quiet_terminal()
+    status, output, _ = run(words, given, before, stderr=slave, **streams)
+    os.close(slave)
+    return status, output, rest_of_terminal(terminal)
+
+
+def rest_of_terminal(terminal):
+    """What a terminal shows that no program has open any more."""
+    shown = b''
+    with contextlib.suppress(OSError):
+        while some := os.read(terminal, 4096):
+            shown += some
+    os.close(terminal)
+    return shown

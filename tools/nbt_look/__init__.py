@@ -2,13 +2,14 @@
 
 arguments    its command line
 looking      one pass over a capture: from packets to what is printed of them
-items        packets, and frames of which something is left out
+items        packets, cut ones, and frames of which something is left out
 frames       items of the rows that tshark prints
 fragments    fragments of IP whose others are missing
 others       what tshark counts of packets that aren't read
 texts        items of a capture that is text
 piped        standard input where it is a pipe
-telling      `nbt show --json` as a child
+telling      `nbt show --json` as children
+fronts       what stands of cut packets, in words
 ordering     items by their frames
 filters      which packets are wanted
 kinds        the kinds of packets

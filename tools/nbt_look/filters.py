@@ -1,6 +1,6 @@
 """Which packets are wanted: by name, host, port and kind."""
+from .items import LeftOut
 from .kinds import kinds_of, names_in
-from .items import Packet
 
 
 class Filter:
@@ -13,7 +13,7 @@ class Filter:
 
     def wants(self, item, shown):
         """Whether an item is wanted, by the object of a packet; None stands for what is left out."""
-        ends = item if isinstance(item, Packet) else item.frame
+        ends = item.frame if isinstance(item, LeftOut) else item
         if self.hosts and not self.hosts & {ends.source, ends.target}:
             return False
         if self.ports and not self.ports & {ends.source_port, ends.target_port, str(getattr(item, 'service', ''))}:

@@ -1,10 +1,10 @@
 """The packets of tshark's rows, and what is left out, each with its frame."""
 from nbt_pcap.frames import Reader
-from nbt_pcap.report import Report
+from nbt_pcap.report import CUT, Report
 from nbt_pcap.rows import values_of
 
 from .fragments import Unfinished
-from .items import Frame, LeftOut, Packet
+from .items import Cut, Frame, LeftOut, Packet
 from .others import STATISTIC, Others
 from .screen import safe
 
@@ -26,9 +26,15 @@ class Noted(Report):
             self.items.append(LeftOut(mark, reason))
         super().count(mark, reason)
 
+    def count_cut(self):
+        """Counts the latest frame, of which the front is an item."""
+        super().count(self.mark, CUT)
+
 
 class Frames(Reader):
     """Makes items of the rows, in the order in which it is known what becomes of them."""
+
+    passes_cut = True
 
     def __init__(self, options, times):
         self.items = []
@@ -75,9 +81,16 @@ class Frames(Reader):
         return self.named[1]
 
     def payload(self, row, service, digits, packet):
+        self.items.append(self.packet_of(service, digits, packet))
+
+    def cut_payload(self, row, service, digits, packet, size):
+        self.report.count_cut()
+        self.items.append(Cut(*self.packet_of(service, digits, packet), size))
+
+    def packet_of(self, service, digits, packet):
         host = packet.host
-        self.items.append(Packet(self.report.mark, service, self.clock.moment, digits, host.source.strip('[]'), packet.source,
-                                 host.target.strip('[]'), packet.target, getattr(packet, 'stream', None)))
+        return Packet(self.report.mark, service, self.clock.moment, digits, host.source.strip('[]'), packet.source,
+                      host.target.strip('[]'), packet.target, getattr(packet, 'stream', None))
 
     def taken(self):
         """The items since the last call."""

@@ -1,7 +1,9 @@
-"""What a capture has: packets, and frames of which something is left out."""
+"""What a capture has: packets, the fronts of those that are cut, and frames of which something is left out."""
 import collections
 
 Packet = collections.namedtuple('Packet', 'frame service moment digits source source_port target target_port stream')
+# `size` is how many bytes the payload had, of which `digits` are those that the file has.
+Cut = collections.namedtuple('Cut', (*Packet._fields, 'size'))
 LeftOut = collections.namedtuple('LeftOut', 'frame reason')
 
 

@@ -11,8 +11,13 @@ def kinds_of(shown):
     """The kinds of a packet, by its object of JSON; None stands for what is left out."""
     if shown is None:
         return {'left-out'}
-    if 'refused' in shown:
-        return {'refused'}
+    if 'cut' in shown:
+        return {'left-out', *(told_kinds(shown) if any(names_in(shown)) else ())}
+    return {'refused'} if 'refused' in shown else told_kinds(shown)
+
+
+def told_kinds(shown):
+    """The kinds of a packet, or of a front in which a name stands."""
     if shown['port'] == 137:
         return service_kinds(shown)
     kind = shown.get('kind', 'message')

@@ -19,6 +19,9 @@ class Listing:
         style = 'refused' if 'refused' in shown else 'conflict' if shown.get('rcode') == 'CFT_ERR' else None
         self.row(item.frame, ends(item, (str(item.service),)), shown['brief'], style)
 
+    def cut(self, item, shown):
+        self.row(item.frame, ends(item, (str(item.service),)), shown['brief'], 'left out')
+
     def left_out(self, item):
         frame = item.frame
         sizes = ', %d of %d bytes' % (frame.captured, frame.size) if frame.captured < frame.size else ''

@@ -9,12 +9,14 @@ from nbt_pcap import tshark
 from nbt_pcap.lines import Refused
 from nbt_pcap.process import Stopped, say
 from nbt_pcap.progress import Progress
+from nbt_pcap.report import CUT
 from nbt_shards import ending
 from nbt_shards.programs import local_program
 
 from .filters import Filter
 from .frames import FIELDS, STATISTICS, Frames
-from .items import Packet
+from .fronts import front_of
+from .items import Cut, Packet
 from .listing import Listing
 from .objects import Objects
 from .ordering import WINDOW, Ordering
@@ -30,12 +32,14 @@ from .whole import Whole
 def at_text(options, pipe):
     """Shows a capture that is text; answers the exit status."""
     look = Look(options)
+    left_out = collections.Counter()
     try:
         for items in batches_of(options.file, pipe):
+            left_out.update(CUT for each in items if isinstance(each, Cut))
             look.put(items)
-        look.finish(collections.Counter())
+        look.finish(left_out)
     except Refused:
-        look.finish(collections.Counter())
+        look.finish(left_out)
         raise
     except BaseException:
         look.telling.end()
@@ -117,9 +121,11 @@ class Look:
         """Takes an item with the object of JSON that nbt made of it; None stands for what is left out."""
         shown = None
         self.times.see(item.frame.at)
-        if text is not None:
+        if isinstance(item, Packet):
             self.tally.take(text)
             shown = READ(text)[0] if self.reads_objects else None
+        elif isinstance(item, Cut):
+            shown = front_of(item, READ(text)[0])
         if self.filter.is_all or self.filter.wants(item, shown):
             self.tally.shown += 1
             self.ordering.put(item, shown, text)
@@ -127,6 +133,8 @@ class Look:
     def show(self, item, shown, text):
         if isinstance(item, Packet):
             self.sink.packet(item, shown, text)
+        elif isinstance(item, Cut):
+            self.sink.cut(item, shown)
         else:
             self.sink.left_out(item)
 

@@ -17,6 +17,10 @@ class Objects:
         # All of the text but its first member, the number of its line, which no file has.
         self.screen.lines.append(self.front(item.frame, ends)[:-1] + ',' + text.split(',', 1)[1])
 
+    def cut(self, item, shown):
+        ends = (item.source, item.target, item.source_port, item.target_port)
+        self.screen.lines.append(self.front(item.frame, ends)[:-1] + ',' + ENCODE(shown)[1:])
+
     def left_out(self, item):
         frame = item.frame
         ends = (frame.source, frame.target, frame.source_port, frame.target_port)

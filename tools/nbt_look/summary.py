@@ -44,6 +44,9 @@ class Summary:
         for part in self.parts:
             part.take(item, shown)
 
+    def cut(self, item, shown):
+        """What stands of it is no packet that was sent."""
+
     def left_out(self, item):
         """Its reason is counted elsewhere."""
 

@@ -5,7 +5,7 @@ import sys
 from nbt_pcap import lines
 from nbt_pcap.arguments import title_of
 
-from .items import Frame, Packet
+from .items import Cut, Frame, Packet
 
 PART = 1_000
 
@@ -17,7 +17,7 @@ def batches_of(path, pipe):
         items = []
         try:
             for each in lines.payloads_of(lines.lines_of(file, title)):
-                items.append(packet_of(*each))
+                items.append(item_of(*each))
                 if len(items) == PART:
                     yield items
                     items = []
@@ -27,11 +27,20 @@ def batches_of(path, pipe):
         yield items
 
 
-def packet_of(number, service, moment, digits, comment):
-    """A packet; without a comment on its frame that is the number of its line, and its moment counts from 1970."""
-    size = len(digits) // 2
+def item_of(number, service, moment, digits, comment, size):
+    """A packet, or what is left of a cut one."""
+    held = len(digits) // 2
+    packet = packet_of(frame_of(number, moment, comment, max(held, size or 0), held), service, moment, digits, comment)
+    return Cut(*packet, size) if size and size > held else packet
+
+
+def frame_of(number, moment, comment, size, captured):
+    """The frame of a comment; without one that is the number of its line, and its moment counts from 1970."""
     if comment is None:
-        return Packet(Frame(number, moment * 10**6, size=size, captured=size), service, moment, digits, '', '', '', '', None)
+        return Frame(number, moment * 10**6, size=size, captured=captured)
     at = comment.microseconds()
-    frame = Frame(comment.number, None if at is None else at * 1000, *comment.words, size=size, captured=size)
-    return Packet(frame, service, moment, digits, *comment.words, None)
+    return Frame(comment.number, None if at is None else at * 1000, *comment.words, size=size, captured=captured)
+
+
+def packet_of(frame, service, moment, digits, comment):
+    return Packet(frame, service, moment, digits, *(comment.words if comment else [''] * 4), None)

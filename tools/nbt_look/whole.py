@@ -18,12 +18,19 @@ class Whole:
         self.why = 'frame %d completes no packet of these ports' % number
 
     def packet(self, item, shown, _text):
+        self.payload(item, shown, ['show'], 'refused' if 'refused' in shown else None)
+
+    def cut(self, item, shown):
+        """A front is shown as a packet, with the place where it was cut in brackets unless a fault stands before."""
+        self.payload(item, {'at': len(item.digits) // 2, **shown}, ['show', '--partial'], 'left out')
+
+    def payload(self, item, shown, words, style):
         if item.frame.number != self.number:
             return
         self.head(item.frame, ends(item, ()))
-        self.screen.line(shown['brief'], 'refused' if 'refused' in shown else None)
+        self.screen.line(shown['brief'], style)
         self.screen.line('')
-        for line in self.asked(['show'], '%d %d %s\n' % (item.service, item.moment, item.digits or 'empty')):
+        for line in self.asked(words, '%d %d %s\n' % (item.service, item.moment, item.digits or 'empty')):
             self.screen.line(line.removeprefix('1 '))
         self.screen.line('')
         self.dump(bytes.fromhex(item.digits), marked(shown))

@@ -20,6 +20,7 @@ def options_of(arguments):
     words.add_argument('-h', '--help', action='store_true')
     words.add_argument('--bare', action='store_true')
     words.add_argument('--no-ticks', action='store_true')
+    words.add_argument('--cut', action='store_true')
     words.add_argument('--quiet', action='store_true')
     words.add_argument('--live', action='store_true')
     words.add_argument('-i', dest='interface')

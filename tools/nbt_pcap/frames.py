@@ -17,6 +17,8 @@ NO_PACKETS = {'': 'a file of another kind', 'json': 'JSON', 'mime_dlt': 'a file 
 class Reader:
     """Makes lines of the frames that tshark prints."""
 
+    passes_cut = False    # whether what the file has of a payload that the snap length cut is a line too
+
     def __init__(self, options, capture, report):
         self.services = {str(port): service for port, service in options.ports if service != 139}
         self.session_ports = {str(port) for port, service in options.ports if service == 139}
@@ -86,11 +88,21 @@ class Reader:
         if ':' in digits:
             digits = digits.replace(':', '')
         size = 2 * (int(length) - UDP_HEADER)
-        if not 0 <= size <= len(digits):
-            reason = CUT if size > len(digits) and self.report.cut is CUT else BAD_LENGTH
-            self.report.leave_out(reason, 'its UDP length is %s, and the file has %d bytes of its payload' % (length, len(digits) // 2))
-            return
-        self.payload(row, self.services.get(packet.source) or self.services[packet.target], digits[:size], packet)
+        service = self.services.get(packet.source) or self.services[packet.target]
+        is_cut = size > len(digits) and self.report.cut is CUT
+        if 0 <= size <= len(digits):
+            self.payload(row, service, digits[:size], packet)
+        elif is_cut and self.passes_cut and digits:
+            self.cut_payload(row, service, digits, packet, size // 2)
+        else:
+            self.report.leave_out(CUT if is_cut else BAD_LENGTH,
+                                  'its UDP length is %s, and the file has %d bytes of its payload' % (length, len(digits) // 2))
+
+    def cut_payload(self, row, service, digits, packet, size):
+        """Takes what the file has of a payload of `size` bytes."""
+        self.report.note(CUT, 'frame %s is cut: the file has %d of the %d bytes of its payload'
+                         % (self.report.number, len(digits) // 2, size))
+        self.payload(row, service, digits, packet)
 
     def segment(self, row, packet):
         if packet.size and packet.flags:

@@ -9,6 +9,8 @@ from .process import Stopped
 MOST_IN_A_LINE = 262_200
 LINE = re.compile(rb'(137|138|139) ([0-9]{1,20}) ((?:[0-9a-fA-F]{2})+|empty)|tick ([0-9]{1,20})|(#.*)?', re.DOTALL)
 COMMENT = re.compile(r'# frame ([0-9]{1,10}) (\S+) (\S+):([0-9]{1,5}) > (\S+):([0-9]{1,5})')
+# What pcap2cap says of the next payload, of which the snap length cut the end.
+CUT = re.compile(rb'# frame [0-9]{1,10} is cut: the file has [0-9]{1,5} of the ([0-9]{1,5}) bytes of its payload')
 TIME = re.compile(r'([0-9]{4})-([0-9]{2})-([0-9]{2})T([0-9]{2}):([0-9]{2}):([0-9]{2})\.([0-9]{6})Z')
 
 Ends = collections.namedtuple('Ends', 'source source_port target target_port')
@@ -56,16 +58,21 @@ def lines_of(file, title):
 
 
 def payloads_of(lines):
-    """The payloads: number of the line, port, moment, digits, and the frame that the line before names, if it does."""
-    frame = None
+    """The payloads: number of the line, port, moment, digits, the frame that the line before names, if it does, and how many bytes
+    a comment before says that it had before it was cut."""
+    frame = size = None
     for number, line in enumerate(lines, 1):
         line = line.removesuffix(b'\n')
         match = LINE.fullmatch(line)
         if not match or len(line) > MOST_IN_A_LINE or int(match[2] or match[4] or 0) >= 2**64:
             raise Refused('line %d' % number)
         if match[1]:
-            yield number, int(match[1]), int(match[2]), '' if match[3] == b'empty' else match[3].decode(), frame
-        frame = frame_of(line) if line.startswith(b'# frame ') else None
+            yield number, int(match[1]), int(match[2]), '' if match[3] == b'empty' else match[3].decode(), frame, size
+            size = None
+        frame = None
+        if line.startswith(b'# frame '):
+            frame, cut = frame_of(line), CUT.fullmatch(line)
+            size = int(cut[1]) if cut else size
 
 
 def frame_of(line):

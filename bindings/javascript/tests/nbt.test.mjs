@@ -110,9 +110,45 @@ test('datagrams', () => {
     assert.deepEqual(refused(() => nbt.writeDatagram({ ...sent, destination: 'FRED<2' })), ['DESTINATION_BAD_TEXT', 6]);
 });
 
+test('errors and queries', () => {
+    const from = { identifier: 7, address: '10.0.0.9' };
+    assert.deepEqual(nbt.writeDatagramError({ ...from, code: 0x82 }), hex('130200070a000009008a82'));
+    assert.deepEqual(nbt.writeDatagramError({ identifier: 0xffff, address: 0xffff_ffff, port: 0xffff, code: 0xff }), hex('1302ffffffffffffffffff'));
+    for (const odd of [{ code: 256 }, { identifier: 65_536 }, { address: '10.0.0' }, { port: -1 }, { code: undefined }]) {
+        assert.throws(() => nbt.writeDatagramError({ ...from, code: 0x82, ...odd }), RangeError);
+    }
+    for (const type of [0x14, 0x15, 0x16]) {
+        const packet = nbt.writeDatagramQuery({ ...from, type, name: 'FRED<20>.NETBIOS.COM' });
+        assert.deepEqual(packet, Uint8Array.of(type, 2, 0, 7, 10, 0, 0, 9, 0, 138, ...nbt.spell('FRED<20>.NETBIOS.COM')));
+        assert.deepEqual([nbt.readDatagram(packet).type, nbt.readDatagram(packet).destination], [type, 'FRED<20>.NETBIOS.COM']);
+    }
+    const query = { ...from, type: 0x14, name: 'FRED<20>' };
+    for (const [odd, ...wanted] of [
+        [{ type: 0x13 }, 'UNKNOWN_TYPE', null], [{ type: 0x17, name: 'FRED' }, 'UNKNOWN_TYPE', null], [{ name: 'FRED' }, 'BAD_TEXT', 4],
+        [{ name: 'SIXTEEN_LETTERS_<20>' }, 'LONG_TEXT', null],
+    ]) {
+        assert.deepEqual(refused(() => nbt.writeDatagramQuery({ ...query, ...odd })), wanted);
+    }
+    assert.throws(() => nbt.writeDatagramQuery({ ...query, name: undefined }), TypeError);
+    assert.throws(() => nbt.writeDatagramQuery({ ...query, type: 256 }), RangeError);
+});
+
 test('session packets', () => {
     const packet = nbt.writeSession(0, bytes('hello'));
-    assert.deepEqual(nbt.readSession(packet), { type: 0, body: bytes('hello'), used: 9 });
+    const none = { called: null, calling: null, retarget: null };
+    assert.deepEqual(nbt.readSession(packet), { type: 0, body: bytes('hello'), used: 9, ...none });
+    const body = Uint8Array.of(...nbt.spell(String.raw`FRED<20>.a\00\2eb`), ...nbt.spell('JOE<00>'));
+    const request = nbt.writeSession(0x81, body), later = Uint8Array.of(9, ...request, 9);
+    const names = { called: String.raw`FRED<20>.a\00\2eb`, calling: 'JOE<00>' };
+    assert.deepEqual(nbt.readSession(later, 1), { ...none, type: 0x81, body, used: request.length, ...names });
+    const longest = `FRED<20>.${[63, 63, 63, 28].map((length) => 'A'.repeat(length)).join('.')}`;
+    nbt.show(139, nbt.writeSession(0, new Uint8Array(131_071)));
+    const both = nbt.readSession(nbt.writeSession(0x81, Uint8Array.of(...nbt.spell(longest), ...nbt.spell(longest))));
+    assert.deepEqual([both.used, both.called, both.calling], [514, longest, longest]);
+    for (const [digits, address, port] of [['0a000007008b', '10.0.0.7', 139], ['ffffffffffff', '255.255.255.255', 65_535]]) {
+        assert.deepEqual(nbt.readSession(nbt.writeSession(0x84, hex(digits))), { type: 0x84, body: hex(digits), used: 10, ...none, retarget: { address, port } });
+    }
+    assert.deepEqual(refused(() => nbt.readSession(request.subarray(0, 40))), ['MORE', request.length - 40]);
     assert.deepEqual(refused(() => nbt.readSession(packet.subarray(0, 6))), ['MORE', 3]);
     assert.deepEqual(refused(() => nbt.readSession(new Uint8Array())), ['MORE', 4]);
     assert.deepEqual(refused(() => nbt.writeSession(0x85, bytes('x'))), ['BAD_LENGTH', null]);
@@ -135,6 +171,7 @@ test('a station', () => {
     const delivery = { type: 0x11, ...key, source: 'JOE<00>', destination: 'FRED<20>', data: bytes('hello, FRED') };
     assert.deepEqual(station.take(2n, pieces[2]), { ...kept, outcome: 'DELIVERED', delivery });
     assert.equal(nbt.list(station.save()), '10.0.0.5:138/0001 whole group JOE<00> FRED<20> 68656c6c6f2c2046524544\n');
+    assert.equal(station.list(), nbt.list(station.save()));
     const refusal = station.take(3, pieces[0].subarray(0, 40));
     assert.deepEqual([refusal.outcome, refusal.refusal.status, refusal.refusal.at], ['REFUSED', 'TRUNCATED', 40]);
     assert.equal(station.take(3, Uint8Array.of(0x20, ...new Uint8Array(9))).refusal.at, null);
@@ -147,10 +184,44 @@ test('a station', () => {
     assert.deepEqual(nbt.merge(other.save(), station.save()), station.save());
     assert.equal(station.tick(0xffff_ffff_ffff_ffffn), 2);
     assert.equal(nbt.list(station.save()), '');
+    assert.equal(station.list(), '');
     station.close();
     station.close();
+    assert.throws(() => station.list(), /closed/);
     assert.throws(() => station.take(0, pieces[0]), /closed/);
     other.close();
+});
+
+/** A table in which these keys of 10.0.0.5:138 are spoilt. */
+const spoilt = (...identifiers) => hex(`4e425432${identifiers.length.toString(16).padStart(8, '0')}${identifiers.map((it) => `0a000005008a${it.toString(16).padStart(4, '0')}00`).join('')}`);
+
+test('tables as objects', () => {
+    const station = new nbt.Station([], '10.0.0.9');
+    assert.equal(nbt.tableJson(station.save()), '');
+    station.take(0, nbt.writeDatagram(sent)[1]);
+    const [first, second] = nbt.tableJson(nbt.merge(station.save(), spoilt(9))).split('\n').slice(0, 2).map((line) => JSON.parse(line));
+    const names = { kind: 'group', source: 'JOE<00>', destination: 'FRED<20>' };
+    assert.deepEqual(first, { key: '10.0.0.5:138/0001', state: 'partial', ...names, held: 4, end: null, runs: 1, places: [[4, 8]], more: 8 });
+    assert.deepEqual(second, { key: '10.0.0.5:138/0009', state: 'spoilt' });
+    for (const [table, ...wanted] of [['4e425433', 'TABLE_BAD_MAGIC', null], ['4e425432', 'TABLE_TRUNCATED', null], ['4e4254320000000021', 'TABLE_NOT_CANONICAL', 8]]) {
+        assert.deepEqual(refused(() => nbt.tableJson(hex(table))), wanted);
+    }
+    assert.throws(() => nbt.tableJson('NBT2'), TypeError);
+    station.close();
+});
+
+test('where tables differ', () => {
+    assert.equal(nbt.differ(spoilt(), hex('4e42543100000000')), null);
+    assert.equal(nbt.differ(spoilt(1, 2), spoilt(1, 2)), null);
+    for (const [first, second, identifier] of [[[0xffff], [], 0xffff], [[], [3], 3], [[1, 3], [1, 2], 2], [[1, 2], [1, 3], 2]]) {
+        assert.deepEqual(nbt.differ(spoilt(...first), spoilt(...second)), { address: '10.0.0.5', port: 138, identifier });
+    }
+    const least = hex(`4e42543200000001${'00'.repeat(9)}`);
+    assert.deepEqual(nbt.differ(least, spoilt()), { address: '0.0.0.0', port: 0, identifier: 0 });
+    assert.deepEqual(refused(() => nbt.differ(bytes('NBT3'), bytes('NBT3'))), ['TABLE_BAD_MAGIC', null]);
+    assert.deepEqual(refused(() => nbt.differ(spoilt(2, 1), spoilt())), ['TABLE_NOT_CANONICAL', 17]);
+    assert.deepEqual(refused(() => nbt.differ(spoilt(), bytes('NBT2'))), ['SECOND_TRUNCATED', null]);
+    assert.deepEqual(refused(() => nbt.differ(spoilt(), spoilt(2, 1))), ['SECOND_NOT_CANONICAL', 17]);
 });
 
 test('what a station refuses', () => {

@@ -1,5 +1,5 @@
 // Calls whose types have to be those of nbt.d.mts, for tsc --strict. It isn't run.
-import { load, NbtError, Status, type Delivery, type Nbt, type Station, type Taken } from '../nbt.mjs';
+import { load, NbtError, Status, type Delivery, type Key, type Nbt, type SessionPacket, type Station, type Taken } from '../nbt.mjs';
 
 const nbt: Nbt = await load({ module: new URL('nbt.wasm', import.meta.url), limit: 1 << 24 });
 const pieces: Uint8Array[] = nbt.writeDatagram({ type: 0x10, identifier: 1, address: 5, source: 'A<00>', destination: 'B<20>', data: new ArrayBuffer(4) });
@@ -13,6 +13,10 @@ if (taken.outcome === 'DELIVERED' && taken.delivery) {
 const name: string | null = nbt.readDatagram(pieces[0], 0).source;
 const joined: Uint8Array = nbt.merge(station.save(), station.save(), { perSource: 4 });
 const count: number = station.absorb(0, joined).length + station.tick(9) + Status.DONE;
+const key: Key | null = nbt.differ(joined, station.save());
+const packet: SessionPacket = nbt.readSession(nbt.writeDatagramError({ identifier: key?.identifier ?? 0, address: 5, code: 0x82 }));
+if (packet.retarget) nbt.writeDatagramQuery({ type: 0x14, identifier: 1, ...packet.retarget, name: packet.called ?? nbt.brief(139, joined) });
+const lines: string = station.list() + nbt.tableJson(joined);
 try {
     nbt.request('nodeStatus', { identifier: count, name: name ?? '*<00>' });
 } catch (error) {
@@ -29,3 +33,7 @@ Status.DONE = 1;
 if (taken.outcome === 'LOST') station.close();
 // @ts-expect-error What may be null.
 taken.delivery.data;
+// @ts-expect-error Nor has every packet a retarget.
+packet.retarget.port;
+// @ts-expect-error An error has no type of its own.
+nbt.writeDatagramError({ type: 0x13, identifier: 1, address: 5, code: lines.length });

@@ -21,21 +21,22 @@ The calls may be made from any thread, and let other threads run meanwhile, but 
 station a call waits for another to end.
 """
 from .buffers import Buffer
-from .datagrams import Datagram, DatagramType
+from .datagrams import Datagram, DatagramType, datagram_error, datagram_query
 from .library import VERSION
 from .names import spell, text
-from .packets import json, show
+from .packets import brief, json, show
 from .rdata import DomainName, NbEntry, NodeName, NodeStatus, NodeType, Rdata
 from .service import node_status, query, refresh, registration, release
 from .service_packets import Operation, Question, Record, ResultCode, ServicePacket
 from .sessions import SessionPacket, SessionStream, SessionType
 from .stations import Delivery, Outcome, Station, Taken
 from .statuses import MoreNeeded, NbtError, Status
-from .tables import list_table, merge
+from .tables import Key, differ, list_table, merge, table_json
 from .turns import ReentryError
 
 __version__ = VERSION().decode()
-__all__ = ['Buffer', 'Datagram', 'DatagramType', 'Delivery', 'DomainName', 'MoreNeeded', 'NbEntry', 'NbtError', 'NodeName',
-           'NodeStatus', 'NodeType', 'Operation', 'Outcome', 'Question', 'Rdata', 'Record', 'ReentryError', 'ResultCode',
-           'ServicePacket', 'SessionPacket', 'SessionStream', 'SessionType', 'Station', 'Status', 'Taken', 'json', 'list_table',
-           'merge', 'node_status', 'query', 'refresh', 'registration', 'release', 'show', 'spell', 'text']
+__all__ = ['Buffer', 'Datagram', 'DatagramType', 'Delivery', 'DomainName', 'Key', 'MoreNeeded', 'NbEntry', 'NbtError',
+           'NodeName', 'NodeStatus', 'NodeType', 'Operation', 'Outcome', 'Question', 'Rdata', 'Record', 'ReentryError',
+           'ResultCode', 'ServicePacket', 'SessionPacket', 'SessionStream', 'SessionType', 'Station', 'Status', 'Taken',
+           'brief', 'datagram_error', 'datagram_query', 'differ', 'json', 'list_table', 'merge', 'node_status', 'query',
+           'refresh', 'registration', 'release', 'show', 'spell', 'table_json', 'text']

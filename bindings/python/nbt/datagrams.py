@@ -38,6 +38,8 @@ class Found(ctypes.Structure):
 READ = Reader('nbt_datagram_read', Found, 'source', 'destination', 'data')
 WRITE = writer('nbt_datagram_write', ctypes.c_uint8, ctypes.c_uint16, ctypes.c_uint32, ctypes.c_uint16, *BYTES, *BYTES,
                *BYTES, ctypes.c_uint16)
+ERROR = writer('nbt_datagram_error', ctypes.c_uint16, ctypes.c_uint32, ctypes.c_uint16, ctypes.c_uint8, places=False)
+QUERY = writer('nbt_datagram_query', ctypes.c_uint8, ctypes.c_uint16, ctypes.c_uint32, ctypes.c_uint16, *BYTES)
 
 
 @dataclass(frozen=True)
@@ -99,3 +101,19 @@ def pieces(written: bytes) -> Iterator[bytes]:
         end = at + 2 + int.from_bytes(written[at:at + 2], 'big')
         yield written[at + 2:end]
         at = end
+
+
+def datagram_error(identifier: int, address: Address, port: int, code: int) -> bytes:
+    """An error packet with this code: 0x82 nobody has the name that a datagram is for, 0x83 and 0x84 the format of its source's or
+    its destination's name. The identifier is the datagram's, address and port those of the station that sends the error."""
+    return ERROR(number(identifier, 16, 'identifier'), address_number(address), number(port, 16, 'port'), number(code, 8, 'code'))
+
+
+def datagram_query(type: int, identifier: int, address: Address, port: int, name: str) -> bytes:
+    """A query to a distribution server about the name with this text, of type FIND, or its answer, of type FOUND or MISSING.
+
+    NbtError: UNKNOWN_TYPE, BAD_TEXT, LONG_TEXT.
+    """
+    text = encoded(name, 'name')
+    return QUERY(number(type, 8, 'type'), number(identifier, 16, 'identifier'), address_number(address), number(port, 16, 'port'),
+                 text, len(text))

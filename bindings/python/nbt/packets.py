@@ -1,4 +1,4 @@
-"""What the command `nbt show` prints of a payload, as a text and as JSON."""
+"""What the command `nbt show` prints of a payload: as lines, as a phrase and as JSON."""
 from __future__ import annotations
 
 import ctypes
@@ -9,6 +9,7 @@ from .numbers import number
 
 SHOW = writer('nbt_show', ctypes.c_uint16, *BYTES, places=False)
 JSON = writer('nbt_json', ctypes.c_uint16, *BYTES, places=False)
+BRIEF = writer('nbt_brief', ctypes.c_uint16, *BYTES, places=False)
 
 
 def show(port: int, payload: Buffer) -> str:
@@ -23,3 +24,10 @@ def json(port: int, payload: Buffer) -> str:
     the members `line`, `port`, `moment` and `comment`. Ports are as of `show`."""
     data = given(payload)
     return JSON(number(port, 16, 'port'), data, len(data)).decode()
+
+
+def brief(port: int, payload: Buffer) -> str:
+    """The phrase of a payload that came to this port, without a line feed: what `nbt show --brief` prints of it after the two
+    numbers of its line. Ports are as of `show`."""
+    data = given(payload)
+    return BRIEF(number(port, 16, 'port'), data, len(data)).decode()

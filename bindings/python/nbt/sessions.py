@@ -5,7 +5,7 @@ import ctypes
 import enum
 import ipaddress
 from dataclasses import dataclass
-from typing import Iterator, Optional, Tuple
+from typing import Any, Iterator, Optional, Tuple
 
 from . import names
 from .buffers import Buffer, given
@@ -32,7 +32,21 @@ class Found(ctypes.Structure):
                 ('used', ctypes.c_size_t)]
 
 
+class Names(ctypes.Structure):
+    """struct nbt_session_names."""
+
+    _fields_ = [('called_length', ctypes.c_uint8), ('called', ctypes.c_uint8 * 255), ('calling_length', ctypes.c_uint8),
+                ('calling', ctypes.c_uint8 * 255)]
+
+
+class Retarget(ctypes.Structure):
+    """struct nbt_session_retarget."""
+
+    _fields_ = [('address', ctypes.c_uint32), ('port', ctypes.c_uint16)]
+
+
 READ = Reader('nbt_session_read', Found, 'body')
+NAMES, RETARGET = Reader('nbt_session_names', Names), Reader('nbt_session_retarget', Retarget)
 WRITE = writer('nbt_session_write', ctypes.c_uint8, *BYTES)
 
 
@@ -47,19 +61,24 @@ class SessionPacket:
     @property
     def called(self) -> Optional[str]:
         """CALLED_NAME of a request, as a text."""
-        return called_and_calling(self)[0]
+        found = self.part(SessionType.REQUEST, NAMES)
+        return names.text(bytes(found.called[:found.called_length])) if found else None
 
     @property
     def calling(self) -> Optional[str]:
         """CALLING_NAME of a request, as a text."""
-        return called_and_calling(self)[1]
+        found = self.part(SessionType.REQUEST, NAMES)
+        return names.text(bytes(found.calling[:found.calling_length])) if found else None
 
     @property
     def retarget(self) -> Optional[Tuple[ipaddress.IPv4Address, int]]:
         """RETARGET_IP_ADDRESS and RETARGET_PORT: whom to call instead."""
-        if self.type != SessionType.RETARGET:
-            return None
-        return ipaddress.IPv4Address(self.body[:4]), int.from_bytes(self.body[4:], 'big')
+        found = self.part(SessionType.RETARGET, RETARGET)
+        return (ipaddress.IPv4Address(found.address), found.port) if found else None
+
+    def part(self, type: SessionType, reader: Reader) -> Any:
+        """What a call reads of the packet, if it is of the type that has the part; the call is given the packet whole."""
+        return reader(self.write(type, self.body), 0)[0] if self.type == type else None
 
     @classmethod
     def read(cls, data: Buffer, offset: int = 0) -> SessionPacket:
@@ -86,14 +105,6 @@ class SessionPacket:
         """
         data = given(body)
         return WRITE(number(type, 8, 'type'), data, len(data))
-
-
-def called_and_calling(packet: SessionPacket) -> Tuple[Optional[str], Optional[str]]:
-    """The names of a request, as texts."""
-    if packet.type != SessionType.REQUEST:
-        return None, None
-    end = names.spelling_end(packet.body, 0)
-    return names.text(packet.body[:end]), names.text(packet.body[end:])
 
 
 class SessionStream(Iterator[SessionPacket]):

@@ -79,6 +79,7 @@ CREATE = call('nbt_station_create', *BYTES, ctypes.c_uint32, ctypes.c_uint16, ct
 TAKE = call('nbt_station_take', ADDRESS, ctypes.c_uint64, *BYTES, ADDRESS, *BYTES, ADDRESS)
 TICK = call('nbt_station_tick', ADDRESS, ctypes.c_uint64, ADDRESS)
 SAVE = writer('nbt_station_save', ADDRESS, places=False)
+LIST = writer('nbt_station_list', ADDRESS, places=False)
 ABSORB = writer('nbt_station_absorb', ADDRESS, ctypes.c_uint64, *BYTES)
 FREE = call('nbt_station_free', Handle, answer=None)
 
@@ -155,6 +156,10 @@ class Station:
     def save(self) -> bytes:
         """The station's table, saved."""
         return self.turns.take(lambda: SAVE(self.open()))
+
+    def list(self) -> str:
+        """What `list_table` says of the station's table."""
+        return self.turns.take(lambda: LIST(self.open())).decode('ascii')
 
     def absorb(self, moment: int, table: Buffer) -> List[Delivery]:
         """Joins the saved table of another station to this one's, at this moment: the keys that are new came then. The datagrams

@@ -68,6 +68,8 @@ class Status(enum.IntEnum):
     FULL = 93
     NAME_PRESENT = 100
     TOO_MANY_NAMES = 101
+    NO_STATION = 102
+    OTHER_TYPE = 110
     UNKNOWN_STATUS = 255
 
 

@@ -6,6 +6,7 @@ import nbt
 from nbt import DatagramType, SessionType, Status
 from nbt.library import SPARE
 from nbt.service import REQUEST
+from nbt.sessions import NAMES, RETARGET
 
 FRED = bytes.fromhex('20') + b'EGFCEFEECACACACACACACACACACACACA\0'
 JOE = bytes.fromhex('20') + b'EKEPEFCACACACACACACACACACACACAAA\0'
@@ -92,6 +93,32 @@ class Datagrams(unittest.TestCase):
             with self.subTest(words), self.assertRaises(ValueError):
                 nbt.Datagram.write(*words, 'JOE<00>', 'FRED<20>', b'')
 
+    def test_error(self):
+        packet = nbt.datagram_error(7, '10.0.0.9', 1138, 0x82)
+        self.assertEqual(packet.hex(), '130200070a000009047282')
+        self.assertEqual(nbt.Datagram.read(nbt.datagram_error(0xffff, 0xffffffff, 0xffff, 0xff)).data, b'\xff')
+        for words in [(65_536, 0, 0, 0), (0, -1, 0, 0), (0, 0, 65_536, 0), (0, 0, 0, 256)]:
+            with self.subTest(words), self.assertRaises(ValueError):
+                nbt.datagram_error(*words)
+
+    def test_query(self):
+        for type, number in [(DatagramType.FIND, '14'), (DatagramType.FOUND, '15'), (DatagramType.MISSING, '16')]:
+            packet = nbt.datagram_query(type, 10, '10.0.0.5', 138, 'FRED<20>')
+            self.assertEqual(packet, bytes.fromhex(number + '02000a0a000005008a') + FRED)
+        scoped = nbt.Datagram.read(nbt.datagram_query(0x14, 10, '10.0.0.5', 138, 'FRED<20>.NETBIOS.COM'))
+        self.assertEqual((scoped.type, scoped.destination, scoped.source), (DatagramType.FIND, 'FRED<20>.NETBIOS.COM', None))
+
+    def test_query_refused(self):
+        for type, name, status, at in [(0x13, 'FRED', Status.UNKNOWN_TYPE, None), (0x17, 'FRED<20>', Status.UNKNOWN_TYPE, None),
+                                       (0x14, 'FRED', Status.BAD_TEXT, 4), (0x15, 'A' * 16 + '<20>', Status.LONG_TEXT, None)]:
+            with self.subTest(type=type, name=name), self.assertRaises(nbt.NbtError) as caught:
+                nbt.datagram_query(type, 1, '10.0.0.5', 138, name)
+            self.assertEqual((caught.exception.status, caught.exception.at), (status, at))
+        for words in [(256, 1, 0, 0, 'FRED<20>'), (0x14, 65_536, 0, 0, 'FRED<20>'), (0x14, 1, 0, -1, 'FRED<20>')]:
+            with self.subTest(words), self.assertRaises(ValueError):
+                nbt.datagram_query(*words)
+        self.assertRaises(TypeError, nbt.datagram_query, 0x14, 1, 0, 0, b'FRED<20>')
+
 
 class Sessions(unittest.TestCase):
     def test_read(self):
@@ -112,6 +139,16 @@ class Sessions(unittest.TestCase):
                                  (b'\x81\0\0\x45' + FRED + JOE + b'x', Status.TRAILING_BYTES, 72)]:
             with self.subTest(status), self.assertRaises(nbt.NbtError) as caught:
                 nbt.SessionPacket.read(data)
+            self.assertEqual((caught.exception.status, caught.exception.at), (status, at))
+
+    def test_no_such_part(self):
+        """A packet that stands, but has neither names nor a retarget."""
+        retarget, keepalive, request = b'\x84\0\0\6\x0a\0\0\5\0\x8b', b'\x85\0\0\0', b'\x81\0\0\x44' + FRED + JOE
+        for reader, data, status, at in [(NAMES, retarget, Status.OTHER_TYPE, None), (NAMES, request[:40], Status.MORE, 32),
+                                         (RETARGET, keepalive, Status.OTHER_TYPE, None), (RETARGET, request, Status.OTHER_TYPE, None),
+                                         (NAMES, request[:3] + b'\x45' + request[4:] + b'x', Status.TRAILING_BYTES, 72)]:
+            with self.subTest(data), self.assertRaises(nbt.NbtError) as caught:
+                reader(data, 0)
             self.assertEqual((caught.exception.status, caught.exception.at), (status, at))
 
     def test_write(self):
@@ -159,6 +196,15 @@ class Shown(unittest.TestCase):
         self.assertEqual(nbt.show(137, b''), 'refused truncated 0\n')
         with self.assertRaises(ValueError):
             nbt.show(65_536, b'')
+
+    def test_brief(self):
+        self.assertEqual(nbt.brief(137, nbt.query(3, 'FRED<20>')), 'asks for FRED<20>')
+        self.assertEqual(nbt.brief(138, HELLO), 'group datagram from JOE<00> to FRED<20>, 5 bytes')
+        self.assertEqual(nbt.brief(139, b'\0\0\0\2hi\x85'), 'sends 2 bytes, 1 bytes follow')
+        self.assertEqual(nbt.brief(7, bytearray(b'\x85')), nbt.brief(139, b'\x85'))
+        self.assertEqual(nbt.brief(138, b''), 'refused: truncated, at byte 0')
+        with self.assertRaises(ValueError):
+            nbt.brief(65_536, b'')
 
     def test_long(self):
         """A text that is longer than the room that it is first given."""

@@ -204,10 +204,19 @@ class Sessions(unittest.TestCase):
         scoped = FRED[:-1] + b'\3COM\0'
         packet = nbt.SessionPacket.read(nbt.SessionPacket.write(nbt.SessionType.REQUEST, scoped + FRED))
         self.assertEqual((packet.called, packet.calling, packet.retarget), ('FRED<20>.COM', 'FRED<20>', None))
+        # A label of a scope may have any bytes, zero too.
+        scoped = FRED[:-1] + b'\4a\0.b\0'
+        packet = nbt.SessionPacket.read(nbt.SessionPacket.write(nbt.SessionType.REQUEST, FRED + scoped) + b'not looked at')
+        self.assertEqual((packet.called, packet.calling), ('FRED<20>', r'FRED<20>.a\00\2eb'))
+        longest = nbt.spell('FRED<20>.' + '.'.join(['A' * 63] * 3) + '.' + 'A' * 28)
+        packet = nbt.SessionPacket.read(nbt.SessionPacket.write(nbt.SessionType.REQUEST, longest * 2))
+        self.assertEqual((len(longest), packet.called, packet.calling), (255, *[nbt.text(longest)] * 2))
 
     def test_retarget(self):
         packet = nbt.SessionPacket.read(b'\x84\0\0\6\x0a\0\0\6\0\x8b')
         self.assertEqual((packet.called, packet.calling, packet.retarget), (None, None, (ADDRESS, 139)))
+        highest = nbt.SessionPacket.read(b'\x84\0\0\6' + b'\xff' * 6)
+        self.assertEqual(highest.retarget, (type(ADDRESS)('255.255.255.255'), 65_535))
 
     def test_others(self):
         packet = nbt.SessionPacket.read(b'\0\0\0\6\x0a\0\0\6\0\x8b')

@@ -1,10 +1,13 @@
 """Stations, and saved tables."""
+import ipaddress
+import json
 import unittest
 
 import nbt
 from nbt import Outcome, Status
 
 EMPTY, OLD_EMPTY = b'NBT2\0\0\0\0', b'NBT1\0\0\0\0'
+ADDRESS = ipaddress.IPv4Address('10.0.0.5')
 
 
 def pieces(destination='FRED<20>', type=nbt.DatagramType.UNIQUE, identifier=7):
@@ -132,6 +135,20 @@ class Stations(Refusing):
         station.close()
         station.close()
         self.assertRaises(ValueError, station.save)
+        self.assertRaises(ValueError, station.list)
+
+    def test_list(self):
+        first, second = pieces()
+        with nbt.Station(['FRED<20>'], '10.0.0.9') as station:
+            self.assertEqual(station.list(), '')
+            station.take(0, second)
+            self.assertEqual(station.list(), '10.0.0.5:138/0007 partial unique JOE<00> FRED<20> 5/11 1 6-11\n')
+            station.take(0, first)
+            station.absorb(0, spoilt(1))
+            self.assertEqual(station.list(), nbt.list_table(station.save()))
+            self.assertEqual(station.list().count('\n'), 2)
+            station.tick(2_000)
+            self.assertEqual(station.list(), '')
 
 
 class Tables(Refusing):
@@ -170,6 +187,56 @@ class Tables(Refusing):
         self.assertEqual(self.refused(nbt.list_table, EMPTY[:7]), (Status.TABLE_TRUNCATED, None))
         self.assertEqual(self.refused(nbt.list_table, spoilt(2, 1)), (Status.TABLE_NOT_CANONICAL, 17))
         self.assertEqual(self.refused(nbt.list_table, EMPTY + b'!'), (Status.TABLE_NOT_CANONICAL, 8))
+
+    def test_json(self):
+        first, second = pieces()
+        with nbt.Station([], '10.0.0.9') as station:
+            self.assertEqual(nbt.table_json(station.save()), '')
+            station.take(0, second)
+            partial, = map(json.loads, nbt.table_json(station.save()).splitlines())
+            station.take(0, first)
+            table = nbt.merge(station.save(), spoilt(1))
+        names = {'kind': 'unique', 'source': 'JOE<00>', 'destination': 'FRED<20>'}
+        self.assertEqual(partial, {'key': '10.0.0.5:138/0007', 'state': 'partial', **names, 'held': 5, 'end': 11, 'runs': 1,
+                                   'places': [[6, 11]]})
+        spoilt_one, whole = map(json.loads, nbt.table_json(table).splitlines())
+        self.assertEqual(spoilt_one, {'key': '10.0.0.5:138/0001', 'state': 'spoilt'})
+        self.assertEqual(whole, {'key': '10.0.0.5:138/0007', 'state': 'whole', **names, 'data': b'hello, FRED'.hex()})
+        many = nbt.table_json(spoilt(*range(2_000)))
+        self.assertEqual([json.loads(it)['key'][-4:] for it in many.splitlines()], [f'{it:04x}' for it in range(2_000)])
+
+    def test_json_refused(self):
+        self.assertEqual(self.refused(nbt.table_json, b''), (Status.TABLE_BAD_MAGIC, None))
+        self.assertEqual(self.refused(nbt.table_json, EMPTY[:7]), (Status.TABLE_TRUNCATED, None))
+        self.assertEqual(self.refused(nbt.table_json, spoilt(2, 1)), (Status.TABLE_NOT_CANONICAL, 17))
+
+    def test_differ(self):
+        self.assertIsNone(nbt.differ(EMPTY, OLD_EMPTY))
+        self.assertIsNone(nbt.differ(spoilt(1, 2), memoryview(spoilt(1, 2))))
+        for first, second, identifier in [(spoilt(0xa0), EMPTY, 0xa0), (EMPTY, spoilt(0xa0), 0xa0), (spoilt(1, 3), spoilt(1, 2), 2),
+                                          (spoilt(1, 2), spoilt(1, 3), 2), (spoilt(1), spoilt(1, 9), 9)]:
+            self.assertEqual(nbt.differ(first, second), nbt.Key(ADDRESS, 138, identifier))
+        self.assertEqual(str(nbt.differ(spoilt(0xa0), EMPTY)), '10.0.0.5:138/00a0')
+        # A key whose numbers are all 0 is one, too.
+        self.assertEqual(nbt.differ(EMPTY, b'NBT2\0\0\0\1' + bytes(9)), nbt.Key(ipaddress.IPv4Address(0), 0, 0))
+        with nbt.Station([], '10.0.0.9') as one, nbt.Station([], '10.0.0.9') as other:
+            for first, second in zip(pieces(), reversed(pieces())):
+                one.take(0, first)
+                other.take(0, second)
+                self.assertEqual(nbt.differ(one.save(), other.save()), nbt.Key(ADDRESS, 138, 7) if first == pieces()[0] else None)
+
+    def test_differ_refused(self):
+        self.assertEqual(self.refused(nbt.differ, b'NBT3', b'NBT3'), (Status.TABLE_BAD_MAGIC, None))
+        self.assertEqual(self.refused(nbt.differ, EMPTY[:7], EMPTY), (Status.TABLE_TRUNCATED, None))
+        self.assertEqual(self.refused(nbt.differ, spoilt(2, 1), EMPTY), (Status.TABLE_NOT_CANONICAL, 17))
+        self.assertEqual(self.refused(nbt.differ, EMPTY, b'NBT3'), (Status.SECOND_BAD_MAGIC, None))
+        self.assertEqual(self.refused(nbt.differ, EMPTY, EMPTY[:7]), (Status.SECOND_TRUNCATED, None))
+        self.assertEqual(self.refused(nbt.differ, EMPTY, spoilt(2, 1)), (Status.SECOND_NOT_CANONICAL, 17))
+
+    def test_keys(self):
+        keys = [nbt.Key(ADDRESS, port, identifier) for port in (137, 138) for identifier in (1, 2)]
+        self.assertEqual(sorted(reversed(keys)), keys)
+        self.assertEqual(len({*keys, nbt.Key(ADDRESS, 137, 1)}), 4)
 
 
 if __name__ == '__main__':

@@ -53,3 +53,13 @@ def front(payload: bytearray) -> Optional[int]:
         return None
     retarget = nbt.SessionPacket.read(nbt.json(137, payload).encode()).retarget
     return fault.at if retarget is None else retarget[1] + packet.counts[0] + len(nbt.__version__)
+
+
+def known(station: nbt.Station, table: mmap.mmap) -> List[str]:
+    """What a station and a table say, and where they differ."""
+    key: Optional[nbt.Key] = nbt.differ(station.save(), table)
+    if key is None:
+        return [station.list(), nbt.table_json(table)]
+    error: bytes = nbt.datagram_error(key.identifier, key.address, key.port, 0x82)
+    query: bytes = nbt.datagram_query(nbt.DatagramType.FIND, key.identifier, str(key.address), key.port, 'FRED<20>')
+    return [nbt.brief(138, error), nbt.brief(138, query)]

@@ -24,8 +24,11 @@
 use std::fmt;
 use std::net::{Ipv4Addr, SocketAddrV4};
 
-use crate::calls::{nbt_datagram_read, nbt_datagram_write, FoundDatagram, DONE};
+use crate::calls::{
+    nbt_datagram_error, nbt_datagram_query, nbt_datagram_read, nbt_datagram_write, DONE,
+};
 use crate::room::written;
+use crate::structures::FoundDatagram;
 use crate::{Error, Result, Spelling};
 
 /// What MSG_TYPE says of a fragment's datagram.
@@ -284,5 +287,65 @@ impl<'a> Iterator for Iter<'a> {
         let payload = self.0.get(2..end)?;
         self.0 = &self.0[end..];
         Some(payload)
+    }
+}
+
+/// An error packet with this code, as of [`Body::Error`]. The identifier is the datagram's, and the sender is the station that
+/// sends the error.
+///
+/// ```
+/// let packet = nbt::datagram::write_error(7, "10.0.0.9:138".parse()?, 0x82)?;
+/// assert_eq!(packet, b"\x13\x02\0\x07\x0a\0\0\x09\0\x8a\x82");
+/// # Ok::<(), Box<dyn std::error::Error>>(())
+/// ```
+///
+/// # Errors
+///
+/// `NoMemory`.
+pub fn write_error(identifier: u16, sender: SocketAddrV4, code: u8) -> Result<Vec<u8>> {
+    let (address, port) = (u32::from(*sender.ip()), sender.port());
+    // SAFETY: the room's parts lie apart from each other.
+    unsafe {
+        written(|room| {
+            nbt_datagram_error(
+                identifier,
+                address,
+                port,
+                code,
+                room.into,
+                room.length,
+                room.used,
+            )
+        })
+    }
+}
+
+/// A query to a distribution server about the name with this text, or its answer.
+///
+/// # Errors
+///
+/// `BadText`, `LongText`, `NoMemory`, judged in this order.
+pub fn write_query(
+    query: Query,
+    identifier: u16,
+    sender: SocketAddrV4,
+    name: &str,
+) -> Result<Vec<u8>> {
+    // SAFETY: the name is a slice, and the room's parts lie apart from it.
+    unsafe {
+        written(|room| {
+            nbt_datagram_query(
+                query as u8,
+                identifier,
+                u32::from(*sender.ip()),
+                sender.port(),
+                name.as_ptr(),
+                name.len(),
+                room.into,
+                room.length,
+                room.used,
+                room.at,
+            )
+        })
     }
 }

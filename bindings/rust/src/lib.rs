@@ -3,12 +3,12 @@
 //!
 //! - [`spell`] and [`text`]: names as texts, and as packets spell them
 //! - [`Name`], [`Spelling`]: names that lie in place, and names that are lent from a packet
-//! - [`show`], [`json`]: what the command `nbt show` prints of a payload, and what it prints with `--json`
+//! - [`show`], [`brief`], [`json`]: what the command `nbt show` prints of a payload, and what with `--brief` and `--json`
 //! - [`service`]: packets of port 137
 //! - [`datagram`]: packets of port 138
 //! - [`session`]: packets of port 139
 //! - [`station`]: stations, which put datagrams together
-//! - [`merge`], [`list_table`]: saved tables, joined and listed
+//! - [`merge`], [`differ`], [`list_table`], [`table_json`]: saved tables, joined, compared and listed
 //!
 //! ```
 //! let payload = [0x83, 0, 0, 1, 0x82];
@@ -42,6 +42,7 @@ mod room;
 mod service_header;
 mod service_packets;
 mod status;
+mod structures;
 mod tables;
 
 pub mod datagram;
@@ -52,10 +53,10 @@ pub mod station;
 pub use error::Error;
 pub use name::{Labels, Name};
 pub use names::{spell, text, Spelling};
-pub use packets::{json, json_into, show, show_into, version};
+pub use packets::{brief, brief_into, json, json_into, show, show_into, version};
 pub use station::Station;
 pub use status::Status;
-pub use tables::{list_table, merge, Limits};
+pub use tables::{differ, list_table, merge, table_json, Limits};
 
 /// What a call answers: a value, or why it did nothing.
 pub type Result<T> = std::result::Result<T, Error>;

@@ -1,6 +1,6 @@
-//! What the command `nbt show` prints of a payload, as a text and as JSON; the version of the library.
+//! What the command `nbt show` prints of a payload: as lines, as a phrase and as JSON; the version of the library.
 
-use crate::calls::{nbt_json, nbt_show, nbt_version};
+use crate::calls::{nbt_brief, nbt_json, nbt_show, nbt_version};
 use crate::room::{text_of, write_into, written};
 use crate::Result;
 
@@ -67,6 +67,44 @@ pub fn json_into(port: u16, payload: &[u8], text: &mut Vec<u8>) -> Result<()> {
     unsafe {
         write_into(text, |room| {
             nbt_json(
+                port,
+                payload.as_ptr(),
+                payload.len(),
+                room.into,
+                room.length,
+                room.used,
+            )
+        })
+    }
+}
+
+/// The phrase of a payload that came to this port, without a line feed: what `nbt show --brief` prints of it after the two
+/// numbers of its line (the words are our choice). Ports are as of [`show`].
+///
+/// ```
+/// assert_eq!(nbt::brief(139, &[0, 0, 0, 2, b'h', b'i'])?, "sends 2 bytes");
+/// # Ok::<(), nbt::Error>(())
+/// ```
+///
+/// # Errors
+///
+/// `NoMemory`.
+pub fn brief(port: u16, payload: &[u8]) -> Result<String> {
+    let mut text = Vec::new();
+    brief_into(port, payload, &mut text)?;
+    Ok(text_of(text))
+}
+
+/// Puts what [`brief`] answers into a buffer in the place of what it held, as [`show_into`] does.
+///
+/// # Errors
+///
+/// `NoMemory`; the buffer is then empty.
+pub fn brief_into(port: u16, payload: &[u8], text: &mut Vec<u8>) -> Result<()> {
+    // SAFETY: the payload is a slice, and the room's parts lie apart from it.
+    unsafe {
+        write_into(text, |room| {
+            nbt_brief(
                 port,
                 payload.as_ptr(),
                 payload.len(),

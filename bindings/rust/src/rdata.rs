@@ -2,11 +2,10 @@
 
 use std::net::Ipv4Addr;
 
-use crate::calls::{
-    nbt_service_address, nbt_service_node, nbt_service_unit, FoundAddress, FoundNode, DONE, NO_PART,
-};
+use crate::calls::{nbt_service_address, nbt_service_node, nbt_service_unit, DONE, NO_PART};
 use crate::codes::NodeType;
 use crate::service::Entry;
+use crate::structures::{FoundAddress, FoundNode};
 use crate::Name;
 
 /// RR_TYPE of an address of a NetBIOS name.

@@ -2,11 +2,10 @@
 
 use std::fmt;
 
-use crate::calls::{
-    nbt_service_header, nbt_service_item, nbt_service_read, FoundHeader, FoundItem, DONE, NO_ITEM,
-};
+use crate::calls::{nbt_service_header, nbt_service_item, nbt_service_read, DONE, NO_ITEM};
 use crate::rdata::Rdata;
 use crate::service_header::Header;
+use crate::structures::{FoundHeader, FoundItem};
 use crate::{Error, Name, Result};
 
 /// Where the first question or record stands: behind the header.

@@ -19,9 +19,11 @@ use std::fmt;
 use std::iter::FusedIterator;
 use std::net::{Ipv4Addr, SocketAddrV4};
 
-use crate::calls::{nbt_session_read, nbt_session_write, FoundSession, DONE, MORE};
-use crate::names::spelled_length;
+use crate::calls::{
+    nbt_session_names, nbt_session_read, nbt_session_retarget, nbt_session_write, DONE, MORE,
+};
 use crate::room::written;
+use crate::structures::{FoundNames, FoundRetarget, FoundSession};
 use crate::{Error, Result, Spelling};
 
 /// TYPE: what a packet is.
@@ -76,25 +78,37 @@ pub struct Packet<'a> {
     pub body: &'a [u8],
     /// The bytes of the packet; what follows it isn't looked at.
     pub used: usize,
+    /// All of them, from the header on.
+    whole: &'a [u8],
 }
 
 impl<'a> Packet<'a> {
     /// CALLED_NAME and CALLING_NAME, of a request.
     pub fn names(&self) -> Option<(Spelling<'a>, Spelling<'a>)> {
-        let spelled = spelled_length(self.body).filter(|_| self.kind == Kind::Request)?;
-        let (called, calling) = self.body.split_at(spelled);
-        Some((Spelling(called), Spelling(calling)))
+        let (mut found, mut at) = (FoundNames::EMPTY, 0);
+        // SAFETY: the packet is a slice, and what is written lies apart from it.
+        let status = unsafe {
+            nbt_session_names(self.whole.as_ptr(), self.whole.len(), &mut found, &mut at)
+        };
+        if status != DONE {
+            return None;
+        }
+        // The body is both spellings.
+        let called = usize::from(found.called_length);
+        let end = called + usize::from(found.calling_length);
+        let calling = self.body.get(called..end)?;
+        Some((Spelling(self.body.get(..called)?), Spelling(calling)))
     }
 
     /// Whom to call instead: RETARGET_IP_ADDRESS and RETARGET_PORT, of a retarget.
     pub fn retarget(&self) -> Option<SocketAddrV4> {
-        match (self.kind, self.body) {
-            (Kind::Retarget, &[a, b, c, d, high, low]) => {
-                let port = u16::from_be_bytes([high, low]);
-                Some(SocketAddrV4::new(Ipv4Addr::new(a, b, c, d), port))
-            }
-            _ => None,
-        }
+        let (mut found, mut at) = (FoundRetarget::default(), 0);
+        // SAFETY: the packet is a slice, and what is written lies apart from it.
+        let status = unsafe {
+            nbt_session_retarget(self.whole.as_ptr(), self.whole.len(), &mut found, &mut at)
+        };
+        let other = SocketAddrV4::new(Ipv4Addr::from(found.address), found.port);
+        (status == DONE).then_some(other)
     }
 }
 
@@ -122,6 +136,7 @@ pub fn read(bytes: &[u8]) -> Result<Next<'_>> {
             kind: Kind::try_from(found.kind)?,
             body: &bytes[found.body..found.body + found.body_length],
             used: found.used,
+            whole: &bytes[..found.used],
         })),
         MORE => Ok(Next::More(at)),
         _ => Err(Error::new(status, at)),

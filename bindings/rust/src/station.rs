@@ -31,12 +31,13 @@ use std::net::{Ipv4Addr, SocketAddrV4};
 use std::{fmt, ptr};
 
 use crate::calls::{
-    nbt_station_absorb, nbt_station_create, nbt_station_free, nbt_station_save, nbt_station_take,
-    nbt_station_tick, Handle, Taken, DONE,
+    nbt_station_absorb, nbt_station_create, nbt_station_free, nbt_station_list, nbt_station_save,
+    nbt_station_take, nbt_station_tick, DONE,
 };
 use crate::datagram::Kind;
 use crate::names::spelled_length;
-use crate::room::{write_into, written};
+use crate::room::{text_of, write_into, written};
+use crate::structures::{Handle, Taken};
 use crate::{spell, Error, Limits, Name, Result, Spelling, Status};
 
 /// A station: its names, and a table that the payloads of port 138 fill and the clock empties. A datagram is handed over
@@ -232,6 +233,19 @@ impl Station {
         unsafe {
             written(|room| nbt_station_save(&mut self.handle, room.into, room.length, room.used))
         }
+    }
+
+    /// What [`crate::list_table`] says of the station's table.
+    ///
+    /// # Errors
+    ///
+    /// `NoMemory`.
+    pub fn list(&mut self) -> Result<String> {
+        // SAFETY: the station is open, and the room's parts lie apart from it.
+        let lines = unsafe {
+            written(|room| nbt_station_list(&mut self.handle, room.into, room.length, room.used))
+        };
+        lines.map(text_of)
     }
 
     /// Joins the saved table of another station to this one's, at this moment: the keys that are new came then. Hands over

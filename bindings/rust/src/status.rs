@@ -136,6 +136,11 @@ pub enum Status {
     NamePresent = 100,
     /// There are more than 254 names. The place: where the text of the 255th begins.
     TooManyNames = 101,
+    /// The station is none. No call of this crate answers it.
+    NoStation = 102,
+
+    /// The packet stands, but its type isn't the one that has the part that is asked for.
+    OtherType = 110,
 
     /// A number that this version of the crate doesn't know: [`crate::Error::number`] keeps it.
     UnknownStatus = 255,
@@ -143,7 +148,7 @@ pub enum Status {
 
 impl Status {
     /// All of them, by number.
-    pub const ALL: [Status; 58] = [
+    pub const ALL: [Status; 60] = [
         Status::NoMemory,
         Status::BadText,
         Status::LongText,
@@ -201,6 +206,8 @@ impl Status {
         Status::Full,
         Status::NamePresent,
         Status::TooManyNames,
+        Status::NoStation,
+        Status::OtherType,
         Status::UnknownStatus,
     ];
 

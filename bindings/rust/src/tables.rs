@@ -1,9 +1,13 @@
 //! Saved tables: what is known of datagrams, as the command `nbt save` writes it, as bytes instead of digits (our
 //! choice). docs/FORMATS.md has both forms, NBT1 and NBT2.
 
-use crate::calls::{nbt_table_list, nbt_table_merge};
+use std::net::{Ipv4Addr, SocketAddrV4};
+
+use crate::calls::{nbt_table_differ, nbt_table_json, nbt_table_list, nbt_table_merge, DONE};
 use crate::room::{text_of, written};
-use crate::Result;
+use crate::station::Key;
+use crate::structures::Difference;
+use crate::{Error, Result};
 
 /// How much a table has room for: 1,024 keys, and no limit on one address, where nothing else is said.
 #[derive(Clone, Copy, Debug, PartialEq, Eq, Hash)]
@@ -85,4 +89,71 @@ pub fn list_table(table: &[u8]) -> Result<String> {
         })
     }?;
     Ok(text_of(lines))
+}
+
+/// What the command `nbt list --json` prints of a saved table: a JSON object (RFC 8259) for each key, ascending, line feeds
+/// included (our choice).
+///
+/// ```
+/// let table = b"NBT2\0\0\0\x01\x0a\0\0\x05\0\x8a\0\x07\0";
+/// let object = r#"{"key":"10.0.0.5:138/0007","state":"spoilt"}"#;
+/// assert_eq!(nbt::table_json(table)?, format!("{object}\n"));
+/// # Ok::<(), nbt::Error>(())
+/// ```
+///
+/// # Errors
+///
+/// `TableBadMagic`, `TableTruncated`, `TableNotCanonical`, `NoMemory`.
+pub fn table_json(table: &[u8]) -> Result<String> {
+    // SAFETY: the table is a slice, and the room's parts lie apart from it.
+    let objects = unsafe {
+        written(|room| {
+            nbt_table_json(
+                table.as_ptr(),
+                table.len(),
+                room.into,
+                room.length,
+                room.used,
+                room.at,
+            )
+        })
+    };
+    objects.map(text_of)
+}
+
+/// The least key at which two saved tables know different things: the least address, then port, then identifier. `None`
+/// where they know the same. However many keys they have, none is too many.
+///
+/// ```
+/// let (one, none) = (b"NBT2\0\0\0\x01\x0a\0\0\x05\0\x8a\0\x07\0", b"NBT2\0\0\0\0");
+/// assert_eq!(nbt::differ(one, one)?, None);
+/// assert_eq!(nbt::differ(one, none)?.unwrap().to_string(), "10.0.0.5:138/0007");
+/// # Ok::<(), nbt::Error>(())
+/// ```
+///
+/// # Errors
+///
+/// `TableBadMagic` to `TableNotCanonical` of the first, `SecondBadMagic` to `SecondNotCanonical` of the second, `NoMemory`
+/// (which may come before those of the second).
+pub fn differ(first: &[u8], second: &[u8]) -> Result<Option<Key>> {
+    let (mut found, mut at) = (Difference::default(), 0);
+    // SAFETY: the tables are slices, and what is written lies apart from them.
+    let status = unsafe {
+        nbt_table_differ(
+            first.as_ptr(),
+            first.len(),
+            second.as_ptr(),
+            second.len(),
+            &mut found,
+            &mut at,
+        )
+    };
+    if status != DONE {
+        return Err(Error::new(status, at));
+    }
+    let key = Key {
+        sender: SocketAddrV4::new(Ipv4Addr::from(found.address), found.port),
+        identifier: found.identifier,
+    };
+    Ok((found.differ != 0).then_some(key))
 }

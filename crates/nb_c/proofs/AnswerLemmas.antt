@@ -4,7 +4,7 @@ use Rattle.std.specs.Prelude.{IfOk}
 use Rattle.nb_names.specs.declared.bytes.NoMemory.{NoMemory}
 use Rattle.nb_c.specs.declared.refusal.Refusal.{Refusal}
 use Rattle.nb_c.specs.declared.refusal.Refusal.TheVariants.{Memory, Fault, FaultAt}
-use Rattle.nb_c.specs.Outputs.{Alone, Answers, Does, HasOne, Lent, MayLack, OrMemory, Filled, Fills, all_late, of_memory}
+use Rattle.nb_c.specs.Outputs.{Alone, Answers, Does, HasOne, Lent, MayLack, OrMemory, Filled, Fills, FillsOrLacks, all_late, of_memory}
 
 module _ (late : ℕ → Bool) (Says : Result (List ℕ) Refusal → Type 0) (one : HasOne Says) (old new : Lent) (status : ℕ) where
   told : (answer : Result (List ℕ) Refusal) → Says answer → Answers answer old new status
@@ -58,3 +58,19 @@ fills A Says answer old new at at' status j h = record {
   some = (answer, j.said, h);
   only = λ other said. subst (λ (told : Result A Refusal). Filled A told old new at at' status) (sym (j.only other said)) h;
 }
+
+module _ (A : Type 0) (late : ℕ → Bool) (Says : Result A Refusal → Type 0) (one : HasOne Says) (old new : A) (at at' status : ℕ) where
+  filled : (answer : Result A Refusal) → Says answer → Filled A answer old new at at' status
+      → FillsOrLacks A late Says old new at at' status
+  filled answer said h = record {
+    some = inr (answer, said, h);
+    only = λ other also. inr (subst (λ (t : Result A Refusal). Filled A t old new at at' status) (one answer other said also) h);
+  }
+
+  -- what is said and filled in, or that memory ran out
+  pub fills_or_lacks : (answer : Result A Refusal) → OrMemory late Says answer → Filled A answer old new at at' status
+      → FillsOrLacks A late Says old new at at' status
+  fills_or_lacks (Ok value) j h = filled (Ok value) j h
+  fills_or_lacks (Err Memory) j h = record { some = inl h; only = λ other said. inl (j other said, h) }
+  fills_or_lacks (Err (Fault code)) j h = filled (Err (Fault code)) j h
+  fills_or_lacks (Err (FaultAt code place)) j h = filled (Err (FaultAt code place)) j h

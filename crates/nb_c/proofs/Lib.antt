@@ -1,5 +1,6 @@
 pub mod AbsorbLemmas
 pub mod AnswerLemmas
+pub mod DifferLemmas
 pub mod FrameLemmas
 pub mod HandleValues
 pub mod LengthLemmas
@@ -13,6 +14,8 @@ pub mod PlaceLemmas
 pub mod ReadLemmas
 pub mod ServiceLemmas
 pub mod ShowLemmas
+pub mod StationLemmas
 pub mod StationNameLemmas
 pub mod TellLemmas
 pub mod TextLemmas
+pub mod TwoLemmas

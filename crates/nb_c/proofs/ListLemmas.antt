@@ -1,6 +1,5 @@
--- The lines of a saved table's keys are what is answered of it.
+-- What is told of a saved table is what is answered of it.
 use Rattle.std.proofs.Common.{◌≡◌, ℕ, List, Result, Ok, Err, IfOk, ap, subst, sym}
-use Rattle.nb_member.specs.Listing.{listing}
 use Rattle.nb_names.specs.declared.bytes.NoMemory.{NoMemory}
 use Rattle.nb_entries.specs.declared.load_fault.LoadFault.{LoadFault}
 use Rattle.nb_entries.specs.declared.load_fault.LoadFault.TheVariants as loads
@@ -9,21 +8,21 @@ use Rattle.nb_table.specs.Limits.{TableValue}
 use Rattle.nb_table.specs.LoadFaults.{LoadFails}
 use Rattle.nb_c.specs.declared.refusal.Refusal.{Refusal}
 use Rattle.nb_c.specs.Outputs.{HasOne, MayLack, OrMemory, none_late, of_memory}
-use Rattle.nb_c.specs.Tables.{IsLoaded, Lists, not_read, listed, first_refusal, widest}
+use Rattle.nb_c.specs.Tables.{IsLoaded, OfOne, not_read, read, first_refusal, widest}
 use Rattle.nb_c.proofs.LoadLemmas.{InputLaws, one_fault, as_memory, no_other, loaded_apart}
 
-module _ (table : List ℕ) (laws : InputLaws table) where
-  pub one_list : HasOne (Lists table)
+module _ (table : List ℕ) (told_of : Contents → List ℕ) (laws : InputLaws table) where
+  pub one_list : HasOne (OfOne table told_of)
   one_list _ _ (not_read f h p) (not_read g k q) = ap (λ (x : LoadFault). Err (first_refusal x)) (one_fault table widest laws f g p q)
-  one_list _ _ (not_read f h p) (listed t is) = loaded_apart table widest laws t f h is p
-  one_list _ _ (listed t is) (not_read f h p) = loaded_apart table widest laws t f h is p
-  one_list _ _ (listed t is) (listed u also) = ap (λ (x : Contents). Ok (listing x)) (laws.one t.contents u.contents is.stands also.stands)
+  one_list _ _ (not_read f h p) (read t is) = loaded_apart table widest laws t f h is p
+  one_list _ _ (read t is) (not_read f h p) = loaded_apart table widest laws t f h is p
+  one_list _ _ (read t is) (read u also) = ap (λ (x : Contents). Ok (told_of x)) (laws.one t.contents u.contents is.stands also.stands)
 
-  lacks : LoadFails table widest loads.NoMemory → (answer : Result (List ℕ) Refusal) → Lists table answer → MayLack none_late answer
+  lacks : LoadFails table widest loads.NoMemory → (answer : Result (List ℕ) Refusal) → OfOne table told_of answer → MayLack none_late answer
   lacks q _ (not_read fault h p) = no_other table widest laws fault h p q
-  lacks q _ (listed t is) = tt
+  lacks q _ (read t is) = tt
 
-  pub list_failed : (fault : LoadFault) → LoadFails table widest fault → OrMemory none_late (Lists table) (Err (first_refusal fault))
+  pub list_failed : (fault : LoadFault) → LoadFails table widest fault → OrMemory none_late (OfOne table told_of) (Err (first_refusal fault))
   list_failed loads.BadMagic p = not_read loads.BadMagic (λ e. absurd (cc e)) p
   list_failed loads.Truncated p = not_read loads.Truncated (λ e. absurd (cc e)) p
   list_failed (loads.NotCanonical at) p = not_read (loads.NotCanonical at) (λ e. absurd (cc e)) p
@@ -34,6 +33,6 @@ module _ (table : List ℕ) (laws : InputLaws table) where
 
   -- what a table that was read comes to, in lines
   pub lists : (t : TableValue) (told : Result (List ℕ) NoMemory) → IsLoaded table widest t
-      → IfOk told (λ (bytes : List ℕ). bytes ≡ listing t.contents) → OrMemory none_late (Lists table) (of_memory told)
-  lists t (Ok bytes) is e = subst (λ (lines : List ℕ). Lists table (Ok lines)) (sym e) (listed t is)
+      → IfOk told (λ (bytes : List ℕ). bytes ≡ told_of t.contents) → OrMemory none_late (OfOne table told_of) (of_memory told)
+  lists t (Ok bytes) is e = subst (λ (lines : List ℕ). OfOne table told_of (Ok lines)) (sym e) (read t is)
   lists t (Err fault) is e = lacks (as_memory table widest laws t is)

@@ -1,22 +1,19 @@
--- Of two saved tables one thing is answered, which the join is.
+-- The join of two tables, or why there is none.
 use Rattle.std.proofs.Common.{◌≡◌, ◌≢◌, ◌∙◌, ℕ, nat_le, true, List, Result, Ok, Err, IfOk, refl, ap, sym, subst}
 use Rattle.nb_names.specs.declared.bytes.NoMemory.{NoMemory}
 use Rattle.nb_table.specs.declared.fault.TableFault.{TableFault}
 use Rattle.nb_table.specs.declared.fault.TableFault.TheVariants as tables
-use Rattle.nb_entries.specs.declared.load_fault.LoadFault.{LoadFault}
-use Rattle.nb_entries.specs.declared.load_fault.LoadFault.TheVariants as loads
 use Rattle.nb_table.specs.Contents.{Contents}
 use Rattle.nb_table.specs.Join.{join}
 use Rattle.nb_table.specs.Limits.{Limits, TableValue}
-use Rattle.nb_table.specs.LoadFaults.{LoadFails}
 use Rattle.nb_table.specs.Merging.{Fits, IsRefused}
 use Rattle.nb_table.specs.Saved.{saved}
 use Rattle.nb_c.specs.declared.refusal.Refusal.{Refusal}
-use Rattle.nb_c.specs.declared.refusal.Refusal.TheVariants.{Memory, Fault, FaultAt}
 use Rattle.nb_c.specs.Outputs.{HasOne, MayLack, OrMemory, of_memory, refused_status}
 use Rattle.nb_c.specs.Stations.{table_refusal}
-use Rattle.nb_c.specs.Tables.{IsLoaded, Joins, Merges, first_fails, second_fails, joined, first_refusal, second_refusal, follow_the_first}
-use Rattle.nb_c.proofs.LoadLemmas.{InputLaws, one_fault, as_memory, no_other, loaded_apart}
+use Rattle.nb_c.specs.Tables.{IsLoaded, Joins, Merges, follow_the_first}
+use Rattle.nb_c.proofs.LoadLemmas.{InputLaws}
+use Rattle.nb_c.proofs.TwoLemmas.{done}
 
 module _ (l : Limits) (s t : Contents) where
   fits_apart : {A : Type 0} (fault : TableFault) → fault ≢ tables.NoMemory → Fits l s t → IsRefused l s t fault → A
@@ -46,7 +43,7 @@ module _ (l : Limits) (s t : Contents) where
   one_refusal (tables.Full _) (tables.Full _) h k p q = refl
   one_refusal (tables.Full _) tables.NoMemory h k p q = absurd (k refl)
 
-  one_join : HasOne (Joins l s t)
+  pub one_join : HasOne (Joins l s t)
   one_join (Ok a) (Ok b) (f, e) (g, d) = ap (λ (x : List ℕ). Ok x) (e ∙ sym d)
   one_join (Ok a) (Err b) (f, e) (fault, h, q, d) = fits_apart fault h f q
   one_join (Err a) (Ok b) (fault, h, q, d) (f, e) = fits_apart fault h f q
@@ -59,7 +56,7 @@ module _ (l : Limits) (s t : Contents) where
   late_fault (tables.Full k) h = refl
   late_fault tables.NoMemory h = absurd (h refl)
 
-  late_join : (answer : Result (List ℕ) Refusal) → Joins l s t answer → MayLack follow_the_first answer
+  pub late_join : (answer : Result (List ℕ) Refusal) → Joins l s t answer → MayLack follow_the_first answer
   late_join (Ok bytes) j = tt
   late_join (Err refusal) (fault, h, q, e) = rw e (late_fault fault h)
 
@@ -77,68 +74,11 @@ module _ (l : Limits) (s t : Contents) where
   join_done (Ok bytes) f e = (f, e)
   join_done (Err fault) f e = late_join
 
-second_late : (fault : LoadFault) → fault ≢ loads.NoMemory → nat_le 80 (refused_status (second_refusal fault)) ≡ true
-second_late loads.BadMagic h = refl
-second_late loads.Truncated h = refl
-second_late (loads.NotCanonical at) h = refl
-second_late loads.TooLong h = refl
-second_late loads.FullSource h = refl
-second_late loads.Full h = refl
-second_late loads.NoMemory h = absurd (h refl)
-
-module _ (first second : List ℕ) (limits : Limits) (laws : InputLaws first) where
-  lacks : LoadFails first limits loads.NoMemory → (answer : Result (List ℕ) Refusal) → Merges first second limits answer
-      → MayLack follow_the_first answer
-  lacks q _ (first_fails fault h p) = no_other first limits laws fault h p q
-  lacks q _ (second_fails one fault is h p) = second_late fault h
-  lacks q _ (joined one other answer is also j) = late_join limits one.contents other.contents answer j
-
-  pub first_failed : (fault : LoadFault) → LoadFails first limits fault
-      → OrMemory follow_the_first (Merges first second limits) (Err (first_refusal fault))
-  first_failed loads.BadMagic p = first_fails loads.BadMagic (λ e. absurd (cc e)) p
-  first_failed loads.Truncated p = first_fails loads.Truncated (λ e. absurd (cc e)) p
-  first_failed (loads.NotCanonical at) p = first_fails (loads.NotCanonical at) (λ e. absurd (cc e)) p
-  first_failed loads.TooLong p = first_fails loads.TooLong (λ e. absurd (cc e)) p
-  first_failed loads.FullSource p = first_fails loads.FullSource (λ e. absurd (cc e)) p
-  first_failed loads.Full p = first_fails loads.Full (λ e. absurd (cc e)) p
-  first_failed loads.NoMemory p = lacks p
-
-  pub second_failed : (one : TableValue) (fault : LoadFault) → IsLoaded first limits one → LoadFails second limits fault
-      → OrMemory follow_the_first (Merges first second limits) (Err (second_refusal fault))
-  second_failed one loads.BadMagic is p = second_fails one loads.BadMagic is (λ e. absurd (cc e)) p
-  second_failed one loads.Truncated is p = second_fails one loads.Truncated is (λ e. absurd (cc e)) p
-  second_failed one (loads.NotCanonical at) is p = second_fails one (loads.NotCanonical at) is (λ e. absurd (cc e)) p
-  second_failed one loads.TooLong is p = second_fails one loads.TooLong is (λ e. absurd (cc e)) p
-  second_failed one loads.FullSource is p = second_fails one loads.FullSource is (λ e. absurd (cc e)) p
-  second_failed one loads.Full is p = second_fails one loads.Full is (λ e. absurd (cc e)) p
-  second_failed one loads.NoMemory is p = lacks (as_memory first limits laws one is)
-
-  -- what two tables that were read come to, joined
-  pub merges : (one other : TableValue) (answer : Result (List ℕ) Refusal) → IsLoaded first limits one
-      → IsLoaded second limits other → OrMemory follow_the_first (Joins one.limits one.contents other.contents) answer
-      → OrMemory follow_the_first (Merges first second limits) answer
-  merges one other answer is also j =
-      by_cases answer (subst (λ (m : Limits). OrMemory follow_the_first (Joins m one.contents other.contents) answer) is.limited j) where
-        by_cases : (answer : Result (List ℕ) Refusal) → OrMemory follow_the_first (Joins limits one.contents other.contents) answer
-            → OrMemory follow_the_first (Merges first second limits) answer
-        by_cases (Ok bytes) j = joined one other (Ok bytes) is also j
-        by_cases (Err Memory) j = lacks (as_memory first limits laws one is)
-        by_cases (Err (Fault status)) j = joined one other (Err (Fault status)) is also j
-        by_cases (Err (FaultAt status place)) j = joined one other (Err (FaultAt status place)) is also j
-
-  module _ (more : InputLaws second) where
-    pub one_merge : HasOne (Merges first second limits)
-    one_merge _ _ (first_fails f h p) (first_fails g k q) =
-        ap (λ (x : LoadFault). Err (first_refusal x)) (one_fault first limits laws f g p q)
-    one_merge _ _ (first_fails f h p) (second_fails one g is k q) = loaded_apart first limits laws one f h is p
-    one_merge _ _ (first_fails f h p) (joined one other b is also j) = loaded_apart first limits laws one f h is p
-    one_merge _ _ (second_fails one g is k q) (first_fails f h p) = loaded_apart first limits laws one f h is p
-    one_merge _ _ (second_fails one f is h p) (second_fails _ g _ k q) =
-        ap (λ (x : LoadFault). Err (second_refusal x)) (one_fault second limits more f g p q)
-    one_merge _ _ (second_fails one f is h p) (joined _ other b _ also j) = loaded_apart second limits more other f h also p
-    one_merge _ _ (joined one other a is also j) (first_fails f h p) = loaded_apart first limits laws one f h is p
-    one_merge _ _ (joined one other a is also j) (second_fails _ f _ h p) = loaded_apart second limits more other f h also p
-    one_merge _ _ (joined one other a is also j) (joined two third b same too k) =
-        one_join limits one.contents other.contents a b j
-        (subst (λ (x : Contents). Joins limits x other.contents b) (laws.one two.contents one.contents same.stands is.stands)
-        (subst (λ (x : Contents). Joins limits two.contents x b) (more.one third.contents other.contents too.stands also.stands) k))
+-- what is read of two tables, joined
+pub merges : (first second : List ℕ) (limits : Limits) → InputLaws first → (one other : TableValue) (answer : Result (List ℕ) Refusal)
+    → IsLoaded first limits one → IsLoaded second limits other
+    → OrMemory follow_the_first (Joins one.limits one.contents other.contents) answer
+    → OrMemory follow_the_first (Merges first second limits) answer
+merges first second limits laws one other answer is also j =
+    done first second limits (Joins limits) laws (late_join limits) one other answer is also
+    (subst (λ (m : Limits). OrMemory follow_the_first (Joins m one.contents other.contents) answer) is.limited j)

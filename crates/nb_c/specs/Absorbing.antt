@@ -55,7 +55,6 @@ pub data Absorbed (m : MemberValue) (moment : ℕ) (table : List ℕ) (room : �
       → Joined m moment other.contents room after answer → Absorbed m moment table room after answer
   not_read : (fault : LoadFault) → LoadFails table (limits_of m.settings) fault → after ≡ m
       → Absorbed m moment table room after (Err (first_refusal fault))
-  unread : after ≡ m → Absorbed m moment table room after (Err Memory)
 
 -- AbsorbsInto m moment table after old new status: what the call does to the member m, and to what its caller lends
 abbrev pub AbsorbsInto : MemberValue → ℕ → List ℕ → MemberValue → Lent → Lent → ℕ → Type 0

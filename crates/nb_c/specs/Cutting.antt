@@ -25,9 +25,13 @@ abbrev pub kind_with : ℕ → Option Kind
 kind_with type =
     if type == 16 then Some Unique else if type == 17 then Some Group else if type == 18 then Some Broadcast else None
 
+-- the key with these numbers
+abbrev pub key_from : ℕ → ℕ → ℕ → Key
+key_from identifier address port = record { ip = to_be_bytes w32 address; port = port; id = identifier }
+
 -- the key of a datagram that is sent so
 abbrev pub key_of : Sent → Key
-key_of sent = record { ip = to_be_bytes w32 sent.address; port = sent.port; id = sent.identifier }
+key_of sent = key_from sent.identifier sent.address sent.port
 
 -- the bytes of a fragment's packet
 abbrev pub packet_of : FragmentParts → List ℕ

@@ -1,7 +1,10 @@
 pub mod Absorbing
 pub mod Cutting
 pub mod Datagrams
+pub mod Dataless
+pub mod Differing
 pub mod Framing
+pub mod Handles
 pub mod KeptCode
 pub mod Names
 pub mod Outputs

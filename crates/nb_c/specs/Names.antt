@@ -1,6 +1,7 @@
 -- What the calls on names answer (RFC 1001 section 14.1, RFC 1002 section 4.1).
-use Rattle.std.specs.Prelude.{◌≡◌, ◌⊎◌, ◌<◌, ℕ, List, length, Result, Ok, Err}
+use Rattle.std.specs.Prelude.{◌≡◌, ◌⊎◌, ◌<◌, ℕ, List, ◌++◌, length, drop, replicate, Result, Ok, Err}
 use Rattle.nb_names.specs.declared.fault.NameFault.{NameFault}
+use Rattle.nb_names.specs.declared.limits.TheConstants.{MAX_SPELLING}
 use Rattle.nb_names.specs.declared.pointers.Pointers.TheVariants.{Refused}
 use Rattle.nb_names.specs.declared.text_fault.TextFault.{TextFault}
 use Rattle.nb_names.specs.DomainName.{spelling}
@@ -39,3 +40,7 @@ abbrev pub Tells : List ℕ → Result (List ℕ) Refusal → Type 0
 Tells bytes (Ok text) =
     (name : NetbiosName) × IsName name × NameAt bytes Refused 0 (labels_of_name name) (length bytes) × (text ≡ written name)
 Tells bytes (Err refusal) = IsNoSpelling bytes refusal
+
+-- the spelling of labels, at the front of as many bytes of zero as the longest has
+abbrev pub spelled_in_place : List (List ℕ) → List ℕ
+spelled_in_place labels = spelling labels ++ drop (length (spelling labels)) (replicate MAX_SPELLING 0)

@@ -56,16 +56,16 @@ pub record Alone (A : Type 0) (Says : Result A Refusal → Type 0) (answer : Res
   pub only : (other : Result A Refusal) → Says other → other ≡ answer
 
 -- HasOne Says: at most one answer is said
-abbrev pub HasOne : (Result (List ℕ) Refusal → Type 0) → Type 0
-HasOne Says = (answer other : Result (List ℕ) Refusal) → Says answer → Says other → answer ≡ other
+abbrev pub HasOne : {A : Type 0} → (Result A Refusal → Type 0) → Type 0
+HasOne {A} Says = (answer other : Result A Refusal) → Says answer → Says other → answer ≡ other
 
--- MayLack late answer: memory may run out before this is answered: bytes, or a fault whose status is one of those that
+-- MayLack late answer: memory may run out before this is answered: a value, or a fault whose status is one of those that
 -- come late, after memory is taken
-abbrev pub MayLack : (ℕ → Bool) → Result (List ℕ) Refusal → Type 0
-MayLack late (Ok bytes) = ⊤
+abbrev pub MayLack : {A : Type 0} → (ℕ → Bool) → Result A Refusal → Type 0
+MayLack late (Ok value) = ⊤
 MayLack late (Err refusal) = late (refused_status refusal) ≡ true
 
--- no fault comes late: memory is taken for the bytes alone
+-- no fault comes late: memory is taken for the value alone
 abbrev pub none_late : ℕ → Bool
 none_late status = false
 
@@ -74,9 +74,9 @@ abbrev pub all_late : ℕ → Bool
 all_late status = true
 
 -- OrMemory late Says answer: this is said, or memory ran out where it may, before whatever is said
-abbrev pub OrMemory : (ℕ → Bool) → (Result (List ℕ) Refusal → Type 0) → Result (List ℕ) Refusal → Type 0
-OrMemory late Says (Ok bytes) = Says (Ok bytes)
-OrMemory late Says (Err Memory) = (answer : Result (List ℕ) Refusal) → Says answer → MayLack late answer
+abbrev pub OrMemory : {A : Type 0} → (ℕ → Bool) → (Result A Refusal → Type 0) → Result A Refusal → Type 0
+OrMemory late Says (Ok value) = Says (Ok value)
+OrMemory {A} late Says (Err Memory) = (answer : Result A Refusal) → Says answer → MayLack late answer
 OrMemory late Says (Err (Fault status)) = Says (Err (Fault status))
 OrMemory late Says (Err (FaultAt status place)) = Says (Err (FaultAt status place))
 
@@ -99,3 +99,11 @@ Filled A (Err refusal) old new at at' status =
 pub record Fills (A : Type 0) (Says : Result A Refusal → Type 0) (old new : A) (at at' status : ℕ) : Type 0 where
   pub some : (answer : Result A Refusal) × Says answer × Filled A answer old new at at' status
   pub only : (answer : Result A Refusal) → Says answer → Filled A answer old new at at' status
+
+-- FillsOrLacks A late Says old new at at' status: a call fills in what is said, and whatever is said is what it fills in,
+-- unless memory runs out, which it may only before what takes memory
+pub record FillsOrLacks (A : Type 0) (late : ℕ → Bool) (Says : Result A Refusal → Type 0) (old new : A) (at at' status : ℕ) : Type 0 where
+  pub some : Filled A (Err Memory) old new at at' status
+      ⊎ ((answer : Result A Refusal) × Says answer × Filled A answer old new at at' status)
+  pub only : (answer : Result A Refusal) → Says answer
+      → (MayLack late answer × Filled A (Err Memory) old new at at' status) ⊎ Filled A answer old new at at' status

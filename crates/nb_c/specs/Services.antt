@@ -1,7 +1,6 @@
 -- What the calls that read payloads of port 137 answer (RFC 1002 section 4.2.1). Places and lengths are in bytes of the
 -- payload.
-use Rattle.std.specs.Prelude.{◌≡◌, ℕ, ◌-◌, ◌<◌, ◌≤◌, List, ◌++◌, length, drop, replicate, is_some, Result, Ok, Err, if◌then◌else◌}
-use Rattle.nb_names.specs.declared.limits.TheConstants.{MAX_SPELLING}
+use Rattle.std.specs.Prelude.{◌≡◌, ℕ, ◌-◌, ◌<◌, ◌≤◌, List, length, is_some, Result, Ok, Err, if◌then◌else◌}
 use Rattle.nb_names.specs.DomainName.{spelling}
 use Rattle.nb_names.specs.NameText.{name_of_labels}
 use Rattle.nb_service.specs.declared.extent.Extent.{Extent}
@@ -18,6 +17,7 @@ use Rattle.nb_c.specs.declared.refusal.Refusal.TheVariants.{Fault, FaultAt}
 use Rattle.nb_c.specs.declared.service_reading.NbtServiceHeader.{NbtServiceHeader}
 use Rattle.nb_c.specs.declared.service_reading.NbtServiceItem.{NbtServiceItem}
 use Rattle.nb_c.specs.declared.statuses.TheConstants as statuses
+use Rattle.nb_c.specs.Names.{spelled_in_place}
 use Rattle.nb_c.specs.Statuses.{service_refusal}
 
 -- ---- headers
@@ -60,10 +60,6 @@ section_number Additional = 3
 -- whether the labels are a NetBIOS name's, as a number
 abbrev pub netbios_number : List (List ℕ) → ℕ
 netbios_number labels = if is_some (name_of_labels labels) then 1 else 0
-
--- the spelling of labels, at the front of as many bytes of zero as the longest has
-abbrev pub spelled_in_place : List (List ℕ) → List ℕ
-spelled_in_place labels = spelling labels ++ drop (length (spelling labels)) (replicate MAX_SPELLING 0)
 
 -- numbers section time_to_live kind class labels extent: what is answered of an item with this name, which reaches so far
 abbrev pub numbers : ℕ → ℕ → ℕ → ℕ → List (List ℕ) → Extent → NbtServiceItem

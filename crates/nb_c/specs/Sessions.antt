@@ -1,17 +1,36 @@
--- What the call that reads packets of port 139 answers (RFC 1002 section 4.3).
-use Rattle.std.specs.Prelude.{◌≡◌, ℕ, ◌-◌, List, Result, Ok, Err}
+-- What the calls that read packets of port 139 answer (RFC 1002 section 4.3).
+use Rattle.std.specs.Prelude.{◌≡◌, ℕ, ◌-◌, List, length, Result, Ok, Err}
+use Rattle.std.specs.Int.{w32, from_be_bytes}
+use Rattle.nb_names.specs.DomainName.{spelling}
+use Rattle.nb_names.specs.Name.{NetbiosName, labels_of_name}
 use Rattle.nb_session.specs.declared.limits.TheConstants.{HEADER_LENGTH}
 use Rattle.nb_session.specs.declared.packet.Packet.{Packet}
+use Rattle.nb_session.specs.declared.packet.Packet.TheVariants.{Message, Request, Positive, Negative, Retarget, Keepalive}
 use Rattle.nb_session.specs.declared.parsing.Parsed.{Parsed}
 use Rattle.nb_session.specs.declared.parsing.Parsed.TheVariants.{Whole, More, Refused}
 use Rattle.nb_session.specs.Header.{type_of}
 use Rattle.nb_session.specs.Packet.{kind_of}
 use Rattle.nb_session.specs.Parsing.{Parses}
 use Rattle.nb_c.specs.declared.refusal.Refusal.{Refusal}
-use Rattle.nb_c.specs.declared.refusal.Refusal.TheVariants.{FaultAt}
+use Rattle.nb_c.specs.declared.refusal.Refusal.TheVariants.{Fault, FaultAt}
+use Rattle.nb_c.specs.declared.session_parts.NbtSessionNames.{NbtSessionNames}
+use Rattle.nb_c.specs.declared.session_parts.NbtSessionRetarget.{NbtSessionRetarget}
 use Rattle.nb_c.specs.declared.sessions.NbtSession.{NbtSession}
 use Rattle.nb_c.specs.declared.statuses.TheConstants as statuses
+use Rattle.nb_c.specs.Names.{spelled_in_place}
 use Rattle.nb_c.specs.Statuses.{session_refusal}
+
+-- answer_by told parsed: what is told of the packet that stands at the front, with the bytes it takes up, or why none does
+abbrev pub answer_by : {A : Type 0} → (Packet → ℕ → Result A Refusal) → Parsed → Result A Refusal
+answer_by told (Whole packet used) = told packet used
+answer_by told (More needed) = Err (FaultAt statuses.MORE needed)
+answer_by told (Refused fault) = Err (session_refusal fault)
+
+-- ReadsBy told bytes answer: this is answered of what stands at the front of the bytes
+abbrev pub ReadsBy : {A : Type 0} → (Packet → ℕ → Result A Refusal) → List ℕ → Result A Refusal → Type 0
+ReadsBy told bytes answer = (parsed : Parsed) × Parses bytes parsed × (answer ≡ answer_by told parsed)
+
+-- ---- any packet
 
 -- session_of packet used: the type of a packet that has so many bytes, and where its body stands
 abbrev pub session_of : Packet → ℕ → NbtSession
@@ -22,12 +41,51 @@ session_of packet used = record {
   used = used;
 }
 
--- what is answered where this stands at the front
-abbrev pub read_answer : Parsed → Result NbtSession Refusal
-read_answer (Whole packet used) = Ok (session_of packet used)
-read_answer (More needed) = Err (FaultAt statuses.MORE needed)
-read_answer (Refused fault) = Err (session_refusal fault)
+-- what is told of a packet that has so many bytes
+abbrev pub session_answer : Packet → ℕ → Result NbtSession Refusal
+session_answer packet used = Ok (session_of packet used)
 
 -- Reads bytes answer: this is answered of what stands at the front of the bytes
 abbrev pub Reads : List ℕ → Result NbtSession Refusal → Type 0
-Reads bytes answer = (parsed : Parsed) × Parses bytes parsed × (answer ≡ read_answer parsed)
+Reads = ReadsBy session_answer
+
+-- ---- the parts of one type
+
+-- names_of called calling: both names, spelled out in place
+abbrev pub names_of : NetbiosName → NetbiosName → NbtSessionNames
+names_of called calling = record {
+  called_length = length (spelling (labels_of_name called));
+  called = spelled_in_place (labels_of_name called);
+  calling_length = length (spelling (labels_of_name calling));
+  calling = spelled_in_place (labels_of_name calling);
+}
+
+-- the names of a request; other packets have none
+abbrev pub names_answer : Packet → Result NbtSessionNames Refusal
+names_answer (Message contents) = Err (Fault statuses.OTHER_TYPE)
+names_answer (Request called calling) = Ok (names_of called calling)
+names_answer Positive = Err (Fault statuses.OTHER_TYPE)
+names_answer (Negative code) = Err (Fault statuses.OTHER_TYPE)
+names_answer (Retarget address port) = Err (Fault statuses.OTHER_TYPE)
+names_answer Keepalive = Err (Fault statuses.OTHER_TYPE)
+
+-- ReadsNames bytes answer: this is answered of the names of the request that stands at the front
+abbrev pub ReadsNames : List ℕ → Result NbtSessionNames Refusal → Type 0
+ReadsNames = ReadsBy (λ packet used. names_answer packet)
+
+-- retarget_of address port: the address as one number, and the port
+abbrev pub retarget_of : List ℕ → ℕ → NbtSessionRetarget
+retarget_of address port = record { address = from_be_bytes w32 address; port = port }
+
+-- where a retarget leads; other packets lead nowhere
+abbrev pub retarget_answer : Packet → Result NbtSessionRetarget Refusal
+retarget_answer (Message contents) = Err (Fault statuses.OTHER_TYPE)
+retarget_answer (Request called calling) = Err (Fault statuses.OTHER_TYPE)
+retarget_answer Positive = Err (Fault statuses.OTHER_TYPE)
+retarget_answer (Negative code) = Err (Fault statuses.OTHER_TYPE)
+retarget_answer (Retarget address port) = Ok (retarget_of address port)
+retarget_answer Keepalive = Err (Fault statuses.OTHER_TYPE)
+
+-- ReadsRetarget bytes answer: this is answered of where the retarget leads that stands at the front
+abbrev pub ReadsRetarget : List ℕ → Result NbtSessionRetarget Refusal → Type 0
+ReadsRetarget = ReadsBy (λ packet used. retarget_answer packet)

@@ -22,13 +22,15 @@ use Rattle.nb_member.specs.declared.outcome.Outcome.TheVariants.{Delivered, Unhe
 use Rattle.std.specs.FinMap as maps
 use Rattle.nb_member.specs.Member.{MemberValue, contents, with_timed, after_clock}
 use Rattle.nb_member.specs.Taking.{Takes}
+use Rattle.nb_c.specs.declared.handle.NbtStation.{NbtStation}
 use Rattle.nb_c.specs.declared.refusal.Refusal.{Refusal}
 use Rattle.nb_c.specs.declared.refusal.Refusal.TheVariants.{Memory, Fault, FaultAt}
 use Rattle.nb_c.specs.declared.statuses.TheConstants as statuses
 use Rattle.nb_c.specs.declared.taken.NbtTaken.{NbtTaken}
 use Rattle.nb_c.specs.declared.taken.TheConstants as outcomes
+use Rattle.nb_c.specs.Handles.{IsHere, IsNone}
 use Rattle.nb_c.specs.Names.{IsRead}
-use Rattle.nb_c.specs.Outputs.{refused_status, at_refused}
+use Rattle.nb_c.specs.Outputs.{Does, Lent, none_late, refused_status, at_refused}
 use Rattle.nb_c.specs.Statuses.{datagram_refusal}
 
 -- ---- the names of a new station
@@ -240,14 +242,11 @@ Tells (Err refusal) old new status =
     (new.taken ≡ old.taken) × (new.buffer ≡ old.buffer) × (new.used ≡ old.used) × (status ≡ refused_status refusal)
 
 -- Took m moment payload after old new status: what the call that takes a payload does to the member m and to what its
--- caller lends. The room is judged first: where there is too little, whatever the payload, or where memory runs out,
--- nothing changes
+-- caller lends. The room is judged first: where there is too little, whatever the payload, nothing changes
 pub data Took (m : MemberValue) (moment : ℕ) (payload : List ℕ) (after : MemberValue)
     (old new : LentToTake) (status : ℕ) : Type 0 where
   no_room : length old.buffer < outcomes.TAKE_ROOM → after ≡ m → new.taken ≡ old.taken → new.buffer ≡ old.buffer
       → new.used ≡ outcomes.TAKE_ROOM → status ≡ statuses.NO_ROOM → Took m moment payload after old new status
-  no_memory : outcomes.TAKE_ROOM ≤ length old.buffer → after ≡ m → new.taken ≡ old.taken → new.buffer ≡ old.buffer
-      → new.used ≡ old.used → status ≡ statuses.NO_MEMORY → Took m moment payload after old new status
   answered : (result : Result Outcome MemberFault) → outcomes.TAKE_ROOM ≤ length old.buffer
       → Takes m moment payload after result → Tells (answer_told result) old new status
       → Took m moment payload after old new status
@@ -255,8 +254,18 @@ pub data Took (m : MemberValue) (moment : ℕ) (payload : List ℕ) (after : Mem
 -- ---- the clock
 
 -- Ticks m now after dropped dropped' status: what the call that shows a station the clock does to the member m: its
--- keys whose timers have run out are dropped, and it answers how many those are; or memory ran out, and nothing changes
+-- keys whose timers have run out are dropped, and it answers how many those are
 pub data Ticks (m : MemberValue) (now : ℕ) (after : MemberValue) (dropped dropped' status : ℕ) : Type 0 where
   done : after ≡ with_timed m (after_clock m.timed now) → dropped' + maps.len (contents after) ≡ maps.len (contents m)
       → status ≡ statuses.DONE → Ticks m now after dropped dropped' status
-  no_memory : after ≡ m → dropped' ≡ dropped → status ≡ statuses.NO_MEMORY → Ticks m now after dropped dropped' status
+
+-- ---- one that is none
+
+-- OnStation old new Done Idle: a call on a station does so to its member, and it stays one; of none it is idle, and it stays none
+pub record OnStation (old new : NbtStation) (Done : MemberValue → MemberValue → Type 0) (Idle : Type 0) : Type 0 where
+  pub here : IsHere old.at → IsHere new.at × Done old.value.member new.value.member
+  pub none : IsNone old.at → IsNone new.at × Idle
+
+-- Writes bytes m after old new status: a call writes these bytes, or memory runs out, and the member stays
+abbrev pub Writes : List ℕ → MemberValue → MemberValue → Lent → Lent → ℕ → Type 0
+Writes bytes m after old new status = (after ≡ m) × Does none_late (λ answer. answer ≡ Ok bytes) old new status

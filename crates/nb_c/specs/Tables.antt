@@ -11,6 +11,7 @@ use Rattle.nb_table.specs.LoadFaults.{IsReadAs, LoadFails}
 use Rattle.nb_table.specs.Merging.{Fits, IsRefused}
 use Rattle.nb_table.specs.Saved.{saved}
 use Rattle.nb_member.specs.Listing.{listing}
+use Rattle.nb_member.specs.ObjectLines.{listed_objects}
 use Rattle.nb_c.specs.declared.refusal.Refusal.{Refusal}
 use Rattle.nb_c.specs.declared.refusal.Refusal.TheVariants.{Memory, Fault, FaultAt}
 use Rattle.nb_c.specs.declared.statuses.TheConstants as statuses
@@ -49,15 +50,19 @@ Joins l s t (Ok bytes) = Fits l s t × (bytes ≡ saved (join s t))
 Joins l s t (Err refusal) =
     (fault : TableFault) × (fault ≢ tables.NoMemory) × IsRefused l s t fault × (refusal ≡ table_refusal fault)
 
--- Merges first second limits answer: this is answered of two saved tables: the first is read, then the second, then
--- they are joined, each under these limits
-pub data Merges (first second : List ℕ) (limits : Limits) : Result (List ℕ) Refusal → Type 0 where
+-- OfTwo first second limits Then answer: this is answered of two saved tables: the first is read, then the second, each
+-- under these limits, and then what is said of both
+pub data OfTwo {A : Type 0} (first second : List ℕ) (limits : Limits) (Then : Contents → Contents → Result A Refusal → Type 0) : Result A Refusal → Type 0 where
   first_fails : (fault : LoadFault) → fault ≢ loads.NoMemory → LoadFails first limits fault
-      → Merges first second limits (Err (first_refusal fault))
+      → OfTwo first second limits Then (Err (first_refusal fault))
   second_fails : (one : TableValue) (fault : LoadFault) → IsLoaded first limits one → fault ≢ loads.NoMemory
-      → LoadFails second limits fault → Merges first second limits (Err (second_refusal fault))
-  joined : (one other : TableValue) (answer : Result (List ℕ) Refusal) → IsLoaded first limits one
-      → IsLoaded second limits other → Joins limits one.contents other.contents answer → Merges first second limits answer
+      → LoadFails second limits fault → OfTwo first second limits Then (Err (second_refusal fault))
+  both : (one other : TableValue) (answer : Result A Refusal) → IsLoaded first limits one → IsLoaded second limits other
+      → Then one.contents other.contents answer → OfTwo first second limits Then answer
+
+-- Merges first second limits answer: this is answered of two saved tables that are joined, each of the three under these limits
+abbrev pub Merges : List ℕ → List ℕ → Limits → Result (List ℕ) Refusal → Type 0
+Merges first second limits = OfTwo first second limits (Joins limits)
 
 -- the statuses of the second table and of the join, which come after memory is taken for the first
 abbrev pub follow_the_first : ℕ → Bool
@@ -67,8 +72,16 @@ follow_the_first status = nat_le statuses.SECOND_BAD_MAGIC status
 abbrev pub widest : Limits
 widest = record { keys = 4294967295; per_source = 4294967295; longest = 65535 }
 
--- Lists table answer: this is answered of a saved table: it is read, then the lines of its keys are made
-pub data Lists (table : List ℕ) : Result (List ℕ) Refusal → Type 0 where
+-- OfOne table told answer: this is answered of a saved table: it is read, then what is told of what it holds
+pub data OfOne (table : List ℕ) (told : Contents → List ℕ) : Result (List ℕ) Refusal → Type 0 where
   not_read : (fault : LoadFault) → fault ≢ loads.NoMemory → LoadFails table widest fault
-      → Lists table (Err (first_refusal fault))
-  listed : (t : TableValue) → IsLoaded table widest t → Lists table (Ok (listing t.contents))
+      → OfOne table told (Err (first_refusal fault))
+  read : (t : TableValue) → IsLoaded table widest t → OfOne table told (Ok (told t.contents))
+
+-- Lists table answer: this is answered of the lines of a saved table's keys
+abbrev pub Lists : List ℕ → Result (List ℕ) Refusal → Type 0
+Lists table = OfOne table listing
+
+-- ListsObjects table answer: this is answered of their JSON objects, each a line
+abbrev pub ListsObjects : List ℕ → Result (List ℕ) Refusal → Type 0
+ListsObjects table = OfOne table listed_objects

@@ -1,14 +1,17 @@
 //! Tables of other stations, taken in by a station.
-ghost use Rattle.std.specs.Prelude.{◌≡◌, ◌++◌, IfOk, OnOk, Ok};
+ghost use Rattle.std.specs.Prelude.{◌≡◌, ◌++◌, IfOk, OnOk, Ok, Err};
 ghost use Rattle.nb_c.specs.Absorbing.{Absorbed, AbsorbsInto, Hears, Joined, all_heard, heard_bytes};
-ghost use Rattle.nb_c.specs.Outputs.{OrMemory, all_late};
+ghost use Rattle.nb_c.specs.Outputs.{Answers, OrMemory, all_late};
+ghost use Rattle.nb_c.specs.Stations.{OnStation};
+ghost use Rattle.nb_c.specs.declared.refusal.Refusal.TheVariants.{Fault};
+ghost use Rattle.nb_c.specs.declared.statuses.TheConstants.{NO_STATION};
 ghost use Rattle.nb_table.specs.Saved.{key_bytes};
 
-use crate::handle::{NbtStation, shut, spare, swapped};
+use crate::handle::{NbtStation, put_back, taken};
 use crate::loading::loaded;
 use crate::output::{answer_of, write_answer};
 use crate::refusal::{Refusal, first_refusal, table_refusal};
-use crate::statuses::NO_MEMORY;
+use crate::statuses::NO_STATION;
 use nb_datagram::{Datagram, Datagrams, Key};
 use nb_member::Member;
 use nb_member::laws::a_preview_is_what_is_handed_over;
@@ -30,16 +33,39 @@ pub extern "C" fn nbt_station_absorb(
     used: &mut usize,
     at: &mut usize,
 ) -> u32
-    ensures { AbsorbsInto station.old.value.member moment table.now station.new.value.member
+    ensures { OnStation station.old station.new
+        (λ m after. AbsorbsInto m moment table.now after
+        (record { buffer = into.old; used = used.old; place = at.old })
+        (record { buffer = into.new; used = used.new; place = at.new }) result)
+        (Answers (Err (Fault NO_STATION))
+        (record { buffer = into.old; used = used.old; place = at.old })
+        (record { buffer = into.new; used = used.new; place = at.new }) result) }
+{
+    match taken(alloc, station) {
+        None => NO_STATION,
+        Some(mut kept) => {
+            let status = absorb(alloc, &mut kept.member, moment, table, into, used, at);
+            put_back(station, kept);
+            status
+        }
+    }
+}
+
+/// Joins a saved table to a member's, and writes what it hands over.
+fn absorb(
+    alloc: Global,
+    member: &mut Member,
+    moment: u64,
+    table: &[u8],
+    into: &mut [u8],
+    used: &mut usize,
+    at: &mut usize,
+) -> u32
+    ensures { AbsorbsInto member.old moment table.now member.new
         (record { buffer = into.old; used = used.old; place = at.old })
         (record { buffer = into.new; used = used.new; place = at.new }) result }
 {
-    let Ok(spare) = spare(alloc) else {
-        return NO_MEMORY;
-    };
-    let mut kept = swapped(alloc, station, spare);
-    let answer = absorb_saved(alloc, &mut kept.member, moment, table, into.len());
-    let _spare = swapped(alloc, station, shut(kept));
+    let answer = absorb_saved(alloc, member, moment, table, into.len());
     write_answer(answer, into, used, at)
 }
 

@@ -1,7 +1,7 @@
 //! Datagrams, cut into packets of the datagram service.
 ghost use Rattle.std.specs.Prelude.{◌≡◌, ◌++◌, ◌≤◌, length, IfOk, OnOk, MatchOption};
 ghost use Rattle.std.specs.List.{flat_map};
-ghost use Rattle.nb_c.specs.Cutting.{Cuts, are_long, cut_answer, cut_names, key_of, kind_with, packet_of, packets_of, counted};
+ghost use Rattle.nb_c.specs.Cutting.{Cuts, are_long, cut_answer, cut_names, key_from, key_of, kind_with, packet_of, packets_of, counted};
 ghost use Rattle.nb_c.specs.Outputs.{Does, HasOne, OrMemory, none_late};
 ghost use Rattle.nb_datagram.specs.declared.limits.TheConstants.{MAX_LENGTH};
 
@@ -165,10 +165,17 @@ fn cut_data(
 fn key_of(sent: Sent) -> Key
     ensures { result ≡ key_of sent }
 {
+    key_from(sent.identifier, sent.address, sent.port)
+}
+
+/// The key with these numbers.
+pub(crate) fn key_from(identifier: u16, address: u32, port: u16) -> Key
+    ensures { result ≡ key_from identifier address port }
+{
     Key {
-        ip: sent.address.to_be_bytes(),
-        port: sent.port,
-        id: sent.identifier,
+        ip: address.to_be_bytes(),
+        port,
+        id: identifier,
     }
 }
 

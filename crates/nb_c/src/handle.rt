@@ -1,18 +1,17 @@
-//! A station as C holds it: a box behind a pointer.
-ghost use Rattle.std.specs.Prelude.{◌≡◌};
+//! A station as C holds it: a box behind a pointer, or none where the pointer is null.
+ghost use Rattle.std.specs.Prelude.{◌≡◌, MatchOption};
 ghost use Rattle.std.specs.declared.alloc.Global.{Global as Heap};
 ghost use Rattle.nb_c.specs.declared.kept.Kept.{Kept};
 ghost use Rattle.nb_c.specs.KeptCode.{kept_code};
+ghost use Rattle.nb_c.specs.Handles.{IsHere, IsNone, IsTold};
 
 use crate::kept::Kept;
 use crate::parts::Parts;
-use nb_member::{LocalNames, Member, Settings};
-use nb_names::NoMemory;
 use std::alloc::Global;
 use std::marker::Model;
-use std::mem;
+use std::{mem, ptr};
 
-/// A station: the pointer to its box. It owns what the box holds.
+/// A station: the pointer to its box, or null. It owns what the box holds.
 #[repr(C)]
 pub struct NbtStation {
     at: *mut (),
@@ -22,15 +21,17 @@ pub struct NbtStation {
 
 impl Model for NbtStation {
     ghost use Rattle.std.specs.Box.Ownership.{box_owns};
+    ghost use Rattle.std.specs.Ptr.{if_non_null};
     ghost use Rattle.std.specs.contracts.impls.GlobalAllocator.TheImpl.{ghosts};
     ghost use Rattle.nb_c.specs.contracts.kept.Kept.{the_row};
 
-    ghost also_owns = { λ h. box_owns (ghosts.dealloc_token h.heap) the_row h.at h.value };
+    ghost also_owns = { λ h. if_non_null h.at
+        (box_owns (ghosts.dealloc_token h.heap) the_row h.at h.value) };
 }
 
 /// Shuts a box.
 pub(crate) fn hide(parts: Parts<Kept, Global>) -> NbtStation
-    ensures { result.value ≡ parts.value }
+    ensures { (result.value ≡ parts.value) × IsHere result.at }
 {
     let Parts { ptr, alloc: _ } = parts;
     NbtStation { at: ptr as *mut () }
@@ -38,6 +39,7 @@ pub(crate) fn hide(parts: Parts<Kept, Global>) -> NbtStation
 
 /// Opens it again.
 fn show(alloc: Global, station: NbtStation) -> Parts<Kept, Global>
+    requires { IsHere station.at }
     ensures { result.value ≡ station.value }
 {
     let NbtStation { at } = station;
@@ -47,37 +49,64 @@ fn show(alloc: Global, station: NbtStation) -> Parts<Kept, Global>
     }
 }
 
+/// A station that is none.
+fn none() -> NbtStation
+    ensures { IsNone result.at }
+{
+    NbtStation {
+        at: ptr::null_mut(),
+    }
+}
+
+/// Lets a station go that is none.
+pub(crate) fn let_go(station: NbtStation)
+    requires { IsNone station.at }
+{
+    let NbtStation { at: _ } = station;
+}
+
+/// The station, and whether it is none.
+fn told(station: NbtStation) -> (NbtStation, bool)
+    ensures { IsTold station.at result.0.at station.value result.0.value result.1 }
+{
+    let NbtStation { at } = station;
+    let is_none = at.is_null();
+    (NbtStation { at }, is_none)
+}
+
 /// The box of a station.
-pub(crate) fn opened(alloc: Global, station: NbtStation) -> Box<Kept>
+fn opened(alloc: Global, station: NbtStation) -> Box<Kept>
+    requires { IsHere station.at }
     ensures { result.value ≡ station.value }
 {
     show(alloc, station).into_box()
 }
 
 /// The station of a box.
-pub(crate) fn shut(kept: Box<Kept>) -> NbtStation
-    ensures { result.value ≡ kept.value }
+fn shut(kept: Box<Kept>) -> NbtStation
+    ensures { (result.value ≡ kept.value) × IsHere result.at }
 {
     hide(Parts::of(kept))
 }
 
-/// The box of a station, in whose place the spare one is left.
-pub(crate) fn swapped(alloc: Global, station: &mut NbtStation, spare: NbtStation) -> Box<Kept>
-    ensures given { result.value ≡ station.old.value }
-    ensures left { station.new.value ≡ spare.value }
+/// The box of a station, in whose place none is left; nothing where there is none.
+pub(crate) fn taken(alloc: Global, station: &mut NbtStation) -> Option<Box<Kept>>
+    ensures left { IsNone station.new.at }
+    ensures given { MatchOption result (IsNone station.old.at)
+        (λ kept. IsHere station.old.at × (kept.value ≡ station.old.value)) }
 {
-    opened(alloc, mem::replace(station, spare))
+    let (was, is_none) = told(mem::replace(station, none()));
+    if is_none {
+        let_go(was);
+        return None;
+    }
+    Some(opened(alloc, was))
 }
 
-/// A station without names, for the place of one that is at work.
-pub(crate) fn spare(alloc: Global) -> Result<NbtStation, NoMemory> {
-    let settings = Settings {
-        ip: [0; 4],
-        port: 0,
-        keys: 0,
-        per_source: 0,
-        longest: 0,
-    };
-    let member = Member::new(alloc, settings, LocalNames::new(alloc));
-    Ok(shut(Box::new(alloc, Kept { member })?))
+/// Puts the box of a station to where none is left.
+pub(crate) fn put_back(station: &mut NbtStation, kept: Box<Kept>)
+    requires { IsNone station.old.at }
+    ensures { (station.new.value ≡ kept.value) × IsHere station.new.at }
+{
+    let_go(mem::replace(station, shut(kept)));
 }

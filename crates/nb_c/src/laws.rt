@@ -21,8 +21,10 @@ ghost use Rattle.nb_datagram.specs.Datagram.{DatagramParts};
 ghost use Rattle.nb_datagram.specs.Header.{IsKey};
 ghost use Rattle.nb_datagram.specs.Pieces.{piece};
 ghost use Rattle.nb_c.specs.Cutting.{are_long, packet_of};
+ghost use Rattle.nb_c.specs.declared.differing.NbtDifference.{NbtDifference};
+ghost use Rattle.nb_c.specs.Differing.{Compares};
 ghost use Rattle.nb_c.specs.Datagrams.{fragment_places, error_places, query_places};
-ghost use Rattle.nb_c.specs.Tables.{Lists, Merges, first_refusal, second_refusal};
+ghost use Rattle.nb_c.specs.Tables.{Merges, OfOne, first_refusal, second_refusal};
 ghost use Rattle.nb_c.specs.Outputs.{refused_status};
 ghost use Rattle.nb_c.specs.Requests.{named_answer, request_answer, requested};
 ghost use Rattle.nb_c.specs.Stations.{AreNames, place_in, table_refusal, texts_in};
@@ -33,8 +35,9 @@ ghost use Rattle.nb_c.specs.declared.service.Asked.{Asked};
 ghost use Rattle.nb_c.specs.declared.taken.TheConstants.{KEPT, SPOILT, DELIVERED, UNHEARD, OTHER, REFUSED, TAKE_ROOM};
 ghost use Rattle.nb_table.specs.declared.fault.TableFault.TheVariants as joins;
 ghost use Rattle.nb_entries.specs.declared.load_fault.LoadFault.TheVariants as loads;
+ghost use Rattle.nb_table.specs.Contents.{Contents};
 ghost use Rattle.nb_table.specs.Limits.{Limits};
-ghost use Rattle.nb_c.specs.declared.statuses.TheConstants.{DONE, NO_ROOM, NO_MEMORY, BAD_TEXT, LONG_TEXT, SOURCE_BAD_TEXT, SOURCE_LONG_TEXT, DESTINATION_BAD_TEXT, DESTINATION_LONG_TEXT, NAME_TRUNCATED, NAME_RESERVED_LABEL, NAME_POINTER, NAME_LONG, NAME_NOT_NETBIOS, NAME_TRAILING_BYTES, NAME_BAD_POINTER, SOURCE_TRUNCATED, SOURCE_RESERVED_LABEL, SOURCE_POINTER, SOURCE_LONG, SOURCE_NOT_NETBIOS, SOURCE_BAD_POINTER, DESTINATION_TRUNCATED, DESTINATION_RESERVED_LABEL, DESTINATION_POINTER, DESTINATION_LONG, DESTINATION_NOT_NETBIOS, DESTINATION_BAD_POINTER, TRUNCATED, UNKNOWN_TYPE, MORE, RESERVED_FLAGS, BAD_LENGTH, TRAILING_BYTES, NAME_RDATA, NO_ITEM, OTHER_RDATA, NO_PART, UNKNOWN_REQUEST, ZERO_PIECE, LONG_DATA, TABLE_BAD_MAGIC, TABLE_TRUNCATED, TABLE_NOT_CANONICAL, TABLE_LONG, TABLE_FULL_SOURCE, TABLE_FULL, SECOND_BAD_MAGIC, SECOND_TRUNCATED, SECOND_NOT_CANONICAL, SECOND_LONG, SECOND_FULL_SOURCE, SECOND_FULL, MISPLACED_FIRST, LONG, FULL_SOURCE, FULL, NAME_PRESENT, TOO_MANY_NAMES, UNKNOWN_STATUS};
+ghost use Rattle.nb_c.specs.declared.statuses.TheConstants.{DONE, NO_ROOM, NO_MEMORY, BAD_TEXT, LONG_TEXT, SOURCE_BAD_TEXT, SOURCE_LONG_TEXT, DESTINATION_BAD_TEXT, DESTINATION_LONG_TEXT, NAME_TRUNCATED, NAME_RESERVED_LABEL, NAME_POINTER, NAME_LONG, NAME_NOT_NETBIOS, NAME_TRAILING_BYTES, NAME_BAD_POINTER, SOURCE_TRUNCATED, SOURCE_RESERVED_LABEL, SOURCE_POINTER, SOURCE_LONG, SOURCE_NOT_NETBIOS, SOURCE_BAD_POINTER, DESTINATION_TRUNCATED, DESTINATION_RESERVED_LABEL, DESTINATION_POINTER, DESTINATION_LONG, DESTINATION_NOT_NETBIOS, DESTINATION_BAD_POINTER, TRUNCATED, UNKNOWN_TYPE, MORE, RESERVED_FLAGS, BAD_LENGTH, TRAILING_BYTES, NAME_RDATA, NO_ITEM, OTHER_RDATA, NO_PART, UNKNOWN_REQUEST, ZERO_PIECE, LONG_DATA, TABLE_BAD_MAGIC, TABLE_TRUNCATED, TABLE_NOT_CANONICAL, TABLE_LONG, TABLE_FULL_SOURCE, TABLE_FULL, SECOND_BAD_MAGIC, SECOND_TRUNCATED, SECOND_NOT_CANONICAL, SECOND_LONG, SECOND_FULL_SOURCE, SECOND_FULL, MISPLACED_FIRST, LONG, FULL_SOURCE, FULL, NAME_PRESENT, TOO_MANY_NAMES, NO_STATION, OTHER_TYPE, UNKNOWN_STATUS};
 
 use nb_names::text_laws::{one_name, one_text_fault};
 use nb_table::laws::{an_input_is_read_as_one_table, saved_bytes_have_one_reading};
@@ -65,7 +68,9 @@ pub fn numbers()
         × (SECOND_FULL_SOURCE ≡ 84) × (SECOND_FULL ≡ 85) }
     ensures joins { (MISPLACED_FIRST ≡ 90) × (LONG ≡ 91)
         × (FULL_SOURCE ≡ 92) × (FULL ≡ 93) }
-    ensures stations { (NAME_PRESENT ≡ 100) × (TOO_MANY_NAMES ≡ 101) }
+    ensures stations { (NAME_PRESENT ≡ 100) × (TOO_MANY_NAMES ≡ 101)
+        × (NO_STATION ≡ 102) }
+    ensures parts { (OTHER_TYPE ≡ 110) }
     ensures unknown { (UNKNOWN_STATUS ≡ 255) }
     ensures payloads { (KEPT ≡ 0) × (SPOILT ≡ 1) × (DELIVERED ≡ 2) × (UNHEARD ≡ 3)
         × (OTHER ≡ 4) × (REFUSED ≡ 5) }
@@ -158,10 +163,21 @@ pub fn a_merge_has_one_answer()
     saved_bytes_have_one_reading();
 }
 
-/// Of a saved table one thing is answered, the lines of its keys or one fault.
+/// Of two saved tables that are compared one thing is answered, the least key at which they differ,
+/// that they don't, or one fault.
+pub fn a_comparison_has_one_answer()
+    ensures { (first second : List ℕ) (answer other : Result NbtDifference Refusal) →
+        Compares first second answer → Compares first second other → answer ≡ other }
+{
+    an_input_is_read_as_one_table();
+    saved_bytes_have_one_reading();
+}
+
+/// Of a saved table one thing is answered: what is told of it, as the lines of its keys or their
+/// objects, or one fault.
 pub fn a_table_has_one_list()
-    ensures { (table : List ℕ) (answer other : Result (List ℕ) Refusal) →
-        Lists table answer → Lists table other → answer ≡ other }
+    ensures { (table : List ℕ) (told : Contents → List ℕ) (answer other : Result (List ℕ) Refusal) →
+        OfOne table told answer → OfOne table told other → answer ≡ other }
 {
     an_input_is_read_as_one_table();
     saved_bytes_have_one_reading();

@@ -9,6 +9,7 @@ ghost use Rattle.nb_service.specs.Items.{item_of};
 
 use crate::output::fill;
 use crate::refusal::{Refusal, service_refusal};
+use crate::spellings::spelled_in_place;
 use crate::statuses::NO_ITEM;
 use nb_names::limits::{MAX_SPELLING, POINTED_OFFSETS};
 use nb_names::{DomainName, Name, NameReader};
@@ -237,9 +238,6 @@ fn numbers(
 ) -> NbtServiceItem
     ensures { result ≡ numbers section time_to_live kind class domain.now extent }
 {
-    let spelling = domain.spelling();
-    let mut name = [0; MAX_SPELLING];
-    name[..spelling.len()].copy_from_slice(spelling);
     NbtServiceItem {
         section,
         time_to_live,
@@ -249,8 +247,8 @@ fn numbers(
         contents_length: extent.next.saturating_sub(extent.rdata),
         next: extent.next,
         netbios: netbios_number(domain),
-        name_length: spelling.len() as u8,
-        name,
+        name_length: domain.spelled_len() as u8,
+        name: spelled_in_place(domain),
     }
 }
 

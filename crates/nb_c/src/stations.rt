@@ -1,19 +1,24 @@
-//! Stations: made, shown the clock, saved and given back.
-ghost use Rattle.std.specs.Prelude.{◌≡◌, ◌≢◌, ◌⊎◌, Ok};
-ghost use Rattle.nb_c.specs.Outputs.{Does, none_late};
-ghost use Rattle.nb_c.specs.Stations.{Creates, Ticks};
-ghost use Rattle.nb_c.specs.declared.statuses.TheConstants.{DONE, NO_MEMORY};
+//! Stations: made, shown the clock, saved, listed and given back.
+ghost use Rattle.std.specs.Prelude.{◌≡◌, ◌≢◌, ◌⊎◌, Err};
+ghost use denote.RawPtr.{null_ptr};
+ghost use Rattle.nb_c.specs.Outputs.{Answers};
+ghost use Rattle.nb_c.specs.Stations.{Creates, OnStation, Ticks, Writes};
+ghost use Rattle.nb_c.specs.declared.refusal.Refusal.TheVariants.{Fault};
+ghost use Rattle.nb_c.specs.declared.statuses.TheConstants.{DONE, NO_MEMORY, NO_STATION};
 ghost use Rattle.nb_table.specs.Saved.{saved as saved_bytes};
+ghost use Rattle.nb_member.specs.Listing.{listing};
 ghost use Rattle.nb_member.specs.Member.{contents, new_member};
 ghost use Rattle.std.specs.Int.{w32, to_be_bytes};
 
-use crate::handle::{NbtStation, opened, shut, spare, swapped};
+use crate::handle::{NbtStation, let_go, put_back, taken};
 use crate::kept::Kept;
 use crate::naming::names_of;
 use crate::output::{refuse, write_bytes};
-use crate::statuses::{DONE, NO_MEMORY};
+use crate::statuses::{DONE, NO_MEMORY, NO_STATION};
+use crate::tables::lines_of;
 use nb_member::{LocalNames, Member, Settings};
 use std::alloc::Global;
+use std::ptr;
 
 /// The most bytes of a datagram.
 pub const LONGEST: u16 = 65_535;
@@ -34,8 +39,9 @@ pub extern "C" fn nbt_station_create(
     at: &mut usize,
 ) -> u32
     ensures answer { Creates names.now at.old at.new result }
-    ensures kept { result ≢ DONE → station.new ≡ station.old }
+    ensures none { result ≢ DONE → station.new ≡ null_ptr }
 {
+    *station = ptr::null_mut();
     match names_of(alloc, names) {
         Ok(names) => {
             let member = member_of(alloc, names, address, port, keys, per_source);
@@ -97,15 +103,25 @@ pub extern "C" fn nbt_station_tick(
     now: u64,
     dropped: &mut u32,
 ) -> u32
-    ensures { Ticks station.old.value.member now station.new.value.member
-        dropped.old dropped.new result }
+    ensures { OnStation station.old station.new
+        (λ m after. Ticks m now after dropped.old dropped.new result)
+        ((dropped.new ≡ dropped.old) × (result ≡ NO_STATION)) }
 {
-    let Ok(spare) = spare(alloc) else {
-        return NO_MEMORY;
-    };
-    let mut kept = swapped(alloc, station, spare);
-    *dropped = kept.member.tick(now).keys;
-    let _spare = swapped(alloc, station, shut(kept));
+    match taken(alloc, station) {
+        None => NO_STATION,
+        Some(mut kept) => {
+            let status = tick(&mut kept.member, now, dropped);
+            put_back(station, kept);
+            status
+        }
+    }
+}
+
+/// Shows a member the clock.
+fn tick(member: &mut Member, now: u64, dropped: &mut u32) -> u32
+    ensures { Ticks member.old now member.new dropped.old dropped.new result }
+{
+    *dropped = member.tick(now).keys;
     DONE
 }
 
@@ -119,23 +135,74 @@ pub extern "C" fn nbt_station_save(
     into: &mut [u8],
     used: &mut usize,
 ) -> u32
-    ensures saved { Does none_late
-        (λ answer. answer ≡ Ok (saved_bytes (contents station.old.value.member)))
+    ensures { OnStation station.old station.new
+        (λ m after. Writes (saved_bytes (contents m)) m after
         (record { buffer = into.old; used = used.old; place = 0 })
-        (record { buffer = into.new; used = used.new; place = 0 }) result }
-    ensures stays { station.new.value ≡ station.old.value }
+        (record { buffer = into.new; used = used.new; place = 0 }) result)
+        (Answers (Err (Fault NO_STATION))
+        (record { buffer = into.old; used = used.old; place = 0 })
+        (record { buffer = into.new; used = used.new; place = 0 }) result) }
 {
-    let Ok(spare) = spare(alloc) else {
-        return NO_MEMORY;
-    };
-    let kept = swapped(alloc, station, spare);
-    let status = write_bytes(kept.member.table().save(), into, used);
-    let _spare = swapped(alloc, station, shut(kept));
-    status
+    match taken(alloc, station) {
+        None => NO_STATION,
+        Some(kept) => {
+            let status = save(&kept.member, into, used);
+            put_back(station, kept);
+            status
+        }
+    }
 }
 
-/// Gives a station back.
+/// Writes a member's table, saved.
+fn save(member: &Member, into: &mut [u8], used: &mut usize) -> u32
+    ensures { Writes (saved_bytes (contents member.now)) member.now member.now
+        (record { buffer = into.old; used = used.old; place = 0 })
+        (record { buffer = into.new; used = used.new; place = 0 }) result }
+{
+    write_bytes(member.table().save(), into, used)
+}
+
+/// Writes the lines of the station's keys, as `nbt list` prints them of its table.
+///
+/// The form is our choice.
+#[unsafe(no_mangle)]
+pub extern "C" fn nbt_station_list(
+    alloc: Global,
+    station: &mut NbtStation,
+    into: &mut [u8],
+    used: &mut usize,
+) -> u32
+    ensures { OnStation station.old station.new
+        (λ m after. Writes (listing (contents m)) m after
+        (record { buffer = into.old; used = used.old; place = 0 })
+        (record { buffer = into.new; used = used.new; place = 0 }) result)
+        (Answers (Err (Fault NO_STATION))
+        (record { buffer = into.old; used = used.old; place = 0 })
+        (record { buffer = into.new; used = used.new; place = 0 }) result) }
+{
+    match taken(alloc, station) {
+        None => NO_STATION,
+        Some(kept) => {
+            let status = list(alloc, &kept.member, into, used);
+            put_back(station, kept);
+            status
+        }
+    }
+}
+
+/// Writes the lines of a member's keys.
+fn list(alloc: Global, member: &Member, into: &mut [u8], used: &mut usize) -> u32
+    ensures { Writes (listing (contents member.now)) member.now member.now
+        (record { buffer = into.old; used = used.old; place = 0 })
+        (record { buffer = into.new; used = used.new; place = 0 }) result }
+{
+    write_bytes(lines_of(alloc, member.table()), into, used)
+}
+
+/// Gives a station back. Of none it does nothing.
 #[unsafe(no_mangle)]
 pub extern "C" fn nbt_station_free(alloc: Global, station: NbtStation) {
-    let _kept = opened(alloc, station);
+    let mut station = station;
+    let _kept = taken(alloc, &mut station);
+    let_go(station);
 }

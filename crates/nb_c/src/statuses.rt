@@ -177,5 +177,11 @@ pub const NAME_PRESENT: u32 = 100;
 /// Too many names.
 pub const TOO_MANY_NAMES: u32 = 101;
 
+/// No station.
+pub const NO_STATION: u32 = 102;
+
+/// Other type.
+pub const OTHER_TYPE: u32 = 110;
+
 /// Unknown status.
 pub const UNKNOWN_STATUS: u32 = 255;

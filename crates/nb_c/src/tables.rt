@@ -1,15 +1,16 @@
-//! Saved tables, joined and listed.
+//! Saved tables, joined and listed, in lines and in objects.
 ghost use Rattle.std.specs.Prelude.{◌≡◌, IfOk};
-ghost use Rattle.nb_c.specs.Tables.{Joins, Lists, Merges, follow_the_first};
+ghost use Rattle.nb_c.specs.Tables.{Joins, Lists, ListsObjects, Merges, follow_the_first};
 ghost use Rattle.nb_c.specs.Outputs.{Does, OrMemory, none_late};
 ghost use Rattle.nb_member.specs.Listing.{listing};
+ghost use Rattle.nb_member.specs.ObjectLines.{listed_objects};
 
 use crate::laws::{a_merge_has_one_answer, a_table_has_one_list};
 use crate::loading::loaded;
 use crate::output::{answer_of, write_answer};
 use crate::refusal::{Refusal, first_refusal, second_refusal, table_refusal};
 use crate::stations::LONGEST;
-use nb_member::list_keys;
+use nb_member::{list_keys, list_objects};
 use nb_names::{Bytes, NoMemory};
 use nb_table::Table;
 use nb_table::laws::{an_input_is_read_as_one_table, saved_bytes_have_one_reading};
@@ -119,9 +120,50 @@ fn listed(alloc: Global, table: &[u8]) -> Result<Bytes, Refusal>
 }
 
 /// The lines of a table's keys.
-fn lines_of(alloc: Global, table: &Table) -> Result<Bytes, NoMemory>
+pub(crate) fn lines_of(alloc: Global, table: &Table) -> Result<Bytes, NoMemory>
     ensures { IfOk result (λ bytes. bytes ≡ listing table.now.contents) }
 {
     let lines = list_keys(alloc, table)?;
     Ok(Bytes::from_vec(lines.into_bytes()))
+}
+
+/// Writes the JSON objects of a saved table's keys, each a line, as `nbt list --json` prints them.
+///
+/// The form is our choice.
+#[unsafe(no_mangle)]
+pub extern "C" fn nbt_table_json(
+    alloc: Global,
+    table: &[u8],
+    into: &mut [u8],
+    used: &mut usize,
+    at: &mut usize,
+) -> u32
+    ensures { Does none_late (ListsObjects table.now)
+        (record { buffer = into.old; used = used.old; place = at.old })
+        (record { buffer = into.new; used = used.new; place = at.new }) result }
+{
+    // For the clause; the call does nothing.
+    a_table_has_one_list();
+    write_answer(told(alloc, table), into, used, at)
+}
+
+/// The objects of a saved table's keys.
+fn told(alloc: Global, table: &[u8]) -> Result<Bytes, Refusal>
+    ensures { OrMemory none_late (ListsObjects table.now) result }
+{
+    // For the clause; the calls do nothing.
+    an_input_is_read_as_one_table();
+    saved_bytes_have_one_reading();
+    match loaded(alloc, table, u32::MAX, u32::MAX, LONGEST) {
+        Err(fault) => Err(first_refusal(fault)),
+        Ok(table) => answer_of(objects_of(alloc, &table)),
+    }
+}
+
+/// The objects of a table's keys.
+fn objects_of(alloc: Global, table: &Table) -> Result<Bytes, NoMemory>
+    ensures { IfOk result (λ bytes. bytes ≡ listed_objects table.now.contents) }
+{
+    let objects = list_objects(alloc, table)?;
+    Ok(Bytes::from_vec(objects))
 }

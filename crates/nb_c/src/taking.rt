@@ -1,11 +1,13 @@
 //! Payloads, taken by a station.
-ghost use Rattle.std.specs.Prelude.{◌≤◌, ◌≡◌, length};
-ghost use Rattle.nb_c.specs.Stations.{Took, Tells, answer_told};
+ghost use Rattle.std.specs.Prelude.{◌≤◌, length, Err};
+ghost use Rattle.nb_c.specs.Stations.{OnStation, Took, Tells, answer_told};
+ghost use Rattle.nb_c.specs.declared.refusal.Refusal.TheVariants.{Fault};
+ghost use Rattle.nb_c.specs.declared.statuses.TheConstants.{NO_STATION};
 ghost use Rattle.nb_c.specs.declared.taken.TheConstants.{TAKE_ROOM};
 
-use crate::handle::{NbtStation, shut, spare, swapped};
+use crate::handle::{self, NbtStation, put_back};
 use crate::refusal::{status_of, table_refusal};
-use crate::statuses::{DONE, NO_MEMORY, NO_ROOM};
+use crate::statuses::{DONE, NO_ROOM, NO_STATION};
 use crate::taken::{NbtTaken, TAKE_ROOM};
 use crate::telling::{tell, tell_refused};
 use nb_member::{Member, MemberFault, Outcome};
@@ -24,7 +26,34 @@ pub extern "C" fn nbt_station_take(
     into: &mut [u8],
     used: &mut usize,
 ) -> u32
-    ensures { Took station.old.value.member moment payload.now station.new.value.member
+    ensures { OnStation station.old station.new
+        (λ m after. Took m moment payload.now after
+        (record { taken = taken.old; buffer = into.old; used = used.old })
+        (record { taken = taken.new; buffer = into.new; used = used.new }) result)
+        (Tells (Err (Fault NO_STATION))
+        (record { taken = taken.old; buffer = into.old; used = used.old })
+        (record { taken = taken.new; buffer = into.new; used = used.new }) result) }
+{
+    match handle::taken(alloc, station) {
+        None => NO_STATION,
+        Some(mut kept) => {
+            let status = take(&mut kept.member, moment, payload, taken, into, used);
+            put_back(station, kept);
+            status
+        }
+    }
+}
+
+/// Takes a payload, and tells what became of it, where the buffer has room.
+fn take(
+    member: &mut Member,
+    moment: u64,
+    payload: &[u8],
+    taken: &mut NbtTaken,
+    into: &mut [u8],
+    used: &mut usize,
+) -> u32
+    ensures { Took member.old moment payload.now member.new
         (record { taken = taken.old; buffer = into.old; used = used.old })
         (record { taken = taken.new; buffer = into.new; used = used.new }) result }
 {
@@ -32,13 +61,7 @@ pub extern "C" fn nbt_station_take(
         *used = TAKE_ROOM;
         return NO_ROOM;
     }
-    let Ok(spare) = spare(alloc) else {
-        return NO_MEMORY;
-    };
-    let mut kept = swapped(alloc, station, spare);
-    let status = take_in(&mut kept.member, moment, payload, taken, into, used);
-    let _spare = swapped(alloc, station, shut(kept));
-    status
+    take_in(member, moment, payload, taken, into, used)
 }
 
 /// Takes a payload, and tells what became of it in a buffer that has room.

@@ -1,7 +1,7 @@
 //! The words of statuses (our choice).
 ghost use Rattle.std.specs.Prelude.{◌≡◌, option_map};
 ghost use Rattle.nb_c.specs.Outputs.{Answers};
-ghost use Rattle.nb_c.specs.Words.{status_answer, status_word, later_word, outcome_word, text_word, name_word, source_word, destination_word, packet_word, request_word, table_word, second_word, joining_word, station_word};
+ghost use Rattle.nb_c.specs.Words.{status_answer, status_word, later_word, outcome_word, text_word, name_word, source_word, destination_word, packet_word, request_word, table_word, second_word, joining_word, station_word, part_word};
 
 use crate::output::put;
 use crate::statuses::{
@@ -10,12 +10,13 @@ use crate::statuses::{
     DESTINATION_RESERVED_LABEL, DESTINATION_TRUNCATED, DONE, FULL, FULL_SOURCE, LONG, LONG_DATA,
     LONG_TEXT, MISPLACED_FIRST, MORE, NAME_BAD_POINTER, NAME_LONG, NAME_NOT_NETBIOS, NAME_POINTER,
     NAME_PRESENT, NAME_RDATA, NAME_RESERVED_LABEL, NAME_TRAILING_BYTES, NAME_TRUNCATED, NO_ITEM,
-    NO_MEMORY, NO_PART, NO_ROOM, OTHER_RDATA, RESERVED_FLAGS, SECOND_BAD_MAGIC, SECOND_FULL,
-    SECOND_FULL_SOURCE, SECOND_LONG, SECOND_NOT_CANONICAL, SECOND_TRUNCATED, SOURCE_BAD_POINTER,
-    SOURCE_BAD_TEXT, SOURCE_LONG, SOURCE_LONG_TEXT, SOURCE_NOT_NETBIOS, SOURCE_POINTER,
-    SOURCE_RESERVED_LABEL, SOURCE_TRUNCATED, TABLE_BAD_MAGIC, TABLE_FULL, TABLE_FULL_SOURCE,
-    TABLE_LONG, TABLE_NOT_CANONICAL, TABLE_TRUNCATED, TOO_MANY_NAMES, TRAILING_BYTES, TRUNCATED,
-    UNKNOWN_REQUEST, UNKNOWN_STATUS, UNKNOWN_TYPE, ZERO_PIECE,
+    NO_MEMORY, NO_PART, NO_ROOM, NO_STATION, OTHER_RDATA, OTHER_TYPE, RESERVED_FLAGS,
+    SECOND_BAD_MAGIC, SECOND_FULL, SECOND_FULL_SOURCE, SECOND_LONG, SECOND_NOT_CANONICAL,
+    SECOND_TRUNCATED, SOURCE_BAD_POINTER, SOURCE_BAD_TEXT, SOURCE_LONG, SOURCE_LONG_TEXT,
+    SOURCE_NOT_NETBIOS, SOURCE_POINTER, SOURCE_RESERVED_LABEL, SOURCE_TRUNCATED, TABLE_BAD_MAGIC,
+    TABLE_FULL, TABLE_FULL_SOURCE, TABLE_LONG, TABLE_NOT_CANONICAL, TABLE_TRUNCATED,
+    TOO_MANY_NAMES, TRAILING_BYTES, TRUNCATED, UNKNOWN_REQUEST, UNKNOWN_STATUS, UNKNOWN_TYPE,
+    ZERO_PIECE,
 };
 
 /// Writes the words of a status: plain ASCII, without a line feed.
@@ -57,6 +58,7 @@ fn later_words(status: u32) -> Option<&'static str>
         8 => second_words(status),
         9 => joining_words(status),
         10 => station_words(status),
+        11 => part_words(status),
         _ => outcome_words(status),
     }
 }
@@ -209,13 +211,24 @@ fn joining_words(status: u32) -> Option<&'static str>
     }
 }
 
-/// The words of a status on the names of a station.
+/// The words of a status on a station and its names.
 fn station_words(status: u32) -> Option<&'static str>
     ensures { option_map (λ words. words.now) result ≡ station_word status }
 {
     match status {
         NAME_PRESENT => Some("name: present"),
         TOO_MANY_NAMES => Some("too many names"),
+        NO_STATION => Some("no station"),
+        _ => None,
+    }
+}
+
+/// The words of a status on a part of a packet.
+fn part_words(status: u32) -> Option<&'static str>
+    ensures { option_map (λ words. words.now) result ≡ part_word status }
+{
+    match status {
+        OTHER_TYPE => Some("other type"),
         _ => None,
     }
 }

@@ -1,6 +1,7 @@
 mod StandsLemmas
 mod ReadingLemmas
 mod PacketLemmas
+mod FrontLemmas
 mod FaultLemmas
 mod PiecesLemmas
 mod TotalLemmas

@@ -57,7 +57,7 @@ names_same laws m n x y fm fn e =
     let same = laws.one (name_bytes m ++ x) 0 (labels_of_name m) (labels_of_name n) (0 + length (name_bytes m)) (0 + length (name_bytes n)) first moved in
     (laws.one_name m n same.0, (fronts_same (name_bytes m) (name_bytes n) x y (omega (arith, same.1)) e).1)
 
-keys_same : (type flags : ℕ) (key : Key) (kind bits : ℕ) (other : Key) → IsKey key → IsKey other → header_bytes type flags key ≡ header_bytes kind bits other →
+pub keys_same : (type flags : ℕ) (key : Key) (kind bits : ℕ) (other : Key) → IsKey key → IsKey other → header_bytes type flags key ≡ header_bytes kind bits other →
     (type ≡ kind) × (flags ≡ bits) × (key ≡ other)
 keys_same type flags key kind bits other f g e =
     let tail : to_be_bytes w16 key.id ++ (key.ip ++ to_be_bytes w16 key.port) ≡ to_be_bytes w16 other.id ++ (other.ip ++ to_be_bytes w16 other.port) =

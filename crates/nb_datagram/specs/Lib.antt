@@ -8,6 +8,7 @@ pub mod EqualityFacts
 pub mod Header
 pub mod Packet
 pub mod DatagramFaults
+pub mod Fronts
 pub mod FaultTexts
 pub mod Texts
 pub mod Pieces

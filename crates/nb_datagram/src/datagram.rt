@@ -1,49 +1,39 @@
 //! Whole datagrams.
-ghost use Rattle.std.specs.Prelude.{◌≡◌, ◌≤◌, ◌<◌, length, IfOk, MatchResult};
+ghost use Rattle.std.specs.Prelude.{◌≡◌, ◌≤◌, ◌<◌, length, MatchResult};
+ghost use Rattle.nb_datagram.specs.Datagram.{datagram_by};
 ghost use Rattle.nb_datagram.specs.declared.limits.TheConstants.{MAX_LENGTH};
 
+use crate::fragment::LentFragment;
 use crate::key::Key;
 use crate::kind::Kind;
 use crate::limits::MAX_LENGTH;
 use crate::too_long::TooLong;
-use nb_names::{Bytes, KeptName, LentName, Name, NameForm, NoMemory};
-use std::alloc::Global;
+use crate::user_data::UserData;
+use nb_names::{Bytes, LentName, Name};
 use std::marker::Model;
 
-/// A datagram: its key, whom it is for, both names, and its data of at most 65,535 bytes. The
-/// names stand in the form `N`.
+/// A datagram: its key, whom it is for, both names, and its data of at most 65,535 bytes.
 #[derive(Drop)]
-pub struct DatagramOf<N: NameForm> {
+pub struct Datagram {
     key: Key,
     kind: Kind,
-    source: N,
-    destination: N,
-    bytes: Bytes,
+    source: Name,
+    destination: Name,
+    bytes: UserData,
 }
 
-/// A datagram whose names stand in place.
-pub type Datagram = DatagramOf<Name>;
-
-/// A datagram whose names' scopes lie in memory of their own. It takes a few words, where a
-/// [`Datagram`] has room for both scopes in place.
-pub type KeptDatagram = DatagramOf<KeptName>;
-
-impl<N: NameForm> Model for DatagramOf<N> {
-    ghost use Rattle.std.specs.Prelude.{◌≤◌, length};
+impl Model for Datagram {
     ghost use Rattle.nb_datagram.specs.Datagram.{DatagramParts};
-    ghost use Rattle.nb_datagram.specs.declared.limits.TheConstants.{MAX_LENGTH};
 
     ghost Value = { DatagramParts };
 
     ghost view = { λ d. record {
       key = d.key;
       kind = d.kind;
-      source = N.name d.source;
-      destination = N.name d.destination;
+      source = d.source;
+      destination = d.destination;
       bytes = d.bytes;
     } };
-
-    ghost invariant = { λ d. length d.bytes ≤ MAX_LENGTH };
 }
 
 impl Datagram {
@@ -72,13 +62,61 @@ impl Datagram {
         if bytes.as_slice().len() > MAX_LENGTH {
             return Err(TooLong);
         }
-        Ok(DatagramOf {
+        Ok(Datagram {
             key,
             kind,
             source,
             destination,
-            bytes,
+            bytes: UserData::new(bytes),
         })
+    }
+
+    /// A datagram of these parts, whose names are lent. No memory is taken.
+    pub fn of_lent(
+        key: Key,
+        kind: Kind,
+        source: &LentName<'_>,
+        destination: &LentName<'_>,
+        bytes: UserData,
+    ) -> Datagram
+        ensures { result ≡ record {
+          key = key;
+          kind = kind;
+          source = source.now;
+          destination = destination.now;
+          bytes = bytes;
+        } }
+    {
+        Datagram {
+            key,
+            kind,
+            source: source.to_name(),
+            destination: destination.to_name(),
+            bytes,
+        }
+    }
+
+    /// The datagram that a fragment is of, with this data. No memory is taken.
+    pub fn of_fragment(fragment: &LentFragment<'_>, bytes: UserData) -> Datagram
+        ensures { result ≡ datagram_by fragment.now bytes }
+    {
+        let source = fragment.source();
+        let destination = fragment.destination();
+        Datagram::of_lent(fragment.key(), fragment.kind(), source, destination, bytes)
+    }
+
+    /// The sender's address, port and identifier.
+    pub fn key(&self) -> Key
+        ensures { result ≡ self.now.key }
+    {
+        self.key
+    }
+
+    /// Whom it is for.
+    pub fn kind(&self) -> Kind
+        ensures { result ≡ self.now.kind }
+    {
+        self.kind
     }
 
     /// The sender's name.
@@ -94,65 +132,6 @@ impl Datagram {
     {
         &self.destination
     }
-}
-
-impl KeptDatagram {
-    /// A datagram of these parts, whose data has at most 65,535 bytes. Memory is taken for the
-    /// scopes that have a label.
-    ///
-    /// # Errors
-    ///
-    /// [`NoMemory`] where memory ran out.
-    pub fn new(
-        alloc: Global,
-        key: Key,
-        kind: Kind,
-        source: &LentName<'_>,
-        destination: &LentName<'_>,
-        bytes: Bytes,
-    ) -> Result<KeptDatagram, NoMemory>
-        requires { length bytes ≤ MAX_LENGTH }
-        ensures { IfOk result (λ datagram. datagram ≡ record {
-          key = key;
-          kind = kind;
-          source = source.now;
-          destination = destination.now;
-          bytes = bytes;
-        }) }
-    {
-        let source = KeptName::copy(alloc, source)?;
-        let destination = KeptName::copy(alloc, destination)?;
-        Ok(DatagramOf {
-            key,
-            kind,
-            source,
-            destination,
-            bytes,
-        })
-    }
-}
-
-impl<N: NameForm> DatagramOf<N> {
-    /// The sender's address, port and identifier.
-    pub fn key(&self) -> Key
-        ensures { result ≡ self.now.key }
-    {
-        self.key
-    }
-
-    /// Whom it is for.
-    pub fn kind(&self) -> Kind
-        ensures { result ≡ self.now.kind }
-    {
-        self.kind
-    }
-
-    /// The name that it is for, lent.
-    pub fn lent_destination(&self) -> LentName<'_>
-        ensures { result ≡ self.now.destination }
-    {
-        self.destination.lent()
-    }
 
     /// The data.
     pub fn bytes(&self) -> &[u8]
@@ -161,24 +140,9 @@ impl<N: NameForm> DatagramOf<N> {
     {
         self.bytes.as_slice()
     }
-
-    /// The same datagram, with its names in place. No memory is taken.
-    pub fn into_datagram(self) -> Datagram
-        ensures { result ≡ self }
-    {
-        let source = self.source.lent().to_name();
-        let destination = self.destination.lent().to_name();
-        DatagramOf {
-            key: self.key,
-            kind: self.kind,
-            source,
-            destination,
-            bytes: self.bytes,
-        }
-    }
 }
 
-impl<N: NameForm> PartialEq for DatagramOf<N> {
+impl PartialEq for Datagram {
     ghost use Rattle.std.specs.Prelude.{◌≡◌};
     ghost use Rattle.std.specs.Cmp.{decided, partial_equiv_from_equiv};
     ghost use Rattle.nb_datagram.specs.Equality.{datagram_eq};
@@ -193,13 +157,13 @@ impl<N: NameForm> PartialEq for DatagramOf<N> {
     {
         self.key == other.key
             && self.kind == other.kind
-            && self.source.is_same(&other.source)
-            && self.destination.is_same(&other.destination)
-            && self.bytes == other.bytes
+            && self.source == other.source
+            && self.destination == other.destination
+            && self.bytes() == other.bytes()
     }
 }
 
-impl<N: NameForm> Eq for DatagramOf<N> {
+impl Eq for Datagram {
     ghost use Rattle.std.specs.Cmp.{decided};
     ghost use Rattle.nb_datagram.specs.Equality.{datagram_eq};
     ghost use Rattle.nb_datagram.specs.EqualityFacts.{datagram_eq_decides};

@@ -7,6 +7,7 @@ ghost use Rattle.nb_names.specs.DomainName.{AreBytes};
 ghost use Rattle.nb_datagram.specs.declared.error_codes.TheConstants.{DESTINATION_NAME_NOT_PRESENT, INVALID_SOURCE_NAME_FORMAT, INVALID_DESTINATION_NAME_FORMAT};
 ghost use Rattle.nb_datagram.specs.declared.fault.DatagramFault.{DatagramFault};
 ghost use Rattle.nb_datagram.specs.declared.kind.Kind.TheVariants.{Unique, Group, Broadcast};
+ghost use Rattle.nb_datagram.specs.declared.front.Front.{Front};
 ghost use Rattle.nb_datagram.specs.declared.limits.TheConstants.{MAX_LENGTH, HEADER_LENGTH, ERROR_LENGTH, DIRECT_HEADER_LENGTH, MORE, FIRST};
 ghost use Rattle.nb_datagram.specs.declared.packet.QueryKind.TheVariants.{Request, Positive, Negative};
 ghost use Rattle.nb_datagram.specs.Header.{error_type, query_type};
@@ -16,6 +17,7 @@ ghost use Rattle.nb_datagram.specs.DatagramFaults.{PacketFails};
 ghost use Rattle.nb_datagram.specs.Datagram.{DatagramParts};
 ghost use Rattle.nb_datagram.specs.Equality.{fragment_eq, datagram_eq};
 ghost use Rattle.nb_datagram.specs.Fragment.{FragmentParts, Core, Covers, cores_of};
+ghost use Rattle.nb_datagram.specs.Fronts.{HasFront, LacksHeader};
 ghost use Rattle.nb_datagram.specs.Key.{key_cmp, same_key};
 ghost use Rattle.nb_datagram.specs.Packet.{Packet, IsPacket};
 ghost use Rattle.nb_datagram.specs.Pieces.{IsPart, pieces};
@@ -83,6 +85,18 @@ pub fn packet_or_fault()
         ⊎ ((fault : DatagramFault) × PacketFails bytes fault) }
 {
     name_or_fault();
+}
+
+/// At the front of bytes stands one thing at most, and nothing where the header isn't whole.
+pub fn one_front()
+    ensures one { (bytes : List ℕ) (front other : Front) →
+        HasFront bytes front → HasFront bytes other → front ≡ other }
+    ensures whole { (bytes : List ℕ) (front : Front) →
+        LacksHeader bytes → ¬ HasFront bytes front }
+{
+    one_reading();
+    one_netbios_fault();
+    labels_tell_the_name();
 }
 
 /// The pieces of a datagram are parts of it, each of its places is covered by one, and one of them

@@ -1,8 +1,8 @@
 -- What a fragment changes at its key, of what is known of the key before and after (our choice).
-use Rattle.std.specs.Prelude.{◌≡◌, ◌≢◌, Option, Some, None, option_and_then}
-use Rattle.nb_names.specs.Name.{NetbiosName}
+use Rattle.std.specs.Prelude.{◌≡◌, ◌≢◌, ℕ, List, Option, Some, None, option_and_then}
 use Rattle.nb_datagram.specs.declared.key.Key.{Key}
-use Rattle.nb_datagram.specs.Datagram.{DatagramParts}
+use Rattle.nb_datagram.specs.Datagram.{DatagramParts, datagram_by}
+use Rattle.nb_datagram.specs.Fragment.{FragmentParts}
 use Rattle.nb_entries.specs.declared.change.Change.{Change as ChangeOf}
 use Rattle.nb_entries.specs.declared.change.Change.TheVariants.{Spoilt, Whole, Same, Grown}
 use Rattle.nb_entries.specs.declared.change.Handing.{Handing}
@@ -11,9 +11,20 @@ use Rattle.nb_entries.specs.Slot.{Spoilt as Clashed}
 use Rattle.nb_entries.specs.Entry.{EntryValue}
 use Rattle.nb_entries.specs.Whole.{datagram_of, newly}
 
--- a change, whatever the form of its datagram's names
+-- a change, with the datagram of a key that became whole
 abbrev pub Change : Type 0
-Change = ChangeOf NetbiosName
+Change = ChangeOf DatagramParts
+
+-- a change, with the data alone of a key that became whole
+abbrev pub DataChange : Type 0
+DataChange = ChangeOf (List ℕ)
+
+-- made_by f c: the change c that the fragment f made, with the datagram in place of its data
+abbrev pub made_by : FragmentParts → DataChange → Change
+made_by f Spoilt = Spoilt
+made_by f (Whole bytes) = Whole (datagram_by f bytes)
+made_by f Same = Same
+made_by f Grown = Grown
 
 -- KeyChange k a b c: a key k has a before, if anything, and b after; c is what that changes at the key: it becomes
 -- spoilt; it becomes whole, with this datagram; nothing; or more is known, and it became neither
@@ -25,13 +36,13 @@ KeyChange k a b Grown =
     (b ≢ a) × (((a ≢ Some Clashed) × (b ≡ Some Clashed)) → ⊥)
     × (newly (option_and_then (datagram_of k) a) (option_and_then (datagram_of k) b) ≡ None)
 
--- what facts that grow come to: the datagram, if it is whole
-abbrev pub grown_to : Option DatagramParts → Change
+-- what facts that grow come to, with what is handed over of the datagram, if it is whole
+abbrev pub grown_to : {D : Type 0} → Option D → ChangeOf D
 grown_to None = Grown
 grown_to (Some d) = Whole d
 
--- the datagram, if it is handed over
-abbrev pub handed_by : Handing → Option DatagramParts → Option DatagramParts
+-- what there is of a datagram, if it is handed over
+abbrev pub handed_by : {D : Type 0} → Handing → Option D → Option D
 handed_by Over d = d
 handed_by Kept d = None
 
@@ -43,9 +54,10 @@ told_by Kept (Whole d) = Grown
 told_by Kept Same = Same
 told_by Kept Grown = Grown
 
--- Tells h k a b told: the key k had a before, if anything, and has b after; what that changed is told so
-abbrev pub Tells : Handing → Key → Option EntryValue → Option EntryValue → Change → Type 0
-Tells h k a b told = (c : Change) × KeyChange k a b c × (told ≡ told_by h c)
+-- Tells h f a b told: the key of the fragment f had a before, if anything, and has b after; what f changed is told so,
+-- as data alone
+abbrev pub Tells : Handing → FragmentParts → Option EntryValue → Option EntryValue → DataChange → Type 0
+Tells h f a b told = (c : Change) × KeyChange f.key a b c × (made_by f told ≡ told_by h c)
 
 -- the datagram of a key that became whole
 abbrev pub whole_by : Change → Option DatagramParts

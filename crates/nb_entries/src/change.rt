@@ -1,24 +1,21 @@
 //! What an insert changed.
 ghost use Rattle.std.specs.Prelude.{◌≡◌};
+ghost use Rattle.nb_entries.specs.Change.{made_by};
 
-use nb_datagram::DatagramOf;
-use nb_names::{KeptName, Name, NameForm};
+use nb_datagram::{Datagram, LentFragment, UserData};
 
-/// What a fragment changed at its key. The names of a datagram stand in the form `N`.
+/// What a fragment changed at its key. `D` is what is handed over of a datagram that becomes whole.
 #[derive(Drop)]
-pub enum Change<N: NameForm = Name> {
+pub enum Change<D = Datagram> {
     /// The key became spoilt: the fragment contradicts what was known.
     Spoilt,
-    /// The key became whole; this is its datagram.
-    Whole(DatagramOf<N>),
+    /// The key became whole; this is its datagram, or the data of that.
+    Whole(D),
     /// Nothing: all that the fragment says was known, or the key was spoilt before.
     Same,
     /// More is known; the key may have been whole before, and a promise is new.
     Grown,
 }
-
-/// A change whose datagram keeps its names, so that handing it on moves few words.
-pub type KeptChange = Change<KeptName>;
 
 /// What an insert does with the datagram of a key that becomes whole.
 #[derive(Clone, Copy, Debug, PartialEq, Eq)]
@@ -29,14 +26,15 @@ pub enum Handing {
     Kept,
 }
 
-impl KeptChange {
-    /// The change, with the datagram's names in place. No memory is taken.
-    pub fn into_change(self) -> Change
-        ensures { result ≡ self }
+impl Change<UserData> {
+    /// The change that this fragment made, with the whole datagram in place of its data: the
+    /// fragment has the datagram's kind and names. No memory is taken.
+    pub fn made_by(self, fragment: &LentFragment<'_>) -> Change
+        ensures { result ≡ made_by fragment.now self }
     {
         match self {
             Change::Spoilt => Change::Spoilt,
-            Change::Whole(datagram) => Change::Whole(datagram.into_datagram()),
+            Change::Whole(bytes) => Change::Whole(Datagram::of_fragment(fragment, bytes)),
             Change::Same => Change::Same,
             Change::Grown => Change::Grown,
         }

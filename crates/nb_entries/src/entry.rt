@@ -7,7 +7,7 @@ ghost use Rattle.nb_entries.specs.Entry.{facts_agree, facts_of, join_entry};
 ghost use Rattle.nb_entries.specs.Short.{AreShort, IsShort};
 ghost use Rattle.nb_entries.specs.Runs.{runs_of_map};
 ghost use Rattle.nb_entries.specs.RunCount.{entry_run_count};
-ghost use Rattle.nb_entries.specs.Whole.{IsWholeCover, bytes_to, datagram_with};
+ghost use Rattle.nb_entries.specs.Whole.{IsWholeCover, bytes_to};
 ghost use Rattle.nb_entries.specs.Change.{Tells};
 ghost use Rattle.nb_entries.specs.EntryState.{IsEntryState};
 
@@ -17,13 +17,13 @@ mod reading;
 mod uniting;
 mod whole;
 
-use crate::change::{Handing, KeptChange};
+use crate::change::{Change, Handing};
 use crate::cover::CoverFacts;
 use crate::parties::Parties;
 use crate::slot::Slot;
 use crate::state::State;
-use nb_datagram::{Fragment, KeptDatagram, Key, Kind, LentFragment};
-use nb_names::{Bytes, LentName, NoMemory};
+use nb_datagram::{Fragment, Kind, LentFragment, UserData};
+use nb_names::{LentName, NoMemory};
 use std::alloc::Global;
 use std::marker::Model;
 
@@ -103,38 +103,16 @@ impl EntryFacts {
             && self.cover.agrees_with(fragment)
     }
 
-    /// The datagram of the key with this kind, these names and these bytes.
-    fn datagram_from(&self, alloc: Global, key: Key, bytes: Bytes) -> Result<KeptDatagram, NoMemory>
-        requires { length bytes ≤ MAX_LENGTH }
-        ensures { IfOk result (λ datagram. datagram ≡ record {
-          key = key;
-          kind = self.now.kind;
-          source = self.now.source;
-          destination = self.now.destination;
-          bytes = bytes;
-        }) }
-    {
-        let source = self.parties.source();
-        let destination = self.parties.destination();
-        KeptDatagram::new(alloc, key, self.kind, &source, &destination, bytes)
-    }
-
-    /// The datagram of the key with this kind and these names, and with these places, if they are
-    /// whole. No memory is taken where they aren't.
-    fn datagram(
-        &self,
-        alloc: Global,
-        key: Key,
-        cover: &CoverFacts,
-    ) -> Result<Option<KeptDatagram>, NoMemory>
-        requires { (n : ℕ) → cover.now.end ≡ Some n → n ≤ MAX_LENGTH }
-        ensures value { IfOk result (λ datagram.
-            datagram ≡ datagram_with key self.now (bytes_to cover.now.bytes cover.now.end)) }
-        ensures no_memory_needed { bytes_to cover.now.bytes cover.now.end ≡ None
+    /// The datagram's data, if the facts are whole. No memory is taken where they aren't.
+    fn user_data(&self, alloc: Global) -> Result<Option<UserData>, NoMemory>
+        requires { (n : ℕ) → self.now.cover.end ≡ Some n → n ≤ MAX_LENGTH }
+        ensures value { IfOk result (λ bytes.
+            bytes ≡ bytes_to self.now.cover.bytes self.now.cover.end) }
+        ensures no_memory_needed { bytes_to self.now.cover.bytes self.now.cover.end ≡ None
             → result ≡ Ok None }
     {
-        match cover.whole(alloc)? {
-            Some(bytes) => Ok(Some(self.datagram_from(alloc, key, bytes)?)),
+        match self.cover.whole(alloc)? {
+            Some(bytes) => Ok(Some(UserData::new(bytes))),
             None => Ok(None),
         }
     }
@@ -203,11 +181,11 @@ impl Slot<EntryFacts> {
         alloc: Global,
         fragment: &LentFragment<'_>,
         handing: Handing,
-    ) -> Result<(Entry, KeptChange), NoMemory>
+    ) -> Result<(Entry, Change<UserData>), NoMemory>
         requires { reach (core_of fragment.now) ≤ MAX_LENGTH }
         ensures entry { IfOk result (λ made. made.0 ≡ Held (facts_of (core_of fragment.now))) }
         ensures change { IfOk result (λ made.
-            Tells handing fragment.now.key None (Some made.0) made.1) }
+            Tells handing fragment.now None (Some made.0) made.1) }
     {
         let (facts, change) = EntryFacts::first(alloc, fragment, handing)?;
         Ok((Slot::Held(facts), change))
@@ -225,13 +203,13 @@ impl Slot<EntryFacts> {
         alloc: Global,
         fragment: &LentFragment<'_>,
         handing: Handing,
-    ) -> Result<KeptChange, NoMemory>
+    ) -> Result<Change<UserData>, NoMemory>
         requires entry { IsShort MAX_LENGTH self.old }
         requires fragment { reach (core_of fragment.now) ≤ MAX_LENGTH }
         ensures joined { OnOk result
             (self.new ≡ join_entry self.old (Held (facts_of (core_of fragment.now)))) }
-        ensures change { IfOk result (λ change.
-            Tells handing fragment.now.key (Some self.old) (Some self.new) change) }
+        ensures change { IfOk result
+            (Tells handing fragment.now (Some self.old) (Some self.new)) }
         ensures kept { OnErr result (self.new ≡ self.old) }
         ensures not_spoilt { OnErr result
             (join_entry self.old (Held (facts_of (core_of fragment.now))) ≢ Spoilt) }
@@ -239,11 +217,11 @@ impl Slot<EntryFacts> {
             (join_entry self.old (Held (facts_of (core_of fragment.now))) ≢ self.old) }
     {
         let Slot::Held(facts) = self else {
-            return Ok(KeptChange::Same);
+            return Ok(Change::Same);
         };
         if !facts.agrees_with(fragment) {
             *self = Slot::Spoilt;
-            return Ok(KeptChange::Spoilt);
+            return Ok(Change::Spoilt);
         }
         facts.insert(alloc, fragment, handing)
     }

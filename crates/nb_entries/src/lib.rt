@@ -13,7 +13,7 @@ pub mod saved;
 mod slot;
 mod state;
 
-pub use change::{Change, Handing, KeptChange};
+pub use change::{Change, Handing};
 pub use cover::{Cover, CoverFacts};
 pub use entry::{Entry, EntryFacts};
 pub use load_fault::LoadFault;

@@ -17,7 +17,7 @@ pub fn answer(line: &mut Line<'_>, call: &str) {
     match name {
         _ if of == "member" => answer_of_stations(line, name),
         _ if of != "table" => nb_examples_packets::answer(line, call),
-        "insert" | "insert_lent" | "insert_kept" | "refusals" => inserting::inserts(line, name),
+        "insert" | "insert_over" | "insert_kept" | "refusals" => inserting::inserts(line, name),
         "known" => reading::known(line),
         "datagram" => reading::datagram(line),
         "save" => reading::saved(line),

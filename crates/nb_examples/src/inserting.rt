@@ -6,9 +6,9 @@ use nb_examples_words::asked;
 use nb_examples_words::line::Line;
 use nb_table::{Change, Handing, Table, TableFault};
 
-/// `insert TABLE | STEP ..`: what the inserts of the steps into the table answer. `insert_lent` and
-/// `insert_kept` with the same words: of fragments whose names are lent, and where no datagram is
-/// handed over. `refusals`: why the table would refuse each of the steps, or `none`.
+/// `insert TABLE | STEP ..`: what the inserts of the steps into the table answer. `insert_over` and
+/// `insert_kept` with the same words: of fragments whose names are lent, where datagrams are handed
+/// over, and where none is. `refusals`: why the table would refuse each of the steps, or `none`.
 pub fn inserts(line: &mut Line<'_>, call: &str) {
     let (table, steps) = line.halves(" | ");
     let mut table = table_of(line, table);
@@ -43,13 +43,14 @@ fn say_insert(line: &mut Line<'_>, call: &str, table: &mut Table, fragment: &Fra
 
 /// What the insert of a fragment answers, by a call.
 fn insert_by(call: &str, table: &mut Table, fragment: &Fragment<'_>) -> Result<Change, TableFault> {
-    let answer = match call {
-        "insert_lent" => table.insert_lent(&fragment.lent()),
-        "insert_kept" => table.insert_with(&fragment.lent(), Handing::Kept),
+    let handing = match call {
+        "insert_over" => Handing::Over,
+        "insert_kept" => Handing::Kept,
         _ => return table.insert(fragment),
     };
-    match answer {
-        Ok(change) => Ok(change.into_change()),
+    let lent = fragment.lent();
+    match table.insert_with(&lent, handing) {
+        Ok(change) => Ok(change.made_by(&lent)),
         Err(fault) => Err(fault),
     }
 }

@@ -1,9 +1,9 @@
 //! Packets of port 138, as they are said, and datagrams as words say them.
 
 use crate::fragments::{next_key, next_kind, say_fragment, say_key};
-use nb_datagram::{Datagram, Packet, QueryKind, QueryPacket, decode};
+use nb_datagram::{Datagram, Front, Packet, QueryKind, QueryPacket, decode, read_front};
 use nb_examples_words::line::Line;
-use nb_names::{Bytes, name_text};
+use nb_names::{Bytes, LentName, name_text};
 
 /// `decode BYTES`: the packet at the front, and how many bytes it takes up.
 ///
@@ -48,6 +48,39 @@ fn say_query(line: &mut Line<'_>, query: &QueryPacket) {
     say_key(line, query.key);
     line.say(" ");
     line.say_made(name_text(line.alloc(), &query.destination).ok());
+}
+
+/// `front BYTES`: what stands at the front, whether or not a packet does: MSG_TYPE, FLAGS and the
+/// key, and of a fragment its offset and the names that stand whole; `none` where the header isn't
+/// whole.
+pub fn front(line: &mut Line<'_>) {
+    let bytes = line.bytes();
+    line.begin();
+    let answer = read_front(bytes.as_slice());
+    line.end();
+    match answer {
+        Some(front) => say_front(line, &front),
+        None => line.say("none"),
+    }
+}
+
+/// Says what stands.
+fn say_front(line: &mut Line<'_>, front: &Front<'_>) {
+    write!(line, "{:02x} {:02x} ", front.message_type, front.flags);
+    say_key(line, front.key);
+    if let Some(fragment) = &front.fragment {
+        write!(line, " {}", fragment.offset);
+        say_standing_name(line, &fragment.source);
+        say_standing_name(line, &fragment.destination);
+    }
+}
+
+/// Says a name that stands whole.
+fn say_standing_name(line: &mut Line<'_>, name: &Option<LentName<'_>>) {
+    if let Some(name) = name {
+        line.say(" ");
+        line.say_made(name_text(line.alloc(), &name.to_name()).ok());
+    }
 }
 
 /// The datagram that the next words say: `KIND KEY SOURCE DESTINATION BYTES`.

@@ -3,7 +3,7 @@
 use nb_examples_words::devices::{Source, WILLING};
 use nb_examples_words::line::Line;
 use nb_names::{Counted, name_text};
-use nb_session::{Packet, Parsed, ReadFault, Room, parse, read_packet};
+use nb_session::{Packet, Parsed, ReadFault, Room, front_header, parse, read_packet};
 
 /// Says a packet.
 pub fn say_packet(line: &mut Line<'_>, packet: &Packet<'_>) {
@@ -42,6 +42,20 @@ pub fn parsed(line: &mut Line<'_>) {
         Parsed::More(needed) => write!(line, "more {needed}"),
         Parsed::Refused(fault) => write!(line, "{fault}"),
     }
+}
+
+/// `header BYTES`: the header at the front, TYPE, FLAGS and LENGTH, and the length of the body;
+/// `none` where it isn't there whole.
+pub fn header(line: &mut Line<'_>) {
+    let bytes = line.bytes();
+    line.begin();
+    let answer = front_header(bytes.as_slice());
+    line.end();
+    let Some(header) = answer else {
+        return line.say("none");
+    };
+    write!(line, "{:02x} {:02x} ", header.packet_type, header.flags);
+    write!(line, "{} {}", header.length, header.body_length());
 }
 
 /// `read MOST INTERRUPTS FAILING BYTES`: the packets that are read from a device, up to its end or

@@ -14,6 +14,7 @@ pub mod Listing
 pub mod Keys
 pub mod ReportFields
 pub mod ListingFields
+pub mod ObjectLines
 pub mod LineRoom
 pub mod LineReading
 pub mod Replaying

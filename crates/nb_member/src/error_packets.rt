@@ -1,10 +1,11 @@
 //! The error packets that a member answers with.
 ghost use Rattle.std.specs.Prelude.{◌≡◌};
-ghost use Rattle.nb_member.specs.Hearing.{error_about, unheard, bad_name, refusal};
+ghost use Rattle.nb_datagram.specs.declared.error_codes.TheConstants.{DESTINATION_NAME_NOT_PRESENT};
+ghost use Rattle.nb_member.specs.Hearing.{error_about, bad_name, refusal};
 
 use crate::settings::Settings;
 use nb_datagram::limits::HEADER_LENGTH;
-use nb_datagram::{DatagramFault, ErrorPacket, KeptDatagram, Key, Kind, error_codes};
+use nb_datagram::{DatagramFault, ErrorPacket, Key, Kind, LentFragment, error_codes};
 
 impl Settings {
     /// The error packet of this code about a datagram of this kind and identifier, which is sent
@@ -29,13 +30,14 @@ impl Settings {
         }
     }
 
-    /// The error packet about a datagram that became whole and isn't heard.
-    pub(crate) fn unheard(&self, datagram: &KeptDatagram) -> Option<ErrorPacket>
-        ensures { result ≡ unheard self.now datagram.now }
+    /// The error packet about a fragment's datagram, which became whole and isn't heard.
+    pub(crate) fn unheard(&self, fragment: &LentFragment<'_>) -> Option<ErrorPacket>
+        ensures { result ≡ error_about self.now fragment.now.kind fragment.now.key.id
+            DESTINATION_NAME_NOT_PRESENT }
     {
         self.error_about(
-            datagram.kind(),
-            datagram.key().id,
+            fragment.kind(),
+            fragment.key().id,
             error_codes::DESTINATION_NAME_NOT_PRESENT,
         )
     }

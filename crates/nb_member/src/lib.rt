@@ -46,7 +46,7 @@ pub use line_reading::{next_from, next_line};
 pub use line_room::LineRoom;
 pub use line_taker::LineTaker;
 pub use line_taking::take_lines;
-pub use listing::{list_keys, push_key_line, tell_key};
+pub use listing::{list_keys, list_objects, push_key_line, tell_key};
 pub use local_names::{AddFault, LocalNames};
 pub use member::Member;
 pub use member_fault::MemberFault;

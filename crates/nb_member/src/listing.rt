@@ -7,12 +7,14 @@ ghost use Rattle.nb_names.specs.Growth.{OnlyAdds};
 ghost use Rattle.nb_member.specs.Listing.{key_line, listing};
 
 mod entries;
+mod objects;
 
 use crate::laws::texts_of_listings;
 pub use entries::tell_key;
 use nb_datagram::Key;
 use nb_names::NoMemory;
 use nb_table::Table;
+pub use objects::list_objects;
 use std::alloc::Global;
 
 /// The lines of a table's keys, ascending, as `nbt list` prints them (our choice): the key, and

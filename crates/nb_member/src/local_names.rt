@@ -4,8 +4,8 @@ ghost use Rattle.nb_member.specs.declared.limits.TheConstants.{MAX_NAMES};
 ghost use Rattle.nb_member.specs.Hearing.{Adds, holds, holds_scope, hears, hears_as, HoldsScope, Hears};
 
 use crate::limits::MAX_NAMES;
-use nb_datagram::{DatagramOf, Kind};
-use nb_names::{LentName, Name, NameForm, Scope};
+use nb_datagram::{Datagram, Kind};
+use nb_names::{LentName, Name, Scope};
 use std::alloc::Global;
 use std::error::Error;
 use std::fmt;
@@ -115,15 +115,15 @@ impl LocalNames {
     /// where one has its destination's scope. A member asks this of each datagram that becomes
     /// whole; a station's program asks it where it has a datagram without a member. RFC 1002
     /// section 5.3; that the two types of direct datagrams are heard alike is our choice.
-    pub fn hears<N: NameForm>(&self, datagram: &DatagramOf<N>) -> bool
+    pub fn hears(&self, datagram: &Datagram) -> bool
         ensures value { result ≡ hears self.now datagram.now }
         ensures heard { IsTrue result ↔ Hears self.now datagram.now }
     {
-        self.hears_as(datagram.kind(), &datagram.lent_destination())
+        self.hears_as(datagram.kind(), &datagram.destination().lent())
     }
 
     /// Whether a station with these names hears what is sent so.
-    fn hears_as(&self, kind: Kind, destination: &LentName<'_>) -> bool
+    pub(crate) fn hears_as(&self, kind: Kind, destination: &LentName<'_>) -> bool
         ensures { result ≡ hears_as self.now kind destination.now }
     {
         match kind {

@@ -3,6 +3,8 @@ ghost use Rattle.std.specs.Prelude.{◌≡◌, ◌+◌, Ok, Err, OnOk, IfErr, Ma
 ghost use Rattle.std.specs.FinMap as maps;
 ghost use Rattle.nb_member.specs.Events.{limits_of};
 ghost use Rattle.nb_member.specs.Member.{contents, new_member, with_timed, after_clock};
+ghost use Rattle.nb_datagram.specs.Datagram.{datagram_by};
+ghost use Rattle.nb_entries.specs.Change.{made_by};
 ghost use Rattle.nb_member.specs.Taking.{Takes, TakesFragment, handed, outcome_of};
 ghost use Rattle.nb_member.specs.Code.Members.{MeetsFull, BeginsFull, limit_of};
 ghost use Rattle.nb_member.specs.declared.outcome.Outcome.{Outcome};
@@ -16,8 +18,8 @@ use crate::outcome::{Dropped, Outcome};
 use crate::run_report::RunStop;
 use crate::settings::Settings;
 use crate::timed_table::TimedTable;
-use nb_datagram::{KeptDatagram, Key, LentFragment, LentPacket, decode_lent};
-use nb_table::{Handing, KeptChange, Table, TableFault};
+use nb_datagram::{Datagram, LentFragment, LentPacket, UserData, decode_lent};
+use nb_table::{Change, Handing, Table, TableFault};
 use std::alloc::Global;
 use std::marker::Model;
 
@@ -122,9 +124,8 @@ impl Member {
     ) -> Result<Outcome, MemberFault>
         ensures { TakesFragment self.old moment fragment.now self.new result }
     {
-        let key = fragment.key();
         let change = self.timed.insert(moment, fragment, Handing::Over)?;
-        Ok(outcome_of(&self.settings, &self.names, key, change))
+        Ok(outcome_of(&self.settings, &self.names, fragment, change))
     }
 
     /// Takes a fragment that came at this moment, and hands nothing over.
@@ -187,24 +188,36 @@ fn limit_of(refusal: Option<TableFault>) -> Option<RunStop>
     }
 }
 
-/// What is answered where this changed at the key.
-fn outcome_of(settings: &Settings, names: &LocalNames, key: Key, change: KeptChange) -> Outcome
-    ensures { result ≡ outcome_of settings.now names.now key change }
+/// What is answered where a fragment changed this at its key.
+fn outcome_of(
+    settings: &Settings,
+    names: &LocalNames,
+    fragment: &LentFragment<'_>,
+    change: Change<UserData>,
+) -> Outcome
+    ensures { result ≡ outcome_of settings.now names.now fragment.now.key
+        (made_by fragment.now change) }
 {
     match change {
-        KeptChange::Spoilt => Outcome::Spoilt(key),
-        KeptChange::Whole(datagram) => handed(settings, names, key, datagram),
-        KeptChange::Same => Outcome::Kept(key),
-        KeptChange::Grown => Outcome::Kept(key),
+        Change::Spoilt => Outcome::Spoilt(fragment.key()),
+        Change::Whole(bytes) => handed(settings, names, fragment, bytes),
+        Change::Same => Outcome::Kept(fragment.key()),
+        Change::Grown => Outcome::Kept(fragment.key()),
     }
 }
 
-/// What is answered of a datagram that became whole.
-fn handed(settings: &Settings, names: &LocalNames, key: Key, datagram: KeptDatagram) -> Outcome
-    ensures { result ≡ handed settings.now names.now key datagram }
+/// What is answered where a fragment's datagram became whole, with this data.
+fn handed(
+    settings: &Settings,
+    names: &LocalNames,
+    fragment: &LentFragment<'_>,
+    bytes: UserData,
+) -> Outcome
+    ensures { result ≡ handed settings.now names.now fragment.now.key
+        (datagram_by fragment.now bytes) }
 {
-    if names.hears(&datagram) {
-        return Outcome::Delivered(datagram.into_datagram());
+    if names.hears_as(fragment.kind(), fragment.destination()) {
+        return Outcome::Delivered(Datagram::of_fragment(fragment, bytes));
     }
-    Outcome::Unheard(key, settings.unheard(&datagram))
+    Outcome::Unheard(fragment.key(), settings.unheard(fragment))
 }

@@ -1,18 +1,16 @@
 //! A table whose keys have the moments at which they came.
 ghost use Rattle.std.specs.Prelude.{◌≡◌, false, IfOk, IfErr, OnOk, OnErr};
 ghost use Rattle.std.specs.FinMap as maps;
-ghost use Rattle.nb_entries.specs.Change.{Change};
-ghost use Rattle.nb_table.specs.Change.{IsChange};
-ghost use Rattle.nb_entries.specs.Change.{told_by};
+ghost use Rattle.nb_table.specs.Change.{Tells};
 ghost use Rattle.nb_table.specs.Insert.{Takes as TableTakes, Refuses};
 ghost use Rattle.nb_member.specs.Member.{begun, after_fragment, after_clock};
 
 mod merging;
 
 use crate::starts::Starts;
-use nb_datagram::{Key, LentFragment};
+use nb_datagram::{Key, LentFragment, UserData};
 use nb_names::NoMemory;
-use nb_table::{Handing, KeptChange, Table, TableFault};
+use nb_table::{Change, Handing, Table, TableFault};
 use std::alloc::Global;
 use std::marker::Model;
 
@@ -71,12 +69,11 @@ impl TimedTable {
         moment: u64,
         fragment: &LentFragment<'_>,
         handing: Handing,
-    ) -> Result<KeptChange, TableFault>
+    ) -> Result<Change<UserData>, TableFault>
         ensures taken { OnOk result (TableTakes self.old.table fragment.now) }
         ensures joined { OnOk result (self.new ≡ after_fragment self.old moment fragment.now) }
-        ensures change { IfOk result (λ told. (change : Change) ×
-            IsChange self.old.table.contents self.new.table.contents fragment.now.key change ×
-            (told ≡ told_by handing change)) }
+        ensures change { IfOk result
+            (Tells handing self.old.table.contents self.new.table.contents fragment.now) }
         ensures refused { IfErr result (Refuses self.old.table fragment.now) }
         ensures kept { OnErr result (self.new ≡ self.old) }
     {

@@ -2,13 +2,14 @@
 ghost use Rattle.std.specs.Prelude.{◌≡◌, ◌-◌, ◌<◌, ◌≤◌, ℕ, List, ◌++◌, length, take};
 ghost use Rattle.nb_names.specs.DomainName.{AreBytes};
 ghost use Rattle.nb_session.specs.declared.fault.SessionFault.{SessionFault};
+ghost use Rattle.nb_session.specs.declared.header.Header.{Header};
 ghost use Rattle.nb_session.specs.declared.kind.Kind.TheVariants.{Message, Request, Positive, Negative, Retarget, Keepalive};
 ghost use Rattle.nb_session.specs.declared.limits.TheConstants.{HEADER_LENGTH, MAX_MESSAGE, MAX_PACKET, MIN_REQUEST, MAX_REQUEST, MAX_INTERRUPTS};
 ghost use Rattle.nb_session.specs.declared.packet.Packet.{Packet};
 ghost use Rattle.nb_session.specs.declared.parsing.Parsed.{Parsed};
 ghost use Rattle.nb_session.specs.declared.parsing.Parsed.TheVariants.{Whole, More, Refused};
 ghost use Rattle.nb_session.specs.Cutting.{ArePackets, IsCut, History};
-ghost use Rattle.nb_session.specs.Header.{type_of};
+ghost use Rattle.nb_session.specs.Header.{HasHeader, type_of};
 ghost use Rattle.nb_session.specs.Packet.{IsPacket};
 ghost use Rattle.nb_session.specs.Parsing.{Parses};
 ghost use Rattle.nb_session.specs.StreamValue.{StreamValue};
@@ -30,6 +31,14 @@ pub fn one_answer()
     spelling_is_read();
     labels_tell_the_name();
 }
+
+/// Bytes begin with one header at most, and with one only where there are four of them.
+pub fn one_header()
+    ensures one { (bytes : List ℕ) (header other : Header) →
+        HasHeader bytes header → HasHeader bytes other → header ≡ other }
+    ensures whole { (bytes : List ℕ) (header : Header) → HasHeader bytes header →
+        4 ≤ length bytes }
+{}
 
 /// A packet's bytes, whatever follows, are parsed as the packet, and of each shorter front of them
 /// bytes are lacking: those up to the end of the header where it isn't there whole, else those up

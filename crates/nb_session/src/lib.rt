@@ -17,6 +17,7 @@ mod stream;
 
 pub use encoding::encode;
 pub use fault::SessionFault;
+pub use header::{Header, front_header};
 pub use kind::Kind;
 pub use packet::{MessageData, Packet, TooLong};
 pub use packet_bytes::PacketBytes;

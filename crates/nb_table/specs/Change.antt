@@ -2,11 +2,13 @@
 use Rattle.std.specs.Prelude.{◌≡◌, ◌≢◌, Some, None}
 use Rattle.std.specs.FinMap as maps
 use Rattle.nb_datagram.specs.declared.key.Key.{Key}
+use Rattle.nb_datagram.specs.Fragment.{FragmentParts}
+use Rattle.nb_entries.specs.declared.change.Handing.{Handing}
 use Rattle.nb_entries.specs.declared.change.Change.TheVariants.{Spoilt, Whole, Same, Grown}
 use Rattle.nb_entries.specs.declared.slot.Slot.TheVariants.{Spoilt as Clashed}
 use Rattle.nb_table.specs.Contents.{Contents}
 use Rattle.nb_table.specs.Whole.{newly_whole}
-use Rattle.nb_entries.specs.Change.{Change}
+use Rattle.nb_entries.specs.Change.{Change, DataChange, made_by, told_by}
 
 -- IsSpoiltAt t k: the table t has the key k spoilt
 abbrev pub IsSpoiltAt : Contents → Key → Type 0
@@ -30,3 +32,8 @@ IsChange before after k Spoilt = BecomesSpoilt before after k
 IsChange before after k (Whole d) = newly_whole before after k ≡ Some d
 IsChange before after k Same = after ≡ before
 IsChange before after k Grown = OnlyGrows before after k
+
+-- Tells h before after f told: where the fragment f made the table before the table after, what changed at
+-- its key is told so, as data alone
+abbrev pub Tells : Handing → Contents → Contents → FragmentParts → DataChange → Type 0
+Tells h before after f told = (c : Change) × IsChange before after f.key c × (made_by f told ≡ told_by h c)

@@ -11,8 +11,8 @@ ghost use Rattle.nb_entries.specs.Change.{Tells};
 ghost use Rattle.nb_table.specs.Insert.{NeedsNoMemory};
 
 use crate::entries::Entries;
-use nb_datagram::LentFragment;
-use nb_entries::{Entry, Handing, KeptChange};
+use nb_datagram::{LentFragment, UserData};
+use nb_entries::{Change, Entry, Handing};
 use nb_names::NoMemory;
 use std::alloc::Global;
 
@@ -23,16 +23,16 @@ pub(crate) fn insert_fragment(
     alloc: Global,
     fragment: &LentFragment<'_>,
     handing: Handing,
-) -> Result<KeptChange, NoMemory>
+) -> Result<Change<UserData>, NoMemory>
     requires fragment { reach (core_of fragment.now) ≤ MAX_LENGTH }
     requires entry { (e : EntryValue) → maps.get entries.old fragment.now.key ≡ Some e
         → IsShort MAX_LENGTH e }
     ensures joined { OnOk result (entries.new ≡ maps.insert entries.old fragment.now.key
         (joined_onto join_entry (maps.get entries.old fragment.now.key)
         (Held (facts_of (core_of fragment.now))))) }
-    ensures change { IfOk result (λ change. Tells handing fragment.now.key
+    ensures change { IfOk result (Tells handing fragment.now
         (maps.get entries.old fragment.now.key) (Some (joined_onto join_entry
-        (maps.get entries.old fragment.now.key) (Held (facts_of (core_of fragment.now))))) change) }
+        (maps.get entries.old fragment.now.key) (Held (facts_of (core_of fragment.now)))))) }
     ensures needed { OnErr result (¬ NeedsNoMemory entries.old (core_of fragment.now)) }
     ensures kept { OnErr result (entries.new ≡ entries.old) }
 {

@@ -16,7 +16,7 @@ pub use fault::TableFault;
 pub use join::{Join, join_all};
 pub use keys::Keys;
 pub use nb_entries::{
-    Change, Cover, CoverFacts, Entry, EntryFacts, Handing, KeptChange, LoadFault, Outline,
-    PlaceRange, Ranges, Slot, State,
+    Change, Cover, CoverFacts, Entry, EntryFacts, Handing, LoadFault, Outline, PlaceRange, Ranges,
+    Slot, State,
 };
 pub use table::{Table, load, take_in_all};

@@ -1,10 +1,8 @@
 //! The reassembly table.
 ghost use Rattle.std.specs.Prelude.{◌≡◌, ◌↔◌, IsTrue, IsOk, IfOk, IfErr, OnOk, OnErr};
 ghost use Rattle.std.specs.FinMap as maps;
-ghost use Rattle.nb_names.specs.Name.{NetbiosName};
 ghost use Rattle.nb_table.specs.Limits.{KeepsLimits};
-ghost use Rattle.nb_table.specs.Change.{IsChange};
-ghost use Rattle.nb_entries.specs.Change.{told_by};
+ghost use Rattle.nb_table.specs.Change.{IsChange, Tells};
 ghost use Rattle.nb_table.specs.State.{IsState};
 ghost use Rattle.nb_table.specs.RunCount.{run_count_at};
 ghost use Rattle.nb_datagram.specs.Fragment.{core_of};
@@ -23,8 +21,8 @@ use crate::inserting::insert_fragment;
 use crate::keys::Keys;
 pub use loading::load;
 pub use merging::take_in_all;
-use nb_datagram::{Fragment, Key, LentFragment};
-use nb_entries::{Change, Handing, KeptChange, State};
+use nb_datagram::{Fragment, Key, LentFragment, UserData};
+use nb_entries::{Change, Handing, State};
 use std::alloc::Global;
 use std::marker::Model;
 
@@ -121,34 +119,17 @@ impl Table {
         ensures without_memory { Passes self.old.limits fragment.now
             → NeedsNoMemory self.old.contents (core_of fragment.now) → IsOk result }
     {
-        match self.insert_lent(&fragment.lent()) {
-            Ok(change) => Ok(change.into_change()),
+        let lent = fragment.lent();
+        match self.insert_with(&lent, Handing::Over) {
+            Ok(change) => Ok(change.made_by(&lent)),
             Err(fault) => Err(fault),
         }
     }
 
-    /// Joins a fragment whose names are lent, as [`Table::insert`] does. A datagram that is handed
-    /// over keeps its names.
-    ///
-    /// # Errors
-    ///
-    /// Those of [`Table::insert`].
-    pub fn insert_lent(&mut self, fragment: &LentFragment<'_>) -> Result<KeptChange, TableFault>
-        ensures taken { OnOk result (Takes self.old fragment.now) }
-        ensures joined { OnOk result (self.new ≡ with_fragment self.old fragment.now) }
-        ensures change { IfOk result
-            (IsChange self.old.contents self.new.contents fragment.now.key) }
-        ensures refused { IfErr result (Refuses self.old fragment.now) }
-        ensures kept { OnErr result (self.new ≡ self.old) }
-        ensures without_memory { Passes self.old.limits fragment.now
-            → NeedsNoMemory self.old.contents (core_of fragment.now) → IsOk result }
-    {
-        self.insert_with(fragment, Handing::Over)
-    }
-
-    /// Joins a fragment whose names are lent, as [`Table::insert_lent`] does, and says what that
-    /// changed at its key, as far as datagrams are handed over. Where they aren't, none is made,
-    /// and memory is taken for what is held alone.
+    /// Joins a fragment whose names are lent, as [`Table::insert`] does, and says what that changed
+    /// at its key, as far as datagrams are handed over. Of a datagram that is handed over the data
+    /// alone is copied: [`Change::made_by`] gives it the fragment's kind and names. Where none is
+    /// handed over, memory is taken for what is held alone.
     ///
     /// # Errors
     ///
@@ -157,12 +138,11 @@ impl Table {
         &mut self,
         fragment: &LentFragment<'_>,
         handing: Handing,
-    ) -> Result<KeptChange, TableFault>
+    ) -> Result<Change<UserData>, TableFault>
         ensures taken { OnOk result (Takes self.old fragment.now) }
         ensures joined { OnOk result (self.new ≡ with_fragment self.old fragment.now) }
-        ensures change { IfOk result (λ told. (change : Change NetbiosName) ×
-            IsChange self.old.contents self.new.contents fragment.now.key change ×
-            (told ≡ told_by handing change)) }
+        ensures change { IfOk result
+            (Tells handing self.old.contents self.new.contents fragment.now) }
         ensures refused { IfErr result (Refuses self.old fragment.now) }
         ensures kept { OnErr result (self.new ≡ self.old) }
         ensures without_memory { Passes self.old.limits fragment.now

@@ -23,13 +23,13 @@ use Rattle.nb_telling.specs.Members.{AreMembers, AreParts, IsMember, nothing, me
 use Rattle.nb_text.specs.DatagramFields as datagrams
 use Rattle.nb_text.specs.Keys.{op_key, flags_key, rcode_key, name_key, ttl_key, ont_key, address_key, set_key, unit_key}
 use Rattle.nb_text.specs.LineFields.{used_fields, refused_fields, list_fields}
-use Rattle.nb_text.specs.ServiceFields.{word_field, named_field, named_fields, header_fields, question_fields, rdata_field, entry_fields, node_name_fields, unit_fields, status_fields, view_fields, record_fields, service_fields}
+use Rattle.nb_text.specs.ServiceFields.{word_field, named_field, named_fields, header_fields, question_fields, rdata_field, entry_fields, node_name_fields, unit_fields, status_fields, view_fields, record_fields, lists_fields, service_fields}
 use Rattle.nb_text.specs.SessionFields as sessions
 use Rattle.nb_text.specs.Tells.{Tells, names, no_names, datagram, no_datagram, session}
 use Rattle.nb_text.specs.Words.{operation_word, rcode_word, names_set, name_flags}
 
 -- fields each of which is a member
-all_members : {depth : ℕ} (fields : List Field) → AllByRecursion IsMember fields → AreMembers depth fields
+pub all_members : {depth : ℕ} (fields : List Field) → AllByRecursion IsMember fields → AreMembers depth fields
 all_members [] h = nothing
 all_members (field ∷ fields) h = both (field ∷ []) fields (member field h.0) (all_members fields h.1)
 
@@ -73,7 +73,7 @@ datagram_members packet used = both (datagrams.parts_fields packet) (used_fields
 
 -- ---- port 137
 
-named_member : (key : FieldKey) (word : Option (List ℕ)) (n : ℕ) → IsMember (named_field key word n)
+pub named_member : (key : FieldKey) (word : Option (List ℕ)) (n : ℕ) → IsMember (named_field key word n)
 named_member key None n = tt
 named_member key (Some word) n = tt
 
@@ -134,13 +134,15 @@ record_part lead entry =
 section_members : (name lead : List ℕ) (entries : List ResourceRecord) → AreMembers 2 (list_fields name (flat_map (record_fields lead) entries))
 section_members name lead entries = list name _ (each_part (record_fields lead) entries (record_part lead))
 
-service_members : (packet : ServicePacket) (used : ℕ) → AreMembers 2 (service_fields packet used)
-service_members packet used =
-    both _ _ (header_members (header_of packet) used)
-    (both _ _ (list (codes "questions") _ (each_part question_fields packet.questions question_part))
+pub lists_members : (packet : ServicePacket) → AreMembers 2 (lists_fields packet)
+lists_members packet =
+    both _ _ (list (codes "questions") _ (each_part question_fields packet.questions question_part))
     (both _ _ (section_members (codes "answers") (codes "  answer") packet.answers)
     (both _ _ (section_members (codes "authorities") (codes "  authority") packet.authorities)
-    (section_members (codes "additional") (codes "  additional") packet.additional))))
+    (section_members (codes "additional") (codes "  additional") packet.additional)))
+
+service_members : (packet : ServicePacket) (used : ℕ) → AreMembers 2 (service_fields packet used)
+service_members packet used = both _ _ (header_members (header_of packet) used) (lists_members packet)
 
 pub fields_members : (payload : List ℕ) (port : ℕ) (fields : List Field) → Tells payload port fields → AreMembers 2 fields
 fields_members payload _ _ (names packet used h) = service_members packet used

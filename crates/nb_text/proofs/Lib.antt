@@ -28,3 +28,7 @@ pub mod PhraseLemmas
 pub mod SaidPackets
 pub mod FirstNames
 pub mod PushLemmas
+pub mod RunLemmas
+pub mod FrontMembers
+pub mod ItemParts
+pub mod OneFront

@@ -104,6 +104,10 @@ unit_key = key_of (codes "unit") (codes "    unit=")
 
 -- ---- of packets of ports 138 and 139; `port` is in an object the port to which a payload came
 
+-- the number that says what a packet is, where none of its kind is known
+abbrev pub packet_type_key : FieldKey
+packet_type_key = key_of (codes "type") (codes "type=")
+
 -- the key of a datagram
 abbrev pub key_key : FieldKey
 key_key = key_of (codes "key") (codes " key=")

@@ -12,6 +12,9 @@ pub mod ServiceFields
 pub mod DatagramFields
 pub mod SessionFields
 pub mod Tells
+pub mod FrontFields
+pub mod TellsFront
+pub mod Code
 pub mod Kinds
 pub mod Noted
 pub mod Forms

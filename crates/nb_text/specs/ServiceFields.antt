@@ -103,11 +103,14 @@ record_fields lead entry =
 
 -- ---- the packet
 
--- service_fields packet used: the packet, which takes up so many bytes
-abbrev pub service_fields : ServicePacket → ℕ → List Field
-service_fields packet used =
-    header_fields (header_of packet) used
-    ++ (list_fields (codes "questions") (flat_map question_fields packet.questions)
+-- the lists of a packet's questions and of its records, a list for each section
+abbrev pub lists_fields : ServicePacket → List Field
+lists_fields packet =
+    list_fields (codes "questions") (flat_map question_fields packet.questions)
     ++ (list_fields (codes "answers") (flat_map (record_fields (codes "  answer")) packet.answers)
     ++ (list_fields (codes "authorities") (flat_map (record_fields (codes "  authority")) packet.authorities)
-    ++ list_fields (codes "additional") (flat_map (record_fields (codes "  additional")) packet.additional))))
+    ++ list_fields (codes "additional") (flat_map (record_fields (codes "  additional")) packet.additional)))
+
+-- service_fields packet used: the packet, which takes up so many bytes
+abbrev pub service_fields : ServicePacket → ℕ → List Field
+service_fields packet used = header_fields (header_of packet) used ++ lists_fields packet

@@ -2,8 +2,10 @@
 -- 4.2.11, 4.2.14 and 4.2.18). Bits are numbered as in Flags of nb_service.
 use Rattle.std.specs.Prelude.{ℕ, ◌==◌, ◌^◌, Bool, not, List, [], ◌∷◌, codes, Option, Some, None, bit_and, if◌then◌else◌}
 use Rattle.std.specs.Fmt.{decimal}
+use Rattle.nb_datagram.specs.declared.kind.Kind.TheVariants.{Unique, Group, Broadcast}
 use Rattle.nb_datagram.specs.declared.packet.QueryKind.{QueryKind}
 use Rattle.nb_datagram.specs.declared.packet.QueryKind.TheVariants.{Request, Positive, Negative}
+use Rattle.nb_datagram.specs.Texts.{kind_text}
 use Rattle.nb_telling.specs.Sets.{joined}
 
 -- ---- numbers that have names
@@ -42,6 +44,29 @@ abbrev pub query_word : QueryKind → List ℕ
 query_word Request = codes "find"
 query_word Positive = codes "found"
 query_word Negative = codes "missing"
+
+-- the word for packets of port 138 of a MSG_TYPE
+abbrev pub datagram_word : ℕ → Option (List ℕ)
+datagram_word type =
+    if type == 16 then Some (kind_text Unique)
+    else if type == 17 then Some (kind_text Group)
+    else if type == 18 then Some (kind_text Broadcast)
+    else if type == 19 then Some (codes "error")
+    else if type == 20 then Some (query_word Request)
+    else if type == 21 then Some (query_word Positive)
+    else if type == 22 then Some (query_word Negative)
+    else None
+
+-- the word for packets of port 139 of a TYPE
+abbrev pub session_word : ℕ → Option (List ℕ)
+session_word type =
+    if type == 0 then Some (codes "message")
+    else if type == 129 then Some (codes "request")
+    else if type == 130 then Some (codes "positive")
+    else if type == 131 then Some (codes "negative")
+    else if type == 132 then Some (codes "retarget")
+    else if type == 133 then Some (codes "keepalive")
+    else None
 
 -- ---- sets of flags
 

@@ -19,7 +19,7 @@ use nb_names::NoMemory;
 pub use noting::BriefSink;
 
 /// Adds the phrase of a payload that came to a port: what the packet is that it begins with, as a
-/// person says it, or why it begins with none. It is told to the sink, which is to be used again
+/// person says it, or why it begins with none. The sink gets its fields, and is to be used again
 /// for the next one.
 ///
 /// Port 137 is the name service, 138 the datagram service; a payload of any other port is taken for

@@ -140,6 +140,12 @@ pub const UNIT: FieldKey = FieldKey {
     lead: "    unit=",
 };
 
+/// MSG_TYPE or TYPE, where no packet has it: what a packet's front is then called by.
+pub const PACKET_TYPE: FieldKey = FieldKey {
+    name: "type",
+    lead: "type=",
+};
+
 /// The key of a datagram.
 pub const KEY: FieldKey = FieldKey {
     name: "key",

@@ -43,11 +43,13 @@ ghost use Rattle.nb_text.specs.Words.{flag, name_flags, operation_word, packet_f
 
 mod endings;
 mod first_names;
+mod fronts;
 mod phrases;
 mod responses;
 
 pub use endings::{codes_in_words, redirects_in_words, refusals_in_words, relays_in_words};
 pub use first_names::names_in_words;
+pub use fronts::{fronts_are_members, fronts_of_packets, one_front};
 use nb_datagram::laws as datagrams;
 use nb_service::laws as names;
 use nb_session::laws as sessions;

@@ -1,15 +1,16 @@
 //! A name service packet, told to a sink.
 #![tactic(auto, using(nb_telling::proofs::FoldLemmas::told_both))]
 
-ghost use Rattle.std.specs.Prelude.{◌≡◌, ℕ, List, IfOk, OnOk, codes, fold};
+ghost use Rattle.std.specs.Prelude.{◌≡◌, ◌∷◌, ℕ, List, IfOk, OnOk, codes, fold};
 ghost use Rattle.std.specs.List.{flat_map};
 ghost use Rattle.nb_service.specs.declared.question.Question.{Question as QuestionValue};
 ghost use Rattle.nb_service.specs.Code.Steps.{HasRow, RowOf};
 ghost use Rattle.nb_service.specs.Header.{header_value};
 ghost use Rattle.nb_service.specs.Packet.{HasOutline, IsPacket, QuestionAt, ServicePacket};
 ghost use Rattle.nb_telling.specs.Telling.{Grows};
+ghost use Rattle.nb_text.specs.Keys.{id_key, word_key};
 ghost use Rattle.nb_text.specs.LineFields.{list_fields};
-ghost use Rattle.nb_text.specs.ServiceFields.{count_fields, header_fields, named_fields, question_fields, service_fields, state_fields};
+ghost use Rattle.nb_text.specs.ServiceFields.{count_fields, header_fields, named_fields, question_fields, service_fields, state_fields, word_field};
 ghost use Rattle.nb_text.specs.Tells.{IsTold};
 
 use crate::faults::tell_refusal;
@@ -94,11 +95,21 @@ fn tell_header<S: Sink>(header: &Header, used: usize, sink: &mut S) -> Result<()
         ≡ fold S.after (S.seen sink.old) (header_fields (header_value header.now) used)) }
     ensures front { Grows S.is_front (S.seen sink.old) (S.seen sink.new) }
 {
-    sink.digits(ID, &header.id.to_be_bytes())?;
-    sink.digits(WORD, &header.word.to_be_bytes())?;
-    tell_state(header.word, sink)?;
+    tell_words(header, sink)?;
     tell_counts(header, sink)?;
     tell_used(used, sink)
+}
+
+/// Tells the identifier, the flag word and what that says.
+pub fn tell_words<S: Sink>(header: &Header, sink: &mut S) -> Result<(), NoMemory>
+    ensures told { OnOk result (S.seen sink.new ≡ fold S.after (S.seen sink.old)
+        (word_field id_key header.now.id ∷ word_field word_key header.now.word
+        ∷ state_fields header.now.word)) }
+    ensures front { Grows S.is_front (S.seen sink.old) (S.seen sink.new) }
+{
+    sink.digits(ID, &header.id.to_be_bytes())?;
+    sink.digits(WORD, &header.word.to_be_bytes())?;
+    tell_state(header.word, sink)
 }
 
 /// Tells what the flag word says.
@@ -115,7 +126,7 @@ fn tell_state<S: Sink>(word: u16, sink: &mut S) -> Result<(), NoMemory>
 }
 
 /// Tells how many questions, answers, authorities and additional records there are.
-fn tell_counts<S: Sink>(header: &Header, sink: &mut S) -> Result<(), NoMemory>
+pub fn tell_counts<S: Sink>(header: &Header, sink: &mut S) -> Result<(), NoMemory>
     ensures told { OnOk result (S.seen sink.new
         ≡ fold S.after (S.seen sink.old) (count_fields (header_value header.now))) }
     ensures front { Grows S.is_front (S.seen sink.old) (S.seen sink.new) }
@@ -171,7 +182,7 @@ fn tell_each_question<S: Sink>(
 }
 
 /// Tells a question.
-fn tell_question<S: Sink>(question: &Question, sink: &mut S) -> Result<(), NoMemory>
+pub fn tell_question<S: Sink>(question: &Question, sink: &mut S) -> Result<(), NoMemory>
     ensures told { OnOk result
         (S.seen sink.new ≡ fold S.after (S.seen sink.old) (question_fields question.now)) }
     ensures front { Grows S.is_front (S.seen sink.old) (S.seen sink.new) }

@@ -86,7 +86,7 @@ fn tell_standing<S: Sink>(
 }
 
 /// Tells a record, and the parts of its RDATA.
-fn tell_record<S: Sink>(lead: &str, entry: &Record<'_>, sink: &mut S) -> Result<(), NoMemory>
+pub fn tell_record<S: Sink>(lead: &str, entry: &Record<'_>, sink: &mut S) -> Result<(), NoMemory>
     ensures told { OnOk result
         (S.seen sink.new ≡ fold S.after (S.seen sink.old) (record_fields lead.now entry.now)) }
     ensures front { Grows S.is_front (S.seen sink.old) (S.seen sink.new) }

@@ -4,56 +4,25 @@ use Rattle.json.specs.Token.{Token, begin_object, end_object}
 use Rattle.json.specs.Print.{print}
 use Rattle.nb_telling.specs.Fields.{Field, Number, Text}
 use Rattle.nb_telling.specs.Members.{AreMembers, IsJson, nothing, member, both}
-use Rattle.nb_telling.specs.Tokens.{field_tokens, object_of, tokens_of}
-use Rattle.nb_telling.proofs.FoldLemmas.{and_then, appended}
+use Rattle.nb_telling.specs.Tokens.{tokens_of}
+use Rattle.nb_telling.proofs.FoldLemmas.{and_then}
 use Rattle.nb_text.specs.Keys.{kind_key}
 use Rattle.nb_text.specs.SaysPacket.{IsSaid}
 use Rattle.nb_text.specs.Tells.{IsTold, Tells}
+use Rattle.nb_text.specs.TellsFront.{TellsFront, IsFrontTold}
 use Rattle.std.specs.FinMap as maps
 use Rattle.nb_table.specs.declared.fault.TableFault.TheVariants.{NoMemory}
 use Rattle.nb_member.specs.declared.member_fault.MemberFault.{MemberFault}
 use Rattle.nb_member.specs.declared.member_fault.MemberFault.TheVariants.{Table}
 use Rattle.nb_member.specs.declared.outcome.Outcome.{Outcome}
 use Rattle.nb_member.specs.Member.{MemberValue, after_clock, contents, with_timed}
+use Rattle.nb_member.specs.ObjectLines.{IsObject}
+use Rattle.nb_member.specs.Shared.ObjectLemmas.{adds, told_object}
 use Rattle.nb_member.specs.ReportFields.{dropped_fields, passed_fields, result_fields}
 use Rattle.nb_member.specs.Taking.{Takes}
 use Rattle.nb_member.specs.declared.line.Line as capture
 use Rattle.nb_member.specs.declared.line.Line.TheVariants.{Packet, Tick}
-use Rattle.nbt.specs.Objects.{BriefFields, IsObject, ObjectOf, OutcomeFields, PacketFields, PrintsComment, TellsFields, arrival_fields, brief_key, comment_fields, comment_key, head_fields, line_key, object_line, packet, phrased, tick, ticked, dropped, passed, taken}
-
--- what a field adds to an object
-abbrev pub adds : List Token → Field → List Token
-adds tokens field = tokens ++ field_tokens field
-
--- the tokens of an object to which fields were told
-told_tokens : (old new : List Token) (fields : List Field) → old ≡ begin_object ∷ [] → new ≡ fold adds old fields
-    → new ≡ begin_object ∷ tokens_of fields
-told_tokens old new fields begun told =
-    told ∙ appended field_tokens old fields ∙ ap (λ (ts : List Token). ts ++ tokens_of fields) begun
-
--- the object, as a line
-told_line : (old new : List Token) (fields : List Field) (ended made : List ℕ) → old ≡ begin_object ∷ [] → new ≡ fold adds old fields
-    → ended ≡ print (new ++ end_object ∷ []) → made ≡ ended ++ 10 ∷ [] → made ≡ object_line fields
-told_line old new fields ended made begun told is line =
-    line ∙ ap (λ (bs : List ℕ). bs ++ 10 ∷ []) (is ∙ ap (λ (ts : List Token). print (ts ++ end_object ∷ [])) (told_tokens old new fields begun told))
-
--- it is a value
-told_json : (old new : List Token) (fields : List Field) (depth : ℕ) (ended : List ℕ) → old ≡ begin_object ∷ [] → new ≡ fold adds old fields
-    → ended ≡ print (new ++ end_object ∷ []) → AreMembers depth fields → depth ≤ 60
-    → ((d : ℕ) (fs : List Field) → AreMembers d fs → d ≤ 60 → new ≡ begin_object ∷ tokens_of fs → IsJson ended) → IsJson (object_of fields)
-told_json old new fields depth ended begun told is are low json =
-    let whole = told_tokens old new fields begun told in
-    subst IsJson (is ∙ ap (λ (ts : List Token). print (ts ++ end_object ∷ [])) whole) (json depth fields are low whole)
-
--- both
-pub told_object : (old new : List Token) (fields : List Field) (depth : ℕ) (ended made : List ℕ) → old ≡ begin_object ∷ [] → new ≡ fold adds old fields
-    → ended ≡ print (new ++ end_object ∷ []) → AreMembers depth fields → depth ≤ 60
-    → ((d : ℕ) (fs : List Field) → AreMembers d fs → d ≤ 60 → new ≡ begin_object ∷ tokens_of fs → IsJson ended) → made ≡ ended ++ 10 ∷ []
-    → IsObject fields made
-told_object old new fields depth ended made begun told is are low json line = record {
-  json = told_json old new fields depth ended begun told is are low json;
-  is = told_line old new fields ended made begun told is line;
-}
+use Rattle.nbt.specs.Objects.{BriefFields, FrontFields, in_part, of_tick, ObjectOf, OutcomeFields, PacketFields, PrintsComment, TellsFields, arrival_fields, brief_key, comment_fields, comment_key, head_fields, line_key, packet, phrased, tick, ticked, dropped, passed, taken}
 
 -- ---- what objects of lines begin with
 
@@ -143,6 +112,30 @@ pub ticked_told : {A : Type 0} (after : A → Field → A) (value : capture.Line
 ticked_told after value s t now old new said told = record {
   fields = Text kind_key (codes "tick") ∷ [];
   are = subst (λ (v : capture.Line). BriefFields v s t (Text kind_key (codes "tick") ∷ [])) (sym said) (ticked now s t);
+  depth = 2;
+  low = omega arith;
+  members = member _ tt;
+  seen = told;
+}
+
+pub front_told : {A : Type 0} (after : A → Field → A) (value : capture.Line) (s t : Unit {0}) (port moment : ℕ) (payload : List ℕ) (old new : A)
+    → value ≡ Packet port moment payload
+    → ((p : List ℕ) (n : ℕ) (fields : List Field) → TellsFront p n fields → AreMembers 2 fields)
+    → IsFrontTold after payload port old new → TellsFields (FrontFields value s t) after old new
+front_told after value s t port moment payload old new said are told = record {
+  fields = told.fields;
+  are = subst (λ (v : capture.Line). FrontFields v s t told.fields) (sym said) (in_part port moment payload s t told.fields told.tells);
+  depth = 2;
+  low = omega arith;
+  members = are payload port told.fields told.tells;
+  seen = told.seen;
+}
+
+pub of_tick_told : {A : Type 0} (after : A → Field → A) (value : capture.Line) (s t : Unit {0}) (now : ℕ) (old new : A) → value ≡ Tick now
+    → new ≡ after old (Text kind_key (codes "tick")) → TellsFields (FrontFields value s t) after old new
+of_tick_told after value s t now old new said told = record {
+  fields = Text kind_key (codes "tick") ∷ [];
+  are = subst (λ (v : capture.Line). FrontFields v s t (Text kind_key (codes "tick") ∷ [])) (sym said) (of_tick now s t);
   depth = 2;
   low = omega arith;
   members = member _ tt;

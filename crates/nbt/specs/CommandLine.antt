@@ -59,10 +59,11 @@ limited_app name = with_rule (with_rule (new_app name) keys_rule) per_source_rul
 abbrev pub name_app : App
 name_app = with_rule (with_rule (new_app (codes "name")) (flag_rule (codes "bytes"))) (value_rule (codes "VALUE"))
 
--- `show [--input-limit BYTES] [--comments] [--brief] [--json]`
+-- `show [--input-limit BYTES] [--comments] [--brief] [--partial] [--json]`
 abbrev pub show_app : App
 show_app =
-    with_rule (with_rule (with_rule (with_rule (new_app (codes "show")) input_limit_rule) (flag_rule (codes "comments"))) (flag_rule (codes "brief"))) (flag_rule (codes "json"))
+    with_rule (with_rule (with_rule (with_rule (with_rule (new_app (codes "show")) input_limit_rule) (flag_rule (codes "comments"))) (flag_rule (codes "brief")))
+    (flag_rule (codes "partial"))) (flag_rule (codes "json"))
 
 -- `build [--broadcast] WHAT ARG..`
 abbrev pub build_app : App

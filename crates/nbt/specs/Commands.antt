@@ -13,6 +13,7 @@ use Rattle.nb_member.specs.Member.{MemberValue}
 use Rattle.nb_table.specs.Contents.{Contents}
 use Rattle.nb_telling.specs.Fields.{Field}
 use Rattle.nb_text.specs.Shown.{Shown}
+use Rattle.nb_text.specs.TellsFront.{ShowsFront}
 use Rattle.nbt.specs.declared.fault.Fault.{Fault}
 use Rattle.nbt.specs.declared.fault.Fault.TheVariants.{Arguments, Read, Write}
 use Rattle.nbt.specs.declared.settings.Capacity.{Capacity}
@@ -28,8 +29,9 @@ use Rattle.nbt.specs.Replaying.{AreTexts, Begins, IsReplay, IsUnbegun, ReplaysCa
 use Rattle.nbt.specs.SaveFaults.{SaveFails}
 use Rattle.nbt.specs.Saved.{saved_line}
 use Rattle.nbt.specs.Saving.{SavesCapture}
-use Rattle.nbt.specs.Settings.{AreOptions, AsksBrief, AsksJson, AsksText, AsksWhole, IsCapacity, IsInputLimit, IsListed}
-use Rattle.nbt.specs.Objects.{BriefFields, ObjectSaid, OutcomeFields, PacketFields, listed_objects}
+use Rattle.nbt.specs.Settings.{AreOptions, AsksBrief, AsksFronts, AsksJson, AsksPackets, AsksText, AsksWhole, IsCapacity, IsInputLimit, IsListed}
+use Rattle.nb_member.specs.ObjectLines.{listed_objects}
+use Rattle.nbt.specs.Objects.{BriefFields, FrontFields, ObjectSaid, OutcomeFields, PacketFields}
 use Rattle.nbt.specs.Showing.{IsBrief, PayloadText, ShowsCapture, ShowsLine, TellsLine}
 use Rattle.nbt.specs.Tables.{CompareFails, ComparesTables, FailsOn, PrintsJoin, Tells, TellsFront}
 
@@ -73,10 +75,16 @@ pub record ShowsAs {S : Type 0} (IsText : PayloadText) (AreFields : Line → S �
   pub json : AsksJson matches → ShowsCapture (AreOptions matches) (λ options. TellsLine (ObjectSaid AreFields options.comments)) ([], first) s.old_in s.new_in s.reads s.reads_after s.old_out s.new_out result
   pub why : WritesShow s result
 
+-- options that do not go together are refused, and nothing is read or printed
+abbrev pub IsUnshown : Streams → Result Unit Fault → Type 0
+IsUnshown s result = (result ≡ Err Arguments) × Keeps s.old_in s.new_in × Keeps s.old_out s.new_out
+
 -- `nbt show`
 pub record ShowCommand (matches : ArgMatches) (s : Streams) (result : Result Unit Fault) : Type 0 where
-  pub whole : AsksWhole matches → ShowsAs Shown PacketFields tt matches s result
-  pub brief : AsksBrief matches → ShowsAs IsBrief BriefFields tt matches s result
+  pub whole : AsksWhole matches → AsksPackets matches → ShowsAs Shown PacketFields tt matches s result
+  pub brief : AsksBrief matches → AsksPackets matches → ShowsAs IsBrief BriefFields tt matches s result
+  pub fronts : AsksWhole matches → AsksFronts matches → ShowsAs ShowsFront FrontFields tt matches s result
+  pub both : AsksBrief matches → AsksFronts matches → IsUnshown s result
   pub why : WritesShow s result
 
 -- why a replay doesn't begin: nothing is read or printed then

@@ -30,6 +30,10 @@ fault_text Read = codes "read"
 fault_text Write = codes "write"
 fault_text Memory = codes "memory"
 
+-- the line of a fault
+abbrev pub fault_line : Fault → List ℕ
+fault_line fault = codes "nbt: " ++ (fault_text fault ++ codes "\n")
+
 -- the exit status that goes with a fault: 3 where a device or memory failed
 abbrev pub status_of : Fault → Status
 status_of (Text fault) = Refused

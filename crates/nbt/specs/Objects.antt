@@ -2,16 +2,14 @@
 use Rattle.std.specs.Prelude.{◌≡◌, ◌≢◌, ◌≤◌, ◌+◌, ℕ, Bool, true, false, List, [], ◌∷◌, ◌++◌, codes, Option, Some, None, Result, Err, fold}
 use Rattle.std.specs.FinMap as maps
 use Rattle.std.specs.List.{flat_map}
-use Rattle.nb_datagram.specs.declared.key.Key.{Key}
 use Rattle.nb_table.specs.Contents.{Contents}
 use Rattle.nb_table.specs.declared.fault.TableFault.TheVariants.{NoMemory}
 use Rattle.nb_telling.specs.Fields.{Field, FieldKey, Text, Number}
-use Rattle.nb_telling.specs.Members.{AreMembers, IsJson}
-use Rattle.nb_telling.specs.Tokens.{object_of}
+use Rattle.nb_telling.specs.Members.{AreMembers}
 use Rattle.nb_text.specs.Keys.{kind_key}
-use Rattle.nb_text.specs.Lines.{line_end}
 use Rattle.nb_text.specs.SaysPacket.{IsSaid}
 use Rattle.nb_text.specs.Tells.{Tells}
+use Rattle.nb_text.specs.TellsFront.{TellsFront}
 use Rattle.nb_member.specs.declared.comments.Comments.{Comments}
 use Rattle.nb_member.specs.declared.comments.Comments.TheVariants.{LeftOut, Printed}
 use Rattle.nb_member.specs.declared.line.Line as capture
@@ -23,7 +21,7 @@ use Rattle.nb_member.specs.Comments.{byte_text}
 use Rattle.nb_member.specs.Member.{MemberValue, after_clock, contents, with_timed}
 use Rattle.nb_member.specs.Taking.{Takes}
 use Rattle.nb_member.specs.Listing.{listing}
-use Rattle.nb_member.specs.ListingFields.{key_fields}
+use Rattle.nb_member.specs.ObjectLines.{IsObject, listed_objects}
 use Rattle.nb_member.specs.ReportFields.{dropped_fields, passed_fields, result_fields}
 
 -- ---- what objects of lines begin with
@@ -62,10 +60,6 @@ arrival_fields (Tick now) = Number moment_key now ∷ []
 abbrev pub head_fields : ℕ → capture.Line → List ℕ → List Field
 head_fields n value comment = Number line_key n ∷ (arrival_fields value ++ comment_fields comment)
 
--- an object with these members as a line
-abbrev pub object_line : List Field → List ℕ
-object_line fields = object_of fields ++ line_end
-
 -- ---- what is told of a line
 
 -- the fields that `show` tells; nothing is left from line to line
@@ -84,6 +78,12 @@ pub data BriefFields : capture.Line → Unit {0} → Unit {0} → List Field →
       → BriefFields (Packet port moment payload) s t (Text brief_key phrase ∷ fields)
   ticked : (now : ℕ) (s t : Unit {0}) → BriefFields (Tick now) s t (Text kind_key (codes "tick") ∷ [])
 
+-- the fields that `show` tells with what still stands at the fronts of payloads
+pub data FrontFields : capture.Line → Unit {0} → Unit {0} → List Field → Type 0 where
+  in_part : (port moment : ℕ) (payload : List ℕ) (s t : Unit {0}) (fields : List Field) → TellsFront payload port fields
+      → FrontFields (Packet port moment payload) s t fields
+  of_tick : (now : ℕ) (s t : Unit {0}) → FrontFields (Tick now) s t (Text kind_key (codes "tick") ∷ [])
+
 -- the fields that `replay` tells, by what its member m makes of the line; it becomes new. That memory ran out in it isn't told
 pub data OutcomeFields : capture.Line → MemberValue → MemberValue → List Field → Type 0 where
   dropped : (now keys : ℕ) (m new : MemberValue) → new ≡ with_timed m (after_clock m.timed now)
@@ -101,11 +101,6 @@ pub record TellsFields {A : Type 0} (AreFields : List Field → Type 0) (after :
   pub low : depth ≤ 60
   pub members : AreMembers depth fields
   pub seen : new ≡ fold after old fields
-
--- IsObject fields text: the text is the object with these members as a line, one value of RFC 8259
-pub record IsObject (fields : List Field) (text : List ℕ) : Type 0 where
-  pub json : IsJson (object_of fields)
-  pub is : text ≡ object_line fields
 
 -- ObjectOf AreFields n value comment text: the object of line n, which says this, after this comment
 pub record ObjectOf (AreFields : List Field → Type 0) (n : ℕ) (value : capture.Line) (comment text : List ℕ) : Type 0 where
@@ -136,15 +131,6 @@ ObjectSaid AreFields comments n l (Some value) old new text =
     ObjectOf (AreFields value old.1 new.1) n value old.0 text × (new.0 ≡ [])
 
 -- ---- keys of a table
-
--- objects of such keys, in order
-abbrev pub key_objects : Contents → List Key → List ℕ
-key_objects t [] = []
-key_objects t (k ∷ ks) = object_line (key_fields t k) ++ key_objects t ks
-
--- those of all keys of a table, ascending
-abbrev pub listed_objects : Contents → List ℕ
-listed_objects t = key_objects t (maps.keys t)
 
 -- listed_as json: what is printed of a table: its objects, or its lines
 abbrev pub listed_as : Bool → Contents → List ℕ

@@ -63,6 +63,14 @@ AsksWhole matches = one_text (found_of matches) (codes "brief") ≡ Some (codes 
 abbrev pub AsksBrief : ArgMatches → Type 0
 AsksBrief matches = one_text (found_of matches) (codes "brief") ≡ Some (codes "true")
 
+-- the matches hold that `--partial` isn't given
+abbrev pub AsksPackets : ArgMatches → Type 0
+AsksPackets matches = one_text (found_of matches) (codes "partial") ≡ Some (codes "false")
+
+-- the matches hold that `--partial` is given
+abbrev pub AsksFronts : ArgMatches → Type 0
+AsksFronts matches = one_text (found_of matches) (codes "partial") ≡ Some (codes "true")
+
 -- AreComments matches comments: comments are printed where the matches hold `true` for `--comments`, and left out where
 -- they hold `false` or nothing
 pub record AreComments (matches : ArgMatches) (comments : Comments) : Type 0 where

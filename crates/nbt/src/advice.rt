@@ -32,7 +32,7 @@ pub fn asked<'a>(refusals: &'a [Refusal], words: &[String]) -> Option<&'a Refusa
 
 /// The refusal with this text: the words alone, or as the program prints them, in a line of its own
 /// or of a report.
-fn refusal_of<'a>(refusals: &'a [Refusal], text: &str) -> Option<&'a Refusal>
+pub fn refusal_of<'a>(refusals: &'a [Refusal], text: &str) -> Option<&'a Refusal>
     ensures known { IfSome result (λ refusal. Contains refusals.now refusal.now) }
     ensures unknown { IfNone result (HasNone text.now refusals.now) }
     ensures same { HasNone text.now refusals.now

@@ -18,6 +18,9 @@ const COMMENTS: &str = "Print the comments of the capture, each in its place";
 /// What the help says of `--brief`.
 const BRIEF: &str = "Print a phrase for each packet: who asks, claims, answers or sends what";
 
+/// What the help says of `--partial`.
+const PARTIAL: &str = "Print what still stands of packets that are refused or cut";
+
 /// What the help says of `--json`.
 const JSON: &str = "Print JSON: an object for each line, in a line of its own";
 
@@ -88,7 +91,7 @@ fn name_command<'a>(alloc: Global) -> Result<Command<'a>, AllocError>
     taking(taking(Ok(name), bytes), value)
 }
 
-/// `show [--input-limit BYTES] [--comments] [--brief] [--json]`.
+/// `show [--input-limit BYTES] [--comments] [--brief] [--partial] [--json]`.
 fn show_command<'a>(alloc: Global) -> Result<Command<'a>, AllocError>
     ensures app { IfOk result (λ command. app_of command ≡ show_app) }
     ensures local { IfOk result (λ command. (fields_of command).has_globals ≡ false) }
@@ -104,6 +107,7 @@ fn show_command<'a>(alloc: Global) -> Result<Command<'a>, AllocError>
         flag(alloc, "comments", COMMENTS),
     );
     let show = taking(show, flag(alloc, "brief", BRIEF));
+    let show = taking(show, flag(alloc, "partial", PARTIAL));
     taking(show, flag(alloc, "json", JSON))
 }
 

@@ -7,7 +7,7 @@ pub const STATUSES: &str =
      device failed or memory ran out.{n}With 1 and 3 one line, `nbt: ` and the reason, goes \
      to standard error.{n}`nbt help REASON`, as in `nbt help 'bad text 4'`, prints what it means \
      and what to do \
-     then.";
+     then; on a terminal it comes by itself.";
 
 /// The form of a name, and how the program ends.
 pub const NAME_HELP: &str =

@@ -6,10 +6,16 @@ mod clap_answer;
 mod command_line;
 mod commands;
 mod differences;
+mod errors;
 mod fault;
 mod flushing;
+mod forms;
+mod front;
+mod fronts;
 mod help;
+mod hints;
 mod joining_input;
+mod mistakes;
 mod objects;
 mod output;
 mod payload_text;
@@ -23,23 +29,38 @@ mod subcommand;
 mod tables;
 mod telling;
 
+use crate::errors::{Audience, Errors};
 use crate::fault::Fault;
 use crate::flushing::{FlushingInput, SharedOutput};
+use crate::front::{Front, FrontInput};
 use crate::output::Output;
 use crate::program::{report, run};
 use nb_names::Counted;
 use std::alloc::Global;
-use std::cell::RefCell;
+use std::cell::{Cell, RefCell};
 use std::env;
-use std::io::{BufWriter, ErrorKind, Write};
+use std::io::{BufWriter, ErrorKind, IsTerminal, Read, Write};
 use std::process::ExitCode;
 
 fn main(rt: HostRuntime) -> ExitCode {
-    let code = match run_buffered(&rt) {
+    let front = Cell::new(Front::unread());
+    let code = match run_buffered(&rt, &front) {
         Ok(code) => code,
-        Err(fault) => report(Err(fault), &mut Output::new(rt.stderr())).code(),
+        Err(fault) => {
+            let mut errors = Errors::new(rt.stderr(), audience_of(&rt, &front));
+            report(rt.alloc(), Err(fault), &mut errors).code()
+        }
     };
     ExitCode::from(code)
+}
+
+/// Who reads standard error: a person where it is a terminal.
+fn audience_of<'a>(rt: &HostRuntime, front: &'a Cell<Front>) -> Audience<'a> {
+    if rt.stderr().is_terminal() {
+        Audience::Person(front)
+    } else {
+        Audience::Programs
+    }
 }
 
 /// Runs the program over the streams of its process. What it prints goes through buffers of fixed
@@ -50,11 +71,13 @@ fn main(rt: HostRuntime) -> ExitCode {
 ///
 /// Those of [`words_of`], [`Fault::Memory`] where there is no memory for a buffer, and
 /// [`Fault::Write`] where what was printed can't be written out: this is then reported alone.
-fn run_buffered(rt: &HostRuntime) -> Result<u8, Fault> {
+fn run_buffered(rt: &HostRuntime, front: &Cell<Front>) -> Result<u8, Fault> {
     let words = words_of(rt)?;
     let printed = RefCell::new(buffered(rt.alloc(), rt.stdout())?);
-    let mut errors = Output::new(buffered(rt.alloc(), rt.stderr())?);
-    let answer = run_flushing(rt, words.as_slice(), &printed, &mut errors);
+    let stderr = buffered(rt.alloc(), rt.stderr())?;
+    let mut errors = Errors::new(stderr, audience_of(rt, front));
+    let input = FrontInput::new(rt.stdin(), front);
+    let answer = run_flushing(rt, words.as_slice(), input, &printed, &mut errors);
     let mut errors = errors.into_inner();
     let mut output = printed.into_inner();
     let shown = match answer {
@@ -70,19 +93,19 @@ fn run_buffered(rt: &HostRuntime) -> Result<u8, Fault> {
     shown
 }
 
-/// Runs the program over the input of its process, before each read of which the output in the cell
-/// is flushed.
+/// Runs the program over this input, before each read of which the output in the cell is flushed.
 ///
 /// # Errors
 ///
 /// [`Fault::Write`] where such a flush failed.
-fn run_flushing<W: Write, E: Write>(
+fn run_flushing<R: Read + Drop, W: Write, E: Write>(
     rt: &HostRuntime,
     words: &[String],
+    input: R,
     printed: &RefCell<W>,
-    errors: &mut Output<E>,
+    errors: &mut Errors<'_, E>,
 ) -> Result<u8, Fault> {
-    let mut input = Counted::new(FlushingInput::new(rt.stdin(), printed));
+    let mut input = Counted::new(FlushingInput::new(input, printed));
     let mut output = Output::new(SharedOutput::new(printed));
     let status = run(rt.alloc(), words, &mut input, &mut output, errors);
     if input.into_inner().flush_failed() {

@@ -20,7 +20,9 @@ use crate::commands::name::run_name;
 use crate::commands::replay::run_replay;
 use crate::commands::save::run_save;
 use crate::commands::show::run_show;
+use crate::errors::{Audience, Errors};
 use crate::fault::Fault;
+use crate::hints::{print_hint, print_mistake};
 use crate::output::Output;
 use crate::refusals::refusals;
 use crate::status::Status;
@@ -43,7 +45,7 @@ pub fn run<R: Read, W: Write, E: Write>(
     words: &[String],
     input: &mut Counted<R>,
     output: &mut Output<W>,
-    errors: &mut Output<E>,
+    errors: &mut Errors<'_, E>,
 ) -> Status
     // Words that are a command with its own options and arguments, as clap takes them.
     ensures ran { takes nbt_app (map string_bytes words.now) ≡ true →
@@ -53,16 +55,22 @@ pub fn run<R: Read, W: Write, E: Write>(
     ensures alone { AreAlone (map string_bytes words.now) → result ≢ Status.BadUsage }
     ensures usage { result ≡ Status.BadUsage →
         Keeps (W.contents output.old.inner) (W.contents output.new.inner) }
+    // Where all was done, standard error is as it was, but for a person.
+    ensures quiet { result ≡ Status.Done → errors.old.audience ≡ Audience.Programs →
+        errors.new ≡ errors.old }
 {
     if let Some(refusal) = asked(refusals(), words) {
-        return report(done(print_advice(alloc, refusal, output)), errors);
+        return report(alloc, done(print_advice(alloc, refusal, output)), errors);
     }
     match command(alloc) {
         Ok(command) => match command.try_get_matches_from(words) {
-            Ok(matches) => report(run_command(alloc, &matches, input, output), errors),
+            Ok(matches) => {
+                let outcome = run_command(alloc, &matches, input, output, errors);
+                report_run(alloc, &matches, outcome, errors)
+            }
             Err(error) => report_unmatched(alloc, words, &error, output, errors),
         },
-        Err(_) => report(Err(Fault::Memory), errors),
+        Err(_) => report(alloc, Err(Fault::Memory), errors),
     }
 }
 
@@ -71,11 +79,12 @@ pub fn run<R: Read, W: Write, E: Write>(
 /// # Errors
 ///
 /// Those of the subcommand, and [`Fault::Arguments`] where the words name none.
-fn run_command<R: Read, W: Write>(
+fn run_command<R: Read, W: Write, E: Write>(
     alloc: Global,
     matches: &ArgMatches<'_>,
     input: &mut Counted<R>,
     output: &mut Output<W>,
+    errors: &mut Errors<'_, E>,
 ) -> Result<Status, Fault>
     ensures ran { Ran matches.now (streams R.remaining W.contents
         input.old input.new output.old output.new) result }
@@ -83,6 +92,7 @@ fn run_command<R: Read, W: Write>(
     ensures unread { ¬ DoesRead (subcommand_name_of matches.now) → input.new ≡ input.old }
     ensures why { IfErr result (λ fault. fault ≡ Fault.Write →
         ShowsWriteFault output.old.counts output.new.counts) }
+    ensures quiet { errors.old.audience ≡ Audience.Programs → errors.new ≡ errors.old }
 {
     let Some((word, matches)) = matches.subcommand() else {
         return Err(Fault::Arguments);
@@ -95,7 +105,7 @@ fn run_command<R: Read, W: Write>(
         Subcommand::Show => done(run_show(alloc, matches, input, output)),
         Subcommand::Build => done(run_build(alloc, matches, output)),
         Subcommand::Replay => done(run_replay(alloc, matches, input, output)),
-        Subcommand::Save => done(run_save(alloc, matches, input, output)),
+        Subcommand::Save => done(run_save(alloc, matches, input, output, errors)),
         Subcommand::Merge => done(run_merge(alloc, matches, input, output)),
         Subcommand::List => done(run_list(alloc, matches, input, output)),
         Subcommand::Agree => run_agree(alloc, matches, input, output),
@@ -112,16 +122,44 @@ fn done(outcome: Result<(), Fault>) -> Result<Status, Fault>
     }
 }
 
-/// The status with which a command ended. Its fault, if it has one, goes to `errors` as a line.
-pub fn report<E: Write>(outcome: Result<Status, Fault>, errors: &mut Output<E>) -> Status
+/// The status with which the command that these words name ended, as [`report`] has it. Where they
+/// are a bad packet's, a person is told which of them is wrong.
+fn report_run<E: Write>(
+    alloc: Global,
+    matches: &ArgMatches<'_>,
+    outcome: Result<Status, Fault>,
+    errors: &mut Errors<'_, E>,
+) -> Status
+    ensures value { result ≡ status_after outcome }
+    ensures quiet { result ≡ Status.Done → errors.new ≡ errors.old }
+{
+    match outcome {
+        Err(Fault::Arguments) => {
+            let _ = errors.print_fault(Fault::Arguments);
+            print_mistake(alloc, matches, errors);
+            Status::Refused
+        }
+        _ => report(alloc, outcome, errors),
+    }
+}
+
+/// The status with which a command ended. Its fault, if it has one, goes to `errors` as a line; a
+/// person is told what to do then in a second one.
+pub fn report<E: Write>(
+    alloc: Global,
+    outcome: Result<Status, Fault>,
+    errors: &mut Errors<'_, E>,
+) -> Status
     ensures value { result ≡ status_after outcome }
     ensures no_usage { IfOk outcome (λ status. status ≢ Status.BadUsage)
         → result ≢ Status.BadUsage }
+    ensures quiet { result ≡ Status.Done → errors.new ≡ errors.old }
 {
     match outcome {
         Ok(status) => status,
         Err(fault) => {
-            let _ = writeln!(errors, "nbt: {fault}");
+            let _ = errors.print_fault(fault);
+            print_hint(alloc, fault, errors);
             fault.status()
         }
     }
@@ -134,18 +172,19 @@ fn report_unmatched<W: Write, E: Write>(
     words: &[String],
     error: &Error,
     output: &mut Output<W>,
-    errors: &mut Output<E>,
+    errors: &mut Errors<'_, E>,
 ) -> Status
-    ensures { Reports (answer_to (kind_of error.now)) result
+    ensures reports { Reports (answer_to (kind_of error.now)) result
         (W.contents output.old.inner) (W.contents output.new.inner) }
+    ensures quiet { result ≡ Status.Done → errors.new ≡ errors.old }
 {
     match ClapAnswer::to(error.kind()) {
-        ClapAnswer::Asked => report(done(print_help(alloc, words, error, output)), errors),
+        ClapAnswer::Asked => report(alloc, done(print_help(alloc, words, error, output)), errors),
         ClapAnswer::Misused => {
-            let _ = write!(errors, "{error}");
+            let _ = write!(errors.output, "{error}");
             Status::BadUsage
         }
-        ClapAnswer::NoMemory => report(Err(Fault::Memory), errors),
+        ClapAnswer::NoMemory => report(alloc, Err(Fault::Memory), errors),
     }
 }
 

@@ -136,9 +136,9 @@ const REFUSALS: [Refusal; 29] = [
     Refusal {
         words: "arguments",
         number: "",
-        by: &["build"],
-        advice: "no such packet, or other fields: `nbt build --help` lists them, as in `nbt \
-                 build query 0003 'FRED<20>'`",
+        by: &["show", "build"],
+        advice: "no packet of `nbt build --help`, as `nbt build query 0003 'FRED<20>'` is; or \
+                 --brief together with --partial",
     },
     Refusal {
         words: "zero piece",

@@ -1,6 +1,6 @@
 //! What the program's members and tables are set up with.
 ghost use Rattle.std.specs.Prelude.{◌≡◌, Bool, true, false, IfOk, IfErr};
-ghost use Rattle.nbt.specs.Settings.{AreComments, AreOptions, AsksBrief, AsksJson, AsksText, AsksWhole, HasNoCapacity, IsCapacity, IsInputLimit, IsListed, program_settings};
+ghost use Rattle.nbt.specs.Settings.{AreComments, AreOptions, AsksBrief, AsksFronts, AsksJson, AsksPackets, AsksText, AsksWhole, HasNoCapacity, IsCapacity, IsInputLimit, IsListed, program_settings};
 
 use crate::fault::Fault;
 use clap::ArgMatches;
@@ -71,6 +71,14 @@ pub fn is_brief(matches: &ArgMatches<'_>) -> bool
     ensures brief { AsksBrief matches.now → result ≡ true }
 {
     matches.get_flag("brief")
+}
+
+/// Whether `--partial` is given.
+pub fn is_partial(matches: &ArgMatches<'_>) -> bool
+    ensures packets { AsksPackets matches.now → result ≡ false }
+    ensures fronts { AsksFronts matches.now → result ≡ true }
+{
+    matches.get_flag("partial")
 }
 
 /// Whether comments are printed: where `--comments` is given.

@@ -89,7 +89,7 @@ export class Names {
         if (service.op === 'query' && !isConflict) return;
         const claim = this.claims.entries.get(`${name} ${ends.destination}`);
         if (claim && !isConflict) {
-            claim.how = 'refused';
+            Object.assign(claim, { how: 'refused', until: null });
             claim.refusals += 1;
             return;
         }

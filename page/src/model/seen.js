@@ -6,6 +6,11 @@ import { Room } from './room.js';
 import { Sessions } from './sessions.js';
 import { Stations } from './stations.js';
 
+/** The packets that carry a datagram, or a piece of one. */
+const PIECES = new Set(['unique', 'group', 'broadcast']);
+/** As many keys as a station of the page has. */
+const MOST_KEYS = 65_535;
+
 /**
  * Where a packet stands in the file, and who sent it to whom.
  *
@@ -36,6 +41,11 @@ export class Seen {
         this.refused = new Room();
         /** @type {Room<Loss>} */
         this.leftOut = new Room();
+        /**
+         * The frame in which the first piece of a datagram came, by its key.
+         * @type {Room<number>}
+         */
+        this.firsts = new Room(MOST_KEYS);
     }
 
     /**
@@ -46,6 +56,7 @@ export class Seen {
     take(told, brief, ends) {
         this.packets += 1;
         if (told.refused !== undefined) this.refuse(told.refused, told.at ?? null, ends.frame);
+        else if (told.key !== undefined && PIECES.has(told.kind ?? '')) this.firsts.get(told.key, () => ends.frame);
         this.stations.take(told, ends);
         this.sessions.take(told, brief, ends);
         const service = serviceOf(told);

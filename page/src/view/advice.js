@@ -1,5 +1,8 @@
 /** What `nbt help` says of a refusal: the words, and what to do then. */
 
+/** Stands in a line for the place of the fault. */
+const PLACE = /\bAT\b/g;
+
 export class Advice {
     /** @param {string[]} lines each as `WORDS AT: advice` or `WORDS: advice` */
     constructor(lines) {
@@ -7,12 +10,26 @@ export class Advice {
     }
 
     /**
-     * The line of a refusal; an empty text where there is none.
+     * What to do about a refusal; an empty text where nothing is said of it.
      *
      * @param {string} refused as `source name: not netbios 3`
      */
     of(refused) {
-        const words = refused.replace(/ \d+$/, '').replace(/^.*: /, '');
-        return this.lines.find((line) => line.startsWith(`${words}: `) || line.startsWith(`${words} AT: `)) ?? '';
+        const [, words, place] = /** @type {RegExpExecArray} */ (/^(?:.*: )?(.*?)(?: (\d+))?$/s.exec(refused));
+        const starts = [`${words}: `, `${words} AT: `];
+        for (const line of this.lines) {
+            const start = starts.find((each) => line.startsWith(each));
+            if (start) return line.slice(start.length).replace(PLACE, place ?? 'there');
+        }
+        return '';
     }
+}
+
+/**
+ * A refusal with its place in words.
+ *
+ * @param {string} refused
+ */
+export function placed(refused) {
+    return refused.replace(/ (\d+)$/, ', at byte $1');
 }

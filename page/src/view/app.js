@@ -26,6 +26,7 @@ const PATIENCE = 2_000;
  * @property {import('./desk.js').Counts} counts
  * @property {boolean} isRead
  * @property {string | null} fault
+ * @property {number} incomplete how many keys lack a piece
  */
 
 export class App {
@@ -38,6 +39,9 @@ export class App {
         this.desk = new Desk(code, module, (news) => this.hear(news));
         /** @type {(Tap | null)[]} */
         this.taps = [null, null];
+        /** The files that are being read. @type {Map<number, Tap>} */
+        this.coming = new Map();
+        this.opened = 0;
         this.place = placeOf();
         this.panel = new PacketPanel(new Advice(advice));
         this.packets = new PacketsView(this);
@@ -46,6 +50,7 @@ export class App {
         };
         addEventListener('hashchange', () => this.go());
         byId('stop', HTMLButtonElement).addEventListener('click', () => this.stop());
+        byId('to-packets', HTMLAnchorElement).addEventListener('click', () => this.place.view === 'packets' && this.focus());
         byId('tap', HTMLSelectElement).addEventListener('change', (event) =>
             this.move({ tap: Number(/** @type {HTMLSelectElement} */ (event.target).value), frame: 0, packet: 1 }));
         this.desk.loaded?.catch((error) => this.complain(error.message));
@@ -81,54 +86,82 @@ export class App {
     async open(file, name, number) {
         const counts = { frames: 0, packets: 0, refused: 0, leftOut: 0, names: 0, conflicts: 0 };
         /** @type {Tap} */
-        const tap = { name, size: file.size, kind: 'frames', rows: new Rows(), first: null, counts, isRead: false, fault: null };
+        const tap = { name, size: file.size, kind: 'frames', rows: new Rows(), first: null, counts, isRead: false, fault: null, incomplete: 0 };
+        const earlier = { tap: this.taps[number], place: this.place };
         this.taps[number] = tap;
+        this.opened += 1;
+        const { opened } = this;
+        this.coming.set(opened, tap);
         const frame = this.place.tap === number ? this.place : { frame: 0, packet: 1 };
         this.keep({ tap: number, frame: frame.frame, packet: frame.packet });
         byId('message', HTMLElement).hidden = true;
         this.show();
         try {
             await this.desk.loaded;
-            const end = await this.desk.ask('open', { tap: number, file, name });
+            const end = await this.desk.ask('open', { tap: number, opened, file, name });
             Object.assign(tap, { fault: end.fault, kind: end.kind, counts: end.counts, first: end.first });
         } catch (error) {
             tap.fault = error instanceof Error ? error.message : String(error);
         }
-        if (this.taps[number] === tap) await this.read(tap, number);
+        tap.isRead = true;
+        this.coming.delete(opened);
+        if (this.taps[number] !== tap) return;
+        if (tap.fault) this.complain(`${tap.name}: ${tap.fault}`);
+        if (tap.fault && !tap.rows.count) {
+            await this.putBack(earlier, number);
+            return;
+        }
+        this.countKeys(tap, number);
+        await this.read(tap);
+    }
+
+    /**
+     * Counts the keys that lack a piece; where that can't be done the view of reassembly says why.
+     *
+     * @param {Tap} tap
+     * @param {number} number
+     */
+    async countKeys(tap, number) {
+        tap.incomplete = await this.desk.ask('incomplete', { tap: number }).catch(() => 0);
+        this.head();
+    }
+
+    /**
+     * A file can't be read at all: what was open before it stays.
+     *
+     * @param {{tap: Tap | null, place: import('./address.js').Place}} earlier
+     * @param {number} number
+     */
+    async putBack({ tap, place }, number) {
+        this.taps[number] = tap;
+        if (this.place.tap === number && this.taps[place.tap]) this.keep({ tap: place.tap, frame: place.frame, packet: place.packet });
+        else if (this.place.tap === number) this.keep({ tap: this.taps[0] ? 0 : this.taps[1] ? 1 : 0, frame: 0 });
+        this.show();
+        if (!this.tap) return;
+        this.tellOf(this.tap);
+        if (this.place.frame) await this.packets.select(this.place.frame, this.place.packet);
     }
 
     /**
      * A file is read to its end, or to where it can't be read.
      *
      * @param {Tap} tap
-     * @param {number} number
      */
-    async read(tap, number) {
-        tap.isRead = true;
-        if (tap.fault) this.complain(`${tap.name}: ${tap.fault}`);
-        const isNothing = !tap.rows.count && tap.kind !== 'table';
-        if (tap.fault && isNothing) {
-            this.taps[number] = null;
-            if (this.place.tap === number) this.keep({ tap: this.taps[0] ? 0 : this.taps[1] ? 1 : 0, frame: 0 });
-            this.show();
-            return;
-        }
+    async read(tap) {
         this.progress(null);
         if (tap === this.tap) {
             await this.packets.refilter();
             if (this.place.frame) await this.packets.select(this.place.frame, this.place.packet);
         }
-        const { packets, refused, leftOut } = tap.counts;
-        this.tell(tap.kind === 'table' ? `${tap.name} is a saved table` :
-            `${tap.name}: ${counted(packets, 'packet')}, ${refused} refused, ${leftOut} left out`);
+        this.tellOf(tap);
         if (tap.kind === 'table' && this.place.view === 'packets') this.move({ view: 'reassembly' });
         else this.show(false);
     }
 
     /** @param {import('./desk.js').News} news */
     hear(news) {
-        const tap = this.taps[news.tap];
-        if (!tap || tap.isRead) return;
+        const tap = this.coming.get(news.opened);
+        if (!tap) return;
         if (tap.first === null && news.rows.time.length) tap.first = news.rows.time[0];
         tap.rows.add(news.rows);
         tap.counts = news.counts;
@@ -191,7 +224,12 @@ export class App {
         if (this.place.frame && (isOther || this.place.frame !== frame || this.place.packet !== packet)) {
             this.packets.select(this.place.frame, this.place.packet);
         }
-        if (view !== this.place.view) byId(`view-${this.place.view}`, HTMLElement).focus({ preventScroll: true });
+        if (view !== this.place.view) this.focus();
+    }
+
+    /** What the keys are for: the list of packets, or else the view. */
+    focus() {
+        byId(this.place.view === 'packets' ? 'grid' : `view-${this.place.view}`, HTMLElement).focus({ preventScroll: true });
     }
 
     /** @param {boolean} isOther whether the packets are of another file */
@@ -227,13 +265,24 @@ export class App {
             counts.replaceChildren(...parts.flatMap(([count, word], at) => [at ? ' · ' : '',
                 element('b', { class: count && at > 1 ? 'bad' : null }, number(Number(count))), ` ${word}`]));
         }
-        const conflicts = tap?.counts.conflicts ?? 0;
-        const link = byId('to-names', HTMLAnchorElement);
-        const words = conflicts ? `Names ${number(conflicts)}` : 'Names';
-        if (link.textContent !== words) {
-            link.replaceChildren('Names', ...(conflicts ? [' ', element('b', { title: counted(conflicts, 'conflict') }, number(conflicts))] : []));
-        }
+        const { incomplete = 0, counts: { conflicts } = { conflicts: 0 } } = tap ?? {};
+        this.badge('names', 'Names', conflicts, counted(conflicts, 'conflict'));
+        this.badge('reassembly', 'Reassembly', incomplete, `${counted(incomplete, 'key')} incomplete`);
         this.choice();
+    }
+
+    /**
+     * What is counted, beside the name of a view.
+     *
+     * @param {string} view
+     * @param {string} name
+     * @param {number} count
+     * @param {string} title
+     */
+    badge(view, name, count, title) {
+        const link = byId(`to-${view}`, HTMLAnchorElement);
+        if (link.textContent === (count ? `${name} ${number(count)}` : name)) return;
+        link.replaceChildren(name, ...(count ? [' ', element('b', { title }, number(count))] : []));
     }
 
     /** Which of two files is looked at. */
@@ -256,6 +305,11 @@ export class App {
         message.hidden = false;
         say(byId('words-of-message', HTMLElement), words.replace(/\s+/g, ' '));
         byId('reading', HTMLElement).classList.toggle('idle', true);
+    }
+
+    /** @param {Tap} tap */
+    tellOf({ name, kind, counts: { packets, refused, leftOut } }) {
+        this.tell(kind === 'table' ? `${name} is a saved table` : `${name}: ${counted(packets, 'packet')}, ${refused} refused, ${leftOut} left out`);
     }
 
     /** @param {string} words what is heard, where the page is read aloud */

@@ -4,7 +4,7 @@
  * What comes while a file is read.
  *
  * @typedef {object} News
- * @property {number} tap
+ * @property {number} opened which of the files that were opened
  * @property {number} done how many bytes are read
  * @property {number} size
  * @property {import('../model/packets.js').Rows} rows

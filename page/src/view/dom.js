@@ -43,6 +43,15 @@ export function say(node, text) {
 }
 
 /**
+ * A text whose words between backquotes are code.
+ *
+ * @param {string} text
+ */
+export function withCode(text) {
+    return text.split('`').map((part, at) => (at % 2 ? element('code', {}, part) : part));
+}
+
+/**
  * A table, of which only the first rows are shown until more are wanted.
  *
  * @param {string} title

@@ -13,6 +13,8 @@ const TABLES = /** @type {const} */ ([
     ['left out', 'left out', ['reason', 'frames']],
 ]);
 const FILTERS = ['name', 'calling', 'called', 'address', 'from', 'to', 'by'];
+/** How it is known of a name that nobody has it: of these a lifetime says nothing. */
+const UNCLAIMED = ['nobody', 'refused'];
 
 export class NamesView {
     /** @param {import('./app.js').App} app */
@@ -46,8 +48,8 @@ export class NamesView {
      */
     cell(row, column) {
         const value = row[column];
-        if (column === 'since' || column === 'until') return this.time(/** @type {bigint | null} */ (value), column === 'until' && row.how !== 'nobody');
-        if (column === 'frame') return this.link(String(value), { frame: Number(value), packet: 1 });
+        if (column === 'since' || column === 'until') return this.time(/** @type {bigint | null} */ (value), column === 'until' && !UNCLAIMED.includes(String(row.how)));
+        if (column === 'frame') return this.link(String(value), { frame: Number(value), filter: '' });
         if (column === 'reason') return this.link(String(value), { filter: row.frames === undefined ? 'refused' : 'left-out' });
         const text = textOf(value);
         return FILTERS.includes(column) && text !== '-' ? this.link(text, { filter: text }) : text;

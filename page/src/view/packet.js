@@ -1,7 +1,8 @@
 /** All of one packet: where it comes from, what it says, its fault, its fields and bytes. */
 import { hostOf } from '../containers/ends.js';
 import { since } from '../model/times.js';
-import { byId, element } from './dom.js';
+import { placed } from './advice.js';
+import { byId, element, withCode } from './dom.js';
 import { dumpOf } from './dump.js';
 
 /** Of these the place is in the spelling of a name, and not in the packet. */
@@ -19,6 +20,7 @@ export class PacketPanel {
     constructor(advice) {
         this.advice = advice;
         this.root = byId('packet', HTMLElement);
+        this.hidden = element('p', { class: 'quiet', role: 'status', hidden: true }, 'The filter hides this packet.');
         this.clear();
     }
 
@@ -35,16 +37,21 @@ export class PacketPanel {
         const refused = typeof packet.told?.refused === 'string' ? packet.told.refused : '';
         const at = typeof packet.told?.at === 'number' && !ELSEWHERE.test(refused) ? packet.told.at : null;
         this.root.replaceChildren(
-            element('h2', {}, `Frame ${packet.frame}`), element('p', { class: 'said' }, packet.said || phrase),
+            this.hidden, element('h2', {}, `Frame ${packet.frame}`), element('p', { class: 'said' }, packet.said || phrase),
             ...(refused ? [this.fault(refused)] : []), facts(packet, first),
             ...(packet.told ? [fields(packet.told), ...dumpOf(packet.bytes, at)] : []), wireshark(packet));
+    }
+
+    /** @param {boolean} isHidden whether the packet is none of the list */
+    tellHidden(isHidden) {
+        this.hidden.hidden = !isHidden;
     }
 
     /** @param {string} refused */
     fault(refused) {
         const elsewhere = ELSEWHERE.test(refused) ? [element('p', {}, 'The place is in the spelling of the name, not in the packet.')] : [];
         return element('div', { class: 'fault', role: 'note', 'aria-label': 'Why it is refused' },
-            element('b', {}, refused), element('p', {}, this.advice.of(refused)), ...elsewhere);
+            element('b', {}, placed(refused)), element('p', {}, ...withCode(this.advice.of(refused))), ...elsewhere);
     }
 }
 

@@ -94,7 +94,7 @@ export class PacketsView {
         this.app.keep({ filter: this.words.value });
         if (!rows) return;
         await rows.choose(this.filter(), () => {
-            this.grid.mark(this.selected < 0 ? -1 : rows.shown.room.subarray(0, rows.shown.length).indexOf(this.selected));
+            this.mark(rows, this.selected);
             this.count();
             this.offer();
         });
@@ -132,6 +132,7 @@ export class PacketsView {
     /** @param {number} at a place among the rows that are shown */
     chosen(at) {
         const rows = /** @type {import('./rows.js').Rows} */ (this.rows);
+        this.app.panel.tellHidden(false);
         this.open(rows.shown.at(at));
     }
 
@@ -144,9 +145,20 @@ export class PacketsView {
     async select(frame, packet) {
         const row = this.rows?.find(frame, packet) ?? -1;
         if (!this.rows || row < 0 || row === this.selected) return;
-        const at = this.rows.shown.room.subarray(0, this.rows.shown.length).indexOf(row);
-        this.grid.mark(at);
+        this.mark(this.rows, row);
         await this.open(row);
+    }
+
+    /**
+     * Marks the selected row in the list, or says that the list hasn't got it.
+     *
+     * @param {import('./rows.js').Rows} rows
+     * @param {number} row -1 for none
+     */
+    mark(rows, row) {
+        const at = row < 0 ? -1 : rows.shown.room.subarray(0, rows.shown.length).indexOf(row);
+        this.grid.mark(at);
+        this.app.panel.tellHidden(row >= 0 && at < 0);
     }
 
     /** @param {number} row */

@@ -1,4 +1,5 @@
 /** The reassembly's view: each key as a bar, and what a station with chosen names is handed, and when. */
+import { hashOf } from './address.js';
 import { byId, counted, element, number, table } from './dom.js';
 import { keyOf, missing } from './keys.js';
 
@@ -23,13 +24,23 @@ export class ReassemblyView {
         const answer = await app.ask('listed');
         if (!answer || tap !== app.tap) return;
         const keys = answer.lines.map(keyOf);
-        this.keys.replaceChildren(...tableOf(keys));
+        this.keys.replaceChildren(...tableOf(keys, ({ key }) => this.link(key, answer.firsts.get(key))));
         this.handed.replaceChildren();
         const names = Array.from(new Set(keys.flatMap((/** @type {import('./keys.js').Key} */ key) => key.destination || [])));
         byId('station-names', HTMLDataListElement).replaceChildren(...names.slice(0, MOST_NAMES).map((value) => element('option', { value })));
         this.names.value = names.slice(0, MOST_NAMES).join(', ');
         byId('station-form', HTMLFormElement).hidden = tap?.kind === 'table';
         if (tap?.kind !== 'table' && names.length) await this.hand();
+    }
+
+    /**
+     * A key that leads to its first frame, where there is one.
+     *
+     * @param {string} key
+     * @param {number | undefined} frame
+     */
+    link(key, frame) {
+        return frame === undefined ? key : element('a', { href: hashOf({ ...this.app.place, view: 'packets', frame, packet: 1, filter: '' }) }, key);
     }
 
     /** Shows what the station is handed. */
@@ -49,11 +60,14 @@ export class ReassemblyView {
     }
 }
 
-/** @param {import('./keys.js').Key[]} keys */
-export function tableOf(keys) {
+/**
+ * @param {import('./keys.js').Key[]} keys
+ * @param {(key: import('./keys.js').Key) => Node | string} named what stands for a key
+ */
+export function tableOf(keys, named = ({ key }) => key) {
     if (!keys.length) return [element('p', { class: 'quiet' }, 'There are no datagrams of which a station holds anything.')];
     const counts = ['whole', 'partial', 'spoilt'].map((state) => `${number(keys.filter((key) => key.state === state).length)} ${state}`);
-    const cells = keys.map((key) => [key.key, key.state, bar(key), key.source || '-', key.destination || '-', said(key)]);
+    const cells = keys.map((key) => [named(key), key.state, bar(key), key.source || '-', key.destination || '-', said(key)]);
     return [element('p', { class: 'lead' }, `${counted(keys.length, 'key')}: ${counts.join(', ')}.`),
         table('keys', ['key', 'state', 'places', 'from', 'to', 'missing, or the data'], cells, (at) => keys[at].state)];
 }

@@ -3,7 +3,7 @@ import { load } from '../../../bindings/javascript/nbt.mjs';
 import { LEFT_OUT } from '../model/packets.js';
 import { outOf } from './out.js';
 import { Reading } from './reading.js';
-import { compared, handedTo, listed, tableOf } from './tables.js';
+import { compared, handedTo, incompleteOf, listed, tableOf } from './tables.js';
 import { Tap } from './tap.js';
 import { utc } from '../model/times.js';
 
@@ -46,17 +46,24 @@ const answers = {
         return { version: library.version() };
     },
 
-    /** @param {{tap: number, file: Blob, name: string}} asked */
-    async open({ tap: number, file, name }) {
+    /** @param {{tap: number, opened: number, file: Blob, name: string}} asked */
+    async open({ tap: number, opened, file, name }) {
         const tap = new Tap(file, name, library);
+        const earlier = { tap: taps.get(number), reading: readings.get(number) };
+        const replace = () => earlier.reading && Object.assign(earlier.reading, { isStopped: true });
         const reading = new Reading(tap, (done) => {
-            if (taps.get(number) === tap) postMessage({ tap: number, done, size: file.size, rows: tap.batch.take(), counts: tap.counts() });
+            if (!tap.isRead) replace();
+            if (taps.get(number) === tap) postMessage({ opened, done, size: file.size, rows: tap.batch.take(), counts: tap.counts() });
         });
-        const earlier = readings.get(number);
-        if (earlier) earlier.isStopped = true;
         taps.set(number, tap);
         readings.set(number, reading);
         const fault = await reading.run();
+        if (fault === null || tap.packets.count) {
+            replace();
+        } else if (earlier.tap && earlier.reading && taps.get(number) === tap) {
+            taps.set(number, earlier.tap);
+            readings.set(number, earlier.reading);
+        }
         return { fault, kind: tap.kind, counts: tap.counts(), first: tap.first };
     },
 
@@ -83,8 +90,12 @@ const answers = {
 
     /** @param {{tap: number}} asked */
     async listed({ tap }) {
-        return { lines: listed(library, await tableOf(tapOf(tap))) };
+        const of = tapOf(tap);
+        return { lines: listed(library, await tableOf(of)), firsts: of.seen.firsts.entries };
     },
+
+    /** @param {{tap: number}} asked */
+    incomplete: ({ tap }) => incompleteOf(tapOf(tap)),
 
     /** @param {{tap: number, names: string[]}} asked */
     handed: ({ tap, names }) => handedTo(tapOf(tap), names),

@@ -4,7 +4,7 @@ import { pause } from './pause.js';
 
 const KEYS = 65_535;
 const DATAGRAMS = 138;
-/** How many payloads go into a station before the worker looks whether something is wanted of it. */
+/** How many lines are looked at, or payloads go into a station, before the worker looks whether something is wanted of it. */
 const PART = 256;
 const MOST_DELIVERIES = 10_000;
 /** Why a fragment isn't taken: for what stands in it, or for keys that there are. */
@@ -35,8 +35,7 @@ export async function tableOf(tap) {
     let count = 0;
     try {
         for (const line of tap.capture()) {
-            if (line.kind !== 'payload' || line.port !== DATAGRAMS) continue;
-            pass(() => station.take(0, line.bytes), MALFORMED);
+            if (line.kind === 'payload' && line.port === DATAGRAMS) pass(() => station.take(0, line.bytes), MALFORMED);
             count += 1;
             if (count % PART === 0) await pause();
         }
@@ -112,6 +111,16 @@ function described({ address, port, identifier, source, destination, data }, row
  */
 export function listed(library, table) {
     return library.list(table).split('\n').slice(0, -1);
+}
+
+/**
+ * How many keys of a file lack a piece.
+ *
+ * @param {import('./tap.js').Tap} tap
+ */
+export async function incompleteOf(tap) {
+    if (!tap.table && !tap.seen.firsts.entries.size) return 0;
+    return listed(tap.library, await tableOf(tap)).filter((line) => line.split(' ', 2)[1] === 'partial').length;
 }
 
 /**

@@ -1,7 +1,9 @@
 //! Packets of port 138.
 
 use crate::{joined, refused, FRED, JOE};
-use nbt::datagram::{read, Body, Datagram, Fragment, Kind, Packet, Query};
+use nbt::datagram::{
+    read, write_error, write_query, Body, Datagram, Fragment, Kind, Packet, Query,
+};
 use nbt::{Spelling, Status};
 
 /// A group datagram from `JOE<00>` at 10.0.0.5:138 to `FRED<20>`, whole in one packet.
@@ -177,6 +179,45 @@ fn datagrams_that_cannot_be_cut() {
         (datagram(), 0, Status::ZeroPiece, None),
     ] {
         assert_eq!(refused(datagram.cut(most)), (status, at));
+    }
+}
+
+#[test]
+fn errors_are_written() {
+    let sender = "10.0.0.9:1138".parse().unwrap();
+    let packet = write_error(7, sender, 0x82).unwrap();
+    assert_eq!(packet, b"\x13\x02\0\x07\x0a\0\0\x09\x04\x72\x82");
+    for code in [0, 0x83, 0x84, 0xff] {
+        let packet = write_error(0xffff, sender, code).unwrap();
+        let found = read(&packet).unwrap();
+        assert_eq!((found.body, found.sender), (Body::Error(code), sender));
+        assert_eq!((found.identifier, found.flags), (0xffff, 2));
+    }
+}
+
+#[test]
+fn queries_are_written() {
+    let sender = datagram().sender;
+    for kind in [Query::Find, Query::Found, Query::Missing] {
+        let packet = write_query(kind, 10, sender, "FRED<20>").unwrap();
+        let header = b"\x02\0\x0a\x0a\0\0\x05\0\x8a";
+        assert_eq!(packet, joined(&[&[kind as u8], header, FRED]));
+        let scoped = write_query(kind, 10, sender, "FRED<20>.NETBIOS.COM").unwrap();
+        let (found, name) = query(&read(&scoped).unwrap());
+        assert_eq!(
+            (found, name.text().unwrap()),
+            (kind, "FRED<20>.NETBIOS.COM".into())
+        );
+    }
+    for (name, status, at) in [
+        ("FRED", Status::BadText, Some(4)),
+        ("", Status::BadText, Some(0)),
+        ("SIXTEEN-LETTERS-<20>", Status::LongText, None),
+    ] {
+        assert_eq!(
+            refused(write_query(Query::Find, 1, sender, name)),
+            (status, at)
+        );
     }
 }
 

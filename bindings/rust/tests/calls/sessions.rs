@@ -2,7 +2,7 @@
 
 use crate::{joined, refused, FRED, JOE};
 use nbt::session::{packets, read, write, Kind, Next, Packet};
-use nbt::Status;
+use nbt::{spell, Status};
 
 #[test]
 fn packets_are_read() {
@@ -23,12 +23,11 @@ fn packets_are_read() {
         ),
         (b"\x85\0\0\0", Kind::KeepAlive, b""),
     ] {
-        let packet = Packet {
-            kind,
-            body,
-            used: 4 + body.len(),
-        };
-        assert_eq!(read(bytes), Ok(Next::Packet(packet)));
+        let packet = whole(bytes);
+        assert_eq!(
+            (packet.kind, packet.body, packet.used),
+            (kind, body, 4 + body.len())
+        );
     }
 }
 
@@ -109,6 +108,48 @@ fn bodies_have_parts() {
     assert_eq!((retarget.body, retarget.names()), (&body[..], None));
     let message = whole(b"\0\0\0\x06\x0a\0\0\x05\0\x8b");
     assert_eq!((message.retarget(), message.names()), (None, None));
+    let highest = whole(b"\x84\0\0\x06\xff\xff\xff\xff\xff\xff and more");
+    assert_eq!(
+        highest.retarget().unwrap().to_string(),
+        "255.255.255.255:65535"
+    );
+}
+
+/// A label of a scope may have any bytes, and a spelling has 255 at most.
+#[test]
+fn odd_names_of_requests() {
+    let label = "A".repeat(63);
+    let longest = spell(&format!(
+        "FRED<20>.{label}.{label}.{label}.{}",
+        &label[..28]
+    ))
+    .unwrap();
+    assert_eq!(longest.len(), 255);
+    let scoped = joined(&[&JOE[..33], b"\x04a\0.b\0"]);
+    for (called, calling) in [
+        (&longest, &longest),
+        (&scoped, &longest),
+        (&longest, &scoped),
+    ] {
+        let request = write(Kind::Request, &joined(&[called, calling])).unwrap();
+        let stream = joined(&[&request, b"\x85\0\0\0"]);
+        let (one, other) = whole(&stream).names().unwrap();
+        assert_eq!(
+            (one.as_bytes(), other.as_bytes()),
+            (&called[..], &calling[..])
+        );
+    }
+}
+
+/// A body that was changed has no names that would lie outside of it.
+#[test]
+fn a_body_that_was_changed() {
+    let bytes = joined(&[b"\x81\0\0\x44", FRED, JOE]);
+    let mut request = whole(&bytes);
+    for length in [0, 33, 67] {
+        request.body = &bytes[4..4 + length];
+        assert_eq!(request.names(), None);
+    }
 }
 
 #[test]

@@ -3,7 +3,7 @@
 use std::collections::BTreeSet;
 use std::{env, fs, thread};
 
-use nbt::{json, json_into, show, show_into, version, Status};
+use nbt::{brief, brief_into, json, json_into, show, show_into, version, Status};
 
 #[test]
 fn payloads_are_shown() {
@@ -38,6 +38,26 @@ fn objects_are_shown() {
         json_into(port, payload, &mut room).unwrap();
         assert_eq!(room, text.as_bytes());
     }
+}
+
+#[test]
+fn phrases_are_shown() {
+    for (port, payload, text) in [
+        (
+            139,
+            &b"\0\0\0\x02hi\x85"[..],
+            "sends 2 bytes, 1 bytes follow",
+        ),
+        (7, b"\0\0\0\x02hi", "sends 2 bytes"),
+        (138, b"", "refused: truncated, at byte 0"),
+    ] {
+        assert_eq!(brief(port, payload).unwrap(), text);
+        let mut room = b"what stood there".to_vec();
+        brief_into(port, payload, &mut room).unwrap();
+        assert_eq!(room, text.as_bytes());
+    }
+    let query = nbt::service::Request::Query.write(3, "FRED<20>", true);
+    assert_eq!(brief(137, &query.unwrap()).unwrap(), "asks for FRED<20>");
 }
 
 /// The crate's version and the header's are the library's.

@@ -6,7 +6,7 @@ use crate::tables::EMPTY;
 use crate::{joined, refused};
 use nbt::datagram::{Datagram, Kind, Packets};
 use nbt::station::{Key, Outcome};
-use nbt::{merge, Limits, Station, Status};
+use nbt::{list_table, merge, Limits, Station, Status};
 
 /// A station at 10.0.0.9:138 with these names.
 #[track_caller]
@@ -360,4 +360,21 @@ fn tables_that_are_not_taken_in() {
         );
         assert_eq!(station.save().unwrap(), before);
     }
+}
+
+#[test]
+fn what_is_known_is_listed() {
+    let [first, second] = pieces(7, "FRED<20>");
+    let mut station = station(&["FRED<20>"]);
+    assert_eq!(station.list().unwrap(), "");
+    station.take(0, &second).unwrap();
+    assert_eq!(
+        station.list().unwrap(),
+        "10.0.0.5:138/0007 partial unique JOE<00> FRED<20> 5/11 1 6-11\n"
+    );
+    station.take(0, &first).unwrap();
+    let lines = list_table(&station.save().unwrap());
+    assert_eq!(station.list(), lines);
+    assert_eq!(station.tick(2_000), Ok(1));
+    assert_eq!(station.list().unwrap(), "");
 }

@@ -2,6 +2,7 @@
 use Rattle.std.proofs.Common.{◌≡◌, ◌≢◌, ◌≤◌, ℕ, List, length, Option, Some, None, refl, sym, ◌∙◌, ap, arith, cond}
 use Rattle.nb_datagram.specs.declared.key.Key.{Key}
 use Rattle.nb_datagram.specs.Datagram.{DatagramParts}
+use Rattle.nb_datagram.specs.Fragment.{FragmentParts}
 use Rattle.nb_entries.specs.Slot.{Spoilt, Held}
 use Rattle.nb_entries.specs.Cover.{CoverFacts}
 use Rattle.nb_entries.specs.Entry.{EntryFacts, EntryValue, FactsFit, facts_together, join_entry}
@@ -10,7 +11,8 @@ use Rattle.nb_entries.specs.Code.CoverFacts.{Holds}
 use Rattle.nb_entries.specs.Whole.{bytes_to, datagram_with, datagram_of, newly}
 use Rattle.nb_entries.specs.declared.change.Handing.{Handing}
 use Rattle.nb_entries.specs.declared.change.Handing.TheVariants.{Over, Kept}
-use Rattle.nb_entries.specs.Change.{KeyChange, grown_to, handed_by, told_by}
+use Rattle.nb_entries.specs.declared.change.Change.TheVariants.{Whole}
+use Rattle.nb_entries.specs.Change.{KeyChange, made_by, grown_to, handed_by, told_by}
 use Rattle.nb_entries.specs.Shared.CoverLemmas.{together_held}
 use Rattle.nb_entries.specs.Shared.WholeLemmas.{below_found}
 use Rattle.nb_entries.proofs.Covers.CoverFactsLemmas.{together_holds}
@@ -60,6 +62,23 @@ key_first k e = at (datagram_of k (Held e)) refl
     at : (o : Option DatagramParts) → datagram_of k (Held e) ≡ o → KeyChange k None (Some (Held e)) (grown_to o)
     at None h = (λ same. absurd (cc same), (λ s. held_spoilt _ s.1), h)
     at (Some d) h = h
+
+-- what a fragment made of facts of its kind and names that grow
+pub made_grown : (f : FragmentParts) (a : EntryFacts) (o : Option (List ℕ)) → a.kind ≡ f.kind → a.source ≡ f.source → a.destination ≡ f.destination
+    → made_by f (grown_to o) ≡ grown_to (datagram_with f.key a o)
+made_grown f a None kind source destination = refl
+made_grown f a (Some xs) kind source destination = λ i. Whole (record {
+  key = f.key;
+  kind = sym kind i;
+  source = sym source i;
+  destination = sym destination i;
+  bytes = xs;
+})
+
+-- the datagram is handed over where the data is
+pub with_handed : (h : Handing) (k : Key) (e : EntryFacts) (o : Option (List ℕ)) → datagram_with k e (handed_by h o) ≡ handed_by h (datagram_with k e o)
+with_handed Over k e o = refl
+with_handed Kept k e o = refl
 
 -- what is told of facts that grow, whose datagram is handed over or not
 pub told_grown : (h : Handing) (d : Option DatagramParts) → grown_to (handed_by h d) ≡ told_by h (grown_to d)

@@ -12,56 +12,56 @@ ghost use Rattle.nb_entries.specs.Change.{Tells, handed_by};
 ghost use Rattle.nb_entries.specs.Change.{grown_to as grown};
 
 use super::EntryFacts;
-use crate::change::{Handing, KeptChange};
-use nb_datagram::{KeptDatagram, Key, LentFragment};
+use crate::change::{Change, Handing};
+use nb_datagram::{LentFragment, UserData};
 use nb_names::NoMemory;
 use std::alloc::Global;
 
-/// What facts that grow come to: the datagram, if they are whole.
-fn grown_to(datagram: Option<KeptDatagram>) -> KeptChange
-    ensures { result ≡ grown datagram }
+/// What facts that grow come to, with the datagram's data, if they are whole.
+fn grown_to(bytes: Option<UserData>) -> Change<UserData>
+    ensures { result ≡ grown bytes }
 {
-    match datagram {
-        Some(datagram) => KeptChange::Whole(datagram),
-        None => KeptChange::Grown,
+    match bytes {
+        Some(bytes) => Change::Whole(bytes),
+        None => Change::Grown,
     }
 }
 
 impl EntryFacts {
-    /// The datagram of a fragment's key, if the facts are whole with it. No memory is taken where
-    /// they aren't.
-    fn datagram_with(
+    /// The datagram's data, if the facts are whole with a fragment. No memory is taken where they
+    /// aren't.
+    fn user_data_with(
         &self,
         alloc: Global,
         fragment: &LentFragment<'_>,
-    ) -> Result<Option<KeptDatagram>, NoMemory>
+    ) -> Result<Option<UserData>, NoMemory>
         requires fits { CoversFit self.now.cover (cover_of (core_of fragment.now)) }
         requires short { (n : ℕ)
             → (covers_together self.now.cover (cover_of (core_of fragment.now))).end ≡ Some n
             → n ≤ MAX_LENGTH }
-        ensures { IfOk result (λ datagram. datagram ≡ datagram_with fragment.now.key self.now
-            (bytes_to (covers_together self.now.cover (cover_of (core_of fragment.now))).bytes
-            (covers_together self.now.cover (cover_of (core_of fragment.now))).end)) }
+        ensures { IfOk result (λ bytes. bytes
+            ≡ bytes_to (covers_together self.now.cover (cover_of (core_of fragment.now))).bytes
+            (covers_together self.now.cover (cover_of (core_of fragment.now))).end) }
     {
         match self.cover.whole_with(alloc, fragment)? {
-            Some(bytes) => Ok(Some(self.datagram_from(alloc, fragment.key(), bytes)?)),
+            Some(bytes) => Ok(Some(UserData::new(bytes))),
             None => Ok(None),
         }
     }
 
-    /// The datagram of a fragment's key, if the facts become whole with it and it is handed over.
-    /// No memory is taken else.
+    /// The datagram's data, if the facts become whole with a fragment and it is handed over. No
+    /// memory is taken else.
     fn newly_whole_with(
         &self,
         alloc: Global,
         fragment: &LentFragment<'_>,
         handing: Handing,
-    ) -> Result<Option<KeptDatagram>, NoMemory>
+    ) -> Result<Option<UserData>, NoMemory>
         requires fits { CoversFit self.now.cover (cover_of (core_of fragment.now)) }
         requires short { (n : ℕ)
             → (covers_together self.now.cover (cover_of (core_of fragment.now))).end ≡ Some n
             → n ≤ MAX_LENGTH }
-        ensures { IfOk result (λ datagram. datagram
+        ensures { IfOk result (λ bytes. datagram_with fragment.now.key self.now bytes
             ≡ handed_by handing (newly (entry_datagram fragment.now.key (Held self.now))
             (datagram_with fragment.now.key self.now
             (bytes_to (covers_together self.now.cover (cover_of (core_of fragment.now))).bytes
@@ -74,7 +74,7 @@ impl EntryFacts {
         if self.is_whole() {
             return Ok(None);
         }
-        self.datagram_with(alloc, fragment)
+        self.user_data_with(alloc, fragment)
     }
 
     /// Inserts a fragment, which doesn't contradict what is known. All memory is taken before
@@ -84,42 +84,36 @@ impl EntryFacts {
         alloc: Global,
         fragment: &LentFragment<'_>,
         handing: Handing,
-    ) -> Result<KeptChange, NoMemory>
+    ) -> Result<Change<UserData>, NoMemory>
         requires fits { FactsFit self.old (facts_of (core_of fragment.now)) }
         requires short { (n : ℕ)
             → (facts_together self.old (facts_of (core_of fragment.now))).cover.end ≡ Some n
             → n ≤ MAX_LENGTH }
         ensures joined { OnOk result
             (self.new ≡ facts_together self.old (facts_of (core_of fragment.now))) }
-        ensures change { IfOk result (λ change.
-            Tells handing fragment.now.key (Some (Held self.old)) (Some (Held self.new)) change) }
+        ensures change { IfOk result
+            (Tells handing fragment.now (Some (Held self.old)) (Some (Held self.new))) }
         ensures formed { AreEntryFacts self.new }
         ensures kept { OnErr result (self.new ≡ self.old) }
         ensures more { OnErr result
             (Holds self.old.cover (facts_of (core_of fragment.now)).cover → ⊥) }
     {
         if self.cover.holds(fragment) {
-            return Ok(KeptChange::Same);
+            return Ok(Change::Same);
         }
-        let datagram = self.newly_whole_with(alloc, fragment, handing)?;
+        let bytes = self.newly_whole_with(alloc, fragment, handing)?;
         self.cover.insert(alloc, fragment)?;
-        Ok(grown_to(datagram))
+        Ok(grown_to(bytes))
     }
 
-    /// The datagram of a key, which was new, if the facts are whole and it is handed over. No
-    /// memory is taken else.
-    fn first_datagram(
-        &self,
-        alloc: Global,
-        key: Key,
-        handing: Handing,
-    ) -> Result<Option<KeptDatagram>, NoMemory>
+    /// The datagram's data, if the facts are whole and it is handed over. No memory is taken else.
+    fn first_data(&self, alloc: Global, handing: Handing) -> Result<Option<UserData>, NoMemory>
         requires { (n : ℕ) → self.now.cover.end ≡ Some n → n ≤ MAX_LENGTH }
-        ensures { IfOk result (λ datagram. datagram
-            ≡ handed_by handing (entry_datagram key (Held self.now))) }
+        ensures { IfOk result (λ bytes. bytes
+            ≡ handed_by handing (bytes_to self.now.cover.bytes self.now.cover.end)) }
     {
         match handing {
-            Handing::Over => self.datagram(alloc, key, &self.cover),
+            Handing::Over => self.user_data(alloc),
             Handing::Kept => Ok(None),
         }
     }
@@ -129,14 +123,14 @@ impl EntryFacts {
         alloc: Global,
         fragment: &LentFragment<'_>,
         handing: Handing,
-    ) -> Result<(EntryFacts, KeptChange), NoMemory>
+    ) -> Result<(EntryFacts, Change<UserData>), NoMemory>
         requires { (n : ℕ) → (facts_of (core_of fragment.now)).cover.end ≡ Some n → n ≤ MAX_LENGTH }
         ensures facts { IfOk result (λ made. made.0 ≡ facts_of (core_of fragment.now)) }
         ensures change { IfOk result (λ made.
-            Tells handing fragment.now.key None (Some (Held made.0)) made.1) }
+            Tells handing fragment.now None (Some (Held made.0)) made.1) }
     {
         let facts = EntryFacts::of(alloc, fragment)?;
-        let datagram = facts.first_datagram(alloc, fragment.key(), handing)?;
-        Ok((facts, grown_to(datagram)))
+        let bytes = facts.first_data(alloc, handing)?;
+        Ok((facts, grown_to(bytes)))
     }
 }

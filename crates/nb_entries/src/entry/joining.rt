@@ -106,7 +106,7 @@ impl Slot<EntryFacts> {
     {
         if let Some(fragment) = other.as_fragment(key) {
             let change = self.insert(alloc, &fragment, handing)?;
-            return Ok(datagram_of(change.into_change()));
+            return Ok(datagram_of(change.made_by(&fragment)));
         }
         let joined = self.joined(other)?;
         let datagram = joined.handed(alloc, key, Some(self), handing)?;

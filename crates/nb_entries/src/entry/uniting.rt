@@ -13,7 +13,7 @@ use super::EntryFacts;
 use crate::cover::CoverFacts;
 use crate::slot::Facts;
 use nb_datagram::limits::{MAX_LENGTH, MORE};
-use nb_datagram::{Datagram, Key, LentFragment};
+use nb_datagram::{Datagram, Key, LentFragment, UserData};
 use nb_names::NoMemory;
 use std::alloc::Global;
 
@@ -139,9 +139,24 @@ impl EntryFacts {
         ensures no_memory_needed { datagram_with key self.now
             (bytes_to self.now.cover.bytes self.now.cover.end) ≡ None → result ≡ Ok None }
     {
-        match self.datagram(alloc, key, &self.cover)? {
-            Some(datagram) => Ok(Some(datagram.into_datagram())),
+        match self.user_data(alloc)? {
+            Some(bytes) => Ok(Some(self.datagram_from(key, bytes))),
             None => Ok(None),
         }
+    }
+
+    /// The datagram of the key with this kind and names, and this data.
+    fn datagram_from(&self, key: Key, bytes: UserData) -> Datagram
+        ensures { result ≡ record {
+          key = key;
+          kind = self.now.kind;
+          source = self.now.source;
+          destination = self.now.destination;
+          bytes = bytes;
+        } }
+    {
+        let source = self.parties.source();
+        let destination = self.parties.destination();
+        Datagram::of_lent(key, self.kind, &source, &destination, bytes)
     }
 }

@@ -15,7 +15,7 @@ pub struct Facts {
     pub word: u16,
     /// The type of the first question, or else of the first record.
     pub first_type: Option<u16>,
-    /// The type that was told last.
+    /// The last type among the fields.
     pub last_type: u16,
     /// The flags of a datagram, or of the first address or name of a node.
     pub flags: Option<u16>,
@@ -33,7 +33,7 @@ pub struct Facts {
     pub place: Option<u64>,
     /// How many addresses there are, or names of a node, up to the largest number.
     pub listed: u64,
-    /// Whether the names of a node are told.
+    /// Whether the fields are of a node's names.
     pub in_names: bool,
 }
 
@@ -59,7 +59,7 @@ impl Facts {
         }
     }
 
-    /// The facts after a number was told under this key.
+    /// The facts after a number with this key.
     pub fn with_number(self, key: &str, number: u64) -> Facts
         ensures { result ≡ with_number key.now self number }
     {
@@ -82,7 +82,7 @@ impl Facts {
         }
     }
 
-    /// The facts after a number of one byte was told.
+    /// The facts after a number of one byte.
     pub fn with_byte(self, key: &str, byte: u8) -> Facts
         ensures { result ≡ with_byte key.now self byte }
     {
@@ -96,7 +96,7 @@ impl Facts {
         }
     }
 
-    /// The facts after a number of two bytes was told.
+    /// The facts after a number of two bytes.
     pub fn with_word(self, key: &str, word: u16) -> Facts
         ensures { result ≡ with_word key.now self word }
     {

@@ -123,7 +123,7 @@ impl Sink for BriefSink {
     }
 }
 
-/// Notes that the names of a node are told, or aren't.
+/// Notes whether the fields are of a node's names.
 fn note_within(in_names: bool, notes: &mut Notes)
     ensures { notes.new ≡ within_names notes.old in_names }
 {

@@ -1,9 +1,8 @@
 //! `nbt list`: what saved tables know together of each key.
-ghost use Rattle.std.specs.Prelude.{◌≡◌, ◌++◌, ℕ, List, IfErr, IfOk};
+ghost use Rattle.std.specs.Prelude.{◌≡◌, IfErr};
 ghost use Rattle.nb_names.specs.Devices.{ShowsWriteFault};
 ghost use Rattle.nbt.specs.Commands.{ListCommand, streams};
-ghost use Rattle.nb_member.specs.ListingFields.{key_fields};
-ghost use Rattle.nbt.specs.Objects.{IsObject, listed_as, listed_objects};
+ghost use Rattle.nbt.specs.Objects.{listed_as};
 ghost use Rattle.nbt.specs.Printing.{PrintsText};
 
 use crate::fault::Fault;
@@ -11,12 +10,9 @@ use crate::joining_input::joined_input;
 use crate::output::Output;
 use crate::settings::is_json;
 use clap::ArgMatches;
-use nb_datagram::Key;
-use nb_member::laws::fields_are_members;
-use nb_member::{list_keys, tell_key};
-use nb_names::{Counted, NoMemory};
+use nb_member::{list_keys, list_objects};
+use nb_names::Counted;
 use nb_table::Table;
-use nb_telling::{JsonRoom, JsonSink};
 use std::alloc::Global;
 use std::io::{Read, Write};
 
@@ -62,39 +58,9 @@ fn print_keys<W: Write>(
         ShowsWriteFault output.old.counts output.new.counts) }
 {
     if json {
-        let objects = objects_of(alloc, table)?;
+        let objects = list_objects(alloc, table)?;
         return output.print(objects.as_slice());
     }
     let lines = list_keys(alloc, table)?;
     output.print(lines.as_bytes())
-}
-
-/// An object for each key of a table, ascending, each as a line.
-///
-/// # Errors
-///
-/// [`NoMemory`] where memory ran out.
-fn objects_of(alloc: Global, table: &Table) -> Result<Vec<u8>, NoMemory>
-    ensures { IfOk result (λ objects. objects.items ≡ listed_objects table.now.contents) }
-{
-    let mut objects = Vec::new(alloc);
-    let mut room = JsonRoom::new(alloc);
-    for key in table.keys() {
-        room = key_object(table, key, room)?;
-        objects.extend_from_slice(room.as_slice())?;
-    }
-    Ok(objects)
-}
-
-/// The object of a key, as a line.
-fn key_object(table: &Table, key: Key, room: JsonRoom) -> Result<JsonRoom, NoMemory>
-    ensures { IfOk result (IsObject (key_fields table.now.contents key)) }
-{
-    // The law that makes the fields members; the call does nothing.
-    fields_are_members();
-    let mut sink = JsonSink::begin(room)?;
-    tell_key(table, key, &mut sink)?;
-    let mut made = sink.end()?;
-    made.end_line()?;
-    Ok(made)
 }

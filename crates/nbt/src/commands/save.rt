@@ -1,10 +1,12 @@
 //! `nbt save`: what a capture says of datagrams, as a saved table.
-ghost use Rattle.std.specs.Prelude.{Some, IfOk, IfErr, OnOk};
+ghost use Rattle.std.specs.Prelude.{◌≡◌, Some, IfOk, IfErr, OnOk};
 ghost use Rattle.nbt.specs.Commands.{SaveCommand, streams};
 ghost use Rattle.nbt.specs.SaveFaults.{PayloadStops, SaidStops, StopsSaving};
 ghost use Rattle.nbt.specs.Saving.{TakesInput, TakesPayload, TakesSaid};
 
+use crate::errors::{Audience, Errors};
 use crate::fault::Fault;
+use crate::hints::print_dropped;
 use crate::output::Output;
 use crate::settings::{Capacity, PORT, capacity_of, input_limit_of, settings_with};
 use clap::ArgMatches;
@@ -16,7 +18,7 @@ use std::io::{Read, Write};
 
 /// `nbt save [--keys N] [--per-source N] [--input-limit BYTES]`: takes the payloads of port 138 and
 /// sets the clock at the ticks, each line of the input as it comes, in a member without names, and
-/// prints the member's table in hexadecimal.
+/// prints the member's table in hexadecimal. A person is told how many keys the ticks dropped.
 ///
 /// # Errors
 ///
@@ -25,46 +27,54 @@ use std::io::{Read, Write};
 /// [`Fault::Read`] where the input couldn't be read to its end, [`Fault::Memory`] where memory ran
 /// out. Nothing is printed then. [`Fault::Write`] where the output failed. Other packets that are
 /// refused are passed over.
-pub fn run_save<R: Read, W: Write>(
+pub fn run_save<R: Read, W: Write, E: Write>(
     alloc: Global,
     matches: &ArgMatches<'_>,
     input: &mut Counted<R>,
     output: &mut Output<W>,
+    errors: &mut Errors<'_, E>,
 ) -> Result<(), Fault>
-    ensures { SaveCommand matches.now (streams R.remaining W.contents
+    ensures command { SaveCommand matches.now (streams R.remaining W.contents
         input.old input.new output.old output.new) result }
+    ensures quiet { errors.old.audience ≡ Audience.Programs → errors.new ≡ errors.old }
 {
     let capacity = capacity_of(matches)?;
-    let member = member_after(alloc, capacity, input_limit_of(matches), input)?;
-    output.print_saved(member.table())
+    let saver = saver_after(alloc, capacity, input_limit_of(matches), input)?;
+    let printed = output.print_saved(saver.member.table());
+    if printed.is_ok() {
+        print_dropped(saver.dropped, errors);
+    }
+    printed
 }
 
 /// A member without names that may hold so much, after the lines of an input of so many bytes at
 /// most.
-fn member_after<R: Read>(
+fn saver_after<R: Read>(
     alloc: Global,
     capacity: Capacity,
     most: u64,
     input: &mut Counted<R>,
-) -> Result<Member, Fault>
-    ensures took { IfOk result (TakesInput capacity most
-        (R.remaining input.old.inner) (R.remaining input.new.inner)) }
+) -> Result<Saver, Fault>
+    ensures took { IfOk result (λ saver. TakesInput capacity most
+        (R.remaining input.old.inner) (R.remaining input.new.inner) saver.member) }
     ensures stops { IfErr result (StopsSaving capacity most
         (R.remaining input.old.inner) (R.remaining input.new.inner)
         input.old.counts input.new.counts) }
 {
     let mut saver = Saver {
         member: Member::new(alloc, settings_with(capacity), LocalNames::new(alloc)),
+        dropped: 0,
     };
     take_lines(alloc, most, input, &mut saver)?;
-    let Saver { member } = saver;
-    Ok(member)
+    Ok(saver)
 }
 
 /// A member that takes the payloads of port 138, and sets its clock at the ticks.
 #[derive(Drop)]
 struct Saver {
     member: Member,
+    /// How many keys the ticks dropped.
+    dropped: u64,
 }
 
 impl LineTaker for Saver {
@@ -88,20 +98,22 @@ impl LineTaker for Saver {
 
     fn take(&mut self, _number: u64, _line: &[u8], said: &Option<Line>) -> Result<(), Fault> {
         match said {
-            Some(said) => take_value(said, &mut self.member),
+            Some(said) => take_value(said, &mut self.member, &mut self.dropped),
             None => Ok(()),
         }
     }
 }
 
-/// Has the member take a payload of port 138, or set its clock; all else is passed over.
-fn take_value(said: &Line, member: &mut Member) -> Result<(), Fault>
+/// Has the member take a payload of port 138, or set its clock, and counts the keys that this
+/// drops; all else is passed over.
+fn take_value(said: &Line, member: &mut Member, dropped: &mut u64) -> Result<(), Fault>
     ensures took { OnOk result (TakesSaid member.old (Some said.now) member.new) }
     ensures stops { IfErr result (SaidStops member.old (Some said.now)) }
 {
     match said {
         Line::Tick { now } => {
-            member.tick(*now);
+            let keys = member.tick(*now).keys;
+            *dropped = dropped.saturating_add(u64::from(keys));
             Ok(())
         }
         Line::Packet {

@@ -1,15 +1,18 @@
 //! `nbt show`: the packets of a capture as text, or as JSON.
 ghost use Rattle.std.specs.Prelude.{◌≡◌, ◌++◌, ℕ, List, codes, OnOk, string_bytes};
 ghost use Rattle.std.specs.Fmt.{decimal};
-ghost use Rattle.nbt.specs.Commands.{ShowCommand, ShowsAs, streams};
-ghost use Rattle.nbt.specs.Showing.{ShowsSaid, ShowsValue};
+ghost use Rattle.nbt.specs.Commands.{IsUnshown, ShowCommand, ShowsAs, WritesShow, streams};
+ghost use Rattle.nbt.specs.Objects.{BriefFields};
+ghost use Rattle.nbt.specs.Settings.{AsksFronts, AsksPackets};
+ghost use Rattle.nbt.specs.Showing.{IsBrief, ShowsSaid, ShowsValue};
 
 use crate::fault::Fault;
+use crate::fronts::Fronts;
 use crate::output::Output;
 use crate::payload_text::PayloadText;
 use crate::phrases::Phrases;
 use crate::printing_lines::{print_objects, print_text};
-use crate::settings::{is_brief, is_json, options_of};
+use crate::settings::{is_brief, is_json, is_partial, options_of};
 use crate::telling::{LineFields, Packets};
 use clap::ArgMatches;
 use nb_member::{Comments, Line, push_comment};
@@ -17,13 +20,15 @@ use nb_names::{Counted, NoMemory, push_decimal};
 use std::alloc::Global;
 use std::io::{Read, Write};
 
-/// `nbt show [--input-limit BYTES] [--comments] [--brief] [--json]`: shows the packets of the input
-/// in order, each line as it comes, with `--comments` the comments between them, or prints an
-/// object for each; with `--brief` it says what each is in a phrase.
+/// `nbt show [--input-limit BYTES] [--comments] [--brief] [--partial] [--json]`: shows the packets
+/// of the input in order, each line as it comes, with `--comments` the comments between them, or
+/// prints an object for each; with `--brief` it says what each is in a phrase, with `--partial`
+/// also what still stands of those that are refused or cut.
 ///
 /// # Errors
 ///
-/// The first that is met: [`Fault::Write`] where a line can't be written, [`Fault::Line`] for a
+/// [`Fault::Arguments`] where both `--brief` and `--partial` are given; nothing is read then. Else
+/// the first that is met: [`Fault::Write`] where a line can't be written, [`Fault::Line`] for a
 /// malformed line, [`Fault::Read`] where the input couldn't be read to its end, [`Fault::Memory`]
 /// where memory ran out. What stands before it is shown.
 pub fn run_show<R: Read, W: Write>(
@@ -36,9 +41,32 @@ pub fn run_show<R: Read, W: Write>(
         input.old input.new output.old output.new) result }
 {
     if is_brief(matches) {
-        return show_as(alloc, Phrases::new(alloc), matches, input, output);
+        return show_brief(alloc, matches, input, output);
+    }
+    if is_partial(matches) {
+        return show_as(alloc, Fronts, matches, input, output);
     }
     show_as(alloc, Packets, matches, input, output)
+}
+
+/// Shows what each packet of the input is in a phrase, which has no front.
+fn show_brief<R: Read, W: Write>(
+    alloc: Global,
+    matches: &ArgMatches<'_>,
+    input: &mut Counted<R>,
+    output: &mut Output<W>,
+) -> Result<(), Fault>
+    ensures packets { AsksPackets matches.now → ShowsAs IsBrief BriefFields tt matches.now
+        (streams R.remaining W.contents input.old input.new output.old output.new) result }
+    ensures fronts { AsksFronts matches.now → IsUnshown
+        (streams R.remaining W.contents input.old input.new output.old output.new) result }
+    ensures why { WritesShow
+        (streams R.remaining W.contents input.old input.new output.old output.new) result }
+{
+    if is_partial(matches) {
+        return Err(Fault::Arguments);
+    }
+    show_as(alloc, Phrases::new(alloc), matches, input, output)
 }
 
 /// Shows the packets of the input in this form.

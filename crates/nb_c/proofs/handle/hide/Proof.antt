@@ -14,14 +14,14 @@ use contract.Running.{tables}
 use denote.Exit.{yes}
 use denote.RattleType.{owns}
 use denote.Signature.{types_at, plain}
-use denote.RawPtr.{block_ptr}
+use denote.RawPtr.{block_ptr, InBlock}
 use denote.Steps.{nothing}
 use denote.Param.{layout}
 use denote.Triple.Walked.{Stays, stay_dropped, walk_of}
 use Rattle.core.proofs.alloc.Calls.{Goes-blank}
 use Rattle.std_alloc.proofs.ResultValues.{and_tt}
 use Rattle.std.proofs.raw_atomic.Walks.{proved_at, leaves}
-use Rattle.nb_c.proofs.HandleValues.{both, alone, Z, Parts, parts_out, handle_in}
+use Rattle.nb_c.proofs.HandleValues.{both, alone, Z, Parts, Handle, parts_out, handle_made}
 use Rattle.nb_c.specs.contracts.handle.hide.{ended, clauses}
 use Rattle.nb_c.specs.contracts.handle.hide.Key.{name as #self}
 use Rattle.nb_c.proofs.handle.hide.Statement.{statement}
@@ -34,6 +34,7 @@ hide_spec 𝓤 𝓛 𝓜 𝓡 wired =
     proved_at 𝓛 En hs c 𝓜 𝓡 (Goes-blank 𝓛 0 (plain (λ _. Parts)) yes (λ κs x f. tt), tt) #self fn (code.unfolded 𝓤 H 𝓜 𝓡 wired) (λ z are.
     let v = z.0.3.0 in let a = v.alloc in let Post : Val → SProp 𝓤 = (walk_of 𝓛 En hs c).post z in let Run : List Val → SProp 𝓤 = λ ws. WpFn 𝓤 H 𝓣.C 𝓣.Λ fn ws Post in
     qed 𝓛 ((‵ ftrue ⊛ ‵ (owns (types_at En.signature.params z.0.0) z.0.3 z.0.4)) ∷ raw ((c z.0.0 z.0.3).requires z.1) ∷ []) ∵ split ! $ move ! (1 ∷ []) $ fsplit ! $ parts_out ! v z.0.4.0 (λ b o h e ws fits.
+    let d : Handle.Denot = record { at = block_ptr b o; value = v.value; heap = a } in let Kept : Type 0 = (v.value ≡ v.value) × InBlock (block_ptr b o) in
     let w : Val = both (vptr b o) h in let typed : T (has_ty (layout Parts) w) × WT w = (and_tt (has_ty (layout Z) h) fits.0, (tt, (fits.1, tt))) in
     suffices ! (Run (w ∷ [])) (subst (λ (us : List Val). ent 𝓤 (Run (w ∷ [])) (Run us)) (sym (λ i. ws i ++ [])) (id⊢ 𝓤 (Run (w ∷ [])))) $
     enter ! 𝓣.C 𝓣.Λ fn (w ∷ []) Post $ alloc_all ! (λ l. pass_all ! refl (typed, tt) $
@@ -41,5 +42,5 @@ hide_spec 𝓤 𝓛 𝓜 𝓡 wired =
     sets ! (of_opd ! (get ! refl)) refl (tt, tt) $
     sets ! (agg ! (and_then ! (get ! refl) (no_more !))) refl (tt, (tt, tt)) $
     -- [the box; the allocator; what the other parameters own; the tokens; what it requires]
-    handle_in ! b o a v.value $ use0 𝓛 (raw (fact 𝓤 (v.value ≡ v.value))) (fact_i 𝓤 (v.value ≡ v.value) (emp 𝓤) refl) $ nothing ! $ nothing ! $ fjoin ! $
-    returns ! (look_at ! 0 refl) $ free_all ! refl $ keep ! (5 ∷ 0 ∷ 2 ∷ 1 ∷ []) $ by ! (leaves 𝓛 En hs c z (alone (vptr b o)) (record { at = block_ptr b o; value = v.value; heap = a }) (tt, tt) (tt, tt)))))
+    handle_made ! d $ use0 𝓛 (raw (fact 𝓤 Kept)) (fact_i 𝓤 Kept (emp 𝓤) (refl, tt)) $ nothing ! $ nothing ! $ fjoin ! $
+    returns ! (look_at ! 0 refl) $ free_all ! refl $ keep ! (5 ∷ 0 ∷ 2 ∷ 1 ∷ []) $ by ! (leaves 𝓛 En hs c z (alone (vptr b o)) d (tt, tt) (tt, tt)))))

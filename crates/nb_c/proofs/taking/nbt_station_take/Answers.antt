@@ -1,6 +1,9 @@
-use Rattle.std.proofs.Common.{rules}
-use Rattle.nb_c.proofs.TellLemmas.{took_through}
+use Rattle.std.proofs.Common.{ap, sym, ◌∙◌}
+use Rattle.nb_c.specs.declared.kept.Kept.{Kept}
+use Rattle.nb_c.proofs.StationLemmas.{station_done}
 use Rattle.nb_c.proofs.taking.nbt_station_take.Goals as goal
 
-pub returns : goal.returns
-returns c = took_through (search rules) (search rules) c.take_in-status.ensures
+pub returns-in-Some : goal.returns-in-Some
+returns-in-Some c =
+    station_done c.in-Some.ensures.given.0 (ap (λ (k : Kept). k.member) (c.deref_mut.ensures.value ∙ c.in-Some.ensures.given.1)) c.put_back.ensures.1
+    (sym (ap (λ (k : Kept). k.member) c.put_back.ensures.0)) c.take-status.ensures

@@ -2,14 +2,12 @@ use Rattle.std.proofs.Common.{◌≡◌, ◌∙◌, sym, ap, ap₂, subst, Optio
 use Rattle.std.proofs.lemmas.Result.{on_ok_weaker, on_err_weaker}
 use Rattle.std.specs.FinMap as maps
 use Rattle.nb_names.specs.declared.bytes.NoMemory.{NoMemory}
-use Rattle.nb_datagram.specs.declared.key.Key.{Key}
-use Rattle.nb_datagram.specs.Fragment.{core_of}
+use Rattle.nb_datagram.specs.Fragment.{FragmentParts, core_of}
 use Rattle.nb_entries.specs.Maps.{joined_onto}
 use Rattle.nb_entries.specs.declared.slot.Slot.TheVariants.{Held}
 use Rattle.nb_entries.specs.Entry.{EntryValue, facts_of, join_entry}
 use Rattle.nb_entries.specs.declared.change.Handing.{Handing}
-use Rattle.nb_entries.specs.Change.{Change}
-use Rattle.nb_entries.specs.Change.{KeyChange, Tells}
+use Rattle.nb_entries.specs.Change.{DataChange, KeyChange, Tells}
 use Rattle.nb_datagram.specs.KeyOrder.{key_cmp_total, key_cmp_exact}
 use Rattle.nb_table.proofs.Joins.TakenBackLemmas.{put_same}
 use Rattle.nb_table.proofs.Changes.InsertLemmas.{needs_more, on_err_both, on_any_err}
@@ -19,14 +17,14 @@ use Rattle.nb_table.proofs.inserting.insert_fragment.Goals as goal
 -- ---- a held key
 
 -- what changed at an entry is what changed at its key
-change_joined : (h : Handing) (r : Result Change NoMemory) (k : Key) (e new b : EntryValue) (o : Option EntryValue) → o ≡ Some e → OnOk r (new ≡ join_entry e b)
-    → IfOk r (Tells h k (Some e) (Some new)) → IfOk r (Tells h k o (Some (joined_onto join_entry o b)))
-change_joined h (Err x) k e new b o at joined change = tt
-change_joined h (Ok c) k e new b o at joined change =
+change_joined : (h : Handing) (r : Result DataChange NoMemory) (f : FragmentParts) (e new b : EntryValue) (o : Option EntryValue) → o ≡ Some e → OnOk r (new ≡ join_entry e b)
+    → IfOk r (Tells h f (Some e) (Some new)) → IfOk r (Tells h f o (Some (joined_onto join_entry o b)))
+change_joined h (Err x) f e new b o at joined change = tt
+change_joined h (Ok c) f e new b o at joined change =
     let now = ap (λ (x : EntryValue). Some x) (joined ∙ ap (λ p. joined_onto join_entry p b) (sym at)) in (
       change.0,
-      subst (λ p. KeyChange k p (Some (joined_onto join_entry o b)) change.0) (sym at)
-          (subst (λ p. KeyChange k (Some e) p change.0) now change.1),
+      subst (λ p. KeyChange f.key p (Some (joined_onto join_entry o b)) change.0) (sym at)
+          (subst (λ p. KeyChange f.key (Some e) p change.0) now change.1),
       change.2,
     )
 
@@ -66,10 +64,10 @@ pub returns-in-Some-clause-change : goal.returns-in-Some-clause-change
 returns-in-Some-clause-change c =
     let m = c.args.entries.now in
     let t = m in
-    let k = c.args.fragment.now.key in
-    let b = facts_of (core_of c.args.fragment.now) in
+    let f = c.args.fragment.now in
+    let b = facts_of (core_of f) in
     let at = ap (maps.get t) (sym c.key-key.ensures) ∙ sym c.in-Some.ensures.value in
-    change_joined c.args.handing c.insert.result k c.in-Some.entry.now c.insert.new.self (Held b) (maps.get t k) at c.insert.ensures.joined c.insert.ensures.change
+    change_joined c.args.handing c.insert.result f c.in-Some.entry.now c.insert.new.self (Held b) (maps.get t f.key) at c.insert.ensures.joined c.insert.ensures.change
 
 -- ---- a new key
 

@@ -10,15 +10,15 @@ pub returns-in-Err-try_get_matches_from-clause-alone :
 returns-in-Err-try_get_matches_from-clause-alone g c (program, word, words_are, alone) =
     let memory = c.in-Err-try_get_matches_from.ensures.passes
     (ap₂ takes c.in-Ok.ensures words_are ∙ alone_is_taken program word alone) in
-    no_usage_for_memory _ _ _ _ memory c.report_unmatched.ensures
+    no_usage_for_memory _ _ _ _ memory c.report_unmatched.ensures.reports
 
 pub returns-in-Ok-try_get_matches_from-clause-ran :
     goal.returns-in-Ok-try_get_matches_from-clause-ran
 returns-in-Ok-try_get_matches_from-clause-ran g c taken asks_none =
-    ran_words _ _ c.in-Ok-try_get_matches_from.matches _ c.run_command.result _ c.in-Ok.ensures c.in-Ok-try_get_matches_from.ensures.matches
-    c.run_command.ensures.ran c.report-in-Ok-try_get_matches_from.ensures.value
+    ran_words _ _ c.in-Ok-try_get_matches_from.matches _ c.run_command-outcome.result _ c.in-Ok.ensures c.in-Ok-try_get_matches_from.ensures.matches
+    c.run_command-outcome.ensures.ran c.report_run.ensures.value
 
 pub returns-in-Err-try_get_matches_from-clause-ran :
     goal.returns-in-Err-try_get_matches_from-clause-ran
 returns-in-Err-try_get_matches_from-clause-ran g c taken asks_none =
-    lacked_memory _ _ _ _ (c.in-Err-try_get_matches_from.ensures.passes (ap₂ takes c.in-Ok.ensures refl ∙ taken)) c.report_unmatched.ensures (Keeps-same _)
+    lacked_memory _ _ _ _ (c.in-Err-try_get_matches_from.ensures.passes (ap₂ takes c.in-Ok.ensures refl ∙ taken)) c.report_unmatched.ensures.reports (Keeps-same _)

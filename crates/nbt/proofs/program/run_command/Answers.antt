@@ -51,7 +51,7 @@ returns-in-Save-clause-ran g c =
     (save c.in-Some.matches.now c.run_save.result
     (entered_as c.args.matches.now c.subcommand.result (c.in-Some.word, c.in-Some.matches) c.in-Some-named.command commands.Save c.subcommand.ensures.name
     c.subcommand.ensures.rows c.in-Some.is c.in-Some-named.ensures.found c.in-Save.is)
-    c.run_save.ensures)
+    c.run_save.ensures.command)
 
 pub returns-in-Merge-clause-ran : goal.returns-in-Merge-clause-ran
 returns-in-Merge-clause-ran g c =

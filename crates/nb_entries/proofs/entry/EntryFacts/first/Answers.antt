@@ -1,15 +1,18 @@
 use Rattle.std.proofs.Common.{◌∙◌, ap}
-use Rattle.nb_datagram.specs.declared.key.Key.{Key}
 use Rattle.nb_entries.specs.Slot.{Held}
-use Rattle.nb_entries.specs.Whole.{datagram_of}
-use Rattle.nb_entries.specs.Change.{grown_to, handed_by}
-use Rattle.nb_entries.proofs.Changes.ChangeLemmas.{key_first, told_grown}
+use Rattle.nb_entries.specs.Entry.{EntryFacts}
+use Rattle.nb_entries.specs.Whole.{bytes_to, datagram_of, datagram_with}
+use Rattle.nb_entries.specs.Change.{grown_to, made_by}
+use Rattle.nb_entries.proofs.Changes.ChangeLemmas.{key_first, made_grown, told_grown, with_handed}
 use Rattle.nb_entries.proofs.entry.EntryFacts.first.Goals as goal
 
 pub returns-clause-change : goal.returns-clause-change
 returns-clause-change c =
-    let k = c.args.fragment.now.key in
+    let f = c.args.fragment.now in
     let h = c.args.handing in
     let facts = c.in_ok-facts.facts in
-    let datagram = c.in_ok-datagram.ensures ∙ ap (λ (q : Key). handed_by h (datagram_of q (Held facts))) c.key.ensures in
-    (grown_to (datagram_of k (Held facts)), key_first k facts, c.grown_to.ensures ∙ ap grown_to datagram ∙ told_grown h (datagram_of k (Held facts)))
+    let says = c.in_ok-facts.ensures in
+    let whole = datagram_of f.key (Held facts) in
+    let datagram = ap (datagram_with f.key facts) c.in_ok-bytes.ensures ∙ with_handed h f.key facts (bytes_to facts.cover.bytes facts.cover.end) in
+    let made = made_grown f facts c.in_ok-bytes.bytes (ap (λ (x : EntryFacts). x.kind) says) (ap (λ (x : EntryFacts). x.source) says) (ap (λ (x : EntryFacts). x.destination) says) in
+    (grown_to whole, key_first f.key facts, ap (made_by f) c.grown_to.ensures ∙ made ∙ ap grown_to datagram ∙ told_grown h whole)

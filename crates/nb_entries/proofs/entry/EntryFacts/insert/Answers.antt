@@ -5,8 +5,8 @@ use Rattle.nb_entries.specs.Slot.{Held}
 use Rattle.nb_entries.specs.Cover.{AreCoverFacts, covers_together}
 use Rattle.nb_entries.specs.Entry.{EntryFacts, FactsFit, facts_of, facts_together}
 use Rattle.nb_entries.specs.Whole.{bytes_to, datagram_of, datagram_with, newly}
-use Rattle.nb_entries.specs.Change.{KeyChange, grown_to, handed_by}
-use Rattle.nb_entries.proofs.Changes.ChangeLemmas.{facts_held, key_grown, told_grown, with_together}
+use Rattle.nb_entries.specs.Change.{KeyChange, grown_to, handed_by, made_by}
+use Rattle.nb_entries.proofs.Changes.ChangeLemmas.{facts_held, key_grown, made_grown, told_grown, with_together}
 use Rattle.nb_entries.specs.Shared.PlacedLemmas.{cover_of_formed}
 use Rattle.nb_entries.proofs.Covers.CoverFactsLemmas.{together_formed}
 use Rattle.std.proofs.lemmas.Bool.Decides.{not_from_Decides}
@@ -32,21 +32,22 @@ returns-clause-formed c =
 
 pub returns-clause-change : goal.returns-clause-change
 returns-clause-change c =
-    let b = facts_of (core_of c.args.fragment.now) in
-    let k = c.args.fragment.now.key in
+    let f = c.args.fragment.now in
+    let k = f.key in
     let h = c.args.handing in
+    let b = facts_of (core_of f) in
     let old : EntryFacts = record { kind = c.self.inside.kind; source = c.self.inside.parties.source; destination = c.self.inside.parties.destination; cover = c.self.inside.cover } in
     let fit = subst (λ (x : EntryFacts). FactsFit x b) (sym c.self.view_is) c.requires.fits in
     let made = c.in_ok-insert.ensures.ok in
     let new : ◌≡◌ {A = EntryFacts} (record { kind = c.self.inside.kind; source = c.self.inside.parties.source; destination = c.self.inside.parties.destination; cover = c.insert.new.self }) (facts_together old b) =
     λ i. record { kind = c.self.inside.kind; source = c.self.inside.parties.source; destination = c.self.inside.parties.destination; cover = made i } in
+    let bytes = c.in_ok-bytes.bytes in
     let datagram =
-    c.in_ok-datagram.ensures
-    ∙ ap (λ (x : EntryFacts). handed_by h (newly (datagram_of k (Held x)) (datagram_with k x (bytes_to (covers_together x.cover b.cover).bytes (covers_together x.cover b.cover).end)))) (sym c.self.view_is)
+    subst (λ (x : EntryFacts). datagram_with k x bytes ≡ handed_by h (newly (datagram_of k (Held x)) (datagram_with k x (bytes_to (covers_together x.cover b.cover).bytes (covers_together x.cover b.cover).end)))) (sym c.self.view_is) c.in_ok-bytes.ensures
     ∙ ap (λ (d : Option DatagramParts). handed_by h (newly (datagram_of k (Held old)) d)) (with_together k old b (bytes_to (facts_together old b).cover.bytes (facts_together old b).cover.end)) in
     let grown = key_grown k old b fit (not_from_Decides c.holds.result c.holds.ensures c.if-holds.false) in
     let whole = newly (datagram_of k (Held old)) (datagram_of k (Held (facts_together old b))) in
-    let told = c.grown_to.ensures ∙ ap grown_to datagram ∙ told_grown h whole in (
+    let told = ap (made_by f) c.grown_to.ensures ∙ made_grown f old bytes fit.kind fit.source fit.destination ∙ ap grown_to datagram ∙ told_grown h whole in (
       grown_to whole,
       subst (λ (x : EntryFacts). KeyChange k (Some (Held x)) (Some (Held (record { kind = c.self.inside.kind; source = c.self.inside.parties.source; destination = c.self.inside.parties.destination; cover = c.insert.new.self }))) (grown_to whole)) c.self.view_is
           (subst (λ (x : EntryFacts). KeyChange k (Some (Held old)) (Some (Held x)) (grown_to whole)) (sym new) grown),

@@ -1,3 +1,4 @@
+use Rattle.std.proofs.Common.{ap}
 use Rattle.std.proofs.lemmas.Result.{IfOk-weaker}
 use Rattle.nb_datagram.specs.Fragment.{core_of}
 use Rattle.nb_entries.specs.Cover.{cover_of, covers_together}
@@ -20,4 +21,4 @@ returns c =
     let b = cover_of (core_of c.args.fragment.now) in
     let k = c.args.fragment.now.key in
     let p = datagram_with k e (bytes_to (covers_together e.cover b).bytes (covers_together e.cover b).end) in
-    rw c.in-Over.is (IfOk-weaker c.datagram_with.result _ _ (λ made same. newly_always k (Held e) made p (not_from_Decides c.is_whole.result c.is_whole.ensures c.if-is_whole.false) same) c.datagram_with.ensures)
+    rw c.in-Over.is (IfOk-weaker c.user_data_with.result _ _ (λ made same. newly_always k (Held e) (datagram_with k e made) p (not_from_Decides c.is_whole.result c.is_whole.ensures c.if-is_whole.false) (ap (datagram_with k e) same)) c.user_data_with.ensures)

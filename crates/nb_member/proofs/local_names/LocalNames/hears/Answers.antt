@@ -4,7 +4,7 @@ use Rattle.nb_member.proofs.local_names.LocalNames.hears.Goals as goal
 use Rattle.nb_member.specs.Hearing.{hears}
 
 pub returns-clause-heard : goal.returns-clause-heard
-returns-clause-heard g c =
+returns-clause-heard c =
     let datagram = c.args.datagram.now in
     let is : c.hears_as.result ≡ hears c.args.self.now datagram = search rules in (
       λ t. Hears-from_test c.args.self.now datagram.kind datagram.destination (sym is ∙ t),

@@ -1,8 +1,5 @@
-use Rattle.std.proofs.Common.{ap, subst, sym, ◌∙◌}
+use Rattle.std.proofs.Common.{ap, ◌∙◌}
 use Rattle.std.proofs.lemmas.Result.{err_from_is_err_and}
-use Rattle.nb_datagram.specs.declared.key.Key.{Key}
-use Rattle.nb_entries.specs.Change.{Change}
-use Rattle.nb_table.specs.Change.{IsChange}
 use Rattle.nb_member.proofs.member.Member.take_fragment.Goals as goal
 use Rattle.nb_member.specs.Member.{MemberValue, with_timed}
 use Rattle.nb_member.specs.Taking.{outcome_of}
@@ -15,9 +12,9 @@ returns c =
     rw (← c.self.view_is) (record {
       takes = e.ensures.taken;
       joined = ap (with_timed m) e.ensures.joined;
-      change = e.change;
-      changed = subst (λ (x : Change). IsChange c.self.inside.timed.table.contents c.insert.new.self.table.contents c.args.fragment.now.key x) (sym told.2) told.1;
-      answered = c.outcome_of.ensures ∙ ap (λ (k : Key). outcome_of m.settings m.names k e.change) c.key-key.ensures;
+      change = told.0;
+      changed = told.1;
+      answered = c.outcome_of.ensures ∙ ap (outcome_of m.settings m.names c.args.fragment.now.key) told.2;
     })
 
 pub returns-in_err-change : goal.returns-in_err-change

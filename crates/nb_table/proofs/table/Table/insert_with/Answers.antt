@@ -5,7 +5,7 @@ use Rattle.nb_datagram.specs.Fragment.{core_of}
 use Rattle.nb_datagram.specs.declared.limits.TheConstants.{MAX_LENGTH}
 use Rattle.nb_table.specs.Contents.{Contents}
 use Rattle.nb_table.specs.Limits.{TableValue, KeepsLimits}
-use Rattle.nb_entries.specs.Change.{Change}
+use Rattle.nb_entries.specs.Change.{DataChange}
 use Rattle.nb_table.specs.Change.{IsChange}
 use Rattle.nb_table.specs.Insert.{Refuses, Takes}
 use Rattle.nb_table.specs.Shared.FragmentLemmas.{join_one}
@@ -30,7 +30,7 @@ insert_fragment-requires-clause-entry c e g =
 
 pub returns-in-Some-clause-without_memory : goal.returns-in-Some-clause-without_memory
 returns-in-Some-clause-without_memory c passes spares =
-    spared {X = Change} (Err c.in-Some.fault) c.args.self.now c.args.fragment.now c.in-Some.ensures.refusal passes spares
+    spared {X = DataChange} (Err c.in-Some.fault) c.args.self.now c.args.fragment.now c.in-Some.ensures.refusal passes spares
 
 refuses : (c : After-from_residual) → IfErr c.from_residual.result (Refuses c.args.self.now c.args.fragment.now)
 refuses c =

@@ -1,0 +1,79 @@
+-- Of two saved tables one thing is answered, where one thing is said of both.
+use Rattle.std.proofs.Common.{◌≡◌, ◌≢◌, ℕ, nat_le, true, List, Result, Ok, Err, refl, ap, subst}
+use Rattle.nb_entries.specs.declared.load_fault.LoadFault.{LoadFault}
+use Rattle.nb_entries.specs.declared.load_fault.LoadFault.TheVariants as loads
+use Rattle.nb_table.specs.Contents.{Contents}
+use Rattle.nb_table.specs.Limits.{Limits, TableValue}
+use Rattle.nb_table.specs.LoadFaults.{LoadFails}
+use Rattle.nb_c.specs.declared.refusal.Refusal.{Refusal}
+use Rattle.nb_c.specs.declared.refusal.Refusal.TheVariants.{Memory, Fault, FaultAt}
+use Rattle.nb_c.specs.Outputs.{HasOne, MayLack, OrMemory, refused_status}
+use Rattle.nb_c.specs.Tables.{IsLoaded, OfTwo, first_fails, second_fails, both, first_refusal, second_refusal, follow_the_first}
+use Rattle.nb_c.proofs.LoadLemmas.{InputLaws, one_fault, as_memory, no_other, loaded_apart}
+
+second_late : (fault : LoadFault) → fault ≢ loads.NoMemory → nat_le 80 (refused_status (second_refusal fault)) ≡ true
+second_late loads.BadMagic h = refl
+second_late loads.Truncated h = refl
+second_late (loads.NotCanonical at) h = refl
+second_late loads.TooLong h = refl
+second_late loads.FullSource h = refl
+second_late loads.Full h = refl
+second_late loads.NoMemory h = absurd (h refl)
+
+-- memory may run out before all that is said of both
+abbrev pub ComesLate : {A : Type 0} → (Contents → Contents → Result A Refusal → Type 0) → Type 0
+ComesLate {A} Then = (s t : Contents) (answer : Result A Refusal) → Then s t answer → MayLack follow_the_first answer
+
+module _ {A : Type 0} (first second : List ℕ) (limits : Limits) (Then : Contents → Contents → Result A Refusal → Type 0) (laws : InputLaws first) where
+  module _ (late : ComesLate Then) where
+    lacks : LoadFails first limits loads.NoMemory → (answer : Result A Refusal) → OfTwo first second limits Then answer
+        → MayLack follow_the_first answer
+    lacks q _ (first_fails fault h p) = no_other first limits laws fault h p q
+    lacks q _ (second_fails one fault is h p) = second_late fault h
+    lacks q _ (both one other answer is also j) = late one.contents other.contents answer j
+
+    pub first_failed : (fault : LoadFault) → LoadFails first limits fault
+        → OrMemory follow_the_first (OfTwo first second limits Then) (Err (first_refusal fault))
+    first_failed loads.BadMagic p = first_fails loads.BadMagic (λ e. absurd (cc e)) p
+    first_failed loads.Truncated p = first_fails loads.Truncated (λ e. absurd (cc e)) p
+    first_failed (loads.NotCanonical at) p = first_fails (loads.NotCanonical at) (λ e. absurd (cc e)) p
+    first_failed loads.TooLong p = first_fails loads.TooLong (λ e. absurd (cc e)) p
+    first_failed loads.FullSource p = first_fails loads.FullSource (λ e. absurd (cc e)) p
+    first_failed loads.Full p = first_fails loads.Full (λ e. absurd (cc e)) p
+    first_failed loads.NoMemory p = lacks p
+
+    pub second_failed : (one : TableValue) (fault : LoadFault) → IsLoaded first limits one → LoadFails second limits fault
+        → OrMemory follow_the_first (OfTwo first second limits Then) (Err (second_refusal fault))
+    second_failed one loads.BadMagic is p = second_fails one loads.BadMagic is (λ e. absurd (cc e)) p
+    second_failed one loads.Truncated is p = second_fails one loads.Truncated is (λ e. absurd (cc e)) p
+    second_failed one (loads.NotCanonical at) is p = second_fails one (loads.NotCanonical at) is (λ e. absurd (cc e)) p
+    second_failed one loads.TooLong is p = second_fails one loads.TooLong is (λ e. absurd (cc e)) p
+    second_failed one loads.FullSource is p = second_fails one loads.FullSource is (λ e. absurd (cc e)) p
+    second_failed one loads.Full is p = second_fails one loads.Full is (λ e. absurd (cc e)) p
+    second_failed one loads.NoMemory is p = lacks (as_memory first limits laws one is)
+
+    -- what two tables that were read come to
+    pub done : (one other : TableValue) (answer : Result A Refusal) → IsLoaded first limits one
+        → IsLoaded second limits other → OrMemory follow_the_first (Then one.contents other.contents) answer
+        → OrMemory follow_the_first (OfTwo first second limits Then) answer
+    done one other (Ok value) is also j = both one other (Ok value) is also j
+    done one other (Err Memory) is also j = lacks (as_memory first limits laws one is)
+    done one other (Err (Fault status)) is also j = both one other (Err (Fault status)) is also j
+    done one other (Err (FaultAt status place)) is also j = both one other (Err (FaultAt status place)) is also j
+
+  module _ (more : InputLaws second) (one_said : (s t : Contents) → HasOne (Then s t)) where
+    pub one_of_two : HasOne (OfTwo first second limits Then)
+    one_of_two _ _ (first_fails f h p) (first_fails g k q) =
+        ap (λ (x : LoadFault). Err (first_refusal x)) (one_fault first limits laws f g p q)
+    one_of_two _ _ (first_fails f h p) (second_fails one g is k q) = loaded_apart first limits laws one f h is p
+    one_of_two _ _ (first_fails f h p) (both one other b is also j) = loaded_apart first limits laws one f h is p
+    one_of_two _ _ (second_fails one g is k q) (first_fails f h p) = loaded_apart first limits laws one f h is p
+    one_of_two _ _ (second_fails one f is h p) (second_fails _ g _ k q) =
+        ap (λ (x : LoadFault). Err (second_refusal x)) (one_fault second limits more f g p q)
+    one_of_two _ _ (second_fails one f is h p) (both _ other b _ also j) = loaded_apart second limits more other f h also p
+    one_of_two _ _ (both one other a is also j) (first_fails f h p) = loaded_apart first limits laws one f h is p
+    one_of_two _ _ (both one other a is also j) (second_fails _ f _ h p) = loaded_apart second limits more other f h also p
+    one_of_two _ _ (both one other a is also j) (both two third b same too k) =
+        one_said one.contents other.contents a b j
+        (subst (λ (x : Contents). Then x other.contents b) (laws.one two.contents one.contents same.stands is.stands)
+        (subst (λ (x : Contents). Then two.contents x b) (more.one third.contents other.contents too.stands also.stands) k))

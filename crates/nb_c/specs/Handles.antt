@@ -1,0 +1,16 @@
+-- The pointers behind which stations stand (our choice): none stands behind null.
+use Rattle.std.specs.Prelude.{◌≡◌, Bool, MatchBool}
+use denote.RawPtr.{Ptr, null_ptr, InBlock}
+use Rattle.nb_c.specs.declared.kept.Kept.{Kept}
+
+-- a station stands behind the pointer
+abbrev pub IsHere : Ptr → Type 0
+IsHere = InBlock
+
+-- none does
+abbrev pub IsNone : Ptr → Type 0
+IsNone at = at ≡ null_ptr
+
+-- IsTold at at' value value' is_none: what is told of a station is whether it is none, and it stays
+abbrev pub IsTold : Ptr → Ptr → Kept → Kept → Bool → Type 0
+IsTold at at' value value' is_none = (at' ≡ at) × (value' ≡ value) × MatchBool is_none (IsNone at) (IsHere at)

@@ -1,0 +1,16 @@
+//! Spellings of names, in place.
+ghost use Rattle.std.specs.Prelude.{◌≡◌};
+ghost use Rattle.nb_c.specs.Names.{spelled_in_place};
+
+use nb_names::DomainName;
+use nb_names::limits::MAX_SPELLING;
+
+/// The spelling of labels, and bytes of zero after it.
+pub(crate) fn spelled_in_place(domain: &DomainName) -> [u8; MAX_SPELLING]
+    ensures { result ≡ spelled_in_place domain.now }
+{
+    let spelling = domain.spelling();
+    let mut bytes = [0; MAX_SPELLING];
+    bytes[..spelling.len()].copy_from_slice(spelling);
+    bytes
+}

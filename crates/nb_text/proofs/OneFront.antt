@@ -1,0 +1,151 @@
+-- What still stands at the front of a payload is one list of fields.
+use Rattle.std.proofs.Common.{◌≡◌, ◌≢◌, ◌⊎◌, inl, inr, ℕ, ◌<◌, ◌≤◌, List, [], ◌++◌, length, None, refl, sym, ap, ap₂, ◌∙◌, arith}
+use Rattle.nb_service.specs.declared.fault.ServiceFault.{ServiceFault}
+use Rattle.nb_service.specs.Header.{PacketHeader, HasHeader}
+use Rattle.nb_service.specs.Items.{PacketItem, HasItems, items_of}
+use Rattle.nb_service.specs.Packet as service
+use Rattle.nb_service.specs.ServiceFaults as service_faults
+use Rattle.nb_datagram.specs.declared.fault.DatagramFault.{DatagramFault}
+use Rattle.nb_datagram.specs.declared.front.Front.{Front}
+use Rattle.nb_datagram.specs.DatagramFaults as datagram_faults
+use Rattle.nb_datagram.specs.Fronts.{HasFront, LacksHeader}
+use Rattle.nb_datagram.specs.Packet as datagrams
+use Rattle.nb_session.specs.declared.header.Header.{Header}
+use Rattle.nb_session.specs.declared.packet.Packet.{Packet as SessionPacket}
+use Rattle.nb_session.specs.declared.parsing.Parsed.{Parsed}
+use Rattle.nb_session.specs.declared.parsing.Parsed.TheVariants.{Whole}
+use Rattle.nb_session.specs.Header as sessions
+use Rattle.nb_session.specs.Parsing.{Parses, taken_by}
+use Rattle.nb_telling.specs.Fields.{Field}
+use Rattle.nb_text.specs.FrontFields.{names_header_fields, names_front_fields, datagram_front_fields, session_front_fields}
+use Rattle.nb_text.specs.TellsFront as fronts
+use Rattle.nb_text.specs.TellsFront.{FrontOf, TellsFront}
+use Rattle.nb_text.proofs.ItemParts.{same_lists}
+use Rattle.nb_text.proofs.ShownLemmas.{OneFor, one_told}
+
+-- ---- by ports
+
+data NamesFront (payload : List ℕ) : List Field → Type 0 where
+  names_whole : (packet : service.ServicePacket) (used : ℕ) → service.IsPacket payload packet used → NamesFront payload []
+  names_short : length payload < 12 → NamesFront payload []
+  names_part : (fault : ServiceFault) (header : PacketHeader) (part : service.ServicePacket) (next : ℕ)
+      → service_faults.PacketFails payload fault → HasItems payload header (items_of part) next → NamesFront payload (names_front_fields header part)
+
+data DatagramFront (payload : List ℕ) : List Field → Type 0 where
+  datagram_whole : (packet : datagrams.Packet) (used : ℕ) → datagrams.IsPacket payload packet used → DatagramFront payload []
+  datagram_short : LacksHeader payload → DatagramFront payload []
+  datagram_part : (fault : DatagramFault) (front : Front) → datagram_faults.PacketFails payload fault → HasFront payload front
+      → DatagramFront payload (datagram_front_fields front)
+
+data SessionFront (payload : List ℕ) : List Field → Type 0 where
+  session_whole : (packet : SessionPacket) (used : ℕ) → Parses payload (Whole packet used) → SessionFront payload []
+  session_short : length payload < 4 → SessionFront payload []
+  session_part : (parsed : Parsed) (header : Header) → Parses payload parsed → taken_by parsed ≡ None → sessions.HasHeader payload header
+      → SessionFront payload (session_front_fields header)
+
+abbrev ByPort : List ℕ → ℕ → List Field → Type 0
+ByPort payload port more =
+    ((port ≡ 137) × NamesFront payload more)
+    ⊎ (((port ≡ 138) × DatagramFront payload more) ⊎ ((port ≢ 137) × (port ≢ 138) × SessionFront payload more))
+
+by_port : (payload : List ℕ) (port : ℕ) (more : List Field) → FrontOf payload port more → ByPort payload port more
+by_port payload _ _ (fronts.names packet used h) = inl (refl, names_whole packet used h)
+by_port payload _ _ (fronts.no_names_header fault fails low) = inl (refl, names_short low)
+by_port payload _ _ (fronts.names_front fault header part next fails h) = inl (refl, names_part fault header part next fails h)
+by_port payload _ _ (fronts.datagram packet used h) = inr (inl (refl, datagram_whole packet used h))
+by_port payload _ _ (fronts.no_datagram_header fault fails lacks) = inr (inl (refl, datagram_short lacks))
+by_port payload _ _ (fronts.datagram_front fault front fails h) = inr (inl (refl, datagram_part fault front fails h))
+by_port payload _ _ (fronts.session port packet used a b h) = inr (inr (a, b, session_whole packet used h))
+by_port payload _ _ (fronts.no_session_header port a b low) = inr (inr (a, b, session_short low))
+by_port payload _ _ (fronts.session_front port parsed header a b h none there) = inr (inr (a, b, session_part parsed header h none there))
+
+-- ---- one for each
+
+-- FrontLaws payload: the laws that it stands on
+pub record FrontLaws (payload : List ℕ) : Type 0 where
+  pub name_alone : (fault : ServiceFault) (packet : service.ServicePacket) (used : ℕ) → service_faults.PacketFails payload fault
+      → ¬ service.IsPacket payload packet used
+  pub names_long : (header : PacketHeader) → HasHeader payload header → 12 ≤ length payload
+  pub one_items : (header other : PacketHeader) (items others : List PacketItem) (next after : ℕ) → HasItems payload header items next
+      → HasItems payload other others after → (header ≡ other) × (items ≡ others) × (next ≡ after)
+  pub datagram_alone : (fault : DatagramFault) (packet : datagrams.Packet) (used : ℕ) → datagram_faults.PacketFails payload fault
+      → ¬ datagrams.IsPacket payload packet used
+  pub one_front : (front other : Front) → HasFront payload front → HasFront payload other → front ≡ other
+  pub lacks : (front : Front) → LacksHeader payload → ¬ HasFront payload front
+  pub one_parsed : (parsed other : Parsed) → Parses payload parsed → Parses payload other → parsed ≡ other
+  pub one_header : (header other : Header) → sessions.HasHeader payload header → sessions.HasHeader payload other → header ≡ other
+  pub session_long : (header : Header) → sessions.HasHeader payload header → 4 ≤ length payload
+
+module _ (payload : List ℕ) (laws : FrontLaws payload) where
+  one_names : (x y : List Field) → NamesFront payload x → NamesFront payload y → x ≡ y
+  one_names _ _ (names_whole p u h) (names_whole q v g) = refl
+  one_names _ _ (names_whole p u h) (names_short low) = refl
+  one_names _ _ (names_whole p u h) (names_part f k part next fails g) = absurd (laws.name_alone f p u fails h)
+  one_names _ _ (names_short low) (names_whole q v g) = refl
+  one_names _ _ (names_short low) (names_short few) = refl
+  one_names _ _ (names_short low) (names_part f k part next fails g) = let long = laws.names_long k g.header_there in absurd (omega (arith, low, long))
+  one_names _ _ (names_part f k part next fails g) (names_whole q v h) = absurd (laws.name_alone f q v fails h)
+  one_names _ _ (names_part f k part next fails g) (names_short low) = let long = laws.names_long k g.header_there in absurd (omega (arith, low, long))
+  one_names _ _ (names_part f k part next fails g) (names_part e l other after fail h) =
+      let same = laws.one_items k l (items_of part) (items_of other) next after g h in
+      ap₂ (λ (header : PacketHeader) (fields : List Field). names_header_fields header ++ fields) same.0 (same_lists part other same.1)
+
+  one_datagram : (x y : List Field) → DatagramFront payload x → DatagramFront payload y → x ≡ y
+  one_datagram _ _ (datagram_whole p u h) (datagram_whole q v g) = refl
+  one_datagram _ _ (datagram_whole p u h) (datagram_short low) = refl
+  one_datagram _ _ (datagram_whole p u h) (datagram_part f front fails g) = absurd (laws.datagram_alone f p u fails h)
+  one_datagram _ _ (datagram_short low) (datagram_whole q v g) = refl
+  one_datagram _ _ (datagram_short low) (datagram_short few) = refl
+  one_datagram _ _ (datagram_short low) (datagram_part f front fails g) = absurd (laws.lacks front low g)
+  one_datagram _ _ (datagram_part f front fails g) (datagram_whole q v h) = absurd (laws.datagram_alone f q v fails h)
+  one_datagram _ _ (datagram_part f front fails g) (datagram_short low) = absurd (laws.lacks front low g)
+  one_datagram _ _ (datagram_part f front fails g) (datagram_part e other fail h) = ap datagram_front_fields (laws.one_front front other g h)
+
+  not_whole : (packet : SessionPacket) (used : ℕ) (parsed : Parsed) → Parses payload (Whole packet used) → Parses payload parsed → taken_by parsed ≡ None → ⊥
+  not_whole packet used parsed h g none = let same = ap taken_by (laws.one_parsed (Whole packet used) parsed h g) in absurd (cc (same, none))
+
+  one_session : (x y : List Field) → SessionFront payload x → SessionFront payload y → x ≡ y
+  one_session _ _ (session_whole p u h) (session_whole q v g) = refl
+  one_session _ _ (session_whole p u h) (session_short low) = refl
+  one_session _ _ (session_whole p u h) (session_part parsed header g none there) = absurd (not_whole p u parsed h g none)
+  one_session _ _ (session_short low) (session_whole q v g) = refl
+  one_session _ _ (session_short low) (session_short few) = refl
+  one_session _ _ (session_short low) (session_part parsed header g none there) = let long = laws.session_long header there in absurd (omega (arith, low, long))
+  one_session _ _ (session_part parsed header g none there) (session_whole q v h) = absurd (not_whole q v parsed h g none)
+  one_session _ _ (session_part parsed header g none there) (session_short low) = let long = laws.session_long header there in absurd (omega (arith, low, long))
+  one_session _ _ (session_part parsed header g none there) (session_part other again h void stands) =
+      ap session_front_fields (laws.one_header header again there stands)
+
+  one_by_port : (port : ℕ) (x y : List Field) → ByPort payload port x → ByPort payload port y → x ≡ y
+  one_by_port port x y a b = elim a [
+    | inl p ↦ elim b [
+      | inl q ↦ one_names x y p.1 q.1
+      | inr r ↦ elim r [
+        | inl q ↦ let here = p.0 in let there = q.0 in absurd (omega (arith, here, there))
+        | inr q ↦ absurd (q.0 p.0)
+      ]
+    ]
+    | inr s ↦ elim s [
+      | inl p ↦ elim b [
+        | inl q ↦ let here = p.0 in let there = q.0 in absurd (omega (arith, here, there))
+        | inr r ↦ elim r [
+          | inl q ↦ one_datagram x y p.1 q.1
+          | inr q ↦ absurd (q.1 p.0)
+        ]
+      ]
+      | inr p ↦ elim b [
+        | inl q ↦ absurd (p.0 q.0)
+        | inr r ↦ elim r [
+          | inl q ↦ absurd (p.1 q.0)
+          | inr q ↦ one_session x y p.2 q.2
+        ]
+      ]
+    ]
+  ]
+
+  pub one_told_front : (port : ℕ) (fields others : List Field) → OneFor payload → TellsFront payload port fields → TellsFront payload port others
+      → fields ≡ others
+  one_told_front port fields others for a b =
+      let told = one_told payload port a.told b.told for a.tells b.tells in
+      let more = one_by_port port a.more b.more (by_port payload port a.more a.stands) (by_port payload port b.more b.stands) in
+      a.are ∙ ap₂ (λ (x y : List Field). x ++ y) told more ∙ sym b.are

@@ -1,0 +1,5 @@
+use Rattle.nb_text.proofs.FrontMembers.{told_members}
+use Rattle.nb_text.proofs.laws.fronts.fronts_are_members.Goals as goal
+
+pub returns : goal.returns
+returns c = told_members

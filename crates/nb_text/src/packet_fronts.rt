@@ -1,0 +1,190 @@
+//! What still stands at the front of a payload of port 138 or 139 that begins with no packet, told
+//! to a sink: its header, and the names that stand whole.
+#![tactic(auto, using(nb_telling::proofs::FoldLemmas::told_both))]
+
+ghost use Rattle.std.specs.Prelude.{◌≡◌, ◌≢◌, ℕ, List, Some, None, OnOk, fold, option_map};
+ghost use Rattle.nb_datagram.specs.declared.fault.DatagramFault.{DatagramFault};
+ghost use Rattle.nb_datagram.specs.DatagramFaults.{PacketFails};
+ghost use Rattle.nb_session.specs.declared.parsing.Parsed.{Parsed as ParsedValue};
+ghost use Rattle.nb_session.specs.Parsing.{Parses, taken_by};
+ghost use Rattle.nb_telling.specs.Fields.{Field};
+ghost use Rattle.nb_telling.specs.Telling.{Grows, key_of};
+ghost use Rattle.nb_text.specs.FrontFields.{datagram_front_fields, fragment_front_fields, session_front_fields, standing_name, type_field};
+ghost use Rattle.nb_text.specs.TellsFront.{FrontOf};
+ghost use Rattle.nb_text.specs.Words.{datagram_word, session_word};
+
+use crate::keys::{DESTINATION, FLAGS, KEY, KIND, LENGTH, OFFSET, PACKET_TYPE, SOURCE};
+use nb_datagram::{FragmentFront, Front, decode_lent, read_front};
+use nb_names::{LentName, NoMemory};
+use nb_session::{Header, Parsed, front_header, parse};
+use nb_telling::{FieldKey, Sink};
+
+/// Tells what still stands at the front of a payload of port 138; nothing of one that begins with a
+/// packet.
+pub fn tell_datagram_front<S: Sink>(payload: &[u8], sink: &mut S) -> Result<(), NoMemory>
+    ensures told { OnOk result ((more : List Field) × FrontOf payload.now 138 more
+        × (S.seen sink.new ≡ fold S.after (S.seen sink.old) more)) }
+    ensures front { Grows S.is_front (S.seen sink.old) (S.seen sink.new) }
+{
+    match decode_lent(payload) {
+        Ok(_) => Ok(()),
+        Err(_) => tell_refused_datagram(payload, sink),
+    }
+}
+
+/// Tells what still stands at the front of a payload of port 138 that begins with no packet.
+fn tell_refused_datagram<S: Sink>(payload: &[u8], sink: &mut S) -> Result<(), NoMemory>
+    requires { (fault : DatagramFault) × PacketFails payload.now fault }
+    ensures told { OnOk result ((more : List Field) × FrontOf payload.now 138 more
+        × (S.seen sink.new ≡ fold S.after (S.seen sink.old) more)) }
+    ensures front { Grows S.is_front (S.seen sink.old) (S.seen sink.new) }
+{
+    match read_front(payload) {
+        Some(front) => tell_datagram_line(&front, sink),
+        None => Ok(()),
+    }
+}
+
+/// Tells the line of what still stands at the front of a payload of port 138.
+fn tell_datagram_line<S: Sink>(front: &Front<'_>, sink: &mut S) -> Result<(), NoMemory>
+    ensures told { OnOk result
+        (S.seen sink.new ≡ fold S.after (S.seen sink.old) (datagram_front_fields front.now)) }
+    ensures front { Grows S.is_front (S.seen sink.old) (S.seen sink.new) }
+{
+    sink.words("  ")?;
+    tell_type(datagram_name(front.message_type), front.message_type, sink)?;
+    sink.digits(FLAGS, &[front.flags])?;
+    sink.shown(KEY, &front.key)?;
+    tell_fragment_front(&front.fragment, sink)?;
+    sink.line_ends()
+}
+
+/// Tells what stands after the ten bytes with which all packets of port 138 begin.
+fn tell_fragment_front<S: Sink>(
+    fragment: &Option<FragmentFront<'_>>,
+    sink: &mut S,
+) -> Result<(), NoMemory>
+    ensures told { OnOk result
+        (S.seen sink.new ≡ fold S.after (S.seen sink.old) (fragment_front_fields fragment.now)) }
+    ensures front { Grows S.is_front (S.seen sink.old) (S.seen sink.new) }
+{
+    match fragment {
+        Some(front) => tell_fragment(front, sink),
+        None => Ok(()),
+    }
+}
+
+/// Tells the rest of a fragment's header, and the names that stand whole.
+fn tell_fragment<S: Sink>(front: &FragmentFront<'_>, sink: &mut S) -> Result<(), NoMemory>
+    ensures told { OnOk result (S.seen sink.new
+        ≡ fold S.after (S.seen sink.old) (fragment_front_fields (Some front.now))) }
+    ensures front { Grows S.is_front (S.seen sink.old) (S.seen sink.new) }
+{
+    sink.number(OFFSET, u64::from(front.offset))?;
+    tell_standing_name(SOURCE, &front.source, sink)?;
+    tell_standing_name(DESTINATION, &front.destination, sink)
+}
+
+/// Tells a name, where it stands whole.
+fn tell_standing_name<S: Sink>(
+    key: FieldKey,
+    name: &Option<LentName<'_>>,
+    sink: &mut S,
+) -> Result<(), NoMemory>
+    ensures told { OnOk result
+        (S.seen sink.new ≡ fold S.after (S.seen sink.old) (standing_name (key_of key) name.now)) }
+    ensures front { Grows S.is_front (S.seen sink.old) (S.seen sink.new) }
+{
+    match name {
+        Some(name) => sink.shown(key, name),
+        None => Ok(()),
+    }
+}
+
+/// Tells what still stands at the front of a payload of port 139; nothing of one that begins with a
+/// packet.
+pub fn tell_session_front<S: Sink>(payload: &[u8], sink: &mut S) -> Result<(), NoMemory>
+    ensures told { OnOk result ((port : ℕ) → port ≢ 137 → port ≢ 138 →
+        (more : List Field) × FrontOf payload.now port more
+        × (S.seen sink.new ≡ fold S.after (S.seen sink.old) more)) }
+    ensures front { Grows S.is_front (S.seen sink.old) (S.seen sink.new) }
+{
+    match parse(payload) {
+        Parsed::Whole(..) => Ok(()),
+        Parsed::More(_) => tell_session_header(payload, sink),
+        Parsed::Refused(_) => tell_session_header(payload, sink),
+    }
+}
+
+/// Tells what still stands at the front of a payload of port 139 that begins with no whole packet.
+fn tell_session_header<S: Sink>(payload: &[u8], sink: &mut S) -> Result<(), NoMemory>
+    requires { (parsed : ParsedValue) × Parses payload.now parsed × (taken_by parsed ≡ None) }
+    ensures told { OnOk result ((port : ℕ) → port ≢ 137 → port ≢ 138 →
+        (more : List Field) × FrontOf payload.now port more
+        × (S.seen sink.new ≡ fold S.after (S.seen sink.old) more)) }
+    ensures front { Grows S.is_front (S.seen sink.old) (S.seen sink.new) }
+{
+    match front_header(payload) {
+        Some(header) => tell_session_line(&header, sink),
+        None => Ok(()),
+    }
+}
+
+/// Tells the line of a session packet's header.
+fn tell_session_line<S: Sink>(header: &Header, sink: &mut S) -> Result<(), NoMemory>
+    ensures told { OnOk result
+        (S.seen sink.new ≡ fold S.after (S.seen sink.old) (session_front_fields header.now)) }
+    ensures front { Grows S.is_front (S.seen sink.old) (S.seen sink.new) }
+{
+    sink.words("  ")?;
+    tell_type(session_name(header.packet_type), header.packet_type, sink)?;
+    sink.number(LENGTH, header.body_length() as u64)?;
+    sink.line_ends()
+}
+
+/// Tells what a packet is, by its word where its type has one, else by its type.
+fn tell_type<S: Sink>(
+    word: Option<&'static str>,
+    packet_type: u8,
+    sink: &mut S,
+) -> Result<(), NoMemory>
+    ensures told { OnOk result (S.seen sink.new ≡ S.after (S.seen sink.old)
+        (type_field (option_map (λ word. word.now) word.entry) packet_type)) }
+    ensures front { Grows S.is_front (S.seen sink.old) (S.seen sink.new) }
+{
+    match word {
+        Some(word) => sink.text(KIND, word),
+        None => sink.digits(PACKET_TYPE, &[packet_type]),
+    }
+}
+
+/// The word for packets of port 138 of a MSG_TYPE.
+fn datagram_name(message_type: u8) -> Option<&'static str>
+    ensures { option_map (λ name. name.now) result ≡ datagram_word message_type }
+{
+    match message_type {
+        0x10 => Some("unique"),
+        0x11 => Some("group"),
+        0x12 => Some("broadcast"),
+        0x13 => Some("error"),
+        0x14 => Some("find"),
+        0x15 => Some("found"),
+        0x16 => Some("missing"),
+        _ => None,
+    }
+}
+
+/// The word for packets of port 139 of a TYPE.
+fn session_name(packet_type: u8) -> Option<&'static str>
+    ensures { option_map (λ name. name.now) result ≡ session_word packet_type }
+{
+    match packet_type {
+        0x00 => Some("message"),
+        0x81 => Some("request"),
+        0x82 => Some("positive"),
+        0x83 => Some("negative"),
+        0x84 => Some("retarget"),
+        0x85 => Some("keepalive"),
+        _ => None,
+    }
+}

@@ -1,0 +1,18 @@
+use Rattle.std.proofs.Common.{ap, sym, ◌∙◌}
+use Rattle.std.proofs.lemmas.Result.{on_ok_weaker}
+use Rattle.nb_member.specs.declared.line.Line.TheVariants.{Packet}
+use Rattle.nbt.proofs.ObjectLemmas.{front_told, of_tick_told}
+use Rattle.nbt.proofs.fronts.FrontsLineFields.tell.Goals as goal
+
+pub returns-in-Packet : goal.returns-in-Packet
+returns-in-Packet g c =
+    let is = c.in-Packet.is ∙ ap (Packet c.in-Packet.port c.in-Packet.moment) (sym c.as_slice.ensures) in record {
+      told = on_ok_weaker c.tell_front.result
+          (front_told g.S.Sink.after c.args.said.now tt tt c.in-Packet.port c.in-Packet.moment c.as_slice.result.now _ _ is c.fronts_are_members.ensures)
+          c.tell_front.ensures.told;
+    }
+
+pub returns-in-Tick : goal.returns-in-Tick
+returns-in-Tick g c = record {
+  told = on_ok_weaker c.text.result (of_tick_told g.S.Sink.after c.args.said.now tt tt c.in-Tick.now _ _ c.in-Tick.is) c.text.ensures.told;
+}

@@ -1,0 +1,71 @@
+//! Standard error: what is reported there, and who reads it.
+ghost use Rattle.std.specs.Prelude.{◌≡◌, None, OnOk};
+ghost use Rattle.std.specs.Io.KnownBytes.{Appends};
+ghost use Rattle.nbt.specs.FaultTexts.{fault_line};
+
+use crate::fault::Fault;
+use crate::front::Front;
+use crate::output::Output;
+use std::cell::Cell;
+use std::io;
+use std::io::Write;
+
+/// Who reads standard error.
+#[derive(Clone, Copy)]
+pub enum Audience<'a> {
+    /// Programs: a fault is one line.
+    Programs,
+    /// A person at a terminal, who is told what to do then, too; and what the input began with.
+    Person(&'a Cell<Front>),
+}
+
+/// Standard error, with those who read it.
+#[derive(Drop)]
+pub struct Errors<'a, E> {
+    pub(crate) output: Output<E>,
+    pub(crate) audience: Audience<'a>,
+}
+
+impl<'a, E> Errors<'a, E> {
+    /// This device, read by these.
+    pub fn new(device: E, audience: Audience<'a>) -> Errors<'a, E> {
+        Errors {
+            output: Output::new(device),
+            audience,
+        }
+    }
+
+    /// The device itself.
+    pub fn into_inner(self) -> E {
+        let Errors {
+            output,
+            audience: _,
+        } = self;
+        output.into_inner()
+    }
+
+    /// What the input began with, where a person reads this.
+    pub fn front(&self) -> Option<Front>
+        ensures { self.now.audience ≡ Audience.Programs → result ≡ None }
+    {
+        match self.audience {
+            Audience::Programs => None,
+            Audience::Person(front) => Some(front.get()),
+        }
+    }
+
+    /// Prints a fault, as a line.
+    ///
+    /// # Errors
+    ///
+    /// That of the device. A front of the line may be written then.
+    pub fn print_fault(&mut self, fault: Fault) -> io::Result<()>
+    where
+        E: Write,
+        ensures printed { OnOk result (Appends (E.contents self.old.output.inner)
+            (E.contents self.new.output.inner) (fault_line fault)) }
+        ensures audience { self.new.audience ≡ self.old.audience }
+    {
+        writeln!(self.output, "nbt: {fault}")
+    }
+}

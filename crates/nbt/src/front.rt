@@ -1,0 +1,78 @@
+//! What an input begins with.
+
+use std::cell::Cell;
+use std::io;
+use std::io::Read;
+
+/// How many bytes a format is told by.
+const WIDTH: usize = 4;
+
+/// What a pcap file begins with, of microseconds and of nanoseconds and in either byte order, and
+/// what a pcapng file does.
+const PCAP: [[u8; WIDTH]; 5] = [
+    [0xa1, 0xb2, 0xc3, 0xd4],
+    [0xd4, 0xc3, 0xb2, 0xa1],
+    [0xa1, 0xb2, 0x3c, 0x4d],
+    [0x4d, 0x3c, 0xb2, 0xa1],
+    [0x0a, 0x0d, 0x0d, 0x0a],
+];
+
+/// The first four bytes of an input, as far as it was read.
+#[derive(Clone, Copy)]
+pub struct Front {
+    bytes: [u8; WIDTH],
+    held: usize,
+}
+
+impl Front {
+    /// That of an input of which nothing was read.
+    pub fn unread() -> Front {
+        Front {
+            bytes: [0; WIDTH],
+            held: 0,
+        }
+    }
+
+    /// Whether a pcap or a pcapng file begins so.
+    pub fn is_pcap(&self) -> bool {
+        self.held == WIDTH && PCAP.contains(&self.bytes)
+    }
+
+    /// The front once these bytes were read too.
+    fn with(self, read: &[u8]) -> Front {
+        let mut front = self;
+        for byte in read {
+            if front.held < WIDTH {
+                front.bytes[front.held] = *byte;
+                front.held += 1;
+            } else {
+                break;
+            }
+        }
+        front
+    }
+}
+
+/// An input whose front is kept in a cell.
+#[derive(Drop)]
+pub struct FrontInput<'a, R> {
+    input: R,
+    front: &'a Cell<Front>,
+}
+
+impl<'a, R> FrontInput<'a, R> {
+    /// This input, of which nothing was read yet, with this cell.
+    pub fn new(input: R, front: &'a Cell<Front>) -> FrontInput<'a, R> {
+        FrontInput { input, front }
+    }
+}
+
+impl<'a, R: Read> Read for FrontInput<'a, R> {
+    ghost remaining = { λ r. R.remaining r.input };
+
+    fn read(&mut self, buf: &mut [u8]) -> io::Result<usize> {
+        let count = self.input.read(buf)?;
+        self.front.set(self.front.get().with(&buf[..count]));
+        Ok(count)
+    }
+}

@@ -1,0 +1,153 @@
+#!/usr/bin/env python3
+"""What tools/nbt-look shows of packets that the snap length cut, beside a model.  Usage: tests/cut_looks.py    with python3-scapy
+
+The packets of tests/lib/cut_captures.py are cut at several lengths. Of each frame the object of --json has the members that
+tests/lib/fronts_model.py reads in the bytes that are left, the last line counts what is cut, and filters by name and kind choose those
+in which the name stands. Its last line is 'N passed, M failed', of lengths.
+"""
+import json
+import os
+import subprocess
+import sys
+import tempfile
+
+sys.dont_write_bytecode = True
+HERE = os.path.dirname(os.path.abspath(__file__))
+sys.path.insert(1, f'{HERE}/lib')
+from cut_captures import capture, payloads
+from fronts_model import front_of
+from object_model import SECTIONS, shown
+
+TOOL = os.path.join(HERE, '../tools/nbt-look')
+SNAPS = (42, 43, 52, 54, 60, 76, 89, 90, 92, 96, 110, 111, 124, 130, 160, 400)
+FILTERED = (60, 96, 124)         # those at which filters are tried
+BEFORE = 42                      # the bytes of a frame before its payload
+REASON = 'cut by the snap length'
+OF_FRAME = 8                     # the members of all objects before `size`: the frame's own
+
+
+def main():
+    failed = 0
+    for snap in SNAPS:
+        difference = first_difference(snap)
+        failed += bool(difference)
+        if difference:
+            print(f'failed: a snap length of {snap}: {difference}', flush=True)
+    print(f'{len(SNAPS) - failed} passed, {failed} failed')
+    return failed > 0
+
+
+def first_difference(snap):
+    """What differs first in the capture of a snap length."""
+    with tempfile.NamedTemporaryFile(suffix='.pcap') as file:
+        file.write(capture(snap))
+        file.flush()
+        objects, words = looked(file.name)
+        wanted = [expected(number, snap, port, bytes(payload)) for number, (port, payload) in enumerate(payloads(), 1)]
+        for found, right in zip(objects, wanted, strict=True):
+            if list(found.items()) != list(right.items()):
+                return f'{found}, not {right}'
+        if words != counts_of(wanted):
+            return f'{words}, not {counts_of(wanted)}'
+        for option, value, fits in FILTERS if snap in FILTERED else ():
+            chosen = looked(file.name, option, value)[0]
+            if chosen != [each for each in wanted if fits(each)]:
+                return f'{option} {value}: frames {[each["frame"] for each in chosen]}'
+    return ''
+
+
+def looked(*words):
+    """The objects, and the words on standard error."""
+    done = subprocess.run([TOOL, '--json', *words], capture_output=True, text=True, timeout=120, check=True)
+    return [without_frame(json.loads(line, object_pairs_hook=members_of)) for line in done.stdout.splitlines()], done.stderr.strip()
+
+
+def members_of(pairs):
+    """The pairs of an object of a frame, of which some have one key, or else the object."""
+    return pairs if pairs[0][0] == 'frame' else dict(pairs)
+
+
+def without_frame(pairs):
+    """An object without what every frame of these has, and without the phrase of a packet that stands."""
+    kept = dict(pairs[:1] + pairs[OF_FRAME:])
+    if 'cut' not in kept:
+        kept.pop('brief', None)
+    return kept
+
+
+def expected(number, snap, port, payload):
+    """The object of a frame of the capture."""
+    size, held = len(payload), max(snap - BEFORE, 0)
+    of_frame = {'frame': number, 'size': BEFORE + size, 'captured': min(snap, BEFORE + size)}
+    told = {'port': port, 'moment': number - 1}
+    if held >= size:
+        return of_frame | told | shown(port, payload)
+    if not held:
+        return of_frame | {'left_out': REASON}
+    said = shown(port, payload[:held])
+    if 'truncated' in said.get('refused', '') and said['at'] >= held:
+        said = {}
+    front = said | front_of(port, payload[:held])
+    phrase = phrase_of(front)
+    return of_frame | {'cut': True} | told | {'brief': f'cut: {phrase}{held} of {size} bytes'} | front
+
+
+def phrase_of(front):
+    """The phrase of a front: of requests and responses each word that the packets have."""
+    items = [each['name'] for section in SECTIONS for each in front.get(section, ())]
+    if items:
+        return f'{verb_of(front, front["questions"] or front["answers"])} {items[0]}{ending_of(front)}, '
+    if 'source' in front:
+        kind = {'unique': '', 'group': 'group ', 'broadcast': 'broadcast '}[front['kind']]
+        return f'{kind}datagram from {front["source"]}' + (f' to {front["destination"]}' if 'destination' in front else '') + ', '
+    return ''
+
+
+def verb_of(front, items):
+    word = int(front['word'], 16)
+    response, opcode, code, demands = word >> 15, word >> 11 & 15, word & 15, word & 0x0100
+    if not response:
+        if opcode == 0:
+            return 'asks for the node status of' if items[0]['type'] == '0021' else 'asks for'
+        words = {5: 'claims' if demands else 'overwrites', 6: 'releases', 8: 'refreshes', 15: 'claims as one of several addresses'}
+        return words.get(opcode, 'makes another request about')
+    if opcode == 5:
+        return 'conflict about' if code == 7 else 'refuses' if code else 'grants' if word & 0x80 else 'asks to challenge'
+    if opcode == 0 and code:
+        return 'answers:'
+    words = {0: 'answers about', 6: 'refuses the release of' if code else 'grants the release of', 7: 'asks to wait for'}
+    return words.get(opcode, 'makes another response about')
+
+
+def ending_of(front):
+    """What comes after the name of a query that isn't answered by an address."""
+    return ' is not found' if front['op'] == 'query' and front['rcode'] != 'ok' else ''
+
+
+def counts_of(objects):
+    """The last line."""
+    cut = sum(map(is_cut, objects))
+    packets = len(objects) - cut
+    refused = sum('refused' in each and not is_cut(each) for each in objects)
+    words = f'{len(objects)} frames, {packets} packets, {refused} refused, {cut} left out'
+    return f'{words}: {cut} {REASON}' if cut else words
+
+
+def is_cut(found):
+    return 'cut' in found or 'left_out' in found
+
+
+def is_named(found):
+    names = [each['name'] for section in SECTIONS for each in found.get(section, ())]
+    return 'FRED<20>' in names + [found.get('source'), found.get('destination')]
+
+
+def is_registration(found):
+    """A registration, of which a name stands; the operation 15 is one too."""
+    return found.get('op') in ('registration', 15) and is_named(found)
+
+
+FILTERS = (('--name', 'fred<20>', is_named), ('--kind', 'left-out', is_cut), ('--kind', 'registration', is_registration))
+
+if __name__ == '__main__':
+    sys.exit(main())

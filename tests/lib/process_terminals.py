@@ -1,0 +1,195 @@
+"""What the program prints at a terminal, for tests/process.py; each function gives (whether it is right, a name) for each case."""
+import os
+import re
+import time
+
+from process_inputs import COMMANDS, FRED, READING, captures, packet
+from process_runs import (TESTS, at_terminal, limited, lines_of, quiet_terminal, rest_of, rest_of_terminal, run, start, starts, wait,
+                          with_errors_shown)
+
+LOOK = b'a pcap or pcapng file: `nbt-look FILE` shows it, `nbt-pcap2cap FILE` makes a capture of it\n'
+PACKETS = (b'query, status, registration, refresh, release, response, request, message, positive, negative, retarget, '
+           b'keepalive, unique, group, broadcast, error, find, found, missing')
+KEYED = ['10.0.0.5:138/0001', 'JOE<00>', 'FRED<20>']
+# The words after `build` that are refused as `arguments`, and what is said of them after that word.
+MISTAKES = [
+    (['nonsense'], b'WHAT is one of ' + PACKETS + b', and not nonsense'),
+    (['Query', '0001', 'FRED<20>'], b'WHAT is one of ' + PACKETS + b', and not Query'),
+    (['no\x1b[31m'], b'WHAT is one of ' + PACKETS + b','),
+    (['query', '0001'], b'words after query: 2 wanted ID NAME, and not 1'),
+    (['keepalive', '1'], b'words after keepalive: 0 wanted, and not 1'),
+    (['query', '1', 'FRED<20>'], b'word 1 after query is ID, four hexadecimal digits, such as 0001, and not 1'),
+    (['query', '0x01', 'FRED'], b'word 1 after query is ID, four hexadecimal digits, such as 0001, and not 0x01'),
+    (['negative', '8'], b'word 1 after negative is CODE, two hexadecimal digits, such as 82, and not 8'),
+    (['registration', '0001', 'FRED<20>', '01', '0000', '10.0.0.5'],
+     b'word 3 after registration is TTL, a decimal number to 4294967295 without leading zeros, such as 300000, and not 01'),
+    (['release', '0001', 'FRED<20>', '0', '10.0.0.5'],
+     b'word 3 after release is FLAGS, four hexadecimal digits, such as 0000, and not 0'),
+    (['retarget', '10.0.0', '139'],
+     b'word 1 after retarget is ADDRESS, four decimal numbers to 255 with dots between them, such as 10.0.0.5, and not 10.0.0'),
+    (['retarget', '10.0.0.5', '65536'],
+     b'word 2 after retarget is PORT, a decimal number to 65535 without leading zeros, such as 139, and not 65536'),
+    (['error', '10.0.0.5/0001', '82'],
+     b'word 1 after error is KEY, ADDRESS:PORT/ID, such as 10.0.0.5:138/0001, and not 10.0.0.5/0001'),
+    (['message', '616'], b'word 1 after message is HEX, two hexadecimal digits a byte, or `empty`, such as 00ff, and not 616'),
+    (['message', '6' * 41], b'word 1 after message is HEX, two hexadecimal digits a byte, or `empty`, such as 00ff'),
+    (['message', '\x1b[31m'], b'word 1 after message is HEX, two hexadecimal digits a byte, or `empty`, such as 00ff'),
+    (['unique', *KEYED, '616263', 'some'],
+     b'word 5 after unique is MOST, a decimal number to 65535 without leading zeros, such as 512, and not some'),
+    (['response', '0001', '8500', 'FRED<20>', '20', '0', '00'],
+     b'word 4 after response is TYPE, four hexadecimal digits, such as 0020, and not 20'),
+    (['response', '0001', '8500', 'FRED<20>', '0002', '0', '05'],
+     b'word 6 after response is HEX, two hexadecimal digits a byte, for TYPE 0002 those of a name, such as 00, and not 05'),
+]
+# What a pcap file begins with, in both byte orders, of microseconds and nanoseconds; and a pcapng file.
+PCAPS = ['a1b2c3d4', 'd4c3b2a1', 'a1b23c4d', '4d3cb2a1', '0a0d0d0a']
+
+
+def meanings():
+    """The line of `nbt help` of each refusal, by its words: those of tests/cases/refusals.txt."""
+    with open(os.path.join(TESTS, 'cases', 'refusals.txt'), 'rb') as cases:
+        lines = [line for line in cases if not line.startswith((b'#', b'$', b'\n'))]
+    return {re.sub(rb' (AT|N)$', b'', line.split(b': ')[0]): line for line in lines}
+
+
+def meaning(errors):
+    """The line that follows this one at a terminal."""
+    words = re.sub(rb' \d+$', b'', errors.rstrip(b'\n').split(b': ')[-1])
+    return meanings()[words]
+
+
+def shown(errors):
+    """What a command prints at a terminal on standard error, that prints this otherwise."""
+    if errors == b'nbt: arguments\n':
+        return errors + b'arguments: ' + MISTAKES[0][1] + b'\n'
+    return errors + meaning(errors) if errors.startswith(b'nbt: ') else errors
+
+
+def at_terminals():
+    """Lines are acted on as they are typed, and ^D ends the input. Of a terminal that is gone the system says either that
+    the input has ended or that it can't be read."""
+    for words, given, status, output, errors in COMMANDS:
+        wanted = output + shown(errors)
+        yield at_terminal(words, given + b'\x04', wanted) == (status, wanted), f'nbt {" ".join(words)} at a terminal'
+    for words in (['show'], ['replay', 'FRED<20>']):
+        report = {'show': b'1 tick 1\n2 tick 22\n', 'replay': b'1 dropped 0\n2 dropped 0\n'}[words[0]]
+        refused = report[:report.index(b'\n') + 1] + shown(b'nbt: line 2\n')
+        for typed, wanted, status in [(b'tick 1\ntick 22\n\x04', report, 0), (b'tick 1\ntick 22\x04\x04', report, 0),
+                                      (b'tick 1\nx\n', refused, 1)]:
+            yield at_terminal(words, typed, wanted) == (status, wanted), f'nbt {words[0]} at a terminal: {typed}'
+        terminal, slave = quiet_terminal()
+        process = start(words, stdin=slave)
+        os.close(slave)
+        os.write(terminal, b'tick 1\n')
+        first = lines_of(process.stdout, 1)
+        os.close(terminal)
+        rest = rest_of(process.stdout)
+        yield (first + rest == report[:report.index(b'\n') + 1] and wait(process) in ((0, b''), (3, b'nbt: read\n')),
+               f'nbt {words[0]}, its terminal gone')
+
+
+def refused():
+    """(words, input, the line on standard error) of each refusal of a command but `arguments`."""
+    bytes_of_name = ['name', '--bytes']
+    yield ['name', 'FRED'], b'', b'nbt: bad text 4\n'
+    yield ['replay', 'FRED'], b'', b'nbt: bad text 4\n'
+    yield ['build', 'query', '0001', 'FRED'], b'', b'nbt: bad text 4\n'
+    yield ['name', 'A' * 16 + '<20>'], b'', b'nbt: too long\n'
+    yield ['build', 'unique', *KEYED, '00' * 65_500, '65535'], b'', b'nbt: too long\n'
+    yield ['build', 'unique', *KEYED, '616263', '0'], b'', b'nbt: zero piece\n'
+    yield [*bytes_of_name, '0'], b'', b'nbt: bad hex\n'
+    yield [*bytes_of_name, FRED + '00'], b'', b'nbt: trailing bytes 34\n'
+    yield [*bytes_of_name, '20'], b'', b'nbt: truncated 1\n'
+    yield [*bytes_of_name, '40'], b'', b'nbt: reserved label 0\n'
+    yield [*bytes_of_name, 'c00c'], b'', b'nbt: pointer not allowed 0\n'
+    yield [*bytes_of_name, '0000'], b'', b'nbt: not netbios 0\n'
+    yield ['replay', *(f'N{it}<20>' for it in range(255))], b'', b'nbt: too many names\n'
+    for words in READING[:3]:
+        yield words, b'x\n', b'nbt: line 1\n'
+    yield ['merge'], b'00\n', b'nbt: bad magic\n'
+    yield ['merge'], b'4e425432\n', b'nbt: truncated\n'
+    yield ['list'], b'4e4254320000000000\n', b'nbt: not canonical 8\n'
+    yield ['merge'], b'', b'nbt: no tables\n'
+    yield ['agree'], b'', b'nbt: two tables wanted\n'
+    yield ['save', '--keys', '1'], captures(2), b'nbt: full\n'
+    yield ['save', '--per-source', '1'], captures(2), b'nbt: full source\n'
+    yield ['show', '--input-limit', '1'], b'tick 1\n', b'nbt: read\n'
+
+
+def advised():
+    """A command that is refused prints one line, and to a terminal that line and what `nbt help` says of it."""
+    for words, given, errors in refused():
+        name = f'nbt {" ".join(words)[:60]}'
+        status, output, plain_errors = run(words, given)
+        yield plain_errors == errors, f'{name}: {errors}'
+        yield with_errors_shown(words, given) == (status, output, errors + meaning(errors)), f'{name}, errors at a terminal'
+    with open('/dev/full', 'wb') as full:
+        ended = with_errors_shown(['name', 'FRED<20>'], stdout=full)
+    yield ended == (3, b'', b'nbt: write\n' + meaning(b'write')), 'nbt name, a full output, errors at a terminal'
+
+
+def mistaken():
+    """Of words that are no packet's, which is wrong, and what was wanted."""
+    for words, said in MISTAKES:
+        name = f'nbt build {words}'
+        yield run(['build', *words]) == (1, b'', b'nbt: arguments\n'), name
+        wanted = b'nbt: arguments\narguments: ' + said + b'\n'
+        yield with_errors_shown(['build', *words]) == (1, b'', wanted), f'{name}, errors at a terminal'
+
+
+def looked():
+    """Of an input that begins as a pcap file does, what shows it; not of one with fewer bytes of that."""
+    for front in PCAPS:
+        given = bytes.fromhex(front) + b'\x02\x00\x04\x00\n\n'
+        for words in READING:
+            status, output, errors = run(words, given)
+            yield status == 1 and output == b'' and errors.count(b'\n') == 1, f'nbt {words[0]} of a pcap, {front}'
+            yield with_errors_shown(words, given) == (1, b'', errors + LOOK), f'nbt {words[0]} of a pcap, {front}, at a terminal'
+    for taken in (1, 2, 3):
+        yield came_by_parts(bytes.fromhex(PCAPS[1]) + b'\n', taken) == (1, b'nbt: line 1\n' + LOOK), f'a pcap, {taken} bytes of it first'
+    for given in (b'\xd4\xc3\xb2\n', b'\n\r\r\r', b'x\xd4\xc3\xb2\xa1\n'):
+        _, _, errors = run(['show'], given)
+        yield with_errors_shown(['show'], given) == (1, b'', errors + meaning(errors)), f'nbt show of {given}, at a terminal'
+
+
+def came_by_parts(given, taken):
+    """The status and the errors, at a terminal, of `show` of an input that stops after some bytes."""
+    terminal, slave = quiet_terminal()
+    process = start(['show'], stderr=slave)
+    os.close(slave)
+    process.stdin.write(given[:taken])
+    time.sleep(0.05)
+    process.stdin.write(given[taken:])
+    process.stdin.close()
+    status, _ = wait(process)
+    return status, rest_of_terminal(terminal)
+
+
+def dropped():
+    """A terminal shows how many keys ticks dropped of what `save` printed, where they dropped any."""
+    late = f'138 5000 {packet(9)}\n'.encode()
+    for name, given, count in [('no tick', captures(3), 0), ('a tick that drops none', captures(3) + b'tick 1999\n', 0),
+                               ('a tick', captures(3) + b'tick 2000\n', 3),
+                               ('two ticks', captures(3) + b'tick 2000\n' + late + b'tick 7000\n', 4)]:
+        status, output, errors = run(['save'], given)
+        yield (status, errors) == (0, b''), f'nbt save, {name}'
+        wanted = f'nbt: keys that ticks dropped: {count}\n'.encode() if count else b''
+        yield with_errors_shown(['save'], given) == (0, output, wanted), f'nbt save, {name}, errors at a terminal'
+
+
+def plain():
+    """What isn't a refusal is the same at a terminal: help, the version, and a bad command line."""
+    for words in (['--help'], ['help', 'save'], ['--version'], ['help', 'full'], ['bogus'], ['save', 'file'], []):
+        yield with_errors_shown(words) == run(words), f'nbt {" ".join(words)}, errors at a terminal'
+
+
+def short_of_memory():
+    """With little memory a terminal shows the line alone, or what it means too."""
+    many = captures(3_000, '5a' * 150)
+    words = ['save', '--keys', '65535']
+    whole = run(words, many)
+    refused_so = [(3, b'', b'nbt: memory\n' + said) for said in (b'', meaning(b'memory'))]
+    least = next(it for it in range(64, 65_536, 64) if starts(words, it << 10))
+    for limit in range(least, least + 2_048, 64):
+        ended = with_errors_shown(words, many, limited(limit << 10))
+        yield ended == whole or ended in refused_so, f'nbt save in {limit} kB, errors at a terminal'

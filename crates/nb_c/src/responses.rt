@@ -72,7 +72,7 @@ fn answer(
     ensures answer { OrMemory none_late (Responds answered text.now contents.now) result }
     ensures one { HasOne (Responds answered text.now contents.now) }
 {
-    // For the clause: a text has one name or one fault, and so has a spelling. The calls do nothing.
+    // For the clause: a text, or a spelling, has one name or one fault. The calls do nothing.
     one_name();
     one_text_fault();
     one_reading();

@@ -353,7 +353,8 @@ def short_stack():
     status, table, _ = run(['save', '--keys', '65535'], many)
     check(status == 0, 'nbt save --keys 65535: a table of 2,000 keys')
     deep = [*((['show', *how], records.encode()) for how in ([], ['--json'], ['--brief'], ['--partial'])),
-            (['show'], many), (['save', '--keys', '65535'], many), (['replay', '--keys', '65535', 'FRED<20>'], many), (['merge', '--keys', '65535'], table * 2),
+            (['show'], many), (['save', '--keys', '65535'], many),
+            (['replay', '--keys', '65535', 'FRED<20>'], many), (['merge', '--keys', '65535'], table * 2),
             (['list', '--keys', '65535'], table * 2), (['agree'], table * 2), ([], b''), (['--help'], b''),
             (['replay', '--help'], b'')]
     work = [(words, given, tuple(wanted)) for words, given, *wanted in COMMANDS]

@@ -56,8 +56,23 @@ def rdata(value):
     return f'domain {value}' if isinstance(value, nbt.DomainName) else f'bytes {digits(value)}'
 
 
+def datagram_lines(payload):
+    """The lines of a payload of port 138: its packet, and what stands at its front, which have to agree."""
+    it, refused = nbt.Datagram.read_front(payload)
+    try:
+        lines = [datagram(payload)]
+        assert refused is None
+    except nbt.NbtError as error:
+        assert error == refused
+        lines = [fault(error)]
+    if it:
+        lines.append(f'front {it.type:02x} {it.flags:02x} {it.address}:{it.port}/{it.identifier:04x} {it.offset} {it.source or "-"} '
+                     f'{it.destination or "-"}')
+    return lines
+
+
 def datagram(payload):
-    """The line of a payload of port 138."""
+    """The line of a packet of port 138."""
     it = nbt.Datagram.read(payload)
     return (f'{it.type:02x} {it.flags:02x} {it.address}:{it.port}/{it.identifier:04x} {it.offset} {it.source or "-"} '
             f'{it.destination or "-"} {digits(it.data)} used {it.used}')
@@ -80,7 +95,7 @@ def session(payload):
 def lines_of(port, payload):
     """The lines of a payload that came to a port."""
     try:
-        return service(payload) if port == 137 else [datagram(payload) if port == 138 else session(payload)]
+        return service(payload) if port == 137 else datagram_lines(payload) if port == 138 else [session(payload)]
     except nbt.NbtError as error:
         return [fault(error)]
 

@@ -284,7 +284,7 @@ installed() {
     $CC -std=c11 -Wall -Wextra -Werror -o "$room/example" "$room/first.c" $flags >"$room/log" 2>&1
     count $? "the program in C of docs/CALLING.md: $(head -n 1 "$room/log")"
     LD_LIBRARY_PATH=$room/root/lib ended "$room/example" | same "$(block text)" 'the program in C of docs/CALLING.md'
-    for each in 1 2 3; do
+    for each in 1 2 3 4; do
         block python $each >"$room/first.py"
         PYTHONPATH=$room/root/share/nbt/python PYTHONDONTWRITEBYTECODE=1 ended python3 "$room/first.py" 2>&1 \
             | same "$(block text $((each + 1)))" "program $each in Python of docs/CALLING.md"
@@ -343,7 +343,7 @@ rust() {
     count $? "nbt::show_into prints what nbt show prints: $(tail -n 1 "$room/errors")"
     LD_LIBRARY_PATH=$room/root/lib reads "$room/values" show_values.rs ended "$room/target/release/examples/show_values"
     block rust >"$room/first.rs"
-    user_program first "$room/first.rs" </dev/null | same "$(block text 5)" 'the program in Rust of docs/CALLING.md'
+    user_program first "$room/first.rs" </dev/null | same "$(block text 6)" 'the program in Rust of docs/CALLING.md'
     [ ! -f "$room/samba.txt" ] || node_statuses
 }
 

@@ -143,6 +143,19 @@ pub fn read(bytes: &[u8]) -> Result<Next<'_>> {
     }
 }
 
+/// The packet at the front of what came over a connection. Errors are those of [`read`], and `More`, whose place is how many
+/// bytes are missing, at least.
+impl<'a> TryFrom<&'a [u8]> for Packet<'a> {
+    type Error = Error;
+
+    fn try_from(bytes: &'a [u8]) -> Result<Packet<'a>> {
+        match read(bytes)? {
+            Next::Packet(packet) => Ok(packet),
+            Next::More(missing) => Err(Error::new(MORE, missing)),
+        }
+    }
+}
+
 /// The packets of what came over a connection to port 139, one after the other. Those that are there whole are handed out, and
 /// after them the error with which [`read`] refuses what follows, if it does.
 pub fn packets(bytes: &[u8]) -> Packets<'_> {

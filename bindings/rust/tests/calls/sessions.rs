@@ -24,6 +24,7 @@ fn packets_are_read() {
         (b"\x85\0\0\0", Kind::KeepAlive, b""),
     ] {
         let packet = whole(bytes);
+        assert_eq!(Packet::try_from(bytes), Ok(packet));
         assert_eq!(
             (packet.kind, packet.body, packet.used),
             (kind, body, 4 + body.len())
@@ -40,6 +41,10 @@ fn bytes_are_missing() {
         (b"\0\x01\xff\xff", 131_071),
     ] {
         assert_eq!(read(bytes), Ok(Next::More(missing)));
+        assert_eq!(
+            refused(Packet::try_from(bytes)),
+            (Status::More, Some(missing))
+        );
     }
 }
 

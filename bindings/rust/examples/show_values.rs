@@ -1,5 +1,5 @@
-//! What payloads say, read as values: lines with a port and hexadecimal digits, or `empty`, from standard input. Of ports 137 and
-//! 138 also what stands of a payload that is refused.
+//! What payloads say, read as values: lines with a port and hexadecimal digits, or `empty`, from standard input. Also what
+//! stands at the front of those that are refused.
 
 use std::error::Error;
 use std::fmt::Write as _;
@@ -19,7 +19,7 @@ fn main() -> Result<(), Box<dyn Error>> {
         let said = match port {
             "137" => service_lines(&payload),
             "138" => Ok(datagram_lines(&payload)),
-            _ => session_line(&payload),
+            _ => Ok(session_lines(&payload)),
         };
         let said = said.unwrap_or_else(|error| refused(&error));
         writeln!(out, "{} {port} {said}", index + 1)?;
@@ -138,7 +138,19 @@ fn datagram_line(payload: &[u8]) -> nbt::Result<String> {
     ))
 }
 
-/// The line of a payload of port 139.
+/// The lines of a payload of port 139: its packet, and the header at its front.
+fn session_lines(payload: &[u8]) -> String {
+    let line = session_line(payload).unwrap_or_else(|error| refused(&error));
+    match session::read_front(payload).header {
+        Some(it) => {
+            let (kind, flags, length) = (it.packet_type, it.flags, it.body_length);
+            format!("{line}\n  front {kind:02x} {flags:02x} {length}")
+        }
+        None => line,
+    }
+}
+
+/// The line of a packet of port 139.
 fn session_line(payload: &[u8]) -> nbt::Result<String> {
     let packet = match session::read(payload)? {
         Next::More(missing) => return Ok(format!("more {missing}")),

@@ -157,8 +157,8 @@ static void texts(void)
     WRITE("name_spell", nbt_name_spell(bytes(name), strlen(name), into, room, &used, &at));
     WRITE("service_request", nbt_service_request(number % 6, (uint16_t)(number * 5), number % 2 == 1, bytes(name), strlen(name), (uint32_t)number * 40503u,
           (uint16_t)(number * 11), (uint32_t)number * 2246822519u, into, room, &used, &at));
-    WRITE("service_response", nbt_service_response((uint16_t)(number * 5), (uint16_t)(number * 13), bytes(name), strlen(name),
-          number % 3 == 0 ? 2 : (uint16_t)(number * 17), (uint32_t)number * 40503u, payload + from, count, into, room, &used, &at));
+    WRITE("service_response", nbt_service_response((uint16_t)(number * 5), (uint16_t)(number * 11), bytes(name), strlen(name),
+          (uint16_t)(number % 3 == 0 ? 2 : number), (uint32_t)number * 40503u, payload + from, count, into, room, &used, &at));
     WRITE("status_text", nbt_status_text(number % 260, into, room, &used));
 }
 

@@ -72,7 +72,7 @@ fn answer(
     ensures answer { OrMemory none_late (Responds answered text.now contents.now) result }
     ensures one { HasOne (Responds answered text.now contents.now) }
 {
-    // For the clause: a text has one name or one fault, and so has a spelling. The calls do nothing.
+    // For the clause: a text, or a spelling, has one name or one fault. The calls do nothing.
     one_name();
     one_text_fault();
     one_reading();
@@ -138,9 +138,9 @@ fn domain_of(bytes: &[u8]) -> Result<DomainName, Refusal>
 }
 
 /// The bytes of the response with this answer.
-fn bytes_of(alloc: Global, answered: Answered, record: Record<'_>) -> Result<Bytes, NoMemory>
-    ensures { IfOk result (λ bytes. bytes ≡ response_of answered record.entry) }
+fn bytes_of(alloc: Global, answered: Answered, made: Record<'_>) -> Result<Bytes, NoMemory>
+    ensures { IfOk result (λ bytes. bytes ≡ response_of answered made.entry) }
 {
-    let packet = response(alloc, answered.identifier, answered.word, record)?;
+    let packet = response(alloc, answered.identifier, answered.word, made)?;
     encode(alloc, &packet)
 }

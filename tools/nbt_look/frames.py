@@ -1,7 +1,7 @@
 """The packets of tshark's rows, and what is left out, each with its frame."""
 from nbt_pcap.frames import Reader
 from nbt_pcap.report import CUT, Report
-from nbt_pcap.rows import values_of
+from nbt_pcap.rows import is_joined, values_of
 
 from .fragments import Unfinished
 from .items import Cut, Frame, LeftOut, Packet
@@ -61,7 +61,7 @@ class Frames(Reader):
 
     def frame(self, row, shape):
         self.report.mark = self.mark(row, shape)
-        if shape.is_fragment or row.fragments or row.fragments6:
+        if shape.is_fragment or is_joined(row):
             self.unfinished.take(row, self.more[5:], shape.is_fragment)
         super().frame(row, shape)
 

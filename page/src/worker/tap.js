@@ -56,12 +56,14 @@ export class Tap {
         /** @type {import('../model/objects.js').Told} */
         const told = JSON.parse(text);
         const sender = hostOf(mark.source);
-        this.seen.take(told, said, {
+        const isConflict = this.seen.take(told, said, {
             frame: mark.frame, port, time: mark.time, mac, source: sender, sourcePort: portOf(mark.source),
             destination: hostOf(mark.destination), destinationPort: portOf(mark.destination),
         });
         this.packets.add(mark, { port, mac, vlan, bytes });
-        this.row(mark, port, kindsOf(told, port).join(' '), told.refused === undefined ? '' : withoutPlace(told.refused), said);
+        const kinds = kindsOf(told, port);
+        if (isConflict && !kinds.includes('conflict')) kinds.push('conflict');
+        this.row(mark, port, kinds.join(' '), told.refused === undefined ? '' : withoutPlace(told.refused), said);
     }
 
     /** @param {import('../containers/report.js').LeftOut} item */

@@ -61,6 +61,11 @@ export class App {
         return this.taps[this.place.tap];
     }
 
+    /** What the packets of that file are numbered by. */
+    get unit() {
+        return this.tap?.kind === 'lines' && this.tap.rows.isOfLines ? 'line' : 'frame';
+    }
+
     /**
      * Asks the worker about the file that is looked at; null where it has no answer, which is then said.
      *
@@ -164,7 +169,7 @@ export class App {
         if (!tap) return;
         if (tap.first === null && news.rows.time.length) tap.first = news.rows.time[0];
         tap.rows.add(news.rows);
-        tap.counts = news.counts;
+        Object.assign(tap, { counts: news.counts, kind: news.kind });
         this.progress(news);
         this.head();
         if (tap === this.tap) this.packets.more();

@@ -69,6 +69,7 @@ export class PacketsView {
         this.rows = this.app.tap?.rows ?? null;
         this.selected = -1;
         this.grid.scroller.scrollTop = 0;
+        this.grid.rename(0, this.app.unit);
         this.grid.mark(-1);
         this.app.panel.clear();
         this.words.value = this.app.place.filter;
@@ -78,6 +79,7 @@ export class PacketsView {
 
     /** Shows rows that have come. */
     more() {
+        this.grid.rename(0, this.app.unit);
         this.grid.draw();
         this.count();
         if (performance.now() - this.offered > OFFERING) this.offer();
@@ -179,7 +181,7 @@ export class PacketsView {
         const lines = Array.from({ length: count }, (_, at) => element('tr', {}, ...this.row(at).cells.map((cell) => element('td', {}, cell))));
         const rest = rows.shown.length - count;
         byId('printed', HTMLElement).replaceChildren(
-            element('table', {}, element('thead', {}, element('tr', {}, ...HEADINGS.map(({ name }) => element('th', {}, name)))), element('tbody', {}, ...lines)),
+            element('table', {}, element('thead', {}, element('tr', {}, ...[this.app.unit, ...HEADINGS.slice(1).map(({ name }) => name)].map((each) => element('th', {}, each)))), element('tbody', {}, ...lines)),
             ...(rest > 0 ? [element('p', {}, `and ${counted(rest, 'row')} more, which a filter makes fewer`)] : []));
     }
 }

@@ -31,8 +31,10 @@ function tapOf(number) {
 function packetOf(tap, row) {
     const packet = tap.packets.at(row);
     const isLeftOut = packet.port === LEFT_OUT;
+    // A line of a capture without a comment that names its frame has no ends.
+    const isFrame = tap.kind === 'frames' || packet.source !== '';
     return {
-        ...packet, bytes: packet.bytes.slice(), utc: utc(packet.time),
+        ...packet, isFrame, bytes: packet.bytes.slice(), utc: utc(packet.time),
         told: isLeftOut ? null : JSON.parse(library.json(packet.port, packet.bytes)),
         said: isLeftOut ? '' : library.brief(packet.port, packet.bytes),
     };
@@ -53,7 +55,7 @@ const answers = {
         const replace = () => earlier.reading && Object.assign(earlier.reading, { isStopped: true });
         const reading = new Reading(tap, (done) => {
             if (!tap.isRead) replace();
-            if (taps.get(number) === tap) postMessage({ opened, done, size: file.size, rows: tap.batch.take(), counts: tap.counts() });
+            if (taps.get(number) === tap) postMessage({ opened, done, size: file.size, kind: tap.kind, rows: tap.batch.take(), counts: tap.counts() });
         });
         taps.set(number, tap);
         readings.set(number, reading);

@@ -197,14 +197,14 @@ class Cases:
         equal(self.browser.wait(self.browser.tables), tables, 'what the taps have stays')
         check(self.browser.text('live').startswith('two.txt: 4 packets'), f"the footer: {self.browser.text('live')}")
 
-    def out(self):
+    def exports(self):
         """What is given out is byte for byte what the program prints."""
         for path in (f'{TOP}/examples/office.pcap', f'{TOP}/examples/samba.pcap', f'{TOP}/examples/capture.txt',
                      self.path('odd.pcap', page_files.odd())):
             name = os.path.basename(path).rsplit('.', 1)[0]
             self.browser.open(self.page)
             self.browser.give(path)
-            self.browser.view('out')
+            self.browser.view('export')
             for form, end in (('json', 'jsonl'), ('capture', 'capture.txt'), ('table', 'table.txt')):
                 given = self.browser.saved(f'save-{form}', f'{name}.{end}')
                 wanted = self.program.out(path, form)
@@ -240,7 +240,7 @@ class Cases:
         self.browser.give(self.path('<img src=x onerror=alert(1)>.txt', page_files.markup(self.program).encode()))
         self.browser.choose(1)
         check('3cimg' in ' '.join(self.browser.texts('#packet dd')), f"markup in a name: {self.browser.texts('#packet dd')}")
-        for view in ('names', 'out', 'packets', 'reassembly'):
+        for view in ('names', 'export', 'packets', 'reassembly'):
             self.browser.view(view)
             equal(self.browser.all('#views img, h1 img'), [], f'no element is made of a file, {view}')
         self.browser.wait(self.browser.tables)
@@ -352,11 +352,11 @@ class Cases:
         equal(self.browser.unnamed(), [], 'controls without a name at first')
         self.browser.sample()
         self.browser.choose(5)
-        for view in ('packets', 'names', 'reassembly', 'taps', 'out'):
+        for view in ('packets', 'names', 'reassembly', 'taps', 'export'):
             self.browser.view(view)
             equal(self.browser.unnamed(), [], f'controls without a name, {view}')
         self.browser.driver.set_window_size(500, 700)
-        for view in ('packets', 'names', 'reassembly', 'taps', 'out'):
+        for view in ('packets', 'names', 'reassembly', 'taps', 'export'):
             self.browser.view(view)
             wide = self.browser.driver.execute_script('return document.documentElement.scrollWidth - innerWidth')
             check(wide <= 0, f'{view} is {wide} pixels wider than a narrow window')
@@ -382,7 +382,7 @@ def first_difference(given, wanted):
     return f'at byte {at}: {given[at - 20:at + 60]!r}, not {wanted[at - 20:at + 60]!r}'
 
 
-PARTS = ('modules', 'rows', 'names', 'faults', 'filters', 'deliveries', 'taps', 'out', 'bad', 'hostile', 'keys', 'given', 'stop', 'controls', 'quiet')
+PARTS = ('modules', 'rows', 'names', 'faults', 'filters', 'deliveries', 'taps', 'export', 'bad', 'hostile', 'keys', 'given', 'stop', 'controls', 'quiet')
 
 
 def main():

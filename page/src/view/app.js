@@ -4,7 +4,7 @@ import { Advice } from './advice.js';
 import { Desk } from './desk.js';
 import { byId, counted, element, number, say } from './dom.js';
 import { NamesView } from './names.js';
-import { OutView } from './out.js';
+import { ExportView } from './export.js';
 import { PacketPanel } from './packet.js';
 import { PacketsView } from './packets.js';
 import { ReassemblyView } from './reassembly.js';
@@ -46,7 +46,7 @@ export class App {
         this.panel = new PacketPanel(new Advice(advice));
         this.packets = new PacketsView(this);
         this.views = {
-            packets: this.packets, names: new NamesView(this), reassembly: new ReassemblyView(this), taps: new TapsView(this), out: new OutView(this),
+            packets: this.packets, names: new NamesView(this), reassembly: new ReassemblyView(this), taps: new TapsView(this), export: new ExportView(this),
         };
         addEventListener('hashchange', () => this.go());
         byId('stop', HTMLButtonElement).addEventListener('click', () => this.stop());

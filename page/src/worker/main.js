@@ -1,7 +1,7 @@
 /** The worker: holds the library and the files, and answers what the page asks. */
 import { load } from '../../../bindings/javascript/nbt.mjs';
 import { LEFT_OUT } from '../model/packets.js';
-import { outOf } from './out.js';
+import { exportOf } from './export.js';
 import { Reading } from './reading.js';
 import { compared, handedTo, incompleteOf, listed, tableOf } from './tables.js';
 import { Tap } from './tap.js';
@@ -105,8 +105,8 @@ const answers = {
     compared: () => compared(tapOf(0), tapOf(1)),
 
     /** @param {{tap: number, form: 'json' | 'capture' | 'table'}} asked */
-    async out({ tap, form }) {
-        return { blob: await outOf(tapOf(tap), form) };
+    async export({ tap, form }) {
+        return { blob: await exportOf(tapOf(tap), form) };
     },
 };
 

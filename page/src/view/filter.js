@@ -5,7 +5,7 @@ export const KINDS = [
     'query', 'status', 'registration', 'refresh', 'release', 'wack', 'response', 'conflict', 'datagram', 'unique', 'group', 'broadcast',
     'error', 'find', 'found', 'missing', 'session', 'request', 'positive', 'negative', 'retarget', 'message', 'keepalive', 'refused', 'left-out',
 ];
-const PORTS = ['137', '138', '139'];
+export const PORTS = ['137', '138', '139'];
 
 /**
  * What is chosen; an empty text is all.
@@ -17,11 +17,11 @@ export class Filter {
     /** @param {Chosen} chosen */
     constructor({ words, kind, sender, reason }) {
         const parts = words.trim().split(/\s+/).filter((each) => each !== '');
-        this.kinds = parts.filter((each) => KINDS.includes(each)).concat(kind || []);
+        this.kinds = parts.map((each) => each.toLowerCase()).filter((each) => KINDS.includes(each)).concat(kind || []);
         this.ports = parts.filter((each) => PORTS.includes(each)).map(Number);
         this.sender = sender;
         this.reason = reason;
-        const others = parts.filter((each) => !KINDS.includes(each) && !PORTS.includes(each));
+        const others = parts.filter((each) => !KINDS.includes(each.toLowerCase()) && !PORTS.includes(each));
         this.patterns = others.map((each) => new RegExp(each.replace(/[.*+?^${}()|[\]\\]/g, '\\$&'), 'i'));
         /** What was found of a text, by its number. @type {Map<number, boolean>[]} */
         this.found = this.patterns.map(() => new Map());

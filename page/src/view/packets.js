@@ -4,6 +4,7 @@ import { since } from '../model/times.js';
 import { byId, counted, element, number, say } from './dom.js';
 import { Filter } from './filter.js';
 import { Grid } from './grid.js';
+import { hintOf } from './hint.js';
 
 const HEADINGS = [
     { name: 'frame', title: 'The number of the frame' }, { name: 'time', title: 'Seconds since the first frame' },
@@ -19,6 +20,7 @@ export class PacketsView {
     constructor(app) {
         this.app = app;
         this.words = byId('words', HTMLInputElement);
+        this.hint = byId('hint', HTMLElement);
         this.selects = { kind: byId('kind', HTMLSelectElement), sender: byId('sender', HTMLSelectElement), reason: byId('reason', HTMLSelectElement) };
         this.grid = new Grid(byId('grid', HTMLElement), HEADINGS, {
             count: () => this.rows?.shown.length ?? 0, row: (at) => this.row(at), select: (at) => this.chosen(at),
@@ -107,6 +109,26 @@ export class PacketsView {
         const all = rows?.count ?? 0;
         const shown = rows?.shown.length ?? 0;
         say(byId('shown', HTMLElement), shown === all ? counted(all, 'row') : `${number(shown)} of ${counted(all, 'row')}`);
+        this.advise(all > 0 && shown === 0 ? this.words.value : null);
+    }
+
+    /**
+     * Says what the box takes, where no row fits.
+     *
+     * @param {string | null} words null where some fit
+     */
+    advise(words) {
+        this.hint.hidden = words === null;
+        if (words === null || this.hint.dataset.words === words) return;
+        this.hint.dataset.words = words;
+        const { text, instead } = hintOf(words);
+        const button = element('button', { type: 'button' }, `Filter by ${instead}`);
+        button.addEventListener('click', () => {
+            this.words.value = instead;
+            this.words.focus();
+            this.refilter();
+        });
+        this.hint.replaceChildren(text, ...(instead ? [' ', button] : []));
     }
 
     /** Offers what can be chosen, with counts. */

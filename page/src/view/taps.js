@@ -76,9 +76,11 @@ export class TapsView {
      * @param {string} key
      */
     link(key) {
-        const tap = this.firsts.findIndex((each) => each.has(key));
-        if (tap < 0) return key;
-        return element('a', { href: hashOf({ ...this.app.place, view: 'packets', tap, frame: this.firsts[tap].get(key), packet: 1, filter: '' }) }, key);
+        for (const [tap, firsts] of this.firsts.entries()) {
+            const frame = firsts.get(key);
+            if (frame !== undefined) return element('a', { href: hashOf({ ...this.app.place, view: 'packets', tap, frame, packet: 1, filter: '' }) }, key);
+        }
+        return key;
     }
 }
 

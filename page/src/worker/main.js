@@ -74,6 +74,7 @@ const answers = {
         const reading = readings.get(tap);
         if (reading) reading.isStopped = true;
         taps.delete(tap);
+        readings.delete(tap);
         return {};
     },
 

@@ -15,6 +15,8 @@ import { outcome, summary } from '../src/view/conflicts.js';
 import { keyOf, known } from '../src/view/keys.js';
 import { conclusion, sidesOf } from '../src/view/sides.js';
 import { hashOf, placeOf } from '../src/view/address.js';
+import { TAKES, hintOf } from '../src/view/hint.js';
+import { answersTo } from '../src/view/placing.js';
 
 const bytes = (text) => Uint8Array.from(text, (each) => each.charCodeAt(0));
 const fileOf = (text) => slicesOf(bytes(text));
@@ -239,4 +241,26 @@ test('words of the filter: kinds, ports, and parts of what is said', () => {
     const wanted = (words) => [0, 1].filter((row) => new Filter({ words, kind: '', sender: '', reason: '' }).wants(rows, row));
     assert.deepEqual([wanted(''), wanted('response'), wanted('fred<20>'), wanted('10.0.0.5 refused'), wanted('138'), wanted('a.c')],
         [[0, 1], [0], [0], [1], [], []]);
+});
+
+test('a filter of Wireshark leads to words', () => {
+    for (const [filter, instead] of [
+        ['ip.addr==10.0.0.6', '10.0.0.6'], ['ip.src == 10.0.0.6 && udp.port == 138', '10.0.0.6 138'], ['nbns', '137'], ['ipv6.dst eq fe80::5', 'fe80::5'],
+        ['nbns.name contains "FRED"', 'FRED 137'], ['nbdgm.src.ip == 10.0.0.5 && nbdgm.dgram_id == 0x0001', '10.0.0.5 138'], ['frame.number == 5', ''],
+        ['tcp.port == 445', ''], ['udp.port == 137 || nbns', '137'],
+    ]) {
+        assert.deepEqual(hintOf(filter), { text: `“${filter}” is a filter of Wireshark. ${TAKES}`, instead }, filter);
+    }
+    assert.deepEqual(hintOf(' FRED<2> '), { text: `No row fits “FRED<2>”. ${TAKES}`, instead: '' });
+    assert.deepEqual(hintOf(''), { text: 'No packet is of all that is chosen.', instead: '' });
+});
+
+test('where a file goes', () => {
+    const said = (open, count) => answersTo(open, count).map(({ words, taps, closes }) => [words, ...taps.slice(0, count), closes]);
+    assert.deepEqual(said([null, null], 2), [['', 0, 1, null]]);
+    assert.deepEqual(said(['a', null], 1), [['As a second tap, beside a', 1, null], ['Instead of a', 0, null]]);
+    assert.deepEqual(said([null, 'b'], 1), [['As a second tap, beside b', 0, null], ['Instead of b', 1, null]]);
+    assert.deepEqual(said(['a', 'b'], 1), [['Instead of tap 1, a', 0, null], ['Instead of tap 2, b', 1, null], ['Alone, instead of both', 0, 1]]);
+    assert.deepEqual(said(['a', 'b'], 2), [['Instead of a and b', 0, 1, null]]);
+    assert.deepEqual(said(['a', null], 2), [['Instead of a', 0, 1, null]]);
 });

@@ -4,7 +4,7 @@ import subprocess
 from page_checks import check, equal
 
 KEEP = b'139 0 85000000\n'
-NAMES = ['Instead of one.txt', 'As a second tap, beside one.txt']
+NAMES = ['As a second tap, beside one.txt', 'Instead of one.txt']
 BOTH = ['Instead of tap 1, one.txt', 'Instead of tap 2, two.txt', 'Alone, instead of both']
 DROP = '''
 const files = new DataTransfer();
@@ -32,7 +32,7 @@ class PlacingCases:
         equal(self.title(), 'one.txt', 'Escape opens nothing')
         check(self.browser.id('view-packets').is_displayed(), 'no key reaches the page meanwhile')
         self.asked(self.named('two.txt'), 'Open two.txt', NAMES)
-        self.browser.key(Keys.TAB, Keys.ENTER)
+        self.browser.key(Keys.ENTER)
         self.browser.wait(lambda: self.title() == 'one.txt and two.txt')
         self.third()
         self.closing()
@@ -78,7 +78,7 @@ class PlacingCases:
         self.close('two.txt')
         equal([self.title(), self.browser.text('shown')], ['one.txt', '1 row'], 'the second tap is closed')
         equal(self.browser.driver.switch_to.active_element.get_attribute('id'), 'grid', 'the focus after that')
-        self.browser.give(self.named('two.txt', 2 * KEEP), answer=NAMES[1])
+        self.browser.give(self.named('two.txt', 2 * KEEP), answer=NAMES[0])
         self.close('one.txt')
         equal([self.title(), self.browser.text('shown')], ['two.txt', '2 rows'], 'the first tap is closed')
         self.browser.choose(2)

@@ -32,6 +32,6 @@ function wordsOf(filter) {
         const plain = value.replace(/"/g, '');
         return WORDS.test(field) || (PORTED.test(field) && PORTS.includes(plain)) ? [plain] : [];
     });
-    const protocols = filter.toLowerCase().split(/[^a-z.]+/).flatMap((each) => PROTOCOLS.get(each) ?? []);
+    const protocols = filter.toLowerCase().split(/[^a-z.]+/).flatMap((each) => PROTOCOLS.get(each.split('.')[0]) ?? []);
     return [...new Set([...found, ...protocols])].join(' ');
 }

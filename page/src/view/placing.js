@@ -23,8 +23,8 @@ export function answersTo(open, count) {
             { words: 'Alone, instead of both', taps: [0], closes: 1 }];
     }
     const at = one === null ? 1 : 0;
-    return [{ words: `Instead of ${open[at]}`, taps: [at], closes: null },
-        { words: `As a second tap, beside ${open[at]}`, taps: [1 - at], closes: null }];
+    return [{ words: `As a second tap, beside ${open[at]}`, taps: [1 - at], closes: null },
+        { words: `Instead of ${open[at]}`, taps: [at], closes: null }];
 }
 
 export class Placing {

@@ -1,8 +1,8 @@
 #!/usr/bin/python3
 """The page in a browser, opened from the disk: what it shows and gives out is what the program says; bad files; keys; names of controls.
 
-Usage: tests/page.py [--pictures] [FOLDER [PROGRAM]]; its last line is 'N passed, M failed, K skipped'. FOLDER has nbt.wasm, of `make targets`;
-without it out is meant. --pictures writes the pictures of README.md too. What can't run is a failure where CI is true.
+Usage: tests/page.py [--pictures] [--part=NAME].. [FOLDER [PROGRAM]]; its last line is 'N passed, M failed, K skipped'. FOLDER has nbt.wasm, of `make targets`;
+without it out is meant. --pictures writes the pictures of README.md too. --part runs this part alone, and others so named. What can't run is a failure where CI is true.
 """
 import os
 import re
@@ -24,7 +24,8 @@ from page_packets import PacketCases
 from page_placing import PlacingCases
 from page_views import ViewCases
 
-WORDS = [each for each in sys.argv[1:] if each != '--pictures']
+WORDS = [each for each in sys.argv[1:] if not each.startswith('--')]
+ONLY = [each.removeprefix('--part=') for each in sys.argv[1:] if each.startswith('--part=')]
 FOLDER = os.path.realpath(WORDS[0]) if WORDS else f'{TOP}/out'
 PROGRAM = os.path.realpath(WORDS[1]) if WORDS[1:] else f'{TOP}/crates/nbt/out/nbt'
 LACKS = 'chromium, chromium-driver, python3-selenium, esbuild, nodejs, node-typescript and tshark'
@@ -105,7 +106,7 @@ def run(folder, stated):
     browser = Browser(folder)
     cases = Cases(browser, folder, page_program.Program(PROGRAM, TOP))
     try:
-        for name in PARTS:
+        for name in ONLY or PARTS:
             before = sum(counts.values())
             part(cases, name)
             count = sum(counts.values()) - before

@@ -239,6 +239,7 @@ test('words of the filter: kinds, ports, and parts of what is said', () => {
         worded: { kinds: { at: (row) => row + 2 }, source: { at: () => 1 }, destination: { at: () => 0 } }, text: () => '',
     };
     const wanted = (words) => [0, 1].filter((row) => new Filter({ words, kind: '', sender: '', reason: '' }).wants(rows, row));
+    assert.deepEqual(['10.0.0.9', '10.0.0.', '0.0.5', '10.0.0.90', '0.0.0.9'].map(wanted), [[0], [0, 1], [0, 1], [], []]);
     assert.deepEqual([wanted(''), wanted('response'), wanted('fred<20>'), wanted('10.0.0.5 refused'), wanted('138'), wanted('a.c')],
         [[0, 1], [0], [0], [1], [], []]);
 });

@@ -48,6 +48,8 @@ class PacketCases:
         self.filter('')
         for option in self.browser.driver.execute_script('return Array.from(document.querySelectorAll("#kind option"), (each) => each.textContent).slice(1)'):
             kind, count = option.split(' ')
+            if kind == 'conflict':  # nbt-look counts demands alone.
+                continue
             equal(count, f'({len(self.program.listed(path, "--kind", kind))})', f'how many are {kind}')
         self.browser.choose(1)
         for words, wanted in (('nobody has this', ['The filter hides this packet.']), ('', [])):

@@ -4,6 +4,9 @@ import os
 import page_files
 from page_checks import check, equal
 
+# What is known of a datagram whose first bytes came alone.
+LESS = "{} bytes; missing what follows byte {}; its length isn't known"
+
 
 class ViewCases:
     """A part of Cases."""
@@ -74,7 +77,7 @@ class ViewCases:
         equal([each.get_attribute('href').split('#')[1] for each in self.browser.all('#keys a')], ['packets?frame=1', 'packets?frame=3'], 'the first frames')
         self.browser.wait(lambda: self.browser.text('to-reassembly') == 'Reassembly 1')
         self.browser.all('#keys a')[1].click()
-        self.browser.wait(lambda: self.browser.texts('#packet h2') == ['Frame 3'])
+        self.browser.wait(lambda: self.browser.texts('#packet h2') == ['Line 3'])
         check('10.0.0.6:138/0002' in self.browser.texts('#packet dd'), f"the packet of the key: {self.browser.texts('#packet dd')}")
 
     def taps(self):
@@ -90,8 +93,8 @@ class ViewCases:
               'Joined, 2 of 2 datagrams are whole, 1 of them at neither tap alone. Of 2 the taps know different things.', 'it begins with what comes of them')
         equal([row[1:3] for row in tables['tables'][1:]], [['2', '0'], ['2', '1'], ['2', '2']], 'how many keys, and how many are whole')
         sides = {title: [row[:1] + row[3:6] for row in rows[1:]] for title, rows in tables.items() if title != 'tables'}
-        equal(sides, {'whole only when joined': [['10.0.0.5:138/0001', '8 of 11 bytes; missing bytes 8 to 10', '7 of 11 bytes; missing bytes 0 to 3', 'all of its 11 bytes']],
-                      'both have it, and not the same': [['10.0.0.6:138/0002', '3 of 6 bytes; missing bytes 3 to 5', 'all of its 6 bytes', 'all of its 6 bytes']]}, 'the sides')
+        equal(sides, {'whole only when joined': [['10.0.0.5:138/0001', LESS.format(8, 7), '7 of 11 bytes; missing bytes 0 to 3', 'all of its 11 bytes']],
+                      'both have it, and not the same': [['10.0.0.6:138/0002', LESS.format(3, 2), 'all of its 6 bytes', 'all of its 6 bytes']]}, 'the sides')
         differing = [row[0] for row in self.program.differing(one, two)]
         equal(sorted(row[0] for rows in sides.values() for row in rows), differing, 'where they differ')
         self.folded()
@@ -106,11 +109,11 @@ class ViewCases:
         """Each side has a bar, and data are text until their bytes are unfolded, by a key too."""
         from browser import Keys
         equal([each.get_attribute('aria-label') for each in self.browser.all('#view-taps .bar')][:2],
-              ['8 of 11 bytes; missing bytes 8 to 10', '7 of 11 bytes; missing bytes 0 to 3'], 'the bars')
+              [LESS.format(8, 7), '7 of 11 bytes; missing bytes 0 to 3'], 'the bars')
         equal(self.browser.texts('#view-taps summary'), ['hello, FRED', 'onetwo'], 'data as text')
-        equal(self.browser.texts('#view-taps details code'), [], 'no bytes in hexadecimal')
+        equal(self.browser.texts('#view-taps details code'), ['', ''], 'no bytes in hexadecimal')
         self.browser.all('#view-taps summary')[0].send_keys(Keys.ENTER)
-        self.browser.wait(lambda: self.browser.texts('#view-taps details code') == ['68656c6c6f2c2046524544'])
+        self.browser.wait(lambda: self.browser.texts('#view-taps details code') == ['68656c6c6f2c2046524544', ''])
         self.browser.all('#view-taps summary')[0].send_keys(Keys.ENTER)
         self.browser.driver.execute_script('document.querySelector("#view-taps details code").textContent = ""')
 

@@ -89,7 +89,7 @@ class OpeningCases:
         check(not re.search('1970|Wireshark|captured', self.browser.text('packet')), f"a line without a frame: {self.browser.text('packet')}")
         self.browser.choose(7)
         equal(self.browser.texts('#packet h2'), ['Frame 7'], 'a line with a frame')
-        check(re.search('2026-01-01T00:00:00.250000Z.*frame.number == 7', self.browser.text('packet')), f"a line with a frame: {self.browser.text('packet')}")
+        check(re.search('(?s)2026-01-01T00:00:00.250000Z.*frame.number == 7', self.browser.text('packet')), f"a line with a frame: {self.browser.text('packet')}")
 
     def stop(self):
         """A long file is stopped: what was read stays, and can be looked at."""

@@ -32,6 +32,7 @@ class ViewCases:
 
     def losers(self):
         """Who holds a name and who was refused it is said, and has another color."""
+        equal(self.browser.text('to-names'), 'Names 2', 'how many conflicts there are')
         equal(self.browser.texts('#view-names .lead'), ['2 names are in conflict.'], 'how many names are in conflict')
         equal(self.browser.texts('.outcomes li'), ['FRED<20>: 10.0.0.5 holds it; 10.0.0.6 was refused it. frame 3',
                                                    'ANN<00>: 10.0.0.7 holds it; 10.0.0.8 was refused it. frame 7'], 'how the conflicts ended')

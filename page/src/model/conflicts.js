@@ -50,6 +50,10 @@ export class Conflicts {
         if (open.claimants.length < 2) this.open.entries.delete(name);
     }
 
+    get count() {
+        return this.open.entries.size + this.decided.entries.size;
+    }
+
     /** @returns {Conflict[]} by their frames */
     rows() {
         return [...this.decided.entries.values(), ...this.open.entries.values()].sort((one, other) => one.frame - other.frame);

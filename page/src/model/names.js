@@ -54,7 +54,6 @@ export class Names {
         /** @type {Room<Map<string, Claim>>} the first claims of each name, by address */
         this.holders = new Room();
         this.disputes = new Conflicts();
-        this.conflicts = 0;
         /**
          * The names that are claimed, or said to be somebody's.
          * @type {Set<string>}
@@ -165,7 +164,6 @@ export class Names {
     count(name, what) {
         const faults = this.faults.get(name, () => ({ conflicts: 0, refusals: 0 }));
         if (faults) faults[what] += 1;
-        if (what === 'conflicts') this.conflicts += 1;
     }
 
     /** A row for each claim, and for each name that nobody claims, by name and address. */

@@ -97,7 +97,7 @@ export class Tap {
     counts() {
         const { seen } = this;
         const left = Array.from(seen.leftOut.entries.values(), (each) => each.frames).reduce((sum, each) => sum + each, 0);
-        const { named, conflicts } = seen.names;
-        return { frames: this.frames, packets: seen.packets, refused: seen.refusedPackets, leftOut: left, names: named.size, conflicts };
+        const { named, disputes } = seen.names;
+        return { frames: this.frames, packets: seen.packets, refused: seen.refusedPackets, leftOut: left, names: named.size, conflicts: disputes.count };
     }
 }

@@ -109,7 +109,7 @@ class ViewCases:
     def folded(self):
         """Each side has a bar, and data are text until their bytes are unfolded, by a key too."""
         from browser import Keys
-        equal([each.get_attribute('aria-label') for each in self.browser.all('#view-taps .bar')][:2],
+        equal([each.get_attribute('title') for each in self.browser.all('#view-taps .bar')][:2],
               [LESS.format(8, 7), '7 of 11 bytes; missing bytes 0 to 3'], 'the bars')
         equal(self.browser.texts('#view-taps summary'), ['hello, FRED', 'onetwo'], 'data as text')
         equal(self.browser.texts('#view-taps details code'), ['', ''], 'no bytes in hexadecimal')

@@ -85,11 +85,14 @@ export class TapsView {
 }
 
 /**
- * What a side knows of a key: a bar, and words.
+ * What a side knows of a key: a bar, and the words that it stands for.
  *
  * @param {import('./keys.js').Key | null} key
  * @param {number} wide
  */
 function side(key, wide) {
-    return key ? element('div', { class: `side ${key.state}` }, bar(key, wide), element('span', {}, known(key))) : element('span', { class: 'quiet' }, 'nothing of it');
+    if (!key) return element('span', { class: 'quiet' }, 'nothing of it');
+    const drawn = bar(key, wide);
+    drawn.setAttribute('aria-hidden', 'true');
+    return element('div', { class: `side ${key.state}` }, drawn, element('span', {}, known(key)));
 }

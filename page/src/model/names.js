@@ -1,4 +1,5 @@
 /** Who claims which name, and what came of it. */
+import { Conflicts, TAKEN } from './conflicts.js';
 import { entriesOf, isClaim, isGroup, isResponse, subject } from './objects.js';
 import { Room } from './room.js';
 
@@ -52,7 +53,7 @@ export class Names {
         this.faults = new Room();
         /** @type {Room<Map<string, Claim>>} the first claims of each name, by address */
         this.holders = new Room();
-        this.conflicts = 0;
+        this.disputes = new Conflicts();
         /**
          * The names that are claimed, or said to be somebody's.
          * @type {Set<string>}
@@ -63,16 +64,18 @@ export class Names {
     /**
      * @param {import('./objects.js').Service} service
      * @param {import('./seen.js').Ends} ends
+     * @returns {boolean} whether it is of a conflict
      */
     take(service, ends) {
         const name = subject(service);
         if (isResponse(service)) return this.answered(service, ends, name);
         if (isClaim(service)) return this.claimed(service, ends, 'claims');
-        if (service.op !== 'release') return;
+        if (service.op !== 'release') return false;
         for (const { address } of entriesOf(service)) {
             const claim = this.claims.entries.get(`${name} ${address}`);
             if (claim) Object.assign(claim, { until: ends.time, how: 'released' });
         }
+        return false;
     }
 
     /**
@@ -83,17 +86,30 @@ export class Names {
     answered(service, ends, name) {
         if (service.rcode === 'ok') {
             if (service.op === 'query') this.claimed(service, ends, 'is said to be');
-            return;
+            return false;
         }
-        const isConflict = service.rcode === 'CFT_ERR';
-        if (service.op === 'query' && !isConflict) return;
+        const isDemand = service.rcode === 'CFT_ERR';
+        if (service.op === 'query' && !isDemand) return false;
         const claim = this.claims.entries.get(`${name} ${ends.destination}`);
-        if (claim && !isConflict) {
+        const isTaken = TAKEN.includes(String(service.rcode)) && service.op !== 'release';
+        // Who asks for a name isn't refused it.
+        if (isTaken && service.op !== 'query') this.disputes.refuse(name, this.standing(name).filter((each) => each !== claim), service, ends);
+        if (claim && !isDemand) {
             Object.assign(claim, { how: 'refused', until: null });
             claim.refusals += 1;
-            return;
+        } else {
+            this.count(name, isDemand ? 'conflicts' : 'refusals');
         }
-        this.count(name, isConflict ? 'conflicts' : 'refusals');
+        return isTaken;
+    }
+
+    /**
+     * The claims of a name that are neither released nor refused.
+     *
+     * @param {string} name
+     */
+    standing(name) {
+        return [...this.holders.entries.get(name)?.values() ?? []].filter((each) => !ENDED.includes(each.how));
     }
 
     /**
@@ -105,6 +121,7 @@ export class Names {
      */
     claimed(service, ends, how) {
         const { time, source } = ends;
+        let isContested = false;
         for (const record of [...service.answers, ...service.additional]) {
             for (const entry of record.entries ?? []) {
                 const { name } = record;
@@ -113,27 +130,31 @@ export class Names {
                 const claim = this.claims.get(`${name} ${address}`, () => made);
                 if (!claim) continue;
                 if (claim === made) this.named.add(name);
-                if (how === 'claims') this.contest(claim, source, isGroup(entry));
+                if (how === 'claims' && this.contest(claim, ends, isGroup(entry))) isContested = true;
                 if (how === 'claims' || ENDED.includes(claim.how)) claim.how = how;
                 claim.group = isGroup(entry);
                 claim.until = record.ttl && time !== null ? time + BigInt(record.ttl) * SECOND : null;
             }
         }
+        return isContested;
     }
 
     /**
      * Counts a claim of a unique name that another station claims, once for each of them.
      *
      * @param {Claim} claim
-     * @param {string} source
+     * @param {import('./seen.js').Ends} ends
      * @param {boolean} group
      */
-    contest(claim, source, group) {
+    contest(claim, { source, frame }, group) {
         const holders = this.holders.get(claim.name, () => new Map());
-        if (!holders || holders.has(claim.address) || holders.size >= MOST_HOLDERS) return;
-        const isContested = [...holders.values()].some((other) => other.source !== source && !ENDED.includes(other.how));
+        if (!holders || holders.has(claim.address) || holders.size >= MOST_HOLDERS) return false;
+        const others = this.standing(claim.name);
         holders.set(claim.address, claim);
-        if (isContested && !group) this.count(claim.name, 'conflicts');
+        if (group || !others.some((other) => other.source !== source)) return false;
+        this.count(claim.name, 'conflicts');
+        this.disputes.contest(claim.name, [...others, claim].map((each) => each.address), frame);
+        return true;
     }
 
     /**
@@ -143,7 +164,6 @@ export class Names {
     count(name, what) {
         const faults = this.faults.get(name, () => ({ conflicts: 0, refusals: 0 }));
         if (faults) faults[what] += 1;
-        if (what === 'conflicts') this.conflicts += 1;
     }
 
     /** A row for each claim, and for each name that nobody claims, by name and address. */

@@ -130,6 +130,8 @@ test('claims of one name: conflicts, refusals, releases', () => {
     const rows = seen.tables().names.map(({ name, address, how, until, conflicts, refusals, kind }) => [name, address, how, until, conflicts, refusals, kind]);
     assert.deepEqual(rows, [['ANN<00>', '', 'nobody', null, 1, 0, 'workstation'], ['FRED<20>', '10.0.0.5', 'released', 5_000_000_000n, 1, 0, 'file server'],
         ['FRED<20>', '10.0.0.6', 'refused', null, 1, 1, 'file server']]);
+    assert.deepEqual(seen.tables().names.map(({ lifetime }) => lifetime), [null, null, null]);
+    assert.deepEqual(seen.tables().stations.filter(({ refused }) => refused.length).map(({ address, refused }) => [address, refused]), [['10.0.0.6', ['FRED<20>']]]);
 });
 
 test('conflicts: who holds a name, who was refused it and by whom', () => {
@@ -171,7 +173,11 @@ test('queries without an answer', () => {
     seen.take(service('query', 'ANN<00>', { word: '0110', id: '0002' }), '', ends(2, '10.0.0.5', '10.0.0.255'));
     seen.take(service('query', 'ANN<00>', { word: '0110', id: '0003' }), '', ends(3, '10.0.0.5', '10.0.0.255'));
     seen.take(service('query', 'FRED<20>', { word: '8500' }), '', ends(4, '10.0.0.6', '10.0.0.5'));
-    assert.deepEqual(seen.tables().queries.map(({ name, by, times, frame }) => [name, by, times, frame]), [['ANN<00>', '10.0.0.5', 2, 2]]);
+    const rows = () => seen.tables().queries.map(({ name, by, times, frames, answered }) => [name, by, times, frames, answered]);
+    assert.deepEqual(rows(), [['ANN<00>', '10.0.0.5', 2, [2, 3], null]]);
+    seen.take(service('query', 'ANN<00>', { word: '0110', id: '0004' }), '', ends(5, '10.0.0.5', '10.0.0.255'));
+    seen.take(service('query', 'ANN<00>', { word: '8500', id: '0004' }), '', ends(6, '10.0.0.6', '10.0.0.5'));
+    assert.deepEqual(rows(), [['ANN<00>', '10.0.0.5', 2, [2, 3], 6]]);
 });
 
 test('sessions: who called whom, and what came of it', () => {

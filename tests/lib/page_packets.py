@@ -33,7 +33,7 @@ class PacketCases:
             advice = self.program.help(told['refused']).split(': ', 1)[1]
             equal(self.browser.texts('#packet .fault p')[0], advice.replace('`', ''), f"the advice on {told['refused']}")
             equal(self.browser.texts('#packet .fault p code'), advice.split('`')[1::2], f"the code in the advice on {told['refused']}")
-        equal(self.browser.texts('.row.refused .says'), [self.program.told(line)['brief'] for line in lines], 'what the rows say')
+        equal(self.browser.texts('.row.malformed .says'), [self.program.told(line)['brief'] for line in lines], 'what the rows say')
 
     def filters(self):
         """The box, what is chosen of the counts, and how many rows are left."""
@@ -48,8 +48,6 @@ class PacketCases:
         self.filter('')
         for option in self.browser.driver.execute_script('return Array.from(document.querySelectorAll("#kind option"), (each) => each.textContent).slice(1)'):
             kind, count = option.split(' ')
-            if kind == 'conflict':  # nbt-look counts demands alone.
-                continue
             equal(count, f'({len(self.program.listed(path, "--kind", kind))})', f'how many are {kind}')
         self.browser.choose(1)
         for words, wanted in (('nobody has this', ['The filter hides this packet.']), ('', [])):

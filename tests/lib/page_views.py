@@ -20,14 +20,13 @@ class ViewCases:
             self.browser.view('names')
             self.browser.wait(self.browser.tables)
             shown, wanted = self.browser.tables(), self.program.summary(path)
-            wanted.pop('datagrams', None)
-            without_refused_ends(wanted['names'])
-            ended = shown.pop('conflicts', None)
+            for title in ('datagrams', 'failed datagrams'):
+                wanted.pop(title, None)
             equal(sorted(shown), sorted(wanted), f'the tables of {os.path.basename(path)}')
             for title, rows in wanted.items():
                 equal(shown.get(title), rows, f'{os.path.basename(path)}, {title}')
-        equal([row[6] for row in shown['names'][1:] if row[4] == 'refused'], ['-'], 'a refused claim has no lifetime')
-        equal(ended[1:], [['FRED<20>', '10.0.0.5', '10.0.0.6', '10.0.0.5', '3'], ['ANN<00>', '10.0.0.7', '10.0.0.8', '10.0.0.7', '7']], 'the conflicts')
+        equal([row[7] for row in shown['names'][1:] if row[4] == 'refused'], ['-'], 'a refused claim has no lifetime')
+        equal(shown['conflicts'][1:], [['FRED<20>', '10.0.0.5', '10.0.0.6', '10.0.0.5', '3'], ['ANN<00>', '10.0.0.7', '10.0.0.8', '10.0.0.7', '7']], 'the conflicts')
         self.losers()
 
     def losers(self):
@@ -145,14 +144,6 @@ class ViewCases:
                 given = self.browser.saved(f'save-{form}', f'{name}.{end}')
                 wanted = self.program.out(path, form)
                 check(given == wanted, f'{os.path.basename(path)}, {form}: {first_difference(given, wanted)}')
-
-
-def without_refused_ends(names):
-    """Of the rows of names, takes out until when a refused claim would have lasted."""
-    head, *rows = names
-    for row in rows:
-        if row[head.index('how')] == 'refused':
-            row[head.index('until')] = '-'
 
 
 def first_difference(given, wanted):

@@ -39,15 +39,17 @@ export class Conflicts {
      * @param {{address: string, source: string}[]} others those that claim it, but for the one to which that is said
      * @param {import('./objects.js').Service} service
      * @param {import('./seen.js').Ends} ends
+     * @returns {boolean} whether no conflict of who is refused it was known
      */
     refuse(name, others, service, { source: by, destination: refused, frame }) {
         const holder = holderOf(others, by, entriesOf(service).find(({ address }) => address !== refused)?.address);
+        const open = this.open.entries.get(name);
+        const isNew = !this.decided.entries.has(`${name} ${refused}`) && !open?.claimants.includes(refused);
         const conflict = this.decided.get(`${name} ${refused}`, () => ({ name, claimants: [], refused, by, frame }));
         if (conflict) Object.assign(conflict, { claimants: holder ? [holder] : [], by, frame });
-        const open = this.open.entries.get(name);
-        if (!open) return;
-        open.claimants = open.claimants.filter((each) => each !== refused);
-        if (open.claimants.length < 2) this.open.entries.delete(name);
+        if (open) open.claimants = open.claimants.filter((each) => each !== refused);
+        if (open && open.claimants.length < 2) this.open.entries.delete(name);
+        return isNew;
     }
 
     get count() {

@@ -11,7 +11,6 @@ const KINDS = new Map(Object.entries({
     '21': ['remote access client', ''], be: ['network monitor', ''], bf: ['network monitor application', ''],
 }));
 const ENDED = ['released', 'refused'];
-const SECOND = 1_000_000_000n;
 /** How many claims of a name are looked at for conflicts. */
 const MOST_HOLDERS = 16;
 
@@ -25,7 +24,8 @@ const MOST_HOLDERS = 16;
  * @property {boolean} group
  * @property {string} how
  * @property {bigint | null} since
- * @property {bigint | null} until null where it has no end
+ * @property {bigint | null} until when it was released
+ * @property {number | null} lifetime in seconds; 0 where it has no end, null where it ended
  * @property {number} refusals
  *
  * Of a name: its conflicts, and the refusals that are told to others than those who claim it.
@@ -73,7 +73,7 @@ export class Names {
         if (service.op !== 'release') return false;
         for (const { address } of entriesOf(service)) {
             const claim = this.claims.entries.get(`${name} ${address}`);
-            if (claim) Object.assign(claim, { until: ends.time, how: 'released' });
+            if (claim) Object.assign(claim, { until: ends.time, lifetime: null, how: 'released' });
         }
         return false;
     }
@@ -93,14 +93,26 @@ export class Names {
         const claim = this.claims.entries.get(`${name} ${ends.destination}`);
         const isTaken = TAKEN.includes(String(service.rcode)) && service.op !== 'release';
         // Who asks for a name isn't refused it.
-        if (isTaken && service.op !== 'query') this.disputes.refuse(name, this.standing(name).filter((each) => each !== claim), service, ends);
+        const isNew = isTaken && service.op !== 'query'
+            && this.disputes.refuse(name, this.standing(name).filter((each) => each !== claim), service, ends);
         if (claim && !isDemand) {
-            Object.assign(claim, { how: 'refused', until: null });
+            Object.assign(claim, { how: 'refused', lifetime: null });
             claim.refusals += 1;
-        } else {
-            this.count(name, isDemand ? 'conflicts' : 'refusals');
+        } else if (!isDemand) {
+            this.count(name, 'refusals');
         }
+        if (isDemand || isNew) this.count(name, 'conflicts');
         return isTaken;
+    }
+
+    /**
+     * Whether a name was claimed for an address, and that was refused.
+     *
+     * @param {string} name
+     * @param {string} address
+     */
+    isRefused(name, address) {
+        return this.claims.entries.get(`${name} ${address}`)?.how === 'refused';
     }
 
     /**
@@ -126,14 +138,13 @@ export class Names {
             for (const entry of record.entries ?? []) {
                 const { name } = record;
                 const { address } = entry;
-                const made = { name, address, source, group: isGroup(entry), how, since: time, until: null, refusals: 0 };
+                const made = { name, address, source, group: isGroup(entry), how, since: time, until: null, lifetime: record.ttl, refusals: 0 };
                 const claim = this.claims.get(`${name} ${address}`, () => made);
                 if (!claim) continue;
                 if (claim === made) this.named.add(name);
                 if (how === 'claims' && this.contest(claim, ends, isGroup(entry))) isContested = true;
-                if (how === 'claims' || ENDED.includes(claim.how)) claim.how = how;
-                claim.group = isGroup(entry);
-                claim.until = record.ttl && time !== null ? time + BigInt(record.ttl) * SECOND : null;
+                if (how === 'claims' || ENDED.includes(claim.how)) Object.assign(claim, { how, until: null });
+                Object.assign(claim, { group: isGroup(entry), lifetime: record.ttl });
             }
         }
         return isContested;
@@ -172,7 +183,7 @@ export class Names {
             ({ ...claim, kind: kindOf(claim.name, claim.group), conflicts: this.faults.entries.get(claim.name)?.conflicts ?? 0 }));
         const claimed = new Set(claims.map((claim) => claim.name));
         const others = Array.from(this.faults.entries).filter(([name, { refusals }]) => refusals || !claimed.has(name)).map(([name, faults]) =>
-            ({ name, address: '', group: false, how: 'nobody', since: null, until: null, kind: kindOf(name, false), ...faults }));
+            ({ name, address: '', group: false, how: 'nobody', since: null, until: null, lifetime: null, kind: kindOf(name, false), ...faults }));
         return [...claims, ...others].sort((one, other) => compare(one.name, other.name) || compare(one.address, other.address));
     }
 

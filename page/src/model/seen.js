@@ -87,7 +87,7 @@ export class Seen {
     /** The tables, by their titles. */
     tables() {
         return {
-            conflicts: this.names.disputes.rows(), names: this.names.rows(), stations: this.stations.rows(), queries: this.queries.rows(),
+            conflicts: this.names.disputes.rows(), names: this.names.rows(), stations: this.stations.rows((name, address) => this.names.isRefused(name, address)), queries: this.queries.rows(),
             sessions: this.sessions.rows(),
             refused: Array.from(this.refused.entries.values()), 'left out': Array.from(this.leftOut.entries.values()),
         };

@@ -303,7 +303,7 @@ export class App {
 
     /** @param {Tap} tap */
     tellOf({ name, kind, counts: { packets, refused, leftOut } }) {
-        this.tell(kind === 'table' ? `${name} is a saved table` : `${name}: ${counted(packets, 'packet')}, ${refused} refused, ${leftOut} left out`);
+        this.tell(kind === 'table' ? `${name} is a saved table` : `${name}: ${counted(packets, 'packet')}, ${refused} malformed, ${leftOut} left out`);
     }
 
     /** @param {string} words what is heard, where the page is read aloud */

@@ -3,7 +3,8 @@
 /** The kinds of packets, in the words of nbt-look. */
 export const KINDS = [
     'query', 'status', 'registration', 'refresh', 'release', 'wack', 'response', 'conflict', 'datagram', 'unique', 'group', 'broadcast',
-    'error', 'find', 'found', 'missing', 'session', 'request', 'positive', 'negative', 'retarget', 'message', 'keepalive', 'refused', 'left-out',
+    'fragment', 'error', 'find', 'found', 'missing', 'session', 'request', 'retarget', 'message', 'keepalive', 'positive', 'negative', 'malformed',
+    'left-out',
 ];
 export const PORTS = ['137', '138', '139'];
 /** A whole address of IPv4, which is no part of another one. */

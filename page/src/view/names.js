@@ -7,18 +7,16 @@ import { byId, counted, element, table } from './dom.js';
 /** The conflicts, then the tables in the order and with the titles of nbt-look; and the columns of each. */
 const TABLES = /** @type {const} */ ([
     ['conflicts', 'conflicts', ['name', 'holder', 'refused', 'by', 'frame']],
-    ['names', 'names', ['name', 'kind', 'address', 'group', 'how', 'since', 'until', 'conflicts', 'refusals']],
-    ['stations', 'stations', ['address', 'mac', 'packets', 'names', 'status', 'unit']],
-    ['queries', 'queries without an answer', ['name', 'kind', 'by', 'times', 'frame', 'since']],
+    ['names', 'names', ['name', 'kind', 'address', 'group', 'how', 'since', 'until', 'lifetime', 'conflicts', 'refusals']],
+    ['stations', 'stations', ['address', 'mac', 'packets', 'names', 'refused', 'status', 'unit']],
+    ['queries', 'queries without an answer', ['name', 'kind', 'by', 'times', 'frames', 'since', 'answered']],
     ['sessions', 'sessions', ['calling', 'called', 'from', 'to', 'calls', 'accepted', 'refused', 'sent', 'received']],
-    ['refused', 'refused', ['reason', 'packets', 'frame', 'byte']],
+    ['refused', 'malformed', ['reason', 'packets', 'frame', 'byte']],
     ['left out', 'left out', ['reason', 'frames']],
 ]);
 const FILTERS = ['name', 'calling', 'called', 'address', 'from', 'to', 'by'];
 /** Of how many conflicts a sentence says how they ended. */
 const MOST_SENTENCES = 5;
-/** How it is known of a name that nobody has it: of these a lifetime says nothing. */
-const UNCLAIMED = ['nobody', 'refused'];
 
 /** @typedef {import('./conflicts.js').Conflict} Conflict */
 
@@ -44,7 +42,7 @@ export class NamesView {
                 const rows = tables[key];
                 const more = notKept[key] ? [element('p', { class: 'quiet' }, `and ${counted(notKept[key], 'packet')} of more than are kept`)] : [];
                 if (!rows.length) return more;
-                const head = columns.map((each) => (each === 'frame' ? app.unit : each));
+                const head = columns.map((each) => ({ frame: app.unit, byte: 'payload byte' })[String(each)] ?? each);
                 const cells = rows.map((/** @type {any} */ row) => columns.map((column) => this.cell(row, column)));
                 return [table(title, head, cells, (at) => standing(key, rows[at], lost)), ...more];
             }));
@@ -67,6 +65,11 @@ export class NamesView {
         return this.link(`${this.app.unit} ${frame}`, { frame, filter: '' });
     }
 
+    /** @param {number[]} frames */
+    frames(frames) {
+        return element('span', {}, ...frames.flatMap((each, at) => [...(at ? [', '] : []), this.link(String(each), { frame: each, filter: '' })]));
+    }
+
     /**
      * @param {any} row
      * @param {string} column
@@ -74,9 +77,12 @@ export class NamesView {
      */
     cell(row, column) {
         const value = row[column];
-        if (column === 'since' || column === 'until') return this.time(/** @type {bigint | null} */ (value), column === 'until' && !UNCLAIMED.includes(String(row.how)));
+        if (column === 'since' || column === 'until') return this.time(/** @type {bigint | null} */ (value));
+        if (column === 'lifetime') return value === null ? '-' : `${value} s${value ? '' : ', no end'}`;
+        if (column === 'frames' && Array.isArray(value)) return this.frames(value);
+        if (column === 'answered') return value === null ? 'never' : this.link(`a later one, in ${this.app.unit} ${value}`, { frame: value, filter: '' });
         if (column === 'frame') return this.link(String(value), { frame: Number(value), filter: '' });
-        if (column === 'reason') return this.link(String(value), { filter: row.frames === undefined ? 'refused' : 'left-out' });
+        if (column === 'reason') return this.link(String(value), { filter: row.frames === undefined ? 'malformed' : 'left-out' });
         if (column === 'holder') return row.claimants.join(' or ') || 'not in the capture';
         if (column === 'refused' && row.claimants) return String(value || 'nobody');
         const text = textOf(value);
@@ -85,10 +91,9 @@ export class NamesView {
 
     /**
      * @param {bigint | null} time
-     * @param {boolean} isEnd
      */
-    time(time, isEnd) {
-        if (time === null || time === undefined) return isEnd ? 'no end' : '-';
+    time(time) {
+        if (time === null || time === undefined) return '-';
         return since(time, this.app.tap?.first ?? null);
     }
 

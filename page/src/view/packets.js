@@ -63,7 +63,7 @@ export class PacketsView {
             rows.text('destination', row), port ? String(port) : '', rows.said[row],
         ];
         const kinds = rows.text('kinds', row).split(' ');
-        return { cells, kind: ['refused', 'left-out', 'conflict'].find((each) => kinds.includes(each)) ?? '' };
+        return { cells, kind: ['malformed', 'left-out', 'conflict'].find((each) => kinds.includes(each)) ?? '' };
     }
 
     /** Shows the rows of another file. */

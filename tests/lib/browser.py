@@ -14,6 +14,8 @@ from page_seen import Seen
 CHROMIUM, DRIVER = '/usr/bin/chromium', '/usr/bin/chromedriver'
 WORDS = ('--headless=new', '--no-sandbox', '--disable-dev-shm-usage', '--disable-background-networking', '--disable-component-update',
          '--no-first-run', '--enable-precise-memory-info')
+# How many seconds a file may take to be read, on a machine that is busy.
+LONG = 300
 # What may come after the page itself: what it makes of its own blocks.
 OWN = ('blob:', 'data:', 'about:', 'chrome://', 'chrome-extension://', 'devtools://')
 # What has to have a name, by its role in the accessibility tree.
@@ -72,7 +74,7 @@ class Browser(Seen):
         self.id('file').send_keys('\n'.join(paths))
         if answer:
             self.answer(answer)
-        self.wait(lambda: self.is_read() and (self.text('live') or self.message()))
+        self.wait(lambda: self.is_read() and (self.text('live') or self.message()), LONG)
 
     def answer(self, words):
         """Answers where a file goes, by the button that begins so."""

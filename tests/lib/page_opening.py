@@ -121,6 +121,6 @@ class OpeningCases:
         self.browser.answer('Instead of tap 2')
         self.browser.wait(self.browser.message)
         check('third.png: no pcap' in self.browser.message(), f'a bad file meanwhile: {self.browser.message()}')
-        self.browser.wait(lambda: self.browser.is_read() and self.browser.text('live').startswith('long.pcap: '))
+        self.browser.wait(lambda: self.browser.is_read() and self.browser.text('live').startswith('long.pcap: '), 300)
         equal(self.browser.text('shown'), whole, 'all of it is read')
         check('third.png: no pcap' in self.browser.message(), f'the message stays: {self.browser.message()}')

@@ -164,3 +164,9 @@ def pointed(name, count):
 def labels(count):
     """The name with so many labels of one byte."""
     return b'\x01a' * count + b'\0'
+
+
+def refused(size):
+    """A packet of so many bytes whose first name begins with a reserved length, 20 times."""
+    payload = struct.pack('>HHHHHH', 1, 0x0110, 1, 0, 0, 0) + b'\x40'
+    return [line(moment, payload.ljust(size, b'\0'), 137) for moment in range(20)]

@@ -8,7 +8,7 @@ use std::io::{self, BufRead};
 pub type Kept = ArrayVec<u8, 510>;
 
 pub fn kept(names: &[u8]) -> Kept {
-    names.iter().copied().collect()
+    Kept::try_from(names).expect("at most two names")
 }
 
 pub fn digit(character: u8) -> Option<u8> {

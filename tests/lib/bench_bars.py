@@ -1,0 +1,35 @@
+"""The bars of tests/bench.py, and the rows that are known to miss theirs."""
+
+# Instructions, as so many times those of the plain program on the same crates.
+PLAIN = {'replay': 1.15, 'show': 1.1, 'save': 1.1, 'merge': 2.0}
+# Merges of few large entries are shown without a bar.
+WITHOUT = {('merge', '65,467 pieces of a byte, shuffled'), ('merge', '65,467 pieces of a byte, descending'),
+           ('merge', '100 of 163 pieces, shuffled')}
+# Instructions, as so many times those of the same packets as text.
+TEXT = {'--json': 1.6, '--brief': 1.1}
+# The cost of one among a hundred times as many, of one that is.
+GROWTH = 2.0
+# The packet of which most labels are read, beside the cheapest of its size that is refused.
+WORST = 10.0
+# A replay with --per-source, beside one without.
+PER_SOURCE = 1.2
+# How far a number may be past its bar, or past what it is known to be.
+ALLOWED = 1.05
+# The rows that miss their bars, with their numbers.
+KNOWN = {}
+
+
+class Bars:
+    """Numbers beside their bars, and which rows are past what they may be."""
+
+    def __init__(self):
+        self.missed = []
+
+    def judged(self, row, number, bar):
+        """The number of a row beside its bar, in words."""
+        if row in WITHOUT:
+            return '%.2f' % number
+        if number > max(bar, KNOWN.get(row, bar)) * ALLOWED:
+            self.missed.append('%s: %.2f, of at most %.2f' % (': '.join(row), number, max(bar, KNOWN.get(row, bar))))
+        words = '%.2f of %.2f' % (number, bar)
+        return words + (', known to be %.2f' % KNOWN[row] if row in KNOWN else '')

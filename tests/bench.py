@@ -4,8 +4,8 @@
 Prints a line for each command and workload: instructions a packet (counted by valgrind's callgrind, where it is installed; they
 are the same from run to run), packets a second (the best of three runs), the peak of resident memory, and how many times the
 instructions are those of the plain program of tests/plain/ on the same crates, or of the same packets as text, beside the most that
-they may be (tests/lib/bench_bars.py). Then come lines on growth. Where a number is past its bar by more than 5 %, or past what it is
-known to be, the status is 1. With --small most captures are a tenth as long.
+they may be (tests/lib/bench_bars.py). Then come lines on growth. A number that is more than 5 % past its bar, or past what it is known
+to be, is a failure, and the last line counts them. With --small most captures are a tenth as long.
 """
 import os
 import random
@@ -120,7 +120,7 @@ class Bench:
         cost = None if counted is None else counted // packets
         rate = packets / min(seconds(command, path) for _ in range(3))
         name = ' '.join([words[0], *(it for it in words if it in TEXT)])
-        ratio = self.bars.judged((name, title), counted / beside, bar) if counted and beside else ''
+        ratio = self.bars.judged((name, title), counted / beside if counted and beside else None, bar)
         line = '%-13s %-36s %8s %12d %9s  %s' % (name, title, shown(cost), rate, shown(peak(command, path)), ratio)
         print(line.rstrip(), flush=True)
         return counted
@@ -168,6 +168,7 @@ class Bench:
     def growth(self):
         """A line for each way to grow: the instructions of one among so many, and among ten times and a hundred times as many."""
         if not shutil.which('valgrind'):
+            self.bars.skipped += len(GROWING)
             return
         for title, words, lines in GROWING:
             costs = [self.cost_of_one(words, lines, size) for size in SIZES]
@@ -195,10 +196,11 @@ def main():
         print('instructions of one among %s:' % ', '.join(f'{size:,}' for size in SIZES))
         bench.growth()
     if not bench.plain:
-        print('not compared with the plain program: no cargo, or no crates in ' + plain_program.REGISTRY)
-    for missed in bench.bars.missed:
-        print('past its bar: ' + missed)
-    return 1 if bench.bars.missed else 0
+        print('skipped: the rows beside the plain program: no cargo, or no crates in ' + plain_program.REGISTRY)
+    for each in bench.bars.past:
+        print('failed: ' + each)
+    print(bench.bars.counted())
+    return 1 if bench.bars.past else 0
 
 
 if __name__ == '__main__':

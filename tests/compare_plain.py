@@ -4,10 +4,11 @@
 Compiles the plain program twice: on std alone, and on the crates that nbt stands on (tests/lib/plain_program.py). Gives all three
 programs small captures of each kind and those of tests/bench.py, and says where what they print, a line on standard error or a status
 differs: then its own status is 1. Prints the instructions a packet of each over the captures of tests/bench.py, where valgrind is
-installed, how many times those of the plain ones ours are, and the seconds of the best of five runs by turns.
+installed, how many times those of the plain ones ours are, and the processor seconds of the best of five runs by turns.
 """
 import os
 import random
+import resource
 import struct
 import subprocess
 import sys
@@ -127,11 +128,19 @@ def same(programs, words, capture, title):
     return True
 
 
+def seconds(command, path):
+    """The processor seconds of one run."""
+    before = resource.getrusage(resource.RUSAGE_CHILDREN)
+    bench.seconds(command, path)
+    after = resource.getrusage(resource.RUSAGE_CHILDREN)
+    return after.ru_utime - before.ru_utime + after.ru_stime - before.ru_stime
+
+
 def costs(programs, words, title, path, packets):
     """Prints what each program takes for a packet, and all of the capture."""
     commands = [[program, *words] for program in programs]
     counted = [bench.instructions(command, path) for command in commands]
-    turns = [[bench.seconds(command, path) for command in commands] for _ in range(5)]
+    turns = [[seconds(command, path) for command in commands] for _ in range(5)]
     columns = ['%7.3f' % min(each) for each in zip(*turns)]
     if None not in counted:
         columns = ['%7d' % (each // packets) for each in counted] + ['%6.2f' % (counted[0] / each) for each in counted[1:]] + columns
@@ -155,7 +164,7 @@ def main():
     with tempfile.TemporaryDirectory() as folder:
         programs = ours, *(plain_program.compiled(folder, features) for features in (plain_program.STD, plain_program.CRATES))
         runs = [same(programs, words, capture, f'small capture {number}') for number, (words, capture) in enumerate(small())]
-        print('instructions a packet: ours, on std, on crates; as many times those; seconds of each')
+        print('instructions a packet: ours, on std, on crates; how many times those; processor seconds of each')
         for words, title, path, packets in measured(folder, ours):
             with open(path, 'rb') as capture:
                 runs.append(same(programs, words, capture.read(), title))

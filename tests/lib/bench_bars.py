@@ -20,16 +20,24 @@ KNOWN = {}
 
 
 class Bars:
-    """Numbers beside their bars, and which rows are past what they may be."""
+    """Numbers beside their bars: how many are within them, which are past them, and how many couldn't be had."""
 
     def __init__(self):
-        self.missed = []
+        self.within, self.past, self.skipped = 0, [], 0
 
     def judged(self, row, number, bar):
         """The number of a row beside its bar, in words."""
-        if row in WITHOUT:
-            return '%.2f' % number
-        if number > max(bar, KNOWN.get(row, bar)) * ALLOWED:
-            self.missed.append('%s: %.2f, of at most %.2f' % (': '.join(row), number, max(bar, KNOWN.get(row, bar))))
-        words = '%.2f of %.2f' % (number, bar)
-        return words + (', known to be %.2f' % KNOWN[row] if row in KNOWN else '')
+        if bar is None or row in WITHOUT:
+            return '' if number is None else '%.2f' % number
+        if number is None:
+            self.skipped += 1
+            return ''
+        most = max(bar, KNOWN.get(row, bar))
+        if number > most * ALLOWED:
+            self.past.append('%s: %.2f, where at most %.2f was expected' % (', '.join(row), number, most))
+        else:
+            self.within += 1
+        return '%.2f of %.2f' % (number, bar) + (', known to be %.2f' % most if row in KNOWN else '')
+
+    def counted(self):
+        return f'{self.within} passed, {len(self.past)} failed, {self.skipped} skipped'

@@ -5,7 +5,9 @@ use crate::capture::BUFFER;
 use crate::names::{is_plain, label_bytes, labels, name_bytes, NameFault, FIRST_LABEL, FRONT};
 use crate::packets::{Fragment, Key, Refusal, UNIQUE};
 use crate::Fault;
+use std::fs::File;
 use std::io::{self, Write};
+use std::os::fd::AsFd;
 
 /// What is to be printed.
 pub struct Report(Vec<u8>);
@@ -15,11 +17,15 @@ impl Report {
         Report(Vec::with_capacity(2 * BUFFER))
     }
 
+    /// Prints all that waits, as it is: std's own writer would look for its last line feed.
     pub fn print(&mut self) -> Result<(), Fault> {
-        let mut output = io::stdout().lock();
-        let done = output.write_all(&self.0);
+        if self.0.is_empty() {
+            return Ok(());
+        }
+        let output = io::stdout().as_fd().try_clone_to_owned();
+        let done = output.and_then(|output| File::from(output).write_all(&self.0));
         self.0.clear();
-        done.and_then(|()| output.flush()).map_err(|_| Fault::Write)
+        done.map_err(|_| Fault::Write)
     }
 
     pub fn print_if_long(&mut self) -> Result<(), Fault> {

@@ -5,7 +5,7 @@ Prints a line for each command and workload: instructions a packet (counted by v
 are the same from run to run), packets a second (the best of three runs), the peak of resident memory, and how many times the
 instructions are those of the plain program of tests/plain/ on the same crates, or of the same packets as text, beside the most that
 they may be (tests/lib/bench_bars.py). Then come lines on growth. A number that is more than 5 % past its bar, or past what it is known
-to be, is a failure, and the last line counts them. With --small most captures are a tenth as long.
+to be, is a failure, and the last line counts them. With --small captures are a tenth as long.
 """
 import os
 import random
@@ -29,7 +29,6 @@ KEYS = ['--keys', '65535']
 REPLAY, SHOW, SAVE, MERGE = ['replay', 'FRED<20>'], ['show'], ['save', *KEYS], ['merge', *KEYS]
 # How many keys one address may have in a table of 65,535, in the last rows of one address.
 LIMITS = (64, 1_000, 30_000)
-SIZES = (250, 2_500, 25_000)
 GROWING = (('pieces of a byte, shuffled', REPLAY, lambda size: shuffled(random.Random(size), 1, size, 1)),
            ('pieces of a byte, descending', REPLAY, lambda size: descending(random.Random(size), size)),
            ('keys', ['replay', *KEYS, 'FRED<20>'], one_address),
@@ -50,14 +49,13 @@ def written(folder, title, lines):
 
 
 def workloads(folder, part=1):
-    """Writes captures of fragments, and yields each one's title, file and number of packets. Those of many datagrams have one of
-    so many parts."""
+    """Writes captures of fragments, or one of so many parts of them, and yields each one's title, file and number of packets."""
     rng = random.Random(139)
-    made = (('25,000 unfragmented', unfragmented(rng, 25_000 // part)),
-            ('1,000 of 64 pieces, shuffled', shuffled(rng, 1_000 // part, 2_048, 32)),
-            ('65,467 pieces of a byte, shuffled', shuffled(rng, 1, 65_467, 1)),
-            ('65,467 pieces of a byte, descending', descending(rng, 65_467)),
-            ('100 of 163 pieces, shuffled', shuffled(rng, 100 // part, 65_000, 400)))
+    made = (('unfragmented', unfragmented(rng, 25_000 // part)),
+            ('pieces of 32 bytes, shuffled', shuffled(rng, 1_000 // part, 2_048, 32)),
+            ('pieces of a byte, shuffled', shuffled(rng, 1, 65_467 // part, 1)),
+            ('pieces of a byte, descending', descending(rng, 65_467 // part)),
+            ('pieces of 400 bytes, shuffled', shuffled(rng, 100 // part, 65_000, 400)))
     for title, lines in made:
         yield title, *written(folder, title, lines)
 
@@ -109,8 +107,10 @@ def shown(number):
 class Bench:
     """The program that is measured, the plain one if it can be compiled, and the bars."""
 
-    def __init__(self, program, part, folder):
-        self.program, self.part, self.folder, self.bars = program, part, folder, Bars()
+    def __init__(self, program, small, folder):
+        self.program, self.folder, self.bars = program, folder, Bars(small)
+        self.part, self.times, least = (10, 1, 100) if small else (1, 4, 250)
+        self.sizes = [least, least * 10, least * 100]
         self.plain = plain_program.compiled(folder, plain_program.CRATES) if plain_program.can_be_compiled() else None
 
     def row(self, words, title, path, packets, beside=None, bar=None):
@@ -153,9 +153,9 @@ class Bench:
     def longest(self):
         """The rows of packets of 64,800 bytes: one that is refused, an ordinary name, and the one of which most labels are read,
         which is judged beside the first."""
-        least = self.row(SHOW, '64,800 bytes, refused', *written(self.folder, 'refused', refused(64_800)))
-        self.row(SHOW, '10,800 pointers to a name', *written(self.folder, 'pointed', pointed(FRED, 10_800)))
-        self.row(SHOW, '10,800 to 111 labels', *written(self.folder, 'pointed', pointed(labels(111), 10_800)), least, WORST)
+        least = self.row(SHOW, '64,800 bytes, refused', *written(self.folder, 'refused', refused(64_800, self.times)))
+        self.row(SHOW, '10,800 pointers to a name', *written(self.folder, 'pointed', pointed(FRED, 10_800, self.times)))
+        self.row(SHOW, '10,800 to 111 labels', *written(self.folder, 'pointed', pointed(labels(111), 10_800, self.times)), least, WORST)
 
     def flood(self):
         """The rows of one address's keys: not counted, all of them counted, and limited to fewer."""
@@ -171,8 +171,8 @@ class Bench:
             self.bars.skipped += len(GROWING)
             return
         for title, words, lines in GROWING:
-            costs = [self.cost_of_one(words, lines, size) for size in SIZES]
-            ratio = self.bars.judged((words[0], title), costs[-1] / costs[0], GROWTH)
+            costs = [self.cost_of_one(words, lines, size) for size in self.sizes]
+            ratio = self.bars.judged((f'growth of {words[0]}', title), costs[-1] / costs[0], GROWTH)
             print('%-13s %-36s %8d %8d %8d  %s' % (words[0], title, *costs, ratio), flush=True)
 
     def cost_of_one(self, words, lines, size):
@@ -189,11 +189,11 @@ class Bench:
 def main():
     words = [each for each in sys.argv[1:] if each != '--small']
     with tempfile.TemporaryDirectory() as folder:
-        bench = Bench(words[0] if words else PROGRAM, 10 if '--small' in sys.argv else 1, folder)
+        bench = Bench(words[0] if words else PROGRAM, '--small' in sys.argv, folder)
         print('%-13s %-36s %8s %12s %9s  %s' % ('command', 'workload', 'a packet', 'packets a s', 'peak kB', 'beside others'))
         for rows in (bench.fragments, bench.stations, bench.longest, bench.flood):
             rows()
-        print('instructions of one among %s:' % ', '.join(f'{size:,}' for size in SIZES))
+        print('instructions of one among %s:' % ', '.join(f'{size:,}' for size in bench.sizes))
         bench.growth()
     if not bench.plain:
         print('skipped: the rows beside the plain program: no cargo, or no crates in ' + plain_program.REGISTRY)

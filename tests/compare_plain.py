@@ -74,6 +74,15 @@ def small():
         yield from ((['show'], capture) for capture in (b''.join(office(port, 1_000)), b''.join(changed(random.Random(port), port))))
 
 
+def merges(program):
+    """The words and the input of merges: the tables of three parts of captures, in which keys are spoilt, or are by a merge."""
+    for seed in range(40):
+        lines = list(hostile(random.Random(seed), 600 // (1 + seed % 5)))
+        saved = [answer([program, 'save'], b''.join(lines[part::3]))[1] for part in range(3)]
+        yield ['merge'], b''.join(saved)
+        yield ['merge', '--keys', '4'], b''.join(saved)
+
+
 def changed(rng, port):
     """Packets of an office of which some bytes are changed, or missing."""
     for each in office(port, 3_000):
@@ -163,7 +172,8 @@ def main():
     ours = sys.argv[1] if len(sys.argv) > 1 else bench.PROGRAM
     with tempfile.TemporaryDirectory() as folder:
         programs = ours, *(plain_program.compiled(folder, features) for features in (plain_program.STD, plain_program.CRATES))
-        runs = [same(programs, words, capture, f'small capture {number}') for number, (words, capture) in enumerate(small())]
+        runs = [same(programs, words, capture, f'small capture {number}')
+                for number, (words, capture) in enumerate((*small(), *merges(ours)))]
         print('instructions a packet: ours, on std, on crates; how many times those; processor seconds of each')
         for words, title, path, packets in measured(folder, ours):
             with open(path, 'rb') as capture:

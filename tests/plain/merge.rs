@@ -177,14 +177,9 @@ impl Joined {
 
     fn save(&self, report: &mut Report) {
         save_number(self.runs.len() as u32, report);
-        let mut end = self.bytes.len();
-        let ends: Vec<_> = self
-            .runs
-            .iter()
-            .rev()
-            .map(|(_, at)| std::mem::replace(&mut end, *at))
-            .collect();
-        for ((start, at), end) in self.runs.iter().zip(ends.into_iter().rev()) {
+        for (index, (start, at)) in self.runs.iter().enumerate() {
+            let next = self.runs.get(index + 1);
+            let end = next.map_or(self.bytes.len(), |(_, next)| *next);
             save_run(*start, &self.bytes[*at..end], report);
         }
     }

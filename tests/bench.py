@@ -111,7 +111,7 @@ class Bench:
         self.program, self.folder, self.bars = program, folder, Bars(small)
         self.part, self.times, least = (10, 1, 100) if small else (1, 4, 250)
         self.sizes = [least, least * 10, least * 100]
-        self.plain = plain_program.compiled(folder, plain_program.CRATES) if plain_program.can_be_compiled() else None
+        self.plain = plain_program.compiled(folder, plain_program.CRATES)
 
     def row(self, words, title, path, packets, beside=None, bar=None):
         """Prints the row of a command, and gives its instructions. The last column has them beside so many others."""
@@ -196,7 +196,7 @@ def main():
         print('instructions of one among %s:' % ', '.join(f'{size:,}' for size in bench.sizes))
         bench.growth()
     if not bench.plain:
-        print('skipped: the rows beside the plain program: no cargo, or no crates in ' + plain_program.REGISTRY)
+        print('skipped: the rows beside the plain program, which wants cargo of 1.82 and crates in ' + plain_program.REGISTRY)
     for each in bench.bars.past:
         print('failed: ' + each)
     print(bench.bars.counted())

@@ -172,6 +172,8 @@ def main():
     ours = sys.argv[1] if len(sys.argv) > 1 else bench.PROGRAM
     with tempfile.TemporaryDirectory() as folder:
         programs = ours, *(plain_program.compiled(folder, features) for features in (plain_program.STD, plain_program.CRATES))
+        if None in programs:
+            sys.exit('the plain program wants cargo of 1.82 and crates in ' + plain_program.REGISTRY)
         runs = [same(programs, words, capture, f'small capture {number}')
                 for number, (words, capture) in enumerate((*small(), *merges(ours)))]
         print('instructions a packet: ours, on std, on crates; how many times those; processor seconds of each')

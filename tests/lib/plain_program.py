@@ -11,15 +11,12 @@ CONFIGURED = ('source.crates-io.replace-with="debian"', f'source.debian.director
 STD, CRATES = '', 'crates'
 
 
-def can_be_compiled():
-    """Whether cargo is there, and the crates are."""
-    return shutil.which('cargo') is not None and all(glob.glob(f'{REGISTRY}/{crate}-*') for crate in ('arrayvec', 'hex', 'memchr'))
-
-
 def compiled(folder, features):
-    """The plain program with these features, compiled in a folder of its own."""
+    """The plain program with these features, compiled in a folder of its own, or None without cargo, the crates or a Rust of 1.82."""
+    if not shutil.which('cargo') or not all(glob.glob(f'{REGISTRY}/{crate}-*') for crate in ('arrayvec', 'hex', 'memchr')):
+        return None
     source = os.path.join(folder, 'plain-' + (features or 'std'))
     shutil.copytree(SOURCE, source)
     words = ['cargo', 'build', '--quiet', '--release', '--offline', '--features', features]
-    subprocess.run(words + [word for each in CONFIGURED for word in ('--config', each)], cwd=source, check=True)
-    return os.path.join(source, 'target', 'release', 'plain')
+    done = subprocess.run(words + [word for each in CONFIGURED for word in ('--config', each)], cwd=source)
+    return os.path.join(source, 'target', 'release', 'plain') if done.returncode == 0 else None

@@ -36,7 +36,7 @@ check:
 test:
 	tests/all.sh
 
-# Build the program, and print what its commands cost: instructions, packets a second, memory; what nbt-look costs; and, where the
+# Build the program, and print what its commands cost, beside bars: instructions, packets a second, memory; what nbt-look costs; and, where the
 # page is made, what that costs.
 bench: build
 	tests/bench.py

@@ -142,6 +142,28 @@ refused() {
     done
 }
 
+# hostile NAME OPTION..: a caller who goes to every limit of the header, compiled so; its calls answer the statuses listed there.
+hostile() {
+    $CC "${strict[@]}" -o "$room/hostile" "$here"/lib/hostile{,_rooms,_stations}.c -Wl,--wrap=malloc,--wrap=realloc "${@:2}" \
+        "$built/libnbt.a" >"$room/log" 2>&1
+    count $? "tests/lib/hostile.c, $1: $(head -n 1 "$room/log")"
+    ended "$room/hostile" >"$room/statuses" 2>"$room/errors"
+    count $? "tests/lib/hostile.c, $1: $(grep -m 1 . "$room/errors")"
+    "$here/lib/statuses_reached.py" "$top/include/nbt.h" <"$room/statuses" >"$room/output" 2>&1
+    count $? "each call answers what the header lists, $1: $(head -n 3 "$room/output" | head -c 300)"
+}
+
+# The limits of what the header allows, and its bounds.
+limits() {
+    hostile plain
+    hostile sanitized -fsanitize=address,undefined -fno-sanitize-recover=all
+    $CC "${strict[@]}" -o "$room/bounds" "$here/lib/bounds.c" "$built/libnbt.a" >"$room/log" 2>&1
+    count $? "tests/lib/bounds.c: $(head -n 1 "$room/log")"
+    "$here/lib/library_payloads.py" --seed 5 500 | sed 's/ / 0 /' | ended "$room/bounds" >"$room/output" 2>"$room/errors"
+    count $? "the stack and the texts of calls: $(head -n 1 "$room/errors")"
+    grep -c ' of 65536$' "$room/output" | same 10 'calls whose stack is measured'
+}
+
 # replays_alike WHERE: a station in this language reported what `nbt replay` does.
 replays_alike() {
     grep -q ' delivered ' "$room/output" && cmp -s "$room/replayed" "$room/output"
@@ -378,6 +400,7 @@ part examples examples
 if command -v valgrind >/dev/null; then part valgrind under_valgrind; else lacks valgrind valgrind; fi
 part callers callers
 part memory refused
+part limits limits
 part replay replayed
 part values values
 if command -v tshark >/dev/null; then part programs programs; else lacks programs tshark; fi

@@ -214,6 +214,24 @@ static void table(struct bytes bytes) {
     }
 }
 
+/* Any port but 137 and 138 is taken for that of sessions. */
+static void any_port(void) {
+    static const uint16_t ports[] = {0, 136, 140, UINT16_MAX};
+    static writer *const tells[] = {show, json, brief};
+    struct asked asked = {.first = BYTES("\x84\0\0\6" "\x0a\0\0\5\0\x8b"), .number = 139};
+    uint8_t wanted[256], text[256];
+    size_t i, j, length, used, at;
+    for (i = 0; i < COUNT(tells); i++) {
+        asked.number = 139;
+        expect(tells[i](&asked, wanted, sizeof wanted, &length, &at) == NBT_DONE, "nbt_show", "a retarget");
+        for (j = 0; j < COUNT(ports); j++) {
+            asked.number = ports[j];
+            expect(tells[i](&asked, text, sizeof text, &used, &at) == NBT_DONE && used == length && memcmp(text, wanted, used) == 0,
+                   "nbt_show", "another port than 139");
+        }
+    }
+}
+
 /* Lengths and numbers that no input above has. */
 static void limits(void) {
     static const uint8_t zeros[131072];
@@ -273,6 +291,7 @@ int main(void) {
         changed(samples[i].whole, samples[i].give);
     changed(two_keys(), table);
     limits();
+    any_port();
     stations();
     print_statuses();
     return 0;

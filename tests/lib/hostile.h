@@ -41,7 +41,7 @@ void print_statuses(void);
 uint8_t *room_at(int room, size_t length, int side);
 int is_filled(const void *bytes, size_t length);
 
-/* How many requests for memory are granted from now on. */
+/* How many requests for memory are granted from now on: see wrapped_memory.c. */
 void grant(size_t requests);
 
 /* A call in each room from none to more than it wants, on each side, and without memory. It answers the same in each. */

@@ -1,4 +1,4 @@
-/* The rooms of tests/lib/hostile.c: see hostile.h. Linked with --wrap=malloc and --wrap=realloc. */
+/* The rooms of tests/lib/hostile.c: see hostile.h. */
 #define _GNU_SOURCE
 #include "hostile.h"
 #include <stdio.h>
@@ -12,17 +12,7 @@ static struct {
     const char *call;
     uint32_t status;
 } answers[MOST_ANSWERS];
-static size_t answer_count, granted = SIZE_MAX;
-
-void *__real_malloc(size_t);
-void *__real_realloc(void *, size_t);
-void *__wrap_malloc(size_t);
-void *__wrap_realloc(void *, size_t);
-
-static int is_granted(void) { return granted == SIZE_MAX || (granted > 0 && granted-- > 0); }
-void *__wrap_malloc(size_t size) { return is_granted() ? __real_malloc(size) : NULL; }
-void *__wrap_realloc(void *block, size_t size) { return is_granted() ? __real_realloc(block, size) : NULL; }
-void grant(size_t requests) { granted = requests; }
+static size_t answer_count;
 
 void expect(int holds, const char *call, const char *what) {
     if (holds)

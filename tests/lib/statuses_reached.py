@@ -1,5 +1,6 @@
 #!/usr/bin/env python3
-"""Whether the calls of the library answered the statuses that include/nbt.h lists for each, and no other.
+"""Whether the calls of the library answered the statuses that include/nbt.h lists for each, and no other; and whether it lists each
+status for some call.
 
 Usage: statuses_reached.py HEADER <LINES, where a line is a call and a number that it answered. NBT_DONE needs no listing, nor does a
 status have to be reached of which the header says that no call of this version answers it. Prints what differs; status 1 if
@@ -43,7 +44,9 @@ def listed(header):
 
 def main():
     with open(sys.argv[1], encoding='utf-8') as file:
-        calls = listed(file.read())
+        header = file.read()
+    calls = listed(header)
+    numbers, never = statuses(header)
     answered = {}
     for line in sys.stdin:
         name, number = line.split()
@@ -52,6 +55,8 @@ def main():
              for name in calls if name != 'nbt_station_free'
              for what, numbers in (('answered and not listed', answered.get(name, set()) - calls[name]),
                                    ('listed and not answered', calls[name] - answered.get(name, set()))) if numbers]
+    lost = set(numbers.values()) - never - set().union(*calls.values())
+    wrong += [f'in no list: {sorted(lost)}'] * bool(lost)
     print(*wrong, f'{len(calls)} calls, {sum(map(len, answered.values()))} statuses', sep='\n')
     return bool(wrong) or len(answered) != len(calls) - 1
 

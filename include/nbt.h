@@ -285,6 +285,26 @@ struct nbt_datagram {
  * this order. No memory is taken. */
 uint32_t nbt_datagram_read(const uint8_t *payload, size_t payload_length, struct nbt_datagram *packet, size_t *at);
 
+/* What stands at the front of a payload of port 138, whether or not a packet does: RFC 1002 sections 4.4.1 and 4.4.2.
+ * Places and lengths are in bytes of the payload. */
+struct nbt_datagram_front {
+    uint8_t type;              /* MSG_TYPE, also one that no packet has */
+    uint8_t flags;             /* FLAGS, all eight bits */
+    uint16_t identifier;       /* DGM_ID */
+    uint32_t address;          /* SOURCE_IP */
+    uint16_t port;             /* SOURCE_PORT */
+    uint16_t offset;           /* PACKET_OFFSET; 0 but in a fragment */
+    size_t source;             /* the spelling of SOURCE_NAME; its length is 0 where it isn't there whole */
+    size_t source_length;
+    size_t destination;        /* the spelling of DESTINATION_NAME; its length is 0 where not both names are there whole */
+    size_t destination_length;
+};
+
+/* Reads what stands at the front of a payload of port 138: its header and, of a fragment, the names that are there whole,
+ * inside the bytes that DGM_LENGTH counts, of which some may be missing (our choice). A place whose length is 0 is 0.
+ * NBT_TRUNCATED for less than the header: the fourteen bytes of a fragment, ten of any other payload. No memory is taken. */
+uint32_t nbt_datagram_front(const uint8_t *payload, size_t payload_length, struct nbt_datagram_front *front, size_t *at);
+
 /* The packets of a datagram, cut into pieces of at most `most` bytes of data, in order, each after its length in two
  * bytes, the higher one first. Source and destination are texts; `type` is 0x10, 0x11 or 0x12.
  * NBT_UNKNOWN_TYPE, 12 to 15, NBT_LONG_DATA for data over 65,535 bytes, NBT_ZERO_PIECE, NBT_LONG_DATA where the longest
@@ -370,6 +390,17 @@ uint32_t nbt_service_request(uint32_t request, uint16_t identifier, bool broadca
                              const uint8_t *name, size_t name_length,
                              uint32_t time_to_live, uint16_t nb_flags, uint32_t address,
                              uint8_t *into, size_t into_length, size_t *used, size_t *at);
+
+/* A response of the name service: a packet with one answer about the name with this text, and nothing else. Its class is
+ * IN. `word` is the whole word of flags, written as it is: R 0x8000, OPCODE 0x7800, NM_FLAGS 0x07f0, RCODE 0x000f. `type` is
+ * RR_TYPE, and `data` RDATA: of type NS (0x0002) the spelling of a domain name, which is without pointers and has no byte
+ * after it; of another any bytes.
+ * NBT_BAD_TEXT, NBT_LONG_TEXT, then of type NS 20 to 23 and NBT_NAME_TRAILING_BYTES (*at counts in `data`), of another
+ * NBT_LONG_DATA for more than 65,535 bytes, NBT_NO_MEMORY, NBT_NO_ROOM, judged in this order.
+ * RFC 1002 sections 4.2.5 to 4.2.18, but for 4.2.8 and 4.2.15. */
+uint32_t nbt_service_response(uint16_t identifier, uint16_t word, const uint8_t *name, size_t name_length,
+                              uint16_t type, uint32_t time_to_live, const uint8_t *data, size_t data_length,
+                              uint8_t *into, size_t into_length, size_t *used, size_t *at);
 
 /* Saved tables: what is known of datagrams, as the command `nbt save` writes it, as bytes instead of digits (our choice).
  * Both forms are read, NBT1 and NBT2; the second is written. docs/FORMATS.md has them. ------------------------------ */

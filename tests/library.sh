@@ -338,7 +338,7 @@ installed() {
     $CC -std=c11 -Wall -Wextra -Werror -o "$room/example" "$room/first.c" $flags >"$room/log" 2>&1
     count $? "the program in C of docs/CALLING.md: $(head -n 1 "$room/log")"
     LD_LIBRARY_PATH=$room/root/lib ended "$room/example" | same "$(block text)" 'the program in C of docs/CALLING.md'
-    for each in 1 2 3; do
+    for each in 1 2 3 4; do
         block python $each >"$room/first.py"
         PYTHONPATH=$room/root/share/nbt/python PYTHONDONTWRITEBYTECODE=1 ended python3 "$room/first.py" 2>&1 \
             | same "$(block text $((each + 1)))" "program $each in Python of docs/CALLING.md"
@@ -397,8 +397,24 @@ rust() {
     count $? "nbt::show_into prints what nbt show prints: $(tail -n 1 "$room/errors")"
     LD_LIBRARY_PATH=$room/root/lib reads "$room/values" show_values.rs ended "$room/target/release/examples/show_values"
     block rust >"$room/first.rs"
-    user_program first "$room/first.rs" </dev/null | same "$(block text 5)" 'the program in Rust of docs/CALLING.md'
+    user_program first "$room/first.rs" </dev/null | same "$(block text 6)" 'the program in Rust of docs/CALLING.md'
+    status_answers
     [ ! -f "$room/samba.txt" ] || node_statuses
+}
+
+# The program of examples/ in Rust that answers: two requests of its own names and one of any, and neither another name nor a query.
+status_answers() {
+    local each name
+    for each in 'status 0001 FRED<20>' 'status 0002 OFFICE<00>' "status 0003 *$(printf '\\00%.0s' {1..14})<00>" 'status 0004 JOE<00>' 'query 0005 FRED<20>'; do
+        name=${each##* }
+        ended "$program" build ${each% *} "$name"
+    done >"$room/requests"
+    wc -l <"$room/requests" | same 5 'the requests are built'
+    user_program status_answers "$top/examples/status_answers.rs" <"$room/requests" >"$room/answers"
+    ended "$program" show <"$room/answers" | grep -oE 'id=[0-9a-f]{4} word=8400' | same "$(printf 'id=%s word=8400\n' 0001 0002 0003)" \
+        'node status requests of its names are answered'
+    user_program node_statuses "$top/examples/node_statuses.rs" <"$room/answers" | same \
+        "$(printf '00:00:5e:00:53:01: FRED<00>, FRED<20>, OFFICE<00> (group)\n%.0s' 1 2 3)" 'the answers have its names and its unit'
 }
 
 # The program of examples/ in Rust, over its pcaps.

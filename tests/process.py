@@ -352,7 +352,8 @@ def short_stack():
     many = captures(2_000)
     status, table, _ = run(['save', '--keys', '65535'], many)
     check(status == 0, 'nbt save --keys 65535: a table of 2,000 keys')
-    deep = [(['show'], records.encode()), (['show'], many), (['save', '--keys', '65535'], many),
+    deep = [*((['show', *how], records.encode()) for how in ([], ['--json'], ['--brief'], ['--partial'])),
+            (['show'], many), (['save', '--keys', '65535'], many),
             (['replay', '--keys', '65535', 'FRED<20>'], many), (['merge', '--keys', '65535'], table * 2),
             (['list', '--keys', '65535'], table * 2), (['agree'], table * 2), ([], b''), (['--help'], b''),
             (['replay', '--help'], b'')]

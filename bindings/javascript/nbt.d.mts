@@ -18,9 +18,9 @@ export declare class NbtError extends Error {
     constructor(number: number, at: number | null, words: string);
 }
 
-/** A packet of the datagram service, port 138: RFC 1002 section 4.4. */
-export interface Datagram {
-    /** MSG_TYPE: 0x10 to 0x12 a fragment, 0x13 an error, 0x14 to 0x16 a query. */
+/** What stands at the front of a payload of port 138, whether or not a packet does: RFC 1002 sections 4.4.1 and 4.4.2. */
+export interface DatagramFront {
+    /** MSG_TYPE, also one that no packet has: 0x10 to 0x12 a fragment, 0x13 an error, 0x14 to 0x16 a query. */
     type: number;
     /** FLAGS, all eight bits: 0x01 more fragments follow, 0x02 the first fragment. */
     flags: number;
@@ -29,12 +29,16 @@ export interface Datagram {
     port: number;
     /** Where the data begins in the datagram's; 0 but in a fragment. */
     offset: number;
+    /** SOURCE_NAME as a text; null but in a fragment, and where it isn't there whole. */
+    source: string | null;
+    /** DESTINATION_NAME as a text; null where it isn't there whole, in an error, and in the front of a query. */
+    destination: string | null;
+}
+
+/** A packet of the datagram service, port 138: RFC 1002 section 4.4. */
+export interface Datagram extends DatagramFront {
     /** The bytes of the packet: what follows them isn't looked at. */
     used: number;
-    /** SOURCE_NAME as a text; null but in a fragment. */
-    source: string | null;
-    /** DESTINATION_NAME as a text; null in an error. */
-    destination: string | null;
     /** A fragment's data, or an error's code, which is one byte; no bytes in a query. */
     data: Uint8Array;
 }
@@ -94,6 +98,19 @@ export interface Request {
     timeToLive?: number;
     flags?: number;
     address?: Address;
+}
+
+/** What a response of the name service says, which has one answer about a name and nothing else. `timeToLive` is in seconds. */
+export interface Response {
+    identifier: number;
+    /** The whole word of flags, written as it is: R 0x8000, OPCODE 0x7800, NM_FLAGS 0x07f0, RCODE 0x000f. */
+    word: number;
+    name: string;
+    /** RR_TYPE: 0x0020 NB, 0x0021 NBSTAT, 0x0002 NS, 0x000a NULL. */
+    type: number;
+    timeToLive?: number;
+    /** RDATA: of type NS the spelling of a name, of another any bytes; none without it. */
+    data?: Bytes;
 }
 
 /** How many keys there may be, and how many of one address, which has no limit without it. */
@@ -168,6 +185,8 @@ export interface Nbt {
     version(): string;
     /** Places count from the offset. */
     readDatagram(payload: Bytes, offset?: number): Datagram;
+    /** What stands of a payload, also of one that `readDatagram` refuses. NbtError: TRUNCATED where the header isn't there whole. */
+    readDatagramFront(payload: Bytes, offset?: number): DatagramFront;
     /** The packets of a datagram, in order. */
     writeDatagram(datagram: DatagramToWrite): Uint8Array[];
     writeDatagramError(error: DatagramErrorToWrite): Uint8Array;
@@ -176,6 +195,8 @@ export interface Nbt {
     readSession(payload: Bytes, offset?: number): SessionPacket;
     writeSession(type: number, body?: Bytes): Uint8Array;
     request(kind: 'query' | 'nodeStatus' | 'registration' | 'refresh' | 'release', request: Request): Uint8Array;
+    /** NbtError: BAD_TEXT, LONG_TEXT, of type NS NAME_TRUNCATED to NAME_LONG and NAME_TRAILING_BYTES, whose places count in the data, LONG_DATA. */
+    response(response: Response): Uint8Array;
     /** Joins two saved tables; keys is 65,535 without it. */
     merge(first: Bytes, second: Bytes, limits?: Limits): Uint8Array;
     /** What the command `nbt list` prints of a saved table. */

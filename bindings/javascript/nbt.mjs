@@ -285,10 +285,19 @@ function libraryOf(calls) {
         ascii.decode(calls.write(call, [numberOf(port, 16, 'port'), bytesOf(payload, 'payload'), INTO, USED]));
     const listed = (call) => (table) => ascii.decode(calls.write(call, [bytesOf(table, 'table'), INTO, USED, AT]));
     const sender = (identifier, address, port) => [numberOf(identifier, 16, 'identifier'), addressOf(address), numberOf(port, 16, 'port')];
+    const written = (call, ...words) => calls.write(call, [...words, INTO, USED, AT]).slice();
+    /** A call that reads a header of port 138, the rest that it fills in, and names: they come last, since a text is a call too. */
+    const readOf138 = (call, rest) => (payload, offset) => {
+        const bytes = bytesOf(payload, 'payload', offset);
+        calls.fill(call, [bytes, FOUND, AT]);
+        const read = { type: calls.byte(16), flags: calls.byte(17), identifier: calls.word(18), offset: calls.word(26), ...calls.endpoint(20), ...rest(bytes) };
+        const [source, destination] = [32, 48].map((at) => calls.part(bytes, at)).map((it) => (it.length > 0 ? calls.name(it) : null));
+        return { ...read, source, destination };
+    };
     return {
         Station: stationOf(calls),
         words: (status) => calls.words(numberOf(status, 32, 'status')),
-        spell: (text) => calls.write('nbt_name_spell', [encoded(text, 'text'), INTO, USED, AT]).slice(),
+        spell: (text) => written('nbt_name_spell', encoded(text, 'text')),
         text: (spelling) => calls.name(bytesOf(spelling, 'spelling')),
         show: said('nbt_show'),
         json: said('nbt_json'),
@@ -296,26 +305,16 @@ function libraryOf(calls) {
         version: () => ascii.decode(calls.write('nbt_version', [INTO, USED])),
         list: listed('nbt_table_list'),
         tableJson: listed('nbt_table_json'),
-
-        merge(first, second, { keys = 65_535, perSource = NO_LIMIT } = {}) {
-            const words = [bytesOf(first, 'first'), bytesOf(second, 'second'), ...limitsOf(keys, perSource), INTO, USED, AT];
-            return calls.write('nbt_table_merge', words).slice();
-        },
+        merge: (first, second, { keys = 65_535, perSource = NO_LIMIT } = {}) =>
+            written('nbt_table_merge', bytesOf(first, 'first'), bytesOf(second, 'second'), ...limitsOf(keys, perSource)),
 
         differ(first, second) {
             calls.fill('nbt_table_differ', [bytesOf(first, 'first'), bytesOf(second, 'second'), FOUND, AT]);
             return calls.byte(24) === 0 ? null : calls.key(16);
         },
 
-        readDatagram(payload, offset) {
-            const bytes = bytesOf(payload, 'payload', offset);
-            calls.fill('nbt_datagram_read', [bytes, FOUND, AT]);
-            const numbers = { type: calls.byte(16), flags: calls.byte(17), identifier: calls.word(18), offset: calls.word(26) };
-            const read = { ...numbers, ...calls.endpoint(20), used: calls.number(80) };
-            const [source, destination, data] = [32, 48, 64].map((at) => calls.part(bytes, at));
-            const named = (spelling) => (spelling.length > 0 ? calls.name(spelling) : null);
-            return { ...read, source: named(source), destination: named(destination), data };
-        },
+        readDatagram: readOf138('nbt_datagram_read', (bytes) => ({ used: calls.number(80), data: calls.part(bytes, 64) })),
+        readDatagramFront: readOf138('nbt_datagram_front', () => ({})),
 
         writeDatagram({ type, identifier, address, port = 138, source, destination, data, most = 512 }) {
             const words = [numberOf(type, 8, 'type'), ...sender(identifier, address, port), encoded(source, 'source')];
@@ -331,10 +330,8 @@ function libraryOf(calls) {
         writeDatagramError: ({ identifier, address, port = 138, code }) =>
             calls.write('nbt_datagram_error', [...sender(identifier, address, port), numberOf(code, 8, 'code'), INTO, USED]).slice(),
 
-        writeDatagramQuery({ type, identifier, address, port = 138, name }) {
-            const words = [numberOf(type, 8, 'type'), ...sender(identifier, address, port), encoded(name, 'name'), INTO, USED, AT];
-            return calls.write('nbt_datagram_query', words).slice();
-        },
+        writeDatagramQuery: ({ type, identifier, address, port = 138, name }) =>
+            written('nbt_datagram_query', numberOf(type, 8, 'type'), ...sender(identifier, address, port), encoded(name, 'name')),
 
         readSession(payload, offset) {
             const bytes = bytesOf(payload, 'payload', offset);
@@ -351,15 +348,18 @@ function libraryOf(calls) {
             return read;
         },
 
-        writeSession: (type, body = new Uint8Array()) =>
-            calls.write('nbt_session_write', [numberOf(type, 8, 'type'), bytesOf(body, 'body'), INTO, USED, AT]).slice(),
+        writeSession: (type, body = new Uint8Array()) => written('nbt_session_write', numberOf(type, 8, 'type'), bytesOf(body, 'body')),
 
         request(kind, { identifier, name, broadcast = false, timeToLive = 0, flags = 0, address = 0 }) {
             if (!REQUESTS.includes(kind)) throw new RangeError(`request: ${String(kind)} is none of ${REQUESTS.join(', ')}`);
             const words = [REQUESTS.indexOf(kind), numberOf(identifier, 16, 'identifier'), broadcast ? 1 : 0, encoded(name, 'name')];
             words.push(numberOf(timeToLive, 32, 'timeToLive'), numberOf(flags, 16, 'flags'), addressOf(address));
-            return calls.write('nbt_service_request', [...words, INTO, USED, AT]).slice();
+            return written('nbt_service_request', ...words);
         },
+
+        response: ({ identifier, word, name, type, timeToLive = 0, data = new Uint8Array() }) =>
+            written('nbt_service_response', numberOf(identifier, 16, 'identifier'), numberOf(word, 16, 'word'), encoded(name, 'name'),
+                numberOf(type, 16, 'type'), numberOf(timeToLive, 32, 'timeToLive'), bytesOf(data, 'data')),
     };
 }
 
@@ -376,11 +376,11 @@ const MEMORY64 = Uint8Array.of(0, 97, 115, 109, 1, 0, 0, 0, 5, 3, 1, 4, 1);
 
 /** What a module has to have. */
 const CALLS = [
-    'heap_give_back', 'heap_limit', 'heap_take', 'nbt_brief', 'nbt_datagram_error', 'nbt_datagram_query', 'nbt_datagram_read',
-    'nbt_datagram_write', 'nbt_json', 'nbt_name_spell', 'nbt_name_text', 'nbt_service_request', 'nbt_session_names',
-    'nbt_session_read', 'nbt_session_retarget', 'nbt_session_write', 'nbt_show', 'nbt_station_absorb', 'nbt_station_create',
-    'nbt_station_free', 'nbt_station_list', 'nbt_station_save', 'nbt_station_take', 'nbt_station_tick', 'nbt_status_text',
-    'nbt_table_differ', 'nbt_table_json', 'nbt_table_list', 'nbt_table_merge', 'nbt_version',
+    'heap_give_back', 'heap_limit', 'heap_take', 'nbt_brief', 'nbt_datagram_error', 'nbt_datagram_front', 'nbt_datagram_query',
+    'nbt_datagram_read', 'nbt_datagram_write', 'nbt_json', 'nbt_name_spell', 'nbt_name_text', 'nbt_service_request', 'nbt_service_response',
+    'nbt_session_names', 'nbt_session_read', 'nbt_session_retarget', 'nbt_session_write', 'nbt_show', 'nbt_station_absorb',
+    'nbt_station_create', 'nbt_station_free', 'nbt_station_list', 'nbt_station_save', 'nbt_station_take', 'nbt_station_tick',
+    'nbt_status_text', 'nbt_table_differ', 'nbt_table_json', 'nbt_table_list', 'nbt_table_merge', 'nbt_version',
 ];
 
 /** Loads nbt.wasm: from beside this file, or what `module` is. Its memory grows to `limit` bytes at most. */

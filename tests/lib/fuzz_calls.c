@@ -149,6 +149,12 @@ static uint32_t service_request(const struct asked *it, uint8_t *into, size_t in
                                (uint16_t)(it->limit * 5), it->limit * 2654435761u, into, into_length, used, at);
 }
 
+/* A response about the name FRED<20>, with these bytes as RDATA. */
+static uint32_t service_response(const struct asked *it, uint8_t *into, size_t into_length, size_t *used, size_t *at) {
+    return nbt_service_response(7, 0x8500, (const uint8_t *)"FRED<20>", 8, (uint16_t)it->number, it->limit, it->first.at, it->first.length,
+                                into, into_length, used, at);
+}
+
 static uint32_t status_text(const struct asked *it, uint8_t *into, size_t into_length, size_t *used, size_t *at) {
     (void)at;
     return nbt_status_text(it->number, into, into_length, used);
@@ -266,6 +272,47 @@ static void payload_text(uint32_t port, struct bytes it) {
     free(text.bytes.at);
 }
 
+/* Bytes are RDATA of type NS where they are one name, and of any other type where they aren't too many. */
+static void rdata(struct bytes it) {
+    uint32_t type;
+    for (type = 1; type <= 2; type++) {
+        struct answer made = answered(service_response, &(struct asked){it, {NULL, 0}, type, 77, NULL});
+        if (made.status == NBT_DONE) {
+            EXPECT(it.length <= (type == 2 ? 255 : 65535) && made.bytes.length == 56 + it.length);
+            EXPECT(memcmp(made.bytes.at + 56, it.at, it.length) == 0);
+            payload_text(137, made.bytes);
+        } else if (type == 2) {
+            EXPECT((made.status >= NBT_NAME_TRUNCATED && made.status <= NBT_NAME_LONG) || made.status == NBT_NAME_TRAILING_BYTES);
+            EXPECT(made.at <= it.length);
+        } else {
+            EXPECT(made.status == NBT_LONG_DATA && it.length > 65535);
+        }
+        free(made.bytes.at);
+    }
+}
+
+/* What stands at the front of a payload: names, and of a packet what is read of it. */
+static void front(struct bytes it, const struct nbt_datagram *read) {
+    struct nbt_datagram_front front;
+    size_t at = UNSAID;
+    uint32_t status = nbt_datagram_front(it.at, it.length, &front, &at);
+    if (status != NBT_DONE) {
+        EXPECT(status == NBT_TRUNCATED && at == it.length && it.length < 14 && read == NULL);
+        return;
+    }
+    EXPECT(at == UNSAID && (front.source_length > 0 || front.destination_length == 0));
+    if (front.source_length > 0)
+        free(named(it.at + front.source, front.source_length).at);
+    if (front.destination_length > 0)
+        free(named(it.at + front.destination, front.destination_length).at);
+    if (read != NULL) {
+        EXPECT(front.type == read->type && front.flags == read->flags && front.identifier == read->identifier);
+        EXPECT(front.address == read->address && front.port == read->port && front.offset == read->offset);
+        EXPECT(front.source == read->source && front.source_length == read->source_length);
+        EXPECT(read->source_length == 0 || (front.destination == read->destination && front.destination_length == read->destination_length));
+    }
+}
+
 /* One payload: its text, its parts, and both again. */
 static void payload(uint32_t port, struct bytes it) {
     struct asked asked = {it, {NULL, 0}, port, (uint32_t)it.length, NULL};
@@ -280,6 +327,7 @@ static void payload(uint32_t port, struct bytes it) {
     if (port == 138) {
         status = nbt_datagram_read(it.at, it.length, &read, &at);
         used = read.used;
+        front(it, status == NBT_DONE ? &read : NULL);
         if (status == NBT_DONE && read.source_length > 0)
             datagram(it, &read);
     } else if (port == 139) {
@@ -305,6 +353,7 @@ static void payload(uint32_t port, struct bytes it) {
     free(text.bytes.at);
     asked.first = it;
     asked.number = (uint32_t)it.length;
+    rdata(it);
     free(answered(status_text, &asked).bytes.at);
     free(answered(service_request, &asked).bytes.at);
     free(answered(session_write, &asked).bytes.at);

@@ -225,6 +225,51 @@ static void nodes(uint16_t type, const uint8_t *data, size_t length)
     }
 }
 
+/* The status with which a name without pointers is refused whose labels stand in these bytes alone, and where. */
+static uint32_t unpointed(const uint8_t *bytes, size_t length, size_t *at)
+{
+    for (*at = 0; *at < length && bytes[*at] != 0; *at += 1 + bytes[*at])
+        if (bytes[*at] >= 0xc0)
+            return NBT_NAME_POINTER;
+    expect(*at + 1 == length, "a name in RDATA");
+    *at = 88;
+    return NBT_DONE;
+}
+
+/* A response with a record that was read: its name and its RDATA, once each, with nothing between. */
+static void answered(const struct nbt_service_header *front, const struct nbt_service_item *item, const uint8_t *data)
+{
+    uint8_t head[] = {front->identifier >> 8, front->identifier & 255, front->word >> 8, front->word & 255, 0, 0, 0, 1, 0, 0, 0, 0};
+    uint8_t body[] = {item->type >> 8, item->type & 255, 0, 1, item->time_to_live >> 24, item->time_to_live >> 16 & 255,
+        item->time_to_live >> 8 & 255, item->time_to_live & 255, item->data_length >> 8, item->data_length & 255};
+    uint8_t *text, *into, *given = room(tables, item->data_length);
+    size_t text_length, wanted = 12 + item->name_length + 10 + item->data_length, used, at, fault, rest, i;
+    uint32_t status, judged = NBT_DONE;
+    memcpy(given, data, item->data_length);
+    named(item->name, item->name_length, &text, &text_length);
+    fault = 88;
+    if (item->type == 2)
+        judged = unpointed(data, item->data_length, &fault);
+    for (i = 0; i < 3; i++) {
+        rest = i == 0 ? 0 : i == 1 ? wanted - 1 : wanted + 3;
+        into = room(packets, rest);
+        used = 77;
+        at = 88;
+        do
+            status = nbt_service_response(front->identifier, front->word, text, text_length, item->type, item->time_to_live,
+                                          given, item->data_length, into, rest, &used, &at);
+        while (again(status));
+        expect(status == (judged != NBT_DONE ? judged : i < 2 ? NBT_NO_ROOM : NBT_DONE) && at == fault, "nbt_service_response: a record that was read");
+        expect(used == (judged != NBT_DONE ? 77 : wanted), "nbt_service_response: how many bytes");
+        expect(is_filled(into, status == NBT_DONE ? 0 : rest), "nbt_service_response: bytes are written though nothing is done");
+    }
+    if (judged != NBT_DONE)
+        return;
+    expect(memcmp(into, head, 12) == 0 && memcmp(into + 12, item->name, item->name_length) == 0, "nbt_service_response: the header and the name");
+    expect(memcmp(into + 12 + item->name_length, body, 10) == 0, "nbt_service_response: what stands after the name");
+    expect(memcmp(into + wanted - item->data_length, data, item->data_length) == 0 && is_filled(into + wanted, 3), "nbt_service_response: RDATA");
+}
+
 /* The questions and records of a payload, one by one: those of the packet or, where there is none, those before its fault. */
 static void service(const uint8_t *payload, size_t length)
 {
@@ -253,6 +298,8 @@ static void service(const uint8_t *payload, size_t length)
         expect(item.section > 0 || (item.data_length == 0 && item.time_to_live == 0), "nbt_service_item: a question");
         addresses(item.type, payload + item.data, item.data_length);
         nodes(item.type, payload + item.data, item.data_length);
+        if (item.section > 0 && item.netbios == 1)
+            answered(&front, &item, payload + item.data);
         place = item.next;
     }
     if (status == NBT_DONE) {
@@ -290,6 +337,51 @@ static void written_without_data(const uint8_t *payload, const struct nbt_datagr
     expect(into[0] == payload[0] && into[1] == 2 && memcmp(into + 2, payload + 2, used - 2) == 0, "a packet of port 138 without data: the packet again");
 }
 
+/* How many bytes the spelling of a NetBIOS name has that stands whole at a place before the end, without pointers; else 0. */
+static size_t spelled(const uint8_t *bytes, size_t place, size_t end)
+{
+    size_t here = place, i;
+    while (here < end && bytes[here] != 0 && bytes[here] < 64)
+        here += 1 + bytes[here];
+    if (here >= end || bytes[here] != 0 || here + 1 - place > 255 || bytes[place] != 32)
+        return 0;
+    for (i = 1; i <= 32; i++)
+        if (bytes[place + i] < 'A' || bytes[place + i] > 'P')
+            return 0;
+    return here + 1 - place;
+}
+
+/* What stands at the front of a payload, where the standard says that it stands, whether or not it begins with this packet. */
+static void fronted(const uint8_t *payload, size_t length, const struct nbt_datagram *read)
+{
+    int is_fragment = length > 0 && payload[0] >= 0x10 && payload[0] <= 0x12;
+    size_t header = is_fragment ? 14 : 10, end, source = 0, destination = 0, at = 88;
+    struct nbt_datagram_front front;
+    uint32_t status;
+    memset(&front, FILL, sizeof front);
+    status = nbt_datagram_front(payload, length, &front, &at);
+    calls += 1;
+    if (length < header) {
+        expect(status == NBT_TRUNCATED && at == length && is_filled((const uint8_t *)&front, sizeof front), "nbt_datagram_front: no header");
+        return;
+    }
+    expect(status == NBT_DONE && at == 88, "nbt_datagram_front: a header");
+    expect(front.type == payload[0] && front.flags == payload[1] && front.identifier == (payload[2] << 8 | payload[3]), "nbt_datagram_front: the type");
+    expect(front.address == ((uint32_t)payload[4] << 24 | (uint32_t)payload[5] << 16 | (uint32_t)payload[6] << 8 | payload[7]), "nbt_datagram_front: the address");
+    expect(front.port == (payload[8] << 8 | payload[9]), "nbt_datagram_front: the port");
+    expect(front.offset == (is_fragment ? payload[12] << 8 | payload[13] : 0), "nbt_datagram_front: the offset");
+    if (is_fragment) {
+        end = 14 + ((size_t)payload[10] << 8 | payload[11]);
+        end = end < length ? end : length;
+        source = spelled(payload, 14, end);
+        destination = source > 0 ? spelled(payload, 14 + source, end) : 0;
+    }
+    expect(front.source_length == source && front.source == (source > 0 ? 14 : 0), "nbt_datagram_front: the source");
+    expect(front.destination_length == destination && front.destination == (destination > 0 ? 14 + source : 0), "nbt_datagram_front: the destination");
+    if (read != NULL && is_fragment)
+        expect(source == read->source_length && destination == read->destination_length, "nbt_datagram_front: the names of a packet");
+}
+
 static void datagram(const uint8_t *payload, size_t length)
 {
     struct nbt_datagram read;
@@ -298,6 +390,7 @@ static void datagram(const uint8_t *payload, size_t length)
     memset(&read, FILL, sizeof read);
     status = nbt_datagram_read(payload, length, &read, &at);
     calls += 1;
+    fronted(payload, length, status == NBT_DONE ? &read : NULL);
     if (status != NBT_DONE) {
         expect(is_filled((const uint8_t *)&read, sizeof read), "nbt_datagram_read: a packet is filled in though nothing is done");
         expect(status == NBT_UNKNOWN_TYPE ? at == 88 : at <= length, "nbt_datagram_read: the place of a fault");
@@ -571,7 +664,30 @@ static void judged(void)
     expect(nbt_datagram_write(0x10, 1, 1, 138, name, 8, name, 8, data, 1, 0, NULL, 0, &used, &at) == NBT_ZERO_PIECE, "nbt_datagram_write: no pieces");
     expect(nbt_datagram_write(0x10, 1, 1, 138, name, 8, name, 8, data, 65535, 65535, NULL, 0, &used, &at) == NBT_LONG_DATA, "nbt_datagram_write: a packet too long");
     expect(used == 77 && at == 88, "nbt_datagram_write: something is written though nothing is done");
-    calls += 3;
+    expect(nbt_service_response(1, 0x8500, name, 8, 0x20, 0, data, 65536, NULL, 0, &used, &at) == NBT_LONG_DATA, "nbt_service_response: too much data");
+    expect(used == 77 && at == 88, "nbt_service_response: something is written though nothing is done");
+    expect(nbt_service_response(1, 0x8500, name, 8, 2, 0, data, 65536, NULL, 0, &used, &at) == NBT_NAME_TRAILING_BYTES && at == 1, "nbt_service_response: the root, and bytes after it");
+    expect(nbt_service_response(1, 0x8500, name, 7, 0x20, 0, data, 65536, NULL, 0, &used, &at) == NBT_BAD_TEXT && at == 7, "nbt_service_response: a bad text, and too much data");
+    expect(nbt_service_response(1, 0x8500, (const uint8_t *)"SIXTEEN_LETTERS_<20>", 20, 2, 0, data, 0, NULL, 0, &used, &at) == NBT_LONG_TEXT && at == 7, "nbt_service_response: a long text, and no name");
+    calls += 7;
+}
+
+/* Each fault of the name in RDATA of type NS, at its place. */
+static void named_servers(void)
+{
+    static const uint8_t reserved[] = "\1A\x41", pointer[] = "\1A\xc0\0", trailing[] = "\1A\0\0";
+    const uint8_t *name = (const uint8_t *)"FRED<20>";
+    uint8_t longer[5 * 64];
+    size_t used = 77, at = 88;
+    memset(longer, 'A', sizeof longer);
+    longer[0] = longer[64] = longer[128] = longer[192] = 63;
+    expect(nbt_service_response(1, 0, name, 8, 2, 0, pointer, 2, NULL, 0, &used, &at) == NBT_NAME_TRUNCATED && at == 2, "nbt_service_response: a name that is cut");
+    expect(nbt_service_response(1, 0, name, 8, 2, 0, reserved, 3, NULL, 0, &used, &at) == NBT_NAME_RESERVED_LABEL && at == 2, "nbt_service_response: a reserved label");
+    expect(nbt_service_response(1, 0, name, 8, 2, 0, pointer, 4, NULL, 0, &used, &at) == NBT_NAME_POINTER && at == 2, "nbt_service_response: a pointer");
+    expect(nbt_service_response(1, 0, name, 8, 2, 0, longer, sizeof longer, NULL, 0, &used, &at) == NBT_NAME_LONG && at == 192, "nbt_service_response: a long name");
+    expect(nbt_service_response(1, 0, name, 8, 2, 0, trailing, 4, NULL, 0, &used, &at) == NBT_NAME_TRAILING_BYTES && at == 3, "nbt_service_response: bytes after a name");
+    expect(used == 77, "nbt_service_response: something is written though nothing is done");
+    calls += 5;
 }
 
 /* Faults of the questions and records of port 137, each at its place; and numbers and places past the last. */
@@ -608,6 +724,7 @@ static void nowhere(void)
     struct nbt_service_node node;
     struct nbt_service_unit unit;
     struct nbt_datagram of_138;
+    struct nbt_datagram_front front;
     struct nbt_session of_139;
     struct nbt_session_names both;
     struct nbt_session_retarget retarget;
@@ -631,6 +748,7 @@ static void nowhere(void)
     expect(nbt_service_node(0x21, NULL, 0, 0, &node, &at) == NBT_OTHER_RDATA, "nbt_service_node: null");
     expect(nbt_service_unit(0x21, NULL, 0, &unit, &at) == NBT_OTHER_RDATA, "nbt_service_unit: null");
     expect(nbt_datagram_read(NULL, 0, &of_138, &at) == NBT_TRUNCATED && at == 0, "nbt_datagram_read: null");
+    expect(nbt_datagram_front(NULL, 0, &front, &at) == NBT_TRUNCATED && at == 0, "nbt_datagram_front: null");
     expect(nbt_session_read(NULL, 0, &of_139, &at) == NBT_MORE && at == 4, "nbt_session_read: null");
     expect(nbt_session_names(NULL, 0, &both, &at) == NBT_MORE && at == 4, "nbt_session_names: null");
     expect(nbt_session_retarget(NULL, 0, &retarget, &at) == NBT_MORE && at == 4, "nbt_session_retarget: null");
@@ -658,6 +776,12 @@ static void nowhere(void)
     expect(nbt_datagram_query(0x14, 1, 1, 138, NULL, 0, NULL, 0, &used, &at) == NBT_BAD_TEXT, "nbt_datagram_query: null");
     expect(nbt_datagram_query(0x13, 1, 1, 138, NULL, 0, NULL, 0, &used, &at) == NBT_UNKNOWN_TYPE, "nbt_datagram_query: an error's type");
     expect(nbt_service_request(NBT_QUERY, 1, false, NULL, 0, 0, 0, 0, NULL, 0, &used, &at) == NBT_BAD_TEXT, "nbt_service_request: null");
+    expect(nbt_service_response(1, 0, NULL, 0, 0x20, 0, NULL, 0, NULL, 0, &used, &at) == NBT_BAD_TEXT, "nbt_service_response: null");
+    do
+        status = nbt_service_response(1, 0, name, 8, 0x20, 0, NULL, 0, NULL, 0, &used, &at);
+    while (again(status));
+    expect(status == NBT_NO_ROOM && used == 12 + 34 + 10, "nbt_service_response: no RDATA");
+    expect(nbt_service_response(1, 0, name, 8, 2, 0, NULL, 0, NULL, 0, &used, &at) == NBT_NAME_TRUNCATED && at == 0, "nbt_service_response: no name in RDATA");
     expect(nbt_table_merge(NULL, 0, NULL, 0, 1, 1, NULL, 0, &used, &at) == NBT_TABLE_BAD_MAGIC, "nbt_table_merge: null");
     expect(nbt_table_differ(NULL, 0, NULL, 0, &difference, &at) == NBT_TABLE_BAD_MAGIC, "nbt_table_differ: null");
     expect(nbt_table_json(NULL, 0, NULL, 0, &used, &at) == NBT_TABLE_BAD_MAGIC, "nbt_table_json: null");
@@ -736,6 +860,7 @@ int main(int count, char **words)
     while (again(status));
     expect(status == NBT_DONE && place == 88, "nbt_station_create: another");
     judged();
+    named_servers();
     faulty();
     nowhere();
     no_station();

@@ -15,7 +15,7 @@ KEYED = ['10.0.0.5:138/0001', 'JOE<00>', 'FRED<20>']
 MISTAKES = [
     (['nonsense'], b'WHAT is one of ' + PACKETS + b', and not nonsense'),
     (['Query', '0001', 'FRED<20>'], b'WHAT is one of ' + PACKETS + b', and not Query'),
-    (['no\x1b[31m'], b'WHAT is one of ' + PACKETS + b','),
+    (['no\x1b[31m'], b'WHAT is one of ' + PACKETS),
     (['query', '0001'], b'words after query: 2 wanted ID NAME, and not 1'),
     (['keepalive', '1'], b'words after keepalive: 0 wanted, and not 1'),
     (['query', '1', 'FRED<20>'], b'word 1 after query is ID, four hexadecimal digits, such as 0001, and not 1'),

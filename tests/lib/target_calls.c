@@ -115,6 +115,7 @@ static void packets(uint32_t port)
 {
     static wide_show *volatile show = (wide_show *)(void (*)(void))nbt_show;
     struct nbt_datagram datagram;
+    struct nbt_datagram_front front;
     struct nbt_session session;
     uint32_t status;
     WRITE("show", show(port | 0xabcd0000, payload, length, into, room, &used));
@@ -127,6 +128,13 @@ static void packets(uint32_t port)
                datagram.destination_length, datagram.data, datagram.data_length, datagram.used);
     else
         said("datagram_read", status, 0);
+    used = at = UNSAID;
+    status = nbt_datagram_front(payload, length, &front, &at);
+    if (status == NBT_DONE)
+        fprintf(out, "%lu front %u %u %u %lu %u %u %zu %zu %zu %zu\n", number, front.type, front.flags, front.identifier, (unsigned long)front.address,
+               front.port, front.offset, front.source, front.source_length, front.destination, front.destination_length);
+    else
+        said("datagram_front", status, 0);
     used = at = UNSAID;
     status = nbt_session_read(payload, length, &session, &at);
     if (status == NBT_DONE)
@@ -149,6 +157,8 @@ static void texts(void)
     WRITE("name_spell", nbt_name_spell(bytes(name), strlen(name), into, room, &used, &at));
     WRITE("service_request", nbt_service_request(number % 6, (uint16_t)(number * 5), number % 2 == 1, bytes(name), strlen(name), (uint32_t)number * 40503u,
           (uint16_t)(number * 11), (uint32_t)number * 2246822519u, into, room, &used, &at));
+    WRITE("service_response", nbt_service_response((uint16_t)(number * 5), (uint16_t)(number * 11), bytes(name), strlen(name),
+          (uint16_t)(number % 3 == 0 ? 2 : number), (uint32_t)number * 40503u, payload + from, count, into, room, &used, &at));
     WRITE("status_text", nbt_status_text(number % 260, into, room, &used));
 }
 

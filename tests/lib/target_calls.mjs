@@ -108,6 +108,13 @@ function packets(port, length) {
         said('datagram_read', status, 0);
     }
     setSize(used, UNSAID), setSize(at, UNSAID);
+    status = nbt.nbt_datagram_front(...given, big(found), big(at)) >>> 0;
+    if (status === DONE) {
+        fields('front', byte(0), byte(1), word(2), view.getUint32(found + 4, true), word(8), word(10), ...sizes(16, 24, 32, 40));
+    } else {
+        said('datagram_front', status, 0);
+    }
+    setSize(used, UNSAID), setSize(at, UNSAID);
     status = nbt.nbt_session_read(...given, big(found), big(at)) >>> 0;
     if (status === DONE) fields('session', byte(0), ...sizes(8, 16, 24));
     else said('session_read', status, 0);
@@ -125,6 +132,10 @@ function texts(length) {
     write('name_spell', 'nbt_name_spell', textAt(nameOf(number), 0));
     write('service_request', 'nbt_service_request', [
         number % 6, times(5) & 0xffff, number % 2, ...textAt(nameOf(number), 0), times(40503), times(11) & 0xffff, times(2246822519),
+    ]);
+    write('service_response', 'nbt_service_response', [
+        times(5) & 0xffff, times(11) & 0xffff, ...textAt(nameOf(number), 0), number % 3 === 0 ? 2 : number & 0xffff, times(40503),
+        big(payload + from), big(count),
     ]);
     write('status_text', 'nbt_status_text', [number % 260], false);
 }

@@ -56,19 +56,43 @@ def rdata(value):
     return f'domain {value}' if isinstance(value, nbt.DomainName) else f'bytes {digits(value)}'
 
 
+def datagram_lines(payload):
+    """The lines of a payload of port 138: its packet, and what stands at its front, which have to agree."""
+    it, refused = nbt.Datagram.read_front(payload)
+    try:
+        lines = [datagram(payload)]
+        assert refused is None
+    except nbt.NbtError as error:
+        assert error == refused
+        lines = [fault(error)]
+    if it:
+        lines.append(f'front {it.type:02x} {it.flags:02x} {it.address}:{it.port}/{it.identifier:04x} {it.offset} {it.source or "-"} '
+                     f'{it.destination or "-"}')
+    return lines
+
+
 def datagram(payload):
-    """The line of a payload of port 138."""
+    """The line of a packet of port 138."""
     it = nbt.Datagram.read(payload)
     return (f'{it.type:02x} {it.flags:02x} {it.address}:{it.port}/{it.identifier:04x} {it.offset} {it.source or "-"} '
             f'{it.destination or "-"} {digits(it.data)} used {it.used}')
 
 
-def session(payload):
-    """The line of a payload of port 139."""
+def session_lines(payload):
+    """The lines of a payload of port 139: its packet, and the header at its front, which have to agree."""
+    it, refused = nbt.SessionPacket.read_front(payload)
     try:
-        it = nbt.SessionPacket.read(payload)
-    except nbt.MoreNeeded as more:
-        return f'more {more.missing}'
+        lines = [session(payload)]
+        assert refused is None
+    except nbt.NbtError as error:
+        assert error == refused
+        lines = [f'more {error.missing}' if isinstance(error, nbt.MoreNeeded) else fault(error)]
+    return [*lines, f'front {it.type:02x} {it.flags:02x} {it.length}'] if it else lines
+
+
+def session(payload):
+    """The line of a packet of port 139."""
+    it = nbt.SessionPacket.read(payload)
     said = ''
     if it.type == SessionType.REQUEST:
         said = f' called {it.called} calling {it.calling}'
@@ -79,10 +103,7 @@ def session(payload):
 
 def lines_of(port, payload):
     """The lines of a payload that came to a port."""
-    try:
-        return service(payload) if port == 137 else [datagram(payload) if port == 138 else session(payload)]
-    except nbt.NbtError as error:
-        return [fault(error)]
+    return {137: service, 138: datagram_lines, 139: session_lines}[port](payload)
 
 
 def main():

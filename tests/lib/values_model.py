@@ -3,12 +3,13 @@
 from RFC 1002 and docs/FORMATS.md, that shares no code with the library or what is made over it. tests/lib/values_in_python.py
 and bindings/rust/examples/show_values.rs print the same by the bindings, and tests/lib/service_values.c that of port 137 by C.
 
-Of port 137 there is a line for the packet, one for its header and one for each question and record that stands. A fault is the
-number of its status, and its place, or - where it has none."""
+Of port 137 there is a line for the packet, one for its header and one for each question and record that stands; of the other ports one
+for the packet, and one for what stands at its front. A fault is the number of its status, and its place, or - where it has none."""
 import sys
 
 from fuzz_packets import KINDS, QUERIES, Name, Refused, header_of, name_of, read_fragment, read_labels, read_name_of
 from fuzz_packets import key_text, session_end, text_of
+from fronts_model import datagram_front, session_front
 from object_model import domain_text
 
 HEADER, ITEM, RECORD = 12, 4, 10
@@ -130,6 +131,29 @@ def datagram(payload):
     return f'{front} 0 - {text_of(name)} empty used {used}'
 
 
+def datagram_lines(payload):
+    """The lines of a payload of port 138: its packet, and what stands at its front."""
+    try:
+        lines = [datagram(payload)]
+    except Refused as refused:
+        lines = [f'refused {fault_of(str(refused))}']
+    front = datagram_front(payload)
+    if front:
+        names = f'{front.get("source", "-")} {front.get("destination", "-")}'
+        lines.append(f'front {payload[0]:02x} {front["flags"]} {front["key"]} {front.get("offset", 0)} {names}')
+    return lines
+
+
+def session_lines(payload):
+    """The lines of a payload of port 139: its packet, and the header at its front."""
+    try:
+        lines = [session(payload)]
+    except Refused as refused:
+        lines = [f'refused {fault_of(str(refused))}']
+    front = session_front(payload)
+    return [*lines, f'front {payload[0]:02x} {payload[1]:02x} {front["length"]}'] if front else lines
+
+
 def session(payload):
     """The line of a payload of port 139."""
     missing = (session_end(payload) if len(payload) >= 4 else 4) - len(payload)
@@ -150,10 +174,7 @@ def session(payload):
 
 def lines_of(port, payload):
     """The lines of a payload that came to a port."""
-    try:
-        return service(payload) if port == 137 else [datagram(payload) if port == 138 else session(payload)]
-    except Refused as refused:
-        return [f'refused {fault_of(str(refused))}']
+    return {137: service, 138: datagram_lines, 139: session_lines}[port](payload)
 
 
 def main():

@@ -110,6 +110,22 @@ test('datagrams', () => {
     assert.deepEqual(refused(() => nbt.writeDatagram({ ...sent, destination: 'FRED<2' })), ['DESTINATION_BAD_TEXT', 6]);
 });
 
+test('fronts of datagrams', () => {
+    const whole = nbt.writeDatagram({ ...sent, most: 99 })[0], later = Uint8Array.of(9, ...whole);
+    const front = { type: 0x11, flags: 2, identifier: 1, address: '10.0.0.5', port: 138, offset: 0, source: 'JOE<00>', destination: 'FRED<20>' };
+    assert.deepEqual(nbt.readDatagramFront(later, 1), front);
+    for (let length = 0; length <= whole.length; length += 1) {
+        const cut = whole.subarray(0, length);
+        if (length < 14) assert.deepEqual(refused(() => nbt.readDatagramFront(cut)), ['TRUNCATED', length]);
+        else assert.deepEqual(nbt.readDatagramFront(cut), { ...front, source: length < 48 ? null : 'JOE<00>', destination: length < 82 ? null : 'FRED<20>' });
+    }
+    assert.deepEqual(nbt.readDatagramFront(hex('17030001ffffffffffff')), {
+        type: 0x17, flags: 3, identifier: 1, address: '255.255.255.255', port: 65_535, offset: 0, source: null, destination: null,
+    });
+    assert.equal(nbt.readDatagramFront(nbt.writeDatagramQuery({ type: 0x14, identifier: 1, address: 5, name: 'FRED<20>' })).destination, null);
+    assert.throws(() => nbt.readDatagramFront(whole, whole.length + 1), RangeError);
+});
+
 test('errors and queries', () => {
     const from = { identifier: 7, address: '10.0.0.9' };
     assert.deepEqual(nbt.writeDatagramError({ ...from, code: 0x82 }), hex('130200070a000009008a82'));
@@ -161,6 +177,28 @@ test('requests', () => {
     }
     assert.throws(() => nbt.request('toString', { identifier: 0, name: 'FRED<20>' }), RangeError);
     assert.deepEqual(refused(() => nbt.request('query', { identifier: 0, name: '' })), ['BAD_TEXT', 0]);
+});
+
+test('responses', () => {
+    const claimed = { identifier: 3, word: 0xad86, name: 'FRED<20>.NETBIOS.COM', type: 0x20, timeToLive: 0xffff_ffff, data: hex('60000a000005') };
+    const said = (word, name, rest) => Uint8Array.of(0, 3, ...hex(word), 0, 0, 0, 1, 0, 0, 0, 0, ...nbt.spell(name), ...hex(rest));
+    assert.deepEqual(nbt.response(claimed), said('ad86', claimed.name, '00200001ffffffff000660000a000005'));
+    assert.deepEqual(nbt.response({ identifier: 3, word: 0x8583, name: 'FRED<20>', type: 0x0a }), said('8583', 'FRED<20>', '000a0001000000000000'));
+    const entry = JSON.parse(nbt.json(137, nbt.response(claimed))).answers[0];
+    assert.deepEqual([entry.name, entry.ttl, entry.entries[0].address], [claimed.name, 0xffff_ffff, '10.0.0.5']);
+    const most = nbt.response({ ...claimed, data: new Uint8Array(65_535) });
+    assert.equal(most.length, 12 + nbt.spell(claimed.name).length + 10 + 65_535);
+    for (const [odd, ...wanted] of [
+        [{ name: 'FRED' }, 'BAD_TEXT', 4], [{ name: 'SIXTEEN_LETTERS_<20>' }, 'LONG_TEXT', null], [{ data: new Uint8Array(65_536) }, 'LONG_DATA', null],
+        [{ type: 2, data: hex('026e') }, 'NAME_TRUNCATED', 2], [{ type: 2, data: hex('c00c') }, 'NAME_POINTER', 0],
+        [{ type: 2, data: hex('0161000000') }, 'NAME_TRAILING_BYTES', 3],
+    ]) {
+        assert.deepEqual(refused(() => nbt.response({ ...claimed, ...odd })), wanted);
+    }
+    for (const odd of [{ identifier: -1 }, { word: 65_536 }, { type: undefined }, { timeToLive: 2 ** 32 }]) {
+        assert.throws(() => nbt.response({ ...claimed, ...odd }), RangeError);
+    }
+    for (const odd of [{ name: undefined }, { data: '60' }]) assert.throws(() => nbt.response({ ...claimed, ...odd }), TypeError);
 });
 
 test('a station', () => {

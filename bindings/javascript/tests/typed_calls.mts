@@ -1,5 +1,6 @@
 // Calls whose types have to be those of nbt.d.mts, for tsc --strict. It isn't run.
-import { load, NbtError, Status, type Delivery, type Key, type Nbt, type SessionPacket, type Station, type Taken } from '../nbt.mjs';
+import { load, NbtError, Status } from '../nbt.mjs';
+import type { DatagramFront, Delivery, Key, Nbt, Response, SessionPacket, Station, Taken } from '../nbt.mjs';
 
 const nbt: Nbt = await load({ module: new URL('nbt.wasm', import.meta.url), limit: 1 << 24 });
 const pieces: Uint8Array[] = nbt.writeDatagram({ type: 0x10, identifier: 1, address: 5, source: 'A<00>', destination: 'B<20>', data: new ArrayBuffer(4) });
@@ -23,6 +24,14 @@ try {
     if (error instanceof NbtError) nbt.words(error.number + (error.at ?? 0)).concat(error.status);
 }
 
+const front: DatagramFront = nbt.readDatagramFront(pieces[0], 1);
+const answer: Response = { identifier: front.identifier, word: 0x8580, name: front.source ?? '*<00>', type: 0x20, data: new ArrayBuffer(6) };
+nbt.show(137, nbt.response({ ...answer, timeToLive: front.port }));
+
+// @ts-expect-error A front has no data.
+front.data;
+// @ts-expect-error A response has a type.
+nbt.response({ identifier: 1, word: 0x8500, name: 'A<00>' });
 // @ts-expect-error A text is no buffer.
 nbt.show(138, '85');
 // @ts-expect-error No request has this name.

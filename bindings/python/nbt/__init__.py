@@ -3,6 +3,7 @@
 names       texts and spellings
 packets     what `nbt show` prints of a payload
 service     requests of port 137
+responses   responses of port 137
 service_packets, rdata
             packets of port 137
 datagrams   packets of port 138
@@ -21,22 +22,24 @@ The calls may be made from any thread, and let other threads run meanwhile, but 
 station a call waits for another to end.
 """
 from .buffers import Buffer
-from .datagrams import Datagram, DatagramType, datagram_error, datagram_query
+from .datagrams import Datagram, DatagramFront, DatagramType, datagram_error, datagram_query
 from .library import VERSION
 from .names import spell, text
 from .packets import brief, json, show
 from .rdata import DomainName, NbEntry, NodeName, NodeStatus, NodeType, Rdata
+from .responses import negative_query_response, node_status_response, query_response, response
 from .service import node_status, query, refresh, registration, release
 from .service_packets import Operation, Question, Record, ResultCode, ServicePacket
-from .sessions import SessionPacket, SessionStream, SessionType
+from .sessions import SessionFront, SessionPacket, SessionStream, SessionType
 from .stations import Delivery, Outcome, Station, Taken
 from .statuses import MoreNeeded, NbtError, Status
 from .tables import Key, differ, list_table, merge, table_json
 from .turns import ReentryError
 
 __version__ = VERSION().decode()
-__all__ = ['Buffer', 'Datagram', 'DatagramType', 'Delivery', 'DomainName', 'Key', 'MoreNeeded', 'NbEntry', 'NbtError',
-           'NodeName', 'NodeStatus', 'NodeType', 'Operation', 'Outcome', 'Question', 'Rdata', 'Record', 'ReentryError',
-           'ResultCode', 'ServicePacket', 'SessionPacket', 'SessionStream', 'SessionType', 'Station', 'Status', 'Taken',
-           'brief', 'datagram_error', 'datagram_query', 'differ', 'json', 'list_table', 'merge', 'node_status', 'query',
-           'refresh', 'registration', 'release', 'show', 'spell', 'table_json', 'text']
+__all__ = ['Buffer', 'Datagram', 'DatagramFront', 'DatagramType', 'Delivery', 'DomainName', 'Key', 'MoreNeeded',
+           'NbEntry', 'NbtError', 'NodeName', 'NodeStatus', 'NodeType', 'Operation', 'Outcome', 'Question', 'Rdata',
+           'Record', 'ReentryError', 'ResultCode', 'ServicePacket', 'SessionFront', 'SessionPacket', 'SessionStream',
+           'SessionType', 'Station', 'Status', 'Taken', 'brief', 'datagram_error', 'datagram_query', 'differ', 'json',
+           'list_table', 'merge', 'negative_query_response', 'node_status', 'node_status_response', 'query',
+           'query_response', 'refresh', 'registration', 'release', 'response', 'show', 'spell', 'table_json', 'text']

@@ -5,12 +5,13 @@ import ctypes
 import enum
 import ipaddress
 from dataclasses import dataclass
-from typing import Iterator, List, Optional
+from typing import Iterator, List, Optional, Tuple, Union
 
 from . import names
 from .buffers import Buffer, given
 from .library import BYTES, Reader, writer
-from .numbers import Address, address_number, encoded, number
+from .numbers import Address, address_number, encoded, named, number
+from .statuses import NbtError
 
 
 class DatagramType(enum.IntEnum):
@@ -35,15 +36,55 @@ class Found(ctypes.Structure):
                 ('used', ctypes.c_size_t)]
 
 
+class FoundFront(ctypes.Structure):
+    """struct nbt_datagram_front."""
+
+    _fields_ = [('type', ctypes.c_uint8), ('flags', ctypes.c_uint8), ('identifier', ctypes.c_uint16),
+                ('address', ctypes.c_uint32), ('port', ctypes.c_uint16), ('offset', ctypes.c_uint16),
+                ('source', ctypes.c_size_t), ('source_length', ctypes.c_size_t), ('destination', ctypes.c_size_t),
+                ('destination_length', ctypes.c_size_t)]
+
+
 READ = Reader('nbt_datagram_read', Found, 'source', 'destination', 'data')
+FRONT = Reader('nbt_datagram_front', FoundFront, 'source', 'destination')
 WRITE = writer('nbt_datagram_write', ctypes.c_uint8, ctypes.c_uint16, ctypes.c_uint32, ctypes.c_uint16, *BYTES, *BYTES,
                *BYTES, ctypes.c_uint16)
 ERROR = writer('nbt_datagram_error', ctypes.c_uint16, ctypes.c_uint32, ctypes.c_uint16, ctypes.c_uint8, places=False)
 QUERY = writer('nbt_datagram_query', ctypes.c_uint8, ctypes.c_uint16, ctypes.c_uint32, ctypes.c_uint16, *BYTES)
 
 
+class Flagged:
+    """What FLAGS say of a fragment."""
+
+    flags: int
+
+    @property
+    def more(self) -> bool:
+        """Whether more fragments follow."""
+        return self.flags & 0x01 != 0
+
+    @property
+    def first(self) -> bool:
+        """Whether it is the first fragment."""
+        return self.flags & 0x02 != 0
+
+
 @dataclass(frozen=True)
-class Datagram:
+class DatagramFront(Flagged):
+    """What stands at the front of a payload of port 138: the header and, of a fragment, the names that are there whole."""
+
+    type: Union[DatagramType, int]  # the number where no packet has it
+    flags: int                      # FLAGS, all eight bits
+    identifier: int                 # DGM_ID
+    address: ipaddress.IPv4Address  # SOURCE_IP
+    port: int                       # SOURCE_PORT
+    offset: int                     # PACKET_OFFSET; 0 but in a fragment
+    source: Optional[str]           # SOURCE_NAME, as a text; None but in a fragment, and where it isn't there whole
+    destination: Optional[str]      # DESTINATION_NAME, as a text; None but in a fragment, and where not both are there whole
+
+
+@dataclass(frozen=True)
+class Datagram(Flagged):
     """A packet of port 138."""
 
     type: DatagramType
@@ -57,16 +98,6 @@ class Datagram:
     data: bytes                     # a fragment's data, or an error's code, which is one byte; b'' in a query
     used: int                       # the bytes of the packet: what follows them isn't looked at
 
-    @property
-    def more(self) -> bool:
-        """Whether more fragments follow."""
-        return self.flags & 0x01 != 0
-
-    @property
-    def first(self) -> bool:
-        """Whether it is the first fragment."""
-        return self.flags & 0x02 != 0
-
     @classmethod
     def read(cls, payload: Buffer, offset: int = 0) -> Datagram:
         """The packet at the front of a payload of port 138, which begins at an offset of the buffer; places count from there.
@@ -76,8 +107,20 @@ class Datagram:
         """
         found, (source, destination, data) = READ(payload, offset)
         return cls(DatagramType(found.type), found.flags, found.identifier, ipaddress.IPv4Address(found.address), found.port,
-                   found.offset, names.text(source) if source else None, names.text(destination) if destination else None, data,
-                   found.used)
+                   found.offset, name_of(source), name_of(destination), data, found.used)
+
+    @staticmethod
+    def read_front(payload: Buffer, offset: int = 0) -> Tuple[Optional[DatagramFront], Optional[NbtError]]:
+        """What stands at the front of a payload of port 138, and the fault with which `read` refuses it, or None. Nothing stands
+        where the header isn't there whole: the fourteen bytes of a fragment, ten of any other payload.
+        """
+        fault = READ.fault(payload, offset)
+        try:
+            found, (source, destination) = FRONT(payload, offset)
+        except NbtError:
+            return None, fault
+        return DatagramFront(named(DatagramType, found.type), found.flags, found.identifier, ipaddress.IPv4Address(found.address),
+                             found.port, found.offset, name_of(source), name_of(destination)), fault
 
     @staticmethod
     def write(type: int, identifier: int, address: Address, port: int, source: str, destination: str, data: Buffer,
@@ -92,6 +135,11 @@ class Datagram:
                         number(port, 16, 'port'), texts[0], len(texts[0]), texts[1], len(texts[1]), whole, len(whole),
                         number(most, 16, 'most'))
         return list(pieces(written))
+
+
+def name_of(spelling: bytes) -> Optional[str]:
+    """The text of a name, if there is one."""
+    return names.text(spelling) if spelling else None
 
 
 def pieces(written: bytes) -> Iterator[bytes]:

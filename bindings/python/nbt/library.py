@@ -7,7 +7,7 @@ from __future__ import annotations
 
 import ctypes
 import os
-from typing import Any, Callable, List, Tuple, Type
+from typing import Any, Callable, List, Optional, Tuple, Type
 
 from .buffers import Buffer, lend
 from .numbers import whole_number
@@ -91,6 +91,14 @@ class Reader:
             raise failure(status, at.value)
         return found, [ctypes.string_at(front + getattr(found, place), size) if (size := getattr(found, part_length)) else b''
                        for place, part_length in self.parts]
+
+    def fault(self, data: Buffer, offset: int) -> Optional[NbtError]:
+        """Why there is nothing to read in a buffer from an offset on; None where there is."""
+        try:
+            self(data, offset)
+        except NbtError as fault:
+            return fault.with_traceback(None)
+        return None
 
 
 class Room:

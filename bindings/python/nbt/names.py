@@ -3,7 +3,7 @@ section 4.1. The form of texts is the library's choice: the characters of the na
 digits between < and >, and the labels of its scope, each after a full stop."""
 from __future__ import annotations
 
-from typing import Iterator
+from typing import Iterable, Iterator
 
 from .buffers import Buffer, given
 from .library import BYTES, writer
@@ -36,6 +36,15 @@ def spelled(name: bytes) -> bytes:
     return b'\x20' + bytes(ord('A') + half for byte in name for half in (byte >> 4, byte & 15)) + b'\0'
 
 
+def sixteen(text: str) -> bytes:
+    """The sixteen bytes of the name with this text; ValueError where it has a scope."""
+    spelling = spell(text)
+    if len(spelling) != 34:
+        raise ValueError(f'{text}: a scope stands where a name has none')
+    halves = [letter - ord('A') for letter in spelling[1:33]]
+    return bytes(high << 4 | low for high, low in zip(halves[::2], halves[1::2]))
+
+
 def spelling_end(data: bytes, at: int) -> int:
     """Where the spelling ends that begins there: after its zero byte."""
     while data[at]:
@@ -49,6 +58,11 @@ def labels(spelling: bytes) -> Iterator[bytes]:
     while size := spelling[at]:
         yield spelling[at + 1:at + 1 + size]
         at += 1 + size
+
+
+def spelling_of(labels: Iterable[bytes]) -> bytes:
+    """The spelling of the name with these labels."""
+    return b''.join(bytes([len(label)]) + label for label in labels) + b'\0'
 
 
 def escaped(label: bytes) -> str:

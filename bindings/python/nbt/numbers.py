@@ -1,11 +1,13 @@
 """Numbers, addresses and texts, judged before a call: the library would be given the lowest bits of a number."""
 from __future__ import annotations
 
+import enum
 import ipaddress
 from operator import index
-from typing import SupportsIndex, Union
+from typing import SupportsIndex, Type, TypeVar, Union
 
 Address = Union[str, int, ipaddress.IPv4Address]
+Member = TypeVar('Member', bound=enum.IntEnum)
 
 
 def whole_number(value: SupportsIndex, what: str) -> int:
@@ -22,6 +24,14 @@ def number(value: SupportsIndex, bits: int, what: str) -> int:
     if whole >> bits:  # -1 of a negative one
         raise ValueError(f'{what}: {whole} is no number of {bits} bits')
     return whole
+
+
+def named(kind: Type[Member], value: int) -> Union[Member, int]:
+    """The member of an enumeration with this number, or the number where it has none."""
+    try:
+        return kind(value)
+    except ValueError:
+        return value
 
 
 def address_number(address: Address) -> int:

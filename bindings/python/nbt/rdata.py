@@ -94,9 +94,8 @@ class DomainName:
     labels: Tuple[bytes, ...]
 
     def __str__(self) -> str:
-        spelling = b''.join(bytes([len(label)]) + label for label in self.labels) + b'\0'
         try:
-            return names.text(spelling)
+            return names.text(names.spelling_of(self.labels))
         except NbtError:
             return '.'.join(map(names.escaped, self.labels)) or '.'
 

@@ -4,14 +4,15 @@ from __future__ import annotations
 import ctypes
 import enum
 import ipaddress
+import struct
 from dataclasses import dataclass
-from typing import Any, Iterator, Optional, Tuple
+from typing import Any, Iterator, Optional, Tuple, Union
 
 from . import names
-from .buffers import Buffer, given
-from .library import BYTES, Reader, writer
-from .numbers import number
-from .statuses import MoreNeeded
+from .buffers import Buffer, given, lend
+from .library import BYTES, Reader, behind, writer
+from .numbers import named, number, whole_number
+from .statuses import MoreNeeded, NbtError
 
 
 class SessionType(enum.IntEnum):
@@ -48,6 +49,17 @@ class Retarget(ctypes.Structure):
 READ = Reader('nbt_session_read', Found, 'body')
 NAMES, RETARGET = Reader('nbt_session_names', Names), Reader('nbt_session_retarget', Retarget)
 WRITE = writer('nbt_session_write', ctypes.c_uint8, *BYTES)
+# TYPE, FLAGS and LENGTH.
+HEADER = struct.Struct('>BBH')
+
+
+@dataclass(frozen=True)
+class SessionFront:
+    """The header at the front of what came over a connection to port 139, whether or not a packet stands there."""
+
+    type: Union[SessionType, int]  # the number where no packet has it
+    flags: int                     # FLAGS, all eight bits
+    length: int                    # how many bytes the body has: LENGTH, and 65,536 where the lowest bit of FLAGS is set
 
 
 @dataclass(frozen=True)
@@ -92,6 +104,13 @@ class SessionPacket:
         return cls(SessionType(found.type), body, found.used)
 
     @staticmethod
+    def read_front(data: Buffer, offset: int = 0) -> Tuple[Optional[SessionFront], Optional[NbtError]]:
+        """The header at the front of what came over a connection to port 139, and the fault with which `read` refuses it, or None.
+        There is no header where its four bytes aren't there.
+        """
+        return lend(data, header_at, whole_number(offset, 'offset')), READ.fault(data, offset)
+
+    @staticmethod
     def stream(data: Buffer, offset: int = 0) -> SessionStream:
         """The packets of what came over a connection to port 139, one after the other, from an offset of the buffer on."""
         return SessionStream(data, offset)
@@ -105,6 +124,15 @@ class SessionPacket:
         """
         data = given(body)
         return WRITE(number(type, 8, 'type'), data, len(data))
+
+
+def header_at(address: int, length: int, offset: int) -> Optional[SessionFront]:
+    """The header that stands at an offset of the bytes at an address."""
+    front, left = behind(address, length, offset)
+    if left < HEADER.size:
+        return None
+    type, flags, low = HEADER.unpack(ctypes.string_at(front, HEADER.size))
+    return SessionFront(named(SessionType, type), flags, (flags & 1) << 16 | low)
 
 
 class SessionStream(Iterator[SessionPacket]):

@@ -73,6 +73,7 @@ WORDS = """
 93 full
 100 name: present
 101 too many names
+102 no station
 110 other type
 255 unknown status
 """

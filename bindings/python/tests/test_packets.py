@@ -1,9 +1,10 @@
 """Packets of ports 137, 138 and 139."""
 import unittest
 from concurrent.futures import ThreadPoolExecutor
+from ipaddress import IPv4Address
 
 import nbt
-from nbt import DatagramType, SessionType, Status
+from nbt import DatagramFront, DatagramType, SessionFront, SessionType, Status
 from nbt.library import SPARE
 from nbt.service import REQUEST
 from nbt.sessions import NAMES, RETARGET
@@ -55,6 +56,40 @@ class Datagrams(unittest.TestCase):
                 with self.subTest(status), self.assertRaises(nbt.NbtError) as caught:
                     nbt.Datagram.read(payload)
                 self.assertEqual((caught.exception.status, caught.exception.at), (status, at))
+
+    def test_front_of_a_whole_packet(self):
+        error, find = nbt.datagram_error(10, '10.0.0.5', 138, 0x82), nbt.datagram_query(0x14, 10, '10.0.0.5', 138, 'FRED<20>')
+        for payload, names in ((HELLO, ('JOE<00>', 'FRED<20>')), (error, (None, None)), (find, (None, None))):
+            packet = nbt.Datagram.read(payload)
+            front = DatagramFront(packet.type, 2, 10, packet.address, 138, 0, *names)
+            for kind in bytes, bytearray, memoryview:
+                self.assertEqual(nbt.Datagram.read_front(kind(b'xx' + payload + b'not looked at'), 2), (front, None))
+            self.assertEqual((front.first, front.more, type(front.type)), (True, False, DatagramType))
+
+    def test_front_of_each_cut(self):
+        """The header of a fragment ends at 14, the names at 48 and 82; the fault is that of `read`."""
+        for length in range(len(HELLO)):
+            front, fault = nbt.Datagram.read_front(HELLO[:length])
+            with self.assertRaises(nbt.NbtError) as caught:
+                nbt.Datagram.read(HELLO[:length])
+            self.assertEqual((fault, str(fault), fault.__traceback__), (caught.exception, f'truncated {length}', None))
+            self.assertEqual(front is None, length < 14)
+            if front:
+                self.assertEqual((front.source, front.destination), ('JOE<00>' if length >= 48 else None, 'FRED<20>' if length >= 82 else None))
+
+    def test_front_before_a_fault(self):
+        header = bytes.fromhex('1703000affffffffffffffff')
+        front, fault = nbt.Datagram.read_front(header)
+        self.assertEqual(front, DatagramFront(0x17, 3, 10, IPv4Address('255.255.255.255'), 65_535, 0, None, None))
+        self.assertEqual((fault.status, fault.at, type(front.type), front.more), (Status.UNKNOWN_TYPE, None, int, True))
+        for payload, status, names in ((HELLO.replace(JOE, b'\xc0' + JOE[1:]), Status.SOURCE_POINTER, (None, None)),
+                                       (HELLO.replace(FRED, b'\x80' + FRED[1:]), Status.DESTINATION_RESERVED_LABEL, ('JOE<00>', None)),
+                                       (HELLO[:11] + b'\x40' + HELLO[12:], Status.DESTINATION_TRUNCATED, ('JOE<00>', None))):
+            front, fault = nbt.Datagram.read_front(payload)
+            self.assertEqual((fault.status, front.source, front.destination), (status, *names))
+        self.assertEqual(nbt.Datagram.read_front(header[:9])[0], None)
+        self.assertRaisesRegex(ValueError, '^offset: 13 lies outside of 12 bytes$', nbt.Datagram.read_front, header, 13)
+        self.assertRaises(TypeError, nbt.Datagram.read_front, 'header')
 
     def test_longest_packet(self):
         """A packet of just 65,535 bytes is written, and none of one byte more."""
@@ -140,6 +175,19 @@ class Sessions(unittest.TestCase):
             with self.subTest(status), self.assertRaises(nbt.NbtError) as caught:
                 nbt.SessionPacket.read(data)
             self.assertEqual((caught.exception.status, caught.exception.at), (status, at))
+
+    def test_front(self):
+        for data, front, fault in [
+                (b'\0\0\0\x05hello', SessionFront(SessionType.MESSAGE, 0, 5), None), (b'\0\1\0\x05he', SessionFront(SessionType.MESSAGE, 1, 65_541), Status.MORE),
+                (b'\x86\0\0\0', SessionFront(0x86, 0, 0), Status.UNKNOWN_TYPE), (b'\0\xfe\xff\xff', SessionFront(0, 0xfe, 65_535), Status.RESERVED_FLAGS),
+                (b'\x82\0\0\1', SessionFront(SessionType.POSITIVE, 0, 1), Status.BAD_LENGTH), (b'\x82\0\0', None, Status.MORE), (b'', None, Status.MORE)]:
+            for given, offset in ((data, 0), (bytearray(b'xyz' + data), 3)):
+                found, refused = nbt.SessionPacket.read_front(given, offset)
+                self.assertEqual((found, refused and refused.status), (front, fault))
+                self.assertEqual(isinstance(refused, nbt.MoreNeeded), fault == Status.MORE)
+                self.assertFalse(found and found.type in list(SessionType) and type(found.type) is int)
+        self.assertRaises(ValueError, nbt.SessionPacket.read_front, b'', 1)
+        self.assertRaises(TypeError, nbt.SessionPacket.read_front, 'data')
 
     def test_no_such_part(self):
         """A packet that stands, but has neither names nor a retarget."""

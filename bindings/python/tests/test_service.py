@@ -172,7 +172,8 @@ class Values(unittest.TestCase):
             response(b'\0\1', b'1234'))]
 
     def test_pickled_copied_compared(self):
-        for each in self.packets:
+        fronts = [nbt.Datagram.read_front(b'\x10' + bytes(13))[0], nbt.SessionPacket.read_front(b'\x81\0\0\1')[0]]
+        for each in (*self.packets, *fronts):
             for other in (pickle.loads(pickle.dumps(each)), copy.copy(each), copy.deepcopy(each)):
                 self.assertEqual(each, other)
                 self.assertEqual(hash(each), hash(other))

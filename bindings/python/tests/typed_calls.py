@@ -55,6 +55,19 @@ def front(payload: bytearray) -> Optional[int]:
     return fault.at if retarget is None else retarget[1] + packet.counts[0] + len(nbt.__version__)
 
 
+def answered(packet: nbt.ServicePacket, status: nbt.NodeStatus, payload: bytearray) -> List[bytes]:
+    """What answers a packet, and what stands of a payload of port 138 and of one of port 139."""
+    datagram, fault = nbt.Datagram.read_front(payload)
+    session, more = nbt.SessionPacket.read_front(payload, offset=2)
+    if datagram is None or session is None:
+        return [nbt.negative_query_response(packet.identifier, 'FRED<20>', rcode=nbt.ResultCode.ACT_ERR)]
+    entries: List[nbt.NbEntry] = [nbt.NbEntry(datagram.flags, datagram.address)]
+    name: str = datagram.source or 'FRED<20>'
+    answers = [nbt.query_response(packet.identifier, name, entries, 300_000, flags=0x0580), nbt.node_status_response(session.length, name, status)]
+    answers += [nbt.response(packet.identifier, name, record.rdata, record.time_to_live, op=packet.op, rcode=packet.rcode) for record in packet.records]
+    return [*answers, nbt.response(1, name, payload, type=datagram.type, op=nbt.Operation.WACK)] if fault and more else answers
+
+
 def known(station: nbt.Station, table: mmap.mmap) -> List[str]:
     """What a station and a table say, and where they differ."""
     key: Optional[nbt.Key] = nbt.differ(station.save(), table)

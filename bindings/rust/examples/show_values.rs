@@ -1,14 +1,14 @@
-//! What payloads say, read as values: lines with a port and hexadecimal digits, or `empty`, from standard input. Of port 137
-//! also what stands of a payload that is refused.
+//! What payloads say, read as values: lines with a port and hexadecimal digits, or `empty`, from standard input. Also what
+//! stands at the front of those that are refused.
 
 use std::error::Error;
 use std::fmt::Write as _;
 use std::io::{self, BufRead, Write as _};
 
-use nbt::datagram::{self, Body};
+use nbt::datagram::{self, Body, Header};
 use nbt::service::{self, Packet, Rdata, Record, Section};
 use nbt::session::{self, Next};
-use nbt::Name;
+use nbt::{Name, Spelling};
 
 fn main() -> Result<(), Box<dyn Error>> {
     let mut out = io::BufWriter::new(io::stdout().lock());
@@ -18,8 +18,8 @@ fn main() -> Result<(), Box<dyn Error>> {
         let payload = bytes_of(digits)?;
         let said = match port {
             "137" => service_lines(&payload),
-            "138" => datagram_line(&payload),
-            _ => session_line(&payload),
+            "138" => Ok(datagram_lines(&payload)),
+            _ => Ok(session_lines(&payload)),
         };
         let said = said.unwrap_or_else(|error| refused(&error));
         writeln!(out, "{} {port} {said}", index + 1)?;
@@ -102,7 +102,24 @@ fn rdata_words(rdata: &Rdata<'_>) -> String {
     }
 }
 
-/// The line of a payload of port 138.
+/// The lines of a payload of port 138: its packet, and what stands at its front.
+fn datagram_lines(payload: &[u8]) -> String {
+    let front = datagram::read_front(payload);
+    assert_eq!(front.fault, datagram::read(payload).err());
+    let line = datagram_line(payload).unwrap_or_else(|error| refused(&error));
+    line + &front.header.map_or(String::new(), front_line)
+}
+
+/// The line of a header of port 138.
+fn front_line(it: Header<'_>) -> String {
+    let name = |name: Option<Spelling<'_>>| name.map_or("-".into(), |it| it.to_string());
+    let (kind, flags, offset) = (it.message_type, it.flags, it.offset);
+    let (source, destination) = (name(it.source), name(it.destination));
+    let key = format!("{}/{:04x}", it.sender, it.identifier);
+    format!("\n  front {kind:02x} {flags:02x} {key} {offset} {source} {destination}")
+}
+
+/// The line of a packet of port 138.
 fn datagram_line(payload: &[u8]) -> nbt::Result<String> {
     let packet = datagram::read(payload)?;
     let (flags, sender, number) = (packet.flags, packet.sender, packet.identifier);
@@ -121,7 +138,19 @@ fn datagram_line(payload: &[u8]) -> nbt::Result<String> {
     ))
 }
 
-/// The line of a payload of port 139.
+/// The lines of a payload of port 139: its packet, and the header at its front.
+fn session_lines(payload: &[u8]) -> String {
+    let line = session_line(payload).unwrap_or_else(|error| refused(&error));
+    match session::read_front(payload).header {
+        Some(it) => {
+            let (kind, flags, length) = (it.packet_type, it.flags, it.body_length);
+            format!("{line}\n  front {kind:02x} {flags:02x} {length}")
+        }
+        None => line,
+    }
+}
+
+/// The line of a packet of port 139.
 fn session_line(payload: &[u8]) -> nbt::Result<String> {
     let packet = match session::read(payload)? {
         Next::More(missing) => return Ok(format!("more {missing}")),

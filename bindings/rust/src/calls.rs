@@ -6,8 +6,8 @@
 use std::ffi::c_void;
 
 use crate::structures::{
-    Difference, FoundAddress, FoundDatagram, FoundHeader, FoundItem, FoundNames, FoundNode,
-    FoundRetarget, FoundSession, Handle, Taken,
+    Difference, FoundAddress, FoundDatagram, FoundFront, FoundHeader, FoundItem, FoundNames,
+    FoundNode, FoundRetarget, FoundSession, Handle, Taken,
 };
 
 /// NBT_DONE: the call did what it says.
@@ -128,6 +128,13 @@ extern "C" {
         at: *mut usize,
     ) -> u32;
 
+    pub fn nbt_datagram_front(
+        payload: *const u8,
+        payload_length: usize,
+        front: *mut FoundFront,
+        at: *mut usize,
+    ) -> u32;
+
     pub fn nbt_datagram_write(
         kind: u8,
         identifier: u16,
@@ -209,6 +216,21 @@ extern "C" {
         time_to_live: u32,
         nb_flags: u16,
         address: u32,
+        into: *mut u8,
+        into_length: usize,
+        used: *mut usize,
+        at: *mut usize,
+    ) -> u32;
+
+    pub fn nbt_service_response(
+        identifier: u16,
+        word: u16,
+        name: *const u8,
+        name_length: usize,
+        kind: u16,
+        time_to_live: u32,
+        data: *const u8,
+        data_length: usize,
         into: *mut u8,
         into_length: usize,
         used: *mut usize,

@@ -31,6 +31,8 @@ use crate::room::written;
 use crate::structures::FoundDatagram;
 use crate::{Error, Result, Spelling};
 
+pub use crate::datagram_front::{read_front, Front, Header};
+
 /// What MSG_TYPE says of a fragment's datagram.
 #[derive(Clone, Copy, Debug, PartialEq, Eq, Hash)]
 #[repr(u8)]

@@ -33,11 +33,13 @@
 
 mod calls;
 mod codes;
+mod datagram_front;
 mod error;
 mod name;
 mod names;
 mod packets;
 mod rdata;
+mod responses;
 mod room;
 mod service_header;
 mod service_packets;

@@ -7,10 +7,12 @@ use std::str::FromStr;
 
 use crate::calls::{nbt_name_spell, DONE};
 use crate::names::{text, Spelling};
-use crate::{Error, Result};
+use crate::{Error, Result, Status};
 
 /// The longest spelling.
 const LONGEST: usize = 255;
+/// The first label of a NetBIOS name, its length among its bytes.
+const FIRST_LABEL: usize = 33;
 /// From here on a length byte is the first half of a pointer.
 const POINTER: u8 = 0xc0;
 
@@ -105,6 +107,27 @@ impl From<[u8; 16]> for Name {
             letters.copy_from_slice(&[b'A' + (byte >> 4), b'A' + (byte & 15)]);
         }
         Name::of_spelling(&spelling)
+    }
+}
+
+/// The sixteen bytes of a name without a scope. `NameNotNetbios` where it isn't a NetBIOS name, and where it has a scope; the place
+/// is that of the label which stands there instead.
+impl TryFrom<Name> for [u8; 16] {
+    type Error = Error;
+
+    fn try_from(name: Name) -> Result<[u8; 16]> {
+        let odd = |place| Err(Error::new(Status::NameNotNetbios.number(), place));
+        if !name.is_netbios() {
+            return odd(0);
+        }
+        if name.labels().count() > 1 {
+            return odd(FIRST_LABEL);
+        }
+        let (mut bytes, letters) = ([0; 16], &name.bytes[1..FIRST_LABEL]);
+        for (byte, pair) in bytes.iter_mut().zip(letters.chunks_exact(2)) {
+            *byte = (pair[0] - b'A') << 4 | (pair[1] - b'A');
+        }
+        Ok(bytes)
     }
 }
 

@@ -1,5 +1,5 @@
 //! Packets of the name service, port 137: RFC 1002 section 4.2. [`Request`] writes those of sections 4.2.12, 4.2.17, 4.2.2,
-//! 4.2.4 and 4.2.9, and [`read`] reads all.
+//! 4.2.4 and 4.2.9, [`Response`] those with one answer, and [`read`] reads all.
 //!
 //! ```
 //! use nbt::service::{read, Entry, Operation, Rdata, Request};
@@ -29,6 +29,7 @@ use crate::Result;
 
 pub use crate::codes::{NodeType, Operation, ResultCode};
 pub use crate::rdata::{Addresses, NodeName, NodeNames, NodeStatus, Rdata, NB, NBSTAT, NS};
+pub use crate::responses::{Answer, Response};
 pub use crate::service_header::Header;
 pub use crate::service_packets::{
     read, read_front, Front, Packet, Question, Questions, Record, Records, Section,

@@ -143,6 +143,66 @@ pub fn read(bytes: &[u8]) -> Result<Next<'_>> {
     }
 }
 
+/// The packet at the front of what came over a connection. Errors are those of [`read`], and `More`, whose place is how many
+/// bytes are missing, at least.
+impl<'a> TryFrom<&'a [u8]> for Packet<'a> {
+    type Error = Error;
+
+    fn try_from(bytes: &'a [u8]) -> Result<Packet<'a>> {
+        match read(bytes)? {
+            Next::Packet(packet) => Ok(packet),
+            Next::More(missing) => Err(Error::new(MORE, missing)),
+        }
+    }
+}
+
+/// The header of a packet of port 139, whether or not the packet stands: RFC 1002 section 4.3.1.
+#[derive(Clone, Copy, Debug, PartialEq, Eq, Hash)]
+pub struct Header {
+    /// TYPE, also one that no packet has; a [`Kind`] is made of it.
+    pub packet_type: u8,
+    /// FLAGS, all eight bits.
+    pub flags: u8,
+    /// How many bytes the body has: LENGTH, and 65,536 where the lowest bit of FLAGS is set.
+    pub body_length: usize,
+}
+
+/// What stands of bytes, and why they aren't a packet.
+#[derive(Clone, Copy, Debug, PartialEq, Eq, Hash)]
+pub struct Front {
+    /// The header; `None` where its four bytes aren't there.
+    pub header: Option<Header>,
+    /// The fault with which a [`Packet`] isn't made of the bytes; `None` of one that stands whole.
+    pub fault: Option<Error>,
+}
+
+/// Reads the header at the front of what came over a connection to port 139. No memory is taken.
+///
+/// ```
+/// use nbt::session::{read_front, Kind};
+/// use nbt::Status;
+///
+/// let front = read_front(b"\x82\0\0\x01");
+/// let header = front.header.unwrap();
+/// assert_eq!(Kind::try_from(header.packet_type), Ok(Kind::Positive));
+/// assert_eq!(header.body_length, 1);
+/// assert_eq!(front.fault.map(|it| it.status()), Some(Status::BadLength));
+/// ```
+pub fn read_front(bytes: &[u8]) -> Front {
+    let header = match *bytes {
+        [packet_type, flags, high, low, ..] => Some(Header {
+            packet_type,
+            flags,
+            body_length: usize::from(flags & 1) << 16 | usize::from(high) << 8 | usize::from(low),
+        }),
+        _ => None,
+    };
+    Front {
+        header,
+        fault: Packet::try_from(bytes).err(),
+    }
+}
+
 /// The packets of what came over a connection to port 139, one after the other. Those that are there whole are handed out, and
 /// after them the error with which [`read`] refuses what follows, if it does.
 pub fn packets(bytes: &[u8]) -> Packets<'_> {

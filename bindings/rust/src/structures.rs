@@ -78,6 +78,22 @@ pub struct FoundDatagram {
     pub used: usize,
 }
 
+/// struct nbt_datagram_front: the numbers of a header of port 138, and where the names stand that are there whole.
+#[repr(C)]
+#[derive(Default)]
+pub struct FoundFront {
+    pub kind: u8,
+    pub flags: u8,
+    pub identifier: u16,
+    pub address: u32,
+    pub port: u16,
+    pub offset: u16,
+    pub source: usize,
+    pub source_length: usize,
+    pub destination: usize,
+    pub destination_length: usize,
+}
+
 /// struct nbt_session: the type of a packet of port 139, and where its body stands.
 #[repr(C)]
 #[derive(Default)]

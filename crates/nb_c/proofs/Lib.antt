@@ -2,6 +2,7 @@ pub mod AbsorbLemmas
 pub mod AnswerLemmas
 pub mod DifferLemmas
 pub mod FrameLemmas
+pub mod FrontLemmas
 pub mod HandleValues
 pub mod LengthLemmas
 pub mod ListLemmas
@@ -12,6 +13,7 @@ pub mod ObjectLemmas
 pub mod PartLemmas
 pub mod PlaceLemmas
 pub mod ReadLemmas
+pub mod ResponseLemmas
 pub mod ServiceLemmas
 pub mod ShowLemmas
 pub mod StationLemmas

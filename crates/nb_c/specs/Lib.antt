@@ -4,11 +4,13 @@ pub mod Datagrams
 pub mod Dataless
 pub mod Differing
 pub mod Framing
+pub mod Fronts
 pub mod Handles
 pub mod KeptCode
 pub mod Names
 pub mod Outputs
 pub mod Requests
+pub mod Responses
 pub mod ServiceParts
 pub mod Services
 pub mod Sessions

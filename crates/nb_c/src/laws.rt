@@ -1,5 +1,5 @@
 //! Laws of the definitions that the contracts cite. Each is proved; a call does nothing.
-ghost use Rattle.std.specs.Prelude.{◌≡◌, ◌↔◌, ◌<◌, ◌≤◌, ◌+◌, IsTrue, length, [], ◌∷◌, ℕ, List, All, Contains, Result, Err};
+ghost use Rattle.std.specs.Prelude.{◌≡◌, ◌↔◌, ◌<◌, ◌≤◌, ◌+◌, IsTrue, length, [], ◌∷◌, ℕ, List, All, Contains, Result, Err, Some};
 ghost use Rattle.std.specs.List.{join_with_byte};
 ghost use Rattle.nb_names.specs.declared.fault.NameFault.{NameFault};
 ghost use Rattle.nb_names.specs.declared.fault.NameFault.TheVariants as names;
@@ -15,7 +15,10 @@ ghost use Rattle.nb_datagram.specs.declared.fault.DatagramFault.TheVariants.{Sou
 ghost use Rattle.nb_datagram.specs.declared.key.Key.{Key};
 ghost use Rattle.nb_datagram.specs.declared.packet.Packet.TheVariants.{Direct, Error, Query};
 ghost use Rattle.nb_datagram.specs.declared.packet.ErrorPacket.{ErrorPacket};
+ghost use Rattle.nb_datagram.specs.declared.front.FragmentFront.{FragmentFront};
+ghost use Rattle.nb_datagram.specs.declared.front.Front.{Front};
 ghost use Rattle.nb_datagram.specs.Fragment.{FragmentParts};
+ghost use Rattle.nb_datagram.specs.Fronts.{HasFront};
 ghost use Rattle.nb_datagram.specs.Packet.{QueryPacket, IsPacket, name_bytes};
 ghost use Rattle.nb_datagram.specs.Datagram.{DatagramParts};
 ghost use Rattle.nb_datagram.specs.Header.{IsKey};
@@ -24,6 +27,7 @@ ghost use Rattle.nb_c.specs.Cutting.{are_long, packet_of};
 ghost use Rattle.nb_c.specs.declared.differing.NbtDifference.{NbtDifference};
 ghost use Rattle.nb_c.specs.Differing.{Compares};
 ghost use Rattle.nb_c.specs.Datagrams.{fragment_places, error_places, query_places};
+ghost use Rattle.nb_c.specs.Fronts.{front_places};
 ghost use Rattle.nb_c.specs.Tables.{Merges, OfOne, first_refusal, second_refusal};
 ghost use Rattle.nb_c.specs.Outputs.{refused_status};
 ghost use Rattle.nb_c.specs.Requests.{named_answer, request_answer, requested};
@@ -201,6 +205,19 @@ pub fn parts_stand_at_their_places()
     ensures query { (payload : List ℕ) (q : QueryPacket) (used : ℕ) →
         IsPacket payload (Query q) used →
         StandsAt payload (query_places q used).destination (name_bytes q.destination) }
+{}
+
+/// The names that are there whole at the front of a fragment's packet stand in the payload where
+/// they are said to stand.
+pub fn names_stand_at_the_front()
+    ensures source { (payload : List ℕ) (front : Front) (fragment : FragmentFront)
+        (name : NetbiosName) → HasFront payload front → front.fragment ≡ Some fragment →
+        fragment.source ≡ Some name →
+        StandsAt payload (front_places front).source (name_bytes name) }
+    ensures destination { (payload : List ℕ) (front : Front) (fragment : FragmentFront)
+        (name : NetbiosName) → HasFront payload front → front.fragment ≡ Some fragment →
+        fragment.destination ≡ Some name →
+        StandsAt payload (front_places front).destination (name_bytes name) }
 {}
 
 /// A datagram is too long exactly where the first of its packets, than which none is longer, has

@@ -30,10 +30,9 @@ pub fn mistake_line(alloc: Global, what: &str, words: &[&str]) -> Result<String,
 /// Says that there is no such packet, and which there are.
 fn push_packets(what: &str, line: &mut String) -> Result<(), NoMemory> {
     line.push_str("WHAT is one of")?;
-    for form in forms() {
-        line.push_str(" ")?;
+    for (place, form) in forms().iter().enumerate() {
+        line.push_str(if place == 0 { " " } else { ", " })?;
         line.push_str(form.what)?;
-        line.push_str(",")?;
     }
     push_given(what, line)
 }

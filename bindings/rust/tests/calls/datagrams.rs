@@ -2,7 +2,8 @@
 
 use crate::{joined, refused, FRED, JOE};
 use nbt::datagram::{
-    read, write_error, write_query, Body, Datagram, Fragment, Kind, Packet, Query,
+    read, read_front, write_error, write_query, Body, Datagram, Fragment, Header, Kind, Packet,
+    Query,
 };
 use nbt::{Spelling, Status};
 
@@ -118,6 +119,73 @@ fn payloads_of_no_packet() {
         (changed(50, b'g'), Status::DestinationNotNetbios, Some(2)),
     ] {
         assert_eq!(refused(read(&payload)), (status, at));
+    }
+}
+
+#[test]
+fn fronts_of_packets_that_stand() {
+    let sender = datagram().sender;
+    let error = write_error(10, sender, 0x82).unwrap();
+    let query = write_query(Query::Find, 10, sender, "FRED<20>").unwrap();
+    let both = [JOE, FRED].map(|it| Some(Spelling::try_from(it).unwrap()));
+    for (payload, [source, destination]) in
+        [(hello(), both), (error, [None; 2]), (query, [None; 2])]
+    {
+        let front = read_front(&payload);
+        let header = Header {
+            message_type: payload[0],
+            flags: 2,
+            identifier: 10,
+            sender,
+            offset: 0,
+            source,
+            destination,
+        };
+        assert_eq!((front.header, front.fault), (Some(header), None));
+        assert!(header.is_first() && !header.has_more());
+    }
+}
+
+#[test]
+fn each_cut_has_a_front() {
+    for length in 0..hello().len() {
+        let payload = &hello()[..length];
+        let front = read_front(payload);
+        assert_eq!(front.fault, read(payload).err());
+        assert_eq!(refused(read(payload)), (Status::Truncated, Some(length)));
+        let names = front.header.map(|it| (it.source, it.destination));
+        let of = |name, end| (length >= end).then(|| Spelling::try_from(name).unwrap());
+        let wanted = (of(JOE, 48), of(FRED, 82));
+        assert_eq!(names, (length >= 14).then_some(wanted));
+    }
+}
+
+#[test]
+fn fronts_before_a_fault() {
+    let front = read_front(b"\x17\x03\0\x0a\xff\xff\xff\xff\xff\xff");
+    let header = front.header.unwrap();
+    assert_eq!(
+        (header.message_type, header.flags, header.identifier),
+        (0x17, 3, 10)
+    );
+    assert_eq!(header.sender.to_string(), "255.255.255.255:65535");
+    assert_eq!(
+        (header.source, header.destination, header.has_more()),
+        (None, None, true)
+    );
+    assert_eq!(front.fault.map(|it| it.status()), Some(Status::UnknownType));
+    for (at, byte, status, names) in [
+        (14, 0xc0, Status::SourcePointer, 0),
+        (48, 0x80, Status::DestinationReservedLabel, 1),
+        (11, 0x40, Status::DestinationTruncated, 1),
+    ] {
+        let mut payload = hello();
+        payload[at] = byte;
+        let front = read_front(&payload);
+        let found = front.header.unwrap();
+        assert_eq!(front.fault.map(|it| it.status()), Some(status));
+        assert_eq!(usize::from(found.source.is_some()), names);
+        assert_eq!(found.destination, None);
     }
 }
 

@@ -3,6 +3,7 @@
 mod datagrams;
 mod errors;
 mod names;
+mod responses;
 mod service;
 mod sessions;
 mod shown;

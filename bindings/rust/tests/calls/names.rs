@@ -78,6 +78,16 @@ fn names_lie_in_place() {
 }
 
 #[test]
+fn names_are_sixteen_bytes() {
+    for bytes in [*b"FRED            ", [0xff; 16], *b"JOE            \0"] {
+        assert_eq!(<[u8; 16]>::try_from(Name::from(bytes)), Ok(bytes));
+    }
+    let scoped: Name = "FRED<20>.COM".parse().unwrap();
+    let of = |name: Name| refused(<[u8; 16]>::try_from(name));
+    assert_eq!(of(scoped), (Status::NameNotNetbios, Some(33)));
+}
+
+#[test]
 fn names_are_compared_by_bytes() {
     let of = |text: &str| text.parse::<Name>().unwrap();
     let names = [

@@ -1,7 +1,7 @@
 //! Packets of port 139.
 
 use crate::{joined, refused, FRED, JOE};
-use nbt::session::{packets, read, write, Kind, Next, Packet};
+use nbt::session::{packets, read, read_front, write, Header, Kind, Next, Packet};
 use nbt::{spell, Status};
 
 #[test]
@@ -24,6 +24,7 @@ fn packets_are_read() {
         (b"\x85\0\0\0", Kind::KeepAlive, b""),
     ] {
         let packet = whole(bytes);
+        assert_eq!(Packet::try_from(bytes), Ok(packet));
         assert_eq!(
             (packet.kind, packet.body, packet.used),
             (kind, body, 4 + body.len())
@@ -40,6 +41,49 @@ fn bytes_are_missing() {
         (b"\0\x01\xff\xff", 131_071),
     ] {
         assert_eq!(read(bytes), Ok(Next::More(missing)));
+        assert_eq!(
+            refused(Packet::try_from(bytes)),
+            (Status::More, Some(missing))
+        );
+    }
+}
+
+#[test]
+fn headers_stand_before_a_fault() {
+    let header = |packet_type, flags, body_length| Header {
+        packet_type,
+        flags,
+        body_length,
+    };
+    for (bytes, wanted, fault) in [
+        (&b"\0\0\0\x02hi"[..], Some(header(0, 0, 2)), None),
+        (
+            b"\0\x01\0\x05he",
+            Some(header(0, 1, 65_541)),
+            Some(Status::More),
+        ),
+        (
+            b"\x86\0\0\0",
+            Some(header(0x86, 0, 0)),
+            Some(Status::UnknownType),
+        ),
+        (
+            b"\0\xfe\xff\xff",
+            Some(header(0, 0xfe, 65_535)),
+            Some(Status::ReservedFlags),
+        ),
+        (
+            b"\x82\0\x01\0",
+            Some(header(0x82, 0, 256)),
+            Some(Status::BadLength),
+        ),
+        (b"\x82\0\0", None, Some(Status::More)),
+        (b"", None, Some(Status::More)),
+    ] {
+        let front = read_front(bytes);
+        assert_eq!(front.header, wanted);
+        assert_eq!(front.fault.map(|it| it.status()), fault);
+        assert_eq!(front.fault, Packet::try_from(bytes).err());
     }
 }
 

@@ -1,0 +1,99 @@
+"""Responses of the name service, port 137: RFC 1002 sections 4.2.5 to 4.2.18, but for 4.2.8 and 4.2.15.
+
+Each has one answer, of class IN, about the name with a text, and no question; R is set. ServicePacket.read reads the same values.
+
+NbtError: BAD_TEXT and LONG_TEXT of a name, LONG_DATA where RDATA has more than 65,535 bytes.
+"""
+from __future__ import annotations
+
+import ctypes
+from typing import Iterable, Optional, Tuple, Union
+
+from . import names
+from .buffers import Buffer, given
+from .library import BYTES, writer
+from .numbers import address_number, encoded, number
+from .rdata import ENTRY, NB, NBSTAT, NODE, NS, DomainName, NbEntry, NodeStatus, Rdata
+from .service_packets import Operation, ResultCode
+
+RESPONSE = writer('nbt_service_response', ctypes.c_uint16, ctypes.c_uint16, *BYTES, ctypes.c_uint16, ctypes.c_uint32, *BYTES)
+# RR_TYPE of an answer that says nothing of the name.
+NULL = 0x000a
+# R; NM_FLAGS, of which AA is that the node has the name or keeps account of it, and RD that the request wanted such a node.
+R, NM_FLAGS, AA, RD = 0x8000, 0x07f0, 0x0400, 0x0100
+# STATISTICS: UNIT_ID, and what follows it.
+UNIT_LENGTH, REST_OF_STATISTICS = 6, bytes(40)
+
+
+def response(identifier: int, name: str, rdata: Union[Rdata, Buffer], time_to_live: int = 0, *, op: int = Operation.QUERY,
+             flags: int = 0, rcode: int = ResultCode.OK, type: Optional[int] = None) -> bytes:
+    """A response. The time to live is in seconds, and `flags` are NM_FLAGS where they stand in the header's second word, as AA
+    0x0400. The type is that of the RDATA: it is given with bytes, which are of any type.
+
+    NbtError also: NAME_LONG and NAME_TRAILING_BYTES of a DomainName, whose places count in its spelling. Bytes of type NS are such
+    a spelling, and may have NAME_TRUNCATED to NAME_POINTER too.
+    """
+    own, data = packed(rdata)
+    text, kind, bits = encoded(name, 'name'), type_of(own, type), number(flags, 16, 'flags')
+    if bits & ~NM_FLAGS:
+        raise ValueError(f'flags: {bits:#06x} has other bits than {NM_FLAGS:#06x}')
+    word = R | number(op, 4, 'op') << 11 | bits | number(rcode, 4, 'rcode')
+    return RESPONSE(number(identifier, 16, 'identifier'), word, text, len(text), kind, number(time_to_live, 32, 'time to live'),
+                    data, len(data))
+
+
+def query_response(identifier: int, name: str, entries: Iterable[NbEntry], time_to_live: int, flags: int = AA | RD) -> bytes:
+    """A positive name query response (section 4.2.13): who has the name. A name server sets RA, 0x0080, too."""
+    return response(identifier, name, tuple(entries), time_to_live, flags=flags)
+
+
+def negative_query_response(identifier: int, name: str, rcode: int = ResultCode.NAM_ERR, flags: int = AA | RD) -> bytes:
+    """A negative name query response (section 4.2.14): nobody has the name, or what else the RCODE says."""
+    return response(identifier, name, b'', flags=flags, rcode=rcode, type=NULL)
+
+
+def node_status_response(identifier: int, name: str, status: NodeStatus) -> bytes:
+    """A node status response (section 4.2.18). Behind the unit, if there is one, the statistics are zeros."""
+    return response(identifier, name, status, flags=AA)
+
+
+def type_of(own: Optional[int], wanted: Optional[int]) -> int:
+    """RR_TYPE of RDATA that has a type of its own, or none."""
+    if own is None:
+        if wanted is None:
+            raise TypeError('type: bytes are of any, so it has to be given')
+        return number(wanted, 16, 'type')
+    if wanted is not None and wanted != own:
+        raise ValueError(f'type: {wanted:#06x} is given with RDATA of type {own:#06x}')
+    return own
+
+
+def packed(rdata: Union[Rdata, Buffer]) -> Tuple[Optional[int], bytes]:
+    """The type of RDATA, if it has one of its own, and its bytes."""
+    if isinstance(rdata, tuple):
+        return NB, b''.join(map(packed_entry, rdata))
+    if isinstance(rdata, NodeStatus):
+        return NBSTAT, packed_status(rdata)
+    if isinstance(rdata, DomainName):
+        for label in rdata.labels:
+            number(len(label), 6, 'the length of a label')
+        return NS, names.spelling_of(rdata.labels)
+    return None, given(rdata)
+
+
+def packed_entry(entry: NbEntry) -> bytes:
+    """An address of a name: section 4.2.13."""
+    if not isinstance(entry, NbEntry):
+        raise TypeError(f'{entry!r} is no NbEntry')
+    return ENTRY.pack(number(entry.flags, 16, 'NB_FLAGS'), address_number(entry.address))
+
+
+def packed_status(status: NodeStatus) -> bytes:
+    """The names of a node, behind how many they are, and its statistics: section 4.2.18."""
+    count = number(len(status.names), 8, 'how many names a node has')
+    nodes = [NODE.pack(names.sixteen(it.name), number(it.flags, 16, 'NAME_FLAGS')) for it in status.names]
+    if status.unit is None:
+        return bytes([count]) + b''.join(nodes)
+    if len(status.unit) != UNIT_LENGTH:
+        raise ValueError(f'unit: {len(status.unit)} bytes are given, and it has {UNIT_LENGTH}')
+    return bytes([count]) + b''.join(nodes) + status.unit + REST_OF_STATISTICS

@@ -1,0 +1,100 @@
+//! What stands at the front of payloads of port 138.
+
+use std::net::{Ipv4Addr, SocketAddrV4};
+
+use crate::calls::{nbt_datagram_front, DONE};
+use crate::datagram::read;
+use crate::structures::FoundFront;
+use crate::{Error, Spelling};
+
+/// The header of a packet of port 138, whether or not the packet stands, and the names of a fragment that are there whole.
+#[derive(Clone, Copy, Debug, PartialEq, Eq, Hash)]
+pub struct Header<'a> {
+    /// MSG_TYPE, also one that no packet has; [`crate::datagram::Kind`] and [`crate::datagram::Query`] are made of it.
+    pub message_type: u8,
+    /// FLAGS, all eight bits.
+    pub flags: u8,
+    /// DGM_ID.
+    pub identifier: u16,
+    /// SOURCE_IP and SOURCE_PORT.
+    pub sender: SocketAddrV4,
+    /// PACKET_OFFSET; 0 but in a fragment.
+    pub offset: u16,
+    /// SOURCE_NAME; `None` but in a fragment, and where it isn't there whole.
+    pub source: Option<Spelling<'a>>,
+    /// DESTINATION_NAME; `None` but in a fragment, and where not both names are there whole.
+    pub destination: Option<Spelling<'a>>,
+}
+
+impl Header<'_> {
+    /// Whether more fragments follow.
+    pub fn has_more(&self) -> bool {
+        self.flags & 0x01 != 0
+    }
+
+    /// Whether it is that of the first fragment.
+    pub fn is_first(&self) -> bool {
+        self.flags & 0x02 != 0
+    }
+}
+
+/// What stands of a payload, and why it isn't a packet.
+#[derive(Clone, Copy, Debug, PartialEq, Eq, Hash)]
+pub struct Front<'a> {
+    /// What stands; `None` where the header isn't there whole: the fourteen bytes of a fragment, ten of any other payload.
+    pub header: Option<Header<'a>>,
+    /// The fault with which [`read`] refuses the payload; `None` of a packet that stands whole.
+    pub fault: Option<Error>,
+}
+
+/// Reads what stands at the front of a payload of port 138: the header and, of a fragment, the names that are there whole, inside
+/// the bytes that DGM_LENGTH counts, of which some may be missing (our choice). No memory is taken.
+///
+/// ```
+/// use nbt::datagram::{read, read_front, Datagram, Kind};
+///
+/// let datagram = Datagram {
+///     kind: Kind::Group,
+///     identifier: 10,
+///     sender: "10.0.0.5:138".parse()?,
+///     source: "JOE<00>",
+///     destination: "FRED<20>",
+///     data: b"hello, FRED",
+/// };
+/// let whole = datagram.cut(512)?;
+/// for payload in &whole {
+///     let front = read_front(&payload[..60]);
+///     let header = front.header.ok_or("a header")?;
+///     assert_eq!(header.sender, datagram.sender);
+///     assert_eq!(header.source.map(|it| it.to_string()), Some("JOE<00>".into()));
+///     assert_eq!(header.destination, None);
+///     assert_eq!(front.fault, read(&payload[..60]).err());
+/// }
+/// # Ok::<(), Box<dyn std::error::Error>>(())
+/// ```
+pub fn read_front(payload: &[u8]) -> Front<'_> {
+    let (mut found, mut at) = (FoundFront::default(), 0);
+    // SAFETY: the payload is a slice, and what is written lies apart from it.
+    let status =
+        unsafe { nbt_datagram_front(payload.as_ptr(), payload.len(), &mut found, &mut at) };
+    Front {
+        header: (status == DONE).then(|| header_of(payload, &found)),
+        fault: read(payload).err(),
+    }
+}
+
+/// The header that was found in this payload.
+fn header_of<'a>(payload: &'a [u8], found: &FoundFront) -> Header<'a> {
+    let name = |start: usize, length: usize| {
+        (length > 0).then(|| Spelling(&payload[start..start + length]))
+    };
+    Header {
+        message_type: found.kind,
+        flags: found.flags,
+        identifier: found.identifier,
+        sender: SocketAddrV4::new(Ipv4Addr::from(found.address), found.port),
+        offset: found.offset,
+        source: name(found.source, found.source_length),
+        destination: name(found.destination, found.destination_length),
+    }
+}

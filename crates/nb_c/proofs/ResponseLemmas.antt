@@ -1,0 +1,100 @@
+-- Of a response that is asked for one thing is answered.
+use Rattle.std.proofs.Common.{◌≡◌, ℕ, List, length, Result, Ok, Err, ⊤, refl, ap, subst, arith}
+use Rattle.nb_names.specs.declared.fault.NameFault.{NameFault}
+use Rattle.nb_names.specs.declared.fault.NameFault.TheVariants as names
+use Rattle.nb_names.specs.declared.pointers.Pointers.TheVariants.{Refused}
+use Rattle.nb_names.specs.declared.text_fault.TextFault.{TextFault}
+use Rattle.nb_names.specs.declared.text_fault.TextFault.TheVariants as texts
+use Rattle.nb_names.specs.Labels.{NameAt}
+use Rattle.nb_names.specs.NameFaults.{FaultAt as NameFaultAt}
+use Rattle.nb_service.specs.Record.{ResourceData}
+use Rattle.nb_c.proofs.NameLemmas.{TextLaws}
+use Rattle.nb_c.specs.declared.refusal.Refusal.{Refusal}
+use Rattle.nb_c.specs.declared.refusal.Refusal.TheVariants.{Memory, Fault, FaultAt}
+use Rattle.nb_c.specs.declared.responses.Answered.{Answered}
+use Rattle.nb_c.specs.declared.statuses.TheConstants.{NAME_TRAILING_BYTES}
+use Rattle.nb_c.specs.Outputs.{HasOne, OrMemory}
+use Rattle.nb_c.specs.Responses.{IsDomain, whole, no_name, bytes_trail, IsRdata, plain, too_long, domain, domain_data, Responds, no_name_text, named, response_answer}
+use Rattle.nb_c.specs.Statuses.{name_refusal, text_refusal}
+
+-- a spelling has one domain name or one fault
+pub record DomainLaws (bytes : List ℕ) : Type 0 where
+  pub one : (a b : List (List ℕ)) (next other : ℕ) → NameAt bytes Refused 0 a next → NameAt bytes Refused 0 b other
+      → (a ≡ b) × (next ≡ other)
+  pub one_fault : (a b : NameFault) → NameFaultAt bytes Refused 0 a → NameFaultAt bytes Refused 0 b → a ≡ b
+  pub apart : (fault : NameFault) (labels : List (List ℕ)) (next : ℕ) → NameFaultAt bytes Refused 0 fault → ¬ NameAt bytes Refused 0 labels next
+
+module _ (bytes : List ℕ) (laws : DomainLaws bytes) where
+  one_domain : (a b : Result (List (List ℕ)) Refusal) → IsDomain bytes a → IsDomain bytes b → a ≡ b
+  one_domain a b (whole l there) (whole m also) = ap (λ (x : List (List ℕ)). Ok x) (laws.one l m (length bytes) (length bytes) there also).0
+  one_domain a b (whole l there) (no_name f fails) = absurd (laws.apart f l (length bytes) fails there)
+  one_domain a b (whole l there) (bytes_trail m next also more) = absurd (omega (arith, more, (laws.one l m (length bytes) next there also).1))
+  one_domain a b (no_name f fails) (whole l there) = absurd (laws.apart f l (length bytes) fails there)
+  one_domain a b (no_name f fails) (no_name g fail) = ap (λ (x : NameFault). Err (name_refusal x)) (laws.one_fault f g fails fail)
+  one_domain a b (no_name f fails) (bytes_trail m next also more) = absurd (laws.apart f m next fails also)
+  one_domain a b (bytes_trail m next also more) (whole l there) = absurd (omega (arith, more, (laws.one l m (length bytes) next there also).1))
+  one_domain a b (bytes_trail m next also more) (no_name f fails) = absurd (laws.apart f m next fails also)
+  one_domain a b (bytes_trail l next there more) (bytes_trail m other also past) =
+      ap (λ (n : ℕ). Err (FaultAt NAME_TRAILING_BYTES n)) (laws.one l m next other there also).1
+
+  one_rdata : (kind : ℕ) (a b : Result ResourceData Refusal) → IsRdata kind bytes a → IsRdata kind bytes b → a ≡ b
+  one_rdata kind a b (plain not short) (plain never fits) = refl
+  one_rdata kind a b (plain not short) (too_long never long) = absurd (omega (arith, short, long))
+  one_rdata kind a b (plain not short) (domain read is there) = absurd (not is)
+  one_rdata kind a b (too_long not long) (plain never short) = absurd (omega (arith, short, long))
+  one_rdata kind a b (too_long not long) (too_long never more) = refl
+  one_rdata kind a b (too_long not long) (domain read is there) = absurd (not is)
+  one_rdata kind a b (domain read is there) (plain not short) = absurd (not is)
+  one_rdata kind a b (domain read is there) (too_long not long) = absurd (not is)
+  one_rdata kind a b (domain read is there) (domain other was also) = ap domain_data (one_domain read other there also)
+
+  pub one_response : (answered : Answered) (text : List ℕ) → TextLaws text → HasOne (Responds answered text bytes)
+  one_response answered text words a b (no_name_text f fails) (no_name_text g fail) =
+      ap (λ (x : TextFault). Err (text_refusal x)) (words.one_fault f g fails fail)
+  one_response answered text words a b (no_name_text f fails) (named name rdata is there) = absurd (words.apart name f is fails)
+  one_response answered text words a b (named name rdata is there) (no_name_text f fails) = absurd (words.apart name f is fails)
+  one_response answered text words a b (named name rdata is there) (named other found was also) =
+      cc (words.one name other is was, one_rdata answered.kind rdata found there also)
+
+-- why a text is of no name is said at once
+pub text_said : (late : ℕ → Bool) (Says : Result (List ℕ) Refusal → Type 0) (fault : TextFault) → Says (Err (text_refusal fault))
+    → OrMemory late Says (Err (text_refusal fault))
+text_said late Says (texts.BadText place) said = said
+text_said late Says texts.TooLong said = said
+
+-- RDATA is refused for what it is, and not for want of memory
+IsJudged : Result ResourceData Refusal → Type 0
+IsJudged (Ok rdata) = ⊤
+IsJudged (Err Memory) = ⊥
+IsJudged (Err (Fault status)) = ⊤
+IsJudged (Err (FaultAt status place)) = ⊤
+
+name_judged : (fault : NameFault) → IsJudged (Err (name_refusal fault))
+unfolding IsJudged
+name_judged (names.Truncated place) = tt
+name_judged (names.ReservedLabel place) = tt
+name_judged (names.PointerNotAllowed place) = tt
+name_judged (names.BadPointer place) = tt
+name_judged (names.TooLong place) = tt
+name_judged (names.NotNetbios place) = tt
+
+domain_judged : (bytes : List ℕ) (read : Result (List (List ℕ)) Refusal) → IsDomain bytes read → IsJudged (domain_data read)
+unfolding IsJudged
+domain_judged bytes read (whole labels there) = tt
+domain_judged bytes read (no_name fault fails) = name_judged fault
+domain_judged bytes read (bytes_trail labels next there more) = tt
+
+rdata_judged : (kind : ℕ) (bytes : List ℕ) (rdata : Result ResourceData Refusal) → IsRdata kind bytes rdata → IsJudged rdata
+unfolding IsJudged
+rdata_judged kind bytes rdata (plain not short) = tt
+rdata_judged kind bytes rdata (too_long not long) = tt
+rdata_judged kind bytes rdata (domain read is there) = domain_judged bytes read there
+
+pub rdata_refused : (late : ℕ → Bool) (kind : ℕ) (bytes : List ℕ) (refusal : Refusal) → IsRdata kind bytes (Err refusal)
+    → OrMemory late (λ (answer : Result (List ℕ) Refusal). answer ≡ Err refusal) (Err refusal)
+rdata_refused late kind bytes refusal is = told refusal (rdata_judged kind bytes (Err refusal) is) where
+  told : (refusal : Refusal) → IsJudged (Err refusal) → OrMemory late (λ (answer : Result (List ℕ) Refusal). answer ≡ Err refusal) (Err refusal)
+  unfolding IsJudged
+  told Memory judged = absurd judged
+  told (Fault status) judged = refl
+  told (FaultAt status place) judged = refl

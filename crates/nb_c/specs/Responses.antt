@@ -1,0 +1,60 @@
+-- What the call that writes responses of port 137 answers: packets with one answer, of class IN, and nothing else (RFC 1002
+-- sections 4.2.5 to 4.2.18, all but 4.2.8 and 4.2.15). RDATA of type NS is a domain name (section 4.2.1.3), here without
+-- pointers; places count from the front of its bytes.
+use Rattle.std.specs.Prelude.{◌≡◌, ◌≢◌, ◌<◌, ◌≤◌, ℕ, List, length, Result, Ok, Err}
+use Rattle.nb_names.specs.declared.fault.NameFault.{NameFault}
+use Rattle.nb_names.specs.declared.pointers.Pointers.TheVariants.{Refused}
+use Rattle.nb_names.specs.declared.text_fault.TextFault.{TextFault}
+use Rattle.nb_names.specs.Labels.{NameAt}
+use Rattle.nb_names.specs.Name.{NetbiosName, labels_of_name}
+use Rattle.nb_names.specs.NameFaults.{FaultAt as NameFaultAt}
+use Rattle.nb_names.specs.NameText.{IsText, IsFaultOf}
+use Rattle.nb_service.specs.declared.classes.TheConstants.{IN}
+use Rattle.nb_service.specs.declared.kinds.TheConstants.{NS}
+use Rattle.nb_service.specs.declared.limits.TheConstants.{MAX_RDATA}
+use Rattle.nb_service.specs.Encoding.{packet_bytes}
+use Rattle.nb_service.specs.Record.{ResourceData, ResourceRecord, of_bytes, of_domain, record_of}
+use Rattle.nb_service.specs.Responses.{one_answer}
+use Rattle.nb_c.specs.declared.refusal.Refusal.{Refusal}
+use Rattle.nb_c.specs.declared.refusal.Refusal.TheVariants.{Fault, FaultAt}
+use Rattle.nb_c.specs.declared.responses.Answered.{Answered}
+use Rattle.nb_c.specs.declared.statuses.TheConstants.{LONG_DATA, NAME_TRAILING_BYTES}
+use Rattle.nb_c.specs.Statuses.{text_refusal, name_refusal}
+
+-- IsDomain bytes read: the bytes are the spelling of a domain name with these labels, or why they aren't: no name can be
+-- read, or bytes follow it
+pub data IsDomain (bytes : List ℕ) : Result (List (List ℕ)) Refusal → Type 0 where
+  whole : (labels : List (List ℕ)) → NameAt bytes Refused 0 labels (length bytes) → IsDomain bytes (Ok labels)
+  no_name : (fault : NameFault) → NameFaultAt bytes Refused 0 fault → IsDomain bytes (Err (name_refusal fault))
+  bytes_trail : (labels : List (List ℕ)) (next : ℕ) → NameAt bytes Refused 0 labels next → next < length bytes
+      → IsDomain bytes (Err (FaultAt NAME_TRAILING_BYTES next))
+
+-- the RDATA of type NS, where the name is read so
+abbrev pub domain_data : Result (List (List ℕ)) Refusal → Result ResourceData Refusal
+domain_data (Ok labels) = Ok (of_domain labels)
+domain_data (Err refusal) = Err refusal
+
+-- IsRdata type bytes rdata: the bytes are this RDATA of the type, or why they are none
+pub data IsRdata (type : ℕ) (bytes : List ℕ) : Result ResourceData Refusal → Type 0 where
+  plain : type ≢ NS → length bytes ≤ MAX_RDATA → IsRdata type bytes (Ok (of_bytes bytes))
+  too_long : type ≢ NS → MAX_RDATA < length bytes → IsRdata type bytes (Err (Fault LONG_DATA))
+  domain : (read : Result (List (List ℕ)) Refusal) → type ≡ NS → IsDomain bytes read → IsRdata type bytes (domain_data read)
+
+-- answer_of answered name rdata: the answer about a name with this RDATA
+abbrev pub answer_of : Answered → NetbiosName → ResourceData → ResourceRecord
+answer_of answered name = record_of (labels_of_name name) answered.kind IN answered.time_to_live
+
+-- response_of answered entry: the bytes of the response with this answer
+abbrev pub response_of : Answered → ResourceRecord → List ℕ
+response_of answered entry = packet_bytes (one_answer answered.identifier answered.word entry)
+
+-- response_answer answered name rdata: what is answered about a name, where RDATA is read so
+abbrev pub response_answer : Answered → NetbiosName → Result ResourceData Refusal → Result (List ℕ) Refusal
+response_answer answered name (Ok rdata) = Ok (response_of answered (answer_of answered name rdata))
+response_answer answered name (Err refusal) = Err refusal
+
+-- Responds answered text bytes answer: this is answered where the name has this text, and RDATA these bytes
+pub data Responds (answered : Answered) (text bytes : List ℕ) : Result (List ℕ) Refusal → Type 0 where
+  no_name_text : (fault : TextFault) → IsFaultOf text fault → Responds answered text bytes (Err (text_refusal fault))
+  named : (name : NetbiosName) (rdata : Result ResourceData Refusal) → IsText name text → IsRdata answered.kind bytes rdata
+      → Responds answered text bytes (response_answer answered name rdata)

@@ -6,7 +6,7 @@ lies in the folder above it, if `make targets` made it.
 
 100,000 payloads of an office's stations, the same in each run; the rows of port 137 have 100,000 of it alone. Instructions, those of
 a payload, are counted by valgrind's callgrind where it is installed: those of a run less those of one that reads the same and calls
-nothing. Seconds are of processor time, the least of five runs; of Python beside dpkt and samba one run, in turns. Status 1 where a
+once less. Seconds are of processor time, the least of five runs; of Python beside dpkt and samba one run, in turns. Status 1 where a
 bar is missed by more than a twentieth.
 """
 import os

@@ -15,10 +15,11 @@ MOST_OF_OBJECTS, MOST_OF_ITEMS, MOST_OF_DPKT, MOST_OF_ABSORB = 2.0, 1.3, 1.5, 1.
 KEYS = 60_000
 
 
-def a_payload(command, path, count, rounds=('1', '0')):
-    """The instructions of a call, for each payload: those of a run less those of one that makes none."""
-    made, nothing = (instructions([*command[:1], each, *command[1:]], path) for each in rounds)
-    return made and (made - nothing) // count
+def a_payload(command, path, count):
+    """The instructions of a call, for each payload: those of a run of two rounds less those of one round, since a run of none ends in
+    another way."""
+    twice, once = (instructions([*command[:1], rounds, *command[1:]], path) for rounds in '21')
+    return twice and (twice - once) // count
 
 
 def objects(folder, library, path, count):

@@ -103,10 +103,12 @@ static void reads_items(void) {
 
 static void reads_others(void) {
     struct nbt_datagram datagram;
+    struct nbt_datagram_front front;
     struct nbt_session session;
     struct nbt_session_names names;
     struct nbt_session_retarget retarget;
     nbt_datagram_read(payload, payload_length, &datagram, &at);
+    nbt_datagram_front(payload, payload_length, &front, &at);
     if (nbt_session_read(payload, payload_length, &session, &at) == NBT_DONE)
         nbt_session_write(session.type, payload + session.body, session.body_length, text, sizeof text, &used, &at);
     nbt_session_names(payload, payload_length, &names, &at);
@@ -125,6 +127,7 @@ static void writes(void) {
     size_t length = sizeof longest_text - 1;
     nbt_name_spell(name, length, text, sizeof text, &used, &at);
     nbt_service_request(NBT_REGISTRATION, 1, true, name, length, 1, 1, 1, text, sizeof text, &used, &at);
+    nbt_service_response(1, 0x8000, name, length, 2, 1, (const uint8_t *)"\7NETBIOS\3COM", 13, text, sizeof text, &used, &at);
     nbt_datagram_write(0x10, 1, 1, 138, name, length, name, length, text, 65000, 1000, text + 65536, sizeof text - 65536, &used, &at);
     nbt_datagram_query(0x14, 1, 1, 138, name, length, text, sizeof text, &used, &at);
     nbt_datagram_error(1, 1, 138, 0x82, text, sizeof text, &used);

@@ -33,6 +33,7 @@ TELLS(brief)
 READS(service_header)
 READS(service_read)
 READS(datagram_read)
+READS(datagram_front)
 READS(session_read)
 READS(session_names)
 READS(session_retarget)
@@ -78,6 +79,12 @@ static uint32_t session_write(const struct asked *asked, uint8_t *into, size_t l
 static uint32_t service_request(const struct asked *asked, uint8_t *into, size_t length, size_t *used, size_t *at) {
     return nbt_service_request((uint32_t)asked->number, UINT16_MAX, true, asked->first.at, asked->first.length, UINT32_MAX, UINT16_MAX,
                                UINT32_MAX, into, length, used, at);
+}
+
+/* Its name is the text, and its RDATA what is second. */
+static uint32_t service_response(const struct asked *asked, uint8_t *into, size_t length, size_t *used, size_t *at) {
+    return nbt_service_response(UINT16_MAX, UINT16_MAX, asked->first.at, asked->first.length, (uint16_t)asked->number, UINT32_MAX,
+                                asked->second.at, asked->second.length, into, length, used, at);
 }
 
 /* Its names are the texts, and `place` bytes of zero its data, in pieces of as many as `other` says. */
@@ -166,6 +173,7 @@ static void of_137(struct bytes payload) {
 
 static void of_138(struct bytes payload) {
     FILL_IN(datagram_read, nbt_datagram, .first = payload);
+    FILL_IN(datagram_front, nbt_datagram_front, .first = payload);
     told(payload);
 }
 
@@ -183,13 +191,20 @@ static void body(struct bytes bytes) {
         WRITE(session_write, .first = bytes, .number = types[i]);
 }
 
-static void spelling(struct bytes bytes) { WRITE(name_text, .first = bytes); }
+static void spelling(struct bytes bytes) {
+    static const uint16_t types[] = {0, 2, 0x20, 0x21, UINT16_MAX};
+    size_t i;
+    WRITE(name_text, .first = bytes);
+    for (i = 0; i < COUNT(types); i++)
+        WRITE(service_response, .first = BYTES("FRED<20>"), .second = bytes, .number = types[i]);
+}
 
 static void text(struct bytes bytes) {
     static const uint32_t requests[] = {NBT_QUERY, NBT_NODE_STATUS, NBT_REGISTRATION, NBT_REFRESH, NBT_RELEASE, 5, UINT32_MAX};
     static const uint8_t types[] = {0x00, 0x13, 0x14, 0x15, 0x16, 0x17, 0xff};
     size_t i;
     WRITE(name_spell, .first = bytes);
+    WRITE(service_response, .first = bytes, .second = bytes, .number = 0x20);
     for (i = 0; i < COUNT(requests); i++)
         WRITE(service_request, .first = bytes, .number = requests[i]);
     for (i = 0; i < COUNT(types); i++)
@@ -255,6 +270,9 @@ static void limits(void) {
     WRITE(datagram_write, .first = BYTES("JOE<00>"), .second = BYTES("JOE<00>"), .number = 0x10, .place = 1);
     WRITE(session_write, .first = {zeros, sizeof zeros - 1});
     WRITE(session_write, .first = {zeros, sizeof zeros});
+    WRITE(service_response, .first = BYTES("FRED<20>"), .second = {zeros, 65535}, .number = 0x20);
+    WRITE(service_response, .first = BYTES("FRED<20>"), .second = {zeros, 65536}, .number = 0x20);
+    WRITE(service_response, .first = BYTES("FRED<20>"), .second = {zeros, 65536}, .number = 2);
 }
 
 int main(void) {

@@ -1,9 +1,8 @@
 //! A reader of port 137 in plain Rust, on std alone: judges a packet and lists where its questions and records stand, and then
 //! reads each. Usage: service ROUNDS <CAPTURE. Prints what tests/lib/service_loop.c does: the sum of what was read, and the
-//! nanoseconds that it took.
+//! nanoseconds of processor time that it took.
 
 use std::io::{self, BufRead};
-use std::time::Instant;
 
 const HEADER: usize = 12;
 const LONGEST_SPELLING: usize = 255;
@@ -177,17 +176,36 @@ fn bytes_of(digits: &str) -> Vec<u8> {
     (0..digits.len()).step_by(2).map(pair).collect()
 }
 
+#[repr(C)]
+struct Time {
+    seconds: i64,
+    nanoseconds: i64,
+}
+
+extern "C" {
+    fn clock_gettime(clock: i32, time: *mut Time) -> i32;
+}
+
+const PROCESSOR_TIME_OF_PROCESS: i32 = 2;
+
+/// The processor time of this process, in nanoseconds. The clock fills in the structure of C that it is given.
+fn processor_time() -> i64 {
+    let mut time = Time { seconds: 0, nanoseconds: 0 };
+    unsafe { clock_gettime(PROCESSOR_TIME_OF_PROCESS, &mut time) };
+    time.seconds * 1_000_000_000 + time.nanoseconds
+}
+
 fn main() {
     let rounds: usize = std::env::args().nth(1).map_or(1, |word| word.parse().expect("a number"));
     let lines = io::stdin().lock().lines().map(|line| line.expect("a line"));
     let payloads: Vec<Vec<u8>> = lines.map(|line| bytes_of(line.rsplit(' ').next().unwrap_or(""))).collect();
     let mut entries = Vec::new();
-    let began = Instant::now();
+    let began = processor_time();
     let mut sum = 0;
     for _ in 0..rounds {
         for payload in &payloads {
             sum += sum_of_packet(payload, &mut entries);
         }
     }
-    println!("{sum} {}", began.elapsed().as_nanos());
+    println!("{sum} {}", processor_time() - began);
 }

@@ -36,8 +36,8 @@ check:
 test:
 	tests/all.sh
 
-# Build the program, and print what its commands cost: instructions, packets a second, memory; what nbt-look costs; and, where the
-# library and the page are made, what they cost.
+# Build the program, and print what its commands cost, beside bars: instructions, packets a second, memory; what nbt-look costs; and,
+# where the library and the page are made, what they cost.
 bench: build
 	tests/bench.py
 	tests/bench_look.py

@@ -10,7 +10,7 @@ from bench_rows import Row, call_seconds, compiled, least, printed, ratio, reque
 
 LIB = os.path.dirname(os.path.abspath(__file__))
 TOP = os.path.join(LIB, '..', '..')
-INCLUDE, PLAIN = os.path.join(TOP, 'include'), os.path.join(TOP, 'tests', 'plain', 'service.rs')
+INCLUDE, PLAIN = os.path.join(TOP, 'include'), os.path.join(TOP, 'tests', 'plain', 'service_reader.rs')
 MOST_OF_OBJECTS, MOST_OF_ITEMS, MOST_OF_DPKT, MOST_OF_ABSORB = 2.0, 1.3, 1.5, 1.0
 KEYS = 60_000
 

@@ -1,6 +1,6 @@
 /* What reading a packet of port 137 costs: reads a capture, and then has the library read each payload of it, ROUNDS times, with
  * all its questions and records and the parts of RDATA. Usage: service_loop ROUNDS <CAPTURE. Prints the sum of what was read, as
- * tests/plain/service.rs does, and the nanoseconds of processor time of the calls. */
+ * tests/plain/service_reader.rs does, and the nanoseconds of processor time of the calls. */
 #define _GNU_SOURCE
 #include "payloads.h"
 #include <nbt.h>

@@ -1,211 +1,235 @@
-//! A reader of port 137 in plain Rust, on std alone: judges a packet and lists where its questions and records stand, and then
-//! reads each. Usage: service ROUNDS <CAPTURE. Prints what tests/lib/service_loop.c does: the sum of what was read, and the
-//! nanoseconds of processor time that it took.
+//! The packets of port 137.
 
-use std::io::{self, BufRead};
+use crate::names::{read_domain, NameFault};
+use crate::packets::two_bytes;
+use crate::report::Report;
 
 const HEADER: usize = 12;
-const LONGEST_SPELLING: usize = 255;
-const FIRST_OF_POINTER: usize = 192;
-const NS: u16 = 0x0002;
-const NB: u16 = 0x0020;
-const NBSTAT: u16 = 0x0021;
-const ENTRY: usize = 6;
-const NODE: usize = 18;
-const UNIT: usize = 6;
+const NAME_SERVER: u16 = 0x0002;
+const ADDRESSES: u16 = 0x0020;
+const STATUS: u16 = 0x0021;
+/// The sections of records, and where their counts stand.
+const RECORDS: [(&str, usize); 3] = [("answer", 6), ("authority", 8), ("additional", 10)];
+const COUNTS: [(&str, usize); 4] = [(" qd=", 4), (" an=", 6), (" ns=", 8), (" ar=", 10)];
+const FLAGS: [(u16, &str); 5] = [
+    (0x0400, "AA"),
+    (0x0200, "TC"),
+    (0x0100, "RD"),
+    (0x0080, "RA"),
+    (0x0010, "B"),
+];
+const NAME_FLAGS: [(u16, &str); 5] = [
+    (0x8000, "G"),
+    (0x1000, "DRG"),
+    (0x0800, "CNF"),
+    (0x0400, "ACT"),
+    (0x0200, "PRM"),
+];
+const RCODES: [&str; 8] = [
+    "ok", "FMT_ERR", "SRV_ERR", "NAM_ERR", "IMP_ERR", "RFS_ERR", "ACT_ERR", "CFT_ERR",
+];
 
-/// No packet stands there.
-struct Fault;
-
-fn number16(bytes: &[u8], at: usize) -> u16 {
-    u16::from_be_bytes([bytes[at], bytes[at + 1]])
+enum ServiceFault {
+    Truncated,
+    Name(NameFault),
+    NameRdata(usize),
 }
-
-fn number32(bytes: &[u8], at: usize) -> u32 {
-    u32::from_be_bytes([bytes[at], bytes[at + 1], bytes[at + 2], bytes[at + 3]])
-}
-
-// ---- names
-
-/// The place after the name at `from`, pointers followed.
-fn after_name(packet: &[u8], from: usize) -> Result<usize, Fault> {
-    let (mut start, mut at, mut spelled) = (from, from, 1);
-    let mut after = None;
-    loop {
-        let length = *packet.get(at).ok_or(Fault)? as usize;
-        match length {
-            0 => return Ok(after.unwrap_or(at + 1)),
-            1..=63 => {
-                spelled += 1 + length;
-                if at + length >= packet.len() || spelled > LONGEST_SPELLING {
-                    return Err(Fault);
-                }
-                at += 1 + length;
-            }
-            FIRST_OF_POINTER.. => {
-                let low = *packet.get(at + 1).ok_or(Fault)? as usize;
-                let target = (length - FIRST_OF_POINTER) << 8 | low;
-                if target >= start {
-                    return Err(Fault);
-                }
-                after.get_or_insert(at + 2);
-                (start, at) = (target, target);
-            }
-            _ => return Err(Fault),
-        }
-    }
-}
-
-/// The labels of a name that was judged.
-fn labels(packet: &[u8], mut at: usize) -> impl Iterator<Item = &[u8]> {
-    std::iter::from_fn(move || {
-        let mut length = packet[at] as usize;
-        while length >= FIRST_OF_POINTER {
-            at = (length - FIRST_OF_POINTER) << 8 | packet[at + 1] as usize;
-            length = packet[at] as usize;
-        }
-        let label = &packet[at + 1..at + 1 + length];
-        at += 1 + length;
-        (length > 0).then_some(label)
-    })
-}
-
-/// Whether a label is sixteen bytes in letters, as the first one of a NetBIOS name.
-fn is_letters(label: &[u8]) -> bool {
-    label.len() == 32 && label.iter().fold(0, |seen, letter| seen | letter.wrapping_sub(b'A')) < 16
-}
-
-// ---- packets
 
 /// Where a question or a record stands: its name, and the fields after it.
-struct Entry {
+pub struct Entry {
     name: usize,
     fields: usize,
 }
 
-/// Judges a packet, and lists its questions and records; the place after the last one.
-fn decode(packet: &[u8], entries: &mut Vec<Entry>) -> Result<usize, Fault> {
-    let need = |end: usize| if packet.len() < end { Err(Fault) } else { Ok(()) };
-    need(HEADER)?;
-    entries.clear();
-    let mut at = HEADER;
-    for _ in 0..number16(packet, 4) {
-        let fields = after_name(packet, at)?;
-        need(fields + 4)?;
-        entries.push(Entry { name: at, fields });
-        at = fields + 4;
+/// A packet, and what was found in it.
+struct Service<'a> {
+    packet: &'a [u8],
+    entries: &'a mut Vec<Entry>,
+}
+
+impl Service<'_> {
+    fn count(&self, at: usize) -> usize {
+        two_bytes(self.packet, at) as usize
     }
-    for count in [number16(packet, 6), number16(packet, 8), number16(packet, 10)] {
-        for _ in 0..count {
-            let fields = after_name(packet, at)?;
-            need(fields + 10)?;
-            let end = fields + 10 + number16(packet, fields + 8) as usize;
-            need(end)?;
-            if number16(packet, fields) == NS && after_name(packet, fields + 10)? != end {
-                return Err(Fault);
+
+    fn need(&self, end: usize) -> Result<usize, ServiceFault> {
+        if end <= self.packet.len() {
+            Ok(end)
+        } else {
+            Err(ServiceFault::Truncated)
+        }
+    }
+
+    fn domain(&self, at: usize) -> Result<usize, ServiceFault> {
+        read_domain(self.packet, at).map_err(ServiceFault::Name)
+    }
+
+    fn question(&mut self, name: usize) -> Result<usize, ServiceFault> {
+        let fields = self.domain(name)?;
+        self.entries.push(Entry { name, fields });
+        self.need(fields + 4)
+    }
+
+    fn record(&mut self, name: usize) -> Result<usize, ServiceFault> {
+        let fields = self.domain(name)?;
+        let rdata = self.need(fields + 10)?;
+        let end = self.need(rdata + self.count(fields + 8))?;
+        if two_bytes(self.packet, fields) == NAME_SERVER && self.domain(rdata)? != end {
+            return Err(ServiceFault::NameRdata(rdata));
+        }
+        self.entries.push(Entry { name, fields });
+        Ok(end)
+    }
+
+    /// Judges all of the packet, and gives the offset after the last record.
+    fn read(&mut self) -> Result<usize, ServiceFault> {
+        self.entries.clear();
+        let mut at = self.need(HEADER)?;
+        for _ in 0..self.count(4) {
+            at = self.question(at)?;
+        }
+        for (_, place) in RECORDS {
+            for _ in 0..self.count(place) {
+                at = self.record(at)?;
             }
-            entries.push(Entry { name: at, fields });
-            at = end;
+        }
+        Ok(at)
+    }
+
+    fn show_header(&self, used: usize, report: &mut Report) {
+        let word = two_bytes(self.packet, 2);
+        report.words("id=");
+        report.digits(&self.packet[..2]);
+        report.words(" word=");
+        report.digits(&self.packet[2..4]);
+        report.words(" op=");
+        match word >> 11 & 15 {
+            0 => report.words("query"),
+            5 => report.words("registration"),
+            6 => report.words("release"),
+            7 => report.words("wack"),
+            8 | 9 => report.words("refresh"),
+            other => report.number(other as u64),
+        }
+        report.words(" flags=");
+        report.set(word, &FLAGS);
+        report.words(" rcode=");
+        match RCODES.get(word as usize & 15) {
+            Some(words) => report.words(words),
+            None => report.number(word as u64 & 15),
+        }
+        for (title, place) in COUNTS {
+            report.words(title);
+            report.number(self.count(place) as u64);
+        }
+        report.words(" used=");
+        report.number(used as u64);
+    }
+
+    fn show(&self, used: usize, report: &mut Report) {
+        self.show_header(used, report);
+        let (questions, mut records) = self.entries.split_at(self.count(4));
+        for entry in questions {
+            self.show_entry("question", entry, report);
+        }
+        for (title, place) in RECORDS {
+            let (section, rest) = records.split_at(self.count(place));
+            for entry in section {
+                self.show_entry(title, entry, report);
+                self.show_record(entry, report);
+            }
+            records = rest;
         }
     }
-    Ok(at)
-}
 
-/// The sum of a packet's values, or 0 where there is none.
-fn sum_of_packet(packet: &[u8], entries: &mut Vec<Entry>) -> u64 {
-    let Ok(used) = decode(packet, entries) else { return 0 };
-    let mut sum = number16(packet, 0) as u64 + number16(packet, 2) as u64 + used as u64;
-    let (questions, mut records) = entries.split_at(number16(packet, 4) as usize);
-    for question in questions {
-        sum += sum_of_name(packet, question) + (question.fields + 4) as u64;
+    fn show_entry(&self, title: &str, entry: &Entry, report: &mut Report) {
+        report.words("\n  ");
+        report.words(title);
+        report.words(" ");
+        report.domain(self.packet, entry.name);
+        report.words(" type=");
+        report.digits(&self.packet[entry.fields..][..2]);
+        report.words(" class=");
+        report.digits(&self.packet[entry.fields + 2..][..2]);
     }
-    for section in 1..4 {
-        let (these, rest) = records.split_at(number16(packet, 4 + 2 * section) as usize);
-        for record in these {
-            sum += section as u64 + sum_of_name(packet, record) + sum_of_record(packet, record.fields);
+
+    fn show_record(&self, entry: &Entry, report: &mut Report) {
+        let fields = &self.packet[entry.fields..];
+        let seconds = (two_bytes(fields, 4) as u64) << 16 | two_bytes(fields, 6) as u64;
+        let rdata = &fields[10..][..two_bytes(fields, 8) as usize];
+        let kind = two_bytes(fields, 0);
+        report.words(" ttl=");
+        report.number(seconds);
+        if kind == NAME_SERVER {
+            report.words(" domain=");
+            return report.domain(self.packet, entry.fields + 10);
         }
-        records = rest;
-    }
-    sum
-}
-
-/// The sum of what a question and a record have alike.
-fn sum_of_name(packet: &[u8], entry: &Entry) -> u64 {
-    let mut spelled = 1;
-    let (mut netbios, mut first) = (false, 0);
-    for label in labels(packet, entry.name) {
-        if spelled == 1 {
-            (netbios, first) = (is_letters(label), label[0]);
+        report.words(" data=");
+        report.data(rdata);
+        match kind {
+            ADDRESSES if rdata.len() % 6 == 0 => show_addresses(rdata, report),
+            STATUS => show_status(rdata, report),
+            _ => {}
         }
-        spelled += 1 + label.len();
     }
-    let kind_and_class = number16(packet, entry.fields) as u64 + number16(packet, entry.fields + 2) as u64;
-    spelled as u64 + netbios as u64 + first as u64 + kind_and_class
 }
 
-fn sum_of_record(packet: &[u8], fields: usize) -> u64 {
-    let place = fields + 10;
-    let rdata = &packet[place..][..number16(packet, fields + 8) as usize];
-    let parts = match number16(packet, fields) {
-        NB => sum_of_addresses(rdata),
-        NBSTAT => sum_of_nodes(rdata),
-        _ => 0,
+fn show_addresses(rdata: &[u8], report: &mut Report) {
+    for entry in rdata.chunks_exact(6) {
+        report.words("\n    entry");
+        show_flags(&entry[..2], report);
+        report.words(" address=");
+        report.address(&entry[2..]);
+    }
+}
+
+fn show_flags(flags: &[u8], report: &mut Report) {
+    report.words(" flags=");
+    report.digits(flags);
+    report.words(" ont=");
+    report.number((flags[0] >> 5 & 3) as u64);
+}
+
+/// The names of a station, and its unit's address, if all of them are there.
+fn show_status(rdata: &[u8], report: &mut Report) {
+    let Some((&count, rest)) = rdata.split_first() else {
+        return;
     };
-    number32(packet, fields + 4) as u64 + place as u64 + rdata.len() as u64 + parts
-}
-
-fn sum_of_addresses(rdata: &[u8]) -> u64 {
-    if rdata.len() % ENTRY != 0 {
-        return 0;
+    let Some((names, statistics)) = rest.split_at_checked(18 * count as usize) else {
+        return;
+    };
+    for name in names.chunks_exact(18) {
+        report.words("\n    name ");
+        report.sixteen(&name[..16]);
+        show_flags(&name[16..], report);
+        report.words(" set=");
+        report.set(two_bytes(name, 16), &NAME_FLAGS);
     }
-    let entries = rdata.chunks_exact(ENTRY);
-    entries.map(|entry| number16(entry, 0) as u64 + number32(entry, 2) as u64).sum()
+    if let Some(unit) = statistics.get(..6) {
+        report.words("\n    unit=");
+        report.digits(unit);
+    }
 }
 
-fn sum_of_nodes(rdata: &[u8]) -> u64 {
-    let Some((count, rest)) = rdata.split_first() else { return 0 };
-    let Some((nodes, behind)) = rest.split_at_checked(NODE * *count as usize) else { return 0 };
-    let names = nodes.chunks_exact(NODE).map(|node| number16(node, 16) as u64 + node[0] as u64 + node[15] as u64);
-    names.sum::<u64>() + behind.get(UNIT - 1).map_or(0, |last| *last as u64)
-}
-
-// ---- captures
-
-fn bytes_of(digits: &str) -> Vec<u8> {
-    let pair = |at| u8::from_str_radix(&digits[at..at + 2], 16).expect("two digits");
-    (0..digits.len()).step_by(2).map(pair).collect()
-}
-
-#[repr(C)]
-struct Time {
-    seconds: i64,
-    nanoseconds: i64,
-}
-
-extern "C" {
-    fn clock_gettime(clock: i32, time: *mut Time) -> i32;
-}
-
-const PROCESSOR_TIME_OF_PROCESS: i32 = 2;
-
-/// The processor time of this process, in nanoseconds. The clock fills in the structure of C that it is given.
-fn processor_time() -> i64 {
-    let mut time = Time { seconds: 0, nanoseconds: 0 };
-    unsafe { clock_gettime(PROCESSOR_TIME_OF_PROCESS, &mut time) };
-    time.seconds * 1_000_000_000 + time.nanoseconds
-}
-
-fn main() {
-    let rounds: usize = std::env::args().nth(1).map_or(1, |word| word.parse().expect("a number"));
-    let lines = io::stdin().lock().lines().map(|line| line.expect("a line"));
-    let payloads: Vec<Vec<u8>> = lines.map(|line| bytes_of(line.rsplit(' ').next().unwrap_or(""))).collect();
-    let mut entries = Vec::new();
-    let began = processor_time();
-    let mut sum = 0;
-    for _ in 0..rounds {
-        for payload in &payloads {
-            sum += sum_of_packet(payload, &mut entries);
+pub fn show_service(packet: &[u8], entries: &mut Vec<Entry>, report: &mut Report) {
+    let mut service = Service { packet, entries };
+    let fault = match service.read() {
+        Ok(used) => return service.show(used, report),
+        Err(fault) => fault,
+    };
+    report.words("refused ");
+    match fault {
+        ServiceFault::Truncated => {
+            report.words("truncated ");
+            report.number(packet.len() as u64);
+        }
+        ServiceFault::Name(fault) => {
+            report.words("name: ");
+            report.name_fault(fault);
+        }
+        ServiceFault::NameRdata(place) => {
+            report.words("name rdata ");
+            report.number(place as u64);
         }
     }
-    println!("{sum} {}", processor_time() - began);
 }

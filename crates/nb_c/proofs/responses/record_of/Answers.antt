@@ -30,10 +30,10 @@ returns-in-Ok-domain_of c =
     (
       of_domain c.in-Ok-domain_of.domain,
       domain (Ok c.in-Ok-domain_of.domain) ns c.in-Ok-domain_of.ensures,
-      rw ns (c.ns.ensures ∙ ap (λ n. record_of n _ IN c.args.answered.time_to_live (of_domain c.in-Ok-domain_of.domain)) c.to_domain-in-Err-KindIsNs.ensures),
+      rw ns (c.ns.ensures ∙ ap (λ n. record_of n _ IN c.args.answered.time_to_live (of_domain c.in-Ok-domain_of.domain)) c.to_domain-in-Ok-domain_of.ensures),
     )
 
-pub returns-in-Err-domain_of : goal.returns-in-Err-domain_of
-returns-in-Err-domain_of c =
+pub returns-in-Err : goal.returns-in-Err
+returns-in-Err c =
     let ns = c.bytes.ensures.kind_is_ns.0 (c.in-Err-KindIsNs.is ∙ ap Err c.in-Err-KindIsNs.field-0-is) in
-    domain (Err c.in-Err-domain_of.refusal) ns c.in-Err-domain_of.ensures
+    domain (Err c.in-Err.refusal) ns c.in-Err.ensures

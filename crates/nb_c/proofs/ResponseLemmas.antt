@@ -1,5 +1,6 @@
 -- Of a response that is asked for one thing is answered.
-use Rattle.std.proofs.Common.{◌≡◌, ◌∙◌, ℕ, Bool, List, length, Result, Ok, Err, IfOk, ⊤, refl, ap, subst, arith}
+use Rattle.std.proofs.Common.{◌≡◌, ◌∙◌, ℕ, Bool, List, length, Result, Ok, Err, IfOk, refl, ap, subst, arith}
+use Rattle.std.specs.Prelude.{⊤}
 use Rattle.nb_names.specs.declared.fault.NameFault.{NameFault}
 use Rattle.nb_names.specs.declared.fault.NameFault.TheVariants as names
 use Rattle.nb_names.specs.declared.pointers.Pointers.TheVariants.{Refused}

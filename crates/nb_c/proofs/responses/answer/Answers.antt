@@ -2,7 +2,7 @@ use Rattle.nb_c.proofs.AnswerLemmas.{or_said}
 use Rattle.nb_c.proofs.NameLemmas.{TextLaws}
 use Rattle.nb_c.proofs.ResponseLemmas.{DomainLaws, one_response, text_said}
 use Rattle.nb_c.specs.Outputs.{none_late}
-use Rattle.nb_c.specs.Responses.{no_name_text, named}
+use Rattle.nb_c.specs.Responses.{Responds, no_name_text, named}
 use Rattle.nb_c.proofs.responses.answer.Goals as goal
 
 pub returns-in-Ok-clause-answer : goal.returns-in-Ok-clause-answer
@@ -19,7 +19,7 @@ returns-in-Ok-clause-one c =
     one_response _ domains c.args.answered _ laws
 
 pub returns-in-Err-clause-answer : goal.returns-in-Err-clause-answer
-returns-in-Err-clause-answer c = rw c.text_refusal.ensures (text_said none_late _ _ (no_name_text _ c.in-Err.ensures))
+returns-in-Err-clause-answer c = rw c.text_refusal.ensures (text_said none_late (Responds c.args.answered c.args.text.now c.args.contents.now) c.in-Err.fault (no_name_text c.in-Err.fault c.in-Err.ensures))
 
 pub returns-in-Err-clause-one : goal.returns-in-Err-clause-one
 returns-in-Err-clause-one c =

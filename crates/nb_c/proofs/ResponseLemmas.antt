@@ -103,9 +103,12 @@ module _ (answered : Answered) (name : NetbiosName) (bytes : List ℕ) where
       → IsRdata answered.kind bytes (Ok rdata) → entry ≡ answer_of answered name rdata
       → IfOk told (λ (found : List ℕ). found ≡ response_of answered entry) → Told (of_memory told)
   response_written rdata entry told is made written =
-      let expected : List ℕ = response_of answered (answer_of answered name rdata) in
-      (Ok rdata, is, bytes_said none_late (λ (other : Result (List ℕ) Refusal). other ≡ Ok expected) expected told (has_one_value (Ok expected)) refl
-          (subst (λ (e : ResourceRecord). IfOk told (λ (found : List ℕ). found ≡ response_of answered e)) made written))
+      let expected : List ℕ = response_of answered (answer_of answered name rdata) in (
+        Ok rdata,
+        is,
+        bytes_said none_late (λ (other : Result (List ℕ) Refusal). other ≡ Ok expected) expected told (has_one_value (Ok expected)) refl
+            (subst (λ (e : ResourceRecord). IfOk told (λ (found : List ℕ). found ≡ response_of answered e)) made written),
+      )
 
   pub response_refused : (refusal : Refusal) → IsRdata answered.kind bytes (Err refusal) → Told (Err refusal)
   response_refused refusal is = (Err refusal, is, said refusal (rdata_judged answered.kind bytes (Err refusal) is)) where

@@ -12,12 +12,11 @@ returns-in-Ok c =
     let short : length c.args.contents.now ≤ 65535 = elim (cases_lt 65535 (length c.args.contents.now)) [
       | inl far ↦ let clash = sym c.in-Ok.is ∙ c.bytes.ensures.too_long.1 (other, far) in absurd (cc (clash))
       | inr short ↦ short
-    ] in
-    (
+    ] in (
       of_bytes c.args.contents.now,
       plain other short,
       c.in-Ok.ensures.value
-      ∙ ap (λ n. record_of n c.args.answered.kind IN c.args.answered.time_to_live (of_bytes c.args.contents.now)) c.to_domain.ensures,
+          ∙ ap (λ n. record_of n c.args.answered.kind IN c.args.answered.time_to_live (of_bytes c.args.contents.now)) c.to_domain.ensures,
     )
 
 pub returns-in-Err-TooLong : goal.returns-in-Err-TooLong
@@ -26,8 +25,7 @@ returns-in-Err-TooLong c =
 
 pub returns-in-Ok-domain_of : goal.returns-in-Ok-domain_of
 returns-in-Ok-domain_of c =
-    let ns = c.bytes.ensures.kind_is_ns.0 (c.in-Err-KindIsNs.is ∙ ap Err c.in-Err-KindIsNs.field-0-is) in
-    (
+    let ns = c.bytes.ensures.kind_is_ns.0 (c.in-Err-KindIsNs.is ∙ ap Err c.in-Err-KindIsNs.field-0-is) in (
       of_domain c.in-Ok-domain_of.domain,
       domain (Ok c.in-Ok-domain_of.domain) ns c.in-Ok-domain_of.ensures,
       rw ns (c.ns.ensures ∙ ap (λ n. record_of n _ IN c.args.answered.time_to_live (of_domain c.in-Ok-domain_of.domain)) c.to_domain-in-Ok-domain_of.ensures),

@@ -174,7 +174,7 @@ prefixes() {
 offers() {
     cat <<'END'
 nbt s|show save
-nbt show -|--input-limit --comments --brief --json --help
+nbt show -|--input-limit --comments --brief --partial --json --help
 nbt save --|--keys --per-source --input-limit --help
 nbt replay --keys |
 nbt build r|registration refresh release response request retarget
@@ -184,7 +184,7 @@ nbt help m|merge
 nbt-look --k|--kind
 nbt-look --fr|--frame
 nbt-pcap2cap --b|--bare
-nbt-pcap2cap -|--bare --no-ticks --quiet --port --live -i --help
+nbt-pcap2cap -|--bare --no-ticks --cut --quiet --port --live -i --help
 nbt-cap2pcap --|--help
 nbt-parallel --s|--shard-bytes --sshlogin
 nbt-dask --w|--workers --wait

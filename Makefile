@@ -36,11 +36,12 @@ check:
 test:
 	tests/all.sh
 
-# Build the program, and print what its commands cost: instructions, packets a second, memory; what nbt-look costs; and, where the
-# page is made, what that costs.
+# Build the program, and print what its commands cost, beside bars: instructions, packets a second, memory; what nbt-look costs; and,
+# where the library and the page are made, what they cost.
 bench: build
 	tests/bench.py
 	tests/bench_look.py
+	[ ! -f "$$LIBRARY/libnbt.a" ] || tests/bench_library.py "$$PROGRAM" "$$LIBRARY"
 	[ ! -f "$$TARGETS/nbt.html" ] || tests/bench_page.py "$$TARGETS/nbt.html"
 
 # Build the program, and give it random and changed inputs: make fuzz SECONDS=600.

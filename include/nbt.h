@@ -7,8 +7,9 @@
  * thing, in all versions; nbt_status_text has its words.
  *
  * Buffers. A buffer is a pointer and then its length in bytes. Where the length is 0 the pointer may be any, null too: an
- * input is then empty, and an output has no room. No other pointer is null. The buffers and numbers that one call writes
- * overlap nothing else of that call. The library keeps no pointer to them.
+ * input is then empty, and an output has no room. No other pointer is null, and no length passes the bytes that stand there,
+ * so none is SIZE_MAX. The buffers and numbers that one call writes overlap nothing else of that call; its inputs may be one
+ * another's. The library keeps no pointer to them.
  *
  * Output goes to the front of `into`, without a byte of zero after it. At NBT_DONE `*used` is how many bytes were
  * written, and the bytes after them are as they were. At NBT_NO_ROOM `*used` is how many are wanted, more than
@@ -20,6 +21,10 @@
  * Memory is taken by malloc and realloc, and each call gives back by free what it took, but for what a station keeps.
  * NBT_NO_MEMORY changes nothing. The calls may be made from any thread at any time, those on one station one at a time,
  * but not from a signal handler, nor in the forked child of a process with threads.
+ *
+ * No call wants more than NBT_STACK bytes of the stack. A thread that has fewer ends by a signal.
+ *
+ * On x86-64 the code is for processors with the features of x86-64-v2, as those since 2009 have them; nothing checks that.
  *
  * Names as texts are written as in FRED<20> or FRED<20>.NETBIOS.COM (our choice): the characters of the name, its
  * sixteenth byte as two hexadecimal digits between < and >, and the labels of its scope, each after a full stop. A byte
@@ -126,7 +131,12 @@ enum nbt_status {
     NBT_UNKNOWN_STATUS = 255 /* no number of this enum */
 };
 
-/* The words of a status, as "done", plain ASCII without a line feed.
+/* As many bytes of the stack as no call wants more of, and as no name's text and no phrase has more of. */
+#define NBT_STACK 65536
+#define NBT_NAME_ROOM 704
+#define NBT_BRIEF_ROOM 2048
+
+/* The words of a status, as "done", plain ASCII without a line feed, at most 64 bytes.
  * NBT_NO_ROOM, NBT_UNKNOWN_STATUS. */
 uint32_t nbt_status_text(uint32_t status, uint8_t *into, size_t into_length, size_t *used);
 
@@ -144,7 +154,7 @@ uint32_t nbt_version(uint8_t *into, size_t into_length, size_t *used);
 uint32_t nbt_name_spell(const uint8_t *text, size_t text_length,
                         uint8_t *into, size_t into_length, size_t *used, size_t *at);
 
-/* The text of the name with this spelling, which is without pointers and has no byte after it.
+/* The text of the name with this spelling, which is without pointers and has no byte after it; at most NBT_NAME_ROOM bytes.
  * 20 to 24, NBT_NAME_TRAILING_BYTES, NBT_NO_MEMORY, NBT_NO_ROOM. */
 uint32_t nbt_name_text(const uint8_t *spelling, size_t spelling_length,
                        uint8_t *into, size_t into_length, size_t *used, size_t *at);
@@ -153,20 +163,22 @@ uint32_t nbt_name_text(const uint8_t *spelling, size_t spelling_length,
 
 /* What the command `nbt show` prints of a payload that came to this port, line feeds included: the packet that it
  * begins with, or why it begins with none (our choice). 137 is the name service, 138 the datagram service; any other
- * port is taken for a session.
+ * port is taken for a session. The text has at most 131 bytes for each byte of the payload, and 64 more: of port 137 a name may
+ * be pointed to many times.
  * NBT_NO_MEMORY, NBT_NO_ROOM. */
 uint32_t nbt_show(uint16_t port, const uint8_t *payload, size_t payload_length,
                   uint8_t *into, size_t into_length, size_t *used);
 
 /* The JSON object (RFC 8259) of a payload that came to this port, without a line feed: what the command `nbt show --json`
- * prints of it, but for the members of its line, which are `line`, `port`, `moment` and `comment`. Ports are as of nbt_show.
+ * prints of it, but for the members of its line, which are `line`, `port`, `moment` and `comment`. Ports are as of nbt_show. It
+ * has at most 174 bytes for each byte of the payload, and 128 more.
  * NBT_NO_MEMORY, NBT_NO_ROOM. */
 uint32_t nbt_json(uint16_t port, const uint8_t *payload, size_t payload_length,
                   uint8_t *into, size_t into_length, size_t *used);
 
 /* The phrase of a payload that came to this port, without a line feed: what the command `nbt show --brief` prints of it
  * after the two numbers of its line (the words are our choice). Ports are as of nbt_show. It has at most 200 bytes where
- * no name has more than 19.
+ * no name has more than 19, and never more than NBT_BRIEF_ROOM.
  * NBT_NO_MEMORY, NBT_NO_ROOM. */
 uint32_t nbt_brief(uint16_t port, const uint8_t *payload, size_t payload_length,
                    uint8_t *into, size_t into_length, size_t *used);
@@ -402,13 +414,13 @@ uint32_t nbt_table_merge(const uint8_t *first, size_t first_length, const uint8_
                          uint8_t *into, size_t into_length, size_t *used, size_t *at);
 
 /* What the command `nbt list` prints of a table: a line for each key, ascending, line feeds included (our choice). However
- * many keys it has, of however many addresses, none is too many.
+ * many keys it has, of however many addresses, none is too many. The lines are at most four times as long as the table.
  * 70 to 72, NBT_NO_MEMORY, NBT_NO_ROOM. */
 uint32_t nbt_table_list(const uint8_t *table, size_t table_length,
                         uint8_t *into, size_t into_length, size_t *used, size_t *at);
 
 /* What the command `nbt list --json` prints of a table: a JSON object (RFC 8259) for each key, ascending, line feeds
- * included (our choice).
+ * included (our choice). They are at most six times as long as the table.
  * 70 to 72, NBT_NO_MEMORY, NBT_NO_ROOM. */
 uint32_t nbt_table_json(const uint8_t *table, size_t table_length,
                         uint8_t *into, size_t into_length, size_t *used, size_t *at);
@@ -432,8 +444,9 @@ uint32_t nbt_table_differ(const uint8_t *first, size_t first_length, const uint8
  * for or, of a broadcast, a name of that name's scope. -------------------------------------------------------------- */
 
 /* What nbt_station_create fills in, and nbt_station_free gives back, once each. The other calls move what it points to,
- * so a copy made before one isn't good after it. One of all zero bytes is none: nbt_station_free does nothing with it, and
- * each other call answers NBT_NO_STATION, before anything else, and changes nothing. */
+ * so a copy made before one isn't good after it; nor is one that was given back, or a copy of it, until its `at` is made null or
+ * nbt_station_create fills it in once more. One of all zero bytes is none: nbt_station_free does nothing with it, and each other
+ * call answers NBT_NO_STATION, before anything else, and changes nothing. */
 struct nbt_station {
     void *at;
 };

@@ -89,6 +89,7 @@ step library.sh 40 "$(least library.sh all)" env AFTER_RT_CI=1 MODULE="$room/nbt
 step targets.sh 20 "$(least targets.sh all)" env MODULE="$room/nbt.bc" OUT="$room/out" tests/targets.sh
 step page.py 20 "$(least page.py all)" tests/page.py "$room/out"
 step scale.sh 20 "$(least scale.sh all)" tests/scale.sh
+step bench.py 30 "$(least bench.py all)" tests/bench.py --small
 cat "$room/skips" "$room/failures"
 echo "$passed passed, $failed failed, $skipped skipped"
 [ "$failed" -eq 0 ]

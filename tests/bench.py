@@ -1,9 +1,11 @@
 #!/usr/bin/env python3
-"""What the built program's commands cost, over captures made here.  Usage: tests/bench.py [PROGRAM]
+"""What the built program's commands cost, over captures made here, beside bars.  Usage: tests/bench.py [--small] [PROGRAM]
 
-Prints a line for each command and workload: instructions a packet (counted by valgrind's callgrind, where it is
-installed; they are the same from run to run), packets a second (the best of three runs), and the peak of resident
-memory. The last line shows how the cost of a piece of one byte grows with the number of pieces.
+Prints a line for each command and workload: instructions a packet (counted by valgrind's callgrind, where it is installed; they
+are the same from run to run), packets a second (the best of three runs), the peak of resident memory, and how many times the
+instructions are those of the plain program of tests/plain/ on the same crates, or of the same packets as text, beside the most that
+they may be (tests/lib/bench_bars.py). Then come lines on growth. A number that is more than 5 % past its bar, or past what it is known
+to be, is a failure, and the last line counts them. With --small captures are a tenth as long.
 """
 import os
 import random
@@ -16,14 +18,24 @@ import time
 
 sys.dont_write_bytecode = True
 sys.path.insert(1, f'{sys.path[0]}/lib')
-from bench_captures import FRED, MOST_IN_A_CAPTURE, descending, labels, office, one_address, pointed, shuffled, unfragmented
+import plain_program
+from bench_bars import GROWTH, PER_SOURCE, PLAIN, TEXT, WORST, Bars
+from bench_captures import (FRED, MOST_IN_A_CAPTURE, descending, labels, office, one_address, pointed, refused, shuffled,
+                            unfragmented)
 
 HERE = os.path.dirname(os.path.abspath(__file__))
 PROGRAM = os.path.join(HERE, '..', 'crates', 'nbt', 'out', 'nbt')
-REPLAY, SHOW, SAVE, MERGE = ['replay', 'FRED<20>'], ['show'], ['save', '--keys', '65535'], ['merge', '--keys', '65535']
-FORMS = ('--brief', '--json')
-# How many keys one address may have in a table of 65,535, in the last rows.
+KEYS = ['--keys', '65535']
+REPLAY, SHOW, SAVE, MERGE = ['replay', 'FRED<20>'], ['show'], ['save', *KEYS], ['merge', *KEYS]
+# How many keys one address may have in a table of 65,535, in the last rows of one address.
 LIMITS = (64, 1_000, 30_000)
+GROWING = (('pieces of a byte, shuffled', REPLAY, lambda size: shuffled(random.Random(size), 1, size, 1)),
+           ('pieces of a byte, descending', REPLAY, lambda size: descending(random.Random(size), size)),
+           ('keys', ['replay', *KEYS, 'FRED<20>'], one_address),
+           ('keys of an address, counted', ['replay', *KEYS, '--per-source', '65534', 'FRED<20>'], one_address),
+           ('lines', SHOW, lambda size: office(138, size)),
+           ('keys', SAVE, one_address),
+           ('keys', MERGE, one_address))
 
 
 def written(folder, title, lines):
@@ -36,14 +48,14 @@ def written(folder, title, lines):
     return path, sum(each.startswith(b'13') for each in lines)
 
 
-def workloads(folder):
-    """Writes captures of fragments, and yields each one's title, file and number of packets."""
+def workloads(folder, part=1):
+    """Writes captures of fragments, or one of so many parts of them, and yields each one's title, file and number of packets."""
     rng = random.Random(139)
-    made = (('25,000 unfragmented', unfragmented(rng, 25_000)),
-            ('1,000 of 64 pieces, shuffled', shuffled(rng, 1_000, 2_048, 32)),
-            ('65,467 pieces of a byte, shuffled', shuffled(rng, 1, 65_467, 1)),
-            ('65,467 pieces of a byte, descending', descending(rng, 65_467)),
-            ('100 of 163 pieces, shuffled', shuffled(rng, 100, 65_000, 400)))
+    made = (('unfragmented', unfragmented(rng, 25_000 // part)),
+            ('pieces of 32 bytes, shuffled', shuffled(rng, 1_000 // part, 2_048, 32)),
+            ('pieces of a byte, shuffled', shuffled(rng, 1, 65_467 // part, 1)),
+            ('pieces of a byte, descending', descending(rng, 65_467 // part)),
+            ('pieces of 400 bytes, shuffled', shuffled(rng, 100 // part, 65_000, 400)))
     for title, lines in made:
         yield title, *written(folder, title, lines)
 
@@ -56,7 +68,7 @@ def saved_parts(program, folder, path):
     with open(saved, 'wb') as out:
         for part in range(8):
             text = b''.join(each for each in lines[part::8] if each.startswith(b'138'))
-            subprocess.run([program, 'save', '--keys', '65535'], input=text, stdout=out, check=True)
+            subprocess.run([program, *SAVE], input=text, stdout=out, check=True)
     return saved
 
 
@@ -92,67 +104,104 @@ def shown(number):
     return '-' if number is None else str(number)
 
 
-def measure(command, title, path, packets):
-    counted = instructions(command, path)
-    cost = None if counted is None else counted // packets
-    rate = packets / min(seconds(command, path) for _ in range(3))
-    words = ' '.join([command[1], *(it for it in command if it in FORMS)])
-    print('%-13s %-36s %8s %12d %9s' % (words, title, shown(cost), rate, shown(peak(command, path))), flush=True)
+class Bench:
+    """The program that is measured, the plain one if it can be compiled, and the bars."""
 
+    def __init__(self, program, small, folder):
+        self.program, self.folder, self.bars = program, folder, Bars(small)
+        self.part, self.times, least = (10, 1, 100) if small else (1, 4, 250)
+        self.sizes = [least, least * 10, least * 100]
+        self.plain = plain_program.compiled(folder, plain_program.CRATES)
 
-def growth(program, folder):
-    costs = []
-    for size in (1_000, 4_000, 16_000, 64_000):
-        path = os.path.join(folder, 'growing')
-        with open(path, 'wb') as capture:
-            capture.writelines(shuffled(random.Random(size), 1, size, 1))
-        counted = instructions([program, 'replay', 'FRED<20>'], path)
-        if counted is None:
+    def row(self, words, title, path, packets, beside=None, bar=None):
+        """Prints the row of a command, and gives its instructions. The last column has them beside so many others."""
+        command = [self.program, *words]
+        counted = instructions(command, path)
+        cost = None if counted is None else counted // packets
+        rate = packets / min(seconds(command, path) for _ in range(3))
+        name = ' '.join([words[0], *(it for it in words if it in TEXT)])
+        ratio = self.bars.judged((name, title), counted / beside if counted and beside else None, bar)
+        line = '%-13s %-36s %8s %12d %9s  %s' % (name, title, shown(cost), rate, shown(peak(command, path)), ratio)
+        print(line.rstrip(), flush=True)
+        return counted
+
+    def beside_plain(self, words, title, path, packets):
+        """The row of a command beside the plain program."""
+        beside = instructions([self.plain, *words], path) if self.plain else None
+        return self.row(words, title, path, packets, beside, PLAIN[words[0]])
+
+    def fragments(self):
+        """The rows of captures of fragments, for each command."""
+        for title, path, packets in workloads(self.folder, self.part):
+            for words in (REPLAY, SHOW):
+                text = self.beside_plain(words, title, path, packets)
+                self.row(words + ['--json'], title, path, packets, text, TEXT['--json'])
+            self.beside_plain(SAVE, title, path, packets)
+            saved = saved_parts(self.program, self.folder, path)
+            if os.path.getsize(saved) <= MOST_IN_A_CAPTURE:
+                self.beside_plain(MERGE, title, saved, packets)
+
+    def stations(self):
+        """The rows of what an office's stations send to each port, as text, as phrases and as objects."""
+        for port, count in ((137, 50_000), (138, 40_000), (139, 40_000)):
+            title = f'an office, port {port}'
+            capture = written(self.folder, title, office(port, count // self.part))
+            text = self.beside_plain(SHOW, title, *capture)
+            for form, bar in TEXT.items():
+                self.row(SHOW + [form], title, *capture, text, bar)
+
+    def longest(self):
+        """The rows of packets of 64,800 bytes: one that is refused, an ordinary name, and the one of which most labels are read,
+        which is judged beside the first."""
+        least = self.row(SHOW, '64,800 bytes, refused', *written(self.folder, 'refused', refused(64_800, self.times)))
+        self.row(SHOW, '10,800 pointers to a name', *written(self.folder, 'pointed', pointed(FRED, 10_800, self.times)))
+        self.row(SHOW, '10,800 to 111 labels', *written(self.folder, 'pointed', pointed(labels(111), 10_800, self.times)), least, WORST)
+
+    def flood(self):
+        """The rows of one address's keys: not counted, all of them counted, and limited to fewer."""
+        path, packets = written(self.folder, 'one address', one_address(60_000 // self.part))
+        free = self.row(['replay', *KEYS, 'FRED<20>'], 'one address', path, packets)
+        for most in (60_000, *LIMITS):
+            words = ['replay', *KEYS, '--per-source', str(most), 'FRED<20>']
+            self.row(words, f'one address, {most:,} keys of it', path, packets, free, PER_SOURCE)
+
+    def growth(self):
+        """A line for each way to grow: the instructions of one among so many, and among ten times and a hundred times as many."""
+        if not shutil.which('valgrind'):
+            self.bars.skipped += len(GROWING)
             return
-        costs.append('%d' % (counted // size))
-    print('a piece of one byte among 1,000, 4,000, 16,000 and 64,000: %s instructions' % ', '.join(costs))
+        for title, words, lines in GROWING:
+            costs = [self.cost_of_one(words, lines, size) for size in self.sizes]
+            ratio = self.bars.judged((f'growth of {words[0]}', title), costs[-1] / costs[0], GROWTH)
+            print('%-13s %-36s %8d %8d %8d  %s' % (words[0], title, *costs, ratio), flush=True)
 
-
-def fragments(program, folder):
-    """The rows of captures of fragments, for each command."""
-    for title, path, packets in workloads(folder):
-        for words in (REPLAY, REPLAY + ['--json'], SHOW, SHOW + ['--json'], SAVE):
-            measure([program] + words, title, path, packets)
-        saved = saved_parts(program, folder, path)
-        if os.path.getsize(saved) <= MOST_IN_A_CAPTURE:
-            measure([program] + MERGE, title, saved, packets)
-
-
-def stations(program, folder):
-    """The rows of what an office's stations send to each port, as text, as phrases and as objects."""
-    for port, count in ((137, 50_000), (138, 40_000), (139, 40_000)):
-        title = f'an office, port {port}'
-        capture = written(folder, title, office(port, count))
-        for form in ([], *([it] for it in FORMS)):
-            measure([program] + SHOW + form, title, *capture)
-
-
-def longest(program, folder):
-    """The rows of packets of 65,000 bytes: an ordinary name, and the one of which most labels are read."""
-    for title, name in (('10,800 pointers to a name', FRED), ('10,800 to 111 labels', labels(111))):
-        measure([program] + SHOW, title, *written(folder, title, pointed(name, 10_800)))
-
-
-def flood(program, folder):
-    """The rows of one address's keys, which are limited to fewer than all."""
-    path, packets = written(folder, 'one address', one_address(60_000))
-    for most in LIMITS:
-        words = ['replay', '--keys', '65535', '--per-source', str(most), 'FRED<20>']
-        measure([program] + words, f'one address, {most:,} keys of it', path, packets)
+    def cost_of_one(self, words, lines, size):
+        """The instructions for each packet, without those for none."""
+        (path, packets), none = written(self.folder, 'growing', lines(size)), os.path.join(self.folder, 'none')
+        with open(none, 'wb') as empty:
+            empty.write(b'4e42543200000000\n' * 8 if words == MERGE else b'')
+        if words == MERGE:
+            path = saved_parts(self.program, self.folder, path)
+        command = [self.program, *words]
+        return (instructions(command, path) - instructions(command, none)) / packets
 
 
 def main():
-    program = sys.argv[1] if len(sys.argv) > 1 else PROGRAM
-    print('%-13s %-36s %8s %12s %9s' % ('command', 'workload', 'a packet', 'packets a s', 'peak kB'))
+    words = [each for each in sys.argv[1:] if each != '--small']
     with tempfile.TemporaryDirectory() as folder:
-        for rows in (fragments, stations, longest, flood, growth):
-            rows(program, folder)
+        bench = Bench(words[0] if words else PROGRAM, '--small' in sys.argv, folder)
+        print('%-13s %-36s %8s %12s %9s  %s' % ('command', 'workload', 'a packet', 'packets a s', 'peak kB', 'beside others'))
+        for rows in (bench.fragments, bench.stations, bench.longest, bench.flood):
+            rows()
+        print('instructions of one among %s:' % ', '.join(f'{size:,}' for size in bench.sizes))
+        bench.growth()
+    if not bench.plain:
+        print('skipped: the rows beside the plain program, which wants cargo of 1.82 and crates in ' + plain_program.REGISTRY)
+    for each in bench.bars.past:
+        print('failed: ' + each)
+    print(bench.bars.counted())
+    return 1 if bench.bars.past else 0
 
 
 if __name__ == '__main__':
-    main()
+    sys.exit(main())

@@ -1,15 +1,14 @@
 #!/usr/bin/env python3
-"""`nbt replay` beside the same in plain Rust without proofs, tests/plain/.  Usage: tests/compare_plain.py [PROGRAM]
+"""The program beside the same in plain Rust without proofs, tests/plain/.  Usage: tests/compare_plain.py [PROGRAM]
 
-Has cargo compile the plain program twice: on std alone, and on the crates that nbt stands on, of Debian's packages
-librust-hex-dev and librust-memchr-dev (arrayvec has no place in it). Gives all three programs small captures of each kind and
-those of tests/bench.py, and says where a report, a line on standard error or a status differs: then its own status is 1.
-Prints the instructions a packet of each over the captures of tests/bench.py, where valgrind is installed, and how many times
-the plain program's ours are.
+Compiles the plain program twice: on std alone, and on the crates that nbt stands on (tests/lib/plain_program.py). Gives all three
+programs small captures of each kind and those of tests/bench.py, and says where what they print, a line on standard error or a status
+differs: then its own status is 1. Prints the instructions a packet of each over the captures of tests/bench.py, where valgrind is
+installed, how many times those of the plain ones ours are, and the processor seconds of the best of five runs by turns.
 """
 import os
 import random
-import shutil
+import resource
 import struct
 import subprocess
 import sys
@@ -17,11 +16,9 @@ import tempfile
 
 sys.dont_write_bytecode = True
 import bench
+import plain_program
 from bench_captures import FRED, JOE, MOST_IN_A_CAPTURE, line, office, one_address
 
-SOURCE = os.path.join(bench.HERE, 'plain')
-# Where Debian's packages put the sources of crates.
-DEBIAN = ('source.crates-io.replace-with="debian"', 'source.debian.directory="/usr/share/cargo/registry"')
 EXAMPLE = os.path.join(bench.HERE, '..', 'examples', 'capture.txt')
 LONGEST_LINE = 262_200
 SCOPED, LOWER, POINTER = JOE[:-1] + b'\x02AB\x01.\0', b'\x20' + b'a' * 32 + b'\0', b'\xc0\x0c'
@@ -67,6 +64,36 @@ def hostile(rng, count):
 
 
 def small():
+    """The words and the input of each small run."""
+    for words, capture in replays():
+        yield ['replay', *words], capture
+    for seed in range(40):
+        made = b''.join(hostile(random.Random(seed), 600))
+        yield from ((words, made) for words in (['show'], ['save'], ['save', '--keys', '2', '--per-source', '1']))
+    for port in (137, 138, 139):
+        yield from ((['show'], capture) for capture in (b''.join(office(port, 1_000)), b''.join(changed(random.Random(port), port))))
+
+
+def merges(program):
+    """The words and the input of merges: the tables of three parts of captures, in which keys are spoilt, or are by a merge."""
+    for seed in range(40):
+        lines = list(hostile(random.Random(seed), 600 // (1 + seed % 5)))
+        saved = [answer([program, 'save'], b''.join(lines[part::3]))[1] for part in range(3)]
+        yield ['merge'], b''.join(saved)
+        yield ['merge', '--keys', '4'], b''.join(saved)
+
+
+def changed(rng, port):
+    """Packets of an office of which some bytes are changed, or missing."""
+    for each in office(port, 3_000):
+        words = each.split()
+        payload = bytearray.fromhex(words[2].decode())
+        for _ in range(rng.randrange(3)):
+            payload[rng.randrange(min(len(payload), 80))] = rng.choice((0, 1, 32, 63, 64, 0xc0, rng.randrange(256)))
+        yield line(int(words[1]), bytes(payload[:rng.randrange(1, 2 * len(payload))]), port)
+
+
+def replays():
     """The words after `replay` and the input of each small run."""
     with open(EXAMPLE, 'rb') as example:
         shown = example.read()
@@ -101,41 +128,59 @@ def answer(command, capture):
     return done.returncode, done.stdout, done.stderr
 
 
-def compiled(folder, features):
-    """The plain program with these features, compiled in a folder of its own."""
-    source = os.path.join(folder, 'plain-' + (features or 'std'))
-    shutil.copytree(SOURCE, source)
-    words = ['cargo', 'build', '--quiet', '--release', '--offline', '--features', features]
-    subprocess.run(words + [word for each in DEBIAN for word in ('--config', each)], cwd=source, check=True)
-    return [os.path.join(source, 'target', 'release', 'replay')]
-
-
 def same(programs, words, capture, title):
     """Whether all programs answer the same; where they don't, it is said."""
-    ours, *others = (answer(program + words, capture) for program in programs)
+    ours, *others = (answer([program, *words], capture) for program in programs)
     if any(ours != other for other in others):
         print(f'the answers differ: {title}: {words}')
         return False
     return True
 
 
-def costs(programs, title, path, packets):
-    counted = [bench.instructions(program + bench.REPLAY[1:], path) for program in programs]
+def seconds(command, path):
+    """The processor seconds of one run."""
+    before = resource.getrusage(resource.RUSAGE_CHILDREN)
+    bench.seconds(command, path)
+    after = resource.getrusage(resource.RUSAGE_CHILDREN)
+    return after.ru_utime - before.ru_utime + after.ru_stime - before.ru_stime
+
+
+def costs(programs, words, title, path, packets):
+    """Prints what each program takes for a packet, and all of the capture."""
+    commands = [[program, *words] for program in programs]
+    counted = [bench.instructions(command, path) for command in commands]
+    turns = [[seconds(command, path) for command in commands] for _ in range(5)]
+    columns = ['%7.3f' % min(each) for each in zip(*turns)]
     if None not in counted:
-        ratios = [counted[0] / other for other in counted[1:]]
-        print('%-36s %8d %8d %8d %6.2f %6.2f' % (title, *(each // packets for each in counted), *ratios), flush=True)
+        columns = ['%7d' % (each // packets) for each in counted] + ['%6.2f' % (counted[0] / each) for each in counted[1:]] + columns
+    print('%-7s %-36s' % (words[0], title), *columns, flush=True)
+
+
+def measured(folder, program):
+    """The words, the title, the file and the number of packets of each row."""
+    for workload in bench.workloads(folder):
+        for words in (bench.REPLAY, bench.SHOW, bench.SAVE):
+            yield words, *workload
+        title, path, packets = workload
+        yield bench.MERGE, title, bench.saved_parts(program, folder, path), packets
+    for port, count in ((137, 50_000), (138, 40_000), (139, 40_000)):
+        title = f'an office, port {port}'
+        yield bench.SHOW, title, *bench.written(folder, title, office(port, count))
 
 
 def main():
     ours = sys.argv[1] if len(sys.argv) > 1 else bench.PROGRAM
     with tempfile.TemporaryDirectory() as folder:
-        programs = [ours, 'replay'], compiled(folder, ''), compiled(folder, 'crates')
-        runs = [same(programs, words, capture, f'small capture {number}') for number, (words, capture) in enumerate(small())]
-        print('%-36s %8s %8s %8s %6s %6s' % ('instructions a packet', 'ours', 'on std', 'on crates', 'ratio', 'ratio'))
-        for title, path, packets in bench.workloads(folder):
+        programs = ours, *(plain_program.compiled(folder, features) for features in (plain_program.STD, plain_program.CRATES))
+        if None in programs:
+            sys.exit('the plain program wants cargo of 1.82 and crates in ' + plain_program.REGISTRY)
+        runs = [same(programs, words, capture, f'small capture {number}')
+                for number, (words, capture) in enumerate((*small(), *merges(ours)))]
+        print('instructions a packet: ours, on std, on crates; how many times those; processor seconds of each')
+        for words, title, path, packets in measured(folder, ours):
             with open(path, 'rb') as capture:
-                runs.append(same(programs, bench.REPLAY[1:], capture.read(), title))
-            costs(programs, title, path, packets)
+                runs.append(same(programs, words, capture.read(), title))
+            costs(programs, words, title, path, packets)
     print(f'{sum(runs)} of {len(runs)} answers are the same')
     return 0 if all(runs) else 1
 

@@ -128,8 +128,8 @@ def counts_of(objects):
     """The last line."""
     cut = sum(map(is_cut, objects))
     packets = len(objects) - cut
-    refused = sum('refused' in each and not is_cut(each) for each in objects)
-    words = f'{len(objects)} frames, {packets} packets, {refused} refused, {cut} left out'
+    malformed = sum('refused' in each and not is_cut(each) for each in objects)
+    words = f'{len(objects)} frames, {packets} packet{"" if packets == 1 else "s"}, {malformed} malformed, {cut} left out'
     return f'{words}: {cut} {REASON}' if cut else words
 
 

@@ -142,6 +142,60 @@ refused() {
     done
 }
 
+# hostile NAME OPTION..: a caller who goes to every limit of the header, compiled so; its calls answer the statuses listed there.
+hostile() {
+    $CC "${strict[@]}" -o "$room/hostile" "$here"/lib/{hostile,hostile_rooms,hostile_stations,wrapped_memory}.c \
+        -Wl,--wrap=malloc,--wrap=realloc "${@:2}" \
+        "$built/libnbt.a" >"$room/log" 2>&1
+    count $? "tests/lib/hostile.c, $1: $(head -n 1 "$room/log")"
+    ended "$room/hostile" >"$room/statuses" 2>"$room/errors"
+    count $? "tests/lib/hostile.c, $1: $(grep -m 1 . "$room/errors")"
+    "$here/lib/statuses_reached.py" "$top/include/nbt.h" <"$room/statuses" >"$room/output" 2>&1
+    count $? "each call answers what the header lists, $1: $(head -n 3 "$room/output" | head -c 300)"
+}
+
+# short_of_memory NAME: an example of bindings/c that is granted ever more requests for memory, until it prints what it says. It leaves
+# nothing behind where it gives up.
+short_of_memory() {
+    local granted leaks=0 source=$top/bindings/c/$1.c
+    $CC "${strict[@]}" -fsanitize=address -Wl,--wrap=malloc,--wrap=realloc -o "$room/example" "$source" "$here/lib/wrapped_memory.c" \
+        "$built/libnbt.a" >"$room/log" 2>&1
+    count $? "$1.c over tests/lib/wrapped_memory.c: $(head -n 1 "$room/log")"
+    for ((granted = 0; granted < 200; granted++)); do
+        NBT_GRANTED=$granted ended "$room/example" >"$room/output" 2>"$room/errors" \
+            && sed 's/ *$//' "$room/output" | cmp -s - <(wanted "$source") && break
+        ! grep -q Sanitizer "$room/errors" || leaks=$((leaks + 1))
+    done
+    [ "$granted" -gt 0 ] && [ "$granted" -lt 200 ] && [ "$leaks" -eq 0 ]
+    count $? "$1.c without memory: $leaks leaks, and it is done when $granted requests are granted"
+}
+
+# The code is for processors of x86-64-v2: it has such instructions (SSE4.1), and none of those that came later.
+processors() {
+    objdump -d --no-show-raw-insn "$built/libnbt.so.0" | awk '/^ / { print $2 }' | sort -u >"$room/instructions"
+    [ "$(grep -cE '^(pextr[bdq]|pinsr[bdq]|ptest|pblendvb|popcnt)$' "$room/instructions")" -gt 0 ]
+    count $? 'libnbt.so.0 has instructions of x86-64-v2'
+    ! grep -E '^(v[a-z]+|andn|bextr|bls[ir]|blsmsk|bzhi|mulx|pdep|pext|rorx|sarx|shlx|shrx|lzcnt|movbe)$' "$room/instructions" \
+        >"$room/later"
+    count $? "libnbt.so.0 has no instructions past x86-64-v2: $(head -n 3 "$room/later")"
+}
+
+# The limits of what the header allows, and its bounds.
+limits() {
+    local each
+    hostile plain
+    hostile sanitized -fsanitize=address,undefined -fno-sanitize-recover=all
+    $CC "${strict[@]}" -o "$room/bounds" "$here/lib/bounds.c" "$built/libnbt.a" >"$room/log" 2>&1
+    count $? "tests/lib/bounds.c: $(head -n 1 "$room/log")"
+    "$here/lib/library_payloads.py" --seed 5 500 | sed 's/ / 0 /' | ended "$room/bounds" >"$room/output" 2>"$room/errors"
+    count $? "the stack and the texts of calls: $(head -n 1 "$room/errors")"
+    grep -c ' of 65536$' "$room/output" | same 10 'calls whose stack is measured'
+    for each in create free list save take tick absorb; do
+        short_of_memory "station_$each"
+    done
+    processors
+}
+
 # replays_alike WHERE: a station in this language reported what `nbt replay` does.
 replays_alike() {
     grep -q ' delivered ' "$room/output" && cmp -s "$room/replayed" "$room/output"
@@ -411,6 +465,7 @@ part examples examples
 if command -v valgrind >/dev/null; then part valgrind under_valgrind; else lacks valgrind valgrind; fi
 part callers callers
 part memory refused
+part limits limits
 part replay replayed
 part values values
 if command -v tshark >/dev/null; then part programs programs; else lacks programs tshark; fi

@@ -59,7 +59,8 @@ list() {
    14  3.200000 192.0.2.1:1024  192.0.2.2       keeps the session alive
    15  5.000000 192.0.2.1       192.0.2.2       group datagram from JOE<00> to FRED<20>, 4 bytes at offset 0 of one that goes on
    16  9.000000 192.0.2.1       192.0.2.2       releases FRED<20> for 10.0.0.6
-16 frames, 15 packets, 0 refused, 0 left out
+16 frames, 15 packets, 0 malformed, 0 left out
+1 frame without a packet: 1 TCP segment without data
 END
     cp "$room/output" "$room/list"
     for each in "look - <'$office'" "cat '$office' | look -" "look -r '$office'" "gzip -c '$office' >'$room/office.gz' && look '$room/office.gz'" \
@@ -69,7 +70,7 @@ END
     done
     # A capture that is text has the frames of its comments, and no others.
     nbt-pcap2cap --quiet "$office" >"$room/capture"
-    look "$room/capture" | cmp -s - <(sed '$s/^16 frames, //' "$room/list") && cat "$room/capture" | look - | cmp -s - <(look "$room/capture")
+    look "$room/capture" | cmp -s - <(sed '$d; s/^16 frames, //' "$room/list") && cat "$room/capture" | look - | cmp -s - <(look "$room/capture")
     count $? 'the text of a capture'
     prints 'lines without a comment' "$here/../examples/capture.txt" <<'END'
     3  0.000000 -               -               group datagram from JOE<00> to FRED<20>, 3 bytes at offset 8, the last
@@ -78,7 +79,7 @@ END
     6  0.009000 -               -               group datagram from JOE<00> to FRED<20>, 4 bytes at offset 0 of one that goes on
     8  0.040000 -               -               asks for FRED<20>
     9  0.060000 -               -               group datagram from JOE<00> to FRED<20>, 4 bytes at offset 0 of one that goes on
-6 packets, 0 refused, 0 left out
+6 packets, 0 malformed, 0 left out
 END
 }
 
@@ -88,12 +89,13 @@ samba() {
     for length in 54 96 200 400; do editcap -s $length "$here/../examples/samba.pcap" "$room/samba-$length.pcap"; done
     editcap "$here/../examples/samba.pcap" "$room/samba-gaps.pcap" 30-40 113 137
     counted_by look_counts.py "$here/../examples/samba.pcap" "$room"/samba*.pcap
-    [ "$(look "$here/../examples/samba.pcap" | tail -n 1)" = '168 frames, 154 packets, 0 refused, 0 left out' ]
-    count $? 'the packets of Samba'
+    [ "$(look "$here/../examples/samba.pcap" | tail -n 2)" = '168 frames, 154 packets, 0 malformed, 0 left out
+14 frames without a packet: 10 TCP segments without data, 2 TCP segments of a packet that another frame completes, 2 frames of other ports and protocols' ]
+    count $? 'the packets of Samba, and the frames that have none'
 }
 
 # shown WORD..: the numbers of the frames that are shown of an office.
-shown() { look "$@" "$office" | sed '$d' | awk '{ printf "%s ", $1 }'; }
+shown() { look "$@" "$office" | awk '/^ *[0-9]+ +[0-9.]+ / { printf "%s ", $1 }'; }
 
 filters() {
     local each words wanted
@@ -102,8 +104,8 @@ filters() {
         [ "$(shown "${each[@]}")" = "$wanted" ]
         count $? "nbt-look $words: $(shown "${each[@]}"), not $wanted"
     done <<'END'
---name fred|1 2 3 4 5 6 7 8 11 15 16 
---name FRED<20> --name ANN|1 2 3 4 5 6 7 8 9 11 15 16 
+--name fred|1 2 3 4 5 6 7 8 11 12 13 14 15 16 
+--name FRED<20> --name ANN|1 2 3 4 5 6 7 8 9 11 12 13 14 15 16 
 --name FRED<00>|
 --host 192.0.2.1 --kind query|4 
 --host 10.0.0.6|
@@ -111,11 +113,14 @@ filters() {
 --kind datagram --name ann|9 
 --kind session|11 12 13 14 
 --kind unique --kind message|9 13 
---kind refused,left-out|
+--kind fragment|5 6 7 8 15 
+--kind positive|12 
+--kind conflict|
+--kind malformed,left-out|
 --port 139|11 12 13 14 
 --port 1024 --port 137|1 2 3 4 11 12 13 14 16 
 END
-    [ "$(look --kind query "$office" | tail -n 1)" = '16 frames, 15 packets, 0 refused, 0 left out; 1 shown' ]
+    [ "$(look --kind query "$office" | tail -n 1)" = '16 frames, 15 packets, 0 malformed, 0 left out; 1 shown' ]
     count $? 'the last line says how many are shown'
     [ "$(look --time utc --kind query "$office" | head -n 1 | cut -c 1-52)" = '    4 1970-01-01T00:00:01.200000Z 192.0.2.1       19' ]
     count $? 'nbt-look --time utc'
@@ -123,7 +128,7 @@ END
 
 objects() {
     look --json "$office" 2>"$room/errors" >"$room/objects"
-    [ $? -eq 0 ] && [ "$(cat "$room/errors")" = '16 frames, 15 packets, 0 refused, 0 left out' ]
+    [ $? -eq 0 ] && [ "$(cat "$room/errors")" = "$(tail -n 2 "$room/list")" ]
     count $? "nbt-look --json: $(cat "$room/errors")"
     # What stands after the frame is what nbt shows of the payload.
     nbt show --json --brief <"$room/capture" | grep -v '"kind":"tick"' | sed -E 's/^\{"line":[0-9]+,//; s/,?"comment":"[^"]*"//; s/^/{/' >"$room/wanted"
@@ -143,31 +148,36 @@ objects() {
 summary() {
     prints 'nbt-look --summary' --summary "$office" <<'END'
 names
-  name      kind         address   group  how       since     until     conflicts  refusals
-  FRED<20>  file server  10.0.0.6  no     released  0.000000  9.000000  0          0
+  name      kind         address   group  how       since     until     lifetime  conflicts  refusals
+  FRED<20>  file server  10.0.0.6  no     released  0.000000  9.000000  -         0          0
 
 stations
-  address    mac  packets  names     status  unit
-  10.0.0.5   -    0        JOE<00>   -       -
-  10.0.0.6   -    0        FRED<20>  -       -
-  10.0.0.7   -    0        ANN<00>   -       -
-  192.0.2.1  -    15       JOE<00>   -       -
-  192.0.2.2  -    0        FRED<20>  -       -
+  address    mac  packets  names     refused  status  unit
+  10.0.0.5   -    0        JOE<00>   -        -       -
+  10.0.0.6   -    0        FRED<20>  -        -       -
+  10.0.0.7   -    0        ANN<00>   -        -       -
+  192.0.2.1  -    15       JOE<00>   -        -       -
+  192.0.2.2  -    0        FRED<20>  -        -       -
 
 queries without an answer
-  name      kind   by         times  frame  since
-  FRED<20>  query  192.0.2.1  1      4      1.200000
+  name      kind   by         times  frames  since     answered
+  FRED<20>  query  192.0.2.1  1      4       1.200000  never
 
 sessions
   calling  called    from       to         calls  accepted  refused  sent  received
   JOE<00>  FRED<20>  192.0.2.1  192.0.2.2  1      1         -        5     0
 
 datagrams
-  source   destination  kind    whole  incomplete  spoilt  missing    frame
-  ANN<00>  JOE<00>      unique  1      0           0       -          -
-  JOE<00>  FRED<20>     group   1      1           0       from 4 on  15
+  source   destination  kind    whole  incomplete  spoilt
+  ANN<00>  JOE<00>      unique  1      0           0
+  JOE<00>  FRED<20>     group   1      1           0
 
-16 frames, 15 packets, 0 refused, 0 left out
+failed datagrams
+  key                state       source   destination  bytes known  size  missing             frames
+  10.0.0.5:138/0002  incomplete  JOE<00>  FRED<20>     4            ?     all from byte 4 on  15
+
+16 frames, 15 packets, 0 malformed, 0 left out
+1 frame without a packet: 1 TCP segment without data
 END
     made life
     prints 'a summary of what goes wrong' --summary "$room/life.pcap" <"$here/lib/look_summary.txt"
@@ -176,10 +186,47 @@ END
 import json, sys
 found = json.loads(open(sys.argv[1]).read())
 assert found['names'][0] == {'name': 'ANN<00>', 'kind': 'workstation', 'address': '10.0.0.7', 'group': False, 'how': 'refused',
-    'since': '2023-11-14T22:13:20.300000Z', 'until': '2023-11-18T09:33:20.300000Z', 'conflicts': 0, 'refusals': 1}, found['names'][0]
-assert [each['frame'] for each in found['refused']] == [15] and found['left_out'] == {'cut by the snap length': 1}
+    'since': '2023-11-14T22:13:20.300000Z', 'until': None, 'lifetime': None, 'conflicts': 0, 'refusals': 1}, found['names'][0]
+assert found['names'][1]['lifetime'] == 300_000 and found['names'][1]['until'] is None, found['names'][1]
+assert found['conflicts'] == [
+    {'name': 'FRED<20>', 'holder': ['10.0.0.6'], 'refused': '10.0.0.8', 'by': '10.0.0.6', 'frame': 3},
+    {'name': 'FRED<20>', 'holder': [], 'refused': '10.0.0.6', 'by': '10.0.0.8', 'frame': 22}], found['conflicts']
+assert found['queries_without_an_answer'][0]['frames'] == [7, 8, 9] and found['queries_without_an_answer'][0]['answered'] is None
+assert found['failed_datagrams'][1] == {'key': '10.0.0.5:138/0002', 'state': 'incomplete', 'source': 'JOE<00>', 'destination': 'FRED<20>',
+    'bytes_known': 8, 'size': 12, 'missing': [{'from': 4, 'bytes': 4}], 'frames': [19, 20]}, found['failed_datagrams']
+assert [(each['frame'], each['payload_byte']) for each in found['malformed']] == [(15, 48)] and found['left_out'] == {'cut by the snap length': 1}
+assert (found['frames'], found['packets'], found['frames_without_a_packet']) == (22, 21, {})
 END
     count $? 'nbt-look --summary --json'
+    made disputes
+    prints 'a summary of what is decided elsewhere, or not at all' --summary "$room/disputes.pcap" <"$here/lib/look_disputes.txt"
+    [ "$(look --summary --name joe "$room/disputes.pcap" | grep '^  JOE<00>  FRED')" = "$(grep '^  JOE<00>  FRED' "$here/lib/look_disputes.txt")" ]
+    count $? 'a session has all its packets where --name chooses it'
+    [ "$(look --kind conflict "$room/disputes.pcap" | cut -c 1-5 | head -n 2 | tr -d ' \n')" = 24 ] &&
+        [ "$(look --kind conflict "$room/life.pcap" | cut -c 1-5 | head -n 3 | tr -s ' \n' ' ')" = ' 2 3 22 ' ]
+    count $? 'nbt-look --kind conflict: who claims a name too, is refused it, and has to give it up'
+}
+
+# What is said of words that are no kinds, and of a kind of which there is no packet.
+guesses() {
+    local word answer
+    while IFS='|' read -r word answer; do
+        ends "nbt-look --kind $word" 2 "nbt-look: argument --kind: $answer; --help says more" --kind "query,$word" x
+    done <<'END'
+what|what is none of query, status, registration, refresh, release, wack, response, conflict, datagram, unique, group, broadcast, fragment, error, find, found, missing, session, request, retarget, message, keepalive, positive, negative, malformed, left-out
+refused|refused is no kind: malformed has what nbt refuses to read, negative the answers in which a station refuses
+incomplete|incomplete is no kind: --summary has the datagrams that are incomplete, fragment the pieces of all
+unanswered|unanswered is no kind: --summary has the queries without an answer, query all of them
+claims|claims is no kind: perhaps registration
+queries|queries is no kind: perhaps query
+conflikt|conflikt is no kind: perhaps conflict
+END
+    prints 'a kind of which there is no packet' --kind missing "$office" <<'END'
+16 frames, 15 packets, 0 malformed, 0 left out; 0 shown
+no packet of kind missing (answers that none are relayed; see also fragment for pieces of datagrams, of which --summary has what is missing, negative for names that are not found)
+END
+    look --help >"$room/output" && for word in $(kinds | tr -d ,); do grep -qE "^    $word +[a-z]" "$room/output" || echo "$word"; done | grep -q .
+    count $((PIPESTATUS[1] != 1)) '--help has a word on each kind'
 }
 
 frames() {
@@ -191,6 +238,7 @@ asks for FRED<20>
 137 id=0003 word=0110 op=query flags=RD+B rcode=ok qd=1 an=0 ns=0 ar=0 used=50
   question FRED<20> type=0020 class=0001
 
+payload, 50 bytes
 00000   00  03  01  10  00  01  00  00  00  00  00  00  20  45  47  46   ............ EGF
 00010   43  45  46  45  45  43  41  43  41  43  41  43  41  43  41  43   CEFEECACACACACAC
 00020   41  43  41  43  41  43  41  43  41  43  41  43  41  00  00  20   ACACACACACACA..
@@ -202,11 +250,19 @@ END
     made life
     look --frame 15 "$room/life.pcap" >"$room/output" 2>&1
     grep -qxF 'refused: destination name: pointer not allowed, at byte 48' "$room/output" && grep -q '^00030 .\[c0\]' "$room/output" &&
-        grep -qxF "$(nbt help 'destination name: pointer not allowed 48')" "$room/output"
+        grep -qxF "  $(nbt help 'destination name: pointer not allowed 48')" "$room/output" &&
+        grep -qxF "nbt help 'destination name: pointer not allowed 48'" "$room/output"
     count $? "the byte with the fault, and what to do: $(grep -n '\[' "$room/output")"
+    made disputes
+    look --frame 16 "$room/disputes.pcap" 2>&1 | grep -A 1 '^nbt help' | diff - <(printf '%s\n' "nbt help 'name: reserved label 12'" \
+        '  no name stands there: perhaps other traffic')
+    count $? 'what to do about a fault of port 137 is about that port'
     ends 'a frame without a packet' 1 '' --frame 10 "$office"
     [ "$(cat "$room/output")" = 'frame 10 completes no packet of these ports' ]
     count $? "what is said of it: $(cat "$room/output")"
+    ends 'a frame past the last one' 1 '' --frame 99 "$office"
+    [ "$(cat "$room/output")" = 'there is no frame 99: the capture has 16 frames' ]
+    count $? "what is said of a frame past the last one: $(cat "$room/output")"
     made fragments
     look --frame 1 "$room/fragments.pcap" 2>&1 | grep -qx 'left out: fragments of IP whose others are missing'
     count $? 'a frame that is left out'
@@ -223,14 +279,13 @@ bad() {
     count $? "a file that is no capture: $(cat "$room/errors")"
     head -c 400 "$office" >"$room/cut.pcap"
     look "$room/cut.pcap" >"$room/output" 2>"$room/errors"
-    [ $? -eq 3 ] && [ "$(tail -n 1 "$room/output")" = '3 frames, 3 packets, 0 refused, 0 left out' ] && grep -q '^nbt-look: tshark: .* cut short' "$room/errors"
+    [ $? -eq 3 ] && [ "$(tail -n 1 "$room/output")" = '3 frames, 3 packets, 0 malformed, 0 left out' ] && grep -q '^nbt-look: tshark: .* cut short' "$room/errors"
     count $? "a file that is cut: $(cat "$room/errors")"
     : >"$room/empty"
     ends 'an empty file' 2 "nbt-look: $room/empty: the file holds no packets: it is empty" "$room/empty"
     ends 'a directory' 3 "nbt-look: $room: it is a directory" "$room"
     ends 'no file' 3 "nbt-look: $room/none: No such file or directory" "$room/none"
     ends 'no word' 2 'nbt-look: usage: nbt-look FILE, or -, --live or -i INTERFACE in place of FILE; --help says more'
-    ends 'an unknown kind' 2 "nbt-look: argument --kind: what is none of $(kinds); --help says more" --kind what x
     ends 'no address' 2 'nbt-look: argument --host: an address is wanted, as 10.0.0.6; --help says more' --host fred x
     look "$office" 2>"$room/errors" | head -n 1 >"$room/output"
     [ "$(cat "$room/output")" = "$(head -n 1 "$room/list")" ] && [ ! -s "$room/errors" ]
@@ -245,13 +300,13 @@ bad() {
     # Packets that aren't of these ports, and what is said of them.
     made others
     prints 'ports and protocols that are not read' "$room/others.pcap" <<'END'
-3 frames, 0 packets, 0 refused, 0 left out
+3 frames, 0 packets, 0 malformed, 0 left out
 no frame has UDP of port 137 or 138, or TCP of port 139; --port takes others for them
-not read by this tool: 1 frames of port 445, SMB without NetBIOS, 2 frames of NetBEUI, NetBIOS over LLC
+not read by this tool: 1 frame of port 445, SMB without NetBIOS, 2 frames of NetBEUI, NetBIOS over LLC
 END
     made usb
     prints 'a link type without IP' "$room/usb.pcap" <<'END'
-3 frames, 0 packets, 0 refused, 0 left out
+3 frames, 0 packets, 0 malformed, 0 left out
 no frame has UDP of port 137 or 138, or TCP of port 139; --port takes others for them
 not read by this tool: no frame with IP: the first one is usb
 END
@@ -259,7 +314,7 @@ END
     # What the file has of cut packets, fragments, times and interfaces.
     made snapped
     look "$room/snapped.pcap" >"$room/output"
-    [ "$(tail -n 1 "$room/output")" = '601 frames, 1 packets, 0 refused, 600 left out: 600 cut by the snap length' ] &&
+    [ "$(tail -n 1 "$room/output")" = '601 frames, 1 packet, 0 malformed, 600 left out: 600 cut by the snap length' ] &&
         [ "$(grep -c ' cut: group datagram from JOE<00>, 54 of 1082 bytes$' "$room/output")" -eq 600 ]
     count $? "packets that are cut: $(tail -n 1 "$room/output")"
     made fragments
@@ -267,26 +322,27 @@ END
     1  0.000000 10.0.0.5        10.0.0.6        left out: fragments of IP whose others are missing
     3  0.000002 10.0.0.5        10.0.0.6        left out: fragments of IP without the one that has the ports
     4  0.000003 10.0.0.5        10.0.0.6        asks for FRED<20>
-4 frames, 1 packets, 0 refused, 2 left out: 1 fragments of IP whose others are missing, 1 fragments of IP without the one that has the ports
+4 frames, 1 packet, 0 malformed, 2 left out: 1 fragments of IP whose others are missing, 1 fragments of IP without the one that has the ports
+1 frame without a packet: 1 fragment of IP
 END
     made backwards
     prints 'a clock that runs backwards' "$room/backwards.pcap" <<'END'
     1  0.000000 10.0.0.5        10.0.0.6        asks for FRED<20>
     2 -1.500000 10.0.0.5        10.0.0.6        asks for JOE<00>
     3  1.000000 10.0.0.5        10.0.0.6        asks for FRED<20>
-3 frames, 3 packets, 0 refused, 0 left out
+3 frames, 3 packets, 0 malformed, 0 left out
 END
     made interfaces
     prints 'two interfaces with the same addresses' "$room/interfaces.pcap" <<'END'
     1  0.000000 10.0.0.5        10.0.0.6        asks for FRED<20>
     2  0.001000 10.0.0.5%eth1   10.0.0.6        asks for JOE<00>
-2 frames, 2 packets, 0 refused, 0 left out
+2 frames, 2 packets, 0 malformed, 0 left out
 END
     made evil
     prints 'names and interfaces that act on terminals' "$room/evil.pcap" <<'END'
     1  0.000000 10.0.0.5        10.0.0.6        asks for \1b]0;x\07\ff\9b2J<20>.\1b[31m
     2  0.000001 10.0.0.5%\x1b]0;x\x07\xff\x9b2J 10.0.0.6        asks for \1b]0;x\07\ff\9b2J<20>.\1b[31m
-2 frames, 2 packets, 0 refused, 0 left out
+2 frames, 2 packets, 0 malformed, 0 left out
 END
     for each in --json --summary '--frame 2' '--color always' '--summary --json'; do
         look $each "$room/evil.pcap" 2>&1 | LC_ALL=C grep -qP '[^\x20-\x7e]|\x1b'
@@ -294,11 +350,11 @@ END
     done
     made chance
     look "$room/chance.pcap" >"$room/output" 2>"$room/errors"
-    [ $? -eq 0 ] && [ ! -s "$room/errors" ] && tail -n 1 "$room/output" | grep -q '^2000 frames, ' && ! grep -q Traceback "$room/output"
+    [ $? -eq 0 ] && [ ! -s "$room/errors" ] && grep -q '^2000 frames, ' "$room/output" && ! grep -q Traceback "$room/output"
     count $? "frames of any bytes: $(tail -n 1 "$room/output")"
 }
 
-kinds() { python3 -c 'import sys; sys.dont_write_bytecode = True; sys.path.insert(0, sys.argv[1]); from nbt_look import kinds; print(", ".join(kinds.ALL))' "$here/../tools"; }
+kinds() { python3 -c 'import sys; sys.dont_write_bytecode = True; sys.path.insert(0, sys.argv[1]); from nbt_look import kindwords; print(", ".join(kindwords.ALL))' "$here/../tools"; }
 
 # ---- Random captures, terminals, memory, networks.
 random() { counted "$here/random_looks.py" 10; }
@@ -379,7 +435,7 @@ for number in range(18):
     time.sleep(0.5)') &
     timeout --preserve-status -s INT 12 nbt-look -i lo --host 127.0.0.1 >"$room/output" 2>"$room/errors"
     [ $? -eq 0 ] && [ ! -s "$room/errors" ] && [ "$(grep -c 'refused: truncated' "$room/output")" -ge 2 ] &&
-        grep -qxE '([0-9]+) frames, \1 packets, \1 refused, 0 left out; \1 shown' "$room/output"
+        grep -qxE '([0-9]+) frames, \1 packet, \1 malformed, 0 left out; \1 shown' "$room/output"
     count $? "nbt-look -i lo: $(cat "$room/errors" "$room/output")"
     wait
 }
@@ -389,6 +445,7 @@ part samba samba
 part filters filters
 part objects objects
 part summary summary
+part guesses guesses
 part frames frames
 part bad bad
 part random random

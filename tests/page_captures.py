@@ -4,10 +4,9 @@
 Usage: tests/page_captures.py COUNT [SEED]
 
 Each has datagrams, fragments of IP and TCP streams as networks deliver them, below VLAN tags, with snap lengths, as pcap or pcapng, in
-either byte order; some of them cooked as Linux does, in both versions, or from a loopback. What both print has to be the same, byte for byte: payloads with their moments, frames and ends, comments on what is left
-out, ticks, and the summary with its counts by reason. Only where fragments contradict each other tshark doesn't always say so: then the
-frame is left out by both, and pcap2cap names the length of UDP that it has. Its last line is 'N passed, M failed'; a capture that fails is kept in the folder
-of temporary files, and named.
+either byte order; some of them cooked as Linux does, in both versions, or from a loopback. What both print has to be the same, byte for
+byte: payloads with their moments, frames and ends, comments on what is left out, ticks, and the summary with its counts by reason. Its
+last line is 'N passed, M failed'; a capture that fails is kept in the folder of temporary files, and named.
 """
 import os
 import random
@@ -24,16 +23,6 @@ import random_pcap
 TOP = os.path.realpath(f'{sys.path[0]}/..')
 PROGRAM = ['node', f'{TOP}/page/tests/capture.mjs']
 TOOL = [f'{TOP}/tools/pcap2cap']
-
-
-DIFFER = re.compile('its fragments differ where they overlap')
-WHY = re.compile(DIFFER.pattern + '|its UDP length is [0-9]+, and the file has [0-9]+ bytes of its payload')
-REASONS = re.compile('([0-9]+) (?:a length that the packet lacks|fragments of IP that come late or differ)')
-
-
-def summed(summary):
-    """A summary without those two reasons, and how many frames they have together."""
-    return REASONS.sub('0 of both', summary.strip()) + ', %d of both' % sum(map(int, REASONS.findall(summary)))
 
 
 def untunneled(packet):
@@ -89,8 +78,6 @@ def agrees(seed):
         file.write(relinked(random_pcap.pcap_of(rng), rng))
     given, wanted = (subprocess.run([*words, path], capture_output=True, text=True, timeout=120) for words in (PROGRAM, TOOL))
     pairs = [(first.stdout, first.stderr) for first in (given, wanted)]
-    if DIFFER.search(given.stdout):
-        pairs = [(WHY.sub('its fragments differ or lack bytes', text), summed(summary)) for text, summary in pairs]
     difference = first_difference(*(text.splitlines() for text, _ in pairs)) or first_difference(*(counts(summary) for _, summary in pairs))
     if difference:
         print(f'failed: {seed}: {difference} ({path})')

@@ -7,7 +7,7 @@ The captures are those of tests/random_captures.py. Of each:
 - the packets are those that the reading has, each with its frame, time, addresses, ports and service;
 - each frame that the reading leaves out is there with a reason, and no other one but fragments of IP whose others are missing;
 - each frame in which tshark finds a packet of the name or datagram service is there, as a packet or with a reason;
-- the last line adds up.
+- the last line adds up, and so do the frames that are said to have no packet.
 
 Its last line is 'N passed, M failed'; a capture that fails is kept in the folder of temporary files, and named.
 """
@@ -15,6 +15,7 @@ import collections
 import json
 import os
 import random
+import re
 import subprocess
 import sys
 import tempfile
@@ -67,8 +68,25 @@ def first_difference(path, frames):
     unseen = found_by_tshark(path) - {each['frame'] for each in objects}
     if unseen:
         return f'frames of these services are nowhere: {sorted(unseen)}'
-    counts = f'{len(frames)} frames, {len(packets)} packets, {sum("refused" in each for each in packets)} refused, {len(left_out)} left out'
-    return '' if done.stderr.splitlines()[0].partition(': ')[0] == counts else f'{done.stderr.strip()}, not {counts}'
+    counts = (f'{counted(frames, "frame")}, {counted(packets, "packet")}, {sum("refused" in each for each in packets)} malformed, '
+              f'{len(left_out)} left out')
+    if done.stderr.splitlines()[0].partition(': ')[0] != counts:
+        return f'{done.stderr.strip()}, not {counts}'
+    without = len(frames) - len({each['frame'] for each in objects})
+    return '' if not packets or without == said_without(done.stderr) else f'{done.stderr.strip()}, not {without} frames without a packet'
+
+
+def counted(items, what):
+    return f'{len(items)} {what}' if len(items) == 1 else f'{len(items)} {what}s'
+
+
+def said_without(text):
+    """How many frames are said to have no packet, where what they are adds up to that."""
+    found = re.search(r'^(\d+) frames? without a packet: (.*)$', text, re.MULTILINE)
+    if not found:
+        return 0
+    parts = sum(int(each.split()[0]) for each in found[2].split(', '))
+    return parts if parts == int(found[1]) else None
 
 
 def head_of(packet):

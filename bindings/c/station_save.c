@@ -9,11 +9,11 @@ int main(void) {
     size_t used, at;
     if (nbt_station_create((const uint8_t *)"FRED<20>", 8, 0x0a000009, 138, 1024, UINT32_MAX, &station.at, &at) != NBT_DONE)
         return 1;
-    if (nbt_station_save(&station, none, 0, &used) != NBT_NO_ROOM || (table = malloc(used)) == NULL)
-        return 1;
-    if (nbt_station_save(&station, table, used, &used) == NBT_DONE)
-        printf("%zu bytes, %.4s\n", used, (const char *)table);
-    free(table);
+    if (nbt_station_save(&station, none, 0, &used) == NBT_NO_ROOM && (table = malloc(used)) != NULL) {
+        if (nbt_station_save(&station, table, used, &used) == NBT_DONE)
+            printf("%zu bytes, %.4s\n", used, (const char *)table);
+        free(table);
+    }
     nbt_station_free(station);
     return 0;
 }

@@ -26,26 +26,34 @@ static void take(struct nbt_station *station, const uint8_t *payload, size_t len
         printf("refused, status %u at %zu\n", (unsigned)taken.refusal, taken.refused_at);
 }
 
-int main(void) {
-    struct nbt_station station;
+/* Gives a station what others send. Whether it went well. */
+static bool listen(struct nbt_station *station) {
     uint8_t packets[512];
     size_t used, at, first;
-    if (nbt_station_create(bytes("FRED<20> OFFICE<1e>"), 19, 0x0a000009, 138, 1024, UINT32_MAX, &station.at, &at) != NBT_DONE)
-        return 1;
     if (nbt_datagram_write(0x10, 7, 0x0a000005, 138, bytes("JOE<00>"), 7, bytes("FRED<20>"), 8, bytes("hello, FRED"), 11, 6,
                            packets, sizeof packets, &used, &at) != NBT_DONE)
-        return 1;
+        return false;
     first = (size_t)packets[0] << 8 | packets[1];
-    take(&station, packets + 2 + first + 2, used - first - 4);
-    take(&station, packets + 2, first);
-    take(&station, packets + 2, first);
+    take(station, packets + 2 + first + 2, used - first - 4);
+    take(station, packets + 2, first);
+    take(station, packets + 2, first);
     if (nbt_datagram_write(0x10, 8, 0x0a000005, 138, bytes("JOE<00>"), 7, bytes("ANN<20>"), 7, bytes("hello"), 5, 100,
                            packets, sizeof packets, &used, &at) != NBT_DONE)
+        return false;
+    take(station, packets + 2, used - 2);
+    take(station, packets + 2, 40);
+    return true;
+}
+
+int main(void) {
+    struct nbt_station station;
+    size_t at;
+    bool done;
+    if (nbt_station_create(bytes("FRED<20> OFFICE<1e>"), 19, 0x0a000009, 138, 1024, UINT32_MAX, &station.at, &at) != NBT_DONE)
         return 1;
-    take(&station, packets + 2, used - 2);
-    take(&station, packets + 2, 40);
+    done = listen(&station);
     nbt_station_free(station);
-    return 0;
+    return done ? 0 : 1;
 }
 /* Prints:
  * kept 0a000005:138/7

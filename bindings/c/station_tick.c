@@ -14,8 +14,10 @@ int main(void) {
     uint64_t now;
     if (nbt_station_create((const uint8_t *)"FRED<20>", 8, 0x0a000009, 138, 1024, UINT32_MAX, &station.at, &at) != NBT_DONE)
         return 1;
-    if (nbt_station_take(&station, 5000, piece, sizeof piece - 1, &taken, into, sizeof into, &used) != NBT_DONE)
+    if (nbt_station_take(&station, 5000, piece, sizeof piece - 1, &taken, into, sizeof into, &used) != NBT_DONE) {
+        nbt_station_free(station);
         return 1;
+    }
     for (now = 6000; now <= 7000; now += 1000)
         if (nbt_station_tick(&station, now, &dropped) == NBT_DONE)
             printf("at %u: %u\n", (unsigned)now, (unsigned)dropped);

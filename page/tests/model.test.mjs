@@ -11,8 +11,12 @@ import { Seen } from '../src/model/seen.js';
 import { momentOf, since, utc } from '../src/model/times.js';
 import { Advice, placed } from '../src/view/advice.js';
 import { Filter } from '../src/view/filter.js';
-import { keyOf, missing } from '../src/view/keys.js';
+import { outcome, summary } from '../src/view/conflicts.js';
+import { keyOf, known } from '../src/view/keys.js';
+import { conclusion, sidesOf } from '../src/view/sides.js';
 import { hashOf, placeOf } from '../src/view/address.js';
+import { TAKES, hintOf } from '../src/view/hint.js';
+import { answersTo } from '../src/view/placing.js';
 
 const bytes = (text) => Uint8Array.from(text, (each) => each.charCodeAt(0));
 const fileOf = (text) => slicesOf(bytes(text));
@@ -48,8 +52,25 @@ test('the lines of a capture, and the frames that comments name', () => {
     assert.deepEqual([second.mark.frame, second.mark.source, second.mark.time, second.bytes.length], [4, '', 6_000_000n, 0]);
     assert.deepEqual(Array.from(written(fileOf(text)), textOf), ['# frame 7 2026-01-01T00:00:01.000002Z [fe80::5]:137 > 10.0.0.9:137',
         '137 5 00ff', '', '138 6 empty', 'tick 7', '# last']);
-    for (const [bad, line] of [['137 0 0\n', 1], ['137 0 00\n140 0 00\n', 2], ['tick 18446744073709551616', 1], [`# ${'x'.repeat(262_200)}`, 1]]) {
-        assert.throws(() => Array.from(linesOf(fileOf(bad))), (error) => error instanceof LineFault && error.message.startsWith(`line ${line} `));
+    assert.deepEqual(Array.from(payloadsIn(linesOf(fileOf('137 9223372036855 00\n'))), ({ seen }) => seen.mark.time), [null]);
+});
+
+test('what is wrong with a line that no capture has', () => {
+    for (const [bad, line, why] of [
+        ['137 0 0\n', 1, 'its bytes have an odd number of digits'], ['137 0 00\n140 0 00\n', 2, 'it begins with “140”, and not with 137, 138, 139, tick or #'],
+        ['tick 18446744073709551616', 1, '“18446744073709551616” is no millisecond'], ['tick 5 6', 1, 'something follows its millisecond'],
+        [`# ${'x'.repeat(262_200)}`, 1, 'it is longer than 262200 bytes'], ['137', 1, 'a millisecond and one space before it are wanted after 137'],
+        ['137  0 00', 1, 'a millisecond and one space before it are wanted after 137'], ['137 now 00', 1, '“now” is no millisecond'],
+        ['137 0', 1, 'its bytes are missing: of none the word is empty'], ['137 0 00 ff', 1, 'there is a space between its bytes, or after them'],
+        ['137 0 0x00', 1, '“x” stands in its bytes, and is no hexadecimal digit'], ['137 0 00\r\n', 1, 'it ends in a carriage return, and a line feed alone is wanted'],
+        ['0003 0110 0001', 1, 'it has bytes alone, and a port and a millisecond are wanted before them'],
+        [`${'Dear\t'.repeat(9)}`, 1, 'it begins with “Dear.Dear.Dear.Dear.Dear..”, and not with 137, 138, 139, tick or #'],
+    ]) {
+        assert.throws(() => Array.from(linesOf(fileOf(bad))), (error) => {
+            assert.ok(error instanceof LineFault);
+            assert.equal(error.message, `line ${line} is none of a capture: ${why}. A line has a port, a millisecond and bytes in hexadecimal, as 137 0 000301100001`);
+            return true;
+        });
     }
 });
 
@@ -109,6 +130,41 @@ test('claims of one name: conflicts, refusals, releases', () => {
     const rows = seen.tables().names.map(({ name, address, how, until, conflicts, refusals, kind }) => [name, address, how, until, conflicts, refusals, kind]);
     assert.deepEqual(rows, [['ANN<00>', '', 'nobody', null, 1, 0, 'workstation'], ['FRED<20>', '10.0.0.5', 'released', 5_000_000_000n, 1, 0, 'file server'],
         ['FRED<20>', '10.0.0.6', 'refused', null, 1, 1, 'file server']]);
+    assert.deepEqual(seen.tables().names.map(({ lifetime }) => lifetime), [null, null, null]);
+    assert.deepEqual(seen.tables().stations.filter(({ refused }) => refused.length).map(({ address, refused }) => [address, refused]), [['10.0.0.6', ['FRED<20>']]]);
+});
+
+test('conflicts: who holds a name, who was refused it and by whom', () => {
+    const claim = (seen, frame, address, name = 'FRED<20>') => seen.take(service('registration', name, { address }), '', ends(frame, address, '10.0.0.255'));
+    const answer = (seen, frame, by, to, rcode, address = '10.0.0.5') =>
+        seen.take(service('registration', 'FRED<20>', { word: 'ad86', rcode, address }), '', ends(frame, by, to));
+    const said = (seen) => seen.tables().conflicts.map((each) => [each.frame, outcome(each)]);
+    const own = new Seen();
+    assert.deepEqual([claim(own, 1, '10.0.0.5'), claim(own, 2, '10.0.0.6')], [false, true]);
+    assert.deepEqual(said(own), [[2, 'FRED<20>: 10.0.0.5 and 10.0.0.6 claim it, and nobody was refused it.']]);
+    assert.equal(answer(own, 3, '10.0.0.5', '10.0.0.6', 'ACT_ERR'), true);
+    assert.deepEqual(said(own), [[3, 'FRED<20>: 10.0.0.5 holds it; 10.0.0.6 was refused it.']]);
+    claim(own, 4, '10.0.0.7', 'ANN<00>');
+    claim(own, 5, '10.0.0.8', 'ANN<00>');
+    assert.equal(summary(own.tables().conflicts), '2 names are in conflict.');
+    const server = new Seen();
+    claim(server, 1, '10.0.0.6');
+    answer(server, 2, '10.0.0.1', '10.0.0.6', 'ACT_ERR');
+    assert.deepEqual(said(server), [[2, 'FRED<20>: 10.0.0.5 holds it; 10.0.0.6 was refused it by 10.0.0.1.']]);
+    const echoed = new Seen();
+    answer(echoed, 1, '10.0.0.1', '10.0.0.6', 'ACT_ERR', '10.0.0.6');
+    assert.deepEqual(said(echoed), [[1, "FRED<20>: 10.0.0.1 refused it to 10.0.0.6; who holds it isn't in the capture."]]);
+    const demanded = new Seen();
+    for (const last of [5, 6, 7]) claim(demanded, last, `10.0.0.${last}`);
+    answer(demanded, 8, '10.0.0.6', '10.0.0.5', 'CFT_ERR', '10.0.0.6');
+    assert.deepEqual(said(demanded), [[6, 'FRED<20>: 10.0.0.6 and 10.0.0.7 claim it, and nobody was refused it.'],
+        [8, 'FRED<20>: 10.0.0.6 holds it; 10.0.0.5 was refused it.']]);
+    const policy = new Seen();
+    claim(policy, 1, '10.0.0.6');
+    assert.deepEqual([answer(policy, 2, '10.0.0.1', '10.0.0.6', 'RFS_ERR'), said(policy), summary(policy.tables().conflicts)], [false, [], 'No name is in conflict.']);
+    const asked = new Seen();
+    assert.equal(asked.take(service('query', 'FRED<20>', { word: '8507', rcode: 'CFT_ERR' }), '', ends(1, '10.0.0.1', '10.0.0.9')), true);
+    assert.deepEqual(said(asked), []);
 });
 
 test('queries without an answer', () => {
@@ -117,7 +173,11 @@ test('queries without an answer', () => {
     seen.take(service('query', 'ANN<00>', { word: '0110', id: '0002' }), '', ends(2, '10.0.0.5', '10.0.0.255'));
     seen.take(service('query', 'ANN<00>', { word: '0110', id: '0003' }), '', ends(3, '10.0.0.5', '10.0.0.255'));
     seen.take(service('query', 'FRED<20>', { word: '8500' }), '', ends(4, '10.0.0.6', '10.0.0.5'));
-    assert.deepEqual(seen.tables().queries.map(({ name, by, times, frame }) => [name, by, times, frame]), [['ANN<00>', '10.0.0.5', 2, 2]]);
+    const rows = () => seen.tables().queries.map(({ name, by, times, frames, answered }) => [name, by, times, frames, answered]);
+    assert.deepEqual(rows(), [['ANN<00>', '10.0.0.5', 2, [2, 3], null]]);
+    seen.take(service('query', 'ANN<00>', { word: '0110', id: '0004' }), '', ends(5, '10.0.0.5', '10.0.0.255'));
+    seen.take(service('query', 'ANN<00>', { word: '8500', id: '0004' }), '', ends(6, '10.0.0.6', '10.0.0.5'));
+    assert.deepEqual(rows(), [['ANN<00>', '10.0.0.5', 2, [2, 3], 6]]);
 });
 
 test('sessions: who called whom, and what came of it', () => {
@@ -142,14 +202,34 @@ test('refusals are counted without their places', () => {
     assert.deepEqual(seen.tables().refused, [{ reason: 'name: bad pointer', packets: 2, frame: 3, byte: 50 }, { reason: 'unknown type', packets: 1, frame: 5, byte: null }]);
 });
 
-test('the keys of a list, and what is missing of them', () => {
+test('the keys of a list, and what is known of them', () => {
     const whole = keyOf('10.0.0.5:138/0001 whole group JOE<00> FRED<20> 6162');
-    assert.deepEqual([whole.state, whole.places, whole.end, missing(whole)], ['whole', [[0, 2]], 2, []]);
-    const partial = keyOf('10.0.0.6:138/0003 partial unique JOE<00> ANN<20> 6/12 2 2-4,8-10');
-    assert.deepEqual([partial.places, partial.end, partial.wide, missing(partial)], [[[2, 4], [8, 10]], 12, 12, ['0 to 1', '4 to 7', '10 to 11']]);
+    assert.deepEqual([whole.state, whole.places, whole.end, known(whole)], ['whole', [[0, 2]], 2, 'all of its 2 bytes']);
+    assert.equal(known(keyOf('10.0.0.5:138/0001 whole group JOE<00> FRED<20> empty')), 'whole, without a byte');
+    const partial = keyOf('10.0.0.6:138/0003 partial unique JOE<00> ANN<20> 6/12 2 2-4,7-11');
+    assert.deepEqual([partial.places, partial.end, partial.wide, known(partial)],
+        [[[2, 4], [7, 11]], 12, 12, '6 of 12 bytes; missing bytes 0 to 1, bytes 4 to 6, byte 11']);
     const open = keyOf('10.0.0.5:138/0002 partial group JOE<00> FRED<20> 4/? 1 0-4 more 9');
-    assert.deepEqual([open.end, open.wide, missing(open)], [null, 9, ['from 4 on']]);
-    assert.equal(keyOf('10.0.0.9:138/0003 spoilt').state, 'spoilt');
+    assert.deepEqual([open.end, open.wide, known(open)], [null, 9, "4 bytes; missing what follows byte 3; its length isn't known"]);
+    assert.equal(known(keyOf('10.0.0.5:138/0002 partial group JOE<00> FRED<20> 0/? 0 -')), "0 bytes; missing all of them; its length isn't known");
+    assert.equal(known(keyOf('10.0.0.9:138/0003 spoilt')), 'its fragments contradict each other');
+});
+
+test('two taps: keys by side, and what comes of them', () => {
+    const [whole, other] = ['a whole group JOE<00> FRED<20> 616263', 'b whole group JOE<00> FRED<20> 61'];
+    const [front, rest, gap] = ['1/3 1 0-1', '2/3 1 1-3', '1/3 1 2-3'].map((each) => `a partial group JOE<00> FRED<20> ${each}`);
+    const named = ({ joined, one, other, differing, equal }) => [...[joined, one, other, differing].map((rows) => rows.map(({ key }) => key)), equal];
+    const joined = sidesOf({ first: [front], second: [rest, other], both: [whole, other] });
+    assert.deepEqual(named(joined), [['a'], [], ['b'], [], 0]);
+    assert.equal(conclusion(joined), 'Joined, 2 of 2 datagrams are whole, 1 of them at neither tap alone. Of 2 the taps know different things.');
+    const differing = sidesOf({ first: [front, other], second: [gap, other], both: ['a partial group JOE<00> FRED<20> 2/3 2 0-1,2-3', other] });
+    assert.deepEqual(named(differing), [[], [], [], ['a'], 1]);
+    assert.equal(conclusion(differing), 'Joined, 1 of 2 datagrams is whole. 1 still lacks bytes. Of 1 the taps know different things.');
+    const alone = sidesOf({ first: [whole, 'c spoilt'], second: ['c spoilt'], both: [whole, 'c spoilt'] });
+    assert.deepEqual(named(alone), [[], ['a'], [], [], 1]);
+    assert.equal(conclusion(alone), 'Joined, 1 of 2 datagrams is whole. Of 1 the fragments contradict each other. Of 1 the taps know different things.');
+    assert.equal(conclusion(sidesOf({ first: [other], second: [other], both: [other] })), 'Joined, 1 of 1 datagram is whole. Both taps know the same.');
+    assert.equal(conclusion(sidesOf({ first: [], second: [], both: [] })), 'Neither tap has anything of a datagram.');
 });
 
 test('the address keeps its place', () => {
@@ -165,6 +245,29 @@ test('words of the filter: kinds, ports, and parts of what is said', () => {
         worded: { kinds: { at: (row) => row + 2 }, source: { at: () => 1 }, destination: { at: () => 0 } }, text: () => '',
     };
     const wanted = (words) => [0, 1].filter((row) => new Filter({ words, kind: '', sender: '', reason: '' }).wants(rows, row));
+    assert.deepEqual(['10.0.0.9', '10.0.0.', '0.0.5', '10.0.0.90', '0.0.0.9'].map(wanted), [[0], [0, 1], [0, 1], [], []]);
     assert.deepEqual([wanted(''), wanted('response'), wanted('fred<20>'), wanted('10.0.0.5 refused'), wanted('138'), wanted('a.c')],
         [[0, 1], [0], [0], [1], [], []]);
+});
+
+test('a filter of Wireshark leads to words', () => {
+    for (const [filter, instead] of [
+        ['ip.addr==10.0.0.6', '10.0.0.6'], ['ip.src == 10.0.0.6 && udp.port == 138', '10.0.0.6 138'], ['nbns', '137'], ['ipv6.dst eq fe80::5', 'fe80::5'],
+        ['nbns.name contains "FRED"', 'FRED 137'], ['nbdgm.src.ip == 10.0.0.5 && nbdgm.dgram_id == 0x0001', '10.0.0.5 138'], ['frame.number == 5', ''],
+        ['tcp.port == 445', ''], ['udp.port == 137 || nbns', '137'],
+    ]) {
+        assert.deepEqual(hintOf(filter), { text: `“${filter}” is a filter of Wireshark. ${TAKES}`, instead }, filter);
+    }
+    assert.deepEqual(hintOf(' FRED<2> '), { text: `No row fits “FRED<2>”. ${TAKES}`, instead: '' });
+    assert.deepEqual(hintOf(''), { text: 'No packet is of all that is chosen.', instead: '' });
+});
+
+test('where a file goes', () => {
+    const said = (open, count) => answersTo(open, count).map(({ words, taps, closes }) => [words, ...taps.slice(0, count), closes]);
+    assert.deepEqual(said([null, null], 2), [['', 0, 1, null]]);
+    assert.deepEqual(said(['a', null], 1), [['As a second tap, beside a', 1, null], ['Instead of a', 0, null]]);
+    assert.deepEqual(said([null, 'b'], 1), [['As a second tap, beside b', 0, null], ['Instead of b', 1, null]]);
+    assert.deepEqual(said(['a', 'b'], 1), [['Instead of tap 1, a', 0, null], ['Instead of tap 2, b', 1, null], ['Alone, instead of both', 0, 1]]);
+    assert.deepEqual(said(['a', 'b'], 2), [['Instead of a and b', 0, 1, null]]);
+    assert.deepEqual(said(['a', null], 2), [['Instead of a', 0, 1, null]]);
 });

@@ -153,14 +153,20 @@ def one_address(count):
 
 # ---- the largest packets of port 137
 
-def pointed(name, count):
-    """A packet of one question by this name and `count` questions by pointers to it, 20 times."""
+def pointed(name, count, times):
+    """A packet of one question by this name and `count` questions by pointers to it, so many times."""
     fields = struct.pack('>HH', NB, IN)
     questions = name + fields + (TO_FIRST_QUESTION + fields) * count
     payload = struct.pack('>HHHHHH', 1, 0x0110, 1 + count, 0, 0, 0) + questions
-    return [line(moment, payload, 137) for moment in range(20)]
+    return [line(moment, payload, 137) for moment in range(times)]
 
 
 def labels(count):
     """The name with so many labels of one byte."""
     return b'\x01a' * count + b'\0'
+
+
+def refused(size, times):
+    """A packet of so many bytes whose first name begins with a reserved length, so many times."""
+    payload = struct.pack('>HHHHHH', 1, 0x0110, 1, 0, 0, 0) + b'\x40'
+    return [line(moment, payload.ljust(size, b'\0'), 137) for moment in range(times)]

@@ -9,9 +9,13 @@ from selenium.webdriver.chrome.service import Service
 from selenium.webdriver.common.by import By
 from selenium.webdriver.common.keys import Keys
 
+from page_seen import Seen
+
 CHROMIUM, DRIVER = '/usr/bin/chromium', '/usr/bin/chromedriver'
 WORDS = ('--headless=new', '--no-sandbox', '--disable-dev-shm-usage', '--disable-background-networking', '--disable-component-update',
          '--no-first-run', '--enable-precise-memory-info')
+# How many seconds a file may take to be read, on a machine that is busy.
+LONG = 300
 # What may come after the page itself: what it makes of its own blocks.
 OWN = ('blob:', 'data:', 'about:', 'chrome://', 'chrome-extension://', 'devtools://')
 # What has to have a name, by its role in the accessibility tree.
@@ -19,7 +23,7 @@ NAMED = {'button', 'link', 'textbox', 'searchbox', 'combobox', 'grid', 'columnhe
          'table', 'main', 'complementary'}
 
 
-class Browser:
+class Browser(Seen):
     """One window, with the page in it."""
 
     def __init__(self, folder, width=1400, height=800):
@@ -64,11 +68,18 @@ class Browser:
             time.sleep(0.01)
         return found
 
-    def give(self, *paths):
-        """Chooses files, and waits until they are read or refused."""
+    def give(self, *paths, answer=''):
+        """Chooses files, answers where they go if others are open, and waits until they are read or refused."""
         self.driver.execute_script('document.getElementById("live").textContent = ""; document.getElementById("dismiss").click()')
         self.id('file').send_keys('\n'.join(paths))
-        self.wait(lambda: self.is_read() and (self.text('live') or self.message()))
+        if answer:
+            self.answer(answer)
+        self.wait(lambda: self.is_read() and (self.text('live') or self.message()), LONG)
+
+    def answer(self, words):
+        """Answers where a file goes, by the button that begins so."""
+        self.wait(lambda: self.id('placing').is_displayed())
+        next(each for each in self.all('#placing-answers button') if each.text.startswith(words)).click()
 
     def sample(self):
         self.driver.execute_script('document.getElementById("live").textContent = ""')
@@ -99,10 +110,10 @@ class Browser:
         self.wait(lambda: self.id(f'view-{name}').is_displayed())
 
     def choose(self, frame):
-        """Chooses the row of a frame that is in sight, and waits for its packet."""
+        """Chooses the row of a frame, or of a line, that is in sight, and waits for its packet."""
         row = next(each for each in self.all('.sight .row:not([hidden])') if each.text.split('\n')[0] == str(frame))
         row.click()
-        self.wait(lambda: self.texts('#packet h2') == [f'Frame {frame}'])
+        self.wait(lambda: self.texts('#packet h2') in ([f'Frame {frame}'], [f'Line {frame}']))
 
     def key(self, *keys):
         self.driver.switch_to.active_element.send_keys(*keys)
@@ -134,8 +145,7 @@ class Browser:
                     self.requests.append(url)
 
     def picture(self, path, dark=False):
-        scheme = {'name': 'prefers-color-scheme', 'value': 'dark' if dark else 'light'}
-        self.driver.execute_cdp_cmd('Emulation.setEmulatedMedia', {'features': [scheme]})
+        self.media(dark=dark)
         time.sleep(0.3)
         self.driver.save_screenshot(path)
 

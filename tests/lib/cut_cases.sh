@@ -17,6 +17,7 @@ cut: claims FRED<20>, 54 of 68 bytes
   id=0003 word=2910 op=registration flags=RD+B rcode=ok qd=1 an=0 ns=0 ar=1
   question FRED<20> type=0020 class=0001
 
+payload, 54 bytes
 00000   00  03  29  10  00  01  00  00  00  00  00  01  20  45  47  46   ..)......... EGF
 00010   43  45  46  45  45  43  41  43  41  43  41  43  41  43  41  43   CEFEECACACACACAC
 00020   41  43  41  43  41  43  41  43  41  43  41  43  41  00  00  20   ACACACACACACA..
@@ -30,7 +31,7 @@ left out
   reason                  frames
   cut by the snap length  25
 
-25 frames, 0 packets, 0 refused, 25 left out: 25 cut by the snap length
+25 frames, 0 packets, 0 malformed, 25 left out: 25 cut by the snap length
 END
     # A capture that is text has the same fronts, with --bare too.
     for each in '' --bare; do

@@ -99,9 +99,9 @@ def address(last):
     return bytes([10, 0, 0, last])
 
 
-def entry(last, flags=0):
-    """What an NB record of 300,000 seconds says of an address."""
-    return struct.pack('>HHLHH', 0x20, 1, 300_000, 6, flags) + address(last)
+def entry(last, flags=0, time=300_000):
+    """What an NB record of so many seconds says of an address."""
+    return struct.pack('>HHLHH', 0x20, 1, time, 6, flags) + address(last)
 
 
 def service(number, word, name, question=False, record=b'', kind=0x20):
@@ -113,18 +113,56 @@ def service(number, word, name, question=False, record=b'', kind=0x20):
     return whole + (name + record if record else b'')
 
 
+class Lan:
+    """The frames of a network 10.0.0.0, whose stations have the last numbers of their addresses."""
+
+    def __init__(self):
+        self.frames = []
+
+    def sends(self, at, source, target, packet, snap=None):
+        mac = b'\x02\0\0\0\0'
+        self.frames.append((at * 1000, ethernet(packet, mac + source[3:], mac + target[3:]), snap))
+
+    def says(self, at, source, target, port, payload, snap=None):
+        self.sends(at, address(source), address(target), ip(UDP, udp(port, port, payload), address(source), address(target)), snap)
+
+    def segment(self, at, ends, place, data):
+        """A segment of a stream, between two stations with their ports."""
+        (source, port), (target, to) = ends
+        header = struct.pack('>HHLLBBHHH', port, to, place, 1, 0x50, ACK, 65_535, 0, 0)
+        self.sends(at, address(source), address(target), ip(TCP, header + data, address(source), address(target)))
+
+
+def disputes():
+    """What isn't decided by the end, and what is decided elsewhere: two claimants, a refusal that names the holder, one claim that
+    wins after it was refused; queries of which a later one is answered; a session."""
+    fred, joe, ann = FRED, JOE, first_level('ANN', 0)
+    lan = Lan()
+    for source in (5, 6):
+        lan.says(source, source, 255, 137, service(source, 0x2910, fred, True, entry(source, time=0)))
+    lan.says(20, 7, 2, 137, service(7, 0x2900, joe, True, entry(7)))
+    lan.says(21, 2, 7, 137, service(7, 0xad86, joe, record=entry(9)))
+    lan.says(30, 8, 2, 137, service(8, 0x2900, ann, True, entry(8)))
+    lan.says(31, 2, 8, 137, service(8, 0xad85, ann, record=entry(8)))
+    lan.says(40, 8, 2, 137, service(9, 0x2900, ann, True, entry(8)))
+    lan.says(41, 2, 8, 137, service(9, 0xad80, ann, record=entry(8)))
+    lan.says(50, 5, 255, 137, service(10, 0x0110, ann, True))
+    lan.says(60, 5, 255, 137, service(11, 0x0110, ann, True))
+    lan.says(61, 8, 5, 137, service(11, 0x8580, ann, record=entry(8)))
+    ends = (5, 1025), (6, 139)
+    for at, both, place, data in ((70, ends, 100, REQUEST), (71, ends[::-1], 500, POSITIVE), (72, ends, 100 + len(REQUEST), SHORT),
+                                  (73, ends[::-1], 500 + len(POSITIVE), OTHER)):
+        lan.segment(at, both, place, data)
+    lan.says(80, 5, 6, 137, bytes.fromhex('000c01100001000000000000') + b'\x40' + bytes(8))
+    return pcap(lan.frames)
+
+
 def life():
     """A network in which much goes wrong: claims in conflict, refusals, queries without an answer, a call that is refused,
     datagrams that are spoilt, incomplete, refused and cut."""
     fred, joe, ann, work, nobody = FRED, JOE, first_level('ANN', 0), first_level('WORK', 0x1e), first_level('NOBODY', 0x20)
-    frames = []
-
-    def sends(at, source, target, packet, snap=None):
-        mac = b'\x02\0\0\0\0'
-        frames.append((at * 1000, ethernet(packet, mac + source[3:], mac + target[3:]), snap))
-
-    def says(at, source, target, port, payload, snap=None):
-        sends(at, address(source), address(target), ip(UDP, udp(port, port, payload), address(source), address(target)), snap)
+    lan = Lan()
+    says = lan.says
 
     says(0, 6, 255, 137, service(1, 0x2910, fred, True, entry(6)))
     says(200, 8, 255, 137, service(2, 0x2910, fred, True, entry(8)))
@@ -142,8 +180,7 @@ def life():
     status = b'\x03' + names + b'\x02\0\0\0\0\x06' + bytes(40)
     says(1250, 6, 5, 137, service(7, 0x8400, first_level('*', 0).replace(b'CA', b'AA'),
                                   record=struct.pack('>HHLH', 0x21, 1, 0, len(status)) + status))
-    call = struct.pack('>HHLLBBHHH', 1025, 139, 100, 1, 0x50, ACK, 65_535, 0, 0)
-    sends(1300, address(5), address(6), ip(TCP, call + REQUEST, address(5), address(6)))
+    lan.segment(1300, ((5, 1025), (6, 139)), 100, REQUEST)
     pointer = bytes.fromhex('100200010a000005008a00240000') + joe + b'\xc0\x0e'
     says(1400, 5, 6, 138, pointer)
     says(1450, 5, 6, 138, datagram(9, bytes(600)), 96)
@@ -156,10 +193,9 @@ def life():
     fragment(1510, 1, 0, 1, b'abcx')
     fragment(1520, 2, 0, 1, b'abcd')
     fragment(1530, 2, 8, 0, b'ijkl')
-    answer = struct.pack('>HHLLBBHHH', 139, 1025, 1, 200, 0x50, ACK, 65_535, 0, 0)
-    sends(1600, address(6), address(5), ip(TCP, answer + b'\x83\0\0\x01\x82', address(6), address(5)))
+    lan.segment(1600, ((6, 139), (5, 1025)), 1, b'\x83\0\0\x01\x82')
     says(1700, 8, 6, 137, service(8, 0xad87, fred, record=entry(6)))
-    return pcap(frames)
+    return pcap(lan.frames)
 
 
 def chance():

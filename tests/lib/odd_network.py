@@ -103,8 +103,9 @@ class Fragments:
 
 
 def fragments(network):
-    """A port that is mirrored, with the same identifier a day later; fragments a minute apart, and others that differ."""
+    """A port that is mirrored, with the same identifier a day later; fragments a minute apart, and others that differ, some or all."""
     one, other = udp(138, 138, b'A' * 40), udp(138, 138, b'B' * 40)
+    longer = one + b'A' * 40
     moment = 0
     for six in (False, True):
         sent = Fragments(network, six)
@@ -125,10 +126,11 @@ def fragments(network):
             if pause == 60_000:
                 network.gives((138, moment, b'A' * 40))
         sent.left_out('lie more than 60 s apart')
-        for whole, start, end in ((one, 0, 24), (other, 16, 40), (one, 24, 48)):
-            sent.piece(moment, whole, start, end)
-        sent.left_out('differ where they overlap')
-    print('28 frames, 12 of these ports, 6 left out: 6 fragments of IP that come late or differ')
+        for pieces in (((one, 0, 24), (other, 16, 40), (one, 24, 48)), ((longer, 0, 56), (other, 24, 48))):
+            for whole, start, end in pieces:
+                sent.piece(moment, whole, start, end)
+            sent.left_out('differ where they overlap')
+    print('32 frames, 14 of these ports, 8 left out: 8 fragments of IP that come late or differ')
 
 
 def counts(network):

@@ -62,6 +62,13 @@ def taps(program):
     return ''.join([*sent[:2], other[0]]), ''.join([*sent[1:], *other])
 
 
+def sides(program):
+    """Two captures: a datagram at the first alone, one at the second alone, one of which they contradict each other, and one at both."""
+    one, other, both = (program.build('unique', f'10.0.0.5:138/{number}', 'ANN<00>', 'FRED<20>', '6f6e65', '3')[0] for number in ('0001', '0002', '0004'))
+    said, denied = (program.build('unique', '10.0.0.5:138/0003', 'ANN<00>', 'FRED<20>', data, '3')[0] for data in ('796573', '6e6f6e'))
+    return ''.join([one, said, both]), ''.join([other, denied, both])
+
+
 def odd():
     """A capture of datagrams, fragments of IP and streams, with a snap length and bytes that are missing."""
     random_pcap.vxlan = random_pcap.nested = random_pcap.gre = lambda packet: packet

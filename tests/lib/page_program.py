@@ -1,4 +1,5 @@
 """What the program and its tools say, for the tests of the page."""
+import itertools
 import json
 import os
 import re
@@ -6,6 +7,7 @@ import shutil
 import subprocess
 import tempfile
 
+COUNTS = re.compile(r'(\d+ frames?, )?\d+ packets?, \d+ malformed, ')
 ROW = re.compile(r' *(\d+) +(\S+) +(\S+) +(\S+) +(.*)')
 
 
@@ -32,7 +34,8 @@ class Program:
 
     def listed(self, path, *options):
         """The rows of nbt-look: frame, time, from, to, and what is said."""
-        return [list(ROW.fullmatch(line).groups()) for line in self.text(['nbt-look', *options, path]).splitlines()[:-1]]
+        lines = self.text(['nbt-look', *options, path]).splitlines()
+        return [list(ROW.fullmatch(line).groups()) for line in itertools.takewhile(lambda line: not COUNTS.match(line), lines)]
 
     def summary(self, path):
         """The tables of nbt-look: by title rows of cells, the head first."""

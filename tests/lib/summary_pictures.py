@@ -19,7 +19,7 @@ from rich import _export_format
 import look_captures
 
 HERE = os.path.dirname(os.path.abspath(__file__))
-WIDTH = 110
+WIDTH = 116
 THEMES = {'light': DEFAULT_TERMINAL_THEME, 'dark': DIMMED_MONOKAI}
 # A picture asks no other machine for its letters.
 FORMAT = re.sub(r'@font-face \{\{.*?\}\}\s*', '', _export_format.CONSOLE_SVG_FORMAT, flags=re.S).replace('Fira Code, ', '')

@@ -1,6 +1,6 @@
 //! Names as packets spell them, and the text that people write.
 
-use crate::digits::digit;
+use crate::basics::digit;
 
 // ---- spellings
 
@@ -23,52 +23,97 @@ fn name_fault<T>(words: &'static str, place: usize) -> Result<T, NameFault> {
 
 /// The offset after the NetBIOS name that stands at an offset of the packet.
 pub fn read_name(packet: &[u8], start: usize) -> Result<usize, NameFault> {
-    let end = read_labels(packet, start)?;
+    let end = read_labels::<false>(packet, start)?;
     let spelling = &packet[start..end];
     if spelling[0] != 32 {
         return name_fault("not netbios", 0);
     }
-    let letters = &spelling[1..FIRST_LABEL];
-    if letters
-        .iter()
-        .fold(0, |seen, letter| seen | letter.wrapping_sub(b'A'))
-        < 16
-    {
-        return Ok(end);
+    match bad_letter(&spelling[1..FIRST_LABEL]) {
+        None => Ok(end),
+        Some(place) => name_fault("not netbios", 1 + place),
     }
-    let place = letters
-        .iter()
-        .position(|letter| !(b'A'..=b'P').contains(letter));
-    name_fault("not netbios", 1 + place.unwrap_or(0))
 }
 
-/// The offset after the labels that stand at an offset of the packet, and the zero after them.
-fn read_labels(packet: &[u8], start: usize) -> Result<usize, NameFault> {
-    let mut at = start;
+/// The offset after the domain name that stands at an offset of the packet.
+pub fn read_domain(packet: &[u8], start: usize) -> Result<usize, NameFault> {
+    read_labels::<true>(packet, start)
+}
+
+/// Where the first of the letters is that stands for no half of a byte.
+fn bad_letter(letters: &[u8]) -> Option<usize> {
+    let seen = letters
+        .iter()
+        .fold(0, |seen, letter| seen | letter.wrapping_sub(b'A'));
+    if seen < 16 {
+        return None;
+    }
+    letters
+        .iter()
+        .position(|letter| !(b'A'..=b'P').contains(letter))
+}
+
+/// The offset after the labels that stand at an offset of the packet, and what ends them: a zero,
+/// or, if they may, a pointer that leads to more of them, before the labels in front of it.
+fn read_labels<const POINTERS: bool>(packet: &[u8], start: usize) -> Result<usize, NameFault> {
+    let (mut row, mut at, mut spelled, mut after) = (start, start, 1, None);
     loop {
         let Some(&first) = packet.get(at) else {
             return name_fault("truncated", packet.len().max(start));
         };
-        let after = at + 1 + first as usize;
+        let next = at + 1 + first as usize;
         match first {
-            0 => return Ok(at + 1),
-            1..=63 if after > packet.len() => return name_fault("truncated", packet.len()),
-            1..=63 if after + 1 - start > LONGEST_SPELLING => return name_fault("too long", at),
-            1..=63 => at = after,
+            0 => return Ok(after.unwrap_or(at + 1)),
+            1..=63 if next > packet.len() => return name_fault("truncated", packet.len()),
+            1..=63 if spelled + 1 + first as usize > LONGEST_SPELLING => {
+                return name_fault("too long", at)
+            }
+            1..=63 => {
+                spelled += 1 + first as usize;
+                at = next;
+            }
             64..=191 => return name_fault("reserved label", at),
             _ if at + 1 == packet.len() => return name_fault("truncated", packet.len()),
-            _ => return name_fault("pointer not allowed", at),
+            _ if !POINTERS => return name_fault("pointer not allowed", at),
+            _ if target(packet, at) >= row => return name_fault("bad pointer", at),
+            _ => {
+                after = after.or(Some(at + 2));
+                row = target(packet, at);
+                at = row;
+            }
         }
     }
 }
 
+/// Where the pointer at an offset leads to.
+fn target(packet: &[u8], at: usize) -> usize {
+    (packet[at] as usize & 63) << 8 | packet[at + 1] as usize
+}
+
+/// The labels of the domain name that was read at an offset of the packet.
+pub fn labels(packet: &[u8], mut at: usize) -> impl Iterator<Item = &[u8]> {
+    std::iter::from_fn(move || {
+        while packet[at] >= 192 {
+            at = target(packet, at);
+        }
+        let start = at + 1;
+        at = start + packet[at] as usize;
+        (at > start).then(|| &packet[start..at])
+    })
+}
+
+/// The sixteen bytes that a label stands for, if it is the first one of a NetBIOS name.
+pub fn label_bytes(label: &[u8]) -> Option<[u8; 16]> {
+    (label.len() == 32 && bad_letter(label).is_none()).then(|| letter_bytes(label))
+}
+
 /// The sixteen bytes of a name that was read.
 pub fn name_bytes(spelling: &[u8]) -> [u8; 16] {
+    letter_bytes(&spelling[1..FIRST_LABEL])
+}
+
+fn letter_bytes(letters: &[u8]) -> [u8; 16] {
     let mut bytes = [0; 16];
-    for (byte, pair) in bytes
-        .iter_mut()
-        .zip(spelling[1..FIRST_LABEL].chunks_exact(2))
-    {
+    for (byte, pair) in bytes.iter_mut().zip(letters.chunks_exact(2)) {
         *byte = ((pair[0] - b'A') << 4) | (pair[1] - b'A');
     }
     bytes

@@ -3,10 +3,26 @@
 use crate::names::{read_name, NameFault};
 
 /// The sender's address and port and the datagram's identifier, in this order in one number.
-#[derive(Clone, Copy, PartialEq, Eq, Hash)]
+#[derive(Clone, Copy, PartialEq, Eq, PartialOrd, Ord, Hash)]
 pub struct Key(u64);
 
 impl Key {
+    /// The key that stands in the header of a packet.
+    pub fn of(packet: &[u8]) -> Key {
+        let address_and_port = packet[4..10]
+            .iter()
+            .fold(0, |number, byte| number << 8 | *byte as u64);
+        Key(address_and_port << 16 | two_bytes(packet, 2) as u64)
+    }
+
+    pub fn from_bytes(bytes: [u8; 8]) -> Key {
+        Key(u64::from_be_bytes(bytes))
+    }
+
+    pub fn bytes(self) -> [u8; 8] {
+        self.0.to_be_bytes()
+    }
+
     pub fn address(self) -> u32 {
         (self.0 >> 32) as u32
     }
@@ -65,7 +81,15 @@ pub enum Refusal {
     Full,
 }
 
-fn two_bytes(bytes: &[u8], at: usize) -> u16 {
+/// What a packet has beside its kind, its flags and its key.
+pub enum Packet<'a> {
+    Direct(Fragment<'a>),
+    Error(u8),
+    /// The spelling of the name that is looked for.
+    Query(&'a [u8]),
+}
+
+pub fn two_bytes(bytes: &[u8], at: usize) -> u16 {
     u16::from_be_bytes([bytes[at], bytes[at + 1]])
 }
 
@@ -73,13 +97,12 @@ fn first_bytes(packet: &[u8], count: usize) -> Result<&[u8], Refusal> {
     packet.get(..count).ok_or(Refusal::Truncated(packet.len()))
 }
 
-/// The fragment of a datagram that the packet has, if it has one.
-pub fn decode(packet: &[u8]) -> Result<Option<Fragment<'_>>, Refusal> {
+pub fn decode(packet: &[u8]) -> Result<Packet<'_>, Refusal> {
     match first_bytes(packet, 10)?[0] {
-        0x10..=0x12 => fragment(packet).map(Some),
-        0x13 => first_bytes(packet, 11).map(|_| None),
+        0x10..=0x12 => fragment(packet).map(Packet::Direct),
+        0x13 => first_bytes(packet, 11).map(|bytes| Packet::Error(bytes[10])),
         0x14..=0x16 => match read_name(packet, 10) {
-            Ok(_) => Ok(None),
+            Ok(end) => Ok(Packet::Query(&packet[10..end])),
             Err(fault) => Err(Refusal::Name("destination", fault, None)),
         },
         _ => Err(Refusal::UnknownType),
@@ -89,10 +112,7 @@ pub fn decode(packet: &[u8]) -> Result<Option<Fragment<'_>>, Refusal> {
 fn fragment(packet: &[u8]) -> Result<Fragment<'_>, Refusal> {
     let header = first_bytes(packet, 14)?;
     let whole = first_bytes(packet, 14 + two_bytes(header, 10) as usize)?;
-    let address_and_port = whole[4..10]
-        .iter()
-        .fold(0, |number, byte| number << 8 | *byte as u64);
-    let key = Key(address_and_port << 16 | two_bytes(header, 2) as u64);
+    let key = Key::of(whole);
     let kind = header[0];
     let bad =
         |whose, fault, code| Refusal::Name(whose, fault, (kind == UNIQUE).then_some((key, code)));

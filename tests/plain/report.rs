@@ -1,13 +1,40 @@
-//! The lines of the report.
+//! What is printed: the lines of a replay's report, and what all commands write in it.
 
-use crate::digits::push_digits;
-use crate::names::{is_plain, name_bytes, FIRST_LABEL, FRONT};
+use crate::basics::push_digits;
+use crate::capture::BUFFER;
+use crate::names::{is_plain, label_bytes, labels, name_bytes, NameFault, FIRST_LABEL, FRONT};
 use crate::packets::{Fragment, Key, Refusal, UNIQUE};
+use crate::Fault;
+use std::fs::File;
+use std::io::{self, Write};
+use std::os::fd::AsFd;
 
 /// What is to be printed.
-pub struct Report(pub Vec<u8>);
+pub struct Report(Vec<u8>);
 
 impl Report {
+    pub fn new() -> Report {
+        Report(Vec::with_capacity(2 * BUFFER))
+    }
+
+    /// Prints all that waits, as it is: std's own writer would look for its last line feed.
+    pub fn print(&mut self) -> Result<(), Fault> {
+        if self.0.is_empty() {
+            return Ok(());
+        }
+        let output = io::stdout().as_fd().try_clone_to_owned();
+        let done = output.and_then(|output| File::from(output).write_all(&self.0));
+        self.0.clear();
+        done.map_err(|_| Fault::Write)
+    }
+
+    pub fn print_if_long(&mut self) -> Result<(), Fault> {
+        if self.0.len() < BUFFER {
+            return Ok(());
+        }
+        self.print()
+    }
+
     pub fn words(&mut self, words: &str) {
         self.0.extend_from_slice(words.as_bytes());
     }
@@ -25,24 +52,45 @@ impl Report {
         }
     }
 
-    fn digits(&mut self, bytes: &[u8]) {
+    pub fn digits(&mut self, bytes: &[u8]) {
         push_digits(bytes, &mut self.0);
     }
 
-    fn key(&mut self, key: Key) {
-        for (byte, mark) in key
-            .address()
-            .to_be_bytes()
-            .into_iter()
-            .zip(["", ".", ".", "."])
-        {
-            self.words(mark);
-            self.number(byte as u64);
+    pub fn data(&mut self, bytes: &[u8]) {
+        match bytes {
+            [] => self.words("empty"),
+            _ => self.digits(bytes),
         }
+    }
+
+    pub fn address(&mut self, bytes: &[u8]) {
+        for (byte, mark) in bytes.iter().zip(["", ".", ".", "."]) {
+            self.words(mark);
+            self.number(*byte as u64);
+        }
+    }
+
+    pub fn key(&mut self, key: Key) {
+        self.address(&key.address().to_be_bytes());
         self.words(":");
         self.number(key.port() as u64);
         self.words("/");
         self.digits(&key.identifier().to_be_bytes());
+    }
+
+    /// The names of the bits that are set.
+    pub fn set(&mut self, word: u16, names: &[(u16, &str)]) {
+        let mut mark = "";
+        for (bit, name) in names {
+            if word & bit != 0 {
+                self.words(mark);
+                self.words(name);
+                mark = "+";
+            }
+        }
+        if mark.is_empty() {
+            self.words("none");
+        }
     }
 
     fn items(&mut self, bytes: &[u8]) {
@@ -59,8 +107,8 @@ impl Report {
         }
     }
 
-    fn name(&mut self, spelling: &[u8]) {
-        let bytes = name_bytes(spelling);
+    /// The sixteen bytes of a name, without its scope.
+    pub fn sixteen(&mut self, bytes: &[u8]) {
         let length = bytes[..FRONT]
             .iter()
             .rposition(|byte| *byte != b' ')
@@ -69,6 +117,10 @@ impl Report {
         self.words("<");
         self.digits(&bytes[FRONT..]);
         self.words(">");
+    }
+
+    pub fn name(&mut self, spelling: &[u8]) {
+        self.sixteen(&name_bytes(spelling));
         let mut scope = &spelling[FIRST_LABEL..];
         while let [length @ 1..=63, rest @ ..] = scope {
             let (label, after) = rest.split_at(*length as usize);
@@ -76,6 +128,28 @@ impl Report {
             self.items(label);
             scope = after;
         }
+    }
+
+    /// The domain name that was read at an offset of the packet.
+    pub fn domain(&mut self, packet: &[u8], at: usize) {
+        let mut labels = labels(packet, at);
+        let Some(first) = labels.next() else {
+            return self.words(".");
+        };
+        match label_bytes(first) {
+            Some(bytes) => self.sixteen(&bytes),
+            None => self.items(first),
+        }
+        for label in labels {
+            self.words(".");
+            self.items(label);
+        }
+    }
+
+    pub fn name_fault(&mut self, fault: NameFault) {
+        self.words(fault.words);
+        self.words(" ");
+        self.number(fault.place as u64);
     }
 
     /// An error packet to answer; it comes from 0.0.0.0:138.
@@ -99,10 +173,7 @@ impl Report {
         self.words(" ");
         self.name(destination);
         self.words(" ");
-        match data {
-            [] => self.words("empty"),
-            _ => self.digits(data),
-        }
+        self.data(data);
     }
 
     pub fn refused(&mut self, refusal: Refusal) {
@@ -114,10 +185,9 @@ impl Report {
             }
             Refusal::UnknownType => self.words("unknown type"),
             Refusal::Name(whose, fault, error) => {
-                for words in [whose, " name: ", fault.words, " "] {
-                    self.words(words);
-                }
-                self.number(fault.place as u64);
+                self.words(whose);
+                self.words(" name: ");
+                self.name_fault(fault);
                 if let Some((key, code)) = error {
                     self.error(key, code);
                 }

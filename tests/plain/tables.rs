@@ -1,5 +1,6 @@
 //! Datagrams that are put together, and the table of their keys.
 
+use crate::basics::{kept, Kept};
 use crate::packets::{Fragment, Key, Refusal, FIRST};
 use std::collections::hash_map::Entry as Slot;
 use std::collections::{BTreeMap, HashMap};
@@ -10,13 +11,13 @@ const HELD_FOR: u64 = 2_000;
 
 /// What is known of a datagram.
 pub struct Datagram {
-    kind: u8,
-    names: Box<[u8]>,
+    pub kind: u8,
+    pub names: Kept,
     /// The bytes that came, by their first offset; a gap lies between any two runs.
-    runs: BTreeMap<u32, Vec<u8>>,
-    end: Option<u32>,
+    pub runs: BTreeMap<u32, Vec<u8>>,
+    pub end: Option<u32>,
     /// The furthest offset at which something is to follow.
-    promise: Option<u32>,
+    pub promise: Option<u32>,
     handed_over: bool,
 }
 
@@ -24,7 +25,7 @@ impl Datagram {
     fn new(fragment: &Fragment) -> Datagram {
         Datagram {
             kind: fragment.kind,
-            names: fragment.names.into(),
+            names: kept(fragment.names),
             runs: BTreeMap::new(),
             end: None,
             promise: None,
@@ -34,7 +35,7 @@ impl Datagram {
 
     fn agrees(&self, fragment: &Fragment) -> bool {
         self.kind == fragment.kind
-            && *self.names == *fragment.names
+            && self.names[..] == *fragment.names
             && self.agrees_on_the_end(fragment)
             && self.agrees_on_bytes(fragment)
     }
@@ -247,6 +248,17 @@ impl Table {
         } else {
             Change::Kept
         })
+    }
+
+    /// What is known of each key, ascending.
+    pub fn sorted(&self) -> Vec<(Key, Option<&Datagram>)> {
+        let mut sorted: Vec<_> = self
+            .held
+            .iter()
+            .map(|(key, held)| (*key, held.datagram.as_ref()))
+            .collect();
+        sorted.sort_unstable_by_key(|(key, _)| *key);
+        sorted
     }
 
     /// Drops the keys whose time is over at this moment, and counts them.

@@ -6,6 +6,7 @@ items        packets, cut ones, and frames of which something is left out
 frames       items of the rows that tshark prints
 fragments    fragments of IP whose others are missing
 others       what tshark counts of packets that aren't read
+without      frames that have no packet, and what they are
 texts        items of a capture that is text
 piped        standard input where it is a pipe
 telling      `nbt show --json` as children
@@ -13,19 +14,24 @@ fronts       what stands of cut packets, in words
 ordering     items by their frames
 filters      which packets are wanted
 kinds        the kinds of packets
+kindwords    their words, for --help and for what is typed in their place
 parts        the parts of a packet of port 137
 times        times of frames
 screen       lines, tables and colours
 listing      a line for each packet
 objects      an object of JSON for each packet
 whole        all of one frame
+advice       what to do about a fault, by its port
 tally        what the last line counts
+counts       counts in words
 summary      the summary, whose parts are these:
+claims       the claims of names, and what becomes of them
 names        who claims which name
+conflicts    who holds a name, and who was refused it
 stations     who sends packets, and what they are called
 queries      queries without an answer
 sessions     who called whom
-datagrams    which are whole, incomplete, spoilt
+datagrams    which are whole, incomplete, spoilt, and what those lack
 rooms        how many entries a part keeps
 page         a page for a browser with a capture in it
 """

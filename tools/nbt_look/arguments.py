@@ -5,7 +5,7 @@ import ipaddress
 from nbt_pcap import arguments
 from nbt_pcap.process import NAME, Stopped
 
-from . import kinds
+from . import kindwords
 
 USAGE = 'usage: %s FILE, or -, --live or -i INTERFACE in place of FILE; --help says more' % NAME
 
@@ -79,6 +79,6 @@ def kinds_in(text):
     """Kinds with commas between them."""
     wanted = text.split(',')
     for each in wanted:
-        if each not in kinds.ALL:
-            raise argparse.ArgumentTypeError('%s is none of %s' % (each, ', '.join(kinds.ALL)))
+        if each not in kindwords.ALL:
+            raise argparse.ArgumentTypeError(kindwords.advice(each))
     return wanted

@@ -1,6 +1,9 @@
 """Which packets are wanted: by name, host, port and kind."""
-from .items import LeftOut
+from .claims import Claims
+from .items import LeftOut, Packet
 from .kinds import kinds_of, names_in
+from .kindwords import about
+from .sessions import Streams
 
 
 class Filter:
@@ -10,18 +13,27 @@ class Filter:
         self.names = {each.casefold() for each in options.names}
         self.hosts, self.ports, self.kinds = set(options.hosts), set(options.only_ports), set(options.kinds)
         self.is_all = not (self.names or self.hosts or self.ports or self.kinds)
+        self.claims = Claims() if 'conflict' in self.kinds else None
+        self.streams = Streams() if self.names else None
 
     def wants(self, item, shown):
-        """Whether an item is wanted, by the object of a packet; None stands for what is left out."""
+        """Whether an item is wanted, by the object of a packet; None stands for what is left out. Takes each item in turn."""
+        is_packet = isinstance(item, Packet)
+        is_conflict = self.claims is not None and is_packet and self.claims.take(item, shown)
+        called = self.streams.called(item, shown) if self.streams and is_packet else ()
         ends = item.frame if isinstance(item, LeftOut) else item
         if self.hosts and not self.hosts & {ends.source, ends.target}:
             return False
         if self.ports and not self.ports & {ends.source_port, ends.target_port, str(getattr(item, 'service', ''))}:
             return False
-        if self.kinds and not self.kinds & kinds_of(shown):
+        if self.kinds and not is_conflict and not self.kinds & kinds_of(shown):
             return False
-        return not self.names or (shown is not None and any(self.is_named(each) for each in names_in(shown)))
+        return not self.names or (shown is not None and any(self.is_named(each) for each in (*names_in(shown), *called)))
 
     def is_named(self, text):
         text = text.casefold()
         return text in self.names or text.partition('<')[0] in self.names
+
+    def notes(self):
+        """What is said where nothing was found of some kinds."""
+        return ['no packet of kind ' + about(each) for each in sorted(self.kinds)]

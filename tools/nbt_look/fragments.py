@@ -1,6 +1,8 @@
 """Fragments of IP whose others haven't come: which of them are of these ports."""
 import collections
 
+from nbt_pcap.rows import is_joined
+
 MISSING = 'fragments of IP whose others are missing'
 CUT = 'fragments of IP that are cut themselves'
 UNKNOWN = 'fragments of IP without the one that has the ports'
@@ -21,7 +23,7 @@ class Unfinished:
         """Takes a frame: a fragment that waits, or the one with which a packet is whole."""
         number, protocol, place, number6, protocol6, place6, data = more
         key = (row.source, row.target, number, protocol) if not number6 else (row.source6, row.target6, number6, protocol6)
-        if row.fragments or row.fragments6 or not is_fragment:
+        if is_joined(row) or not is_fragment:
             self.waiting.pop(key, None)
             return
         ports = self.ports.get((protocol6 if number6 else protocol).rpartition(',')[2])

@@ -1,12 +1,13 @@
 """The packets of tshark's rows, and what is left out, each with its frame."""
 from nbt_pcap.frames import Reader
 from nbt_pcap.report import CUT, Report
-from nbt_pcap.rows import values_of
+from nbt_pcap.rows import is_joined, values_of
 
 from .fragments import Unfinished
 from .items import Cut, Frame, LeftOut, Packet
 from .others import STATISTIC, Others
 from .screen import safe
+from .without import PACKET, Without
 
 # What a row has besides the fields that packets are made of.
 FIELDS = ('frame.interface_name', 'frame.interface_id', 'vlan.id', 'eth.src', 'eth.dst', 'ip.id', 'ip.proto',
@@ -20,10 +21,12 @@ class Noted(Report):
     def __init__(self, items):
         super().__init__(lambda text: None)
         self.items = items
+        self.without = Without()
 
     def count(self, mark, reason):
         if not mark.counted:
             self.items.append(LeftOut(mark, reason))
+            self.without.leave_out(mark)
         super().count(mark, reason)
 
     def count_cut(self):
@@ -61,9 +64,11 @@ class Frames(Reader):
 
     def frame(self, row, shape):
         self.report.mark = self.mark(row, shape)
-        if shape.is_fragment or row.fragments or row.fragments6:
+        if shape.is_fragment or is_joined(row):
             self.unfinished.take(row, self.more[5:], shape.is_fragment)
+        ours = self.report.ours
         super().frame(row, shape)
+        self.report.without.take(self.report.mark, row, shape.is_fragment, self.report.ours > ours)
 
     def mark(self, row, shape):
         """The frame of a row."""
@@ -89,6 +94,7 @@ class Frames(Reader):
 
     def packet_of(self, service, digits, packet):
         host = packet.host
+        self.report.mark.holds = PACKET
         return Packet(self.report.mark, service, self.clock.moment, digits, host.source.strip('[]'), packet.source,
                       host.target.strip('[]'), packet.target, getattr(packet, 'stream', None))
 
@@ -103,6 +109,10 @@ class Frames(Reader):
         report = self.report
         none = [] if report.ours else ['no frame has UDP of port 137 or 138, or TCP of port 139; --port takes others for them']
         return none + self.others.lines(report.frames, report.ours, self.protocols)
+
+    def without(self):
+        """The frames that have no packet, by what they hold."""
+        return self.report.without.of(self.report.frames)
 
     def finish(self):
         """What is known at the end alone."""

@@ -8,14 +8,15 @@ LeftOut = collections.namedtuple('LeftOut', 'frame reason')
 
 
 class Frame:
-    """A frame, and whether it is counted as left out. `at` is its time in nanoseconds since 1970, None where it has none."""
+    """A frame, whether it is counted as left out, and what it holds: a packet, or why there is none. `at` is its time in nanoseconds since
+    1970, None where it has none."""
 
-    __slots__ = ('counted', 'number', 'at', 'source', 'source_port', 'target', 'target_port', 'interface', 'vlans', 'source_mac',
+    __slots__ = ('counted', 'holds', 'number', 'at', 'source', 'source_port', 'target', 'target_port', 'interface', 'vlans', 'source_mac',
                  'target_mac', 'size', 'captured')
 
     def __init__(self, number, at, source='', source_port='', target='', target_port='', interface='', vlans='', source_mac='',
                  target_mac='', size=0, captured=0):
-        self.counted = False
+        self.counted, self.holds = False, None
         self.number, self.at = number, at
         self.source, self.source_port, self.target, self.target_port = source, source_port, target, target_port
         self.interface, self.vlans, self.source_mac, self.target_mac = interface, vlans, source_mac, target_mac

@@ -1,9 +1,4 @@
-"""The kinds of packets, by words."""
-OF_SERVICE = ('query', 'status', 'registration', 'refresh', 'release', 'wack', 'response', 'conflict')
-OF_DATAGRAMS = ('datagram', 'unique', 'group', 'broadcast', 'error', 'find', 'found', 'missing')
-OF_SESSIONS = ('session', 'request', 'positive', 'negative', 'retarget', 'message', 'keepalive')
-OTHERS = ('refused', 'left-out')
-ALL = OF_SERVICE + OF_DATAGRAMS + OF_SESSIONS + OTHERS
+"""The kinds of packets."""
 FRAGMENTS = ('unique', 'group', 'broadcast')
 
 
@@ -13,7 +8,7 @@ def kinds_of(shown):
         return {'left-out'}
     if 'cut' in shown:
         return {'left-out', *(told_kinds(shown) if any(names_in(shown)) else ())}
-    return {'refused'} if 'refused' in shown else told_kinds(shown)
+    return {'malformed'} if 'refused' in shown else told_kinds(shown)
 
 
 def told_kinds(shown):
@@ -21,9 +16,9 @@ def told_kinds(shown):
     if shown['port'] == 137:
         return service_kinds(shown)
     kind = shown.get('kind', 'message')
-    if shown['port'] == 138:
-        return {kind, 'datagram'} if kind in FRAGMENTS else {kind}
-    return {kind, 'session'}
+    if shown['port'] == 139:
+        return {kind, 'session'}
+    return datagram_kinds(shown, kind) if kind in FRAGMENTS else {kind, *{'found': ('positive',), 'missing': ('negative',)}.get(kind, ())}
 
 
 def service_kinds(shown):
@@ -32,9 +27,22 @@ def service_kinds(shown):
     kinds = {'status' if asks_status else operation}
     if is_response(shown):
         kinds.add('response')
-        if shown['rcode'] == 'CFT_ERR':
-            kinds.add('conflict')
+        kinds.update(kinds_of_response(shown['op'], shown['rcode']))
     return kinds
+
+
+def kinds_of_response(operation, code):
+    """What a response says by its code. A conflict demand answers nothing."""
+    if code == 'ok':
+        return () if operation == 'wack' else ('positive',)
+    if code != 'CFT_ERR':
+        return ('negative',)
+    return ('conflict',) if operation == 'registration' else ('conflict', 'negative')
+
+
+def datagram_kinds(shown, kind):
+    is_piece = int(shown['flags'], 16) & 1 or shown.get('offset', 0)
+    return {kind, 'datagram', 'fragment'} if is_piece else {kind, 'datagram'}
 
 
 def is_response(shown):

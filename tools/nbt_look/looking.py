@@ -79,7 +79,7 @@ def at_frames(options, settings, errors, pipe):
     if status == 0 and not options.live and not frames.report.frames:
         raise Stopped(2, pcap_arguments.title_of(options.file) + ': the file holds no packets: it has no frame')
     if frames.report.frames:
-        look.tally.frames = frames.report.frames
+        look.tally.frames, look.tally.without = frames.report.frames, frames.without()
         look.end(frames.notes())
     return status, look.sink.status
 
@@ -148,7 +148,11 @@ class Look:
     def end(self, notes):
         """The last lines."""
         self.sink.finish(self.tally, self.left_out)
-        lines = [self.tally.text(self.left_out, self.filter.is_all), *notes] if self.options.frame is None else []
+        lines = []
+        if self.options.frame is None:
+            lines = [self.tally.text(self.left_out, self.filter.is_all), *self.tally.notes(self.filter.is_all), *notes]
+        if not self.tally.shown:
+            lines += self.filter.notes()
         if not self.options.json:
             for each in lines:
                 self.screen.line(each)

@@ -1,4 +1,6 @@
 """What a capture has of NetBIOS that this tool doesn't read: how many frames, and what they are."""
+from .counts import counted
+
 # A filter of Wireshark, and what its frames are.
 KINDS = (('tcp.port == 445 || udp.port == 445', 'of port 445, SMB without NetBIOS'),
          ('netbios', 'of NetBEUI, NetBIOS over LLC'), ('nbipx', 'of NetBIOS over IPX'))
@@ -22,7 +24,7 @@ class Others:
 
     def lines(self, frames, ours, first):
         """What is said of them at the end; `first` are the protocols of the first frame."""
-        found = [f'{count} frames {what}' for count, (_, what) in zip(self.counts, KINDS) if count]
+        found = [f"{counted(count, 'frame')} {what}" for count, (_, what) in zip(self.counts, KINDS) if count]
         if frames and not ours and self.counts[-1] == frames:
             found.append(f'no frame with IP: the first one is {first}')
         return ['not read by this tool: ' + ', '.join(found)] if found else []

@@ -51,10 +51,10 @@ class Screen:
             self.lines.clear()
             write_all(data.encode(errors='surrogateescape'))
 
-    def table(self, title, rows, head):
-        """Rows of the same keys, under their names."""
+    def table(self, title, rows, head, texts):
+        """Rows of the same keys, under their names; `texts` makes the text of a value where it isn't the usual one."""
         self.line(title, 'head')
-        cells = [head, *([cell(row[key]) for key in head] for row in rows)]
+        cells = [[key.replace('_', ' ') for key in head], *([texts.get(key, cell)(row[key]) for key in head] for row in rows)]
         widths = [max(map(len, column)) for column in zip(*cells)]
         for number, row in enumerate(cells):
             text = '  '.join(each.ljust(width) for each, width in zip(row, widths))

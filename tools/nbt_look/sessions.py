@@ -15,6 +15,37 @@ class Calls:
         self.refused = collections.Counter()
 
 
+class Streams:
+    """The streams of sessions, by the addresses and ports of both sides, and the names of who called whom."""
+
+    def __init__(self):
+        self.names = collections.OrderedDict()
+
+    def take(self, item, kind, shown):
+        """The stream of a packet, whose caller stands first, and whether it is an answer."""
+        here, there = (item.source, item.source_port), (item.target, item.target_port)
+        if kind == 'request':
+            self.open(here + there, (shown['calling'], shown['called']))
+        is_answer = there + here in self.names or (here + there not in self.names and kind in ('positive', 'negative', 'retarget'))
+        stream = there + here if is_answer else here + there
+        if stream not in self.names:
+            self.open(stream, (None, None))
+        self.names.move_to_end(stream)
+        return stream, is_answer
+
+    def open(self, stream, names):
+        self.names[stream] = names
+        if len(self.names) > MOST_STREAMS:
+            self.names.popitem(last=False)
+
+    def called(self, item, shown):
+        """The names of the session that a packet is of."""
+        if item.service != 139 or 'kind' not in shown:
+            return ()
+        stream, _ = self.take(item, shown['kind'], shown)
+        return [each for each in self.names[stream] if each]
+
+
 class Sessions:
     """All sessions, by the names and addresses of both sides."""
 
@@ -23,30 +54,17 @@ class Sessions:
 
     def __init__(self):
         self.room = Room()
-        self.streams = collections.OrderedDict()     # by the addresses and ports of both sides: the names
+        self.streams = Streams()
 
     def take(self, item, shown):
         if item.service != 139 or 'kind' not in shown:
             return
-        here, there = (item.source, item.source_port), (item.target, item.target_port)
-        kind = shown['kind']
-        if kind == 'request':
-            self.open(here + there, (shown['calling'], shown['called']))
-        is_answer = there + here in self.streams or (here + there not in self.streams and kind in ('positive', 'negative', 'retarget'))
-        stream = there + here if is_answer else here + there
-        if stream not in self.streams:
-            self.open(stream, (None, None))
-        self.streams.move_to_end(stream)
-        calls = self.room.get((*self.streams[stream], stream[0], stream[2]), Calls)
+        stream, is_answer = self.streams.take(item, shown['kind'], shown)
+        calls = self.room.get((*self.streams.names[stream], stream[0], stream[2]), Calls)
         if calls:
             count(calls, shown, is_answer, shown['brief'])
 
-    def open(self, stream, names):
-        self.streams[stream] = names
-        if len(self.streams) > MOST_STREAMS:
-            self.streams.popitem(last=False)
-
-    def rows(self, _time):
+    def rows(self, _times):
         found = []
         for key, each in self.room.entries.items():
             refused = ['%s: %d' % pair for pair in each.refused.items()]

@@ -1,4 +1,5 @@
 """The stations: who sends packets, and what they are called."""
+from .claims import CLAIMS
 from .kinds import is_response
 from .parts import entries, subject
 from .rooms import Room
@@ -23,10 +24,11 @@ class Stations:
     """The stations, by address."""
 
     title = 'stations'
-    head = ('address', 'mac', 'packets', 'names', 'status', 'unit')
+    head = ('address', 'mac', 'packets', 'names', 'refused', 'status', 'unit')
 
-    def __init__(self):
+    def __init__(self, claims):
         self.room = Room()
+        self.claims = claims
 
     def take(self, item, shown):
         sender = self.room.get(item.source, Station)
@@ -47,7 +49,7 @@ class Stations:
                 if sender and record.get('names'):
                     sender.status = [each['name'] for each in record['names'][:MOST_NAMES]]
                     sender.unit = record.get('unit')
-        elif shown['op'] in ('registration', 'refresh', 15):
+        elif shown['op'] in CLAIMS:
             for each in entries(shown):
                 self.named(each['address'], subject(shown))
 
@@ -56,9 +58,14 @@ class Stations:
         if station:
             station.name(name)
 
-    def rows(self, _time):
-        return [dict(zip(self.head, (address, each.mac, each.packets, list(each.names), each.status, each.unit)))
+    def rows(self, _times):
+        return [dict(zip(self.head, (address, each.mac, each.packets, *self.names(address, each), each.status, each.unit)))
                 for address, each in sorted(self.room.entries.items())]
+
+    def names(self, address, station):
+        """The names of a station, and those that it was refused."""
+        refused = [name for name in station.names if self.claims.is_refused(name, address)]
+        return [name for name in station.names if name not in refused], refused
 
     def others(self):
         return self.room.others

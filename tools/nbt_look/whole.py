@@ -2,6 +2,8 @@
 import re
 import subprocess
 
+from .advice import of_port
+from .counts import counted
 from .listing import ends
 
 ROW = 16
@@ -15,7 +17,6 @@ class Whole:
     def __init__(self, screen, times, number, program):
         self.screen, self.times, self.number, self.program = screen, times, number, program
         self.status = 1
-        self.why = 'frame %d completes no packet of these ports' % number
 
     def packet(self, item, shown, _text):
         self.payload(item, shown, ['show'], 'refused' if 'refused' in shown else None)
@@ -33,11 +34,10 @@ class Whole:
         for line in self.asked(words, '%d %d %s\n' % (item.service, item.moment, item.digits or 'empty')):
             self.screen.line(line.removeprefix('1 '))
         self.screen.line('')
+        self.screen.line('payload, %s' % counted(len(item.digits) // 2, 'byte'), 'head')
         self.dump(bytes.fromhex(item.digits), marked(shown))
         if 'refused' in shown:
-            self.screen.line('')
-            for line in self.asked(['help', shown['refused']], ''):
-                self.screen.line(line)
+            self.advise(item.service, shown['refused'])
         if item.source:
             self.screen.line('')
             self.screen.line('Wireshark: frame.number == %d' % self.number)
@@ -60,6 +60,14 @@ class Whole:
         words += ['%s %s' % each for each in (('VLAN', frame.vlans), ('interface', frame.interface)) if each[1]]
         self.screen.line(', '.join(words))
 
+    def advise(self, port, refused):
+        """What to do about a fault, and how nbt is asked for it."""
+        self.screen.line('')
+        self.screen.line("nbt help '%s'" % refused)
+        advice = of_port(port, refused)
+        for line in [advice] if advice else self.asked(['help', refused], ''):
+            self.screen.line('  ' + line)
+
     def asked(self, words, text):
         """What nbt prints."""
         done = subprocess.run([self.program, *words], input=text.encode(), stdout=subprocess.PIPE, check=False)
@@ -75,9 +83,13 @@ class Whole:
             text = ''.join(chr(byte) if 0x20 <= byte < 0x7f else '.' for byte in row)
             self.screen.line(('%05x  %-64s  %s' % (at, digits, text)).rstrip())
 
-    def finish(self, _tally, _left_out):
-        if self.status:
-            self.screen.line(self.why)
+    def finish(self, tally, _left_out):
+        if not self.status:
+            return
+        if tally.frames is not None and self.number > tally.frames:
+            self.screen.line('there is no frame %d: the capture has %s' % (self.number, counted(tally.frames, 'frame')))
+        else:
+            self.screen.line('frame %d completes no packet of these ports' % self.number)
 
 
 def marked(shown):

@@ -4,7 +4,7 @@ from .fragments import Fragments
 from .layers import TCP_HEADER, UDP_HEADER, Segment, Unpaired, packets_of, shape_of
 from .process import Stopped
 from .report import BAD_LENGTH, CUT, FRAGMENTS, STOPPED, UNPAIRED
-from .rows import row_of
+from .rows import is_joined, row_of
 from .sessions import Sessions
 
 # The words before the count of all frames, which comes last.
@@ -58,7 +58,7 @@ class Reader:
             return
         ours = any(each.target for each in packets)
         self.report.ours += ours
-        why = ours and (row.fragments or row.fragments6) and self.fragments.why_not(row, self.clock.at)
+        why = ours and is_joined(row) and self.fragments.why_not(row, self.clock.at)
         if why:
             self.report.leave_out(FRAGMENTS, why)
             return

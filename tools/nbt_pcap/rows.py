@@ -25,5 +25,10 @@ def row_of(text):
     return Row._make(values) if len(values) == len(COLUMNS) else None
 
 
+def is_joined(row):
+    """Whether a frame completes fragments. Those that contradict others stand in `contradictions` alone, and that may be all of them."""
+    return bool(row.fragments or row.fragments6 or row.contradictions or row.contradictions6)
+
+
 def values_of(text):
     return text.split(BETWEEN) if text else []

@@ -45,11 +45,10 @@ stands_whole payload size at name next there =
     let spelled = spelled_there (take size payload) at at (labels_of_name name) next there in
     let fits = (next_within (take size payload) Refused at at (labels_of_name name) next there).1 in
     let split : size ≡ at + (size - at) = omega (arith, fits, spelled.1, length-take size payload) in
-    let within : length (name_bytes name) ≤ size - at = omega (arith, fits, spelled.1, length-take size payload) in
-    (
+    let within : length (name_bytes name) ≤ size - at = omega (arith, fits, spelled.1, length-take size payload) in (
       sym (take-take (length (name_bytes name)) (size - at) (drop at payload) within)
-      ∙ ap (λ (rest : List ℕ). take (length (name_bytes name)) rest) (sym (ap (λ (n : ℕ). drop at (take n payload)) split ∙ drop-take at (size - at) payload))
-      ∙ spelled.0,
+          ∙ ap (λ (rest : List ℕ). take (length (name_bytes name)) rest) (sym (ap (λ (n : ℕ). drop at (take n payload)) split ∙ drop-take at (size - at) payload))
+          ∙ spelled.0,
       spelled.1,
     )
 

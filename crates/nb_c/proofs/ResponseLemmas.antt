@@ -1,5 +1,6 @@
 -- Of a response that is asked for one thing is answered.
-use Rattle.std.proofs.Common.{◌≡◌, ℕ, List, length, Result, Ok, Err, ⊤, refl, ap, subst, arith}
+use Rattle.std.proofs.Common.{◌≡◌, ◌∙◌, ℕ, Bool, List, length, Result, Ok, Err, IfOk, refl, ap, subst, arith}
+use Rattle.std.specs.Prelude.{⊤}
 use Rattle.nb_names.specs.declared.fault.NameFault.{NameFault}
 use Rattle.nb_names.specs.declared.fault.NameFault.TheVariants as names
 use Rattle.nb_names.specs.declared.pointers.Pointers.TheVariants.{Refused}
@@ -7,14 +8,17 @@ use Rattle.nb_names.specs.declared.text_fault.TextFault.{TextFault}
 use Rattle.nb_names.specs.declared.text_fault.TextFault.TheVariants as texts
 use Rattle.nb_names.specs.Labels.{NameAt}
 use Rattle.nb_names.specs.NameFaults.{FaultAt as NameFaultAt}
-use Rattle.nb_service.specs.Record.{ResourceData}
+use Rattle.nb_names.specs.declared.bytes.NoMemory.{NoMemory}
+use Rattle.nb_names.specs.Name.{NetbiosName}
+use Rattle.nb_service.specs.Record.{ResourceData, ResourceRecord}
+use Rattle.nb_c.proofs.AnswerLemmas.{bytes_said, has_one_value}
 use Rattle.nb_c.proofs.NameLemmas.{TextLaws}
 use Rattle.nb_c.specs.declared.refusal.Refusal.{Refusal}
 use Rattle.nb_c.specs.declared.refusal.Refusal.TheVariants.{Memory, Fault, FaultAt}
 use Rattle.nb_c.specs.declared.responses.Answered.{Answered}
 use Rattle.nb_c.specs.declared.statuses.TheConstants.{NAME_TRAILING_BYTES}
-use Rattle.nb_c.specs.Outputs.{HasOne, OrMemory}
-use Rattle.nb_c.specs.Responses.{IsDomain, whole, no_name, bytes_trail, IsRdata, plain, too_long, domain, domain_data, Responds, no_name_text, named, response_answer}
+use Rattle.nb_c.specs.Outputs.{HasOne, OrMemory, none_late, of_memory}
+use Rattle.nb_c.specs.Responses.{IsDomain, whole, no_name, bytes_trail, IsRdata, plain, too_long, domain, domain_data, Responds, no_name_text, named, answer_of, response_of, response_answer}
 use Rattle.nb_c.specs.Statuses.{name_refusal, text_refusal}
 
 -- a spelling has one domain name or one fault
@@ -54,7 +58,8 @@ module _ (bytes : List ℕ) (laws : DomainLaws bytes) where
   one_response answered text words a b (no_name_text f fails) (named name rdata is there) = absurd (words.apart name f is fails)
   one_response answered text words a b (named name rdata is there) (no_name_text f fails) = absurd (words.apart name f is fails)
   one_response answered text words a b (named name rdata is there) (named other found was also) =
-      cc (words.one name other is was, one_rdata answered.kind rdata found there also)
+      ap (λ (n : NetbiosName). response_answer answered n rdata) (words.one name other is was)
+      ∙ ap (response_answer answered other) (one_rdata answered.kind rdata found there also)
 
 -- why a text is of no name is said at once
 pub text_said : (late : ℕ → Bool) (Says : Result (List ℕ) Refusal → Type 0) (fault : TextFault) → Says (Err (text_refusal fault))
@@ -63,14 +68,13 @@ text_said late Says (texts.BadText place) said = said
 text_said late Says texts.TooLong said = said
 
 -- RDATA is refused for what it is, and not for want of memory
-IsJudged : Result ResourceData Refusal → Type 0
+abbrev IsJudged : Result ResourceData Refusal → Type 0
 IsJudged (Ok rdata) = ⊤
 IsJudged (Err Memory) = ⊥
 IsJudged (Err (Fault status)) = ⊤
 IsJudged (Err (FaultAt status place)) = ⊤
 
 name_judged : (fault : NameFault) → IsJudged (Err (name_refusal fault))
-unfolding IsJudged
 name_judged (names.Truncated place) = tt
 name_judged (names.ReservedLabel place) = tt
 name_judged (names.PointerNotAllowed place) = tt
@@ -79,22 +83,37 @@ name_judged (names.TooLong place) = tt
 name_judged (names.NotNetbios place) = tt
 
 domain_judged : (bytes : List ℕ) (read : Result (List (List ℕ)) Refusal) → IsDomain bytes read → IsJudged (domain_data read)
-unfolding IsJudged
 domain_judged bytes read (whole labels there) = tt
 domain_judged bytes read (no_name fault fails) = name_judged fault
 domain_judged bytes read (bytes_trail labels next there more) = tt
 
 rdata_judged : (kind : ℕ) (bytes : List ℕ) (rdata : Result ResourceData Refusal) → IsRdata kind bytes rdata → IsJudged rdata
-unfolding IsJudged
 rdata_judged kind bytes rdata (plain not short) = tt
 rdata_judged kind bytes rdata (too_long not long) = tt
 rdata_judged kind bytes rdata (domain read is there) = domain_judged bytes read there
 
-pub rdata_refused : (late : ℕ → Bool) (kind : ℕ) (bytes : List ℕ) (refusal : Refusal) → IsRdata kind bytes (Err refusal)
-    → OrMemory late (λ (answer : Result (List ℕ) Refusal). answer ≡ Err refusal) (Err refusal)
-rdata_refused late kind bytes refusal is = told refusal (rdata_judged kind bytes (Err refusal) is) where
-  told : (refusal : Refusal) → IsJudged (Err refusal) → OrMemory late (λ (answer : Result (List ℕ) Refusal). answer ≡ Err refusal) (Err refusal)
-  unfolding IsJudged
-  told Memory judged = absurd judged
-  told (Fault status) judged = refl
-  told (FaultAt status place) judged = refl
+module _ (answered : Answered) (name : NetbiosName) (bytes : List ℕ) where
+  -- this is said of a name, of which these bytes are RDATA, or memory ran out
+  abbrev Told : Result (List ℕ) Refusal → Type 0
+  Told answer =
+      (rdata : Result ResourceData Refusal) × IsRdata answered.kind bytes rdata
+      × OrMemory none_late (λ (other : Result (List ℕ) Refusal). other ≡ response_answer answered name rdata) answer
+
+  pub response_written : (rdata : ResourceData) (entry : ResourceRecord) (told : Result (List ℕ) NoMemory)
+      → IsRdata answered.kind bytes (Ok rdata) → entry ≡ answer_of answered name rdata
+      → IfOk told (λ (found : List ℕ). found ≡ response_of answered entry) → Told (of_memory told)
+  response_written rdata entry told is made written =
+      let expected : List ℕ = response_of answered (answer_of answered name rdata) in (
+        Ok rdata,
+        is,
+        bytes_said none_late (λ (other : Result (List ℕ) Refusal). other ≡ Ok expected) expected told (has_one_value (Ok expected)) refl
+            (subst (λ (e : ResourceRecord). IfOk told (λ (found : List ℕ). found ≡ response_of answered e)) made written),
+      )
+
+  pub response_refused : (refusal : Refusal) → IsRdata answered.kind bytes (Err refusal) → Told (Err refusal)
+  response_refused refusal is = (Err refusal, is, said refusal (rdata_judged answered.kind bytes (Err refusal) is)) where
+    said : (refusal : Refusal) → IsJudged (Err refusal)
+        → OrMemory none_late (λ (other : Result (List ℕ) Refusal). other ≡ Err refusal) (Err refusal)
+    said Memory judged = absurd judged
+    said (Fault status) judged = refl
+    said (FaultAt status place) judged = refl

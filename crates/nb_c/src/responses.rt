@@ -63,12 +63,7 @@ pub extern "C" fn nbt_service_response(
 }
 
 /// The response about the name with this text.
-fn answer(
-    alloc: Global,
-    answered: Answered,
-    text: &[u8],
-    contents: &[u8],
-) -> Result<Bytes, Refusal>
+fn answer(alloc: Global, answered: Answered, text: &[u8], contents: &[u8]) -> Result<Bytes, Refusal>
     ensures answer { OrMemory none_late (Responds answered text.now contents.now) result }
     ensures one { HasOne (Responds answered text.now contents.now) }
 {
@@ -101,11 +96,7 @@ fn named_response(
 }
 
 /// The answer about a name.
-fn record_of<'a>(
-    answered: Answered,
-    name: &Name,
-    contents: &'a [u8],
-) -> Result<Record<'a>, Refusal>
+fn record_of<'a>(answered: Answered, name: &Name, contents: &'a [u8]) -> Result<Record<'a>, Refusal>
     ensures { MatchResult result (λ made. (rdata : ResourceData)
         × IsRdata answered.kind contents.entry.now (Ok rdata)
         × (made ≡ answer_of answered name.now rdata))

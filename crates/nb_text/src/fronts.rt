@@ -36,8 +36,9 @@ pub fn tell_front<S: Sink>(port: u16, payload: &[u8], sink: &mut S) -> Result<()
     tell_standing(port, payload, sink)
 }
 
-/// Tells what still stands at the front of a payload; nothing where it begins with a packet. A name's
-/// reader is large, so that a caller that reads the packet too would hold two of them on its stack.
+/// Tells what still stands at the front of a payload; nothing where it begins with a packet.
+///
+/// A reader of names is large: inlined, it would take room on the stack while the packet is read.
 #[inline(never)]
 fn tell_standing<S: Sink>(port: u16, payload: &[u8], sink: &mut S) -> Result<(), NoMemory>
     ensures told { OnOk result ((more : List Field) × FrontOf payload.now port more

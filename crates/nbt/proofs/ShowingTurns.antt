@@ -9,7 +9,7 @@ use Rattle.nb_names.specs.DeviceFacts.{Appends-nil, Appends-more, Appends-kept, 
 use Rattle.nb_member.specs.declared.capture_options.CaptureOptions.{CaptureOptions}
 use Rattle.nb_member.specs.declared.line.Line as capture
 use Rattle.nb_member.specs.declared.line.Line.TheVariants.{Packet, Tick}
-use Rattle.nb_member.specs.LineTaking.{TakesEach, none as no_lines, more as more_lines, StopsAt, EndsEarly, malformed, unread, no_memory, not_taken, TakesLines}
+use Rattle.nb_member.specs.LineTaking.{TakesEach, none as no_lines, more as more_lines, StopsAt, malformed, unread, no_memory, not_taken, TakesLines}
 use Rattle.nb_text.specs.Lines.{line_end}
 use Rattle.nb_text.specs.SaysPacket.{AddsSaid}
 use Rattle.nbt.specs.declared.fault.Fault.{Fault}

@@ -1,18 +1,24 @@
 /** The lines of a capture that is text: docs/FORMATS.md, "Captures". */
 import { bytesOf } from './digits.js';
+import { FORM, faultOf } from './line_faults.js';
 
 const MOST_IN_A_LINE = 262_200;
 const LINE = /^(?:(137|138|139) ([0-9]{1,20}) ((?:[0-9a-fA-F]{2})+|empty)|tick ([0-9]{1,20})|(#[^]*)?)$/;
 const COMMENT = /^# frame ([0-9]{1,10}) (\S+) (\S+):([0-9]{1,5}) > (\S+):([0-9]{1,5})$/;
 const TIME = /^([0-9]{4}-[0-9]{2}-[0-9]{2}T[0-9]{2}:[0-9]{2}:[0-9]{2})\.([0-9]{6})Z$/;
 const MOST_MOMENT = 2n ** 64n;
+/** A moment from which on no time of ours, in nanoseconds, has room for it. */
+const MOST_TIME = 2n ** 63n / 1_000_000n;
 const latin = new TextDecoder('latin1');
 
 /** A line that no capture has. */
 export class LineFault extends Error {
-    /** @param {number} line */
-    constructor(line) {
-        super(`line ${line} is none of a capture`);
+    /**
+     * @param {number} line
+     * @param {string} why
+     */
+    constructor(line, why) {
+        super(`line ${line} is none of a capture: ${why}. ${FORM}`);
         this.name = 'LineFault';
     }
 }
@@ -37,7 +43,7 @@ export function* linesOf(file) {
         const bytes = file.bytes(at, at + MOST_IN_A_LINE + 1);
         const feed = bytes.indexOf(10);
         const size = feed < 0 ? bytes.length : feed;
-        if (size > MOST_IN_A_LINE) throw new LineFault(number);
+        if (size > MOST_IN_A_LINE) throw new LineFault(number, `it is longer than ${MOST_IN_A_LINE} bytes`);
         at += size + 1;
         yield { ...lineOf(characters(bytes.subarray(0, size)), number), end: Math.min(at, file.size) };
     }
@@ -62,7 +68,7 @@ function characters(bytes) {
 function lineOf(text, number) {
     const match = LINE.exec(text);
     const moment = BigInt(match?.[2] ?? match?.[4] ?? 0);
-    if (!match || moment >= MOST_MOMENT) throw new LineFault(number);
+    if (!match || moment >= MOST_MOMENT) throw new LineFault(number, faultOf(text));
     if (match[1]) {
         const port = /** @type {137 | 138 | 139} */ (Number(match[1]));
         return { kind: 'payload', number, port, moment, digits: match[3] === 'empty' ? '' : match[3] };
@@ -72,8 +78,8 @@ function lineOf(text, number) {
 }
 
 /**
- * The payloads of a file, each with the frame that the comment before it names. Without one that is the number of its line, and its
- * moment counts from 1970.
+ * The payloads of a file, each with the frame that the comment before it names. Without one that is the number of its line; its time is
+ * then its moment, and it has no ends.
  *
  * @param {Iterable<Line>} lines
  * @returns {Generator<{end: number, seen: import('./payloads.js').Payload}, void, void>}
@@ -97,7 +103,7 @@ export function* payloadsIn(lines) {
  * @returns {import('./report.js').Mark}
  */
 function unnamed(line, size) {
-    const time = BigInt.asIntN(64, line.moment * 1_000_000n);
+    const time = line.moment < MOST_TIME ? line.moment * 1_000_000n : null;
     return { frame: line.number, time, source: '', destination: '', captured: size, size, counted: false };
 }
 

@@ -1,4 +1,5 @@
 /** Who claims which name, and what came of it. */
+import { Conflicts, TAKEN } from './conflicts.js';
 import { entriesOf, isClaim, isGroup, isResponse, subject } from './objects.js';
 import { Room } from './room.js';
 
@@ -10,7 +11,6 @@ const KINDS = new Map(Object.entries({
     '21': ['remote access client', ''], be: ['network monitor', ''], bf: ['network monitor application', ''],
 }));
 const ENDED = ['released', 'refused'];
-const SECOND = 1_000_000_000n;
 /** How many claims of a name are looked at for conflicts. */
 const MOST_HOLDERS = 16;
 
@@ -24,7 +24,8 @@ const MOST_HOLDERS = 16;
  * @property {boolean} group
  * @property {string} how
  * @property {bigint | null} since
- * @property {bigint | null} until null where it has no end
+ * @property {bigint | null} until when it was released
+ * @property {number | null} lifetime in seconds; 0 where it has no end, null where it ended
  * @property {number} refusals
  *
  * Of a name: its conflicts, and the refusals that are told to others than those who claim it.
@@ -52,7 +53,7 @@ export class Names {
         this.faults = new Room();
         /** @type {Room<Map<string, Claim>>} the first claims of each name, by address */
         this.holders = new Room();
-        this.conflicts = 0;
+        this.disputes = new Conflicts();
         /**
          * The names that are claimed, or said to be somebody's.
          * @type {Set<string>}
@@ -63,16 +64,18 @@ export class Names {
     /**
      * @param {import('./objects.js').Service} service
      * @param {import('./seen.js').Ends} ends
+     * @returns {boolean} whether it is of a conflict
      */
     take(service, ends) {
         const name = subject(service);
         if (isResponse(service)) return this.answered(service, ends, name);
         if (isClaim(service)) return this.claimed(service, ends, 'claims');
-        if (service.op !== 'release') return;
+        if (service.op !== 'release') return false;
         for (const { address } of entriesOf(service)) {
             const claim = this.claims.entries.get(`${name} ${address}`);
-            if (claim) Object.assign(claim, { until: ends.time, how: 'released' });
+            if (claim) Object.assign(claim, { until: ends.time, lifetime: null, how: 'released' });
         }
+        return false;
     }
 
     /**
@@ -83,17 +86,42 @@ export class Names {
     answered(service, ends, name) {
         if (service.rcode === 'ok') {
             if (service.op === 'query') this.claimed(service, ends, 'is said to be');
-            return;
+            return false;
         }
-        const isConflict = service.rcode === 'CFT_ERR';
-        if (service.op === 'query' && !isConflict) return;
+        const isDemand = service.rcode === 'CFT_ERR';
+        if (service.op === 'query' && !isDemand) return false;
         const claim = this.claims.entries.get(`${name} ${ends.destination}`);
-        if (claim && !isConflict) {
-            Object.assign(claim, { how: 'refused', until: null });
+        const isTaken = TAKEN.includes(String(service.rcode)) && service.op !== 'release';
+        // Who asks for a name isn't refused it.
+        const isNew = isTaken && service.op !== 'query'
+            && this.disputes.refuse(name, this.standing(name).filter((each) => each !== claim), service, ends);
+        if (claim && !isDemand) {
+            Object.assign(claim, { how: 'refused', lifetime: null });
             claim.refusals += 1;
-            return;
+        } else if (!isDemand) {
+            this.count(name, 'refusals');
         }
-        this.count(name, isConflict ? 'conflicts' : 'refusals');
+        if (isDemand || isNew) this.count(name, 'conflicts');
+        return isTaken;
+    }
+
+    /**
+     * Whether a name was claimed for an address, and that was refused.
+     *
+     * @param {string} name
+     * @param {string} address
+     */
+    isRefused(name, address) {
+        return this.claims.entries.get(`${name} ${address}`)?.how === 'refused';
+    }
+
+    /**
+     * The claims of a name that are neither released nor refused.
+     *
+     * @param {string} name
+     */
+    standing(name) {
+        return [...this.holders.entries.get(name)?.values() ?? []].filter((each) => !ENDED.includes(each.how));
     }
 
     /**
@@ -105,35 +133,39 @@ export class Names {
      */
     claimed(service, ends, how) {
         const { time, source } = ends;
+        let isContested = false;
         for (const record of [...service.answers, ...service.additional]) {
             for (const entry of record.entries ?? []) {
                 const { name } = record;
                 const { address } = entry;
-                const made = { name, address, source, group: isGroup(entry), how, since: time, until: null, refusals: 0 };
+                const made = { name, address, source, group: isGroup(entry), how, since: time, until: null, lifetime: record.ttl, refusals: 0 };
                 const claim = this.claims.get(`${name} ${address}`, () => made);
                 if (!claim) continue;
                 if (claim === made) this.named.add(name);
-                if (how === 'claims') this.contest(claim, source, isGroup(entry));
-                if (how === 'claims' || ENDED.includes(claim.how)) claim.how = how;
-                claim.group = isGroup(entry);
-                claim.until = record.ttl && time !== null ? time + BigInt(record.ttl) * SECOND : null;
+                if (how === 'claims' && this.contest(claim, ends, isGroup(entry))) isContested = true;
+                if (how === 'claims' || ENDED.includes(claim.how)) Object.assign(claim, { how, until: null });
+                Object.assign(claim, { group: isGroup(entry), lifetime: record.ttl });
             }
         }
+        return isContested;
     }
 
     /**
      * Counts a claim of a unique name that another station claims, once for each of them.
      *
      * @param {Claim} claim
-     * @param {string} source
+     * @param {import('./seen.js').Ends} ends
      * @param {boolean} group
      */
-    contest(claim, source, group) {
+    contest(claim, { source, frame }, group) {
         const holders = this.holders.get(claim.name, () => new Map());
-        if (!holders || holders.has(claim.address) || holders.size >= MOST_HOLDERS) return;
-        const isContested = [...holders.values()].some((other) => other.source !== source && !ENDED.includes(other.how));
+        if (!holders || holders.has(claim.address) || holders.size >= MOST_HOLDERS) return false;
+        const others = this.standing(claim.name);
         holders.set(claim.address, claim);
-        if (isContested && !group) this.count(claim.name, 'conflicts');
+        if (group || !others.some((other) => other.source !== source)) return false;
+        this.count(claim.name, 'conflicts');
+        this.disputes.contest(claim.name, [...others, claim].map((each) => each.address), frame);
+        return true;
     }
 
     /**
@@ -143,7 +175,6 @@ export class Names {
     count(name, what) {
         const faults = this.faults.get(name, () => ({ conflicts: 0, refusals: 0 }));
         if (faults) faults[what] += 1;
-        if (what === 'conflicts') this.conflicts += 1;
     }
 
     /** A row for each claim, and for each name that nobody claims, by name and address. */
@@ -152,7 +183,7 @@ export class Names {
             ({ ...claim, kind: kindOf(claim.name, claim.group), conflicts: this.faults.entries.get(claim.name)?.conflicts ?? 0 }));
         const claimed = new Set(claims.map((claim) => claim.name));
         const others = Array.from(this.faults.entries).filter(([name, { refusals }]) => refusals || !claimed.has(name)).map(([name, faults]) =>
-            ({ name, address: '', group: false, how: 'nobody', since: null, until: null, kind: kindOf(name, false), ...faults }));
+            ({ name, address: '', group: false, how: 'nobody', since: null, until: null, lifetime: null, kind: kindOf(name, false), ...faults }));
         return [...claims, ...others].sort((one, other) => compare(one.name, other.name) || compare(one.address, other.address));
     }
 

@@ -48,6 +48,8 @@
 const GROUP = 0x8000;
 const CLAIMS = new Set(['registration', 'refresh', 15]);
 const NBSTAT = '0021';
+/** The bit M of FLAGS: more of the datagram follows. RFC 1002 section 4.4.1. */
+const MORE = 1;
 
 /**
  * The packet as one of port 137, if it is one.
@@ -129,12 +131,16 @@ export function namesIn(told) {
  * @returns {string[]}
  */
 export function kindsOf(told, port) {
-    if (told.refused !== undefined) return ['refused'];
+    if (told.refused !== undefined) return ['malformed'];
     const service = serviceOf(told);
     if (service) return serviceKinds(service);
     const kind = told.kind ?? 'message';
     if (port === 139) return [kind, 'session'];
-    return ['unique', 'group', 'broadcast'].includes(kind) ? [kind, 'datagram'] : [kind];
+    if (kind === 'found') return [kind, 'positive'];
+    if (kind === 'missing') return [kind, 'negative'];
+    if (!['unique', 'group', 'broadcast'].includes(kind)) return [kind];
+    const isPiece = (parseInt(told.flags ?? '0', 16) & MORE) !== 0 || (told.offset ?? 0) > 0;
+    return isPiece ? [kind, 'datagram', 'fragment'] : [kind, 'datagram'];
 }
 
 /**
@@ -145,7 +151,17 @@ function serviceKinds(service) {
     const isStatus = [...service.questions, ...service.answers].some((each) => each.type === NBSTAT);
     const operation = service.op === 15 ? 'registration' : String(service.op);
     const kinds = [isStatus ? 'status' : operation];
-    if (isResponse(service)) kinds.push('response');
-    if (isResponse(service) && service.rcode === 'CFT_ERR') kinds.push('conflict');
+    if (isResponse(service)) kinds.push('response', ...responseKinds(service));
     return kinds;
+}
+
+/**
+ * What a response says by its code. A conflict demand answers nothing.
+ *
+ * @param {Service} service
+ */
+function responseKinds({ op, rcode }) {
+    if (rcode === 'ok') return op === 'wack' ? [] : ['positive'];
+    if (rcode !== 'CFT_ERR') return ['negative'];
+    return op === 'registration' ? ['conflict'] : ['conflict', 'negative'];
 }

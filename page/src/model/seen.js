@@ -52,6 +52,7 @@ export class Seen {
      * @param {import('./objects.js').Told} told
      * @param {string} brief
      * @param {Ends} ends
+     * @returns {boolean} whether it is of a conflict about a name
      */
     take(told, brief, ends) {
         this.packets += 1;
@@ -60,9 +61,9 @@ export class Seen {
         this.stations.take(told, ends);
         this.sessions.take(told, brief, ends);
         const service = serviceOf(told);
-        if (!service) return;
-        this.names.take(service, ends);
+        if (!service) return false;
         this.queries.take(service, ends);
+        return this.names.take(service, ends);
     }
 
     /**
@@ -86,7 +87,8 @@ export class Seen {
     /** The tables, by their titles. */
     tables() {
         return {
-            names: this.names.rows(), stations: this.stations.rows(), queries: this.queries.rows(), sessions: this.sessions.rows(),
+            conflicts: this.names.disputes.rows(), names: this.names.rows(), stations: this.stations.rows((name, address) => this.names.isRefused(name, address)), queries: this.queries.rows(),
+            sessions: this.sessions.rows(),
             refused: Array.from(this.refused.entries.values()), 'left out': Array.from(this.leftOut.entries.values()),
         };
     }
@@ -94,7 +96,10 @@ export class Seen {
     /** Of each table how many packets were more than are kept. */
     notKept() {
         const { names, stations, queries, sessions } = this;
-        return { names: names.others, stations: stations.room.others, queries: queries.room.others, sessions: sessions.room.others };
+        return {
+            conflicts: names.disputes.others, names: names.others, stations: stations.room.others, queries: queries.room.others,
+            sessions: sessions.room.others,
+        };
     }
 }
 

@@ -70,7 +70,16 @@ export class Stations {
         if (station && station.names.size < MOST_NAMES) station.names.add(name);
     }
 
-    rows() {
-        return Array.from(this.room.entries.values()).sort((one, other) => compare(one.address, other.address));
+    /**
+     * A row for each station, with the names that it was refused apart.
+     *
+     * @param {(name: string, address: string) => boolean} isRefused
+     */
+    rows(isRefused) {
+        return Array.from(this.room.entries.values(), (station) => {
+            const names = [...station.names];
+            const refused = names.filter((each) => isRefused(each, station.address));
+            return { ...station, names: names.filter((each) => !refused.includes(each)), refused };
+        }).sort((one, other) => compare(one.address, other.address));
     }
 }

@@ -1,6 +1,6 @@
 /** The address of the page: the view, the tap, the selected frame and the filter, after its `#`. */
 
-export const VIEWS = ['packets', 'names', 'reassembly', 'taps', 'out'];
+export const VIEWS = ['packets', 'names', 'reassembly', 'taps', 'export'];
 
 /**
  * @typedef {object} Place

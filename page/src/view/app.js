@@ -2,11 +2,13 @@
 import { hashOf, placeOf } from './address.js';
 import { Advice } from './advice.js';
 import { Desk } from './desk.js';
-import { byId, counted, element, number, say } from './dom.js';
+import { byId, counted, say } from './dom.js';
+import { Header } from './header.js';
 import { NamesView } from './names.js';
-import { OutView } from './out.js';
+import { ExportView } from './export.js';
 import { PacketPanel } from './packet.js';
 import { PacketsView } from './packets.js';
+import { Placing } from './placing.js';
 import { ReassemblyView } from './reassembly.js';
 import { Rows } from './rows.js';
 import { TapsView } from './taps.js';
@@ -27,6 +29,7 @@ const PATIENCE = 2_000;
  * @property {boolean} isRead
  * @property {string | null} fault
  * @property {number} incomplete how many keys lack a piece
+ * @property {number | null} closes the tap that is closed once this one can be read
  */
 
 export class App {
@@ -43,22 +46,27 @@ export class App {
         this.coming = new Map();
         this.opened = 0;
         this.place = placeOf();
+        this.header = new Header(this);
+        this.placing = new Placing();
         this.panel = new PacketPanel(new Advice(advice));
         this.packets = new PacketsView(this);
         this.views = {
-            packets: this.packets, names: new NamesView(this), reassembly: new ReassemblyView(this), taps: new TapsView(this), out: new OutView(this),
+            packets: this.packets, names: new NamesView(this), reassembly: new ReassemblyView(this), taps: new TapsView(this), export: new ExportView(this),
         };
         addEventListener('hashchange', () => this.go());
         byId('stop', HTMLButtonElement).addEventListener('click', () => this.stop());
         byId('to-packets', HTMLAnchorElement).addEventListener('click', () => this.place.view === 'packets' && this.focus());
-        byId('tap', HTMLSelectElement).addEventListener('change', (event) =>
-            this.move({ tap: Number(/** @type {HTMLSelectElement} */ (event.target).value), frame: 0, packet: 1 }));
         this.desk.loaded?.catch((error) => this.complain(error.message));
     }
 
     /** The file that is looked at. */
     get tap() {
         return this.taps[this.place.tap];
+    }
+
+    /** What the packets of that file are numbered by. */
+    get unit() {
+        return this.tap?.kind === 'lines' && this.tap.rows.isOfLines ? 'line' : 'frame';
     }
 
     /**
@@ -82,11 +90,12 @@ export class App {
      * @param {Blob} file
      * @param {string} name
      * @param {number} number of the tap
+     * @param {number | null} closes
      */
-    async open(file, name, number) {
+    async open(file, name, number, closes) {
         const counts = { frames: 0, packets: 0, refused: 0, leftOut: 0, names: 0, conflicts: 0 };
         /** @type {Tap} */
-        const tap = { name, size: file.size, kind: 'frames', rows: new Rows(), first: null, counts, isRead: false, fault: null, incomplete: 0 };
+        const tap = { name, size: file.size, kind: 'frames', rows: new Rows(), first: null, counts, isRead: false, fault: null, incomplete: 0, closes };
         const earlier = { tap: this.taps[number], place: this.place };
         this.taps[number] = tap;
         this.opened += 1;
@@ -111,8 +120,38 @@ export class App {
             await this.putBack(earlier, number);
             return;
         }
+        this.settle(tap);
         this.countKeys(tap, number);
         await this.read(tap);
+    }
+
+    /**
+     * Closes what a file stands in the place of, once it is known that it can be read.
+     *
+     * @param {Tap} tap
+     */
+    settle(tap) {
+        if (tap.closes !== null && this.taps[tap.closes]) this.close(tap.closes);
+        tap.closes = null;
+    }
+
+    /**
+     * Closes a file: the other one is looked at then, if there is one.
+     *
+     * @param {number} number of the tap
+     */
+    close(number) {
+        const tap = this.taps[number];
+        if (!tap) return;
+        this.taps[number] = null;
+        this.desk.ask('close', { tap: number }).catch(() => {});
+        const other = this.taps[1 - number] ? 1 - number : 0;
+        const isShown = this.place.tap === number;
+        if (isShown) this.keep({ tap: other, frame: 0, packet: 1, filter: '' });
+        if (!this.tap) this.keep({ view: 'packets' });
+        this.show(isShown);
+        this.tell(`${tap.name} is closed`);
+        if (isShown) this.focus();
     }
 
     /**
@@ -123,7 +162,7 @@ export class App {
      */
     async countKeys(tap, number) {
         tap.incomplete = await this.desk.ask('incomplete', { tap: number }).catch(() => 0);
-        this.head();
+        this.header.show();
     }
 
     /**
@@ -164,9 +203,10 @@ export class App {
         if (!tap) return;
         if (tap.first === null && news.rows.time.length) tap.first = news.rows.time[0];
         tap.rows.add(news.rows);
-        tap.counts = news.counts;
+        Object.assign(tap, { counts: news.counts, kind: news.kind });
+        if (tap.rows.count) this.settle(tap);
         this.progress(news);
-        this.head();
+        this.header.show();
         if (tap === this.tap) this.packets.more();
     }
 
@@ -219,6 +259,7 @@ export class App {
     go() {
         const { view, tap, frame, packet, filter } = this.place;
         this.place = placeOf();
+        if (!this.tap && this.taps[1 - this.place.tap]) this.keep({ tap: 1 - this.place.tap, frame: 0, packet: 1 });
         const isOther = this.place.tap !== tap;
         this.show(isOther || (this.place.filter !== filter));
         if (this.place.frame && (isOther || this.place.frame !== frame || this.place.packet !== packet)) {
@@ -229,6 +270,7 @@ export class App {
 
     /** What the keys are for: the list of packets, or else the view. */
     focus() {
+        if (!this.tap) return byId('choose', HTMLElement).focus();
         byId(this.place.view === 'packets' ? 'grid' : `view-${this.place.view}`, HTMLElement).focus({ preventScroll: true });
     }
 
@@ -247,56 +289,8 @@ export class App {
             if (isShown && isOpen && (name !== 'packets' || isOther)) view.show();
         }
         if (isOther && this.place.view !== 'packets') this.packets.show();
-        this.head();
+        this.header.show();
         this.progress(null);
-    }
-
-    /** The names of the files, and what is counted. */
-    head() {
-        const names = this.taps.flatMap((tap) => tap?.name ?? []);
-        say(byId('title', HTMLElement), names.join(' and ') || 'nbt');
-        document.title = names.length ? `${names.join(' and ')} · nbt` : 'nbt';
-        const counts = byId('counts', HTMLElement);
-        const { tap } = this;
-        const parts = tap && tap.kind !== 'table' ? [[tap.counts.packets, tap.counts.packets === 1 ? 'packet' : 'packets'],
-            [tap.counts.names, tap.counts.names === 1 ? 'name' : 'names'], [tap.counts.refused, 'refused'], [tap.counts.leftOut, 'left out']] : [];
-        const text = parts.map(([count, word]) => `${number(Number(count))} ${word}`).join(' · ');
-        if (counts.textContent !== text) {
-            counts.replaceChildren(...parts.flatMap(([count, word], at) => [at ? ' · ' : '',
-                element('b', { class: count && at > 1 ? 'bad' : null }, number(Number(count))), ` ${word}`]));
-        }
-        const { incomplete = 0, counts: { conflicts } = { conflicts: 0 } } = tap ?? {};
-        this.badge('names', 'Names', conflicts, counted(conflicts, 'conflict'));
-        this.badge('reassembly', 'Reassembly', incomplete, `${counted(incomplete, 'key')} incomplete`);
-        this.choice();
-    }
-
-    /**
-     * What is counted, beside the name of a view.
-     *
-     * @param {string} view
-     * @param {string} name
-     * @param {number} count
-     * @param {string} title
-     */
-    badge(view, name, count, title) {
-        const link = byId(`to-${view}`, HTMLAnchorElement);
-        if (link.textContent === (count ? `${name} ${number(count)}` : name)) return;
-        link.replaceChildren(name, ...(count ? [' ', element('b', { title }, number(count))] : []));
-    }
-
-    /** Which of two files is looked at. */
-    choice() {
-        const select = byId('tap', HTMLSelectElement);
-        const both = this.taps.every((tap) => tap !== null);
-        select.hidden = !both;
-        byId('opener', HTMLElement).textContent = this.tap ? 'Open another, or a second tap' : 'Open a file';
-        for (const [at, tap] of this.taps.entries()) {
-            const option = select.options[at];
-            const text = `Tap ${at + 1}: ${tap?.name ?? ''}`;
-            if (option.textContent !== text) option.textContent = text;
-        }
-        select.value = String(this.place.tap);
     }
 
     /** @param {string} words of one line */
@@ -309,7 +303,7 @@ export class App {
 
     /** @param {Tap} tap */
     tellOf({ name, kind, counts: { packets, refused, leftOut } }) {
-        this.tell(kind === 'table' ? `${name} is a saved table` : `${name}: ${counted(packets, 'packet')}, ${refused} refused, ${leftOut} left out`);
+        this.tell(kind === 'table' ? `${name} is a saved table` : `${name}: ${counted(packets, 'packet')}, ${refused} malformed, ${leftOut} left out`);
     }
 
     /** @param {string} words what is heard, where the page is read aloud */

@@ -7,6 +7,7 @@
  * @property {number} opened which of the files that were opened
  * @property {number} done how many bytes are read
  * @property {number} size
+ * @property {'frames' | 'lines' | 'table'} kind
  * @property {import('../model/packets.js').Rows} rows
  * @property {Counts} counts
  *

@@ -69,7 +69,7 @@ export function table(title, head, rows, kind = () => '') {
     const show = (count) => {
         const from = body.rows.length;
         body.append(...rows.slice(from, count).map((cells, at) =>
-            element('tr', { class: kind(from + at) || null }, ...cells.map((cell) => element('td', {}, cell)))));
+            element('tr', { class: kind(from + at) || null }, ...cells.map((cell, place) => element('td', { 'data-column': head[place] }, cell)))));
         more.hidden = count >= rows.length;
     };
     more.textContent = `Show all ${rows.length} rows`;

@@ -1,4 +1,5 @@
 /** How files come into the page: dropped, chosen, or pasted. */
+import { FORM } from '../containers/line_faults.js';
 import { byId, counted } from './dom.js';
 
 /**
@@ -31,24 +32,31 @@ export function takeFiles(app) {
         else if (text) openText(app, text);
     });
     const pasted = byId('pasted', HTMLTextAreaElement);
-    byId('read', HTMLButtonElement).addEventListener('click', () => {
-        openText(app, pasted.value);
-        pasted.value = '';
+    byId('read', HTMLButtonElement).addEventListener('click', async () => {
+        if (!pasted.value.trim()) {
+            app.complain(`There is no text to read. ${FORM}`);
+            pasted.focus();
+            return;
+        }
+        await openText(app, pasted.value);
+        if (app.tap) pasted.value = '';
     });
 }
 
 /**
- * Opens one file, or two as two taps. Where one is open already, the next one is the second tap.
+ * Opens one file, or two as two taps. Where some are open already it is asked what becomes of them.
  *
  * @param {import('./app.js').App} app
  * @param {File[]} files
  */
 export async function openAll(app, files) {
     const [one, two, ...others] = files;
-    if (!one) return;
-    const isOne = app.taps[0] !== null && !two;
-    await app.open(one, one.name, isOne ? 1 : 0);
-    if (two) await app.open(two, two.name, app.taps[0] === null ? 0 : 1);
+    if (!one || app.placing.isAsking) return;
+    const answer = await app.placing.ask(files.slice(0, 2).map(({ name }) => name), app.taps.map((tap) => tap?.name ?? null));
+    if (!answer) return;
+    const [first, second] = answer.taps;
+    await app.open(one, one.name, first, answer.closes);
+    if (two) await app.open(two, two.name, app.taps[first] === null ? first : second, null);
     if (others.length) app.complain(`${counted(others.length, 'file')} more than two: ${others[0].name} and what follows isn't opened`);
 }
 
@@ -57,5 +65,5 @@ export async function openAll(app, files) {
  * @param {string} text
  */
 function openText(app, text) {
-    openAll(app, [new File([text.replaceAll('\r\n', '\n')], 'pasted text')]);
+    return openAll(app, [new File([text.replaceAll('\r\n', '\n')], 'pasted text')]);
 }

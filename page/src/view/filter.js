@@ -3,9 +3,12 @@
 /** The kinds of packets, in the words of nbt-look. */
 export const KINDS = [
     'query', 'status', 'registration', 'refresh', 'release', 'wack', 'response', 'conflict', 'datagram', 'unique', 'group', 'broadcast',
-    'error', 'find', 'found', 'missing', 'session', 'request', 'positive', 'negative', 'retarget', 'message', 'keepalive', 'refused', 'left-out',
+    'fragment', 'error', 'find', 'found', 'missing', 'session', 'request', 'retarget', 'message', 'keepalive', 'positive', 'negative', 'malformed',
+    'left-out',
 ];
-const PORTS = ['137', '138', '139'];
+export const PORTS = ['137', '138', '139'];
+/** A whole address of IPv4, which is no part of another one. */
+const ADDRESS = /^\d{1,3}(?:\.\d{1,3}){3}$/;
 
 /**
  * What is chosen; an empty text is all.
@@ -17,12 +20,12 @@ export class Filter {
     /** @param {Chosen} chosen */
     constructor({ words, kind, sender, reason }) {
         const parts = words.trim().split(/\s+/).filter((each) => each !== '');
-        this.kinds = parts.filter((each) => KINDS.includes(each)).concat(kind || []);
+        this.kinds = parts.map((each) => each.toLowerCase()).filter((each) => KINDS.includes(each)).concat(kind || []);
         this.ports = parts.filter((each) => PORTS.includes(each)).map(Number);
         this.sender = sender;
         this.reason = reason;
-        const others = parts.filter((each) => !KINDS.includes(each) && !PORTS.includes(each));
-        this.patterns = others.map((each) => new RegExp(each.replace(/[.*+?^${}()|[\]\\]/g, '\\$&'), 'i'));
+        const others = parts.filter((each) => !KINDS.includes(each.toLowerCase()) && !PORTS.includes(each));
+        this.patterns = others.map(patternOf);
         /** What was found of a text, by its number. @type {Map<number, boolean>[]} */
         this.found = this.patterns.map(() => new Map());
         /** @type {Map<number, boolean>} */
@@ -74,4 +77,14 @@ export class Filter {
         }
         return has;
     }
+}
+
+/**
+ * What a word has to be a part of; an address has to stand there by itself.
+ *
+ * @param {string} word
+ */
+function patternOf(word) {
+    const plain = word.replace(/[.*+?^${}()|[\]\\]/g, '\\$&');
+    return new RegExp(ADDRESS.test(word) ? `(?<![\\d.])${plain}(?![\\d.]*\\d)` : plain, 'i');
 }

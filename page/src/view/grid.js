@@ -30,16 +30,29 @@ export class Grid {
         this.isDrawing = false;
         /** @type {HTMLElement[]} */
         this.pool = [];
-        const head = element('div', { role: 'row', class: 'row head', 'aria-rowindex': 1 },
+        this.head = element('div', { role: 'row', class: 'row head', 'aria-rowindex': 1 },
             ...headings.map(({ name, title }) => element('span', { role: 'columnheader', class: name, title }, name)));
         this.size = element('div', { class: 'size', role: 'presentation' });
         this.sight = element('div', { class: 'sight', role: 'rowgroup' });
         this.scroller = element('div', { class: 'scroller', role: 'presentation', tabindex: -1 }, this.size, this.sight);
-        root.append(element('div', { role: 'rowgroup', class: 'heads' }, head), this.scroller);
+        root.append(element('div', { role: 'rowgroup', class: 'heads' }, this.head), this.scroller);
         this.scroller.addEventListener('scroll', () => this.draw());
         new ResizeObserver(() => this.draw()).observe(this.scroller);
         this.sight.addEventListener('click', (event) => this.click(event));
         root.addEventListener('keydown', (event) => this.key(event));
+    }
+
+    /**
+     * Heads a column with another word.
+     *
+     * @param {number} place
+     * @param {string} word
+     */
+    rename(place, word) {
+        const heading = this.head.children[place];
+        if (heading.textContent === word) return;
+        heading.textContent = word;
+        heading.setAttribute('title', `The number of the ${word}`);
     }
 
     /** How many rows are in sight. */

@@ -1,4 +1,5 @@
 /** The keys of a table, as the library lists them: `KEY whole ..`, `KEY partial ..`, `KEY spoilt`. docs/FORMATS.md, "`nbt list`". */
+import { counted } from './dom.js';
 
 /**
  * @typedef {object} Key
@@ -9,6 +10,7 @@
  * @property {string} source
  * @property {string} destination
  * @property {[number, number][]} places
+ * @property {number} held how many bytes are there
  * @property {number | null} end how many bytes the datagram has, if that is known
  * @property {number} wide up to where anything is known or promised
  * @property {string} data digits of a whole one
@@ -21,14 +23,15 @@
 export function keyOf(line) {
     const [key, state, kind = '', source = '', destination = '', ...rest] = line.split(' ');
     /** @type {Key} */
-    const found = { line, key, state, kind, source, destination, places: [], end: null, wide: 0, data: '' };
+    const found = { line, key, state, kind, source, destination, places: [], held: 0, end: null, wide: 0, data: '' };
     if (state === 'whole') {
         found.data = rest[0] === 'empty' ? '' : rest[0];
-        found.end = found.wide = found.data.length / 2;
+        found.end = found.wide = found.held = found.data.length / 2;
         if (found.end) found.places = [[0, found.end]];
     } else if (state === 'partial') {
-        const [held, , places, , more] = rest;
-        const end = held.split('/')[1];
+        const [numbers, , places, , more] = rest;
+        const [held, end] = numbers.split('/');
+        found.held = Number(held);
         found.end = end === '?' ? null : Number(end);
         found.places = places === '-' ? [] : places.split(',').map((each) => /** @type {[number, number]} */ (each.split('-').map(Number)));
         found.wide = Math.max(found.end ?? 0, Number(more ?? 0), found.places.at(-1)?.[1] ?? 0);
@@ -37,19 +40,37 @@ export function keyOf(line) {
 }
 
 /**
- * What is missing, in the words of nbt-look.
+ * What is known of a key, in words.
  *
  * @param {Key} key
- * @returns {string[]}
  */
-export function missing({ places, end }) {
-    const found = [];
+export function known(key) {
+    if (key.state === 'spoilt') return 'its fragments contradict each other';
+    if (key.state === 'whole') return key.held ? `all of its ${counted(key.held, 'byte')}` : 'whole, without a byte';
+    return `${key.end === null ? counted(key.held, 'byte') : `${key.held} of ${counted(key.end, 'byte')}`}; ${missing(key)}`;
+}
+
+/**
+ * What is missing of a key that is partial.
+ *
+ * @param {Key} key
+ */
+function missing({ places, end }) {
+    const gaps = [];
     let due = 0;
     for (const [from, to] of places) {
-        if (from > due) found.push(`${due} to ${from - 1}`);
+        if (from > due) gaps.push(span(due, from - 1));
         due = to;
     }
-    if (end === null) found.push(`from ${due} on`);
-    else if (due < end) found.push(`${due} to ${end - 1}`);
-    return found;
+    if (end === null) return `missing ${[...gaps, due ? `what follows byte ${due - 1}` : 'all of them'].join(', ')}; its length isn't known`;
+    if (due < end) gaps.push(span(due, end - 1));
+    return `missing ${gaps.join(', ')}`;
+}
+
+/**
+ * @param {number} from
+ * @param {number} last
+ */
+function span(from, last) {
+    return from === last ? `byte ${from}` : `bytes ${from} to ${last}`;
 }

@@ -40,7 +40,7 @@ byId('dismiss', HTMLButtonElement).addEventListener('click', () => {
 
 addEventListener('keydown', (event) => {
     const target = /** @type {HTMLElement} */ (event.target);
-    if (event.ctrlKey || event.altKey || event.metaKey || help.open || target.closest('input, textarea, select')) return;
+    if (event.ctrlKey || event.altKey || event.metaKey || document.querySelector('dialog[open]') || target.closest('input, textarea, select')) return;
     const isPackets = app.place.view === 'packets' && app.tap !== null;
     if (event.key === '/' && app.tap) {
         event.preventDefault();

@@ -1,20 +1,24 @@
-/** The names' view: who claims which name, stations, queries without an answer, sessions, refusals, and what is left out. */
+/** The names' view: conflicts and how they ended, who claims which name, stations, queries without an answer, sessions, refusals, and what is left out. */
 import { since } from '../model/times.js';
 import { hashOf } from './address.js';
+import { outcome, summary } from './conflicts.js';
 import { byId, counted, element, table } from './dom.js';
 
-/** The tables in the order and with the titles of nbt-look, and the columns of each. */
+/** The conflicts, then the tables in the order and with the titles of nbt-look; and the columns of each. */
 const TABLES = /** @type {const} */ ([
-    ['names', 'names', ['name', 'kind', 'address', 'group', 'how', 'since', 'until', 'conflicts', 'refusals']],
-    ['stations', 'stations', ['address', 'mac', 'packets', 'names', 'status', 'unit']],
-    ['queries', 'queries without an answer', ['name', 'kind', 'by', 'times', 'frame', 'since']],
+    ['conflicts', 'conflicts', ['name', 'holder', 'refused', 'by', 'frame']],
+    ['names', 'names', ['name', 'kind', 'address', 'group', 'how', 'since', 'until', 'lifetime', 'conflicts', 'refusals']],
+    ['stations', 'stations', ['address', 'mac', 'packets', 'names', 'refused', 'status', 'unit']],
+    ['queries', 'queries without an answer', ['name', 'kind', 'by', 'times', 'frames', 'since', 'answered']],
     ['sessions', 'sessions', ['calling', 'called', 'from', 'to', 'calls', 'accepted', 'refused', 'sent', 'received']],
-    ['refused', 'refused', ['reason', 'packets', 'frame', 'byte']],
+    ['refused', 'malformed', ['reason', 'packets', 'frame', 'byte']],
     ['left out', 'left out', ['reason', 'frames']],
 ]);
 const FILTERS = ['name', 'calling', 'called', 'address', 'from', 'to', 'by'];
-/** How it is known of a name that nobody has it: of these a lifetime says nothing. */
-const UNCLAIMED = ['nobody', 'refused'];
+/** Of how many conflicts a sentence says how they ended. */
+const MOST_SENTENCES = 5;
+
+/** @typedef {import('./conflicts.js').Conflict} Conflict */
 
 export class NamesView {
     /** @param {import('./app.js').App} app */
@@ -32,35 +36,64 @@ export class NamesView {
         const answer = await app.ask('tables');
         if (!answer) return;
         const { tables, notKept } = answer;
-        this.root.replaceChildren(element('p', { class: 'lead' }, contested(tables.names)), ...TABLES.flatMap(([key, title, head]) => {
-            const rows = tables[key];
-            const more = notKept[key] ? [element('p', { class: 'quiet' }, `and ${counted(notKept[key], 'packet')} of more than are kept`)] : [];
-            if (!rows.length) return more;
-            return [table(title, [...head], rows.map((/** @type {any} */ row) => head.map((column) => this.cell(row, column))),
-                (at) => (rows[at].conflicts || rows[at].refusals || key === 'refused' ? 'bad' : '')), ...more];
-        }));
+        const lost = new Set(tables.conflicts.map((/** @type {Conflict} */ { name, refused }) => `${name} ${refused}`));
+        this.root.replaceChildren(element('p', { class: 'lead' }, summary(tables.conflicts)), ...this.outcomes(tables.conflicts),
+            ...TABLES.flatMap(([key, title, columns]) => {
+                const rows = tables[key];
+                const more = notKept[key] ? [element('p', { class: 'quiet' }, `and ${counted(notKept[key], 'packet')} of more than are kept`)] : [];
+                if (!rows.length) return more;
+                const head = columns.map((each) => ({ frame: app.unit, byte: 'payload byte' })[String(each)] ?? each);
+                const cells = rows.map((/** @type {any} */ row) => columns.map((column) => this.cell(row, column)));
+                return [table(title, head, cells, (at) => standing(key, rows[at], lost)), ...more];
+            }));
     }
 
     /**
-     * @param {Record<string, unknown>} row
+     * How the first conflicts ended, a sentence each.
+     *
+     * @param {Conflict[]} conflicts
+     */
+    outcomes(conflicts) {
+        if (!conflicts.length) return [];
+        const shown = conflicts.slice(0, MOST_SENTENCES).map((each) => element('li', {}, `${outcome(each)} `, this.frame(each.frame)));
+        const rest = conflicts.length - shown.length;
+        return [element('ul', { class: 'outcomes' }, ...shown, ...(rest > 0 ? [element('li', {}, `${counted(rest, 'conflict')} more: see the table.`)] : []))];
+    }
+
+    /** @param {number} frame */
+    frame(frame) {
+        return this.link(`${this.app.unit} ${frame}`, { frame, filter: '' });
+    }
+
+    /** @param {number[]} frames */
+    frames(frames) {
+        return element('span', {}, ...frames.flatMap((each, at) => [...(at ? [', '] : []), this.link(String(each), { frame: each, filter: '' })]));
+    }
+
+    /**
+     * @param {any} row
      * @param {string} column
      * @returns {Node | string}
      */
     cell(row, column) {
         const value = row[column];
-        if (column === 'since' || column === 'until') return this.time(/** @type {bigint | null} */ (value), column === 'until' && !UNCLAIMED.includes(String(row.how)));
+        if (column === 'since' || column === 'until') return this.time(/** @type {bigint | null} */ (value));
+        if (column === 'lifetime') return value === null ? '-' : `${value} s${value ? '' : ', no end'}`;
+        if (column === 'frames' && Array.isArray(value)) return this.frames(value);
+        if (column === 'answered') return value === null ? 'never' : this.link(`a later one, in ${this.app.unit} ${value}`, { frame: value, filter: '' });
         if (column === 'frame') return this.link(String(value), { frame: Number(value), filter: '' });
-        if (column === 'reason') return this.link(String(value), { filter: row.frames === undefined ? 'refused' : 'left-out' });
+        if (column === 'reason') return this.link(String(value), { filter: row.frames === undefined ? 'malformed' : 'left-out' });
+        if (column === 'holder') return row.claimants.join(' or ') || 'not in the capture';
+        if (column === 'refused' && row.claimants) return String(value || 'nobody');
         const text = textOf(value);
         return FILTERS.includes(column) && text !== '-' ? this.link(text, { filter: text }) : text;
     }
 
     /**
      * @param {bigint | null} time
-     * @param {boolean} isEnd
      */
-    time(time, isEnd) {
-        if (time === null || time === undefined) return isEnd ? 'no end' : '-';
+    time(time) {
+        if (time === null || time === undefined) return '-';
         return since(time, this.app.tap?.first ?? null);
     }
 
@@ -75,17 +108,19 @@ export class NamesView {
     }
 }
 
-/** @param {{name: string, address: string, group: boolean, how: string}[]} rows */
-function contested(rows) {
-    /** @type {Map<string, Set<string>>} */
-    const claimants = new Map();
-    for (const { name, address, group } of rows) {
-        if (!group && address) claimants.set(name, (claimants.get(name) ?? new Set()).add(address));
-    }
-    const several = Array.from(claimants).filter(([, addresses]) => addresses.size > 1).map(([name]) => name);
-    if (!several.length) return 'No name has several claimants.';
-    const shown = several.slice(0, 5).join(', ');
-    return `${counted(several.length, 'name has', 'names have')} several claimants: ${shown}${several.length > 5 ? ' and others' : ''}.`;
+/**
+ * What a row's color says beside its words: of a conflict whether it is decided, of a claim whether it was refused or is contested.
+ *
+ * @param {string} key of the table
+ * @param {any} row
+ * @param {Set<string>} lost the names with the addresses that were refused them
+ */
+function standing(key, row, lost) {
+    if (key === 'conflicts') return row.refused ? 'decided' : 'undecided';
+    if (key === 'refused') return 'bad';
+    if (key !== 'names') return '';
+    if (row.how === 'refused' || lost.has(`${row.name} ${row.address}`)) return 'bad';
+    return row.conflicts || row.refusals ? 'contested' : '';
 }
 
 /**

@@ -12,7 +12,7 @@ const MOST_DIGITS = 128;
 /**
  * A packet as the worker answers it.
  *
- * @typedef {import('../model/packets.js').Kept & {utc: string, said: string, told: Record<string, unknown> | null}} Shown
+ * @typedef {import('../model/packets.js').Kept & {isFrame: boolean, utc: string, said: string, told: Record<string, unknown> | null}} Shown
  */
 
 export class PacketPanel {
@@ -37,9 +37,10 @@ export class PacketPanel {
         const refused = typeof packet.told?.refused === 'string' ? packet.told.refused : '';
         const at = typeof packet.told?.at === 'number' && !ELSEWHERE.test(refused) ? packet.told.at : null;
         this.root.replaceChildren(
-            this.hidden, element('h2', {}, `Frame ${packet.frame}`), element('p', { class: 'said' }, packet.said || phrase),
+            this.hidden, element('h2', {}, `${packet.isFrame ? 'Frame' : 'Line'} ${packet.frame}`), element('p', { class: 'said' }, packet.said || phrase),
             ...(refused ? [this.fault(refused)] : []), facts(packet, first),
-            ...(packet.told ? [fields(packet.told), ...dumpOf(packet.bytes, at)] : []), wireshark(packet));
+            ...(packet.told ? [fields(packet.told), ...dumpOf(packet.bytes, at)] : []),
+            ...(packet.isFrame ? [wireshark(packet)] : []));
     }
 
     /** @param {boolean} isHidden whether the packet is none of the list */
@@ -68,11 +69,12 @@ function list(pairs) {
  */
 function facts(packet, first) {
     /** @type {[string, string][]} */
-    const pairs = [['time', `${since(packet.time, first)} s${packet.utc === '-' ? '' : `, ${packet.utc}`}`]];
+    const pairs = [packet.isFrame ? ['time', `${since(packet.time, first)} s${packet.utc === '-' ? '' : `, ${packet.utc}`}`]
+        : ['moment', packet.time === null ? '-' : `${packet.time / 1_000_000n} ms`]];
     if (packet.source) pairs.push(['from', packet.source], ['to', packet.destination]);
     if (packet.mac) pairs.push(['MAC', packet.mac]);
     if (packet.vlan !== null) pairs.push(['VLAN', String(packet.vlan)]);
-    pairs.push(['captured', `${packet.captured} of ${packet.size} bytes`]);
+    if (packet.isFrame) pairs.push(['captured', `${packet.captured} of ${packet.size} bytes`]);
     if (packet.told) pairs.push(['payload', `${packet.bytes.length} bytes, port ${packet.port}`]);
     return list(pairs);
 }

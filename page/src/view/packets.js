@@ -4,6 +4,7 @@ import { since } from '../model/times.js';
 import { byId, counted, element, number, say } from './dom.js';
 import { Filter } from './filter.js';
 import { Grid } from './grid.js';
+import { hintOf } from './hint.js';
 
 const HEADINGS = [
     { name: 'frame', title: 'The number of the frame' }, { name: 'time', title: 'Seconds since the first frame' },
@@ -19,6 +20,7 @@ export class PacketsView {
     constructor(app) {
         this.app = app;
         this.words = byId('words', HTMLInputElement);
+        this.hint = byId('hint', HTMLElement);
         this.selects = { kind: byId('kind', HTMLSelectElement), sender: byId('sender', HTMLSelectElement), reason: byId('reason', HTMLSelectElement) };
         this.grid = new Grid(byId('grid', HTMLElement), HEADINGS, {
             count: () => this.rows?.shown.length ?? 0, row: (at) => this.row(at), select: (at) => this.chosen(at),
@@ -61,7 +63,7 @@ export class PacketsView {
             rows.text('destination', row), port ? String(port) : '', rows.said[row],
         ];
         const kinds = rows.text('kinds', row).split(' ');
-        return { cells, kind: ['refused', 'left-out', 'conflict'].find((each) => kinds.includes(each)) ?? '' };
+        return { cells, kind: ['malformed', 'left-out', 'conflict'].find((each) => kinds.includes(each)) ?? '' };
     }
 
     /** Shows the rows of another file. */
@@ -69,6 +71,7 @@ export class PacketsView {
         this.rows = this.app.tap?.rows ?? null;
         this.selected = -1;
         this.grid.scroller.scrollTop = 0;
+        this.grid.rename(0, this.app.unit);
         this.grid.mark(-1);
         this.app.panel.clear();
         this.words.value = this.app.place.filter;
@@ -78,6 +81,7 @@ export class PacketsView {
 
     /** Shows rows that have come. */
     more() {
+        this.grid.rename(0, this.app.unit);
         this.grid.draw();
         this.count();
         if (performance.now() - this.offered > OFFERING) this.offer();
@@ -105,6 +109,26 @@ export class PacketsView {
         const all = rows?.count ?? 0;
         const shown = rows?.shown.length ?? 0;
         say(byId('shown', HTMLElement), shown === all ? counted(all, 'row') : `${number(shown)} of ${counted(all, 'row')}`);
+        this.advise(all > 0 && shown === 0 ? this.words.value : null);
+    }
+
+    /**
+     * Says what the box takes, where no row fits.
+     *
+     * @param {string | null} words null where some fit
+     */
+    advise(words) {
+        this.hint.hidden = words === null;
+        if (words === null || this.hint.dataset.words === words) return;
+        this.hint.dataset.words = words;
+        const { text, instead } = hintOf(words);
+        const button = element('button', { type: 'button' }, `Filter by ${instead}`);
+        button.addEventListener('click', () => {
+            this.words.value = instead;
+            this.words.focus();
+            this.refilter();
+        });
+        this.hint.replaceChildren(text, ...(instead ? [' ', button] : []));
     }
 
     /** Offers what can be chosen, with counts. */
@@ -179,7 +203,7 @@ export class PacketsView {
         const lines = Array.from({ length: count }, (_, at) => element('tr', {}, ...this.row(at).cells.map((cell) => element('td', {}, cell))));
         const rest = rows.shown.length - count;
         byId('printed', HTMLElement).replaceChildren(
-            element('table', {}, element('thead', {}, element('tr', {}, ...HEADINGS.map(({ name }) => element('th', {}, name)))), element('tbody', {}, ...lines)),
+            element('table', {}, element('thead', {}, element('tr', {}, ...[this.app.unit, ...HEADINGS.slice(1).map(({ name }) => name)].map((each) => element('th', {}, each)))), element('tbody', {}, ...lines)),
             ...(rest > 0 ? [element('p', {}, `and ${counted(rest, 'row')} more, which a filter makes fewer`)] : []));
     }
 }

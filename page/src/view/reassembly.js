@@ -1,7 +1,8 @@
 /** The reassembly's view: each key as a bar, and what a station with chosen names is handed, and when. */
 import { hashOf } from './address.js';
+import { bar, folded, preview } from './bars.js';
 import { byId, counted, element, number, table } from './dom.js';
-import { keyOf, missing } from './keys.js';
+import { keyOf, known } from './keys.js';
 
 const MOST_NAMES = 254;
 
@@ -64,47 +65,11 @@ export class ReassemblyView {
  * @param {import('./keys.js').Key[]} keys
  * @param {(key: import('./keys.js').Key) => Node | string} named what stands for a key
  */
-export function tableOf(keys, named = ({ key }) => key) {
+function tableOf(keys, named) {
     if (!keys.length) return [element('p', { class: 'quiet' }, 'There are no datagrams of which a station holds anything.')];
     const counts = ['whole', 'partial', 'spoilt'].map((state) => `${number(keys.filter((key) => key.state === state).length)} ${state}`);
-    const cells = keys.map((key) => [named(key), key.state, bar(key), key.source || '-', key.destination || '-', said(key)]);
+    const cells = keys.map((key) => [named(key), key.state, bar(key), key.source || '-', key.destination || '-',
+        key.state === 'whole' ? folded(key.data) : known(key)]);
     return [element('p', { class: 'lead' }, `${counted(keys.length, 'key')}: ${counts.join(', ')}.`),
-        table('keys', ['key', 'state', 'places', 'from', 'to', 'missing, or the data'], cells, (at) => keys[at].state)];
-}
-
-/** @param {import('./keys.js').Key} key */
-function said(key) {
-    if (key.state === 'spoilt') return 'its fragments contradict each other';
-    return key.state === 'whole' ? preview(key.data) : missing(key).join(', ');
-}
-
-/**
- * The places of a datagram as a bar: what is known, gaps, and an open end.
- *
- * @param {import('./keys.js').Key} key
- */
-function bar(key) {
-    const wide = Math.max(key.wide, 1);
-    const known = key.places.map(([from, to]) => `${from} to ${to - 1}`).join(', ') || 'nothing';
-    const end = key.end === null ? 'its end is unknown' : `of ${key.end} bytes`;
-    const words = key.state === 'spoilt' ? 'spoilt' : `known: ${known}, ${end}`;
-    const made = element('span', { class: `bar ${key.state}${key.end === null ? ' open' : ''}`, role: 'img', 'aria-label': words, title: words });
-    for (const [from, to] of key.places) {
-        const part = element('span');
-        part.style.left = `${(100 * from) / wide}%`;
-        part.style.width = `${(100 * (to - from)) / wide}%`;
-        made.append(part);
-    }
-    return made;
-}
-
-/**
- * The first bytes of data as text.
- *
- * @param {string} digits
- */
-function preview(digits) {
-    const bytes = (digits.match(/../g) ?? []).slice(0, 48).map((each) => parseInt(each, 16));
-    const text = bytes.map((each) => (each >= 0x20 && each < 0x7f ? String.fromCharCode(each) : '.')).join('');
-    return digits.length > 96 ? `${text}..` : text;
+        table('keys', ['key', 'state', 'places', 'from', 'to', 'what is known'], cells, (at) => keys[at].state)];
 }

@@ -36,6 +36,11 @@ export class Rows {
         return this.frame.length;
     }
 
+    /** Whether the numbers are those of lines: then no packet has ends. */
+    get isOfLines() {
+        return this.count > 0 && this.text('source', 0) === '-';
+    }
+
     /** @param {import('../model/packets.js').Rows} batch */
     add(batch) {
         this.texts.push(...batch.texts);

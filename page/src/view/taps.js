@@ -1,47 +1,98 @@
-/** The view of two taps: their tables, the join, what only the join makes whole, and where they differ. */
+/** The view of two taps: what comes of them together, and by side what each knows and what only the join does. */
+import { hashOf } from './address.js';
+import { bar, folded } from './bars.js';
 import { byId, counted, element, number, table } from './dom.js';
-import { keyOf } from './keys.js';
-import { tableOf } from './reassembly.js';
+import { known } from './keys.js';
+import { conclusion, sidesOf } from './sides.js';
 
 export class TapsView {
     /** @param {import('./app.js').App} app */
     constructor(app) {
         this.app = app;
         this.root = byId('view-taps', HTMLElement);
+        /**
+         * Of each tap the frames in which keys came first.
+         * @type {Map<string, number>[]}
+         */
+        this.firsts = [];
     }
 
     async show() {
         const { taps } = this.app;
         const [one, two] = taps;
         if (!one || !two) {
-            this.root.replaceChildren(element('p', { class: 'quiet' }, 'Open a second file: captures and saved tables of two places are joined here.'));
+            this.root.replaceChildren(element('p', { class: 'quiet' }, 'Open a second file as a second tap: captures and saved tables of two places are joined here.'));
             return;
         }
         const answer = await this.app.ask('compared');
-        if (!answer) return;
-        const sides = [answer.first, answer.second, answer.both].map((lines) => new Map(lines.map((/** @type {string} */ line) => [line.split(' ')[0], line])));
-        const [first, second, both] = sides;
-        const lines = /** @type {string[]} */ (Array.from(both.values()));
-        const joined = lines.filter((line) => keyOf(line).state === 'whole' && [first, second].every((side) => !isWhole(side.get(keyOf(line).key))));
-        const differing = Array.from(both.keys()).filter((key) => first.get(key) !== second.get(key));
+        if (!answer || this.app.taps[0] !== one || this.app.taps[1] !== two) return;
+        const sides = sidesOf(answer);
+        this.firsts = answer.firsts;
         this.root.replaceChildren(
-            table('tables', ['table', 'keys', 'whole', 'partial', 'spoilt'], [['tap 1: ' + one.name, ...counts(first)],
-                ['tap 2: ' + two.name, ...counts(second)], ['the join', ...counts(both)]]),
-            element('h2', {}, 'Only the join makes whole'),
-            ...(joined.length ? tableOf(joined.map(keyOf)) : [element('p', {}, 'No key.')]),
-            element('h2', {}, 'Where they differ'), element('p', { class: 'lead' }, differing.length ? `different: ${counted(differing.length, 'key')}` : 'equal'),
-            ...(differing.length ? [table('keys that differ', ['key', 'tap 1', 'tap 2'], differing.map((key) =>
-                [key, ...[first, second].map((side) => side.get(key)?.slice(key.length + 1) ?? 'absent')]))] : []));
+            element('p', { class: 'lead' }, conclusion(sides)), this.counts(sides, one.name, two.name),
+            ...this.group('whole only when joined', sides.joined), ...this.group('only tap 1 has anything of it', sides.one),
+            ...this.group('only tap 2 has anything of it', sides.other), ...this.group('both have it, and not the same', sides.differing),
+            element('p', { class: 'quiet' }, `${counted(sides.equal, 'key is', 'keys are')} the same at both taps.`));
+    }
+
+    /**
+     * @param {import('./sides.js').Sides} sides
+     * @param {string} one
+     * @param {string} other
+     */
+    counts({ all }, one, other) {
+        /**
+         * @param {string} title
+         * @param {'one' | 'other' | 'both'} side
+         */
+        const row = (title, side) => {
+            const states = all.flatMap((each) => each[side]?.state ?? []);
+            return [title, number(states.length), ...['whole', 'partial', 'spoilt'].map((state) => number(states.filter((each) => each === state).length))];
+        };
+        return table('tables', ['table', 'keys', 'whole', 'partial', 'spoilt'],
+            [row(`tap 1: ${one}`, 'one'), row(`tap 2: ${other}`, 'other'), row('the join', 'both')]);
+    }
+
+    /**
+     * A table of keys, with what each side knows.
+     *
+     * @param {string} title
+     * @param {import('./sides.js').Row[]} rows
+     */
+    group(title, rows) {
+        if (!rows.length) return [];
+        const cells = rows.map(({ key, one, other, both }) => {
+            const { source, destination, data, wide } = both.state === 'spoilt' ? one ?? other ?? both : both;
+            const room = Math.max(wide, one?.wide ?? 0, other?.wide ?? 0, 1);
+            return [this.link(key), source || '-', destination || '-', ...[one, other, both].map((each) => side(each, room)),
+                both.state === 'whole' ? folded(data) : '-'];
+        });
+        return [table(title, ['key', 'from', 'to', 'tap 1', 'tap 2', 'the join', 'data'], cells)];
+    }
+
+    /**
+     * A key that leads to its first frame, at the first tap that has it.
+     *
+     * @param {string} key
+     */
+    link(key) {
+        for (const [tap, firsts] of this.firsts.entries()) {
+            const frame = firsts.get(key);
+            if (frame !== undefined) return element('a', { href: hashOf({ ...this.app.place, view: 'packets', tap, frame, packet: 1, filter: '' }) }, key);
+        }
+        return key;
     }
 }
 
-/** @param {string | undefined} line */
-function isWhole(line) {
-    return line !== undefined && keyOf(line).state === 'whole';
-}
-
-/** @param {Map<string, string>} side */
-function counts(side) {
-    const states = Array.from(side.values(), (line) => keyOf(line).state);
-    return [number(side.size), ...['whole', 'partial', 'spoilt'].map((state) => number(states.filter((each) => each === state).length))];
+/**
+ * What a side knows of a key: a bar, and the words that it stands for.
+ *
+ * @param {import('./keys.js').Key | null} key
+ * @param {number} wide
+ */
+function side(key, wide) {
+    if (!key) return element('span', { class: 'quiet' }, 'nothing of it');
+    const drawn = bar(key, wide);
+    drawn.setAttribute('aria-hidden', 'true');
+    return element('div', { class: `side ${key.state}` }, drawn, element('span', {}, known(key)));
 }

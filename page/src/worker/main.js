@@ -1,7 +1,7 @@
 /** The worker: holds the library and the files, and answers what the page asks. */
 import { load } from '../../../bindings/javascript/nbt.mjs';
 import { LEFT_OUT } from '../model/packets.js';
-import { outOf } from './out.js';
+import { exportOf } from './export.js';
 import { Reading } from './reading.js';
 import { compared, handedTo, incompleteOf, listed, tableOf } from './tables.js';
 import { Tap } from './tap.js';
@@ -31,8 +31,10 @@ function tapOf(number) {
 function packetOf(tap, row) {
     const packet = tap.packets.at(row);
     const isLeftOut = packet.port === LEFT_OUT;
+    // A line of a capture without a comment that names its frame has no ends.
+    const isFrame = tap.kind === 'frames' || packet.source !== '';
     return {
-        ...packet, bytes: packet.bytes.slice(), utc: utc(packet.time),
+        ...packet, isFrame, bytes: packet.bytes.slice(), utc: utc(packet.time),
         told: isLeftOut ? null : JSON.parse(library.json(packet.port, packet.bytes)),
         said: isLeftOut ? '' : library.brief(packet.port, packet.bytes),
     };
@@ -53,7 +55,7 @@ const answers = {
         const replace = () => earlier.reading && Object.assign(earlier.reading, { isStopped: true });
         const reading = new Reading(tap, (done) => {
             if (!tap.isRead) replace();
-            if (taps.get(number) === tap) postMessage({ opened, done, size: file.size, rows: tap.batch.take(), counts: tap.counts() });
+            if (taps.get(number) === tap) postMessage({ opened, done, size: file.size, kind: tap.kind, rows: tap.batch.take(), counts: tap.counts() });
         });
         taps.set(number, tap);
         readings.set(number, reading);
@@ -72,6 +74,7 @@ const answers = {
         const reading = readings.get(tap);
         if (reading) reading.isStopped = true;
         taps.delete(tap);
+        readings.delete(tap);
         return {};
     },
 
@@ -103,8 +106,8 @@ const answers = {
     compared: () => compared(tapOf(0), tapOf(1)),
 
     /** @param {{tap: number, form: 'json' | 'capture' | 'table'}} asked */
-    async out({ tap, form }) {
-        return { blob: await outOf(tapOf(tap), form) };
+    async export({ tap, form }) {
+        return { blob: await exportOf(tapOf(tap), form) };
     },
 };
 

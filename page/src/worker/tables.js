@@ -124,7 +124,7 @@ export async function incompleteOf(tap) {
 }
 
 /**
- * What two tables list, and their join.
+ * What two tables list, and their join; and the frames in which keys came first.
  *
  * @param {import('./tap.js').Tap} one
  * @param {import('./tap.js').Tap} other
@@ -133,5 +133,5 @@ export async function compared(one, other) {
     const tables = [await tableOf(one), await tableOf(other)];
     const joined = one.library.merge(tables[0], tables[1], { keys: KEYS });
     const [first, second, both] = [...tables, joined].map((table) => listed(one.library, table));
-    return { first, second, both, joined: digitsOf(joined) };
+    return { first, second, both, firsts: [one, other].map((tap) => tap.seen.firsts.entries) };
 }

@@ -56,12 +56,14 @@ export class Tap {
         /** @type {import('../model/objects.js').Told} */
         const told = JSON.parse(text);
         const sender = hostOf(mark.source);
-        this.seen.take(told, said, {
+        const isConflict = this.seen.take(told, said, {
             frame: mark.frame, port, time: mark.time, mac, source: sender, sourcePort: portOf(mark.source),
             destination: hostOf(mark.destination), destinationPort: portOf(mark.destination),
         });
         this.packets.add(mark, { port, mac, vlan, bytes });
-        this.row(mark, port, kindsOf(told, port).join(' '), told.refused === undefined ? '' : withoutPlace(told.refused), said);
+        const kinds = kindsOf(told, port);
+        if (isConflict && !kinds.includes('conflict')) kinds.push('conflict');
+        this.row(mark, port, kinds.join(' '), told.refused === undefined ? '' : withoutPlace(told.refused), said);
     }
 
     /** @param {import('../containers/report.js').LeftOut} item */
@@ -95,7 +97,7 @@ export class Tap {
     counts() {
         const { seen } = this;
         const left = Array.from(seen.leftOut.entries.values(), (each) => each.frames).reduce((sum, each) => sum + each, 0);
-        const { named, conflicts } = seen.names;
-        return { frames: this.frames, packets: seen.packets, refused: seen.refusedPackets, leftOut: left, names: named.size, conflicts };
+        const { named, disputes } = seen.names;
+        return { frames: this.frames, packets: seen.packets, refused: seen.refusedPackets, leftOut: left, names: named.size, conflicts: disputes.count };
     }
 }

@@ -12,7 +12,7 @@ const PART = 1 << 20;
  * @param {'json' | 'capture' | 'table'} form
  * @returns {Promise<Blob>}
  */
-export async function outOf(tap, form) {
+export async function exportOf(tap, form) {
     if (form === 'table') return new Blob([`${digitsOf(await tableOf(tap))}\n`], { type: 'text/plain' });
     if (tap.kind === 'table') throw new Error('a saved table has no packets: only itself can be saved');
     if (form === 'capture' && tap.kind === 'lines') return tap.file;

@@ -1,4 +1,13 @@
-//! Hexadecimal digits, by tables.
+//! Digits by tables, and lines, words and kept names by std alone.
+
+use std::io::{self, BufRead, Read};
+
+/// Two spellings of names.
+pub type Kept = Box<[u8]>;
+
+pub fn kept(names: &[u8]) -> Kept {
+    names.into()
+}
 
 const DIGITS: &[u8; 16] = b"0123456789abcdef";
 /// What the tables of values have for a character that is no digit.
@@ -56,4 +65,14 @@ pub fn push_digits(bytes: &[u8], text: &mut Vec<u8>) {
     for (pair, byte) in text[length..].chunks_exact_mut(2).zip(bytes) {
         pair.copy_from_slice(&PAIRS[*byte as usize]);
     }
+}
+
+/// Where the first space is.
+pub fn space_in(words: &[u8]) -> Option<usize> {
+    words.iter().position(|character| *character == b' ')
+}
+
+/// Adds what comes up to the line feed, and at most so many bytes.
+pub fn read_line(input: &mut impl BufRead, most: usize, line: &mut Vec<u8>) -> io::Result<()> {
+    input.take(most as u64).read_until(b'\n', line).map(drop)
 }

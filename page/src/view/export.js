@@ -9,11 +9,11 @@ const FORMS = /** @type {const} */ ([
         (/** @type {string} */ file) => `nbt-pcap2cap --no-ticks ${file} | nbt save --keys 65535`, 'nbt save --keys 65535 <'],
 ]);
 
-export class OutView {
+export class ExportView {
     /** @param {import('./app.js').App} app */
     constructor(app) {
         this.app = app;
-        this.root = byId('view-out', HTMLElement);
+        this.root = byId('view-export', HTMLElement);
     }
 
     show() {
@@ -41,7 +41,7 @@ export class OutView {
     async save(form, end, size, button) {
         const { tap } = this.app;
         button.disabled = true;
-        const answer = await this.app.ask('out', { form });
+        const answer = await this.app.ask('export', { form });
         button.disabled = false;
         if (!answer || !tap) return;
         const place = URL.createObjectURL(answer.blob);

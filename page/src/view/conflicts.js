@@ -1,0 +1,26 @@
+/** Conflicts in words: who holds a name and who was refused it, or that several claim it and nobody was refused. */
+
+/** @typedef {import('../model/conflicts.js').Conflict} Conflict */
+
+/**
+ * How a conflict ended, as a sentence.
+ *
+ * @param {Conflict} conflict
+ */
+export function outcome({ name, claimants, refused, by }) {
+    const [holder] = claimants;
+    if (!refused) return `${name}: ${claimants.slice(0, -1).join(', ')} and ${claimants.at(-1)} claim it, and nobody was refused it.`;
+    if (!holder) return `${name}: ${by} refused it to ${refused}; who holds it isn't in the capture.`;
+    return `${name}: ${holder} holds it; ${refused} was refused it${by === holder ? '' : ` by ${by}`}.`;
+}
+
+/**
+ * Of how many names there are conflicts.
+ *
+ * @param {Conflict[]} conflicts
+ */
+export function summary(conflicts) {
+    const count = new Set(conflicts.map((each) => each.name)).size;
+    if (!count) return 'No name is in conflict.';
+    return count === 1 ? 'One name is in conflict.' : `${count} names are in conflict.`;
+}

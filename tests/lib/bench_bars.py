@@ -1,0 +1,45 @@
+"""The bars of tests/bench.py, and the rows that are known to miss theirs."""
+
+# Instructions, as so many times those of the plain program on the same crates.
+PLAIN = {'replay': 1.15, 'show': 1.1, 'save': 1.1, 'merge': 2.0}
+# Merges of few large entries are shown without a bar.
+WITHOUT = {('merge', 'pieces of a byte, shuffled'), ('merge', 'pieces of a byte, descending'), ('merge', 'pieces of 400 bytes, shuffled')}
+# Instructions, as so many times those of the same packets as text.
+TEXT = {'--json': 1.6, '--brief': 1.1}
+# The cost of one among a hundred times as many, of one that is.
+GROWTH = 2.0
+# The packet of which most labels are read, beside the cheapest of its size that is refused.
+WORST = 10.0
+# A replay with --per-source, beside one without.
+PER_SOURCE = 1.2
+# How far a number may be past its bar, or past what it is known to be.
+ALLOWED = 1.05
+# The rows that miss their bars, with their numbers, and those over captures a tenth as long.
+KNOWN = {('replay', 'unfragmented'): (1.27, 1.22), ('replay', 'pieces of a byte, shuffled'): (1.61, 1.13),
+         ('save', 'unfragmented'): (1.34, 1.22), ('save', 'pieces of a byte, shuffled'): (1.51, 0.95),
+         ('show', '10,800 to 111 labels'): (87.3, 73.2)}
+
+
+class Bars:
+    """Numbers beside their bars: how many are within them, which are past them, and how many couldn't be had."""
+
+    def __init__(self, small):
+        self.known = {row: numbers[small] for row, numbers in KNOWN.items()}
+        self.within, self.past, self.skipped = 0, [], 0
+
+    def judged(self, row, number, bar):
+        """The number of a row beside its bar, in words."""
+        if bar is None or row in WITHOUT:
+            return '' if number is None else '%.2f' % number
+        if number is None:
+            self.skipped += 1
+            return ''
+        most = max(bar, self.known.get(row, bar))
+        if number > most * ALLOWED:
+            self.past.append('%s: %.2f, where at most %.2f was expected' % (', '.join(row), number, most))
+        else:
+            self.within += 1
+        return '%.2f of %.2f' % (number, bar) + (', known to be %.2f' % most if number > bar and row in self.known else '')
+
+    def counted(self):
+        return f'{self.within} passed, {len(self.past)} failed, {self.skipped} skipped'

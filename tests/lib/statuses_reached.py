@@ -1,0 +1,65 @@
+#!/usr/bin/env python3
+"""Whether the calls of the library answered the statuses that include/nbt.h lists for each, and no other; and whether it lists each
+status for some call.
+
+Usage: statuses_reached.py HEADER <LINES, where a line is a call and a number that it answered. NBT_DONE needs no listing, nor does a
+status have to be reached of which the header says that no call of this version answers it. Prints what differs; status 1 if
+anything does.
+"""
+import re
+import sys
+
+ENUM = re.compile(r'^    (NBT_[A-Z_0-9]+) = (\d+),?(.*)$', re.MULTILINE)
+CALL = re.compile(r'/\*(?P<comment>(?:(?!\*/).)*)\*/\s*(?:uint32_t|void) (?P<name>nbt_[a-z_]+)\(', re.DOTALL)
+RANGE = re.compile(r'\b([1-9]\d) to ([1-9]\d)\b')
+LIST = re.compile(r'\b((?:[1-9]\d, )+)([1-9]\d) or ([1-9]\d)\b')
+ALL_OF = re.compile(r'(?:Those|fault, as) of (nbt_[a-z_]+)')
+NEVER = 'no call of this version answers it'
+
+
+def statuses(header):
+    """The numbers of enum nbt_status by name, and those that no call answers."""
+    text = header[header.index('enum nbt_status {'):header.index('NBT_UNKNOWN_STATUS = 255')] + 'NBT_UNKNOWN_STATUS = 255\n'
+    found = {name: (int(number), rest) for name, number, rest in ENUM.findall('    ' + text)}
+    found['NBT_UNKNOWN_STATUS'] = (255, '')
+    return {name: number for name, (number, _) in found.items()}, {number for number, rest in found.values() if NEVER in rest}
+
+
+def listed(header):
+    """The statuses that the header lists for each call."""
+    numbers, never = statuses(header)
+    calls = {}
+    for match in CALL.finditer(header):
+        comment = ' '.join(match['comment'].replace('\n *', ' ').split())
+        found = {numbers[name] for name in re.findall(r'NBT_[A-Z_0-9]+', comment) if name in numbers}
+        for low, high in RANGE.findall(comment):
+            found |= set(range(int(low), int(high) + 1)) & set(numbers.values())
+        for front, last_but_one, last in LIST.findall(comment):
+            found |= {int(each) for each in front.replace(' ', '').split(',') if each} | {int(last_but_one), int(last)}
+        for other in ALL_OF.findall(comment):
+            found |= calls[other]
+        calls[match['name']] = found - never | {numbers['NBT_DONE']}
+    return calls
+
+
+def main():
+    with open(sys.argv[1], encoding='utf-8') as file:
+        header = file.read()
+    calls = listed(header)
+    numbers, never = statuses(header)
+    answered = {}
+    for line in sys.stdin:
+        name, number = line.split()
+        answered.setdefault(name, set()).add(int(number))
+    wrong = [f'{name}: {what}: {sorted(numbers)}'
+             for name in calls if name != 'nbt_station_free'
+             for what, numbers in (('answered and not listed', answered.get(name, set()) - calls[name]),
+                                   ('listed and not answered', calls[name] - answered.get(name, set()))) if numbers]
+    lost = set(numbers.values()) - never - set().union(*calls.values())
+    wrong += [f'in no list: {sorted(lost)}'] * bool(lost)
+    print(*wrong, f'{len(calls)} calls, {sum(map(len, answered.values()))} statuses', sep='\n')
+    return bool(wrong) or len(answered) != len(calls) - 1
+
+
+if __name__ == '__main__':
+    sys.exit(main())

@@ -1,0 +1,98 @@
+//! Tables as bytes, in hexadecimal.
+
+use crate::capture::{each_line, Line};
+use crate::packets::{decode, Key, Packet, Refusal};
+use crate::report::Report;
+use crate::tables::{Datagram, Table};
+use crate::Fault;
+
+pub const MAGIC: &[u8] = b"NBT2";
+pub const SPOILT: u8 = 0;
+pub const HELD: u8 = 1;
+
+fn take(table: &mut Table, moment: u64, payload: &[u8]) -> Result<(), Fault> {
+    let Ok(Packet::Direct(fragment)) = decode(payload) else {
+        return Ok(());
+    };
+    match table.insert(moment, &fragment) {
+        Err(Refusal::Full) => Err(Fault::Refused("full")),
+        Err(Refusal::FullSource) => Err(Fault::Refused("full source")),
+        _ => Ok(()),
+    }
+}
+
+/// Prints the table of a capture.
+pub fn save(mut table: Table, report: &mut Report) -> Result<(), Fault> {
+    each_line(|_, line, payload| {
+        match line {
+            Line::Tick(now) => drop(table.tick(now)),
+            Line::Payload(138, moment) => take(&mut table, moment, payload)?,
+            Line::Payload(..) => {}
+        }
+        Ok(())
+    })?;
+    let sorted = table.sorted();
+    save_front(sorted.len(), report);
+    for (key, datagram) in sorted {
+        match datagram {
+            None => save_spoilt(key, report),
+            Some(datagram) => save_datagram(key, datagram, report),
+        }
+        report.print_if_long()?;
+    }
+    report.words("\n");
+    Ok(())
+}
+
+pub fn save_front(count: usize, report: &mut Report) {
+    report.digits(MAGIC);
+    report.digits(&(count as u32).to_be_bytes());
+}
+
+pub fn save_spoilt(key: Key, report: &mut Report) {
+    report.digits(&key.bytes());
+    report.digits(&[SPOILT]);
+}
+
+/// What of a datagram stands before its runs.
+pub fn save_held(
+    key: Key,
+    kind_and_names: &[&[u8]],
+    places: [Option<u32>; 2],
+    report: &mut Report,
+) {
+    report.digits(&key.bytes());
+    report.digits(&[HELD]);
+    for bytes in kind_and_names {
+        report.digits(bytes);
+    }
+    for place in places {
+        match place {
+            None => report.digits(&[0]),
+            Some(place) => {
+                report.digits(&[1]);
+                save_number(place, report);
+            }
+        }
+    }
+}
+
+/// A number of at most 65,535.
+pub fn save_number(number: u32, report: &mut Report) {
+    report.digits(&(number as u16).to_be_bytes());
+}
+
+pub fn save_run(start: u32, bytes: &[u8], report: &mut Report) {
+    save_number(start, report);
+    save_number(bytes.len() as u32, report);
+    report.digits(bytes);
+}
+
+fn save_datagram(key: Key, datagram: &Datagram, report: &mut Report) {
+    let places = [datagram.end, datagram.promise];
+    save_held(key, &[&[datagram.kind], &datagram.names], places, report);
+    save_number(datagram.runs.len() as u32, report);
+    for (start, bytes) in &datagram.runs {
+        save_run(*start, bytes, report);
+    }
+}

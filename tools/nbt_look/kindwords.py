@@ -1,0 +1,64 @@
+"""The words for kinds of packets: those of --kind, what each is, and which one is meant by other words."""
+import difflib
+
+# Each kind by the port of its packets, with a word on it for --help.
+OF_SERVICE = {
+    'query': 'asks for a name, and what is answered', 'status': 'asks what names a station has, and what is answered',
+    'registration': 'claims a name, and what is answered', 'refresh': 'claims a name again, and what is answered',
+    'release': 'gives a name up, and what is answered', 'wack': 'asks to wait', 'response': 'any answer',
+    'conflict': 'claims a name that another station has, is refused one for that, or has to give one up'}
+OF_DATAGRAMS = {
+    'datagram': 'unique, group or broadcast', 'unique': 'a datagram to one station', 'group': 'a datagram to a group',
+    'broadcast': 'a datagram to all', 'fragment': 'a piece of a datagram', 'error': 'a datagram is not taken',
+    'find': 'asks whether datagrams are relayed to a name', 'found': 'answers that they are relayed', 'missing': 'answers that none are relayed'}
+OF_SESSIONS = {
+    'session': 'any packet', 'request': 'calls a name', 'retarget': 'sends the caller elsewhere', 'message': 'data',
+    'keepalive': 'keeps the session alive'}
+OF_EACH = {
+    'positive': 'an answer that grants, finds or accepts', 'negative': 'an answer that refuses, or finds nothing',
+    'malformed': 'nbt refuses to read it', 'left-out': 'cut, or not read for another reason'}
+SECTIONS = (('port 137', OF_SERVICE), ('port 138', OF_DATAGRAMS), ('port 139', OF_SESSIONS), ('each port', OF_EACH))
+ALL = tuple(kind for _, kinds in SECTIONS for kind in kinds)
+
+# Words that one would guess, by the kind that is meant.
+GUESSES = {
+    'query': 'lookup ask asks', 'status': 'nbstat node-status nodestatus', 'registration': 'claim overwrite multihomed register',
+    'wack': 'wait', 'response': 'answer reply', 'conflict': 'demand duplicate contested', 'fragment': 'piece partial fragmented',
+    'request': 'call', 'positive': 'accept accepted accepts granted', 'negative': 'denied rejected not-found notfound refuses refusal',
+    'malformed': 'unreadable invalid bad faulty broken', 'left-out': 'cut skipped leftout left_out', 'message': 'data', 'keepalive': 'keep-alive'}
+KIND_MEANT = {guess: kind for kind, guesses in GUESSES.items() for guess in guesses.split()}
+# Those that mean what is known at the end alone, or two kinds.
+ANSWERS = {
+    'refused': 'malformed has what nbt refuses to read, negative the answers in which a station refuses',
+    'incomplete': '--summary has the datagrams that are incomplete, fragment the pieces of all',
+    'spoilt': '--summary has the datagrams that are spoilt, fragment the pieces of all',
+    'whole': '--summary has how many datagrams are whole, datagram all of them and their pieces',
+    'unanswered': '--summary has the queries without an answer, query all of them'}
+# Kinds by which something else may be meant.
+SEE_ALSO = {'missing': 'fragment for pieces of datagrams, of which --summary has what is missing, negative for names that are not found'}
+
+
+def advice(word):
+    """What to say in the place of a word that is no kind."""
+    singular = word[:-3] + 'y' if word.endswith('ies') else word.removesuffix('s')
+    for each in (word, singular):
+        if each in ANSWERS:
+            return '%s is no kind: %s' % (word, ANSWERS[each])
+        if each in ALL or each in KIND_MEANT:
+            return '%s is no kind: perhaps %s' % (word, KIND_MEANT.get(each, each))
+    near = difflib.get_close_matches(word, ALL, 1)
+    return '%s is none of %s' % (word, ', '.join(ALL)) if not near else '%s is no kind: perhaps %s' % (word, near[0])
+
+
+def about(kind):
+    """A kind, and the word on it."""
+    word = next(kinds[kind] for _, kinds in SECTIONS if kind in kinds)
+    also = '; see also %s' % SEE_ALSO[kind] if kind in SEE_ALSO else ''
+    return '%s (%s%s)' % (kind, word, also)
+
+
+def help_lines():
+    """The kinds of each port, for --help."""
+    for title, kinds in SECTIONS:
+        yield '  of %s' % title
+        yield from ('    %-14s%s' % each for each in kinds.items())

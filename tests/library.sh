@@ -367,13 +367,14 @@ installed_below() {
 registry=/usr/share/cargo/registry
 debian=(--offline --config 'source.crates-io.replace-with="debian"' --config "source.debian.directory=\"$registry\"")
 
-# in_rust COMMAND [OPTION]..: cargo's command on a copy of the crate for Rust, over what is installed below $room/root.
+# in_rust COMMAND [OPTION]..: cargo's command on a copy of the crate for Rust, over what is installed below $room/root. It may take ten
+# minutes, for beside other work serde alone takes two.
 in_rust() {
     (
         cd "$room/rust" || exit
         export PKG_CONFIG_PATH=$room/root/lib/pkgconfig LD_LIBRARY_PATH=$room/root/lib CARGO_TARGET_DIR=$room/target
         export NBT_HEADER=$top/include/nbt.h
-        ended cargo "$@"
+        "$timeout" -k 5 600 cargo "$@"
     ) >"$room/log" 2>&1
     count $? "cargo $1: $(grep -m 1 -E '^(error|Diff|test .* FAILED)' "$room/log")"
 }
@@ -448,7 +449,7 @@ user_program() {
     printf '%s\n' "${@:3}" >>"$room/$1/Cargo.toml"
     cp "$2" "$room/$1/src/main.rs"
     (cd "$room/$1" && PKG_CONFIG_PATH=$room/root/lib/pkgconfig NBT_STATIC=1 CARGO_TARGET_DIR=$room/user \
-        ended cargo run --quiet "${words[@]}") 2>&1
+        "$timeout" -k 5 600 cargo run --quiet "${words[@]}") 2>&1
 }
 
 # block LANGUAGE [NUMBER]: a block of docs/CALLING.md in this language, the first of them if no number is given.

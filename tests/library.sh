@@ -363,12 +363,18 @@ installed_below() {
     find "$1" ! -type d | wc -l | same 0 "make uninstall-lib PREFIX=$1"
 }
 
-# cargo COMMAND [OPTION]..: cargo's command on the crate for Rust, over what is installed below $room/root.
+# What Cargo takes in the place of crates.io, without network: Debian's packages of crates, in which serde is.
+registry=/usr/share/cargo/registry
+debian=(--offline --config 'source.crates-io.replace-with="debian"' --config "source.debian.directory=\"$registry\"")
+
+# in_rust COMMAND [OPTION]..: cargo's command on a copy of the crate for Rust, over what is installed below $room/root. It may take ten
+# minutes, for beside other work serde alone takes two.
 in_rust() {
     (
-        cd "$top/bindings/rust" || exit
+        cd "$room/rust" || exit
         export PKG_CONFIG_PATH=$room/root/lib/pkgconfig LD_LIBRARY_PATH=$room/root/lib CARGO_TARGET_DIR=$room/target
-        ended cargo "$@"
+        export NBT_HEADER=$top/include/nbt.h
+        "$timeout" -k 5 600 cargo "$@"
     ) >"$room/log" 2>&1
     count $? "cargo $1: $(grep -m 1 -E '^(error|Diff|test .* FAILED)' "$room/log")"
 }
@@ -384,13 +390,18 @@ in_rust_too() {
 }
 
 # The crate for Rust: its tests and examples over the shared object, also in a program that links libnbt.a, and beside `nbt show`.
+# Programs that don't ask for the feature serde need no registry.
 rust() {
-    in_rust test --offline --locked
+    local each
+    mkdir "$room/rust" && cp -R "$top"/bindings/rust/{Cargo.toml,build.rs,src,examples,tests} "$room/rust"
+    in_rust test "${debian[@]}" --features serde
     passed=$((passed + $(awk '/^test result: ok/ { sum += $4 } END { print sum + 0 }' "$room/log")))
     in_rust_too fmt --check
-    in_rust_too clippy --offline --locked --all-targets -- -D warnings
-    RUSTDOCFLAGS='-D warnings' in_rust doc --offline --locked --no-deps
-    in_rust build --offline --locked --release --examples
+    for each in '' serde; do
+        in_rust_too clippy "${debian[@]}" --features "$each" --all-targets -- -D warnings
+        RUSTDOCFLAGS='-D warnings' in_rust doc "${debian[@]}" --features "$each" --no-deps
+    done
+    in_rust build "${debian[@]}" --release --examples
     lines "$payloads" 4
     LD_LIBRARY_PATH=$room/root/lib ended "$room/target/release/examples/show_lines" <"$room/lines4" >"$room/output" 2>"$room/errors"
     cmp -s "$room/lines4.wanted" "$room/output"
@@ -398,6 +409,9 @@ rust() {
     LD_LIBRARY_PATH=$room/root/lib reads "$room/values" show_values.rs ended "$room/target/release/examples/show_values"
     block rust >"$room/first.rs"
     user_program first "$room/first.rs" </dev/null | same "$(block text 6)" 'the program in Rust of docs/CALLING.md'
+    block rust 2 >"$room/as_json.rs"
+    user_program as_json "$room/as_json.rs" 'nbt.features = ["serde"]' 'serde_json = "1"' </dev/null \
+        | same "$(block text 7)" 'the program in Rust of docs/CALLING.md with serde'
     status_answers
     [ ! -f "$room/samba.txt" ] || node_statuses
 }
@@ -424,14 +438,18 @@ node_statuses() {
 '\01\02__MSBROWSE__\02<01> (group), OFFICE<00> (group), OFFICE<1d>, OFFICE<1e> (group)' 'the node status that Samba sends'
 }
 
-# user_program NAME FILE: a program in Rust in a folder of its own, over the crate that is installed, which runs.
+# user_program NAME FILE [LINE]..: a program in Rust in a folder of its own, over the crate that is installed, which runs. With further
+# lines of its dependencies it has Debian's crates.
 user_program() {
+    local words=(--offline)
+    [ $# -eq 2 ] || words=("${debian[@]}")
     mkdir -p "$room/$1/src"
-    printf '[package]\nname = "%s"\nversion = "0.1.0"\nedition = "2021"\n\n[dependencies]\nnbt = { path = "%s" }\n' \
+    printf '[package]\nname = "%s"\nversion = "0.1.0"\nedition = "2021"\n\n[dependencies]\nnbt.path = "%s"\n' \
         "$1" "$room/root/share/nbt/rust" >"$room/$1/Cargo.toml"
+    printf '%s\n' "${@:3}" >>"$room/$1/Cargo.toml"
     cp "$2" "$room/$1/src/main.rs"
     (cd "$room/$1" && PKG_CONFIG_PATH=$room/root/lib/pkgconfig NBT_STATIC=1 CARGO_TARGET_DIR=$room/user \
-        ended cargo run --quiet --offline) 2>&1
+        "$timeout" -k 5 600 cargo run --quiet "${words[@]}") 2>&1
 }
 
 # block LANGUAGE [NUMBER]: a block of docs/CALLING.md in this language, the first of them if no number is given.
@@ -458,9 +476,11 @@ part station station
 if command -v pkg-config >/dev/null; then part installed installed; else lacks installed pkg-config; fi
 if ! command -v pkg-config >/dev/null; then
     lacks rust pkg-config
-elif command -v cargo >/dev/null; then
+elif ! command -v cargo >/dev/null; then
+    lacks rust cargo
+elif compgen -G "$registry/serde_json-*" >/dev/null && compgen -G "$registry/serde_derive-*" >/dev/null; then
     part rust rust
 else
-    lacks rust cargo
+    lacks rust 'librust-serde-derive-dev and librust-serde-json-dev'
 fi
 finish

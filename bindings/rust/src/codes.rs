@@ -4,6 +4,8 @@ use std::fmt;
 
 /// OPCODE: what a packet asks for, or answers.
 #[derive(Clone, Copy, Debug, PartialEq, Eq, PartialOrd, Ord, Hash)]
+#[cfg_attr(feature = "serde", derive(serde::Serialize, serde::Deserialize))]
+#[cfg_attr(feature = "serde", serde(rename_all = "snake_case"))]
 #[repr(u8)]
 pub enum Operation {
     /// Who has a name, or which names has a node?
@@ -56,23 +58,32 @@ impl fmt::Display for Operation {
 
 /// RCODE: how a request fared.
 #[derive(Clone, Copy, Debug, PartialEq, Eq, PartialOrd, Ord, Hash)]
+#[cfg_attr(feature = "serde", derive(serde::Serialize, serde::Deserialize))]
 #[repr(u8)]
 pub enum ResultCode {
     /// It was done; of a request, nothing is said.
+    #[cfg_attr(feature = "serde", serde(rename = "ok"))]
     Ok = 0,
     /// FMT_ERR: its form was bad.
+    #[cfg_attr(feature = "serde", serde(rename = "FMT_ERR"))]
     FormatError = 1,
     /// SRV_ERR: the server can't.
+    #[cfg_attr(feature = "serde", serde(rename = "SRV_ERR"))]
     ServerFailure = 2,
     /// NAM_ERR: the name isn't there.
+    #[cfg_attr(feature = "serde", serde(rename = "NAM_ERR"))]
     NameError = 3,
     /// IMP_ERR: the server doesn't do such requests.
+    #[cfg_attr(feature = "serde", serde(rename = "IMP_ERR"))]
     NotImplemented = 4,
     /// RFS_ERR: the server won't.
+    #[cfg_attr(feature = "serde", serde(rename = "RFS_ERR"))]
     Refused = 5,
     /// ACT_ERR: another node has the name.
+    #[cfg_attr(feature = "serde", serde(rename = "ACT_ERR"))]
     ActiveError = 6,
     /// CFT_ERR: several nodes have it.
+    #[cfg_attr(feature = "serde", serde(rename = "CFT_ERR"))]
     Conflict = 7,
 }
 
@@ -117,6 +128,7 @@ impl fmt::Display for ResultCode {
 
 /// ONT: how a node claims its names and asks for those of others.
 #[derive(Clone, Copy, Debug, PartialEq, Eq, PartialOrd, Ord, Hash)]
+#[cfg_attr(feature = "serde", derive(serde::Serialize, serde::Deserialize))]
 pub enum NodeType {
     /// By broadcast.
     B,

@@ -35,6 +35,8 @@ pub use crate::datagram_front::{read_front, Front, Header};
 
 /// What MSG_TYPE says of a fragment's datagram.
 #[derive(Clone, Copy, Debug, PartialEq, Eq, Hash)]
+#[cfg_attr(feature = "serde", derive(serde::Serialize, serde::Deserialize))]
+#[cfg_attr(feature = "serde", serde(rename_all = "lowercase"))]
 #[repr(u8)]
 pub enum Kind {
     /// For one name.
@@ -68,6 +70,8 @@ impl fmt::Display for Kind {
 
 /// What MSG_TYPE says of a query packet.
 #[derive(Clone, Copy, Debug, PartialEq, Eq, Hash)]
+#[cfg_attr(feature = "serde", derive(serde::Serialize, serde::Deserialize))]
+#[cfg_attr(feature = "serde", serde(rename_all = "lowercase"))]
 #[repr(u8)]
 pub enum Query {
     /// A question: who has the name?
@@ -101,6 +105,7 @@ impl fmt::Display for Query {
 
 /// A packet of port 138, whose names and data are lent from the payload.
 #[derive(Clone, Copy, Debug, PartialEq, Eq, Hash)]
+#[cfg_attr(feature = "serde", derive(serde::Serialize))]
 pub struct Packet<'a> {
     /// FLAGS, all eight bits.
     pub flags: u8,
@@ -116,6 +121,8 @@ pub struct Packet<'a> {
 
 /// What a packet says.
 #[derive(Clone, Copy, Debug, PartialEq, Eq, Hash)]
+#[cfg_attr(feature = "serde", derive(serde::Serialize))]
+#[cfg_attr(feature = "serde", serde(rename_all = "lowercase"))]
 pub enum Body<'a> {
     /// A piece of a datagram, or the whole of it.
     Fragment(Fragment<'a>),
@@ -128,6 +135,7 @@ pub enum Body<'a> {
 
 /// A piece of a datagram (RFC 1002 section 4.4.2). That each carries both names is our choice.
 #[derive(Clone, Copy, Debug, PartialEq, Eq, Hash)]
+#[cfg_attr(feature = "serde", derive(serde::Serialize))]
 pub struct Fragment<'a> {
     /// For whom the datagram is.
     pub kind: Kind,
@@ -138,6 +146,7 @@ pub struct Fragment<'a> {
     /// DESTINATION_NAME.
     pub destination: Spelling<'a>,
     /// The piece's data.
+    #[cfg_attr(feature = "serde", serde(serialize_with = "crate::serialized::digits"))]
     pub data: &'a [u8],
 }
 

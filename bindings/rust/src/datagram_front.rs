@@ -9,6 +9,7 @@ use crate::{Error, Spelling};
 
 /// The header of a packet of port 138, whether or not the packet stands, and the names of a fragment that are there whole.
 #[derive(Clone, Copy, Debug, PartialEq, Eq, Hash)]
+#[cfg_attr(feature = "serde", derive(serde::Serialize))]
 pub struct Header<'a> {
     /// MSG_TYPE, also one that no packet has; [`crate::datagram::Kind`] and [`crate::datagram::Query`] are made of it.
     pub message_type: u8,
@@ -40,6 +41,7 @@ impl Header<'_> {
 
 /// What stands of a payload, and why it isn't a packet.
 #[derive(Clone, Copy, Debug, PartialEq, Eq, Hash)]
+#[cfg_attr(feature = "serde", derive(serde::Serialize))]
 pub struct Front<'a> {
     /// What stands; `None` where the header isn't there whole: the fourteen bytes of a fragment, ten of any other payload.
     pub header: Option<Header<'a>>,

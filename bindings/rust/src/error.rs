@@ -9,6 +9,7 @@ use crate::Status;
 /// `bad text 4`; of a status that this version of the crate doesn't know it has the number, as in
 /// `status 120: unknown status`.
 #[derive(Clone, Copy, Debug, PartialEq, Eq, Hash)]
+#[cfg_attr(feature = "serde", derive(serde::Serialize))]
 pub struct Error {
     status: Status,
     number: u32,

@@ -27,6 +27,10 @@
 //! Each call may be made from any thread, those on one station one at a time. One that needs memory may answer
 //! [`Status::NoMemory`], and then nothing has changed.
 //!
+//! With the feature `serde` the values have serde's `Serialize`, and those that lend nothing `Deserialize`: names as their texts,
+//! from which a NetBIOS [`Name`] is read back, bytes as hexadecimal digits, kinds and statuses as their names, structures by
+//! their fields. [`json`] is another form, that of `nbt show --json`.
+//!
 //! The build script finds the library by `pkg-config`: `make install-lib` installs it, and `PKG_CONFIG_PATH` may name
 //! the folder of `nbt.pc`. With `NBT_STATIC=1` it is linked into the program.
 #![deny(missing_docs, unsafe_op_in_unsafe_fn)]
@@ -41,6 +45,8 @@ mod packets;
 mod rdata;
 mod responses;
 mod room;
+#[cfg(feature = "serde")]
+mod serialized;
 mod service_header;
 mod service_packets;
 mod status;

@@ -17,6 +17,8 @@ pub const NS: u16 = 0x0002;
 
 /// What a record says, by its type.
 #[derive(Clone, Debug)]
+#[cfg_attr(feature = "serde", derive(serde::Serialize))]
+#[cfg_attr(feature = "serde", serde(rename_all = "snake_case"))]
 // A name lies in place.
 #[allow(clippy::large_enum_variant)]
 pub enum Rdata<'a> {
@@ -27,6 +29,7 @@ pub enum Rdata<'a> {
     /// Of type NS: the name of a server.
     NameServer(Name),
     /// Of another type, or not of the form that its type has.
+    #[cfg_attr(feature = "serde", serde(serialize_with = "crate::serialized::digits"))]
     Other(&'a [u8]),
 }
 
@@ -101,15 +104,21 @@ fn address_at(data: &[u8], number: usize) -> (u32, FoundAddress, usize) {
 
 /// The names of a node: RFC 1002 section 4.2.18.
 #[derive(Clone, Debug)]
+#[cfg_attr(feature = "serde", derive(serde::Serialize))]
 pub struct NodeStatus<'a> {
     /// The names.
     pub names: NodeNames<'a>,
     /// UNIT_ID; `None` where the RDATA ends before it.
+    #[cfg_attr(
+        feature = "serde",
+        serde(serialize_with = "crate::serialized::digits_if")
+    )]
     pub unit: Option<[u8; 6]>,
 }
 
 /// One of the names of a node.
 #[derive(Clone, Copy, Debug, PartialEq, Eq, Hash)]
+#[cfg_attr(feature = "serde", derive(serde::Serialize, serde::Deserialize))]
 pub struct NodeName {
     /// The name, without a scope.
     pub name: Name,

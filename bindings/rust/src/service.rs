@@ -37,6 +37,7 @@ pub use crate::service_packets::{
 
 /// What is said of a name: an entry of RDATA.
 #[derive(Clone, Copy, Debug, PartialEq, Eq, Hash)]
+#[cfg_attr(feature = "serde", derive(serde::Serialize, serde::Deserialize))]
 pub struct Entry {
     /// NB_FLAGS: 0x8000 a group's name, 0x6000 the type of node.
     pub nb_flags: u16,
@@ -58,6 +59,8 @@ impl Entry {
 
 /// What is asked about a name.
 #[derive(Clone, Copy, Debug, PartialEq, Eq, Hash)]
+#[cfg_attr(feature = "serde", derive(serde::Serialize, serde::Deserialize))]
+#[cfg_attr(feature = "serde", serde(rename_all = "snake_case"))]
 pub enum Request {
     /// Who has it?
     Query,

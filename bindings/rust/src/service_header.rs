@@ -4,6 +4,7 @@ use crate::codes::{Operation, ResultCode};
 
 /// The header of a packet: RFC 1002 section 4.2.1.1.
 #[derive(Clone, Copy, Debug, PartialEq, Eq, Hash)]
+#[cfg_attr(feature = "serde", derive(serde::Serialize, serde::Deserialize))]
 pub struct Header {
     /// NAME_TRN_ID.
     pub identifier: u16,

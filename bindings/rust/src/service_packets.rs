@@ -81,6 +81,7 @@ impl fmt::Debug for Packet<'_> {
 
 /// What stands of a payload, and why it isn't a packet.
 #[derive(Clone, Copy, Debug)]
+#[cfg_attr(feature = "serde", derive(serde::Serialize))]
 pub struct Front<'a> {
     /// What stands; `None` where not even a header does.
     pub packet: Option<Packet<'a>>,
@@ -236,6 +237,7 @@ fn section_of(found: &FoundItem) -> usize {
 
 /// What is asked for: RFC 1002 section 4.2.1.2.
 #[derive(Clone, Copy, Debug, PartialEq, Eq, Hash)]
+#[cfg_attr(feature = "serde", derive(serde::Serialize, serde::Deserialize))]
 pub struct Question {
     /// QUESTION_NAME.
     pub name: Name,
@@ -273,6 +275,8 @@ impl ExactSizeIterator for Questions<'_> {}
 
 /// Where a record stands.
 #[derive(Clone, Copy, Debug, PartialEq, Eq, PartialOrd, Ord, Hash)]
+#[cfg_attr(feature = "serde", derive(serde::Serialize, serde::Deserialize))]
+#[cfg_attr(feature = "serde", serde(rename_all = "lowercase"))]
 pub enum Section {
     /// Among the answers.
     Answer,

@@ -28,6 +28,8 @@ use crate::{Error, Result, Spelling};
 
 /// TYPE: what a packet is.
 #[derive(Clone, Copy, Debug, PartialEq, Eq, Hash)]
+#[cfg_attr(feature = "serde", derive(serde::Serialize, serde::Deserialize))]
+#[cfg_attr(feature = "serde", serde(rename_all = "lowercase"))]
 #[repr(u8)]
 pub enum Kind {
     /// Data of the session, at most 131,071 bytes.
@@ -114,6 +116,8 @@ impl<'a> Packet<'a> {
 
 /// What stands at the front of what came over a connection.
 #[derive(Clone, Copy, Debug, PartialEq, Eq, Hash)]
+#[cfg_attr(feature = "serde", derive(serde::Serialize))]
+#[cfg_attr(feature = "serde", serde(rename_all = "lowercase"))]
 pub enum Next<'a> {
     /// A packet.
     Packet(Packet<'a>),
@@ -158,6 +162,7 @@ impl<'a> TryFrom<&'a [u8]> for Packet<'a> {
 
 /// The header of a packet of port 139, whether or not the packet stands: RFC 1002 section 4.3.1.
 #[derive(Clone, Copy, Debug, PartialEq, Eq, Hash)]
+#[cfg_attr(feature = "serde", derive(serde::Serialize, serde::Deserialize))]
 pub struct Header {
     /// TYPE, also one that no packet has; a [`Kind`] is made of it.
     pub packet_type: u8,
@@ -169,6 +174,7 @@ pub struct Header {
 
 /// What stands of bytes, and why they aren't a packet.
 #[derive(Clone, Copy, Debug, PartialEq, Eq, Hash)]
+#[cfg_attr(feature = "serde", derive(serde::Serialize))]
 pub struct Front {
     /// The header; `None` where its four bytes aren't there.
     pub header: Option<Header>,

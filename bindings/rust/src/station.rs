@@ -55,6 +55,7 @@ unsafe impl Send for Station {}
 
 /// By what the fragments of a datagram belong together.
 #[derive(Clone, Copy, Debug, PartialEq, Eq, PartialOrd, Ord, Hash)]
+#[cfg_attr(feature = "serde", derive(serde::Serialize, serde::Deserialize))]
 pub struct Key {
     /// SOURCE_IP and SOURCE_PORT.
     pub sender: SocketAddrV4,
@@ -70,6 +71,7 @@ impl fmt::Display for Key {
 
 /// A datagram that is handed over, lent from the station until its next call.
 #[derive(Clone, Copy, Debug, PartialEq, Eq, Hash)]
+#[cfg_attr(feature = "serde", derive(serde::Serialize))]
 pub struct Delivery<'a> {
     /// For whom it is.
     pub kind: Kind,
@@ -80,6 +82,7 @@ pub struct Delivery<'a> {
     /// DESTINATION_NAME.
     pub destination: Spelling<'a>,
     /// Its data, at most 65,535 bytes.
+    #[cfg_attr(feature = "serde", serde(serialize_with = "crate::serialized::digits"))]
     pub data: &'a [u8],
 }
 
@@ -100,6 +103,7 @@ impl Delivery<'_> {
 
 /// A datagram that was handed over, and is kept.
 #[derive(Clone, Debug, PartialEq, Eq, Hash)]
+#[cfg_attr(feature = "serde", derive(serde::Serialize, serde::Deserialize))]
 pub struct OwnedDelivery {
     /// For whom it is.
     pub kind: Kind,
@@ -110,12 +114,21 @@ pub struct OwnedDelivery {
     /// DESTINATION_NAME.
     pub destination: Name,
     /// Its data.
+    #[cfg_attr(
+        feature = "serde",
+        serde(
+            serialize_with = "crate::serialized::digits",
+            deserialize_with = "crate::serialized::bytes"
+        )
+    )]
     pub data: Vec<u8>,
 }
 
 /// What became of a payload. An answer is an error packet, to be sent to where the payload came from; there is none where
 /// nothing is to be sent.
 #[derive(Clone, Copy, Debug, PartialEq, Eq, Hash)]
+#[cfg_attr(feature = "serde", derive(serde::Serialize))]
+#[cfg_attr(feature = "serde", serde(rename_all = "lowercase"))]
 pub enum Outcome<'a> {
     /// A fragment, by which its datagram became neither whole nor spoilt.
     Kept(Key),
@@ -128,6 +141,10 @@ pub enum Outcome<'a> {
         /// The datagram's key.
         key: Key,
         /// The error packet, with code 0x82.
+        #[cfg_attr(
+            feature = "serde",
+            serde(serialize_with = "crate::serialized::digits_if")
+        )]
         answer: Option<&'a [u8]>,
     },
     /// An error or a query packet; the station is as it was.
@@ -137,6 +154,10 @@ pub enum Outcome<'a> {
         /// What [`crate::datagram::read`] answers to the payload.
         error: Error,
         /// The error packet, with code 0x83 or 0x84.
+        #[cfg_attr(
+            feature = "serde",
+            serde(serialize_with = "crate::serialized::digits_if")
+        )]
         answer: Option<&'a [u8]>,
     },
 }

@@ -9,6 +9,8 @@ use crate::{Error, Result};
 /// Why a call did nothing. Each is a number of `enum nbt_status`, which stands for one thing in all versions; its text
 /// is the library's words, as in `bad text`.
 #[derive(Clone, Copy, Debug, PartialEq, Eq, Hash, PartialOrd, Ord)]
+#[cfg_attr(feature = "serde", derive(serde::Serialize, serde::Deserialize))]
+#[cfg_attr(feature = "serde", serde(rename_all = "SCREAMING_SNAKE_CASE"))]
 #[non_exhaustive]
 #[repr(u32)]
 pub enum Status {

@@ -11,6 +11,7 @@ use crate::{Error, Result};
 
 /// How much a table has room for: 1,024 keys, and no limit on one address, where nothing else is said.
 #[derive(Clone, Copy, Debug, PartialEq, Eq, Hash)]
+#[cfg_attr(feature = "serde", derive(serde::Serialize, serde::Deserialize))]
 pub struct Limits {
     /// How many keys, in all. `u32::MAX` is no limit.
     pub keys: u32,

@@ -4,6 +4,8 @@ mod datagrams;
 mod errors;
 mod names;
 mod responses;
+#[cfg(feature = "serde")]
+mod serialized;
 mod service;
 mod sessions;
 mod shown;

@@ -1,0 +1,138 @@
+//! What serde is given of the values, with the feature `serde`, where a derive can't say it: names as their texts, bytes as
+//! hexadecimal digits, and what is read on demand.
+//!
+//! ```
+//! use nbt::service::{read, Question, Request};
+//! use nbt::Name;
+//!
+//! let payload = Request::Query.write(3, "FRED<20>", true)?;
+//! let question = read(&payload)?.questions().next().ok_or("a question")?;
+//! let json = serde_json::to_string(&question)?;
+//! assert_eq!(json, r#"{"name":"FRED<20>","kind":32,"class":1}"#);
+//! assert_eq!(serde_json::from_str::<Question>(&json)?, question);
+//!
+//! let refused = serde_json::from_str::<Name>(r#""FRED""#).unwrap_err();
+//! assert!(refused.to_string().starts_with("bad text 4"));
+//! # Ok::<(), Box<dyn std::error::Error>>(())
+//! ```
+
+use std::fmt::{Display, Write};
+
+use serde::de::{Deserialize, Deserializer, Error as _, Unexpected};
+use serde::ser::{Error as _, Serialize, SerializeStruct, Serializer};
+
+use crate::rdata::{Addresses, NodeNames};
+use crate::service_packets::{Packet, Questions, Record, Records};
+use crate::{session, Name, Spelling};
+
+/// A value as the text that it shows itself as. Unlike `collect_str` it has an error where memory ran out for that text.
+fn shown<S: Serializer>(value: impl Display, out: S) -> Result<S::Ok, S::Error> {
+    let mut text = String::new();
+    write!(text, "{value}").map_err(S::Error::custom)?;
+    out.serialize_str(&text)
+}
+
+/// Bytes as two hexadecimal digits each.
+pub(crate) fn digits<S: Serializer>(bytes: impl AsRef<[u8]>, out: S) -> Result<S::Ok, S::Error> {
+    out.serialize_str(&digits_of(bytes.as_ref()))
+}
+
+/// The same of bytes that may be missing.
+pub(crate) fn digits_if<S: Serializer>(
+    bytes: &Option<impl AsRef<[u8]>>,
+    out: S,
+) -> Result<S::Ok, S::Error> {
+    let digits = bytes.as_ref().map(|it| digits_of(it.as_ref()));
+    digits.serialize(out)
+}
+
+/// The bytes with the digits that [`digits`] wrote.
+pub(crate) fn bytes<'de, D: Deserializer<'de>>(from: D) -> Result<Vec<u8>, D::Error> {
+    let digits = String::deserialize(from)?;
+    let wanted = &"two hexadecimal digits for each byte";
+    bytes_of(&digits).ok_or_else(|| D::Error::invalid_value(Unexpected::Str(&digits), wanted))
+}
+
+fn digits_of(bytes: &[u8]) -> String {
+    let digit = |half: u8| char::from(b"0123456789abcdef"[usize::from(half)]);
+    let pairs = bytes.iter().flat_map(|it| [it >> 4, it & 15]);
+    pairs.map(digit).collect()
+}
+
+fn bytes_of(digits: &str) -> Option<Vec<u8>> {
+    let half = |digit: u8| char::from(digit).to_digit(16);
+    let byte = |pair: &[u8]| match *pair {
+        [high, low] => u8::try_from(half(high)? << 4 | half(low)?).ok(),
+        _ => None,
+    };
+    digits.as_bytes().chunks(2).map(byte).collect()
+}
+
+impl Serialize for Name {
+    fn serialize<S: Serializer>(&self, out: S) -> Result<S::Ok, S::Error> {
+        shown(self, out)
+    }
+}
+
+impl Serialize for Spelling<'_> {
+    fn serialize<S: Serializer>(&self, out: S) -> Result<S::Ok, S::Error> {
+        shown(self, out)
+    }
+}
+
+/// From the text of a NetBIOS name, as by [`str::parse`].
+impl<'de> Deserialize<'de> for Name {
+    fn deserialize<D: Deserializer<'de>>(from: D) -> Result<Name, D::Error> {
+        let text = String::deserialize(from)?;
+        text.parse().map_err(D::Error::custom)
+    }
+}
+
+/// What hasn't been handed out yet, in order.
+macro_rules! sequences {
+    ($($each:ident),*) => {$(
+        impl Serialize for $each<'_> {
+            fn serialize<S: Serializer>(&self, out: S) -> Result<S::Ok, S::Error> {
+                out.collect_seq(self.clone())
+            }
+        }
+    )*};
+}
+
+sequences!(Questions, Records, Addresses, NodeNames);
+
+impl Serialize for Packet<'_> {
+    fn serialize<S: Serializer>(&self, out: S) -> Result<S::Ok, S::Error> {
+        let mut fields = out.serialize_struct("Packet", 4)?;
+        fields.serialize_field("header", &self.header)?;
+        fields.serialize_field("questions", &self.questions())?;
+        fields.serialize_field("records", &self.records())?;
+        fields.serialize_field("used", &self.used)?;
+        fields.end()
+    }
+}
+
+impl Serialize for Record<'_> {
+    fn serialize<S: Serializer>(&self, out: S) -> Result<S::Ok, S::Error> {
+        let mut fields = out.serialize_struct("Record", 6)?;
+        fields.serialize_field("section", &self.section)?;
+        fields.serialize_field("name", &self.name)?;
+        fields.serialize_field("kind", &self.kind)?;
+        fields.serialize_field("class", &self.class)?;
+        fields.serialize_field("time_to_live", &self.time_to_live)?;
+        fields.serialize_field("rdata", &self.rdata())?;
+        fields.end()
+    }
+}
+
+impl Serialize for session::Packet<'_> {
+    fn serialize<S: Serializer>(&self, out: S) -> Result<S::Ok, S::Error> {
+        let mut fields = out.serialize_struct("Packet", 5)?;
+        fields.serialize_field("kind", &self.kind)?;
+        fields.serialize_field("body", &digits_of(self.body))?;
+        fields.serialize_field("names", &self.names())?;
+        fields.serialize_field("retarget", &self.retarget())?;
+        fields.serialize_field("used", &self.used)?;
+        fields.end()
+    }
+}

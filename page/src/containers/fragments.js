@@ -16,8 +16,8 @@ const DIFFER = 'its fragments differ where they overlap';
  * @property {Uint8Array} bytes
  *
  * @typedef {object} Waiting
- * @property {bigint} first when the first fragment came
- * @property {bigint} last
+ * @property {bigint | null} first when the first fragment came of which the file has all
+ * @property {bigint | null} last
  * @property {{mark: import('./report.js').Mark, isCut: boolean}[]} marks
  * @property {Part[]} parts
  * @property {number | null} end where the packet ends, once its last fragment came
@@ -51,11 +51,13 @@ export class Fragments {
      * @returns {{packet: Internet, why: string | null} | null} the packet that is whole by it, and why it can't be taken
      */
     take(packet, fragment, time) {
-        const entry = this.entry(fragment.key, packet, time);
+        const entry = this.entry(fragment.key, packet);
         const isCut = packet.payload.length < packet.size;
         entry.marks.push({ mark: this.report.mark, isCut });
-        [entry.first, entry.last] = [time < entry.first ? time : entry.first, time > entry.last ? time : entry.last];
-        if (!isCut && entry.parts.length < MOST_PARTS) this.place(entry, fragment, packet.payload);
+        if (!isCut) {
+            note(entry, time);
+            if (entry.parts.length < MOST_PARTS) this.place(entry, fragment, packet.payload);
+        }
         const payload = joined(entry);
         if (!payload) {
             this.passOver();
@@ -63,7 +65,7 @@ export class Fragments {
         }
         this.forget(fragment.key, entry);
         if (entry.parts.some((part) => part.offset + part.bytes.length > payload.length)) entry.why ??= DIFFER;
-        if (entry.last - entry.first > TIMER) entry.why ??= 'its fragments lie more than 60 s apart';
+        if (isLate(entry)) entry.why ??= 'its fragments lie more than 60 s apart';
         return { packet: { ...packet, protocol: entry.protocol, payload, size: payload.length, fragment: null }, why: entry.why };
     }
 
@@ -75,13 +77,12 @@ export class Fragments {
     /**
      * @param {string} key
      * @param {Internet} packet
-     * @param {bigint} time
      */
-    entry(key, packet, time) {
+    entry(key, packet) {
         const held = this.waiting.get(key);
         if (held) return held;
         /** @type {Waiting} */
-        const entry = { first: time, last: time, marks: [], parts: [], end: null, why: null, protocol: packet.protocol };
+        const entry = { first: null, last: null, marks: [], parts: [], end: null, why: null, protocol: packet.protocol };
         this.waiting.set(key, entry);
         return entry;
     }
@@ -132,6 +133,26 @@ export class Fragments {
         const missing = isOurs ? FRAGMENTS_MISSING : FRAGMENTS_UNKNOWN;
         for (const { mark, isCut } of entry.marks) this.report.count(mark, isCut ? FRAGMENTS_CUT : missing);
     }
+}
+
+/**
+ * Takes the time at which a fragment came.
+ *
+ * @param {Waiting} entry
+ * @param {bigint} time
+ */
+function note(entry, time) {
+    if (entry.first === null || time < entry.first) entry.first = time;
+    if (entry.last === null || time > entry.last) entry.last = time;
+}
+
+/**
+ * Whether the fragments lie too far apart.
+ *
+ * @param {Waiting} entry
+ */
+function isLate({ first, last }) {
+    return first !== null && last !== null && last - first > TIMER;
 }
 
 /**

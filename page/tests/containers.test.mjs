@@ -81,7 +81,7 @@ test('fragments of IP come together in any order, and one that is missing is lef
     assert.deepEqual(leftOut(pcap([parts[0], parts[2]])), [[1, FRAGMENTS_MISSING], [2, FRAGMENTS_MISSING]]);
     const late = [{ ...parts[0], seconds: 0 }, { ...parts[1], seconds: 61 }, { ...parts[2], seconds: 61 }];
     assert.deepEqual(leftOut(pcap(late)), [[3, FRAGMENTS]]);
-    const cut = { ...parts[0], bytes: parts[0].bytes.slice(0, -1), size: parts[0].bytes.length };
+    const cut = { ...parts[1], bytes: parts[1].bytes.slice(0, -1), size: parts[1].bytes.length };
     assert.deepEqual(payloads(pcap([cut, ...parts.map((part) => ({ ...part, seconds: 61 }))])), [hex(whole.subarray(8))]);
     const other = whole.slice();
     other[20] ^= 1;

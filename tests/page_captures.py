@@ -87,7 +87,9 @@ def agrees(seed):
 
 
 def counts(summary):
-    """What a summary counts; the order of reasons with the same count is left to each."""
+    """What a summary counts; the order of reasons with the same count is left to each. pcap2cap says in words that there is no frame."""
+    if summary.endswith('it has no frame\n'):
+        summary = '0 frames, 0 of these ports, 0 left out'
     return sorted(set(re.split(': |, ', summary.strip())))
 
 

@@ -134,8 +134,14 @@ objects() {
     nbt show --json --brief <"$room/capture" | grep -v '"kind":"tick"' | sed -E 's/^\{"line":[0-9]+,//; s/,?"comment":"[^"]*"//; s/^/{/' >"$room/wanted"
     sed -E 's/^.*"captured":[0-9]+,/{/' "$room/objects" | diff "$room/wanted" - >"$room/difference"
     count $? "the members of nbt show --json --brief: $(head -n 3 "$room/difference")"
-    [ "$(sed -n 10p "$room/objects" | cut -d , -f 1-12)" = '{"frame":11,"time":"1970-01-01T00:00:03.000000Z","source":"192.0.2.1","destination":"192.0.2.2","ports":[1024,139],"interface":null,"vlan":[],"mac":null,"size":112,"captured":112,"port":139' ]
+    [ "$(sed -n 10p "$room/objects" | cut -d , -f 1-12)" = '{"frame":11,"time":"1970-01-01T00:00:03.000000Z","from":"192.0.2.1","to":"192.0.2.2","ports":[1024,139],"interface":null,"vlan":[],"mac":null,"size":112,"captured":112,"port":139' ]
     count $? "the members of a frame: $(sed -n 10p "$room/objects")"
+    python3 -c 'import collections, json, sys
+def unique(pairs):
+    assert len({name for name, _ in pairs}) == len(pairs), pairs
+    return dict(pairs)
+for line in sys.stdin: json.loads(line, object_pairs_hook=unique)' <"$room/objects" 2>"$room/errors"
+    count $? "each member of an object has a name of its own: $(tail -n 1 "$room/errors" | head -c 200)"
     look --json --quiet --kind query "$office" 2>&1 | diff - <(grep '"op":"query"' "$room/objects")
     count $? 'nbt-look --json --quiet --kind query'
     # As many as tshark finds.

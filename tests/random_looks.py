@@ -91,7 +91,7 @@ def said_without(text):
 
 def head_of(packet):
     """The comment that pcap2cap writes of a packet, and its service."""
-    source, target = ('[%s]' % each if ':' in each else each for each in (packet['source'], packet['destination']))
+    source, target = ('[%s]' % each if ':' in each else each for each in (packet['from'], packet['to']))
     ports = packet['ports']
     return '# frame %d %s %s:%d > %s:%d' % (packet['frame'], packet['time'] or '-', source, ports[0], target, ports[1]), packet['port']
 

@@ -32,7 +32,7 @@ class Objects:
     def front(self, frame, ends):
         source, target, *ports = ends
         return ENCODE({
-            'frame': frame.number, 'time': self.times.utc(frame.at), 'source': source or None, 'destination': target or None,
+            'frame': frame.number, 'time': self.times.utc(frame.at), 'from': source or None, 'to': target or None,
             'ports': [int(each) for each in ports if each], 'interface': frame.interface or None,
             'vlan': [int(each, 0) for each in frame.vlans.split(',') if each],
             'mac': [frame.source_mac, frame.target_mac] if frame.source_mac else None,

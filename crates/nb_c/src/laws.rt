@@ -177,7 +177,7 @@ pub fn a_comparison_has_one_answer()
     saved_bytes_have_one_reading();
 }
 
-/// Of a saved table one thing is answered: what is told of it, as the lines of its keys or their
+/// Of a saved table one thing is answered: what is listed of it, as the lines of its keys or their
 /// objects, or one fault.
 pub fn a_table_has_one_list()
     ensures { (table : List ℕ) (told : Contents → List ℕ) (answer other : Result (List ℕ) Refusal) →

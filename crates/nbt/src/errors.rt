@@ -15,7 +15,7 @@ use std::io::Write;
 pub enum Audience<'a> {
     /// Programs: a fault is one line.
     Programs,
-    /// A person at a terminal, who is told what to do then, too; and what the input began with.
+    /// A person at a terminal, who gets advice too; and what the input began with.
     Person(&'a Cell<Front>),
 }
 

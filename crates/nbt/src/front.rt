@@ -4,7 +4,7 @@ use std::cell::Cell;
 use std::io;
 use std::io::Read;
 
-/// How many bytes a format is told by.
+/// How many bytes a format is known by.
 const WIDTH: usize = 4;
 
 /// What a pcap file begins with, of microseconds and of nanoseconds and in either byte order, and

@@ -1,4 +1,4 @@
-//! What a person at a terminal is told beside a fault, and beside a table.
+//! The advice that a terminal gets beside a fault, and beside a table.
 ghost use Rattle.std.specs.Prelude.{◌≡◌};
 ghost use Rattle.nbt.specs.declared.errors.Audience.TheVariants.{Programs};
 

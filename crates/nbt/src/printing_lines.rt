@@ -141,7 +141,7 @@ pub fn print_text<R: Read, W: Write, P: PayloadText + Drop>(
     Ok(())
 }
 
-/// Prints an object for each line of an input that says something, as it comes, with what is told
+/// Prints an object for each line of an input that says something, as it comes, with the fields
 /// of it, and for each comment where comments are printed.
 ///
 /// # Errors

@@ -123,7 +123,7 @@ fn done(outcome: Result<(), Fault>) -> Result<Status, Fault>
 }
 
 /// The status with which the command that these words name ended, as [`report`] has it. Where they
-/// are a bad packet's, a person is told which of them is wrong.
+/// are a bad packet's, a terminal gets the one that is wrong.
 fn report_run<E: Write>(
     alloc: Global,
     matches: &ArgMatches<'_>,
@@ -144,7 +144,7 @@ fn report_run<E: Write>(
 }
 
 /// The status with which a command ended. Its fault, if it has one, goes to `errors` as a line; a
-/// person is told what to do then in a second one.
+/// person gets advice in a second one.
 pub fn report<E: Write>(
     alloc: Global,
     outcome: Result<Status, Fault>,

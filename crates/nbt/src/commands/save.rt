@@ -18,7 +18,7 @@ use std::io::{Read, Write};
 
 /// `nbt save [--keys N] [--per-source N] [--input-limit BYTES]`: takes the payloads of port 138 and
 /// sets the clock at the ticks, each line of the input as it comes, in a member without names, and
-/// prints the member's table in hexadecimal. A person is told how many keys the ticks dropped.
+/// prints the member's table in hexadecimal. A terminal gets the number of keys that ticks dropped.
 ///
 /// # Errors
 ///

@@ -5,8 +5,8 @@ Usage: tests/wrong_bodies.py [CRATE ..], of all crates without a name; `rt ci` o
 checked over the crates below it as they were built last. RT_JOBS says how many checks run side by side.
 
 A function is proved over what others promise, whatever their bodies are. So wrong bodies of different functions are planted in one
-copy of the crate, and one check of those functions, and of what they call, tells of each. A change outside of functions, such as that of a
-constant, is planted alone. A case is a wrong body, which its own function has to be refused for, at the clause that is stated; and
+copy of the crate, and one check of those functions, and of what they call, tells of each. A second one of a function, and a change
+outside of functions, such as that of a constant, wants a check of its own, over what the one before it proved. A case is a wrong body, which its own function has to be refused for, at the clause that is stated; and
 a check, in which nothing else may be refused. The table has the processor seconds of a crate's checks. The last line is
 'N passed, M failed'.
 """
@@ -123,8 +123,8 @@ class Check:
     output: str = ''
     status: int = 0
 
-    def run(self):
-        """Plants them in a copy, and checks their functions."""
+    def run(self, kept):
+        """Plants them in a copy, and checks their functions, over what the checks before have left in the folder kept."""
         with tempfile.TemporaryDirectory(prefix='wrong-bodies-') as room:
             for part in ('src', 'specs', 'proofs'):
                 if (ROOT / 'crates' / self.crate / part).is_dir():
@@ -137,7 +137,7 @@ class Check:
             only = [word for body in self.bodies for word in ('--only', body.function)]
             root = next(it for it in ('src/main.rt', 'src/lib.rt') if Path(room, it).exists())
             with open(f'{room}/said', 'w+', encoding='utf-8', errors='replace') as said:
-                with subprocess.Popen(['rattle', 'check', *filter(None, words), *only, root], cwd=room, stdout=said, stderr=said) as ran:
+                with subprocess.Popen(['rattle', 'check', *filter(None, words), *kept, *only, root], cwd=room, stdout=said, stderr=said) as ran:
                     _, status, used = os.wait4(ran.pid, 0)
                     ran.returncode = self.status = os.waitstatus_to_exitcode(status)
                 said.seek(0)
@@ -157,13 +157,17 @@ class Check:
         yield None, f'{sorted(others)} refused beside {len(self.bodies)} wrong bodies' if others and not self.bodies[0].is_alone(self.crate) else None
 
 
-def checks(crates):
-    """The checks of these crates, the ones that take long first."""
-    found = []
-    for crate in crates:
-        bodies = [read(path) for path in sorted((ROOT / 'crates' / crate / 'wrong-bodies').glob('*.edit'))]
-        found += [Check(crate, batch) for batch in batches(crate, bodies)]
-    return sorted(found, key=lambda check: -len(check.bodies))
+def checks(crate):
+    """The checks of a crate."""
+    bodies = [read(path) for path in sorted((ROOT / 'crates' / crate / 'wrong-bodies').glob('*.edit'))]
+    return [Check(crate, batch) for batch in batches(crate, bodies)]
+
+
+def run(own):
+    """Runs the checks of a crate, one after the other."""
+    with tempfile.TemporaryDirectory(prefix='wrong-bodies-') as kept:
+        for check in own:
+            check.run(['--incremental', kept] if len(own) > 1 else [])
 
 
 def table(done):
@@ -179,9 +183,10 @@ def table(done):
 def main():
     """Runs all checks, and counts the cases that are right."""
     crates = sys.argv[1:] or sorted(path.parent.name for path in (ROOT / 'crates').glob('*/wrong-bodies'))
-    done = checks(crates)
+    by_crate = sorted(map(checks, crates), key=lambda own: -sum(len(it.bodies) for it in own))
     with ThreadPoolExecutor(int(os.environ.get('RT_JOBS', 0)) or os.cpu_count()) as pool:
-        list(pool.map(Check.run, done))
+        list(pool.map(run, by_crate))
+    done = [check for own in by_crate for check in own]
     passed = failed = 0
     for check in done:
         for body, why in check.failures():

@@ -148,11 +148,11 @@ class Check:
         """Each wrong body with why it fails, or None; and then the check itself."""
         found = refused(self.output)
         last = self.output.rstrip().rpartition('\n')[2]
-        is_told = self.status == 1 and re.fullmatch(r'only=\d+ proved=\d+', last)
+        is_checked = self.status in (0, 1) and re.fullmatch(r'only=\d+ proved=\d+', last)
         for body in self.bodies:
             seen = found.get(body.function, set())
-            why = f'not checked, status {self.status}: {last[:200]}' if not is_told else f'refused at {sorted(seen)}, not at {body.clause}'
-            yield body, None if is_told and body.clause in seen else why
+            why = None if body.clause in seen else f'refused at {sorted(seen)}, not at {body.clause}' if seen else 'it is not refused'
+            yield body, why if is_checked else f'not checked, status {self.status}: {last[:200]}'
         others = set(found) - {it.function for it in self.bodies}
         yield None, f'{sorted(others)} refused beside {len(self.bodies)} wrong bodies' if others and not self.bodies[0].is_alone(self.crate) else None
 

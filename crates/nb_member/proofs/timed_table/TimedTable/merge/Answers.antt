@@ -25,5 +25,5 @@ returns-in-Err-clause-kept c =
     let table = c.in-Err.ensures.still in
     let kept = c.keep_held.ensures in
     let moments = restored c.self.inside.table.contents c.self.inside.starts c.begin_and_merge.new.starts c.keep_held.new.self c.self.invariant c.in-Err.ensures.kept
-        (subst (λ (t : TableValue). (k : Key) → maps.get c.keep_held.new.self k ≡ cond (maps.contains_key t.contents k) (maps.get c.begin_and_merge.new.starts k) None) table kept) in
+    (subst (λ (t : TableValue). (k : Key) → maps.get c.keep_held.new.self k ≡ cond (maps.contains_key t.contents k) (maps.get c.begin_and_merge.new.starts k) None) table kept) in
     rw (← c.self.view_is) (λ i. record { table = table i; moments = moments i })

@@ -112,7 +112,7 @@ fn join(
 fn heard(alloc: Global, member: &Member, other: &Table) -> Result<Bytes, Refusal>
     ensures { OrMemory all_late (Hears member.now other.now.contents) result }
 {
-    match member.preview(alloc, other) {
+    match member.preview(other) {
         Err(fault) => Err(table_refusal(fault)),
         Ok(datagrams) => answer_of(bytes_of(alloc, datagrams)),
     }

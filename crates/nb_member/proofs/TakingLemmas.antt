@@ -2,4 +2,3 @@
 pub mod Payloads
 pub mod FullKeys
 pub mod MergedMoments
-pub mod Previews

@@ -44,13 +44,17 @@ pub handed_turn : (h : Handing) (t new : Contents) (ds more : List DatagramParts
 handed_turn h t new ds more k e rest is given =
     ap₂ (λ q m. q ++ handed h m rest) given is ∙ one_after ds (handed_at h t k e) (handed h (with_entry t k e) rest)
 
--- a key below these makes no difference to what they had
+-- a key below these makes no difference to the first of them
+above_at : (t : Contents) (k : Key) (v : EntryValue) (e : Key × EntryValue) (es : List (Key × EntryValue)) → T (below_all key_cmp k (e ∷ es)) → maps.get (maps.insert t k v) e.0 ≡ maps.get t e.0
+above_at t k v e es h =
+    let other = (eq_by_cmp_equiv key_cmp_total).symm e.0 k ∙ lt_not_eq (key_cmp k e.0) (T_left _ _ h) in
+    maps.get-insert key_cmp_total t k v e.0 ∙ ap (λ b. cond b (Some v) (maps.get t e.0)) other
+
+-- nor to what they had
 above_same : (t after : Contents) (k : Key) (v : EntryValue) (es : List (Key × EntryValue)) → T (below_all key_cmp k es) → filter_map (newly_whole (maps.insert t k v) after) (map (λ e. e.0) es) ≡ filter_map (newly_whole t after) (map (λ e. e.0) es)
 above_same t after k v [] h = refl
 above_same t after k v (e ∷ es) h =
-    let other = (eq_by_cmp_equiv key_cmp_total).symm e.0 k ∙ lt_not_eq (key_cmp k e.0) (T_left _ _ h) in
-    let same = maps.get-insert key_cmp_total t k v e.0 ∙ ap (λ b. cond b (Some v) (maps.get t e.0)) other in
-    ap₂ cons_option (ap (λ o. newly (option_and_then (datagram_of e.0) o) (datagram_at after e.0)) same) (above_same t after k v es (T_right _ _ h))
+    ap₂ cons_option (ap (λ o. newly (option_and_then (datagram_of e.0) o) (datagram_at after e.0)) (above_at t k v e es h)) (above_same t after k v es (T_right _ _ h))
 
 handed_is : (t : Contents) (es : List (Key × EntryValue)) → T (is_sorted key_cmp es) → handed Over t es ≡ filter_map (newly_whole t (joined_each join_entry t es)) (map (λ e. e.0) es)
 handed_is t [] s = refl
@@ -82,3 +86,31 @@ handed_all t o =
     handed_is t (maps.entries o) (maps.entries_sorted o)
     ∙ ap (λ j. filter_map (newly_whole t j) (maps.keys o)) (joined_each_is key_cmp_total key_cmp_exact join_entry t o)
     ∙ sym (same_given key_cmp_total key_cmp_exact (newly_whole t (join t o)) (join t o) o (given_same t o))
+
+-- ---- keys looked at one by one
+
+-- what is handed over of each of these, if it alone is joined to the table t
+abbrev pub seen : Contents → List (Key × EntryValue) → List DatagramParts
+seen t es = filter_map (λ (e : Key × EntryValue). handed_at Over t e.0 e.1) es
+
+-- one more key
+pub seen_turn : (t : Contents) (ds more : List DatagramParts) (e : Key × EntryValue) (rest : List (Key × EntryValue)) → more ≡ ds ++ cons_option (handed_at Over t e.0 e.1) [] → more ++ seen t rest ≡ ds ++ seen t (e ∷ rest)
+seen_turn t ds more e rest given = ap (λ q. q ++ seen t rest) given ∙ one_after ds (handed_at Over t e.0 e.1) (seen t rest)
+
+-- a key below these makes no difference to what is seen of them
+above_seen : (t : Contents) (k : Key) (v : EntryValue) (es : List (Key × EntryValue)) → T (below_all key_cmp k es) → seen (maps.insert t k v) es ≡ seen t es
+above_seen t k v [] h = refl
+above_seen t k v (e ∷ es) h =
+    ap₂ cons_option
+    (ap (λ a. newly (option_and_then (datagram_of e.0) a) (datagram_of e.0 (joined_onto join_entry a e.1))) (above_at t k v e es h))
+    (above_seen t k v es (T_right _ _ h))
+
+seen_each : (t : Contents) (es : List (Key × EntryValue)) → T (is_sorted key_cmp es) → seen t es ≡ handed Over t es
+seen_each t [] s = refl
+seen_each t (e ∷ es) s =
+    let v = joined_onto join_entry (maps.get t e.0) e.1 in
+    ap (cons_option (handed_at Over t e.0 e.1)) (sym (above_seen t e.0 v es (T_left _ _ s)) ∙ seen_each (maps.insert t e.0 v) es (T_right _ _ s))
+
+-- all keys of the other table
+pub seen_all : (t o : Contents) → seen t (maps.entries o) ≡ newly_handed t (join t o)
+seen_all t o = seen_each t (maps.entries o) (maps.entries_sorted o) ∙ handed_all t o

@@ -12,7 +12,7 @@ mod taking_in;
 use super::Table;
 use crate::fault::TableFault;
 use crate::join::Join;
-use merging_entries::merge_entries;
+use merging_entries::{merge_entries, preview_entries};
 use nb_datagram::Datagrams;
 use nb_entries::Handing;
 pub use taking_in::take_in_all;
@@ -40,6 +40,25 @@ impl Table {
         self.fits(other)?;
         let others = other.entries.iter();
         Ok(merge_entries(self.alloc, &mut self.entries, others, Handing::Over)?)
+    }
+
+    /// The datagrams that [`Table::merge`] of the same table would hand over. The table stays as it
+    /// is; memory is taken for the entries of the other's keys, one at a time, and the datagrams.
+    ///
+    /// # Errors
+    ///
+    /// As [`Table::merge`].
+    pub fn preview(&self, other: &Table) -> Result<Datagrams, TableFault>
+        ensures fits { OnOk result (Fits self.now.limits self.now.contents other.now.contents) }
+        ensures handed { IfOk result (λ datagrams. datagrams
+            ≡ newly_handed self.now.contents (join self.now.contents other.now.contents)) }
+        ensures fault { IfErr result (IsRefused self.now.limits self.now.contents
+            other.now.contents) }
+    {
+        // For the proof alone: a limit that is read is a number of its type.
+        let _longest = self.longest;
+        self.fits(other)?;
+        Ok(preview_entries(self.alloc, &self.entries, &other.entries)?)
     }
 }
 

@@ -1,4 +1,4 @@
-//! The entries of another table joined to those of one, all or none.
+//! The entries of another table joined to those of one, all or none, and what becomes whole by it.
 ghost use Rattle.std.specs.Prelude.{◌≡◌, ◌≤◌, ◌++◌, [], length, Option, IfOk, OnOk, OnErr};
 ghost use Rattle.std.specs.List.{cons_option, AllByRecursion};
 ghost use Rattle.std.specs.Option.{option_copied};
@@ -9,7 +9,8 @@ ghost use Rattle.nb_entries.specs.Maps.{joined_onto};
 ghost use Rattle.nb_entries.specs.Entry.{join_entry};
 ghost use Rattle.nb_entries.specs.Short.{IsShort};
 ghost use Rattle.nb_entries.specs.Change.{handed_by};
-ghost use Rattle.nb_table.specs.Merging.{AllShort};
+ghost use Rattle.nb_table.specs.Join.{join};
+ghost use Rattle.nb_table.specs.Merging.{AllShort, newly_handed};
 ghost use Rattle.nb_table.specs.Code.Each.{joined_each};
 ghost use Rattle.nb_table.specs.Code.Handed.{handed, handed_at, with_entry};
 ghost use Rattle.nb_table.specs.Code.TakenBack.{taken_back};
@@ -206,4 +207,24 @@ pub(super) fn merge_entries<O: Others>(
             Err(fault)
         }
     }
+}
+
+/// The datagrams of the keys that would become whole if the others were joined to the entries,
+/// ascending.
+pub(super) fn preview_entries(
+    alloc: Global,
+    entries: &Entries,
+    others: &Entries,
+) -> Result<Datagrams, NoMemory>
+    requires own { AllShort MAX_LENGTH entries.now }
+    requires other { AllShort MAX_LENGTH others.now }
+    ensures { IfOk result (λ datagrams. datagrams
+        ≡ newly_handed entries.now (join entries.now others.now)) }
+{
+    let mut datagrams = Vec::new(alloc);
+    for (key, other) in others.iter() {
+        let (_, datagram) = joined_at(alloc, entries, *key, other, Handing::Over)?;
+        push_some(&mut datagrams, datagram)?;
+    }
+    Ok(Datagrams::from_vec(datagrams))
 }

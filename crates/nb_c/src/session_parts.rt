@@ -9,7 +9,7 @@ use crate::output::fill;
 use crate::refusal::{Refusal, session_refusal};
 use crate::spellings::spelled_in_place;
 use crate::statuses::{MORE, OTHER_TYPE};
-use nb_names::Name;
+use nb_names::LentName;
 use nb_names::limits::MAX_SPELLING;
 use nb_session::{Packet, Parsed, parse};
 
@@ -75,7 +75,7 @@ fn names_answer(packet: &Packet<'_>) -> Result<NbtSessionNames, Refusal>
 }
 
 /// Both names of a request, spelled out.
-fn names_of(called: &Name, calling: &Name) -> NbtSessionNames
+fn names_of(called: &LentName<'_>, calling: &LentName<'_>) -> NbtSessionNames
     ensures { result ≡ names_of called.now calling.now }
 {
     let called = called.to_domain();

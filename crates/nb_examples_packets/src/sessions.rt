@@ -14,9 +14,9 @@ pub fn say_packet(line: &mut Line<'_>, packet: &Packet<'_>) {
         }
         Packet::Request { called, calling } => {
             line.say("request ");
-            line.say_made(name_text(line.alloc(), called).ok());
+            line.say_made(name_text(line.alloc(), &called.to_name()).ok());
             line.say(" ");
-            line.say_made(name_text(line.alloc(), calling).ok());
+            line.say_made(name_text(line.alloc(), &calling.to_name()).ok());
         }
         Packet::Positive => line.say("positive"),
         Packet::Negative(code) => write!(line, "negative {code:02x}"),

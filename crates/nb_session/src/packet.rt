@@ -5,7 +5,7 @@ ghost use Rattle.nb_session.specs.Packet.{kind_of};
 
 use crate::kind::Kind;
 use crate::limits::MAX_MESSAGE;
-use nb_names::Name;
+use nb_names::LentName;
 use std::error::Error;
 use std::fmt;
 use std::marker::Model;
@@ -99,17 +99,17 @@ impl Eq for MessageData<'_> {
     ghost laws = { Prim.search (comparing, rules) };
 }
 
-/// A session packet (RFC 1002 section 4.3).
-#[derive(Debug, Drop, PartialEq, Eq)]
+/// A session packet (RFC 1002 section 4.3). Its names and its message are lent.
+#[derive(Drop)]
 pub enum Packet<'a> {
     /// Data of the session (section 4.3.6).
     Message(MessageData<'a>),
     /// A session is asked for (section 4.3.2).
     Request {
         /// Who is called.
-        called: Name,
+        called: LentName<'a>,
         /// Who calls.
-        calling: Name,
+        calling: LentName<'a>,
     },
     /// The session is established (section 4.3.3).
     Positive,

@@ -33,7 +33,7 @@ impl<'a> PacketBytes<'a> {
         self.bytes
     }
 
-    /// The packet. No memory is taken: a message is lent from the bytes.
+    /// The packet. No memory is taken: a message and names are lent from the bytes.
     pub fn packet(&self) -> Packet<'a>
         ensures { IsPacket result self.now.bytes.now }
     {

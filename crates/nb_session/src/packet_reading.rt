@@ -57,7 +57,7 @@ fn read_whole<'a>(kind: Kind, header: Header, bytes: &'a [u8]) -> Result<Packet<
 /// Reads one packet, and no byte after it, or answers `None` at the end before its first byte.
 ///
 /// The header is read and judged, then room is made for the whole packet, then its body is read.
-/// A read that is interrupted is made again. A message is lent from the room.
+/// A read that is interrupted is made again. A message and names are lent from the room.
 ///
 /// # Errors
 ///

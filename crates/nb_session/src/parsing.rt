@@ -14,10 +14,10 @@ use crate::laws::one_answer;
 use crate::limits::HEADER_LENGTH;
 use crate::packet::{MessageData, Packet};
 use nb_names::numbers::number_16;
-use nb_names::{Pointers, read_name};
+use nb_names::read_lent_name;
 
 /// What stands at the front of bytes.
-#[derive(Debug, Drop, PartialEq, Eq)]
+#[derive(Drop)]
 pub enum Parsed<'a> {
     /// A packet, and how many of the bytes it takes up.
     Whole(Packet<'a>, usize),
@@ -36,8 +36,8 @@ fn read_request<'a>(header: Header, packet: &'a [u8]) -> Result<Packet<'a>, Sess
     ensures found { IfOk result (λ read. IsPacket read packet.now) }
     ensures fault { IfErr result (RequestFails packet.now) }
 {
-    let (called, behind) = read_name(packet, HEADER_LENGTH, Pointers::Refused)?;
-    let (calling, end) = read_name(packet, behind, Pointers::Refused)?;
+    let (called, behind) = read_lent_name(packet, HEADER_LENGTH)?;
+    let (calling, end) = read_lent_name(packet, behind)?;
     if end < packet.len() {
         return Err(SessionFault::TrailingBytes(end));
     }
@@ -95,7 +95,7 @@ fn parse_front<'a>(bytes: &'a [u8]) -> Parsed<'a>
 ///
 /// A fault of the header is answered as soon as its four bytes are there, one of the body once it
 /// is there whole. Names are read from the packet alone, with pointers refused. Bytes after a
-/// whole packet are left unread. No memory is taken: a message is lent from the bytes.
+/// whole packet are left unread. No memory is taken: a message and names are lent from the bytes.
 ///
 /// RFC 1002 section 4.3.
 pub fn parse<'a>(bytes: &'a [u8]) -> Parsed<'a>

@@ -10,7 +10,7 @@ ghost use Rattle.nb_text.specs.Tells.{IsTold};
 use crate::faults::tell_refusal;
 use crate::keys::{ADDRESS, CALLED, CALLING, CODE, DATA, KIND, LENGTH, MORE, TO_PORT};
 use crate::words::tell_used;
-use nb_names::{Name, NoMemory};
+use nb_names::{LentName, NoMemory};
 use nb_session::{Packet, Parsed, parse};
 use nb_telling::Sink;
 
@@ -73,7 +73,11 @@ fn tell_message<S: Sink>(bytes: &[u8], sink: &mut S) -> Result<(), NoMemory>
 }
 
 /// Tells a request's parts.
-fn tell_request<S: Sink>(called: &Name, calling: &Name, sink: &mut S) -> Result<(), NoMemory>
+fn tell_request<S: Sink>(
+    called: &LentName<'_>,
+    calling: &LentName<'_>,
+    sink: &mut S,
+) -> Result<(), NoMemory>
     ensures told { OnOk result (S.seen sink.new
         ≡ fold S.after (S.seen sink.old) (parts_fields (Packet.Request called.now calling.now))) }
     ensures front { Grows S.is_front (S.seen sink.old) (S.seen sink.new) }

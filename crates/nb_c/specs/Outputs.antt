@@ -1,6 +1,6 @@
 -- What a call does to what its caller lends it (our choice): the front of a buffer, how many bytes it has or wants, and
 -- the place of a fault.
-use Rattle.std.specs.Prelude.{◌≡◌, ◌⊎◌, ℕ, Bool, true, false, nat_le, List, ◌++◌, length, drop, Result, Ok, Err, if◌then◌else◌, ⊤}
+use Rattle.std.specs.Prelude.{◌≡◌, ◌⊎◌, ℕ, Bool, true, false, nat_le, List, ◌++◌, length, drop, Result, Ok, Err, Unit, if◌then◌else◌, ⊤}
 use Rattle.nb_names.specs.declared.bytes.NoMemory.{NoMemory}
 use Rattle.nb_c.specs.declared.refusal.Refusal.{Refusal}
 use Rattle.nb_c.specs.declared.refusal.Refusal.TheVariants.{Memory, Fault, FaultAt}
@@ -94,6 +94,17 @@ abbrev pub Filled : (A : Type 0) → Result A Refusal → A → A → ℕ → �
 Filled A (Ok value) old new at at' status = (new ≡ value) × (at' ≡ at) × (status ≡ DONE)
 Filled A (Err refusal) old new at at' status =
     (new ≡ old) × (at' ≡ at_refused refusal at) × (status ≡ refused_status refusal)
+
+-- FilledAlone A Says old new answer: what alone is said is filled in, or is this refusal, of which all is as it was
+abbrev pub FilledAlone : (A : Type 0) → (Result A Refusal → Type 0) → A → A → Result Unit Refusal → Type 0
+FilledAlone A Says old new (Ok _) = Alone A Says (Ok new)
+FilledAlone A Says old new (Err refusal) = Alone A Says (Err refusal) × (new ≡ old)
+
+-- Ends answer at at' status: a call that has filled in what it reads, or has this refusal, leaves the place so, and has
+-- this status
+abbrev pub Ends : Result Unit Refusal → ℕ → ℕ → ℕ → Type 0
+Ends (Ok _) at at' status = (at' ≡ at) × (status ≡ DONE)
+Ends (Err refusal) at at' status = (at' ≡ at_refused refusal at) × (status ≡ refused_status refusal)
 
 -- Fills A Says old new at at' status: a call fills in what is said, and whatever is said is what it fills in
 pub record Fills (A : Type 0) (Says : Result A Refusal → Type 0) (old new : A) (at at' status : ℕ) : Type 0 where

@@ -2,21 +2,21 @@
 ghost use Rattle.std.specs.Prelude.{◌≡◌};
 ghost use Rattle.nb_c.specs.declared.service_reading.NbtServiceHeader.{NbtServiceHeader};
 ghost use Rattle.nb_c.specs.declared.service_reading.NbtServiceItem.{NbtServiceItem};
-ghost use Rattle.nb_c.specs.Outputs.{Alone, Fills};
+ghost use Rattle.nb_c.specs.Outputs.{Alone, FilledAlone, Fills};
 ghost use Rattle.nb_c.specs.Services.{ReadsHeader, ReadsItem, ReadsPacket, header_numbers, item_numbers, netbios_number, numbers, section_number};
+ghost use Rattle.nb_names.specs.NameText.{are_letters};
 ghost use Rattle.nb_service.specs.Header.{HasHeader, header_value};
 ghost use Rattle.nb_service.specs.Items.{item_of};
 
-use crate::output::fill;
+use crate::output::{fill, finish};
 use crate::refusal::{Refusal, service_refusal};
-use crate::spellings::spelled_in_place;
+use crate::spellings::fill_spelling;
 use crate::statuses::NO_ITEM;
-use nb_names::limits::{MAX_SPELLING, POINTED_OFFSETS};
-use nb_names::{DomainName, Name, NameReader};
+use nb_names::limits::{LETTERS, MAX_SPELLING, POINTED_OFFSETS};
+use nb_names::{DomainName, NameReader};
 use nb_service::laws::{one_header, one_item, one_packet, one_service_fault};
 use nb_service::limits::{HEADER_LENGTH, SHORT_PACKET};
 use nb_service::{Extent, Header, Item, Section, outline, read_header, read_item};
-use nb_text::laws::labels_of_one_name;
 
 /// The header of a packet of the name service, and how many bytes there are of what was read.
 #[repr(C)]
@@ -161,58 +161,78 @@ pub extern "C" fn nbt_service_item(
     ensures { Fills NbtServiceItem (ReadsItem payload.now number place)
         item.old item.new at.old at.new result }
 {
-    fill(item_at(payload, number as usize, place), item, at)
+    finish(fill_item(payload, number as usize, place, item), at)
 }
 
-/// The item of a number that stands at an offset of a payload.
-fn item_at(payload: &[u8], number: usize, place: usize) -> Result<NbtServiceItem, Refusal>
-    ensures { Alone NbtServiceItem (ReadsItem payload.now number place) result }
+/// Fills in the item of a number that stands at an offset of a payload.
+fn fill_item(
+    payload: &[u8],
+    number: usize,
+    place: usize,
+    into: &mut NbtServiceItem,
+) -> Result<(), Refusal>
+    ensures { FilledAlone NbtServiceItem (ReadsItem payload.now number place)
+        into.old into.new result }
 {
     // For the clause: a payload has one header at most, and one item there. The calls do nothing.
     one_header();
     one_item();
     match read_header(payload) {
-        Ok(header) => item_of(&NameReader::of(payload, &mut []), &header, number, place),
+        Ok(header) => fill_item_of(
+            &NameReader::of(payload, &mut []),
+            &header,
+            number,
+            place,
+            into,
+        ),
         Err(fault) => Err(service_refusal(fault)),
     }
 }
 
-/// The item of a number that stands at an offset of a packet of this header.
-fn item_of(
+/// Fills in the item of a number that stands at an offset of a packet of this header.
+fn fill_item_of(
     names: &NameReader<'_, '_>,
     header: &Header,
     number: usize,
     place: usize,
-) -> Result<NbtServiceItem, Refusal>
+    into: &mut NbtServiceItem,
+) -> Result<(), Refusal>
     requires { HasHeader names.now (header_value header.now) }
-    ensures { Alone NbtServiceItem (ReadsItem names.now number place) result }
+    ensures { FilledAlone NbtServiceItem (ReadsItem names.now number place)
+        into.old into.new result }
 {
     // For the clause: a payload has one header at most, and one item there. The calls do nothing.
     one_header();
     one_item();
     match read_item(names, header, number, place) {
-        Ok(Some((item, extent))) => Ok(item_numbers(&item, extent)),
+        Ok(Some((item, extent))) => {
+            fill_numbers_of(&item, extent, into);
+            Ok(())
+        }
         Ok(None) => Err(Refusal::Fault(NO_ITEM)),
         Err(fault) => Err(service_refusal(fault)),
     }
 }
 
-/// The numbers of an item that reaches so far.
-fn item_numbers(item: &Item<'_>, extent: Extent) -> NbtServiceItem
-    ensures { result ≡ item_numbers (item_of item.now) extent }
+/// Fills in the numbers of an item that reaches so far.
+fn fill_numbers_of(item: &Item<'_>, extent: Extent, into: &mut NbtServiceItem)
+    ensures { into.new ≡ item_numbers (item_of item.now) extent }
 {
     match item {
         Item::Question(question) => {
-            numbers(0, 0, question.kind, question.class, &question.name, extent)
+            into.section = 0;
+            into.time_to_live = 0;
+            into.kind = question.kind;
+            into.class = question.class;
+            fill_name(&question.name, extent, into);
         }
-        Item::Record(section, record) => numbers(
-            section_number(*section),
-            record.ttl(),
-            record.kind(),
-            record.class(),
-            record.name(),
-            extent,
-        ),
+        Item::Record(section, record) => {
+            into.section = section_number(*section);
+            into.time_to_live = record.ttl();
+            into.kind = record.kind();
+            into.class = record.class();
+            fill_name(record.name(), extent, into);
+        }
     }
 }
 
@@ -227,39 +247,39 @@ fn section_number(section: Section) -> u32
     }
 }
 
-/// These numbers, with the name and the places of an item.
-fn numbers(
-    section: u32,
-    time_to_live: u32,
-    kind: u16,
-    class: u16,
-    domain: &DomainName,
-    extent: Extent,
-) -> NbtServiceItem
-    ensures { result ≡ numbers section time_to_live kind class domain.now extent }
+/// Fills in the name and the places of an item.
+fn fill_name(domain: &DomainName, extent: Extent, into: &mut NbtServiceItem)
+    ensures { into.new ≡ numbers into.old.section into.old.time_to_live
+        into.old.kind into.old.class domain.now extent }
 {
-    NbtServiceItem {
-        section,
-        time_to_live,
-        kind,
-        class,
-        contents: extent.rdata,
-        contents_length: extent.next.saturating_sub(extent.rdata),
-        next: extent.next,
-        netbios: netbios_number(domain),
-        name_length: domain.spelled_len() as u8,
-        name: spelled_in_place(domain),
-    }
+    into.contents = extent.rdata;
+    into.contents_length = extent.next.saturating_sub(extent.rdata);
+    into.next = extent.next;
+    into.netbios = netbios_number(domain);
+    into.name_length = domain.spelled_len() as u8;
+    fill_spelling(domain, &mut into.name);
 }
 
 /// 1 for the labels of a NetBIOS name, 0 for others.
 fn netbios_number(domain: &DomainName) -> u8
     ensures { result ≡ netbios_number domain.now }
 {
-    // For the clause; the call does nothing.
-    labels_of_one_name();
-    match Name::from_domain(domain) {
-        Ok(_) => 1,
-        Err(_) => 0,
+    match domain.label(0) {
+        Some(label) if are_letters(label) => 1,
+        _ => 0,
     }
+}
+
+/// Whether a label is the letters of a name's sixteen bytes. All are looked at, many at a time.
+fn are_letters(label: &[u8]) -> bool
+    ensures { result ≡ are_letters label.now }
+{
+    if label.len() != LETTERS {
+        return false;
+    }
+    let mut good = true;
+    'letters: for letter in label {
+        good = good & (letter.wrapping_sub(b'A') < 16);
+    }
+    good
 }

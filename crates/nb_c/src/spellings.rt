@@ -9,8 +9,16 @@ use nb_names::limits::MAX_SPELLING;
 pub(crate) fn spelled_in_place(domain: &DomainName) -> [u8; MAX_SPELLING]
     ensures { result ≡ spelled_in_place domain.now }
 {
-    let spelling = domain.spelling();
     let mut bytes = [0; MAX_SPELLING];
-    bytes[..spelling.len()].copy_from_slice(spelling);
+    fill_spelling(domain, &mut bytes);
     bytes
+}
+
+/// Fills in the spelling of labels, and bytes of zero after it.
+pub(crate) fn fill_spelling(domain: &DomainName, into: &mut [u8; MAX_SPELLING])
+    ensures { into.new ≡ spelled_in_place domain.now }
+{
+    let spelling = domain.spelling();
+    *into = [0; MAX_SPELLING];
+    into[..spelling.len()].copy_from_slice(spelling);
 }

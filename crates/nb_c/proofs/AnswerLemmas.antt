@@ -1,6 +1,6 @@
 -- What is judged and answered is done.
 use Rattle.std.proofs.Common.{◌≡◌, ◌∙◌, ℕ, Bool, List, Result, Ok, Err, inl, inr, refl, subst, sym}
-use Rattle.std.specs.Prelude.{IfOk, Unit}
+use Rattle.std.specs.Prelude.{IfOk}
 use Rattle.nb_names.specs.declared.bytes.NoMemory.{NoMemory}
 use Rattle.nb_c.specs.declared.refusal.Refusal.{Refusal}
 use Rattle.nb_c.specs.declared.refusal.Refusal.TheVariants.{Memory, Fault, FaultAt}

@@ -1,22 +1,24 @@
 //! Payloads of the name service, read.
-ghost use Rattle.std.specs.Prelude.{◌≡◌};
+ghost use Rattle.std.specs.Prelude.{◌≡◌, ◌++◌, ℕ, List};
 ghost use Rattle.nb_c.specs.declared.service_reading.NbtServiceHeader.{NbtServiceHeader};
 ghost use Rattle.nb_c.specs.declared.service_reading.NbtServiceItem.{NbtServiceItem};
 ghost use Rattle.nb_c.specs.Outputs.{Alone, FilledAlone, Fills};
-ghost use Rattle.nb_c.specs.Services.{ReadsHeader, ReadsItem, ReadsPacket, header_numbers, item_numbers, netbios_number, numbers, section_number};
+ghost use Rattle.nb_c.specs.Services.{ReadsHeader, ReadsItem, ReadsPacket, header_numbers, netbios_number, numbers, section_number};
+ghost use Rattle.nb_names.specs.declared.pointers.Pointers.TheVariants.{Followed};
+ghost use Rattle.nb_names.specs.DomainName.{spelling};
+ghost use Rattle.nb_names.specs.Labels.{NameAt};
 ghost use Rattle.nb_names.specs.NameText.{are_letters};
 ghost use Rattle.nb_service.specs.Header.{HasHeader, header_value};
-ghost use Rattle.nb_service.specs.Items.{item_of};
 
 use crate::output::{fill, finish};
 use crate::refusal::{Refusal, service_refusal};
-use crate::spellings::fill_spelling;
+use crate::spellings::spell_domain;
 use crate::statuses::NO_ITEM;
 use nb_names::limits::{LETTERS, MAX_SPELLING, POINTED_OFFSETS};
-use nb_names::{DomainName, NameReader};
+use nb_names::NameReader;
 use nb_service::laws::{one_header, one_item, one_packet, one_service_fault};
 use nb_service::limits::{HEADER_LENGTH, SHORT_PACKET};
-use nb_service::{Extent, Header, Item, Section, outline, read_header, read_item};
+use nb_service::{Fields, Header, Section, outline, read_fields, read_header};
 
 /// The header of a packet of the name service, and how many bytes there are of what was read.
 #[repr(C)]
@@ -204,9 +206,9 @@ fn fill_item_of(
     // For the clause: a payload has one header at most, and one item there. The calls do nothing.
     one_header();
     one_item();
-    match read_item(names, header, number, place) {
-        Ok(Some((item, extent))) => {
-            fill_numbers_of(&item, extent, into);
+    match read_fields(names, header, number, place) {
+        Ok(Some((section, fields))) => {
+            fill_numbers(section_number(section), fields, names, place, into);
             Ok(())
         }
         Ok(None) => Err(Refusal::Fault(NO_ITEM)),
@@ -214,59 +216,49 @@ fn fill_item_of(
     }
 }
 
-/// Fills in the numbers of an item that reaches so far.
-fn fill_numbers_of(item: &Item<'_>, extent: Extent, into: &mut NbtServiceItem)
-    ensures { into.new ≡ item_numbers (item_of item.now) extent }
-{
-    match item {
-        Item::Question(question) => {
-            into.section = 0;
-            into.time_to_live = 0;
-            into.kind = question.kind;
-            into.class = question.class;
-            fill_name(&question.name, extent, into);
-        }
-        Item::Record(section, record) => {
-            into.section = section_number(*section);
-            into.time_to_live = record.ttl();
-            into.kind = record.kind();
-            into.class = record.class();
-            fill_name(record.name(), extent, into);
-        }
-    }
-}
-
-/// The number of a section.
-fn section_number(section: Section) -> u32
+/// The number of a section; that of questions, which are in none, is 0.
+fn section_number(section: Option<Section>) -> u32
     ensures { result ≡ section_number section }
 {
     match section {
-        Section::Answer => 1,
-        Section::Authority => 2,
-        Section::Additional => 3,
+        None => 0,
+        Some(Section::Answer) => 1,
+        Some(Section::Authority) => 2,
+        Some(Section::Additional) => 3,
     }
 }
 
-/// Fills in the name and the places of an item.
-fn fill_name(domain: &DomainName, extent: Extent, into: &mut NbtServiceItem)
-    ensures { into.new ≡ numbers into.old.section into.old.time_to_live
-        into.old.kind into.old.class domain.now extent }
+/// Fills in these fields, and the name that stands at an offset of a packet.
+fn fill_numbers(
+    section: u32,
+    fields: Fields,
+    names: &NameReader<'_, '_>,
+    place: usize,
+    into: &mut NbtServiceItem,
+)
+    ensures { (labels : List (List ℕ)) (after : ℕ) →
+        NameAt names.now Followed place labels after → into.new ≡ numbers section fields labels }
 {
-    into.contents = extent.rdata;
-    into.contents_length = extent.next.saturating_sub(extent.rdata);
-    into.next = extent.next;
-    into.netbios = netbios_number(domain);
-    into.name_length = domain.spelled_len() as u8;
-    fill_spelling(domain, &mut into.name);
+    into.section = section;
+    into.time_to_live = fields.ttl;
+    into.kind = fields.kind;
+    into.class = fields.class;
+    into.contents = fields.extent.rdata;
+    into.contents_length = fields.extent.next.saturating_sub(fields.extent.rdata);
+    into.next = fields.extent.next;
+    into.name_length = spell_domain(names, place, &mut into.name) as u8;
+    into.netbios = netbios_number(&into.name);
 }
 
-/// 1 for the labels of a NetBIOS name, 0 for others.
-fn netbios_number(domain: &DomainName) -> u8
-    ensures { result ≡ netbios_number domain.now }
+/// 1 where the bytes begin with the spelling of a NetBIOS name, 0 where with that of others.
+fn netbios_number(bytes: &[u8; MAX_SPELLING]) -> u8
+    ensures { (labels : List (List ℕ)) (rest : List ℕ) → bytes.now ≡ spelling labels ++ rest →
+        result ≡ netbios_number labels }
 {
-    match domain.label(0) {
-        Some(label) if are_letters(label) => 1,
-        _ => 0,
+    if bytes[0] as usize == LETTERS && are_letters(&bytes[1..LETTERS + 1]) {
+        1
+    } else {
+        0
     }
 }
 

@@ -1,6 +1,6 @@
 -- A payload of port 137 has one answer for its header, for its packet, and for each item.
 use Rattle.std.proofs.Common.{◌≡◌, ◌∙◌, ℕ, ◌<◌, ◌≤◌, List, length, Option, Some, None, Result, Ok, Err, refl, ap, sym, subst, arith}
-use Rattle.std.specs.Prelude.{IfSome, MatchOption}
+use Rattle.std.specs.Prelude.{MatchOption}
 use Rattle.nb_names.specs.declared.pointers.Pointers.TheVariants.{Followed}
 use Rattle.nb_names.specs.Labels.{NameAt}
 use Rattle.nb_service.specs.declared.extent.Extent.{Extent}
@@ -74,9 +74,6 @@ at_some {A} o x P Q is m = subst (λ (p : Option A). MatchOption p P Q) is m
 
 pub at_none : {A : Type 0} (o : Option A) (P : Type 0) (Q : A → Type 0) → o ≡ None → MatchOption o P Q → P
 at_none {A} o P Q is m = subst (λ (p : Option A). MatchOption p P Q) is m
-
-pub if_some : {A : Type 0} (o : Option A) (x : A) (Q : A → Type 0) → o ≡ Some x → IfSome o Q → Q x
-if_some {A} o x Q is m = subst (λ (p : Option A). IfSome p Q) is m
 
 -- ---- items
 

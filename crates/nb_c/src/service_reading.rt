@@ -131,6 +131,15 @@ fn read(payload: &[u8]) -> Result<NbtServiceHeader, Refusal>
     if payload.len() <= SHORT_PACKET {
         return judge(&NameReader::of(payload, &mut []));
     }
+    read_long(payload)
+}
+
+/// The same of a payload that may have many names. It is out of line, so that others don't pay for
+/// its stack.
+#[inline(never)]
+fn read_long(payload: &[u8]) -> Result<NbtServiceHeader, Refusal>
+    ensures { Alone NbtServiceHeader (ReadsPacket payload.now) result }
+{
     let mut ends = [0; POINTED_OFFSETS];
     judge(&NameReader::of(payload, &mut ends))
 }

@@ -121,27 +121,33 @@ pub extern "C" fn nbt_service_read(
     ensures { Fills NbtServiceHeader (ReadsPacket payload.now)
         header.old header.new at.old at.new result }
 {
-    fill(read(payload), header, at)
-}
-
-/// The header and the length of the packet at the front of a payload.
-fn read(payload: &[u8]) -> Result<NbtServiceHeader, Refusal>
-    ensures { Alone NbtServiceHeader (ReadsPacket payload.now) result }
-{
     if payload.len() <= SHORT_PACKET {
-        return judge(&NameReader::of(payload, &mut []));
+        return fill_packet(&NameReader::of(payload, &mut []), header, at);
     }
-    read_long(payload)
+    read_long(payload, header, at)
 }
 
 /// The same of a payload that may have many names. It is out of line, so that others don't pay for
 /// its stack.
 #[inline(never)]
-fn read_long(payload: &[u8]) -> Result<NbtServiceHeader, Refusal>
-    ensures { Alone NbtServiceHeader (ReadsPacket payload.now) result }
+fn read_long(payload: &[u8], header: &mut NbtServiceHeader, at: &mut usize) -> u32
+    ensures { Fills NbtServiceHeader (ReadsPacket payload.now)
+        header.old header.new at.old at.new result }
 {
     let mut ends = [0; POINTED_OFFSETS];
-    judge(&NameReader::of(payload, &mut ends))
+    fill_packet(&NameReader::of(payload, &mut ends), header, at)
+}
+
+/// Fills in the header and the length of the packet whose names are read so.
+fn fill_packet(
+    names: &NameReader<'_, '_>,
+    header: &mut NbtServiceHeader,
+    at: &mut usize,
+) -> u32
+    ensures { Fills NbtServiceHeader (ReadsPacket names.now)
+        header.old header.new at.old at.new result }
+{
+    fill(judge(names), header, at)
 }
 
 /// The header and the length of the packet whose names are read so.

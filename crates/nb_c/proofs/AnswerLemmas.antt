@@ -4,7 +4,7 @@ use Rattle.std.specs.Prelude.{IfOk}
 use Rattle.nb_names.specs.declared.bytes.NoMemory.{NoMemory}
 use Rattle.nb_c.specs.declared.refusal.Refusal.{Refusal}
 use Rattle.nb_c.specs.declared.refusal.Refusal.TheVariants.{Memory, Fault, FaultAt}
-use Rattle.nb_c.specs.Outputs.{Alone, Answers, Does, HasOne, Lent, MayLack, OrMemory, Filled, Fills, FillsOrLacks, all_late, of_memory}
+use Rattle.nb_c.specs.Outputs.{Alone, Answers, Does, HasOne, Lent, MayLack, OrMemory, Ends, Filled, FilledAlone, Fills, FillsOrLacks, all_late, of_memory}
 
 module _ (late : ℕ → Bool) (Says : Result (List ℕ) Refusal → Type 0) (one : HasOne Says) (old new : Lent) (status : ℕ) where
   told : (answer : Result (List ℕ) Refusal) → Says answer → Answers answer old new status
@@ -58,6 +58,12 @@ fills A Says answer old new at at' status j h = record {
   some = (answer, j.said, h);
   only = λ other said. subst (λ (told : Result A Refusal). Filled A told old new at at' status) (sym (j.only other said)) h;
 }
+
+-- what is filled in already, or refused
+pub finishes : (A : Type 0) (Says : Result A Refusal → Type 0) (answer : Result Unit Refusal) (old new : A) (at at' status : ℕ)
+    → FilledAlone A Says old new answer → Ends answer at at' status → Fills A Says old new at at' status
+finishes A Says (Ok done) old new at at' status j h = fills A Says (Ok new) old new at at' status j (refl, h.0, h.1)
+finishes A Says (Err refusal) old new at at' status j h = fills A Says (Err refusal) old new at at' status j.0 (j.1, h.0, h.1)
 
 module _ (A : Type 0) (late : ℕ → Bool) (Says : Result A Refusal → Type 0) (one : HasOne Says) (old new : A) (at at' status : ℕ) where
   filled : (answer : Result A Refusal) → Says answer → Filled A answer old new at at' status

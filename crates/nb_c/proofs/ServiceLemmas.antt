@@ -1,19 +1,23 @@
 -- A payload of port 137 has one answer for its header, for its packet, and for each item.
 use Rattle.std.proofs.Common.{◌≡◌, ◌∙◌, ℕ, ◌<◌, ◌≤◌, List, length, Option, Some, None, Result, Ok, Err, refl, ap, sym, subst, arith}
-use Rattle.std.specs.Prelude.{IfSome, MatchOption}
+use Rattle.std.specs.Prelude.{MatchOption}
+use Rattle.nb_names.specs.declared.pointers.Pointers.TheVariants.{Followed}
+use Rattle.nb_names.specs.Labels.{NameAt}
 use Rattle.nb_service.specs.declared.extent.Extent.{Extent}
 use Rattle.nb_service.specs.declared.fault.ServiceFault.{ServiceFault}
 use Rattle.nb_service.specs.declared.fault.ServiceFault.TheVariants.{Truncated}
+use Rattle.nb_service.specs.declared.fields.Fields.{Fields}
 use Rattle.nb_service.specs.declared.limits.TheConstants.{HEADER_LENGTH}
+use Rattle.nb_service.specs.declared.section.Section.{Section}
 use Rattle.nb_service.specs.Header.{PacketHeader, HasHeader}
-use Rattle.nb_service.specs.Items.{PacketItem, ItemAt, ItemFails, question_fails, record_fails, IsExtent}
+use Rattle.nb_service.specs.Items.{PacketItem, name_of, ItemAt, question_there, record_there, ItemFails, question_fails, record_fails, IsExtent}
 use Rattle.nb_service.specs.Packet.{ServicePacket, IsPacket, HasOutline}
 use Rattle.nb_service.specs.ServiceFaults.{PacketFails, item_count}
 use Rattle.nb_c.specs.declared.refusal.Refusal.{Refusal}
 use Rattle.nb_c.specs.declared.service_reading.NbtServiceHeader.{NbtServiceHeader}
 use Rattle.nb_c.specs.declared.service_reading.NbtServiceItem.{NbtServiceItem}
 use Rattle.nb_c.specs.Outputs.{Alone}
-use Rattle.nb_c.specs.Services.{ReadsHeader, ReadsPacket, ReadsItem, headless, uncounted, fails, stands, header_numbers, item_numbers, cut_header}
+use Rattle.nb_c.specs.Services.{ReadsHeader, ReadsPacket, ReadsItem, headless, uncounted, fails, stands, header_numbers, section_number, numbers, item_numbers, cut_header}
 use Rattle.nb_c.specs.Statuses.{service_refusal}
 
 -- a payload has one header
@@ -71,9 +75,6 @@ at_some {A} o x P Q is m = subst (λ (p : Option A). MatchOption p P Q) is m
 pub at_none : {A : Type 0} (o : Option A) (P : Type 0) (Q : A → Type 0) → o ≡ None → MatchOption o P Q → P
 at_none {A} o P Q is m = subst (λ (p : Option A). MatchOption p P Q) is m
 
-pub if_some : {A : Type 0} (o : Option A) (x : A) (Q : A → Type 0) → o ≡ Some x → IfSome o Q → Q x
-if_some {A} o x Q is m = subst (λ (p : Option A). IfSome p Q) is m
-
 -- ---- items
 
 -- at an offset stands one item of a number, or it has one fault
@@ -87,6 +88,19 @@ pub record ItemLaws (payload : List ℕ) : Type 0 where
 fails_counted : (payload : List ℕ) (h : PacketHeader) (k at : ℕ) (f : ServiceFault) → ItemFails payload h k at f → k < item_count h
 fails_counted payload h k at f (question_fails low t) = omega (arith, low)
 fails_counted payload h k at f (record_fails late low t) = low
+
+-- where an item stands, its name does
+pub item_named : (payload : List ℕ) (h : PacketHeader) (k at : ℕ) (a : PacketItem) (n : ℕ) → ItemAt payload h k at a n
+    → (after : ℕ) × NameAt payload Followed at (name_of a) after
+item_named payload h k at a n (question_there q m low there) = (there.after, there.name)
+item_named payload h k at a n (record_there s e m is there) = (there.after, there.name)
+
+-- the same section and fields are the same numbers
+pub same_numbers : (s t : Option Section) (f g : Fields) (number : ℕ) (labels : List (List ℕ)) → number ≡ section_number s → s ≡ t → f ≡ g
+    → numbers number f labels ≡ numbers (section_number t) g labels
+same_numbers s t f g number labels is section fields =
+    let found = is ∙ ap section_number section in
+    λ i. numbers (found i) (fields i) labels
 
 module _ (payload : List ℕ) (headers : HeaderLaws payload) (laws : ItemLaws payload) (k at : ℕ) where
   same_count : (h g : PacketHeader) → HasHeader payload h → HasHeader payload g → item_count h ≡ item_count g

@@ -41,6 +41,10 @@ Tells bytes (Ok text) =
     (name : NetbiosName) × IsName name × NameAt bytes Refused 0 (labels_of_name name) (length bytes) × (text ≡ written name)
 Tells bytes (Err refusal) = IsNoSpelling bytes refusal
 
--- the spelling of labels, at the front of as many bytes of zero as the longest has
+-- a spelling, at the front of as many bytes of zero as the longest has
+abbrev pub in_place : List ℕ → List ℕ
+in_place spelled = spelled ++ drop (length spelled) (replicate MAX_SPELLING 0)
+
+-- that of labels
 abbrev pub spelled_in_place : List (List ℕ) → List ℕ
-spelled_in_place labels = spelling labels ++ drop (length (spelling labels)) (replicate MAX_SPELLING 0)
+spelled_in_place labels = in_place (spelling labels)

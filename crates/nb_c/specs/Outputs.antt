@@ -95,6 +95,17 @@ Filled A (Ok value) old new at at' status = (new ≡ value) × (at' ≡ at) × (
 Filled A (Err refusal) old new at at' status =
     (new ≡ old) × (at' ≡ at_refused refusal at) × (status ≡ refused_status refusal)
 
+-- FilledAlone A Says old new answer: what alone is said is filled in, or is this refusal, of which all is as it was
+abbrev pub FilledAlone : (A : Type 0) → (Result A Refusal → Type 0) → A → A → Result Unit Refusal → Type 0
+FilledAlone A Says old new (Ok _) = Alone A Says (Ok new)
+FilledAlone A Says old new (Err refusal) = Alone A Says (Err refusal) × (new ≡ old)
+
+-- Ends answer at at' status: a call that has filled in what it reads, or has this refusal, leaves the place so, and has
+-- this status
+abbrev pub Ends : Result Unit Refusal → ℕ → ℕ → ℕ → Type 0
+Ends (Ok _) at at' status = (at' ≡ at) × (status ≡ DONE)
+Ends (Err refusal) at at' status = (at' ≡ at_refused refusal at) × (status ≡ refused_status refusal)
+
 -- Fills A Says old new at at' status: a call fills in what is said, and whatever is said is what it fills in
 pub record Fills (A : Type 0) (Says : Result A Refusal → Type 0) (old new : A) (at at' status : ℕ) : Type 0 where
   pub some : (answer : Result A Refusal) × Says answer × Filled A answer old new at at' status

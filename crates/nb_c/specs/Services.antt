@@ -1,15 +1,16 @@
 -- What the calls that read payloads of port 137 answer (RFC 1002 section 4.2.1). Places and lengths are in bytes of the
 -- payload.
-use Rattle.std.specs.Prelude.{◌≡◌, ℕ, ◌-◌, ◌<◌, ◌≤◌, List, length, is_some, Result, Ok, Err, if◌then◌else◌}
+use Rattle.std.specs.Prelude.{◌≡◌, ℕ, ◌-◌, ◌<◌, ◌≤◌, List, length, is_some, Option, Some, None, Result, Ok, Err, if◌then◌else◌}
 use Rattle.nb_names.specs.DomainName.{spelling}
 use Rattle.nb_names.specs.NameText.{name_of_labels}
 use Rattle.nb_service.specs.declared.extent.Extent.{Extent}
 use Rattle.nb_service.specs.declared.fault.ServiceFault.{ServiceFault}
+use Rattle.nb_service.specs.declared.fields.Fields.{Fields}
 use Rattle.nb_service.specs.declared.limits.TheConstants.{HEADER_LENGTH}
 use Rattle.nb_service.specs.declared.section.Section.{Section}
 use Rattle.nb_service.specs.declared.section.Section.TheVariants.{Answer, Authority, Additional}
 use Rattle.nb_service.specs.Header.{PacketHeader, HasHeader}
-use Rattle.nb_service.specs.Items.{PacketItem, asked, told, ItemAt, ItemFails, IsExtent}
+use Rattle.nb_service.specs.Items.{PacketItem, section_of, fields_of, name_of, ItemAt, ItemFails, IsExtent}
 use Rattle.nb_service.specs.Packet.{HasOutline}
 use Rattle.nb_service.specs.ServiceFaults.{PacketFails, item_count}
 use Rattle.nb_c.specs.declared.refusal.Refusal.{Refusal}
@@ -51,26 +52,27 @@ ReadsPacket payload (Err refusal) = (fault : ServiceFault) × PacketFails payloa
 
 -- ---- items
 
--- the number of a section: 0 is that of questions
-abbrev pub section_number : Section → ℕ
-section_number Answer = 1
-section_number Authority = 2
-section_number Additional = 3
+-- the number of a section: that of questions, which are in none, is 0
+abbrev pub section_number : Option Section → ℕ
+section_number None = 0
+section_number (Some Answer) = 1
+section_number (Some Authority) = 2
+section_number (Some Additional) = 3
 
 -- whether the labels are a NetBIOS name's, as a number
 abbrev pub netbios_number : List (List ℕ) → ℕ
 netbios_number labels = if is_some (name_of_labels labels) then 1 else 0
 
--- numbers section time_to_live kind class labels extent: what is answered of an item with this name, which reaches so far
-abbrev pub numbers : ℕ → ℕ → ℕ → ℕ → List (List ℕ) → Extent → NbtServiceItem
-numbers section time_to_live kind class labels extent = record {
+-- numbers section fields labels: what is answered of an item with these fields and this name
+abbrev pub numbers : ℕ → Fields → List (List ℕ) → NbtServiceItem
+numbers section fields labels = record {
   section = section;
-  time_to_live = time_to_live;
-  kind = kind;
-  class = class;
-  contents = extent.rdata;
-  contents_length = extent.next - extent.rdata;
-  next = extent.next;
+  time_to_live = fields.ttl;
+  kind = fields.kind;
+  class = fields.class;
+  contents = fields.extent.rdata;
+  contents_length = fields.extent.next - fields.extent.rdata;
+  next = fields.extent.next;
   netbios = netbios_number labels;
   name_length = length (spelling labels);
   name = spelled_in_place labels;
@@ -78,9 +80,7 @@ numbers section time_to_live kind class labels extent = record {
 
 -- item_numbers item extent: an item's fields, and where its parts stand
 abbrev pub item_numbers : PacketItem → Extent → NbtServiceItem
-item_numbers (asked question) extent = numbers 0 0 question.kind question.class question.name extent
-item_numbers (told section entry) extent =
-    numbers (section_number section) entry.ttl entry.kind entry.class entry.name extent
+item_numbers item extent = numbers (section_number (section_of item)) (fields_of item extent) (name_of item)
 
 -- ReadsItem payload number at answer: this is answered of the item of this number, where it is said to stand at this offset:
 -- the payload has no header; its header counts no such item; none stands whole there, and why; or what stands there

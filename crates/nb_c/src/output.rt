@@ -1,6 +1,6 @@
 //! What a call writes for its caller. Nothing else writes to a buffer.
 ghost use Rattle.std.specs.Prelude.{◌≡◌, length};
-ghost use Rattle.nb_c.specs.Outputs.{put_into, put_status, at_refused, refused_status, of_memory, Answers, Filled};
+ghost use Rattle.nb_c.specs.Outputs.{put_into, put_status, at_refused, refused_status, of_memory, Answers, Ends, Filled};
 
 use crate::refusal::Refusal;
 use crate::statuses::{DONE, NO_MEMORY, NO_ROOM};
@@ -83,6 +83,16 @@ pub(crate) fn fill<T: Copy>(answer: Result<T, Refusal>, into: &mut T, at: &mut u
             *into = value;
             DONE
         }
+        Err(refusal) => refuse(refusal, at),
+    }
+}
+
+/// Ends a call that has filled in what it reads, or says where the fault stands.
+pub(crate) fn finish(answer: Result<(), Refusal>, at: &mut usize) -> u32
+    ensures { Ends answer at.old at.new result }
+{
+    match answer {
+        Ok(()) => DONE,
         Err(refusal) => refuse(refusal, at),
     }
 }

@@ -1,22 +1,24 @@
 //! Payloads of the name service, read.
-ghost use Rattle.std.specs.Prelude.{◌≡◌};
+ghost use Rattle.std.specs.Prelude.{◌≡◌, ◌++◌, ℕ, List};
 ghost use Rattle.nb_c.specs.declared.service_reading.NbtServiceHeader.{NbtServiceHeader};
 ghost use Rattle.nb_c.specs.declared.service_reading.NbtServiceItem.{NbtServiceItem};
-ghost use Rattle.nb_c.specs.Outputs.{Alone, Fills};
-ghost use Rattle.nb_c.specs.Services.{ReadsHeader, ReadsItem, ReadsPacket, header_numbers, item_numbers, netbios_number, numbers, section_number};
+ghost use Rattle.nb_c.specs.Outputs.{Alone, FilledAlone, Fills};
+ghost use Rattle.nb_c.specs.Services.{ReadsHeader, ReadsItem, ReadsPacket, header_numbers, netbios_number, numbers, section_number};
+ghost use Rattle.nb_names.specs.declared.pointers.Pointers.TheVariants.{Followed};
+ghost use Rattle.nb_names.specs.DomainName.{spelling};
+ghost use Rattle.nb_names.specs.Labels.{NameAt};
+ghost use Rattle.nb_names.specs.NameText.{are_letters};
 ghost use Rattle.nb_service.specs.Header.{HasHeader, header_value};
-ghost use Rattle.nb_service.specs.Items.{item_of};
 
-use crate::output::fill;
+use crate::output::{fill, finish};
 use crate::refusal::{Refusal, service_refusal};
-use crate::spellings::spelled_in_place;
+use crate::spellings::spell_domain;
 use crate::statuses::NO_ITEM;
-use nb_names::limits::{MAX_SPELLING, POINTED_OFFSETS};
-use nb_names::{DomainName, Name, NameReader};
+use nb_names::limits::{LETTERS, MAX_SPELLING, POINTED_OFFSETS};
+use nb_names::NameReader;
 use nb_service::laws::{one_header, one_item, one_packet, one_service_fault};
 use nb_service::limits::{HEADER_LENGTH, SHORT_PACKET};
-use nb_service::{Extent, Header, Item, Section, outline, read_header, read_item};
-use nb_text::laws::labels_of_one_name;
+use nb_service::{Fields, Header, Section, outline, read_fields, read_header};
 
 /// The header of a packet of the name service, and how many bytes there are of what was read.
 #[repr(C)]
@@ -119,18 +121,33 @@ pub extern "C" fn nbt_service_read(
     ensures { Fills NbtServiceHeader (ReadsPacket payload.now)
         header.old header.new at.old at.new result }
 {
-    fill(read(payload), header, at)
+    if payload.len() <= SHORT_PACKET {
+        return fill_packet(&NameReader::of(payload, &mut []), header, at);
+    }
+    read_long(payload, header, at)
 }
 
-/// The header and the length of the packet at the front of a payload.
-fn read(payload: &[u8]) -> Result<NbtServiceHeader, Refusal>
-    ensures { Alone NbtServiceHeader (ReadsPacket payload.now) result }
+/// The same of a payload that may have many names. It is out of line, so that others don't pay for
+/// its stack.
+#[inline(never)]
+fn read_long(payload: &[u8], header: &mut NbtServiceHeader, at: &mut usize) -> u32
+    ensures { Fills NbtServiceHeader (ReadsPacket payload.now)
+        header.old header.new at.old at.new result }
 {
-    if payload.len() <= SHORT_PACKET {
-        return judge(&NameReader::of(payload, &mut []));
-    }
     let mut ends = [0; POINTED_OFFSETS];
-    judge(&NameReader::of(payload, &mut ends))
+    fill_packet(&NameReader::of(payload, &mut ends), header, at)
+}
+
+/// Fills in the header and the length of the packet whose names are read so.
+fn fill_packet(
+    names: &NameReader<'_, '_>,
+    header: &mut NbtServiceHeader,
+    at: &mut usize,
+) -> u32
+    ensures { Fills NbtServiceHeader (ReadsPacket names.now)
+        header.old header.new at.old at.new result }
+{
+    fill(judge(names), header, at)
 }
 
 /// The header and the length of the packet whose names are read so.
@@ -161,105 +178,115 @@ pub extern "C" fn nbt_service_item(
     ensures { Fills NbtServiceItem (ReadsItem payload.now number place)
         item.old item.new at.old at.new result }
 {
-    fill(item_at(payload, number as usize, place), item, at)
+    finish(fill_item(payload, number as usize, place, item), at)
 }
 
-/// The item of a number that stands at an offset of a payload.
-fn item_at(payload: &[u8], number: usize, place: usize) -> Result<NbtServiceItem, Refusal>
-    ensures { Alone NbtServiceItem (ReadsItem payload.now number place) result }
+/// Fills in the item of a number that stands at an offset of a payload.
+fn fill_item(
+    payload: &[u8],
+    number: usize,
+    place: usize,
+    into: &mut NbtServiceItem,
+) -> Result<(), Refusal>
+    ensures { FilledAlone NbtServiceItem (ReadsItem payload.now number place)
+        into.old into.new result }
 {
     // For the clause: a payload has one header at most, and one item there. The calls do nothing.
     one_header();
     one_item();
     match read_header(payload) {
-        Ok(header) => item_of(&NameReader::of(payload, &mut []), &header, number, place),
+        Ok(header) => fill_item_of(
+            &NameReader::of(payload, &mut []),
+            &header,
+            number,
+            place,
+            into,
+        ),
         Err(fault) => Err(service_refusal(fault)),
     }
 }
 
-/// The item of a number that stands at an offset of a packet of this header.
-fn item_of(
+/// Fills in the item of a number that stands at an offset of a packet of this header.
+fn fill_item_of(
     names: &NameReader<'_, '_>,
     header: &Header,
     number: usize,
     place: usize,
-) -> Result<NbtServiceItem, Refusal>
+    into: &mut NbtServiceItem,
+) -> Result<(), Refusal>
     requires { HasHeader names.now (header_value header.now) }
-    ensures { Alone NbtServiceItem (ReadsItem names.now number place) result }
+    ensures { FilledAlone NbtServiceItem (ReadsItem names.now number place)
+        into.old into.new result }
 {
     // For the clause: a payload has one header at most, and one item there. The calls do nothing.
     one_header();
     one_item();
-    match read_item(names, header, number, place) {
-        Ok(Some((item, extent))) => Ok(item_numbers(&item, extent)),
+    match read_fields(names, header, number, place) {
+        Ok(Some((section, fields))) => {
+            fill_numbers(section_number(section), fields, names, place, into);
+            Ok(())
+        }
         Ok(None) => Err(Refusal::Fault(NO_ITEM)),
         Err(fault) => Err(service_refusal(fault)),
     }
 }
 
-/// The numbers of an item that reaches so far.
-fn item_numbers(item: &Item<'_>, extent: Extent) -> NbtServiceItem
-    ensures { result ≡ item_numbers (item_of item.now) extent }
-{
-    match item {
-        Item::Question(question) => {
-            numbers(0, 0, question.kind, question.class, &question.name, extent)
-        }
-        Item::Record(section, record) => numbers(
-            section_number(*section),
-            record.ttl(),
-            record.kind(),
-            record.class(),
-            record.name(),
-            extent,
-        ),
-    }
-}
-
-/// The number of a section.
-fn section_number(section: Section) -> u32
+/// The number of a section; that of questions, which are in none, is 0.
+fn section_number(section: Option<Section>) -> u32
     ensures { result ≡ section_number section }
 {
     match section {
-        Section::Answer => 1,
-        Section::Authority => 2,
-        Section::Additional => 3,
+        None => 0,
+        Some(Section::Answer) => 1,
+        Some(Section::Authority) => 2,
+        Some(Section::Additional) => 3,
     }
 }
 
-/// These numbers, with the name and the places of an item.
-fn numbers(
+/// Fills in these fields, and the name that stands at an offset of a packet.
+fn fill_numbers(
     section: u32,
-    time_to_live: u32,
-    kind: u16,
-    class: u16,
-    domain: &DomainName,
-    extent: Extent,
-) -> NbtServiceItem
-    ensures { result ≡ numbers section time_to_live kind class domain.now extent }
+    fields: Fields,
+    names: &NameReader<'_, '_>,
+    place: usize,
+    into: &mut NbtServiceItem,
+)
+    ensures { (labels : List (List ℕ)) (after : ℕ) →
+        NameAt names.now Followed place labels after → into.new ≡ numbers section fields labels }
 {
-    NbtServiceItem {
-        section,
-        time_to_live,
-        kind,
-        class,
-        contents: extent.rdata,
-        contents_length: extent.next.saturating_sub(extent.rdata),
-        next: extent.next,
-        netbios: netbios_number(domain),
-        name_length: domain.spelled_len() as u8,
-        name: spelled_in_place(domain),
+    into.section = section;
+    into.time_to_live = fields.ttl;
+    into.kind = fields.kind;
+    into.class = fields.class;
+    into.contents = fields.extent.rdata;
+    into.contents_length = fields.extent.next.saturating_sub(fields.extent.rdata);
+    into.next = fields.extent.next;
+    into.name_length = spell_domain(names, place, &mut into.name) as u8;
+    into.netbios = netbios_number(&into.name);
+}
+
+/// 1 where the bytes begin with the spelling of a NetBIOS name, 0 where with that of others.
+fn netbios_number(bytes: &[u8; MAX_SPELLING]) -> u8
+    ensures { (labels : List (List ℕ)) (rest : List ℕ) → bytes.now ≡ spelling labels ++ rest →
+        result ≡ netbios_number labels }
+{
+    if bytes[0] as usize == LETTERS && are_letters(&bytes[1..LETTERS + 1]) {
+        1
+    } else {
+        0
     }
 }
 
-/// 1 for the labels of a NetBIOS name, 0 for others.
-fn netbios_number(domain: &DomainName) -> u8
-    ensures { result ≡ netbios_number domain.now }
+/// Whether a label is the letters of a name's sixteen bytes. All are looked at, many at a time.
+fn are_letters(label: &[u8]) -> bool
+    ensures { result ≡ are_letters label.now }
 {
-    // For the clause; the call does nothing.
-    labels_of_one_name();
-    match Name::from_domain(domain) {
-        Ok(_) => 1,
-        Err(_) => 0,
+    if label.len() != LETTERS {
+        return false;
     }
+    let mut good = true;
+    'letters: for letter in label {
+        good = good & (letter.wrapping_sub(b'A') < 16);
+    }
+    good
 }

@@ -3,9 +3,10 @@
 --
 -- Our choice: of bytes that begin with no packet the items are those that stand whole, one after another, before the first
 -- that doesn't.
-use Rattle.std.specs.Prelude.{◌≡◌, ℕ, ◌+◌, ◌<◌, ◌≤◌, List, [], ◌∷◌, ◌++◌, length, map}
+use Rattle.std.specs.Prelude.{◌≡◌, ℕ, ◌+◌, ◌<◌, ◌≤◌, List, [], ◌∷◌, ◌++◌, length, map, Option, Some, None}
 use Rattle.nb_service.specs.declared.extent.Extent.{Extent}
 use Rattle.nb_service.specs.declared.fault.ServiceFault.{ServiceFault}
+use Rattle.nb_service.specs.declared.fields.Fields.{Fields}
 use Rattle.nb_service.specs.declared.item.Item.{Item}
 use Rattle.nb_service.specs.declared.item.Item.TheVariants as declared
 use Rattle.nb_service.specs.declared.limits.TheConstants.{HEADER_LENGTH}
@@ -26,6 +27,29 @@ pub data PacketItem : Type 0 where
 abbrev pub item_of : Item → PacketItem
 item_of (declared.Question question) = asked question
 item_of (declared.Record section entry) = told section entry
+
+-- the section of a record; a question has none
+abbrev pub section_of : PacketItem → Option Section
+section_of (asked question) = None
+section_of (told section entry) = Some section
+
+-- the name of an item
+abbrev pub name_of : PacketItem → List (List ℕ)
+name_of (asked question) = question.name
+name_of (told section entry) = entry.name
+
+-- question_fields question extent: what stands in it beside its name, where it reaches so far
+abbrev pub question_fields : Question → Extent → Fields
+question_fields question extent = record { kind = question.kind; class = question.class; ttl = 0; extent = extent }
+
+-- record_fields entry extent: what stands in it beside its name and its RDATA, where it reaches so far
+abbrev pub record_fields : ResourceRecord → Extent → Fields
+record_fields entry extent = record { kind = entry.kind; class = entry.class; ttl = entry.ttl; extent = extent }
+
+-- those of an item
+abbrev pub fields_of : PacketItem → Extent → Fields
+fields_of (asked question) = question_fields question
+fields_of (told section entry) = record_fields entry
 
 -- IsRecordOf header number section: by the counts of the header the item of this number is a record of this section
 abbrev pub IsRecordOf : PacketHeader → ℕ → Section → Type 0
@@ -51,12 +75,16 @@ pub data ItemFails (packet : List ℕ) (header : PacketHeader) (number at : ℕ)
   record_fails : header.questions ≤ number → number < item_count header → RecordFails packet at fault
       → ItemFails packet header number at fault
 
+-- Reaches packet at entry extent: RDATA of this record, which stands at this offset, reaches from `extent.rdata` to `extent.next`
+abbrev pub Reaches : List ℕ → ℕ → ResourceRecord → Extent → Type 0
+Reaches packet at entry extent =
+    (size : ℕ) × RdataBegins packet at entry.kind size extent.rdata × (extent.next ≡ extent.rdata + size)
+
 -- IsExtent packet at item extent: of this item, which stands at this offset, RDATA reaches from `extent.rdata` to `extent.next`;
 -- a question has none
 abbrev pub IsExtent : List ℕ → ℕ → PacketItem → Extent → Type 0
 IsExtent packet at (asked question) extent = extent.rdata ≡ extent.next
-IsExtent packet at (told section entry) extent =
-    (size : ℕ) × RdataBegins packet at entry.kind size extent.rdata × (extent.next ≡ extent.rdata + size)
+IsExtent packet at (told section entry) extent = Reaches packet at entry extent
 
 -- ItemsAt packet header number at items next: from this offset on the items stand, one after another, of which the first
 -- has this number

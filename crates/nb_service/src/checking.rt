@@ -19,7 +19,8 @@ pub(crate) fn skip_questions(
 {
     let mut next = at;
     for _ in 0..count {
-        next = skip_question(names, next)?;
+        let fields = skip_question(names, next)?;
+        next = fields.extent.next;
     }
     Ok(next)
 }
@@ -35,7 +36,8 @@ pub(crate) fn skip_records(
 {
     let mut next = at;
     for _ in 0..count {
-        next = skip_record(names, next)?;
+        let fields = skip_record(names, next)?;
+        next = fields.extent.next;
     }
     Ok(next)
 }

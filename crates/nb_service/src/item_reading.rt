@@ -1,16 +1,18 @@
 //! Items of a packet, read one by one where they stand.
 ghost use Rattle.std.specs.Prelude.{◌≡◌, ◌≤◌, ℕ, length, IfOk, IfErr, IfSome, IsOkAnd, IsSomeAnd, MatchOption};
 ghost use Rattle.nb_service.specs.Header.{header_value};
-ghost use Rattle.nb_service.specs.Items.{IsExtent, IsRecordOf, ItemAt, ItemFails, PacketItem, item_of};
+ghost use Rattle.nb_service.specs.Items.{IsExtent, IsRecordOf, ItemAt, ItemFails, PacketItem, fields_of, item_of, section_of};
 ghost use Rattle.nb_service.specs.ServiceFaults.{item_count};
 
 use crate::extent::Extent;
 use crate::fault::ServiceFault;
+use crate::fields::Fields;
 use crate::header::Header;
 use crate::item::Item;
 use crate::laws::one_item;
 use crate::reading::{read_question, read_reaching_record};
 use crate::section::Section;
+use crate::skipping::{skip_question, skip_record};
 use nb_names::NameReader;
 
 /// The section of the record that is the item of a number; none past the last record.
@@ -80,4 +82,36 @@ pub fn read_item<'a>(
     };
     let (record, extent) = read_reaching_record(names, at)?;
     Ok(Some((Item::Record(section, record), extent)))
+}
+
+/// The section and the fields of the item that [`read_item`] reads, of a question no section. The
+/// item is judged whole, and its names aren't made.
+///
+/// # Errors
+///
+/// Those of [`read_item`].
+///
+/// RFC 1002 section 4.2.1.
+pub fn read_fields(
+    names: &NameReader<'_, '_>,
+    header: &Header,
+    number: usize,
+    at: usize,
+) -> Result<Option<(Option<Section>, Fields)>, ServiceFault>
+    ensures found { IfOk result (λ read. MatchOption read
+        (item_count (header_value header.now) ≤ number) (λ seen. (item : PacketItem)
+        × ItemAt names.now (header_value header.now) number at item seen.1.extent.next
+        × IsExtent names.now at item seen.1.extent
+        × (seen.0 ≡ section_of item) × (seen.1 ≡ fields_of item seen.1.extent))) }
+    ensures fault { IfErr result (ItemFails names.now (header_value header.now) number at) }
+{
+    if number < header.questions as usize {
+        let fields = skip_question(names, at)?;
+        return Ok(Some((None, fields)));
+    }
+    let Some(section) = section_of(header, number) else {
+        return Ok(None);
+    };
+    let fields = skip_record(names, at)?;
+    Ok(Some((Some(section), fields)))
 }

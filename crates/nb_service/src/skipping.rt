@@ -1,36 +1,40 @@
 //! Questions and records, judged where they stand in a packet, and not kept.
 ghost use Rattle.std.specs.Prelude.{◌≡◌, ◌+◌, ◌^◌, ◌<◌, ◌≤◌, length, IfOk, IfErr, OnOk};
-ghost use Rattle.nb_names.specs.DomainName.{AreBytes};
 ghost use Rattle.nb_service.specs.declared.question.Question.{Question as QuestionValue};
+ghost use Rattle.nb_service.specs.Items.{Reaches, question_fields, record_fields};
 ghost use Rattle.nb_service.specs.Packet.{QuestionAt, RdataAt, RecordAt};
 ghost use Rattle.nb_service.specs.Record.{ResourceData, ResourceRecord};
 ghost use Rattle.nb_service.specs.ServiceFaults.{QuestionFails, DomainFails, RecordFails};
 
+use crate::extent::Extent;
 use crate::fault::ServiceFault;
+use crate::fields::Fields;
 use crate::kinds::NS;
 use crate::reading::{QUESTION_FIELDS, RECORD_FIELDS};
-use nb_names::numbers::number_16;
+use nb_names::numbers::{number_16, number_32};
 use nb_names::{NameReader, Pointers};
 
-/// What the type of bytes says of each. It is proved; a call does nothing.
-fn each_is_a_byte(bytes: &[u8])
-    ensures { AreBytes bytes.now }
-{}
-
-/// The offset after the question that stands at an offset.
+/// The fields of the question that stands at an offset.
 #[inline(always)]
-pub(crate) fn skip_question(names: &NameReader<'_, '_>, at: usize) -> Result<usize, ServiceFault>
-    ensures found { IfOk result (λ next.
-        (question : QuestionValue) × QuestionAt names.now at question next) }
+pub(crate) fn skip_question(names: &NameReader<'_, '_>, at: usize) -> Result<Fields, ServiceFault>
+    ensures found { IfOk result (λ fields. (question : QuestionValue)
+        × QuestionAt names.now at question fields.extent.next
+        × (fields.extent.rdata ≡ fields.extent.next)
+        × (fields ≡ question_fields question fields.extent)) }
     ensures fault { IfErr result (QuestionFails names.now at) }
 {
     let packet = names.packet();
-    each_is_a_byte(packet);
     let after = names.skip_domain(at, Pointers::Followed)?;
     if packet.len() - after < QUESTION_FIELDS {
         return Err(ServiceFault::Truncated(packet.len()));
     }
-    Ok(after + QUESTION_FIELDS)
+    let next = after + QUESTION_FIELDS;
+    Ok(Fields {
+        kind: number_16(packet, after),
+        class: number_16(packet, after + 2),
+        ttl: 0,
+        extent: Extent { rdata: next, next },
+    })
 }
 
 /// Judges the RDATA of a record of a kind: the `size` bytes at `begin`.
@@ -57,15 +61,16 @@ fn check_rdata(
     Ok(())
 }
 
-/// The offset after the record that stands at an offset.
+/// The fields of the record that stands at an offset.
 #[inline(always)]
-pub(crate) fn skip_record(names: &NameReader<'_, '_>, at: usize) -> Result<usize, ServiceFault>
-    ensures found { IfOk result (λ next.
-        (entry : ResourceRecord) × RecordAt names.now at entry next) }
+pub(crate) fn skip_record(names: &NameReader<'_, '_>, at: usize) -> Result<Fields, ServiceFault>
+    ensures found { IfOk result (λ fields. (entry : ResourceRecord)
+        × RecordAt names.now at entry fields.extent.next
+        × Reaches names.now at entry fields.extent
+        × (fields ≡ record_fields entry fields.extent)) }
     ensures fault { IfErr result (RecordFails names.now at) }
 {
     let packet = names.packet();
-    each_is_a_byte(packet);
     let after = names.skip_domain(at, Pointers::Followed)?;
     if packet.len() - after < RECORD_FIELDS {
         return Err(ServiceFault::Truncated(packet.len()));
@@ -77,5 +82,13 @@ pub(crate) fn skip_record(names: &NameReader<'_, '_>, at: usize) -> Result<usize
         return Err(ServiceFault::Truncated(packet.len()));
     }
     check_rdata(names, begin, size, kind)?;
-    Ok(begin + size)
+    Ok(Fields {
+        kind,
+        class: number_16(packet, after + 2),
+        ttl: number_32(packet, after + 4),
+        extent: Extent {
+            rdata: begin,
+            next: begin + size,
+        },
+    })
 }

@@ -1,8 +1,8 @@
-use Rattle.std.proofs.Common.{length, ap, arith, subst}
+use Rattle.std.proofs.Common.{◌+◌, ℕ, List, length, refl, ap, arith, subst}
 use Rattle.std.proofs.lemmas.Result.{err_from_is_err_and}
-use Rattle.nb_names.specs.DomainName.{AreBytes}
+use Rattle.std.specs.Int.{w16}
+use Rattle.nb_names.specs.Numbers.{NumberAt}
 use Rattle.nb_service.specs.ServiceFaults.{question_name, question_cut}
-use Rattle.nb_service.proofs.TotalityLemmas.{are_small, question_there}
 use Rattle.nb_service.proofs.skipping.skip_question.Goals as goal
 
 pub returns-in_err-after-clause-fault : goal.returns-in_err-after-clause-fault
@@ -17,5 +17,13 @@ returns-then-packet-after-lt-QUESTION_FIELDS-clause-fault c =
 pub returns-clause-found : goal.returns-clause-found
 returns-clause-found c =
     let named = c.in_ok-after.ensures.found in
-    let each = are_small c.args.names.now (subst AreBytes c.packet-packet.ensures c.each_is_a_byte.ensures) in
-    question_there _ each _ _ named.0 named.1 (omega (arith, ap length c.packet-packet.ensures))
+    let same = c.packet-packet.ensures in
+    let after = c.in_ok-after.after in
+    (record { name = named.0; kind = c.number_16.result; class = c.number_16-2.result },
+    record {
+      after = after;
+      name = named.1;
+      kind = subst (λ (p : List ℕ). NumberAt p after w16 c.number_16.result) same c.number_16.ensures;
+      class = subst (λ (p : List ℕ). NumberAt p (after + 2) w16 c.number_16-2.result) same c.number_16-2.ensures;
+      end = refl;
+    }, refl, refl)

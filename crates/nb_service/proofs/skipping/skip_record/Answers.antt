@@ -1,12 +1,11 @@
 use Rattle.std.proofs.Common.{◌≡◌, ℕ, ◌+◌, List, length, refl, ap, subst, arith}
 use Rattle.std.proofs.lemmas.Result.{err_from_is_err_and}
-use Rattle.std.specs.Int.{w16}
+use Rattle.std.specs.Int.{w16, w32}
 use Rattle.nb_names.specs.declared.pointers.Pointers.TheVariants.{Followed}
-use Rattle.nb_names.specs.DomainName.{AreBytes}
 use Rattle.nb_names.specs.Labels.{NameAt}
 use Rattle.nb_names.specs.Numbers.{NumberAt}
 use Rattle.nb_service.specs.ServiceFaults.{RdataBegins, record_name, record_cut, rdata_cut, rdata_fails}
-use Rattle.nb_service.proofs.TotalityLemmas.{are_small, record_there}
+use Rattle.nb_service.specs.Record.{record_of}
 use Rattle.nb_service.proofs.skipping.skip_record.Goals as goal
 
 pub returns-in_err-after-clause-fault : goal.returns-in_err-after-clause-fault
@@ -51,10 +50,22 @@ pub returns-clause-found : goal.returns-clause-found
 returns-clause-found c =
     let named = c.in_ok-after.ensures.found in
     let rdata = c.in_ok-check_rdata.ensures.found in
-    let each = are_small c.args.names.now (subst AreBytes c.packet-packet.ensures c.each_is_a_byte.ensures) in
     let same = c.packet-packet.ensures in
     let after = c.in_ok-after.after in
-    record_there _ each _ _ _ _ named.0 named.1
-    (subst (λ (p : List ℕ). NumberAt p after w16 c.number_16-kind.result) same c.number_16-kind.ensures)
-    (subst (λ (p : List ℕ). NumberAt p (after + 8) w16 c.number_16-size.result) same c.number_16-size.ensures)
-    (omega (arith, ap length c.packet-packet.ensures)) rdata.0 rdata.1
+    let size = c.number_16-size.result in
+    let kind_there = subst (λ (p : List ℕ). NumberAt p after w16 c.number_16-kind.result) same c.number_16-kind.ensures in
+    let size_there = subst (λ (p : List ℕ). NumberAt p (after + 8) w16 size) same c.number_16-size.ensures in
+    (record_of named.0 c.number_16-kind.result c.number_16.result c.number_32.result rdata.0,
+    record {
+      after = after;
+      size = size;
+      name = named.1;
+      kind = kind_there;
+      class = subst (λ (p : List ℕ). NumberAt p (after + 2) w16 c.number_16.result) same c.number_16.ensures;
+      ttl = subst (λ (p : List ℕ). NumberAt p (after + 4) w32 c.number_32.result) same c.number_32.ensures;
+      rdlength = size_there;
+      whole = omega (arith, ap length same);
+      rdata = rdata.1;
+      end = refl;
+    },
+    (size, begins _ _ _ _ _ _ named.0 same named.1 c.number_16-kind.ensures c.number_16-size.ensures, refl), refl)

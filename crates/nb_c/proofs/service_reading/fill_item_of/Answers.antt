@@ -1,7 +1,8 @@
-use Rattle.nb_c.proofs.ServiceLemmas.{HeaderLaws, ItemLaws, at_none, at_some, if_some, item_read}
+use Rattle.std.proofs.Common.{◌∙◌, refl}
+use Rattle.nb_c.proofs.ServiceLemmas.{HeaderLaws, ItemLaws, at_none, at_some, item_named, same_numbers, item_read}
 use Rattle.nb_c.specs.Services.{uncounted, fails, stands}
 use Rattle.nb_service.specs.Header.{header_value}
-use Rattle.nb_c.proofs.service_reading.item_of.Goals as goal
+use Rattle.nb_c.proofs.service_reading.fill_item_of.Goals as goal
 
 pub returns-in-Ok-Some : goal.returns-in-Ok-Some
 returns-in-Ok-Some c =
@@ -9,19 +10,20 @@ returns-in-Ok-Some c =
     let laws : ItemLaws c.args.names.now =
     record { one = c.one_item.ensures.one _; apart = c.one_item.ensures.alone _; one_fault = c.one_item.ensures.one_fault _; counted = c.one_item.ensures.counted _; extent = c.one_item.ensures.extent _ } in
     let there = at_some _ _ _ _ c.in-Ok-Some.field-0-is c.in-Ok-Some.ensures.found in
-    let reaches = if_some _ _ _ c.in-Ok-Some.field-0-is c.in-Ok-Some.ensures.reaches in
-    rw c.item_numbers.ensures (item_read _ headers laws _ _ _ (stands (header_value c.args.header.now) _ _ c.requires there reaches))
+    let name = item_named _ _ _ _ there.0 _ there.1 in
+    let filled = c.fill_numbers.ensures _ name.0 name.1 ∙ same_numbers _ _ _ _ _ _ c.section_number.ensures there.3 there.4 in
+    rw filled (item_read _ headers laws _ _ _ (stands (header_value c.args.header.now) _ _ c.requires there.1 there.2))
 
 pub returns-in-Ok-None : goal.returns-in-Ok-None
 returns-in-Ok-None c =
     let headers : HeaderLaws c.args.names.now = record { one = c.one_header.ensures.one _; whole = c.one_header.ensures.whole _ } in
     let laws : ItemLaws c.args.names.now =
     record { one = c.one_item.ensures.one _; apart = c.one_item.ensures.alone _; one_fault = c.one_item.ensures.one_fault _; counted = c.one_item.ensures.counted _; extent = c.one_item.ensures.extent _ } in
-    item_read _ headers laws _ _ _ (uncounted (header_value c.args.header.now) c.requires (at_none _ _ _ c.in-Ok-None.field-0-is c.in-Ok-None.ensures.found))
+    (item_read _ headers laws _ _ _ (uncounted (header_value c.args.header.now) c.requires (at_none _ _ _ c.in-Ok-None.field-0-is c.in-Ok-None.ensures.found)), refl)
 
 pub returns-in-Err : goal.returns-in-Err
 returns-in-Err c =
     let headers : HeaderLaws c.args.names.now = record { one = c.one_header.ensures.one _; whole = c.one_header.ensures.whole _ } in
     let laws : ItemLaws c.args.names.now =
     record { one = c.one_item.ensures.one _; apart = c.one_item.ensures.alone _; one_fault = c.one_item.ensures.one_fault _; counted = c.one_item.ensures.counted _; extent = c.one_item.ensures.extent _ } in
-    rw c.service_refusal.ensures (item_read _ headers laws _ _ _ (fails (header_value c.args.header.now) _ c.requires c.in-Err.ensures.fault))
+    rw c.service_refusal.ensures (item_read _ headers laws _ _ _ (fails (header_value c.args.header.now) _ c.requires c.in-Err.ensures.fault), refl)

@@ -1,5 +1,5 @@
 //! When keys came.
-ghost use Rattle.std.specs.Prelude.{◌≡◌, true, false, not, cond, filter, Some, None, OnOk, OnErr};
+ghost use Rattle.std.specs.Prelude.{◌≡◌, false, not, filter, Some, IfOk, OnOk, OnErr};
 ghost use Rattle.std.specs.BTreeMap.{IsOrdered};
 ghost use Rattle.std.specs.FinMap as maps;
 ghost use Rattle.nb_datagram.specs.declared.key.Key.{Key};
@@ -7,11 +7,12 @@ ghost use Rattle.nb_datagram.specs.Key.{key_cmp};
 ghost use Rattle.nb_member.specs.Taking.{start_after};
 ghost use Rattle.nb_member.specs.Live.{is_over};
 ghost use Rattle.nb_member.specs.Member.{begun, lasts};
+ghost use Rattle.nb_member.specs.Code.Timers.{begun_each};
 
 use crate::limits::FRAGMENT_TIMEOUT;
 use nb_datagram::Key;
 use nb_names::NoMemory;
-use nb_table::{State, Table};
+use nb_table::Table;
 use std::alloc::Global;
 use std::collections::BTreeMap;
 use std::marker::Model;
@@ -75,12 +76,20 @@ impl Starts {
         Ok(())
     }
 
-    /// Keeps the moments of the keys that the table holds. No memory is taken.
-    pub fn keep_held(&mut self, table: &Table)
-        ensures { (k : Key) → maps.get self.new k
-            ≡ cond (maps.contains_key table.now.contents k) (maps.get self.old k) None }
+    /// A copy, in which the timers of this table's keys start at this moment, unless they run
+    /// already.
+    ///
+    /// # Errors
+    ///
+    /// `NoMemory` where memory ran out.
+    pub fn with_keys(&self, table: &Table, moment: u64) -> Result<Starts, NoMemory>
+        ensures { IfOk result (λ starts. (k : Key) →
+            maps.get starts k ≡ start_after self.now table.now.contents moment k) }
     {
-        retain_held(&mut self.moments, table);
+        let moments = self.moments.clone()?;
+        let mut starts = Starts { moments };
+        begin_each(&mut starts, table, moment)?;
+        Ok(starts)
     }
 
     /// Drops the keys whose timers have run out where the clock shows `now`, from the moments and
@@ -98,38 +107,14 @@ impl Starts {
 }
 
 /// Starts the timers of the table's keys at this moment, unless they run already.
-///
-/// # Errors
-///
-/// `NoMemory` where memory ran out. The timers of some of the keys are then started.
-pub fn begin_each(starts: &mut Starts, table: &Table, moment: u64) -> Result<(), NoMemory>
-    ensures begun { OnOk result ((k : Key) →
-        maps.get starts.new k ≡ start_after starts.old table.now.contents moment k) }
-    ensures kept { (k : Key) → maps.contains_key starts.old k ≡ true →
-        maps.get starts.new k ≡ maps.get starts.old k }
+fn begin_each(starts: &mut Starts, table: &Table, moment: u64) -> Result<(), NoMemory>
+    ensures { OnOk result
+        (starts.new ≡ begun_each starts.old (maps.keys table.now.contents) moment) }
 {
     for key in table.keys() {
         starts.begin(key, moment)?;
     }
     Ok(())
-}
-
-/// Whether the table holds a key.
-fn is_held(table: &Table, key: &Key) -> bool
-    ensures { result ≡ maps.contains_key table.now.contents key.now }
-{
-    match table.state(key) {
-        State::Absent => false,
-        State::Partial | State::Whole | State::Spoilt => true,
-    }
-}
-
-/// Keeps the moments of the keys that the table holds.
-fn retain_held(moments: &mut BTreeMap<Key, u64>, table: &Table)
-    ensures { moments.new.entries
-        ≡ filter (λ e. maps.contains_key table.now.contents e.0) moments.old.entries }
-{
-    moments.retain(|key, _start| is_held(table, key));
 }
 
 /// Whether the timer of a key with this start has run out where the clock shows `now`.

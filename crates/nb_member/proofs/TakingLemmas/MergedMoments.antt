@@ -1,9 +1,7 @@
 -- The moments of the keys of a table that another is merged into.
 use Rattle.std.proofs.Common.{◌≡◌, ℕ, Bool, true, false, cond, ◌||◌, List, [], ◌∷◌, map, Option, Some, None, is_some, refl, sym, ap, ◌∙◌}
 use Rattle.std.proofs.lemmas.Bool.{false≢true}
-use Rattle.std.specs.Prelude.{filter}
 use Rattle.std.specs.List.{list_any}
-use Rattle.std.specs.FinMap.Entries.{find-where_key}
 use Rattle.std.specs.FinMap as maps
 use Rattle.nb_datagram.specs.declared.key.Key.{Key}
 use Rattle.nb_datagram.specs.Key.{key_cmp, same_key}
@@ -51,12 +49,6 @@ begun_by false m k v q h = maps.get-insert key_cmp_total m k v q ∙ put_at m k 
 get-begun : (m : Moments) (k : Key) (v : ℕ) (q : Key)
     → maps.get (begun m k v) q ≡ first_of (maps.get m q) (cond (same_key q k) (Some v) None)
 get-begun m k v q = begun_by (maps.contains_key m k) m k v q refl
-
--- a moment stays where one is begun
-pub begun_keeps : (m new : Moments) (k : Key) (v : ℕ) → new ≡ begun m k v → (q : Key) → maps.contains_key m q ≡ true
-    → maps.get new q ≡ maps.get m q
-begun_keeps m new k v is q has =
-    ap (λ (n : Moments). maps.get n q) is ∙ get-begun m k v q ∙ sym (first_there (maps.get m q) (cond (same_key q k) (Some v) None) has)
 
 in_turn : (a : Option ℕ) (b c : Bool) (v : ℕ)
     → first_of (first_of a (cond b (Some v) None)) (cond c (Some v) None) ≡ first_of a (cond (b || c) (Some v) None)
@@ -110,27 +102,3 @@ one_set_merged t other m n moment h starts k =
     ∙ (start_there (maps.get m k) (maps.contains_key other k) moment
     ∙ (ap (λ (b : Bool). b || maps.contains_key other k) (h k)
     ∙ sym (ap is_some (get-joined key_cmp_total key_cmp_exact join_entry t other k) ∙ joined_there (maps.get t k) (maps.get other k))))
-
--- ---- where memory ran out
-
--- the moments of the keys that a table holds
-pub held_only : (t : Contents) (es kept : List (Key × ℕ)) → kept ≡ filter (λ (e : Key × ℕ). maps.contains_key t e.0) es → (q : Key)
-    → maps.get (maps.from_entries {R = key_cmp} kept) q ≡ cond (maps.contains_key t q) (maps.get (maps.from_entries {R = key_cmp} es) q) None
-held_only t es kept is q =
-    maps.get-from_entries key_cmp_total kept q
-    ∙ ap (maps.find key_cmp q) is
-    ∙ find-where_key key_cmp (maps.contains_key t) q (λ x e. ap (maps.contains_key t) (sym (key_cmp_exact q x e))) es
-    ∙ sym (ap (λ (o : Option ℕ). cond (maps.contains_key t q) o None) (maps.get-from_entries key_cmp_total es q))
-
-held_of : (a b : Option ℕ) → (is_some a ≡ true → b ≡ a) → cond (is_some a) b None ≡ a
-held_of None b h = refl
-held_of (Some x) b h = h refl
-
--- of moments to which some were added those that the table holds are what they were
-pub restored : (t : Contents) (m more new : Moments) → HaveOneSetOfKeys t m
-    → ((k : Key) → maps.contains_key m k ≡ true → maps.get more k ≡ maps.get m k)
-    → ((k : Key) → maps.get new k ≡ cond (maps.contains_key t k) (maps.get more k) None) → new ≡ m
-restored t m more new one kept held = maps.same_map key_cmp_total key_cmp_exact new m (λ q.
-    held q
-    ∙ sym (ap (λ (b : Bool). cond b (maps.get more q) None) (one q))
-    ∙ held_of (maps.get m q) (maps.get more q) (kept q))

@@ -1,11 +1,8 @@
-use Rattle.std.proofs.Common.{◌≡◌, true}
+use Rattle.std.proofs.Common.{◌≡◌}
 use Rattle.std.specs.FinMap as maps
-use Rattle.nb_datagram.specs.declared.key.Key.{Key}
 use Rattle.nb_member.proofs.starts.begin_each.Given as goal
 use Rattle.nb_member.specs.Code.Timers.{begun_each}
 
 abbrev pub invariant-loop-key : goal.invariant-loop-key
-invariant-loop-key l = record {
-  begun : begun_each l.starts l.key-iterator l.moment ≡ begun_each l.fn.starts (maps.keys l.table.contents) l.moment;
-  kept : (k : Key) → maps.contains_key l.fn.starts k ≡ true → maps.get l.starts k ≡ maps.get l.fn.starts k;
-}
+invariant-loop-key l =
+    begun_each l.starts l.key-iterator l.moment ≡ begun_each l.fn.starts (maps.keys l.table.contents) l.moment

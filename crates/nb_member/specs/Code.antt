@@ -2,6 +2,7 @@
 -- against the definitions by a contract.
 pub mod Timers
 pub mod Members
+pub mod Outcomes
 pub mod RunEvents
 pub mod ReplayLines
 pub mod LineSteps

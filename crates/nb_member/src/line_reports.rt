@@ -3,6 +3,7 @@ ghost use Rattle.std.specs.Prelude.{◌≡◌, ◌≢◌, List, true, false, Ok,
 ghost use Rattle.nb_member.specs.Capture.{Reads};
 ghost use Rattle.nb_member.specs.Code.ReplayLines.{ReportsLine, ReportsValue, MayReportLine, MayReportValue};
 ghost use Rattle.nb_member.specs.Code.Members.{KeepsStation};
+ghost use Rattle.nb_member.specs.Code.Outcomes.{answer_of};
 ghost use Rattle.nb_member.specs.Live.{Timed};
 ghost use Rattle.nb_member.specs.Member.{StandsOver};
 
@@ -11,7 +12,7 @@ use crate::laws;
 use crate::line::Line;
 use crate::member::Member;
 use crate::member_fault::MemberFault;
-use crate::outcome::Outcome;
+use crate::outcome::LentOutcome;
 use crate::report::{comment_line, dropped_line, passed_line, taken_line};
 use nb_names::NoMemory;
 use nb_table::TableFault;
@@ -117,17 +118,19 @@ fn take(
     ensures kept { KeepsStation member.old member.new }
 {
     laws::a_member_does_what_is_said();
-    let taken = member.take(moment, payload);
+    let taken = member.take_lent(moment, payload);
     if lacked_memory(&taken) {
         return Err(NoMemory);
     }
-    taken_line(alloc, number, &taken)
+    taken_line(alloc, number, taken)
 }
 
 /// Whether memory ran out where a payload was to be taken.
-fn lacked_memory(taken: &Result<Outcome, MemberFault>) -> bool
-    ensures lacked { result ≡ true → taken.now ≡ Err (MemberFault.Table TableFault.NoMemory) }
-    ensures had { result ≡ false → taken.now ≢ Err (MemberFault.Table TableFault.NoMemory) }
+fn lacked_memory(taken: &Result<LentOutcome<'_>, MemberFault>) -> bool
+    ensures lacked { result ≡ true
+        → answer_of taken.now ≡ Err (MemberFault.Table TableFault.NoMemory) }
+    ensures had { result ≡ false
+        → answer_of taken.now ≢ Err (MemberFault.Table TableFault.NoMemory) }
 {
     match taken {
         Ok(_) => false,

@@ -7,6 +7,7 @@ ghost use Rattle.nb_datagram.specs.Datagram.{datagram_by};
 ghost use Rattle.nb_entries.specs.Change.{made_by};
 ghost use Rattle.nb_member.specs.Taking.{Takes, TakesFragment, handed, outcome_of};
 ghost use Rattle.nb_member.specs.Code.Members.{MeetsFull, BeginsFull, limit_of};
+ghost use Rattle.nb_member.specs.Code.Outcomes.{made_of, answer_of};
 ghost use Rattle.nb_member.specs.declared.outcome.Outcome.{Outcome};
 ghost use Rattle.nb_member.specs.declared.run_report.RunStop.{RunStop};
 
@@ -14,11 +15,11 @@ mod absorbing;
 
 use crate::local_names::LocalNames;
 use crate::member_fault::MemberFault;
-use crate::outcome::{Dropped, Outcome};
+use crate::outcome::{Dropped, LentOutcome, Outcome};
 use crate::run_report::RunStop;
 use crate::settings::Settings;
 use crate::timed_table::TimedTable;
-use nb_datagram::{Datagram, LentFragment, LentPacket, UserData, decode_lent};
+use nb_datagram::{LentFragment, LentPacket, UserData, decode_lent};
 use nb_table::{Change, Handing, Table, TableFault};
 use std::alloc::Global;
 use std::marker::Model;
@@ -88,10 +89,25 @@ impl Member {
     pub fn take(&mut self, moment: u64, payload: &[u8]) -> Result<Outcome, MemberFault>
         ensures { Takes self.old moment payload.now self.new result }
     {
+        match self.take_lent(moment, payload) {
+            Ok(outcome) => Ok(outcome.made()),
+            Err(fault) => Err(fault),
+        }
+    }
+
+    /// Takes a payload as [`Member::take`] does. The names of a datagram that is handed over are
+    /// lent from the payload.
+    pub(crate) fn take_lent<'a>(
+        &mut self,
+        moment: u64,
+        payload: &'a [u8],
+    ) -> Result<LentOutcome<'a>, MemberFault>
+        ensures { Takes self.old moment payload.now self.new (answer_of result) }
+    {
         match decode_lent(payload) {
-            Ok((LentPacket::Direct(fragment), _)) => self.take_fragment(moment, &fragment),
-            Ok((LentPacket::Error(_), _)) => Ok(Outcome::Other),
-            Ok((LentPacket::Query(_), _)) => Ok(Outcome::Other),
+            Ok((LentPacket::Direct(fragment), _)) => self.take_fragment(moment, fragment),
+            Ok((LentPacket::Error(_), _)) => Ok(LentOutcome::Other),
+            Ok((LentPacket::Query(_), _)) => Ok(LentOutcome::Other),
             Err(fault) => Err(MemberFault::Packet(fault, self.settings.error_for(payload, fault))),
         }
     }
@@ -117,14 +133,14 @@ impl Member {
     }
 
     /// Takes a fragment that came at this moment.
-    fn take_fragment(
+    fn take_fragment<'a>(
         &mut self,
         moment: u64,
-        fragment: &LentFragment<'_>,
-    ) -> Result<Outcome, MemberFault>
-        ensures { TakesFragment self.old moment fragment.now self.new result }
+        fragment: LentFragment<'a>,
+    ) -> Result<LentOutcome<'a>, MemberFault>
+        ensures { TakesFragment self.old moment fragment.entry self.new (answer_of result) }
     {
-        let change = self.timed.insert(moment, fragment, Handing::Over)?;
+        let change = self.timed.insert(moment, &fragment, Handing::Over)?;
         Ok(outcome_of(&self.settings, &self.names, fragment, change))
     }
 
@@ -189,35 +205,35 @@ fn limit_of(refusal: Option<TableFault>) -> Option<RunStop>
 }
 
 /// What is answered where a fragment changed this at its key.
-fn outcome_of(
+fn outcome_of<'a>(
     settings: &Settings,
     names: &LocalNames,
-    fragment: &LentFragment<'_>,
+    fragment: LentFragment<'a>,
     change: Change<UserData>,
-) -> Outcome
-    ensures { result ≡ outcome_of settings.now names.now fragment.now.key
-        (made_by fragment.now change) }
+) -> LentOutcome<'a>
+    ensures { made_of result ≡ outcome_of settings.now names.now fragment.entry.key
+        (made_by fragment.entry change) }
 {
     match change {
-        Change::Spoilt => Outcome::Spoilt(fragment.key()),
+        Change::Spoilt => LentOutcome::Spoilt(fragment.key()),
         Change::Whole(bytes) => handed(settings, names, fragment, bytes),
-        Change::Same => Outcome::Kept(fragment.key()),
-        Change::Grown => Outcome::Kept(fragment.key()),
+        Change::Same => LentOutcome::Kept(fragment.key()),
+        Change::Grown => LentOutcome::Kept(fragment.key()),
     }
 }
 
 /// What is answered where a fragment's datagram became whole, with this data.
-fn handed(
+fn handed<'a>(
     settings: &Settings,
     names: &LocalNames,
-    fragment: &LentFragment<'_>,
+    fragment: LentFragment<'a>,
     bytes: UserData,
-) -> Outcome
-    ensures { result ≡ handed settings.now names.now fragment.now.key
-        (datagram_by fragment.now bytes) }
+) -> LentOutcome<'a>
+    ensures { made_of result ≡ handed settings.now names.now fragment.entry.key
+        (datagram_by fragment.entry bytes) }
 {
     if names.hears_as(fragment.kind(), fragment.destination()) {
-        return Outcome::Delivered(Datagram::of_fragment(fragment, bytes));
+        return LentOutcome::Delivered(fragment, bytes);
     }
-    Outcome::Unheard(fragment.key(), settings.unheard(fragment))
+    LentOutcome::Unheard(fragment.key(), settings.unheard(&fragment))
 }

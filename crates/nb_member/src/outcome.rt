@@ -1,6 +1,8 @@
 //! What a member answers to a payload, and to the clock.
+ghost use Rattle.std.specs.Prelude.{◌≡◌};
+ghost use Rattle.nb_member.specs.Code.Outcomes.{made_of};
 
-use nb_datagram::{Datagram, ErrorPacket, Key};
+use nb_datagram::{Datagram, ErrorPacket, Key, LentFragment, UserData};
 
 /// What became of a payload that a member took.
 #[derive(Drop)]
@@ -16,6 +18,34 @@ pub enum Outcome {
     Unheard(Key, Option<ErrorPacket>),
     /// It was an error or a query packet.
     Other,
+}
+
+/// An [`Outcome`] in whose datagram the names are lent from the payload, so that it takes a few
+/// words: the fragment that made it whole, and its data.
+#[derive(Drop)]
+pub(crate) enum LentOutcome<'a> {
+    Kept(Key),
+    Spoilt(Key),
+    Delivered(LentFragment<'a>, UserData),
+    Unheard(Key, Option<ErrorPacket>),
+    Other,
+}
+
+impl<'a> LentOutcome<'a> {
+    /// The outcome, with the names in place. No memory is taken.
+    pub(crate) fn made(self) -> Outcome
+        ensures { result ≡ made_of self.entry }
+    {
+        match self {
+            LentOutcome::Kept(key) => Outcome::Kept(key),
+            LentOutcome::Spoilt(key) => Outcome::Spoilt(key),
+            LentOutcome::Delivered(fragment, bytes) => {
+                Outcome::Delivered(Datagram::of_fragment(&fragment, bytes))
+            }
+            LentOutcome::Unheard(key, error) => Outcome::Unheard(key, error),
+            LentOutcome::Other => Outcome::Other,
+        }
+    }
 }
 
 /// What a look at the clock dropped.

@@ -1,38 +1,40 @@
 //! When keys came.
 ghost use Rattle.std.specs.Prelude.{◌≡◌, false, not, filter, Some, IfOk, OnOk, OnErr};
-ghost use Rattle.std.specs.BTreeMap.{IsOrdered};
 ghost use Rattle.std.specs.FinMap as maps;
 ghost use Rattle.nb_datagram.specs.declared.key.Key.{Key};
 ghost use Rattle.nb_datagram.specs.Key.{key_cmp};
 ghost use Rattle.nb_member.specs.Taking.{start_after};
 ghost use Rattle.nb_member.specs.Live.{is_over};
 ghost use Rattle.nb_member.specs.Member.{begun, lasts};
-ghost use Rattle.nb_member.specs.Code.Timers.{begun_each};
+ghost use Rattle.nb_member.specs.Code.Timers.{begun_each, HaveOneSetOfKeys, StandOnce};
 
 use crate::limits::FRAGMENT_TIMEOUT;
 use nb_datagram::Key;
 use nb_names::NoMemory;
-use nb_table::Table;
+use nb_table::{State, Table};
 use std::alloc::Global;
-use std::collections::BTreeMap;
 use std::marker::Model;
 
-/// The moment at which each key came, in milliseconds.
+/// The moment at which each key came, in milliseconds: a list in which each key stands once, since
+/// only a table looks for one of them.
 #[derive(Drop)]
 pub struct Starts {
-    moments: BTreeMap<Key, u64>,
+    moments: Vec<(Key, u64)>,
 }
 
 impl Model for Starts {
     ghost use Rattle.std.specs.FinMap as maps;
+    ghost use Rattle.nb_datagram.specs.Key.{key_cmp};
     ghost use Rattle.nb_member.specs.Member.{Moments};
-    ghost use Rattle.nb_member.specs.Code.Timers.{moments_code};
+    ghost use Rattle.nb_member.specs.Code.Timers.{moments_code, StandOnce};
 
     ghost Value = { Moments };
 
     ghost coded = { moments_code };
 
-    ghost view = { λ s. maps.from_entries s.moments.entries };
+    ghost view = { λ s. maps.from_entries {R = key_cmp} s.moments.items };
+
+    ghost invariant = { λ s. StandOnce s.moments.items };
 }
 
 impl Starts {
@@ -41,25 +43,8 @@ impl Starts {
         ensures { result ≡ maps.empty }
     {
         Starts {
-            moments: BTreeMap::new(alloc),
+            moments: Vec::new(alloc),
         }
-    }
-
-    /// Starts the timer of a key, unless it runs already.
-    ///
-    /// # Errors
-    ///
-    /// `NoMemory` where memory ran out, which is for a new key alone. The moments are then as they
-    /// were.
-    pub fn begin(&mut self, key: Key, moment: u64) -> Result<(), NoMemory>
-        ensures begun { OnOk result (self.new ≡ begun self.old key moment) }
-        ensures unmet { OnErr result (maps.contains_key self.old key ≡ false) }
-        ensures kept { OnErr result (self.new ≡ self.old) }
-    {
-        if self.moments.contains_key(&key) {
-            return Ok(());
-        }
-        self.begin_new(key, moment)
     }
 
     /// Starts the timer of a key that has none.
@@ -72,23 +57,24 @@ impl Starts {
         ensures begun { OnOk result (self.new ≡ begun self.old key moment) }
         ensures kept { OnErr result (self.new ≡ self.old) }
     {
-        self.moments.insert(key, moment)?;
+        self.moments.push((key, moment))?;
         Ok(())
     }
 
-    /// A copy, in which the timers of this table's keys start at this moment, unless they run
-    /// already.
+    /// A copy, in which the timers of the other table's keys start at this moment, unless they run
+    /// already: those of the own table's keys do.
     ///
     /// # Errors
     ///
     /// `NoMemory` where memory ran out.
-    pub fn with_keys(&self, table: &Table, moment: u64) -> Result<Starts, NoMemory>
+    pub fn with_keys(&self, own: &Table, other: &Table, moment: u64) -> Result<Starts, NoMemory>
+        requires { HaveOneSetOfKeys own.now.contents self.now }
         ensures { IfOk result (λ starts. (k : Key) →
-            maps.get starts k ≡ start_after self.now table.now.contents moment k) }
+            maps.get starts k ≡ start_after self.now other.now.contents moment k) }
     {
-        let moments = self.moments.clone()?;
+        let moments = Vec::from_slice(*self.moments.allocator(), &self.moments)?;
         let mut starts = Starts { moments };
-        begin_each(&mut starts, table, moment)?;
+        begin_each(&mut starts, own, other, moment)?;
         Ok(starts)
     }
 
@@ -106,13 +92,22 @@ impl Starts {
     }
 }
 
-/// Starts the timers of the table's keys at this moment, unless they run already.
-fn begin_each(starts: &mut Starts, table: &Table, moment: u64) -> Result<(), NoMemory>
+/// Starts the timers of the other table's keys at this moment, where the own table lacks them.
+fn begin_each(
+    starts: &mut Starts,
+    own: &Table,
+    other: &Table,
+    moment: u64,
+) -> Result<(), NoMemory>
+    requires { HaveOneSetOfKeys own.now.contents starts.old }
     ensures { OnOk result
-        (starts.new ≡ begun_each starts.old (maps.keys table.now.contents) moment) }
+        (starts.new ≡ begun_each starts.old (maps.keys other.now.contents) moment) }
 {
-    for key in table.keys() {
-        starts.begin(key, moment)?;
+    for key in other.keys() {
+        match own.state(&key) {
+            State::Absent => starts.begin_new(key, moment)?,
+            State::Partial | State::Whole | State::Spoilt => {}
+        }
     }
     Ok(())
 }
@@ -125,25 +120,24 @@ fn is_over(now: u64, start: u64) -> bool
 }
 
 /// Takes the keys whose timers have run out, out of the table.
-fn drop_over(table: &mut Table, moments: &BTreeMap<Key, u64>, now: u64)
+fn drop_over(table: &mut Table, moments: &[(Key, u64)], now: u64)
+    requires { StandOnce moments.now }
     ensures { table.new ≡ record {
       contents = maps.retain_keys table.old.contents
-          (lasts (maps.from_entries {R = key_cmp} moments.now.entries) now);
+          (lasts (maps.from_entries {R = key_cmp} moments.now) now);
       limits = table.old.limits;
     } }
 {
-    for (key, start) in moments {
-        if is_over(now, *start) {
-            table.drop_key(key);
+    for start in moments {
+        if is_over(now, start.1) {
+            table.drop_key(&start.0);
         }
     }
 }
 
 /// Keeps the keys whose timers haven't run out.
-fn keep_running(moments: &mut BTreeMap<Key, u64>, now: u64)
-    ensures kept { moments.new.entries
-        ≡ filter (λ e. not (is_over now (Some e.1))) moments.old.entries }
-    ensures ordered { IsOrdered key_cmp moments.old }
+fn keep_running(moments: &mut Vec<(Key, u64)>, now: u64)
+    ensures { moments.new.items ≡ filter (λ e. not (is_over now (Some e.1))) moments.old.items }
 {
-    moments.retain(|_key, start| !is_over(now, *start));
+    moments.retain(|start| !is_over(now, start.1));
 }

@@ -1,21 +1,22 @@
 -- Keys whose timers have run out, taken out of a table and of the moments.
-use Rattle.std.proofs.Common.{◌≡◌, ℕ, ◌≤◌, Bool, true, false, not, cond, ◌&&◌, ◌||◌, List, [], ◌∷◌, Option, Some, None, is_some, refl, sym, ap, ◌∙◌}
-use Rattle.std.specs.Prelude.{T, filter}
+use Rattle.std.proofs.Common.{◌≡◌, ℕ, ◌≤◌, Bool, true, false, not, cond, ◌&&◌, ◌||◌, List, [], ◌∷◌, ◌++◌, Option, Some, None, is_some, refl, sym, ap, ◌∙◌}
+use Rattle.std.specs.Prelude.{filter}
 use Rattle.std.specs.FinMap as maps
-use Rattle.std.specs.FinMap.{is_sorted}
+use Rattle.std.specs.Cmp.{eq_by_cmp_equiv}
 use Rattle.nb_datagram.specs.declared.key.Key.{Key}
 use Rattle.nb_datagram.specs.Key.{key_cmp, same_key}
 use Rattle.nb_datagram.specs.KeyOrder.{key_cmp_total, key_cmp_exact}
 use Rattle.nb_entries.specs.Entry.{EntryValue}
 use Rattle.nb_table.specs.Contents.{Contents}
 use Rattle.nb_table.specs.Limits.{TableValue}
-use Rattle.nb_entries.specs.Shared.MapsLemmas.{one_key, below_none, T_left, T_right}
+use Rattle.nb_entries.specs.Shared.MapsLemmas.{one_key}
 use Rattle.nb_table.specs.Shared.TableLemmas.{same_table}
 use Rattle.std.proofs.lemmas.Bool.{false≢true}
 use Rattle.nb_member.proofs.LiveLemmas.KeyCounts.{fewer_keys}
+use Rattle.nb_member.proofs.MemberLemmas.Timers.{none_is}
 use Rattle.nb_member.specs.Live.{is_over}
 use Rattle.nb_member.specs.Member.{Moments, lasts}
-use Rattle.nb_member.specs.Code.Timers.{HaveOneSetOfKeys}
+use Rattle.nb_member.specs.Code.Timers.{HaveOneSetOfKeys, StandOnce}
 
 -- a table without one key
 abbrev pub without : TableValue → Key → TableValue
@@ -72,12 +73,12 @@ or_false true = refl
 or_false false = refl
 
 -- no key after the first is the first
-none_behind : (q : Key) (e : Key × ℕ) (es : List (Key × ℕ)) → T (is_sorted key_cmp (e ∷ es)) → same_key q e.0 ≡ true
+none_behind : (q : Key) (e : Key × ℕ) (es : List (Key × ℕ)) → StandOnce (e ∷ es) → same_key q e.0 ≡ true
     → maps.find key_cmp q es ≡ None
 none_behind q e es s h =
-    ap (λ (k : Key). maps.find key_cmp k es) (one_key key_cmp_exact q e.0 h) ∙ below_none key_cmp e.0 es (T_left _ _ s)
+    ap (λ (k : Key). maps.find key_cmp k es) (one_key key_cmp_exact q e.0 h) ∙ s.0
 
-over_step : (b : Bool) (now : ℕ) (q : Key) (e : Key × ℕ) (es : List (Key × ℕ)) → T (is_sorted key_cmp (e ∷ es))
+over_step : (b : Bool) (now : ℕ) (q : Key) (e : Key × ℕ) (es : List (Key × ℕ)) → StandOnce (e ∷ es)
     → over_in now q es ≡ is_over now (maps.find key_cmp q es) → same_key q e.0 ≡ b
     → ((b && is_over now (Some e.1)) || over_in now q es) ≡ is_over now (cond b (Some e.1) (maps.find key_cmp q es))
 over_step true now q e es s rec h =
@@ -85,28 +86,31 @@ over_step true now q e es s rec h =
     ∙ or_false (is_over now (Some e.1))
 over_step false now q e es s rec h = rec
 
-over_is : (now : ℕ) (q : Key) (es : List (Key × ℕ)) → T (is_sorted key_cmp es)
+over_is : (now : ℕ) (q : Key) (es : List (Key × ℕ)) → StandOnce es
     → over_in now q es ≡ is_over now (maps.find key_cmp q es)
 over_is now q [] s = refl
 over_is now q (e ∷ es) s =
-    over_step (same_key q e.0) now q e es s (over_is now q es (T_right _ _ s)) refl
+    over_step (same_key q e.0) now q e es s (over_is now q es (s.1)) refl
 
 turned : (b : Bool) (x : Option EntryValue) → cond b None x ≡ cond (not b) x None
 turned true x = refl
 turned false x = refl
 
 -- the keys of the moments whose timers have run out, taken out one by one
-pub dropped_each_is : (now : ℕ) (m : Moments) (t : TableValue)
-    → dropped_each now (maps.entries m) t
-    ≡ record { contents = maps.retain_keys t.contents (lasts m now); limits = t.limits }
-dropped_each_is now m t =
-    let contents : (dropped_each now (maps.entries m) t).contents ≡ maps.retain_keys t.contents (lasts m now) =
-    same_table (dropped_each now (maps.entries m) t).contents (maps.retain_keys t.contents (lasts m now)) (λ q.
-    get-dropped_each now (maps.entries m) t q
-    ∙ (ap (λ (b : Bool). cond b None (maps.get t.contents q)) (over_is now q (maps.entries m) (maps.entries_sorted m) ∙ ap (is_over now) (sym (maps.get-entries m q)))
+pub dropped_each_is : (now : ℕ) (es : List (Key × ℕ)) (t : TableValue) → StandOnce es
+    → dropped_each now es t ≡ record {
+      contents = maps.retain_keys t.contents (lasts (maps.from_entries {R = key_cmp} es) now);
+      limits = t.limits;
+    }
+dropped_each_is now es t s =
+    let m : Moments = maps.from_entries {R = key_cmp} es in
+    let contents : (dropped_each now es t).contents ≡ maps.retain_keys t.contents (lasts m now) =
+    same_table (dropped_each now es t).contents (maps.retain_keys t.contents (lasts m now)) (λ q.
+    get-dropped_each now es t q
+    ∙ (ap (λ (b : Bool). cond b None (maps.get t.contents q)) (over_is now q es s ∙ ap (is_over now) (sym (maps.get-from_entries key_cmp_total es q)))
     ∙ (turned (is_over now (maps.get m q)) (maps.get t.contents q)
     ∙ sym (maps.get-retain_keys t.contents (lasts m now) q (λ x e. ap (lasts m now) (sym (key_cmp_exact q x e))))))) in
-    let limits = limits-dropped_each now (maps.entries m) t in
+    let limits = limits-dropped_each now es t in
     λ i. record { contents = contents i; limits = limits i }
 
 -- ---- the moments
@@ -123,7 +127,7 @@ if_running_some : (now v : ℕ) (b : Bool) → is_over now (Some v) ≡ b → if
 if_running_some now v true h = ap (λ (b : Bool). cond (not b) (Some v) None) h
 if_running_some now v false h = ap (λ (b : Bool). cond (not b) (Some v) None) h
 
-find_step : (o b : Bool) (now : ℕ) (q : Key) (e : Key × ℕ) (es : List (Key × ℕ)) → T (is_sorted key_cmp (e ∷ es))
+find_step : (o b : Bool) (now : ℕ) (q : Key) (e : Key × ℕ) (es : List (Key × ℕ)) → StandOnce (e ∷ es)
     → maps.find key_cmp q (running now es) ≡ if_running now (maps.find key_cmp q es)
     → is_over now (Some e.1) ≡ o → same_key q e.0 ≡ b
     → maps.find key_cmp q (cond (not o) (e ∷ running now es) (running now es))
@@ -136,14 +140,14 @@ find_step false true now q e es s rec over h =
 find_step false false now q e es s rec over h =
     ap (λ (b : Bool). cond b (Some e.1) (maps.find key_cmp q (running now es))) h ∙ rec
 
-find-running : (now : ℕ) (q : Key) (es : List (Key × ℕ)) → T (is_sorted key_cmp es)
+find-running : (now : ℕ) (q : Key) (es : List (Key × ℕ)) → StandOnce es
     → maps.find key_cmp q (running now es) ≡ if_running now (maps.find key_cmp q es)
 find-running now q [] s = refl
 find-running now q (e ∷ es) s =
-    find_step (is_over now (Some e.1)) (same_key q e.0) now q e es s (find-running now q es (T_right _ _ s)) refl refl
+    find_step (is_over now (Some e.1)) (same_key q e.0) now q e es s (find-running now q es (s.1)) refl refl
 
 -- the moments without those whose timers have run out
-pub running_is : (now : ℕ) (es : List (Key × ℕ)) → T (is_sorted key_cmp es)
+pub running_is : (now : ℕ) (es : List (Key × ℕ)) → StandOnce es
     → maps.from_entries {R = key_cmp} (running now es)
     ≡ maps.retain_keys (maps.from_entries {R = key_cmp} es) (lasts (maps.from_entries {R = key_cmp} es) now)
 running_is now es s =
@@ -153,6 +157,40 @@ running_is now es s =
     ∙ (find-running now q es s
     ∙ (ap (if_running now) (sym (maps.get-from_entries key_cmp_total es q))
     ∙ sym (maps.get-retain_keys m (lasts m now) q (λ x e. ap (lasts m now) (sym (key_cmp_exact q x e)))))))
+
+-- each stands once still
+pub once_running : (now : ℕ) (es : List (Key × ℕ)) → StandOnce es → StandOnce (running now es)
+once_running now [] s = tt
+once_running now (e ∷ es) s =
+    let rest = once_running now es s.1 in
+    elim (is_over now (Some e.1)) as (λ o. StandOnce (cond (not o) (e ∷ running now es) (running now es))) [
+      | true ↦ rest
+      | false ↦ (find-running now e.0 es s.1 ∙ (ap (if_running now) s.0), rest)
+    ]
+
+-- ---- a key that is new
+
+new_step : (b : Bool) (k : Key) (e : Key × ℕ) (es : List (Key × ℕ)) → same_key k e.0 ≡ b
+    → cond b (Some e.1) (maps.find key_cmp k es) ≡ None → (same_key e.0 k ≡ false) × (maps.find key_cmp k es ≡ None)
+new_step true k e es same is = absurd (false≢true (sym (ap is_some is)))
+new_step false k e es same is = ((eq_by_cmp_equiv key_cmp_total).symm e.0 k ∙ same, is)
+
+-- behind others, a key that they lack stands once
+pub once_pushed : (es : List (Key × ℕ)) (k : Key) (v : ℕ) → StandOnce es → maps.find key_cmp k es ≡ None
+    → StandOnce (es ++ (k, v) ∷ [])
+once_pushed [] k v s none = (refl, tt)
+once_pushed (e ∷ es) k v s none =
+    let new = new_step (same_key k e.0) k e es refl none in
+    let there = sym (maps.get-from_entries key_cmp_total (es ++ (k, v) ∷ []) e.0)
+    ∙ (ap (λ (m : Moments). maps.get m e.0) (maps.from_entries_push key_cmp_total key_cmp_exact es k v new.1)
+    ∙ (maps.get-insert key_cmp_total (maps.from_entries {R = key_cmp} es) k v e.0
+    ∙ ap (λ (b : Bool). cond b (Some v) (maps.get (maps.from_entries {R = key_cmp} es) e.0)) new.0)) in
+    (there ∙ (maps.get-from_entries key_cmp_total es e.0 ∙ s.0), once_pushed es k v s.1 new.1)
+
+-- what isn't among the moments isn't found in their list
+pub not_found : (es : List (Key × ℕ)) (k : Key) → maps.contains_key (maps.from_entries {R = key_cmp} es) k ≡ false
+    → maps.find key_cmp k es ≡ None
+not_found es k new = none_is (maps.find key_cmp k es) (ap is_some (sym (maps.get-from_entries key_cmp_total es k)) ∙ new)
 
 -- ---- both
 

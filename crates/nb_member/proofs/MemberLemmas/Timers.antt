@@ -39,7 +39,7 @@ begun_by true m k v q h = held_already (same_key q k) m k q refl h
 begun_by false m k v q h = has_put m k v q
 
 -- the moments with one begun have one more key
-has_begun : (m : Moments) (k : Key) (v : ℕ) (q : Key)
+pub has_begun : (m : Moments) (k : Key) (v : ℕ) (q : Key)
     → maps.contains_key (begun m k v) q ≡ (same_key q k || maps.contains_key m q)
 has_begun m k v q = begun_by (maps.contains_key m k) m k v q refl
 
@@ -95,7 +95,7 @@ taken_out : (b : Bool) (e : EntryValue) (o : Option EntryValue) → (b ≡ true 
 taken_out true e o h = sym (h refl)
 taken_out false e o h = refl
 
-none_is : {X : Type 0} (o : Option X) → is_some o ≡ false → o ≡ None
+pub none_is : {X : Type 0} (o : Option X) → is_some o ≡ false → o ≡ None
 none_is None h = refl
 none_is (Some x) h = absurd (false≢true (sym h))
 

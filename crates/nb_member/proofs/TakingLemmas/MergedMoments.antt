@@ -2,7 +2,11 @@
 use Rattle.std.proofs.Common.{◌≡◌, ℕ, Bool, true, false, cond, ◌||◌, List, [], ◌∷◌, map, Option, Some, None, is_some, refl, sym, ap, ◌∙◌}
 use Rattle.std.proofs.lemmas.Bool.{false≢true}
 use Rattle.std.specs.List.{list_any}
+use Rattle.std.specs.Prelude.{T}
+use Rattle.std.specs.Cmp.{eq_by_cmp_equiv}
 use Rattle.std.specs.FinMap as maps
+use Rattle.std.specs.FinMap.{is_sorted}
+use Rattle.std.specs.FinMap.Entries.{below_all}
 use Rattle.nb_datagram.specs.declared.key.Key.{Key}
 use Rattle.nb_datagram.specs.Key.{key_cmp, same_key}
 use Rattle.nb_datagram.specs.KeyOrder.{key_cmp_total, key_cmp_exact, same_key_decides}
@@ -10,7 +14,8 @@ use Rattle.nb_entries.specs.Maps.{first_of, joined_at}
 use Rattle.nb_entries.specs.Entry.{EntryValue, join_entry}
 use Rattle.nb_table.specs.Contents.{Contents}
 use Rattle.nb_table.specs.Join.{join}
-use Rattle.nb_entries.specs.Shared.MapsLemmas.{get-joined}
+use Rattle.nb_entries.specs.Shared.MapsLemmas.{get-joined, lt_not_eq, T_left, T_right}
+use Rattle.nb_member.proofs.MemberLemmas.Timers.{has_begun}
 use Rattle.nb_member.specs.Taking.{start_after}
 use Rattle.nb_member.specs.Member.{Moments, begun}
 use Rattle.nb_member.specs.Code.Timers.{begun_each, HaveOneSetOfKeys}
@@ -63,6 +68,47 @@ get-begun_each (k ∷ ks) m v q =
     get-begun_each ks (begun m k v) v q
     ∙ (ap (λ (o : Option ℕ). first_of o (cond (list_any (same_key q) ks) (Some v) None)) (get-begun m k v q)
     ∙ in_turn (maps.get m q) (same_key q k) (list_any (same_key q) ks) v)
+
+-- ---- the keys that are asked for, one after another
+
+-- the key is none of these
+abbrev pub IsNone : Key → List Key → Type 0
+IsNone k [] = Unit {0}
+IsNone k (q ∷ qs) = (same_key q k ≡ false) × IsNone k qs
+
+-- AreAnswered t m ks: whether each of the keys ks has a moment is whether the table t has it, and each stands once
+abbrev pub AreAnswered : Contents → Moments → List Key → Type 0
+AreAnswered t m [] = Unit {0}
+AreAnswered t m (k ∷ ks) = (maps.contains_key m k ≡ maps.contains_key t k) × IsNone k ks × AreAnswered t m ks
+
+-- they are where one more is begun
+pub answered_on : (t : Contents) (m : Moments) (k : Key) (v : ℕ) (ks : List Key) → IsNone k ks → AreAnswered t m ks
+    → AreAnswered t (begun m k v) ks
+answered_on t m k v [] n a = tt
+answered_on t m k v (q ∷ qs) n a = (
+  has_begun m k v q ∙ ap (λ (b : Bool). b || maps.contains_key m q) n.0 ∙ a.0,
+  a.1,
+  answered_on t m k v qs n.1 a.2,
+)
+
+none_later : (k : Key) (es : List (Key × EntryValue)) → T (below_all key_cmp k es) → IsNone k (map (λ e. e.0) es)
+none_later k [] h = tt
+none_later k (e ∷ es) h = (
+  (eq_by_cmp_equiv key_cmp_total).symm e.0 k ∙ lt_not_eq (key_cmp k e.0) (T_left _ _ h),
+  none_later k es (T_right _ _ h),
+)
+
+answered_each : (t : Contents) (m : Moments) (es : List (Key × EntryValue)) → T (is_sorted key_cmp es)
+    → HaveOneSetOfKeys t m → AreAnswered t m (map (λ e. e.0) es)
+answered_each t m [] s h = tt
+answered_each t m (e ∷ es) s h =
+    (h e.0, none_later e.0 es (T_left _ _ s), answered_each t m es (T_right _ _ s) h)
+
+-- those of another table are
+pub answered : (t other : Contents) (m : Moments) → HaveOneSetOfKeys t m → AreAnswered t m (maps.keys other)
+answered t other m h = answered_each t m (maps.entries other) (maps.entries_sorted other) h
+
+-- ---- the moments that are begun
 
 found_or : (b c : Bool) (e : EntryValue) (o : Option EntryValue) → c ≡ is_some o → (b || c) ≡ is_some (cond b (Some e) o)
 found_or true c e o h = refl

@@ -1,9 +1,9 @@
 -- How a table and the timers of its keys are kept (our choice).
 use Rattle.std.specs.Coded.{Coded, coded_ℕ, code_by, coded×}
 use Rattle.std.specs.FinMap as maps
-use Rattle.std.specs.Prelude.{refl, ◌≡◌, ℕ, List, [], ◌∷◌}
+use Rattle.std.specs.Prelude.{refl, ◌≡◌, ℕ, List, [], ◌∷◌, None}
 use Rattle.nb_datagram.specs.declared.key.Key.{Key}
-use Rattle.nb_datagram.specs.Key.{key_code}
+use Rattle.nb_datagram.specs.Key.{key_code, key_cmp}
 use Rattle.nb_table.specs.Limits.{TableValue}
 use Rattle.nb_table.specs.Codes.{table_code}
 use Rattle.nb_table.specs.Contents.{Contents}
@@ -22,6 +22,11 @@ timed_code =
 -- the two have the same keys
 abbrev pub HaveOneSetOfKeys : Contents → Moments → Type 0
 HaveOneSetOfKeys t m = (k : Key) → maps.contains_key m k ≡ maps.contains_key t k
+
+-- each key stands once in the list
+abbrev pub StandOnce : List (Key × ℕ) → Type 0
+StandOnce [] = Unit {0}
+StandOnce (e ∷ es) = (maps.find key_cmp e.0 es ≡ None) × StandOnce es
 
 -- begun_each moments ks moment: the moments, with this one for each of the keys ks that has none
 abbrev pub begun_each : Moments → List Key → ℕ → Moments

@@ -1,15 +1,21 @@
 //! What a member makes of a line of a capture, told to a sink.
 #![tactic(auto, using(nb_telling::proofs::FoldLemmas::told_both))]
 
-ghost use Rattle.std.specs.Prelude.{◌≡◌, OnOk, fold};
+ghost use Rattle.std.specs.Prelude.{◌≡◌, ◌∷◌, [], OnOk, fold};
 ghost use Rattle.nb_telling.specs.Telling.{Grows};
+ghost use Rattle.nb_datagram.specs.Datagram.{datagram_by};
+ghost use Rattle.nb_datagram.specs.Texts.{kind_text};
+ghost use Rattle.nb_names.specs.NameText.{written};
+ghost use Rattle.nb_telling.specs.Fields.{Text, Data};
+ghost use Rattle.nb_member.specs.Keys.{kind_key, source_key, destination_key, data_key};
+ghost use Rattle.nb_member.specs.declared.outcome.Outcome.TheVariants.{Delivered};
 ghost use Rattle.nb_member.specs.ReportFields.{dropped_fields, error_fields, outcome_fields, parts_fields, passed_fields, refused_fields, result_fields};
 
 use crate::keys::{COUNT, DATA, DESTINATION, ERROR, KEY, KIND, OUTCOME, REFUSED, SOURCE};
 use crate::member_fault::MemberFault;
 use crate::outcome::{Dropped, Outcome};
-use nb_datagram::{Datagram, ErrorPacket, Packet, encode, kind_name};
-use nb_names::NoMemory;
+use nb_datagram::{Datagram, ErrorPacket, Kind, LentFragment, Packet, UserData, encode, kind_name};
+use nb_names::{LentName, NoMemory};
 use nb_telling::{Sink, tell_place};
 use std::alloc::Global;
 
@@ -112,10 +118,43 @@ pub(crate) fn tell_parts<S: Sink>(datagram: &Datagram, sink: &mut S) -> Result<(
         (S.seen sink.new ≡ fold S.after (S.seen sink.old) (parts_fields datagram.now)) }
     ensures front { Grows S.is_front (S.seen sink.old) (S.seen sink.new) }
 {
-    sink.text(KIND, kind_name(datagram.kind()))?;
-    sink.shown(SOURCE, datagram.source())?;
-    sink.shown(DESTINATION, datagram.destination())?;
-    sink.data(DATA, datagram.bytes())
+    let (source, destination) = (datagram.source().lent(), datagram.destination().lent());
+    tell_lent(datagram.kind(), &source, &destination, datagram.bytes(), sink)
+}
+
+/// Tells these parts of a datagram.
+fn tell_lent<S: Sink>(
+    kind: Kind,
+    source: &LentName<'_>,
+    destination: &LentName<'_>,
+    bytes: &[u8],
+    sink: &mut S,
+) -> Result<(), NoMemory>
+    ensures told { OnOk result (S.seen sink.new ≡ fold S.after (S.seen sink.old)
+        (Text kind_key (kind_text kind) ∷ Text source_key (written source.now)
+        ∷ Text destination_key (written destination.now) ∷ Data data_key bytes.now ∷ [])) }
+    ensures front { Grows S.is_front (S.seen sink.old) (S.seen sink.new) }
+{
+    sink.text(KIND, kind_name(kind))?;
+    sink.shown(SOURCE, source)?;
+    sink.shown(DESTINATION, destination)?;
+    sink.data(DATA, bytes)
+}
+
+/// Tells that the datagram of a fragment was delivered, whose data this is.
+pub(crate) fn tell_delivered<S: Sink>(
+    fragment: &LentFragment<'_>,
+    bytes: &UserData,
+    sink: &mut S,
+) -> Result<(), NoMemory>
+    ensures told { OnOk result (S.seen sink.new ≡ fold S.after (S.seen sink.old)
+        (outcome_fields (Delivered (datagram_by fragment.now bytes.now)))) }
+    ensures front { Grows S.is_front (S.seen sink.old) (S.seen sink.new) }
+{
+    sink.text(OUTCOME, "delivered")?;
+    sink.shown(KEY, &fragment.key())?;
+    let (source, destination) = (fragment.source(), fragment.destination());
+    tell_lent(fragment.kind(), source, destination, bytes.as_slice(), sink)
 }
 
 /// Tells the bytes of an error packet, if there is one.

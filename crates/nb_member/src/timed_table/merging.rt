@@ -25,7 +25,7 @@ impl TimedTable {
         ensures kept { OnErr result (self.new ≡ self.old) }
     {
         self.table.fits(other)?;
-        let starts = self.starts.with_keys(other, moment)?;
+        let starts = self.starts.with_keys(&self.table, other, moment)?;
         let datagrams = self.table.merge(other)?;
         self.starts = starts;
         Ok(datagrams)

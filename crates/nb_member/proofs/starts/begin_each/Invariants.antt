@@ -1,8 +1,10 @@
 use Rattle.std.proofs.Common.{◌≡◌}
 use Rattle.std.specs.FinMap as maps
+use Rattle.nb_member.proofs.TakingLemmas.MergedMoments.{AreAnswered}
 use Rattle.nb_member.proofs.starts.begin_each.Given as goal
 use Rattle.nb_member.specs.Code.Timers.{begun_each}
 
 abbrev pub invariant-loop-key : goal.invariant-loop-key
 invariant-loop-key l =
-    begun_each l.starts l.key-iterator l.moment ≡ begun_each l.fn.starts (maps.keys l.table.contents) l.moment
+    (begun_each l.starts l.key-iterator l.moment ≡ begun_each l.fn.starts (maps.keys l.other.contents) l.moment)
+    × AreAnswered l.own.contents l.starts l.key-iterator

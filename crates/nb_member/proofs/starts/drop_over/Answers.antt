@@ -1,17 +1,12 @@
-use Rattle.std.proofs.Common.{ℕ, List, sym, ◌∙◌, ap}
-use Rattle.std.specs.FinMap as maps
+use Rattle.std.proofs.Common.{ℕ, ◌≤◌, List, length, arith, sym, ◌∙◌, ap}
+use Rattle.std.proofs.lemmas.List.{drop_all}
 use Rattle.nb_datagram.specs.declared.key.Key.{Key}
-use Rattle.nb_datagram.specs.Key.{key_cmp}
-use Rattle.nb_datagram.specs.KeyOrder.{key_cmp_total, key_cmp_exact}
-use Rattle.nb_table.specs.Shared.TreeLemmas.{entries_are}
 use Rattle.nb_member.proofs.MemberLemmas.DroppedKeys.{dropped_each, dropped_each_is}
 use Rattle.nb_member.proofs.starts.drop_over.Goals as goal
 
 pub returns : goal.returns
 returns c =
-    let m = maps.from_entries {R = key_cmp} c.args.moments.now.entries in
-    let gives = c.into_iter-key-iterator.ensures.into_iter_gives in
-    sym (ap (λ (es : List (Key × ℕ)). dropped_each c.args.now es c.loop-key.table) c.in-None.ensures.steps.0)
-    ∙ (c.loop-key.invariant
-    ∙ (sym (ap (λ (es : List (Key × ℕ)). dropped_each c.args.now es c.args.table.now) (entries_are key_cmp_total key_cmp_exact c.args.moments.now gives.5))
-    ∙ dropped_each_is c.args.now m c.args.table.now))
+    let es = c.args.moments.now in
+    let past : length es ≤ c.loop-start.start-index = omega (arith, c.loop-start-test.false) in
+    sym (ap (λ (rest : List (Key × ℕ)). dropped_each c.args.now rest c.loop-start.table) (drop_all c.loop-start.start-index es past))
+    ∙ (c.loop-start.invariant ∙ dropped_each_is c.args.now es c.args.table.now c.requires)

@@ -14,7 +14,7 @@ returns c =
       joined = ap (with_timed m) e.ensures.joined;
       change = told.0;
       changed = told.1;
-      answered = c.outcome_of.ensures ∙ ap (outcome_of m.settings m.names c.args.fragment.now.key) told.2;
+      answered = c.outcome_of.ensures ∙ ap (outcome_of m.settings m.names c.args.fragment.key) told.2;
     })
 
 pub returns-in_err-change : goal.returns-in_err-change

@@ -1,6 +1,5 @@
-use Rattle.std.proofs.Common.{◌≡◌, ap, ◌∙◌}
+use Rattle.std.proofs.Common.{ap, ◌∙◌}
 use Rattle.std.specs.FinMap as maps
-use Rattle.std.proofs.lemmas.Map.Entries.{entries_from_clone}
 use Rattle.nb_datagram.specs.Key.{key_cmp}
 use Rattle.nb_member.proofs.TakingLemmas.MergedMoments.{begun_of}
 use Rattle.nb_member.proofs.starts.Starts.with_keys.Goals as goal
@@ -9,11 +8,9 @@ use Rattle.nb_member.specs.Code.Timers.{begun_each}
 
 pub returns : goal.returns
 returns c =
-    let own = c.self.inside.moments.entries in
-    let keys = maps.keys c.args.table.now.contents in
-    let cloned : c.in_ok-moments.moments.entries ≡ own =
-    entries_from_clone _ _ (λ x y h. h) (λ v w h. h) own c.in_ok-moments.moments.entries c.in_ok-moments.ensures.cases in
-    let begun = c.in_ok-begin_each.ensures ∙ ap (λ es. begun_each (maps.from_entries {R = key_cmp} es) keys c.args.moment) cloned in
+    let own = c.self.inside.moments.items in
+    let keys = maps.keys c.args.other.now.contents in
+    let begun = c.in_ok-begin_each.ensures ∙ ap (λ es. begun_each (maps.from_entries {R = key_cmp} es) keys c.args.moment) (c.in_ok-moments.ensures.items ∙ c.deref.ensures.value) in
     rw (← c.self.view_is) (λ k.
     ap (λ (m : Moments). maps.get m k) begun
-    ∙ begun_of (maps.from_entries {R = key_cmp} own) c.args.table.now.contents c.args.moment k)
+    ∙ begun_of (maps.from_entries {R = key_cmp} own) c.args.other.now.contents c.args.moment k)

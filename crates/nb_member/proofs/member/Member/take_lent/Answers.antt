@@ -1,13 +1,14 @@
 use Rattle.std.proofs.Common.{refl, subst}
 use Rattle.nb_datagram.specs.Packet.{Packet, IsPacket}
-use Rattle.nb_member.proofs.member.Member.take.Goals as goal
+use Rattle.nb_member.proofs.member.Member.take_lent.Goals as goal
+use Rattle.nb_member.specs.Code.Outcomes.{answer_of}
 use Rattle.nb_member.specs.Taking.{fragment, error, query, no_packet}
 
 pub returns-in-Ok-Direct-default : goal.returns-in-Ok-Direct-default
 returns-in-Ok-Direct-default c =
     let d = c.in-Ok-Direct-default in
     let found = subst (λ (p : Packet). IsPacket c.args.payload.now p d.field-0-1) d.field-0-0-is d.ensures.found in
-    fragment d.fragment d.field-0-1 c.take_fragment.result found c.take_fragment.ensures
+    fragment d.fragment d.field-0-1 (answer_of c.take_fragment.result) found c.take_fragment.ensures
 
 pub returns-in-Ok-Error-default : goal.returns-in-Ok-Error-default
 returns-in-Ok-Error-default c =

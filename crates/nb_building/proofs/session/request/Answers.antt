@@ -8,4 +8,5 @@ pub returns-clause-built : goal.returns-clause-built
 returns-clause-built c =
     session_built _ _ _ _ _ c.encoded.result refl
     (two_words (λ w. w.now) _ c.args.words.now c.in-len2.len_at_least c.in-len2.len_below)
-    (request _ _ _ _ c.in_ok-called.ensures.found c.in_ok-calling.ensures.found) c.encoded.ensures.built
+    (request _ _ _ _ c.in_ok-called.ensures.found c.in_ok-calling.ensures.found)
+    (rw (← c.lent-called.ensures, ← c.lent-calling.ensures) c.encoded.ensures.built)

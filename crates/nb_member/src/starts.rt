@@ -93,12 +93,7 @@ impl Starts {
 }
 
 /// Starts the timers of the other table's keys at this moment, where the own table lacks them.
-fn begin_each(
-    starts: &mut Starts,
-    own: &Table,
-    other: &Table,
-    moment: u64,
-) -> Result<(), NoMemory>
+fn begin_each(starts: &mut Starts, own: &Table, other: &Table, moment: u64) -> Result<(), NoMemory>
     requires { HaveOneSetOfKeys own.now.contents starts.old }
     ensures { OnOk result
         (starts.new ≡ begun_each starts.old (maps.keys other.now.contents) moment) }

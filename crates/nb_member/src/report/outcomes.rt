@@ -119,7 +119,13 @@ pub(crate) fn tell_parts<S: Sink>(datagram: &Datagram, sink: &mut S) -> Result<(
     ensures front { Grows S.is_front (S.seen sink.old) (S.seen sink.new) }
 {
     let (source, destination) = (datagram.source().lent(), datagram.destination().lent());
-    tell_lent(datagram.kind(), &source, &destination, datagram.bytes(), sink)
+    tell_lent(
+        datagram.kind(),
+        &source,
+        &destination,
+        datagram.bytes(),
+        sink,
+    )
 }
 
 /// Tells these parts of a datagram.

@@ -33,6 +33,7 @@ pub returns-in-Ok-clause-spelled : goal.returns-in-Ok-clause-spelled
 returns-in-Ok-clause-spelled c labels after is =
     let there = c.in-Ok.ensures.found in
     let one = c.one_reading.ensures.one _ _ _ _ _ _ _ (unpointed _ _ _ _ _ there.1) is in
-    let bytes = spelled _ _ _ _ _ c.packet-packet.ensures there.1 ∙ ap spelling one.0 in
-    (c.fill_spelling.ensures ∙ ap in_place bytes,
-    omega (arith, (spelled_there _ _ _ _ _ there.1).1, ap (λ (ls : List (List ℕ)). length (spelling ls)) one.0))
+    let bytes = spelled _ _ _ _ _ c.packet-packet.ensures there.1 ∙ ap spelling one.0 in (
+      c.fill_spelling.ensures ∙ ap in_place bytes,
+      omega (arith, (spelled_there _ _ _ _ _ there.1).1, ap (λ (ls : List (List ℕ)). length (spelling ls)) one.0),
+    )

@@ -19,9 +19,8 @@ loop-key-preserved-in-Continue-1 c =
     let m = c.loop-key.starts in
     let rest = c.next.new.self in
     let left = subst (AreAnswered own m) c.in-Some.ensures.steps c.loop-key.invariant.1 in
-    let begun = c.in_ok-begin_new-in-Absent.ensures.begun in
-    (
+    let begun = c.in_ok-begin_new-in-Absent.ensures.begun in (
       ap (λ (n : Moments). begun_each n rest c.args.moment) begun
-      ∙ (sym (ap (λ (ks : List Key). begun_each m ks c.args.moment) c.in-Some.ensures.steps) ∙ c.loop-key.invariant.0),
+          ∙ (sym (ap (λ (ks : List Key). begun_each m ks c.args.moment) c.in-Some.ensures.steps) ∙ c.loop-key.invariant.0),
       subst (λ (n : Moments). AreAnswered own n rest) (sym begun) (answered_on own m c.in-Some.key c.args.moment rest left.1 left.2),
     )

@@ -12,8 +12,8 @@ LIB = os.path.dirname(os.path.abspath(__file__))
 TOP = os.path.join(LIB, '..', '..')
 INCLUDE, PLAIN = os.path.join(TOP, 'include'), os.path.join(TOP, 'tests', 'plain', 'service_reader.rs')
 MOST_OF_OBJECTS, MOST_OF_ITEMS, MOST_OF_DPKT, MOST_OF_ABSORB = 2.0, 1.3, 1.5, 1.0
-# The two that miss their bars (docs/PERFORMANCE.md): they may get no worse.
-ITEMS_KNOWN, ABSORB_KNOWN = 1.68, 2.73
+# The one that misses its bar (docs/PERFORMANCE.md): it may get no worse.
+ITEMS_KNOWN = 1.68
 KEYS = 60_000
 
 
@@ -92,5 +92,5 @@ def absorbing(folder, library, nothing):
     parts = [Row(title, counted[what], seconds[what]) for what, title in (
         ('save', 'that key saved'), ('load', 'that key taken in where none is'), ('look', f'a look at each of {KEYS:,} keys'))]
     bar = Row('', without and sum(row.counted for row in parts), sum(row.seconds for row in parts))
-    absorb.of, absorb.most, absorb.known = ratio(absorb, bar), MOST_OF_ABSORB, ABSORB_KNOWN
+    absorb.of, absorb.most = ratio(absorb, bar), MOST_OF_ABSORB
     return [*parts, absorb]

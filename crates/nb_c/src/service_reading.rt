@@ -14,8 +14,8 @@ use crate::output::{fill, finish};
 use crate::refusal::{Refusal, service_refusal};
 use crate::spellings::spell_domain;
 use crate::statuses::NO_ITEM;
-use nb_names::limits::{LETTERS, MAX_SPELLING, POINTED_OFFSETS};
 use nb_names::NameReader;
+use nb_names::limits::{LETTERS, MAX_SPELLING, POINTED_OFFSETS};
 use nb_service::laws::{one_header, one_item, one_packet, one_service_fault};
 use nb_service::limits::{HEADER_LENGTH, SHORT_PACKET};
 use nb_service::{Fields, Header, Section, outline, read_fields, read_header};
@@ -139,11 +139,7 @@ fn read_long(payload: &[u8], header: &mut NbtServiceHeader, at: &mut usize) -> u
 }
 
 /// Fills in the header and the length of the packet whose names are read so.
-fn fill_packet(
-    names: &NameReader<'_, '_>,
-    header: &mut NbtServiceHeader,
-    at: &mut usize,
-) -> u32
+fn fill_packet(names: &NameReader<'_, '_>, header: &mut NbtServiceHeader, at: &mut usize) -> u32
     ensures { Fills NbtServiceHeader (ReadsPacket names.now)
         header.old header.new at.old at.new result }
 {

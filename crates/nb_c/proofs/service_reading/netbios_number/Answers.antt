@@ -30,9 +30,9 @@ no_name : (labels : List (List ℕ)) (rest bytes : List ℕ) → bytes ≡ spell
 no_name [] rest bytes is bad = refl
 no_name (first ∷ more) rest bytes is bad = elim (cases_Bool (are_letters first)) [
   | inl good ↦
-    let size = eqb-true (length first) 32 (and_parts (length first == 32) (list_all is_letter first) good).0 in
-    let letters = bad (ap (λ (b : List ℕ). get_or b 0 0) is ∙ size) in
-    absurd (cc (letters, ap are_letters (first_there first more rest bytes is size), good))
+      let size = eqb-true (length first) 32 (and_parts (length first == 32) (list_all is_letter first) good).0 in
+      let letters = bad (ap (λ (b : List ℕ). get_or b 0 0) is ∙ size) in
+      absurd (cc (letters, ap are_letters (first_there first more rest bytes is size), good))
   | inr none ↦ rw none refl
 ]
 
@@ -43,6 +43,6 @@ returns-then-are_letters c labels rest is =
 pub returns-else-bytes-eq-LETTERS : goal.returns-else-bytes-eq-LETTERS
 returns-else-bytes-eq-LETTERS c labels rest is = elim c.else-bytes-eq-LETTERS.branch [
   | else-bytes-eq-LETTERS-via-then-bytes-eq-LETTERS+else-are_letters w ↦
-    no_name labels rest _ is (λ long. sym w.are_letters.ensures ∙ w.if-are_letters.false)
+      no_name labels rest _ is (λ long. sym w.are_letters.ensures ∙ w.if-are_letters.false)
   | else-bytes-eq-LETTERS-via-else-bytes-eq-LETTERS w ↦ no_name labels rest _ is (λ long. absurd (w.if-bytes-eq-LETTERS.false long))
 ]

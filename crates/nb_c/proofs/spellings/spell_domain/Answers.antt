@@ -1,4 +1,4 @@
-use Rattle.std.proofs.Common.{◌≡◌, ◌∙◌, ◌+◌, ◌-◌, ℕ, List, length, take, drop, ap, sym, arith}
+use Rattle.std.proofs.Common.{◌≡◌, ◌∙◌, ◌+◌, ◌-◌, ℕ, List, length, take, drop, ap, arith}
 use Rattle.nb_names.proofs.LabelsLemmas.{spelled_there, range_spelled}
 use Rattle.nb_names.specs.declared.pointers.Pointers.TheVariants.{Followed, Refused}
 use Rattle.nb_names.specs.DomainName.{spelling}
@@ -33,6 +33,7 @@ pub returns-in-Ok-clause-spelled : goal.returns-in-Ok-clause-spelled
 returns-in-Ok-clause-spelled c labels after is =
     let there = c.in-Ok.ensures.found in
     let one = c.one_reading.ensures.one _ _ _ _ _ _ _ (unpointed _ _ _ _ _ there.1) is in
-    let bytes = spelled _ _ _ _ _ c.packet-packet.ensures there.1 ∙ ap spelling one.0 in
-    (c.fill_spelling.ensures ∙ ap in_place bytes,
-    omega (arith, (spelled_there _ _ _ _ _ there.1).1, ap (λ (ls : List (List ℕ)). length (spelling ls)) one.0))
+    let bytes = spelled _ _ _ _ _ c.packet-packet.ensures there.1 ∙ ap spelling one.0 in (
+      c.fill_spelling.ensures ∙ ap in_place bytes,
+      omega (arith, (spelled_there _ _ _ _ _ there.1).1, ap (λ (ls : List (List ℕ)). length (spelling ls)) one.0),
+    )

@@ -18,12 +18,15 @@ pub returns-clause-found : goal.returns-clause-found
 returns-clause-found c =
     let named = c.in_ok-after.ensures.found in
     let same = c.packet-packet.ensures in
-    let after = c.in_ok-after.after in
-    (record { name = named.0; kind = c.number_16.result; class = c.number_16-2.result },
-    record {
-      after = after;
-      name = named.1;
-      kind = subst (λ (p : List ℕ). NumberAt p after w16 c.number_16.result) same c.number_16.ensures;
-      class = subst (λ (p : List ℕ). NumberAt p (after + 2) w16 c.number_16-2.result) same c.number_16-2.ensures;
-      end = refl;
-    }, refl, refl)
+    let after = c.in_ok-after.after in (
+      record { name = named.0; kind = c.number_16.result; class = c.number_16-2.result },
+      record {
+        after = after;
+        name = named.1;
+        kind = subst (λ (p : List ℕ). NumberAt p after w16 c.number_16.result) same c.number_16.ensures;
+        class = subst (λ (p : List ℕ). NumberAt p (after + 2) w16 c.number_16-2.result) same c.number_16-2.ensures;
+        end = refl;
+      },
+      refl,
+      refl,
+    )

@@ -54,18 +54,20 @@ returns-clause-found c =
     let after = c.in_ok-after.after in
     let size = c.number_16-size.result in
     let kind_there = subst (λ (p : List ℕ). NumberAt p after w16 c.number_16-kind.result) same c.number_16-kind.ensures in
-    let size_there = subst (λ (p : List ℕ). NumberAt p (after + 8) w16 size) same c.number_16-size.ensures in
-    (record_of named.0 c.number_16-kind.result c.number_16.result c.number_32.result rdata.0,
-    record {
-      after = after;
-      size = size;
-      name = named.1;
-      kind = kind_there;
-      class = subst (λ (p : List ℕ). NumberAt p (after + 2) w16 c.number_16.result) same c.number_16.ensures;
-      ttl = subst (λ (p : List ℕ). NumberAt p (after + 4) w32 c.number_32.result) same c.number_32.ensures;
-      rdlength = size_there;
-      whole = omega (arith, ap length same);
-      rdata = rdata.1;
-      end = refl;
-    },
-    (size, begins _ _ _ _ _ _ named.0 same named.1 c.number_16-kind.ensures c.number_16-size.ensures, refl), refl)
+    let size_there = subst (λ (p : List ℕ). NumberAt p (after + 8) w16 size) same c.number_16-size.ensures in (
+      record_of named.0 c.number_16-kind.result c.number_16.result c.number_32.result rdata.0,
+      record {
+        after = after;
+        size = size;
+        name = named.1;
+        kind = kind_there;
+        class = subst (λ (p : List ℕ). NumberAt p (after + 2) w16 c.number_16.result) same c.number_16.ensures;
+        ttl = subst (λ (p : List ℕ). NumberAt p (after + 4) w32 c.number_32.result) same c.number_32.ensures;
+        rdlength = size_there;
+        whole = omega (arith, ap length same);
+        rdata = rdata.1;
+        end = refl;
+      },
+      (size, begins _ _ _ _ _ _ named.0 same named.1 c.number_16-kind.ensures c.number_16-size.ensures, refl),
+      refl,
+    )

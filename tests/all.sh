@@ -1,6 +1,6 @@
 #!/usr/bin/env bash
-# The merge gate: rt ci, and then the scripts over the programs that it built. Its last lines say what was left out and what
-# failed, and the last one counts all cases: 'N passed, M failed, K skipped'.
+# The merge gate: rt ci, and then the scripts over what it built. Its last lines say what each step took of the processors, what was
+# left out and what failed, and the last one counts all cases: 'N passed, M failed, K skipped'.
 set -uo pipefail
 cd "$(dirname "$0")/.." || exit
 . tests/lib/counting.sh
@@ -33,10 +33,17 @@ noted() {
         END { if (NR > 20) print head ": and " NR - 20 " more" }'
 }
 
+# look_at_clock: puts the processor seconds of all that ended so far in $spent.
+spent=0
+look_at_clock() {
+    times >"$room/times"
+    spent=$(awk -F '[ms ]+' 'END { printf "%d", $1 * 60 + $2 + $3 * 60 + $4 }' "$room/times")
+}
+
 # step NAME MINUTES LEAST COMMAND..: runs a step, and adds the counts of its last line. It fails by itself where it doesn't end,
 # ends otherwise than its counts say, or has fewer cases than LEAST.
 step() {
-    local name=$1 status counts=(0 0 0) why=''
+    local name=$1 status counts=(0 0 0) why='' before=$spent
     watched "$2" "${@:4}"
     status=$?
     if [ $status -eq 124 ]; then
@@ -51,6 +58,8 @@ step() {
     failed=$((failed + counts[1]))
     skipped=$((skipped + counts[2]))
     [ -z "$why" ] || failed=$((failed + 1))
+    look_at_clock
+    echo "$name: $((spent - before)) processor seconds" >>"$room/costs"
     noted skipped "$name" >>"$room/skips"
     noted failed "$name" >"$room/failure"
     if [ "${counts[1]}" -gt 0 ] && [ ! -s "$room/failure" ]; then why='what its last lines say'; fi
@@ -77,11 +86,12 @@ checks=$(awk -v most="$(nproc)" '$1 == "MemAvailable:" {
     print checks < 1 ? 1 : checks < most ? checks : most
 }' /proc/meminfo)
 
-# How many crates there are to prove, and edits to refuse: those that lie here, or as many as are stated.
-proofs=$(($(grep -c '^[a-z]' crates.txt) + $(find crates -path '*/must-fail/*.edit' | wc -l)))
+# How many crates there are to prove: those that lie here, or as many as are stated.
+proofs=$(grep -c '^[a-z]' crates.txt)
 stated=$(least rt all)
 
 step rt 170 $((proofs > stated && stated > 0 ? proofs : stated)) env RT_JOBS="$checks" tests/lib/costs.py rt ci
+step wrong_bodies.py 120 "$(least wrong_bodies.py all)" env RT_JOBS="$checks" tests/wrong_bodies.py
 for each in program.sh process.py examples.sh wireshark.sh look.sh manual.sh; do
     step $each 20 "$(least $each all)" "tests/$each"
 done
@@ -90,6 +100,8 @@ step targets.sh 20 "$(least targets.sh all)" env MODULE="$room/nbt.bc" OUT="$roo
 step page.py 20 "$(least page.py all)" tests/page.py "$room/out"
 step scale.sh 20 "$(least scale.sh all)" tests/scale.sh
 step bench.py 30 "$(least bench.py all)" tests/bench.py --small
+cat "$room/costs"
+echo "$((spent / 60)) processor minutes on $(nproc) processors"
 cat "$room/skips" "$room/failures"
 echo "$passed passed, $failed failed, $skipped skipped"
 [ "$failed" -eq 0 ]

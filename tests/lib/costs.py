@@ -2,10 +2,9 @@
 """Runs a command, and prints what the checks that it started cost, crate by crate.  Usage: tests/lib/costs.py COMMAND [WORD ..]
 
 The processes of the prover are looked at once a second. A row of the table, as docs/PROOFS.md has it, is a crate: the
-processor seconds of its proof and its program, the number of its wrong bodies and the processor seconds of their
-checks, both together, and the most memory that its processes had at one time. What a process used in its last second is
-missing, so the rows add up to a little less than the last line, which counts all that the command used. Both stand
-before the command's own last line; the exit status is the command's.
+processor seconds of its proof and its program, and the most memory that its processes had at one time. What a process
+used in its last second is missing, so the rows add up to a little less than the last line, which counts all that the
+command used. Both stand before the command's own last line; the exit status is the command's.
 """
 import os
 import re
@@ -28,7 +27,6 @@ class Process:
             fields = file.read().rpartition(')')[2].split()
         with open(f'/proc/{number}/cmdline', 'rb') as file:
             self.words = file.read().decode(errors='replace').split('\0')
-        self.folder = os.readlink(f'/proc/{number}/cwd')
         self.parent = int(fields[1])
         self.began = fields[19]
         # Of its own, and of those that it waited for.
@@ -42,10 +40,6 @@ class Process:
     def crate(self):
         """The crate that it works on."""
         return self.words[self.words.index('--crate-name') + 1]
-
-    def is_edit(self):
-        """Whether it works on a crate with a wrong body planted, in a folder of its own."""
-        return os.path.basename(self.folder).startswith('rt-edit-')
 
 
 class Costs:
@@ -65,21 +59,15 @@ class Costs:
             while seen[top].parent in seen:
                 top = seen[top].parent
             if top == number:
-                key = (number, process.began, process.crate(), process.is_edit())
+                key = (number, process.began, process.crate())
                 self.seconds[key] = process.seconds + sum(below(seen, number))
         for crate, memory in now.items():
             self.peaks[crate] = max(self.peaks[crate], memory)
 
-    def of(self, crate, is_edit):
-        """The processor seconds of a crate's proof, or of its edits."""
-        return sum(spent for key, spent in self.seconds.items() if key[2:] == (crate, is_edit))
-
     def rows(self):
         """The rows of the table."""
-        names = sorted({key[2] for key in self.seconds}, key=place)
-        for crate in names:
-            proof, edits = self.of(crate, False), self.of(crate, True)
-            yield crate, proof, edit_count(crate), edits, self.peaks[crate] / 2**30
+        for crate in sorted({key[2] for key in self.seconds}, key=place):
+            yield crate, sum(spent for key, spent in self.seconds.items() if key[2] == crate), self.peaks[crate] / 2**30
 
 
 def provers():
@@ -120,23 +108,13 @@ def place(crate):
     return listed.index(crate) if crate in listed else len(listed)
 
 
-def edit_count(crate):
-    """How many wrong bodies a crate has."""
-    try:
-        return sum(name.endswith('.edit') for name in os.listdir(f'crates/{crate}/must-fail'))
-    except OSError:
-        return 0
-
-
 def table(costs, wall):
     """The lines of the table, and of what all of the command used."""
-    yield '| Crate | Proof, and program | Wrong bodies | Their checks | All | Memory, GB |'
-    yield '|---|---|---|---|---|---|'
-    sums = [0, 0, 0]
-    for crate, proof, count, edits, memory in costs.rows():
-        yield f'| {crate} | {proof:,.0f} | {count} | {edits:,.0f} | {proof + edits:,.0f} | {memory:.1f} |'
-        sums = [old + new for old, new in zip(sums, (proof, count, edits))]
-    yield f'| all | {sums[0]:,.0f} | {sums[1]} | {sums[2]:,.0f} | {sums[0] + sums[2]:,.0f} | |'
+    yield '| Crate | Processor seconds | Memory, GB |'
+    yield '|---|---|---|'
+    for crate, spent, memory in costs.rows():
+        yield f'| {crate} | {spent:,.0f} | {memory:.1f} |'
+    yield f'| all | {sum(spent for _, spent, _ in costs.rows()):,.0f} | |'
     used = resource.getrusage(resource.RUSAGE_CHILDREN)
     minutes = (used.ru_utime + used.ru_stime) / 60
     on = len(os.sched_getaffinity(0))

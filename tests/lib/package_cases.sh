@@ -19,7 +19,7 @@ made() {
     (cd "$top" && grep -E '^[0-9a-f]{64}  crates/' "$dist/PROOF" | sha256sum --quiet -c) >"$room/log" 2>&1
     count $? "the sources of PROOF: $(head -n 1 "$room/log")"
     sed -nE 's/^[0-9a-f]{64}  (crates\/.*\.(rt|antt))$/\1/p' "$dist/PROOF" | sort \
-        | same "$(git -C "$top" ls-files 'crates/*.rt' 'crates/*.antt' | grep -v /must-fail/ | sort)" 'PROOF has each source'
+        | same "$(git -C "$top" ls-files 'crates/*.rt' 'crates/*.antt' | sort)" 'PROOF has each source'
     grep -q '^The kit: rattle-kit' "$dist/PROOF" && grep -q '^The library: logic=proved ' "$dist/PROOF" \
         && grep -qxF "$(tail -n 1 "$here/counts.txt")" "$dist/PROOF"
     count $? "PROOF has the kit's line, that of the library, and the gate's last ones: $(head -n 4 "$dist/PROOF")"

@@ -2,14 +2,14 @@
 """The pages beside the sources: what they name is there, and what they list is all.
 
 Usage: tests/lib/pages.py, whose last line is 'N passed, M failed'; --write writes docs/LAWS.md anew, --wrong-bodies prints what the
-files of must-fail/ say. A case is
+files of wrong-bodies/ say. A case is
 
 - a file, a folder, or a name of the sources in backticks, on a page;
 - a public call of a library, which docs/PROMISES.md has in a row, or which answers a part of its value; a row, which has each
   clause of its calls and no other;
 - a word of docs/DEFINITIONS.md or docs/REASSEMBLY.md, which stands in the file that its row or its heading names;
 - docs/LAWS.md, which is what the sources say of the laws;
-- a file of must-fail/, which says what is wrong and why it is refused, and whose old lines stand once in the file that it changes;
+- a file of wrong-bodies/, which says what is wrong, why and where it is refused, and whose old lines stand once in the file that it changes;
 - the crates of the table of costs in docs/PROOFS.md.
 """
 import functools
@@ -81,7 +81,7 @@ def names():
     for path, text in pages():
         for ticked in sorted(set(TICKED.findall(text))):
             if re.fullmatch(r'(?:\w+/)?\w+-[a-z0-9]+(?:_[a-z0-9]+)+', ticked):
-                yield f'/must-fail/{ticked.split("/")[-1]}.edit' in endings(), f'{path.relative_to(ROOT)} names the wrong body `{ticked}`'
+                yield f'/wrong-bodies/{ticked.split("/")[-1]}.edit' in endings(), f'{path.relative_to(ROOT)} names the wrong body `{ticked}`'
             elif re.fullmatch(r'(?:\w+::)*(?:[A-Za-z]\w*_\w+|[A-Z][a-z]+[A-Z]\w*)|\w+(?:::\w+)+', ticked):
                 yield ticked in ELSEWHERE or all(it in named() for it in ticked.split('::')), f'{path.relative_to(ROOT)} names `{ticked}`'
 
@@ -167,29 +167,29 @@ def laws():
 
 
 def edits():
-    """Each file of must-fail/, with its crate and its lines."""
-    for path in sorted(CRATES.glob('*/must-fail/*.edit')):
+    """Each file of wrong-bodies/, with its crate and its lines."""
+    for path in sorted(CRATES.glob('*/wrong-bodies/*.edit')):
         fields = [line.split(': ', 1) for line in path.read_text(encoding='utf-8').splitlines() if ': ' in line]
         yield path.parents[1].name, path.stem, fields
 
 
 def wrong_bodies():
-    """Whether each file of must-fail/ says what is wrong and why, and its old lines stand once where it changes them."""
+    """Whether each file of wrong-bodies/ says what is wrong and why, and its old lines stand once where it changes them."""
     for crate, name, fields in edits():
-        heads = [it for it, _ in fields[:3]]
+        heads = [it for it, _ in fields[:4]]
         changed = CRATES / crate / dict(fields).get('file', '')
         text = changed.read_text(encoding='utf-8') if changed.is_file() else ''
         is_there = all(text.count(old) == 1 for head, old in fields if head == 'old')
-        yield {'what', 'why', 'file'} == set(heads) and is_there, f'{crate}/must-fail/{name}.edit: what, why, file, old lines'
+        yield {'what', 'why', 'refused', 'file'} == set(heads) and is_there, f'{crate}/wrong-bodies/{name}.edit: what, why, refused, file, old lines'
         why = dict(fields).get('why', '')
         unknown = [it for it in re.findall(r'`(\w+(?:::\w+)*)`', why) if any(each not in named() for each in it.split('::'))]
-        yield not unknown, f'{crate}/must-fail/{name}.edit names {unknown}'
+        yield not unknown, f'{crate}/wrong-bodies/{name}.edit names {unknown}'
 
 
 def costs():
     """Whether the table of costs in docs/PROOFS.md has each crate, in order, and no other."""
     text = (ROOT / 'docs' / 'PROOFS.md').read_text(encoding='utf-8')
-    found = [it[0] for it in rows(text) if len(it) == 6 and it[2].isdigit()]
+    found = [it[0] for it in rows(text) if len(it) == 3 and re.fullmatch(r'[0-9,]+', it[1])]
     yield found == [*LISTED, 'all'], f'PROOFS.md has what each crate costs, and all: {found}'
 
 

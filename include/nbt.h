@@ -515,8 +515,8 @@ uint32_t nbt_station_list(struct nbt_station *station, uint8_t *into, size_t int
  * datagrams that become whole by this, of those that one of the names hears, by ascending key. Each is its key, as in
  * saved tables (SOURCE_IP in four bytes, SOURCE_PORT and DGM_ID in two), MSG_TYPE in one, the spellings of the source
  * and of the destination, the length of the data in two, and the data; the higher byte of a number first (our choice).
- * Nothing is lost at NBT_NO_ROOM: the station is then as it was. The call takes memory for the table that is given, and
- * for the moment of each key that the station holds.
+ * Nothing is lost at NBT_NO_ROOM: the station is then as it was. The call takes memory for the table that is given, for
+ * as much again as is held at its keys, for the datagrams, and for the moment of each key that the station holds.
  * NBT_NO_STATION, 70 to 75, NBT_FULL_SOURCE, NBT_FULL, NBT_NO_MEMORY (which may come before those), NBT_NO_ROOM. At each of these
  * the station and the buffer are as they were. */
 uint32_t nbt_station_absorb(struct nbt_station *station, uint64_t moment, const uint8_t *table, size_t table_length,

@@ -4,11 +4,12 @@
 Usage: tests/wrong_bodies.py [CRATE ..], of all crates without a name; `rt ci` or `rt check` proved them before, since each is
 checked over the crates below it as they were built last. RT_JOBS says how many checks run side by side.
 
-A function is proved over what others promise, whatever their bodies are. So wrong bodies of different functions are planted in one
-copy of the crate, and one check of those functions, and of what they call, tells of each. A second one of a function, and a change
-outside of functions, such as that of a constant, wants a check of its own, over what the one before it proved. A case is a wrong body, which its own function has to be refused for, at the clause that is stated; and
-a check, in which nothing else may be refused. The table has the processor seconds of a crate's checks. The last line is
-'N passed, M failed'.
+A function is proved over what others promise, whatever their bodies are. So wrong bodies of different functions are planted in
+one copy of the crate, and one check of those functions, and of what they call, tells of each. A second one of a function waits for
+a further check, over what the one before it proved; a change outside of functions, such as that of a constant, has one of
+its own. A case is a wrong body, which its own function has to be refused for, at the clause that is stated; and a check, in which
+nothing else may be refused: what is called is proved, but for what calls a planted function in its turn. The table has the
+processor seconds of a crate's checks. The last line is 'N passed, M failed', and the status 1 where one failed.
 """
 import os
 import re
@@ -22,11 +23,15 @@ from dataclasses import dataclass, field
 from pathlib import Path
 
 ROOT = Path(__file__).resolve().parent.parent
+# How long a check may take: they take half a minute to six.
+LONGEST = '40m'
 # An answer to a goal, or a goal without one, of a function's proof; and a goal by its place in the source, above its function's line.
 ANSWERED = re.compile(r'\./proofs/(\S+)/(?:Answers|Invariants|Proof)\.antt:\d+:\d+: error: `([^`]+)`: (.*)')
 OPEN = re.compile(r'note: `([^`]+)` of proofs/(\S+)/(?:Answers|Proof)\.antt must prove')
 PLACED = re.compile(r'note: src/\S+: it is not proved that .*?\(`([^`]+)`\)')
 FUNCTION = re.compile(r'fn \w+::(\S+): (.*)')
+# A function that isn't proved since it calls one that isn't.
+CALLS = re.compile(r'it calls .* (?:is|are) not proved')
 # An answer to a goal that there no longer is says nothing of the body.
 GONE = re.compile(r'module `[^`]+` has no `')
 
@@ -57,7 +62,7 @@ def read(path):
         if head in ('what', 'why'):
             setattr(body, head, rest)
         elif head == 'refused':
-            body.function, body.clause = rest.split()
+            body.function, _, body.clause = rest.partition(' ')
         elif head == 'file':
             file = rest
         elif head == 'old':
@@ -70,7 +75,7 @@ def read(path):
 def function_at(crate, file, old, _):
     """The name of the function in which a line stands, if it stands in one."""
     text = (ROOT / 'crates' / crate / file).read_text(encoding='utf-8')
-    front = text[:text.index(old)] + old
+    front = text[:text.find(old)] + old
     names = re.findall(r'^ *(?:pub(?:\(\w+\))? )?(?:const )?(?:unsafe )?(?:extern "C" )?fn (\w+)', front, re.MULTILINE)
     return names[-1] if names else None
 
@@ -108,7 +113,7 @@ def refused(output):
         elif met := PLACED.match(line):
             placed.append(met[1])
         elif met := FUNCTION.match(line):
-            if placed and not met[2].startswith('proved'):
+            if not met[2].startswith('proved') and (placed or not CALLS.search(met[2])):
                 found[met[1]].update(map(clause, placed))
             placed = []
     return found
@@ -123,21 +128,32 @@ class Check:
     output: str = ''
     status: int = 0
 
+    def plant(self, room):
+        """Puts a copy of the crate into a folder, with the wrong bodies. Answers what went wrong."""
+        for part in ('src', 'specs', 'proofs'):
+            if (ROOT / 'crates' / self.crate / part).is_dir():
+                shutil.copytree(ROOT / 'crates' / self.crate / part, f'{room}/{part}')
+        for body in self.bodies:
+            for file, old, new in body.changes:
+                path = Path(room, file)
+                text = path.read_text(encoding='utf-8')
+                if text.count(old) != 1:
+                    return f'{body.path.stem}: its old line stands {text.count(old)} times'
+                path.write_text(text.replace(old, new), encoding='utf-8')
+        return ''
+
     def run(self, kept):
-        """Plants them in a copy, and checks their functions, over what the checks before have left in the folder kept."""
+        """Plants them, and checks their functions, over what the checks before have left where `kept` says."""
         with tempfile.TemporaryDirectory(prefix='wrong-bodies-') as room:
-            for part in ('src', 'specs', 'proofs'):
-                if (ROOT / 'crates' / self.crate / part).is_dir():
-                    shutil.copytree(ROOT / 'crates' / self.crate / part, f'{room}/{part}')
-            for body in self.bodies:
-                for file, old, new in body.changes:
-                    path = Path(room, file)
-                    path.write_text(path.read_text(encoding='utf-8').replace(old, new), encoding='utf-8')
-            words = subprocess.run([ROOT / 'tests/lib/crate_words', self.crate], stdout=subprocess.PIPE, text=True, check=True).stdout.split('\n')
+            self.output = self.plant(room)
+            if self.output:
+                return
+            words = subprocess.run([ROOT / 'tests/lib/crate_words', self.crate], stdout=subprocess.PIPE, text=True, check=True)
             only = [word for body in self.bodies for word in ('--only', body.function)]
             root = next(it for it in ('src/main.rt', 'src/lib.rt') if Path(room, it).exists())
+            command = ['timeout', LONGEST, 'rattle', 'check', *words.stdout.split(), *kept, *only, root]
             with open(f'{room}/said', 'w+', encoding='utf-8', errors='replace') as said:
-                with subprocess.Popen(['rattle', 'check', *filter(None, words), *kept, *only, root], cwd=room, stdout=said, stderr=said) as ran:
+                with subprocess.Popen(command, cwd=room, stdout=said, stderr=said) as ran:
                     _, status, used = os.wait4(ran.pid, 0)
                     ran.returncode = self.status = os.waitstatus_to_exitcode(status)
                 said.seek(0)
@@ -153,8 +169,9 @@ class Check:
             seen = found.get(body.function, set())
             why = None if body.clause in seen else f'refused at {sorted(seen)}, not at {body.clause}' if seen else 'it is not refused'
             yield body, why if is_checked else f'not checked, status {self.status}: {last[:200]}'
-        others = set(found) - {it.function for it in self.bodies}
-        yield None, f'{sorted(others)} refused beside {len(self.bodies)} wrong bodies' if others and not self.bodies[0].is_alone(self.crate) else None
+        others = sorted(set(found) - {it.function for it in self.bodies})
+        is_fair = not others or self.bodies[0].is_alone(self.crate)
+        yield None, None if is_fair else f'{others} refused beside {len(self.bodies)} wrong bodies'
 
 
 def checks(crate):
@@ -181,13 +198,16 @@ def table(done):
 
 
 def main():
-    """Runs all checks, and counts the cases that are right."""
+    """Runs all checks, counts the cases that are right, and answers the exit status."""
     crates = sys.argv[1:] or sorted(path.parent.name for path in (ROOT / 'crates').glob('*/wrong-bodies'))
     by_crate = sorted(map(checks, crates), key=lambda own: -sum(len(it.bodies) for it in own))
-    with ThreadPoolExecutor(int(os.environ.get('RT_JOBS', 0)) or os.cpu_count()) as pool:
+    with ThreadPoolExecutor(max(1, int(os.environ.get('RT_JOBS') or os.cpu_count()))) as pool:
         list(pool.map(run, by_crate))
     done = [check for own in by_crate for check in own]
-    passed = failed = 0
+    missing = [crate for crate in crates if crate not in {it.crate for it in done}]
+    for crate in missing:
+        print(f'failed: {crate} has no wrong bodies')
+    passed, failed = 0, len(missing)
     for check in done:
         for body, why in check.failures():
             passed, failed = passed + (why is None), failed + (why is not None)
@@ -195,7 +215,8 @@ def main():
                 print(f'failed: {check.crate}{"/" + body.path.stem if body else ""}: {why}')
     print(*table(done), sep='\n')
     print(f'{passed} passed, {failed} failed')
+    return 1 if failed else 0
 
 
 if __name__ == '__main__':
-    main()
+    sys.exit(main())

@@ -222,7 +222,9 @@ struct nbt_service_item {
 
 /* Reads the question or the record with this number, counted from 0, that stands at a place of a payload of port 137. The
  * first stands at 12, and each other at `next` of the one before: asked for so, these are those of the packet or, of a
- * payload that begins with none, as many as stand whole before the fault of nbt_service_read.
+ * payload that begins with none, as many as stand whole before the fault of nbt_service_read. So a program that wants all of
+ * them needs nbt_service_header alone before: where the packet doesn't stand, the item that doesn't has its fault, and where
+ * it does, it reaches to `next` of the last one, or to 12.
  * NBT_TRUNCATED for less than a header, NBT_NO_ITEM, and of what stands there its first fault, as of nbt_service_read. No
  * memory is taken. */
 uint32_t nbt_service_item(const uint8_t *payload, size_t payload_length, uint32_t number, size_t place,

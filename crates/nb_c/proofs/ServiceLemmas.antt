@@ -1,8 +1,6 @@
 -- A payload of port 137 has one answer for its header, for its packet, and for each item.
 use Rattle.std.proofs.Common.{◌≡◌, ◌∙◌, ℕ, ◌<◌, ◌≤◌, List, length, Option, Some, None, Result, Ok, Err, refl, ap, sym, subst, arith}
 use Rattle.std.specs.Prelude.{MatchOption}
-use Rattle.nb_names.specs.declared.pointers.Pointers.TheVariants.{Followed}
-use Rattle.nb_names.specs.Labels.{NameAt}
 use Rattle.nb_service.specs.declared.extent.Extent.{Extent}
 use Rattle.nb_service.specs.declared.fault.ServiceFault.{ServiceFault}
 use Rattle.nb_service.specs.declared.fault.ServiceFault.TheVariants.{Truncated}
@@ -10,7 +8,7 @@ use Rattle.nb_service.specs.declared.fields.Fields.{Fields}
 use Rattle.nb_service.specs.declared.limits.TheConstants.{HEADER_LENGTH}
 use Rattle.nb_service.specs.declared.section.Section.{Section}
 use Rattle.nb_service.specs.Header.{PacketHeader, HasHeader}
-use Rattle.nb_service.specs.Items.{PacketItem, name_of, ItemAt, question_there, record_there, ItemFails, question_fails, record_fails, IsExtent}
+use Rattle.nb_service.specs.Items.{PacketItem, asked, told, ItemAt, ItemFails, question_fails, record_fails, IsExtent}
 use Rattle.nb_service.specs.Packet.{ServicePacket, IsPacket, HasOutline}
 use Rattle.nb_service.specs.ServiceFaults.{PacketFails, item_count}
 use Rattle.nb_c.specs.declared.refusal.Refusal.{Refusal}
@@ -89,11 +87,10 @@ fails_counted : (payload : List ℕ) (h : PacketHeader) (k at : ℕ) (f : Servic
 fails_counted payload h k at f (question_fails low t) = omega (arith, low)
 fails_counted payload h k at f (record_fails late low t) = low
 
--- where an item stands, its name does
-pub item_named : (payload : List ℕ) (h : PacketHeader) (k at : ℕ) (a : PacketItem) (n : ℕ) → ItemAt payload h k at a n
-    → (after : ℕ) × NameAt payload Followed at (name_of a) after
-item_named payload h k at a n (question_there q m low there) = (there.after, there.name)
-item_named payload h k at a n (record_there s e m is there) = (there.after, there.name)
+-- RDATA begins where it ends, or before
+pub extent_fits : (payload : List ℕ) (at : ℕ) (a : PacketItem) (e : Extent) → IsExtent payload at a e → e.rdata ≤ e.next
+extent_fits payload at (asked q) e is = omega (arith, is)
+extent_fits payload at (told s r) e is = omega (arith, is.2)
 
 -- the same section and fields are the same numbers
 pub same_numbers : (s t : Option Section) (f g : Fields) (number : ℕ) (labels : List (List ℕ)) → number ≡ section_number s → s ≡ t → f ≡ g

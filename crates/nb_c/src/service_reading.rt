@@ -1,21 +1,22 @@
 //! Payloads of the name service, read.
-ghost use Rattle.std.specs.Prelude.{◌≡◌, ◌++◌, ℕ, List};
+ghost use Rattle.std.specs.Prelude.{◌≡◌, ◌≤◌, ◌++◌, ℕ, List};
 ghost use Rattle.nb_c.specs.declared.service_reading.NbtServiceHeader.{NbtServiceHeader};
 ghost use Rattle.nb_c.specs.declared.service_reading.NbtServiceItem.{NbtServiceItem};
 ghost use Rattle.nb_c.specs.Outputs.{Alone, FilledAlone, Fills};
 ghost use Rattle.nb_c.specs.Services.{ReadsHeader, ReadsItem, ReadsPacket, header_numbers, netbios_number, numbers, section_number};
 ghost use Rattle.nb_names.specs.declared.pointers.Pointers.TheVariants.{Followed};
 ghost use Rattle.nb_names.specs.DomainName.{spelling};
-ghost use Rattle.nb_names.specs.Labels.{NameAt};
 ghost use Rattle.nb_names.specs.NameText.{are_letters};
+ghost use Rattle.nb_names.specs.Skipped.{IsSkipped};
 ghost use Rattle.nb_service.specs.Header.{HasHeader, header_value};
 
 use crate::output::{fill, finish};
 use crate::refusal::{Refusal, service_refusal};
 use crate::spellings::spell_domain;
 use crate::statuses::NO_ITEM;
-use nb_names::NameReader;
+use nb_names::laws::one_reading;
 use nb_names::limits::{LETTERS, MAX_SPELLING, POINTED_OFFSETS};
+use nb_names::{NameReader, Skipped};
 use nb_service::laws::{one_header, one_item, one_packet, one_service_fault};
 use nb_service::limits::{HEADER_LENGTH, SHORT_PACKET};
 use nb_service::{Fields, Header, Section, outline, read_fields, read_header};
@@ -139,6 +140,7 @@ fn read_long(payload: &[u8], header: &mut NbtServiceHeader, at: &mut usize) -> u
 }
 
 /// Fills in the header and the length of the packet whose names are read so.
+#[inline(always)]
 fn fill_packet(names: &NameReader<'_, '_>, header: &mut NbtServiceHeader, at: &mut usize) -> u32
     ensures { Fills NbtServiceHeader (ReadsPacket names.now)
         header.old header.new at.old at.new result }
@@ -147,6 +149,7 @@ fn fill_packet(names: &NameReader<'_, '_>, header: &mut NbtServiceHeader, at: &m
 }
 
 /// The header and the length of the packet whose names are read so.
+#[inline(always)]
 fn judge(names: &NameReader<'_, '_>) -> Result<NbtServiceHeader, Refusal>
     ensures { Alone NbtServiceHeader (ReadsPacket names.now) result }
 {
@@ -218,8 +221,8 @@ fn fill_item_of(
     one_header();
     one_item();
     match read_fields(names, header, number, place) {
-        Ok(Some((section, fields))) => {
-            fill_numbers(section_number(section), fields, names, place, into);
+        Ok(Some((section, fields, name))) => {
+            fill_numbers(section_number(section), fields, names, place, name, into);
             Ok(())
         }
         Ok(None) => Err(Refusal::Fault(NO_ITEM)),
@@ -239,25 +242,31 @@ fn section_number(section: Option<Section>) -> u32
     }
 }
 
-/// Fills in these fields, and the name that stands at an offset of a packet.
+/// Fills in these fields, and the name that stands at an offset of a packet and was judged so.
 fn fill_numbers(
     section: u32,
     fields: Fields,
     names: &NameReader<'_, '_>,
     place: usize,
+    name: Skipped,
     into: &mut NbtServiceItem,
 )
-    ensures { (labels : List (List ℕ)) (after : ℕ) →
-        NameAt names.now Followed place labels after → into.new ≡ numbers section fields labels }
+    requires named { (labels : List (List ℕ)) × IsSkipped names.now Followed place labels name }
+    requires fits { fields.extent.rdata ≤ fields.extent.next }
+    ensures { (labels : List (List ℕ)) → IsSkipped names.now Followed place labels name →
+        into.new ≡ numbers section fields labels }
 {
+    // For the clause: labels make a name, which is short. The call does nothing.
+    one_reading();
     into.section = section;
     into.time_to_live = fields.ttl;
     into.kind = fields.kind;
     into.class = fields.class;
     into.contents = fields.extent.rdata;
-    into.contents_length = fields.extent.next.saturating_sub(fields.extent.rdata);
+    into.contents_length = fields.extent.next - fields.extent.rdata;
     into.next = fields.extent.next;
-    into.name_length = spell_domain(names, place, &mut into.name) as u8;
+    into.name_length = name.spelled_len as u8;
+    spell_domain(names, place, name, &mut into.name);
     into.netbios = netbios_number(&into.name);
 }
 
@@ -280,9 +289,9 @@ fn are_letters(label: &[u8]) -> bool
     if label.len() != LETTERS {
         return false;
     }
-    let mut good = true;
+    let mut greatest: u8 = 0;
     'letters: for letter in label {
-        good = good & (letter.wrapping_sub(b'A') < 16);
+        greatest = greatest.max(letter.wrapping_sub(b'A'));
     }
-    good
+    greatest < 16
 }

@@ -3,12 +3,11 @@ ghost use Rattle.std.specs.Prelude.{◌≡◌, ◌≤◌, ℕ, List, length};
 ghost use Rattle.nb_c.specs.Names.{in_place, spelled_in_place};
 ghost use Rattle.nb_names.specs.declared.limits.TheConstants.{MAX_SPELLING};
 ghost use Rattle.nb_names.specs.declared.pointers.Pointers.TheVariants.{Followed};
-ghost use Rattle.nb_names.specs.DomainName.{spelling};
-ghost use Rattle.nb_names.specs.Labels.{NameAt};
+ghost use Rattle.nb_names.specs.Skipped.{IsSkipped};
 
-use nb_names::laws::one_reading;
-use nb_names::limits::MAX_SPELLING;
-use nb_names::{DomainName, NameReader, Pointers};
+use nb_names::laws::{one_reading, spelled_in_one_run};
+use nb_names::limits::{LETTERS, MAX_SPELLING};
+use nb_names::{DomainName, NameReader, Pointers, Skipped};
 
 /// The spelling of labels, and bytes of zero after it.
 pub(crate) fn spelled_in_place(domain: &DomainName) -> [u8; MAX_SPELLING]
@@ -19,39 +18,43 @@ pub(crate) fn spelled_in_place(domain: &DomainName) -> [u8; MAX_SPELLING]
     bytes
 }
 
-/// Fills in the spelling of the domain name at an offset of a packet, and bytes of zero after it,
-/// and answers its length. Where no pointer is in the name, it is spelled as it stands there.
+/// Fills in the spelling of the domain name at an offset of a packet that was judged so, and bytes
+/// of zero after it. Where it stands in the packet whole, it is copied from there.
 pub(crate) fn spell_domain(
     names: &NameReader<'_, '_>,
     at: usize,
+    name: Skipped,
     into: &mut [u8; MAX_SPELLING],
-) -> usize
-    ensures spelled { (labels : List (List ℕ)) (after : ℕ) →
-        NameAt names.now Followed at labels after →
-        (into.new ≡ spelled_in_place labels) × (result ≡ length (spelling labels)) }
-    ensures short { result ≤ MAX_SPELLING }
+)
+    requires { (labels : List (List ℕ)) × IsSkipped names.now Followed at labels name }
+    ensures { (labels : List (List ℕ)) → IsSkipped names.now Followed at labels name →
+        into.new ≡ spelled_in_place labels }
 {
-    // For the clause: one name stands there at most. The call does nothing.
+    // For the clause: labels make a name, and where they stand in one run. The calls do nothing.
     one_reading();
+    spelled_in_one_run();
     let packet = names.packet();
-    if let Ok(after) = names.skip_domain(at, Pointers::Refused) {
-        fill_spelling(&packet[at..after], into);
-        return after - at;
-    }
-    match names.read_domain(at, Pointers::Followed) {
-        Ok((name, _)) => {
-            fill_spelling(name.spelling(), into);
-            name.spelled_len()
-        }
-        Err(_) => 0,
+    if name.run_end - name.run == name.spelled_len {
+        fill_spelling(&packet[name.run..name.run_end], into);
+    } else if let Ok((domain, _)) = names.read_domain(at, Pointers::Followed) {
+        fill_spelling(domain.spelling(), into);
     }
 }
 
-/// Fills in a spelling, and bytes of zero after it.
+/// How many bytes the spelling of a NetBIOS name has whose scope has no label.
+const WITHOUT_SCOPE: usize = 1 + LETTERS + 1;
+
+/// Fills in a spelling, and bytes of zero after it. Of the length that nearly all have it is copied
+/// without a call of the C library.
+#[inline(always)]
 fn fill_spelling(spelling: &[u8], into: &mut [u8; MAX_SPELLING])
     requires { length spelling.now ≤ MAX_SPELLING }
     ensures { into.new ≡ in_place spelling.now }
 {
     *into = [0; MAX_SPELLING];
-    into[..spelling.len()].copy_from_slice(spelling);
+    if spelling.len() == WITHOUT_SCOPE {
+        into[..WITHOUT_SCOPE].copy_from_slice(spelling);
+    } else {
+        into[..spelling.len()].copy_from_slice(spelling);
+    }
 }

@@ -1,13 +1,15 @@
 -- The words of the crate hex, and ours.
-use Rattle.std.proofs.Common.{◌≡◌, ◌==◌, ℕ, suc, ◌+◌, ◌/◌, ◌%◌, ◌<◌, ◌≤◌, true, false, nat_lt, List, [], ◌∷◌, length, get_or, slice_index, Option, Some, None, Result, Ok, Err, refl, sym, subst, ◌∙◌, arith, inl, inr}
+use Rattle.std.proofs.Common.{◌≡◌, ◌≢◌, ◌==◌, ℕ, suc, ◌+◌, ◌/◌, ◌%◌, ◌<◌, ◌≤◌, true, false, nat_lt, List, [], ◌∷◌, ◌++◌, length, take, get_or, slice_index, Option, Some, None, Result, Ok, Err, refl, sym, subst, ◌∙◌, arith, inl, inr}
 use Rattle.std.specs.Prelude.{IsOk, MatchResult, OnOk}
 use Rattle.std.specs.Char.{digit_value, digit_char, is_ascii_hexdigit}
 use Rattle.std.proofs.lemmas.Bool.{agree_below_at, cases_lt, eqb-true, lt-ltb}
 use Rattle.std.proofs.lemmas.Bool.Decides.{nat_tests}
+use Rattle.std.proofs.lemmas.List.{take_at}
 use Rattle.std.proofs.lemmas.List.Sums.{list_all-from_AllPass}
 use Rattle.hex.specs.Hex.{IsBytes, decode_of, decode_pairs, decode_sized, encode_lower, encode_with, hex_digit_value, is_hex_digit, lower_digits}
 use Rattle.hex.specs.declared.error.FromHexError.{FromHexError}
 use Rattle.hex.proofs.HexLemmas.{decode_of-even, decode_of-ok, decode_of-same}
+use Rattle.hex.proofs.Pairs.{decode_sized-pairs}
 use Rattle.nb_names.specs.NameText.{IsHexDigit}
 use Rattle.nb_names.specs.Hexadecimal.{HexText, no_byte, one_more, digits_text}
 use Rattle.nb_names.specs.HexadecimalFacts.{HexText-from_test, length-HexText}
@@ -52,10 +54,32 @@ digits_of_decoded bytes text h =
 pub no_digits : (text : List ℕ) (e : FromHexError) → decode_of text ≡ Err e → (bytes : List ℕ) → ¬ HexText bytes text
 no_digits text e h bytes k = cc (sym h ∙ decoded bytes text k)
 
--- no text has no byte
-pub empty_hex : (bytes text : List ℕ) → bytes ≡ [] → length text ≡ 0 → HexText bytes text
-empty_hex bytes [] none short = rw none no_byte
-empty_hex bytes (c ∷ text) none short = absurd (omega (arith, short))
+-- nor is a text of an odd length
+pub odd_digits : (text : List ℕ) → length text % 2 ≢ 0 → (bytes : List ℕ) → ¬ HexText bytes text
+odd_digits text odd bytes h = absurd (odd (let len = length-HexText bytes text h in omega (arith, len)))
+
+-- IsDecoded read room result: into the room this was decoded, or nothing is
+abbrev pub IsDecoded : Result (List ℕ) FromHexError → List ℕ → Result Unit FromHexError → Type 0
+IsDecoded read room result = MatchResult read (λ bytes. (result ≡ Ok tt) × (room ≡ bytes)) (λ e. result ≡ Err e)
+
+-- what is answered of a text that is decoded into room for its bytes
+decoded_as : (text room : List ℕ) (read : Result (List ℕ) FromHexError) (result : Result Unit FromHexError) → decode_of text ≡ read
+    → IsDecoded read room result → MatchResult result (λ _. HexText room text) (λ _. (bytes : List ℕ) → ¬ HexText bytes text)
+decoded_as text room (Ok bytes) result is (done, put) = rw (done, put) (digits_of_decoded bytes text is)
+decoded_as text room (Err e) result is failed = rw failed (no_digits text e is)
+
+pub decoded_into : (text room : List ℕ) (n : ℕ) (result : Result Unit FromHexError) → length text % 2 ≡ 0 → n ≡ length text / 2
+    → IsDecoded (decode_sized text n) room result → MatchResult result (λ _. HexText room text) (λ _. (bytes : List ℕ) → ¬ HexText bytes text)
+decoded_into text room n result even half is =
+    decoded_as text room (decode_sized text n) result (decode_of-even text even ∙ sym (decode_sized-pairs text n even (sym half))) is
+
+-- and of the room as it is then, which has a byte for two of the text
+pub put_back : (text put rest room : List ℕ) (n : ℕ) → HexText put text → n ≡ length text / 2 → room ≡ take n (put ++ rest)
+    → HexText room text
+put_back text put rest room n h half is =
+    let len = length-HexText put text h in
+    let all : length put ≡ n = omega (arith, len, half) in
+    subst (λ (b : List ℕ). HexText b text) (sym (is ∙ take_at put rest n all)) h
 
 -- ---- a pair
 

@@ -6,6 +6,7 @@ pub mod NameLemmas
 pub mod LabelsLemmas
 pub mod FaultLemmas
 pub mod ReadingLemmas
+pub mod SkippedLemmas
 pub mod ChainLemmas
 pub mod TotalityLemmas
 pub mod OtherWordsLemmas

@@ -5,6 +5,7 @@ pub mod Name
 pub mod NameFacts
 pub mod Labels
 pub mod NameFaults
+pub mod Skipped
 pub mod Numbers
 pub mod PacketFacts
 pub mod FaultTexts

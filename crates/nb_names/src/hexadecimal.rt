@@ -1,12 +1,11 @@
 //! Bytes in hexadecimal.
-ghost use Rattle.std.specs.Prelude.{◌≡◌, ◌%◌, ◌<◌, [], length, Err};
+ghost use Rattle.std.specs.Prelude.{◌≡◌, ◌%◌, ◌<◌, length, Err};
 ghost use Rattle.std.specs.List.{list_all};
 ghost use Rattle.std.specs.Char.{is_ascii_hexdigit};
 ghost use Rattle.nb_names.specs.Hexadecimal.{ReadsData, ReadsDigits};
 ghost use Rattle.nb_names.specs.Code.Digits.{pair_byte};
 
 use crate::bytes::Bytes;
-use hex::FromHexError;
 use std::alloc::Global;
 use std::error::Error;
 use std::fmt;
@@ -31,15 +30,23 @@ pub enum DigitsFault {
 pub fn bytes_of_digits(alloc: Global, text: &[u8]) -> Result<Bytes, DigitsFault>
     ensures { ReadsDigits text.now result }
 {
-    if text.is_empty() {
-        return Ok(Bytes::from_vec(Vec::new(alloc)));
+    digits_in(Vec::new(alloc), text)
+}
+
+/// The bytes that a text's digits stand for, in this room, whose own bytes are let go.
+fn digits_in(mut room: Vec<u8>, text: &[u8]) -> Result<Bytes, DigitsFault>
+    ensures { ReadsDigits text.now result }
+{
+    if text.len() % 2 != 0 {
+        return Err(DigitsFault::BadDigits);
     }
-    match hex::decode(alloc, text) {
-        Ok(bytes) => Ok(Bytes::from_vec(bytes)),
-        Err(fault) => match fault {
-            FromHexError::OutOfMemory => Err(fault_without_room(text)),
-            _ => Err(DigitsFault::BadDigits),
-        },
+    let count = text.len() / 2;
+    if room.resize(count, 0).is_err() {
+        return Err(fault_without_room(text));
+    }
+    match hex::decode_to_slice(text, room.as_mut_slice()) {
+        Ok(()) => Ok(Bytes::from_vec(room)),
+        Err(_) => Err(DigitsFault::BadDigits),
     }
 }
 
@@ -55,20 +62,26 @@ pub fn bytes_of_digits(alloc: Global, text: &[u8]) -> Result<Bytes, DigitsFault>
 pub fn data_of_text(alloc: Global, text: &[u8]) -> Result<Bytes, DigitsFault>
     ensures { ReadsData text.now result }
 {
+    data_in(Vec::new(alloc), text)
+}
+
+/// The bytes that a text of data stands for, as [`data_of_text`] reads it, in this room, whose own
+/// bytes are let go: no memory is taken where the room has enough.
+///
+/// # Errors
+///
+/// Those of [`data_of_text`].
+pub fn data_in(mut room: Vec<u8>, text: &[u8]) -> Result<Bytes, DigitsFault>
+    ensures { ReadsData text.now result }
+{
     if text == b"empty".as_slice() {
-        return Ok(no_bytes(alloc));
+        room.clear();
+        return Ok(Bytes::from_vec(room));
     }
     if text.is_empty() {
         return Err(DigitsFault::BadDigits);
     }
-    bytes_of_digits(alloc, text)
-}
-
-/// No bytes.
-fn no_bytes(alloc: Global) -> Bytes
-    ensures { result ≡ [] }
-{
-    Bytes::from_vec(Vec::new(alloc))
+    digits_in(room, text)
 }
 
 /// What is answered of a text for whose bytes there is no room.

@@ -1,5 +1,5 @@
 //! Laws of the definitions that the contracts cite. Each is proved; a call does nothing.
-ghost use Rattle.std.specs.Prelude.{◌≡◌, ◌≢◌, ◌↔◌, ◌⊎◌, ℕ, ◌+◌, ◌*◌, ◌/◌, ◌%◌, ◌<◌, List, [], ◌∷◌, ◌++◌, length, slice_index};
+ghost use Rattle.std.specs.Prelude.{◌≡◌, ◌≢◌, ◌↔◌, ◌⊎◌, ℕ, ◌+◌, ◌*◌, ◌/◌, ◌%◌, ◌<◌, ◌≤◌, List, [], ◌∷◌, ◌++◌, length, slice_index};
 ghost use Rattle.std.specs.List.{sum_by};
 ghost use Rattle.std.specs.Int.{w16, to_be_bytes};
 ghost use Rattle.nb_names.specs.declared.fault.NameFault.{NameFault};
@@ -8,9 +8,11 @@ ghost use Rattle.nb_names.specs.declared.limits.TheConstants.{MAX_LABEL, MAX_SPE
 ghost use Rattle.nb_names.specs.declared.pointers.Pointers.{Pointers};
 ghost use Rattle.nb_names.specs.DomainName.{spelling, AreBytes, IsDomain};
 ghost use Rattle.nb_names.specs.FirstLevel.{letters, IsLetter};
-ghost use Rattle.nb_names.specs.Labels.{NameAt, pointer_bytes};
+ghost use Rattle.nb_names.specs.Labels.{NameAt, StandsAt, pointer_bytes};
 ghost use Rattle.nb_names.specs.Name.{NetbiosName, IsName, IsScope, IsNoName, labels_of_name};
 ghost use Rattle.nb_names.specs.NameFaults.{FaultAt, NetbiosFaultAt};
+ghost use Rattle.nb_names.specs.Skipped.{IsSkipped};
+ghost use Rattle.nb_names.specs.declared.skipped.Skipped.{Skipped};
 
 /// The limits of the definitions, as numbers.
 pub fn numbers()
@@ -64,6 +66,17 @@ pub fn spelling_is_read()
         IsDomain labels →
         NameAt (front ++ (spelling labels ++ rest)) pointers (length front)
         labels (length front + length (spelling labels)) }
+{}
+
+/// The last run of a name lies in its packet. Where it is as long as the spelling of the name's
+/// labels, that spelling stands there.
+pub fn spelled_in_one_run()
+    ensures within { (packet : List ℕ) (pointers : Pointers) (at : ℕ) (labels : List (List ℕ))
+        (seen : Skipped) → IsSkipped packet pointers at labels seen →
+        (seen.run < seen.run_end) × (seen.run_end ≤ length packet) }
+    ensures stands { (packet : List ℕ) (pointers : Pointers) (at : ℕ) (labels : List (List ℕ))
+        (seen : Skipped) → IsSkipped packet pointers at labels seen →
+        seen.run + seen.spelled_len ≡ seen.run_end → StandsAt packet seen.run (spelling labels) }
 {}
 
 /// At each offset of a packet labels stand or there is a fault, for domain names and for NetBIOS

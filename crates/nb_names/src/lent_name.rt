@@ -179,9 +179,9 @@ pub fn read_lent_name<'a>(packet: &'a [u8], at: usize) -> Result<(LentName<'a>, 
     // Which fault it is, and where.
     ensures fault { IfErr result (NetbiosFaultAt packet.entry.now Refused at) }
 {
-    let next = skip_along(packet, &[], at, Pointers::Refused)?;
-    match LentName::of_spelling(&packet[at..next]) {
-        Ok(name) => Ok((name, next)),
+    let seen = skip_along(packet, &[], at, Pointers::Refused)?;
+    match LentName::of_spelling(&packet[at..seen.next]) {
+        Ok(name) => Ok((name, seen.next)),
         Err(fault) => Err(NameFault::NotNetbios(fault.place)),
     }
 }

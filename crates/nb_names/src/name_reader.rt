@@ -2,12 +2,14 @@
 ghost use Rattle.std.specs.Prelude.{◌≡◌, ◌≤◌, ℕ, List, length, IfOk, IfErr, IsOkAnd};
 ghost use Rattle.nb_names.specs.Labels.{NameAt};
 ghost use Rattle.nb_names.specs.NameFaults.{FaultAt};
+ghost use Rattle.nb_names.specs.Skipped.{IsSkipped};
 
 use crate::domain_name::DomainName;
 use crate::fault::NameFault;
 use crate::pointer_ends::find_ends;
 use crate::pointers::Pointers;
 use crate::reading::read_along;
+use crate::skipped::Skipped;
 use crate::skipping::skip_along;
 use std::marker::Model;
 
@@ -83,21 +85,27 @@ impl<'a, 'r> NameReader<'a, 'r> {
         read_along(self.packet, self.ends, at, pointers)
     }
 
-    /// The offset that follows the domain name at an offset of the packet. The name is judged as by
-    /// [`NameReader::read_domain`], and not made.
+    /// Where the domain name stands that is at an offset of the packet, and how long its spelling
+    /// is. The name is judged as by [`NameReader::read_domain`], and not made.
+    ///
+    /// Where its last run is as long as its spelling, all of its labels stand there
+    /// ([`spelled_in_one_run`](crate::laws::spelled_in_one_run)): so it is where no label comes
+    /// before a pointer.
     ///
     /// # Errors
     ///
     /// Those of [`read_domain`](crate::read_domain).
     ///
     /// RFC 1002 section 4.1.
-    #[inline]
-    pub fn skip_domain(&self, at: usize, pointers: Pointers) -> Result<usize, NameFault>
-        ensures found { IfOk result (λ next.
-            (labels : List (List ℕ)) × NameAt self.now pointers at labels next) }
+    #[inline(always)]
+    pub fn skip_domain(&self, at: usize, pointers: Pointers) -> Result<Skipped, NameFault>
+        ensures found { IfOk result (λ seen.
+            (labels : List (List ℕ)) × IsSkipped self.now pointers at labels seen) }
         ensures only { (labels : List (List ℕ)) (next : ℕ) →
-            NameAt self.now pointers at labels next → IsOkAnd result (λ read. read ≡ next) }
-        ensures within { IfOk result (λ next. next ≤ length self.now) }
+            NameAt self.now pointers at labels next →
+            IsOkAnd result (λ seen. IsSkipped self.now pointers at labels seen
+            × (seen.next ≡ next)) }
+        ensures within { IfOk result (λ seen. seen.next ≤ length self.now) }
         ensures fault { IfErr result (FaultAt self.now pointers at) }
     {
         skip_along(self.packet, self.ends, at, pointers)

@@ -3,28 +3,31 @@ ghost use Rattle.std.specs.Prelude.{◌≡◌, ◌<◌, ◌≤◌, ℕ, List, le
 ghost use Rattle.nb_names.specs.Code.PointerEnds.{AreEnds};
 ghost use Rattle.nb_names.specs.Labels.{NameAt};
 ghost use Rattle.nb_names.specs.NameFaults.{FaultAt};
+ghost use Rattle.nb_names.specs.Skipped.{IsSkipped};
 
 use crate::fault::NameFault;
 use crate::length_byte::{LengthByte, length_byte_at};
 use crate::limits::MAX_SPELLING;
 use crate::pointer_ends::end_from;
 use crate::pointers::Pointers;
+use crate::skipped::Skipped;
 
-/// The offset after the domain name at an offset of a packet, of whose chains of pointers ends are
-/// known.
-#[inline]
+/// Where the domain name stands that is at an offset of a packet, of whose chains of pointers ends
+/// are known.
+#[inline(always)]
 pub(crate) fn skip_along(
     packet: &[u8],
     ends: &[u16],
     at: usize,
     pointers: Pointers,
-) -> Result<usize, NameFault>
+) -> Result<Skipped, NameFault>
     requires { AreEnds packet.now ends.now }
-    ensures found { IfOk result (λ next.
-        (labels : List (List ℕ)) × NameAt packet.now pointers at labels next) }
+    ensures found { IfOk result (λ seen.
+        (labels : List (List ℕ)) × IsSkipped packet.now pointers at labels seen) }
     ensures only { (labels : List (List ℕ)) (next : ℕ) → NameAt packet.now pointers at labels next →
-        IsOkAnd result (λ read. read ≡ next) }
-    ensures within { IfOk result (λ next. (at < next) × (next ≤ length packet.now)) }
+        IsOkAnd result (λ seen. IsSkipped packet.now pointers at labels seen × (seen.next ≡ next)) }
+    ensures within { IfOk result (λ seen.
+        (at < seen.next) × (seen.next ≤ length packet.now)) }
     ensures fault { IfErr result (FaultAt packet.now pointers at) }
 {
     let mut spelled = 1;
@@ -35,7 +38,14 @@ pub(crate) fn skip_along(
         match length_byte_at(packet, here) {
             LengthByte::Cut => return Err(NameFault::Truncated(at.max(packet.len()))),
             LengthByte::Reserved => return Err(NameFault::ReservedLabel(here)),
-            LengthByte::End => return Ok(next.unwrap_or(here + 1)),
+            LengthByte::End => {
+                return Ok(Skipped {
+                    next: next.unwrap_or(here + 1),
+                    spelled_len: spelled,
+                    run: start,
+                    run_end: here + 1,
+                });
+            }
             LengthByte::Label(size) => {
                 spelled += size + 1;
                 if spelled > MAX_SPELLING {

@@ -9,6 +9,7 @@ use crate::skipping::{skip_question, skip_record};
 use nb_names::NameReader;
 
 /// The offset after a row of questions, which begins at `at`.
+#[inline(always)]
 pub(crate) fn skip_questions(
     names: &NameReader<'_, '_>,
     at: usize,
@@ -19,13 +20,14 @@ pub(crate) fn skip_questions(
 {
     let mut next = at;
     for _ in 0..count {
-        let fields = skip_question(names, next)?;
+        let (fields, _) = skip_question(names, next)?;
         next = fields.extent.next;
     }
     Ok(next)
 }
 
 /// The offset after a row of records, which begins at `at`.
+#[inline(always)]
 pub(crate) fn skip_records(
     names: &NameReader<'_, '_>,
     at: usize,
@@ -36,7 +38,7 @@ pub(crate) fn skip_records(
 {
     let mut next = at;
     for _ in 0..count {
-        let fields = skip_record(names, next)?;
+        let (fields, _) = skip_record(names, next)?;
         next = fields.extent.next;
     }
     Ok(next)

@@ -18,6 +18,7 @@ use nb_names::limits::POINTED_OFFSETS;
 use std::alloc::Global;
 
 /// Checks the questions and records after a header, without memory, and answers where they end.
+#[inline(always)]
 fn check(names: &NameReader<'_, '_>, header: &Header) -> Result<usize, ServiceFault>
     requires { HasHeader names.now (header_value header.now) }
     ensures found { IfOk result (HasOutline names.now (header_value header.now)) }
@@ -40,6 +41,7 @@ fn check(names: &NameReader<'_, '_>, header: &Header) -> Result<usize, ServiceFa
 /// What is wrong first, read from the front; never `NoMemory`.
 ///
 /// RFC 1002 section 4.2.1.
+#[inline(always)]
 pub fn outline(names: &NameReader<'_, '_>) -> Result<(Header, usize), ServiceFault>
     // What is answered stands there, and what stands there is answered.
     ensures found { IfOk result (λ seen. HasOutline names.now (header_value seen.0) seen.1) }

@@ -1,7 +1,9 @@
 //! Items of a packet, read one by one where they stand.
 ghost use Rattle.std.specs.Prelude.{◌≡◌, ◌≤◌, ℕ, length, IfOk, IfErr, IfSome, IsOkAnd, IsSomeAnd, MatchOption};
+ghost use Rattle.nb_names.specs.declared.pointers.Pointers.TheVariants.{Followed};
+ghost use Rattle.nb_names.specs.Skipped.{IsSkipped};
 ghost use Rattle.nb_service.specs.Header.{header_value};
-ghost use Rattle.nb_service.specs.Items.{IsExtent, IsRecordOf, ItemAt, ItemFails, PacketItem, fields_of, item_of, section_of};
+ghost use Rattle.nb_service.specs.Items.{IsExtent, IsRecordOf, ItemAt, ItemFails, PacketItem, fields_of, item_of, name_of, section_of};
 ghost use Rattle.nb_service.specs.ServiceFaults.{item_count};
 
 use crate::extent::Extent;
@@ -13,7 +15,7 @@ use crate::laws::one_item;
 use crate::reading::{read_question, read_reaching_record};
 use crate::section::Section;
 use crate::skipping::{skip_question, skip_record};
-use nb_names::NameReader;
+use nb_names::{NameReader, Skipped};
 
 /// The section of the record that is the item of a number; none past the last record.
 fn section_of(header: &Header, number: usize) -> Option<Section>
@@ -84,8 +86,12 @@ pub fn read_item<'a>(
     Ok(Some((Item::Record(section, record), extent)))
 }
 
-/// The section and the fields of the item that [`read_item`] reads, of a question no section. The
-/// item is judged whole, and its names aren't made.
+/// The section and the fields of the item of a number, counted from 0, that stands at an offset of
+/// a packet of this header, and where its name stands; none where the header says that there are no
+/// more. A question has no section. No memory is taken.
+///
+/// The item is judged whole, its names with it, as [`read_item`] judges it. Its names aren't made,
+/// which makes it the cheaper of the two.
 ///
 /// # Errors
 ///
@@ -97,21 +103,35 @@ pub fn read_fields(
     header: &Header,
     number: usize,
     at: usize,
-) -> Result<Option<(Option<Section>, Fields)>, ServiceFault>
+) -> Result<Option<(Option<Section>, Fields, Skipped)>, ServiceFault>
+    // What is answered is of the item that stands there, and of what stands there it is answered.
     ensures found { IfOk result (λ read. MatchOption read
         (item_count (header_value header.now) ≤ number) (λ seen. (item : PacketItem)
         × ItemAt names.now (header_value header.now) number at item seen.1.extent.next
         × IsExtent names.now at item seen.1.extent
+        × IsSkipped names.now Followed at (name_of item) seen.2
         × (seen.0 ≡ section_of item) × (seen.1 ≡ fields_of item seen.1.extent))) }
+    ensures only { (item : PacketItem) (next : ℕ) →
+        ItemAt names.now (header_value header.now) number at item next →
+        IsOkAnd result (λ read. IsSomeAnd read (λ seen. (seen.1.extent.next ≡ next)
+        × IsExtent names.now at item seen.1.extent
+        × IsSkipped names.now Followed at (name_of item) seen.2
+        × (seen.0 ≡ section_of item) × (seen.1 ≡ fields_of item seen.1.extent))) }
+    ensures within { IfOk result (λ read.
+        IfSome read (λ seen. seen.1.extent.next ≤ length names.now)) }
+
+    // Which fault it is, and where.
     ensures fault { IfErr result (ItemFails names.now (header_value header.now) number at) }
 {
+    // The law on which the clause `only` stands; the call does nothing.
+    one_item();
     if number < header.questions as usize {
-        let fields = skip_question(names, at)?;
-        return Ok(Some((None, fields)));
+        let (fields, name) = skip_question(names, at)?;
+        return Ok(Some((None, fields, name)));
     }
     let Some(section) = section_of(header, number) else {
         return Ok(None);
     };
-    let fields = skip_record(names, at)?;
-    Ok(Some((Some(section), fields)))
+    let (fields, name) = skip_record(names, at)?;
+    Ok(Some((Some(section), fields, name)))
 }

@@ -1,7 +1,7 @@
-use Rattle.std.proofs.Common.{◌≡◌, ◌&&◌, drop}
+use Rattle.std.proofs.Common.{◌≡◌, ◌&&◌, drop, nat_lt}
 use Rattle.std.specs.List.{list_all}
 use Rattle.nb_names.specs.NameText.{is_letter}
 use Rattle.nb_c.proofs.service_reading.are_letters.Given as goal
 
 abbrev pub invariant-letters : goal.invariant-letters
-invariant-letters l = (l.good && list_all is_letter (drop l.letter-index l.label)) ≡ list_all is_letter l.label
+invariant-letters l = (nat_lt l.greatest 16 && list_all is_letter (drop l.letter-index l.label)) ≡ list_all is_letter l.label

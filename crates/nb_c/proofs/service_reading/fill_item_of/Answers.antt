@@ -1,8 +1,12 @@
 use Rattle.std.proofs.Common.{◌∙◌, refl}
-use Rattle.nb_c.proofs.ServiceLemmas.{HeaderLaws, ItemLaws, at_none, at_some, item_named, same_numbers, item_read}
+use Rattle.nb_c.proofs.ServiceLemmas.{HeaderLaws, ItemLaws, at_none, at_some, extent_fits, same_numbers, item_read}
 use Rattle.nb_c.specs.Services.{uncounted, fails, stands}
 use Rattle.nb_service.specs.Header.{header_value}
 use Rattle.nb_c.proofs.service_reading.fill_item_of.Goals as goal
+
+pub fill_numbers-requires-clause-fits : goal.fill_numbers-requires-clause-fits
+fill_numbers-requires-clause-fits c =
+    extent_fits _ _ _ _ (at_some _ _ _ _ c.in-Ok-Some.field-0-is c.in-Ok-Some.ensures.found).2
 
 pub returns-in-Ok-Some : goal.returns-in-Ok-Some
 returns-in-Ok-Some c =
@@ -10,8 +14,7 @@ returns-in-Ok-Some c =
     let laws : ItemLaws c.args.names.now =
     record { one = c.one_item.ensures.one _; apart = c.one_item.ensures.alone _; one_fault = c.one_item.ensures.one_fault _; counted = c.one_item.ensures.counted _; extent = c.one_item.ensures.extent _ } in
     let there = at_some _ _ _ _ c.in-Ok-Some.field-0-is c.in-Ok-Some.ensures.found in
-    let name = item_named _ _ _ _ there.0 _ there.1 in
-    let filled = c.fill_numbers.ensures _ name.0 name.1 ∙ same_numbers _ _ _ _ _ _ c.section_number.ensures there.3 there.4 in
+    let filled = c.fill_numbers.ensures _ there.3 ∙ same_numbers _ _ _ _ _ _ c.section_number.ensures there.4 there.5 in
     rw filled (item_read _ headers laws _ _ _ (stands (header_value c.args.header.now) _ _ c.requires there.1 there.2))
 
 pub returns-in-Ok-None : goal.returns-in-Ok-None

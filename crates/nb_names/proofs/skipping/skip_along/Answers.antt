@@ -1,12 +1,14 @@
-use Rattle.std.proofs.Common.{◌≡◌, ◌+◌, ◌++◌, [], ◌∷◌, ℕ, List, length, take, drop, refl, arith, ◌∙◌}
+use Rattle.std.proofs.Common.{◌≡◌, ◌+◌, ◌++◌, [], ◌∷◌, ℕ, List, length, take, drop, refl, subst, arith}
 use Rattle.nb_names.specs.declared.fault.NameFault.TheVariants.{TooLong}
 use Rattle.nb_names.specs.declared.label_fault.LabelFault.TheVariants.{TooLong as PastLimit}
 use Rattle.nb_names.specs.DomainName.{spelling}
 use Rattle.nb_names.specs.NameFaults.{FaultAt, cut, reserved, not_allowed, not_below}
+use Rattle.nb_names.specs.Skipped.{IsSkipped}
 use Rattle.nb_names.proofs.SpellingLemmas.{length-spelling-snoc}
 use Rattle.nb_names.proofs.LabelsLemmas.{one_reading, next_within}
 use Rattle.nb_names.proofs.FaultLemmas.{no_name}
 use Rattle.nb_names.proofs.ReadingLemmas.{reading_begun, reading_ended, reading_fails, way_short, label_there, label_turn, label_past, pointer_turn}
+use Rattle.nb_names.proofs.SkippedLemmas.{skipped_there}
 use Rattle.nb_names.proofs.ChainLemmas.{chain_turns, ends_lower}
 use Rattle.nb_names.proofs.skipping.skip_along.Goals as goal
 
@@ -26,12 +28,13 @@ pub returns-in-Reserved-clause-only : goal.returns-in-Reserved-clause-only
 returns-in-Reserved-clause-only c = no_name _ _ _ _ (reading_fails _ _ _ _ _ _ _ _ c.way.invariant.1 (reserved c.in-Reserved.ensures))
 
 pub returns-in-End-clause-found : goal.returns-in-End-clause-found
-returns-in-End-clause-found c = (c.way.invariant.0, rw c.unwrap_or.ensures (reading_ended _ _ _ _ _ _ _ c.way.invariant.1 c.in-End.ensures))
+returns-in-End-clause-found c = (c.way.invariant.0, skipped_there _ _ _ _ _ _ _ _ _ c.way.invariant.1 c.way.invariant.2 c.in-End.ensures c.unwrap_or.ensures)
 
 pub returns-in-End-clause-only : goal.returns-in-End-clause-only
 returns-in-End-clause-only c labels next there =
-    let one = one_reading _ _ _ _ _ _ _ _ (reading_ended _ _ _ _ _ _ _ c.way.invariant.1 c.in-End.ensures) there in
-    c.unwrap_or.ensures ∙ one.1
+    let seen = skipped_there _ _ _ _ _ _ _ _ _ c.way.invariant.1 c.way.invariant.2 c.in-End.ensures c.unwrap_or.ensures in
+    let one = one_reading _ _ _ _ _ _ _ _ seen.name there in
+    (subst (λ (ls : List (List ℕ)). IsSkipped c.args.packet.now c.args.pointers c.args.at ls (record { next = c.unwrap_or.result; spelled_len = c.way.spelled; run = c.way.start; run_end = c.way.here + 1 })) one.0 seen, one.1)
 
 pub returns-in-End-clause-within : goal.returns-in-End-clause-within
 returns-in-End-clause-within c = rw c.unwrap_or.ensures (next_within _ _ _ _ _ _ (reading_ended _ _ _ _ _ _ _ c.way.invariant.1 c.in-End.ensures))

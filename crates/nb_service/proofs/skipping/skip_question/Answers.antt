@@ -5,28 +5,29 @@ use Rattle.nb_names.specs.Numbers.{NumberAt}
 use Rattle.nb_service.specs.ServiceFaults.{question_name, question_cut}
 use Rattle.nb_service.proofs.skipping.skip_question.Goals as goal
 
-pub returns-in_err-after-clause-fault : goal.returns-in_err-after-clause-fault
-returns-in_err-after-clause-fault c =
-    let p = err_from_is_err_and c.from_residual.result c.from_residual.ensures.1 in rw (p.1, p.2) (question_name _ c.in_err-after.ensures.fault)
+pub returns-in_err-name-clause-fault : goal.returns-in_err-name-clause-fault
+returns-in_err-name-clause-fault c =
+    let p = err_from_is_err_and c.from_residual.result c.from_residual.ensures.1 in rw (p.1, p.2) (question_name _ c.in_err-name.ensures.fault)
 
 pub returns-then-packet-after-lt-QUESTION_FIELDS-clause-fault : goal.returns-then-packet-after-lt-QUESTION_FIELDS-clause-fault
 returns-then-packet-after-lt-QUESTION_FIELDS-clause-fault c =
-    let named = c.in_ok-after.ensures.found in
-    rw (ap length c.packet-packet.ensures) (question_cut named.0 _ named.1 (omega (arith, ap length c.packet-packet.ensures)))
+    let named = c.in_ok-name.ensures.found in
+    rw (ap length c.packet-packet.ensures) (question_cut named.0 _ named.1.name (omega (arith, ap length c.packet-packet.ensures)))
 
 pub returns-clause-found : goal.returns-clause-found
 returns-clause-found c =
-    let named = c.in_ok-after.ensures.found in
+    let named = c.in_ok-name.ensures.found in
     let same = c.packet-packet.ensures in
-    let after = c.in_ok-after.after in (
+    let after = c.in_ok-name.name.next in (
       record { name = named.0; kind = c.number_16.result; class = c.number_16-2.result },
       record {
         after = after;
-        name = named.1;
+        name = named.1.name;
         kind = subst (λ (p : List ℕ). NumberAt p after w16 c.number_16.result) same c.number_16.ensures;
         class = subst (λ (p : List ℕ). NumberAt p (after + 2) w16 c.number_16-2.result) same c.number_16-2.ensures;
         end = refl;
       },
       refl,
       refl,
+      named.1,
     )

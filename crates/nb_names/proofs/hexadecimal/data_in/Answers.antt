@@ -4,12 +4,12 @@ use Rattle.std.proofs.lemmas.Bool.Decides.{nat_tests, Decides-eqb}
 use Rattle.std.proofs.lemmas.Slice.Eq.{slice_eq-Decides}
 use Rattle.nb_names.specs.Hexadecimal.{empty}
 use Rattle.nb_names.proofs.DataLemmas.{no_text, data_read}
-use Rattle.nb_names.proofs.hexadecimal.data_of_text.Goals as goal
+use Rattle.nb_names.proofs.hexadecimal.data_in.Goals as goal
 
 pub returns-then-eq : goal.returns-then-eq
 returns-then-eq c =
     let is = (slice_eq-Decides Decides-eqb c.args.text.now c.as_slice.result.now c.eq.result c.eq.ensures).0 c.if-eq.true in
-    rw (is, c.as_slice.ensures, c.no_bytes.ensures) empty
+    rw (is, c.as_slice.ensures, c.from_vec.ensures, c.clear.ensures.items) empty
 
 pub returns-then-is_empty : goal.returns-then-is_empty
 returns-then-is_empty c =
@@ -25,4 +25,4 @@ returns c =
     let no = c.if-eq.false in
     cc (yes, no)
     in
-    data_read c.args.text.now _ some differs c.bytes_of_digits.ensures
+    data_read c.args.text.now _ some differs c.digits_in.ensures

@@ -1,6 +1,5 @@
 -- Words of the code's own data and loops (our choice). No public clause reaches them: contracts of private functions say
 -- how they stand to the definitions.
-pub mod Parties
 pub mod CoverFacts
 pub mod Part
 pub mod RunSteps

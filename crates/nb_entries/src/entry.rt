@@ -19,20 +19,27 @@ mod whole;
 
 use crate::change::{Change, Handing};
 use crate::cover::CoverFacts;
-use crate::parties::Parties;
 use crate::slot::Slot;
 use crate::state::State;
 use nb_datagram::{Fragment, Kind, LentFragment, UserData};
-use nb_names::{LentName, NoMemory};
+use nb_names::{KeptName, LentName, NoMemory};
 use std::alloc::Global;
 use std::marker::Model;
 
-/// The kind, both names, and the known bytes with their places.
+/// What is known of one datagram that isn't spoilt.
+#[derive(Drop)]
+struct Known {
+    kind: Kind,
+    source: KeptName,
+    destination: KeptName,
+    cover: CoverFacts,
+}
+
+/// The kind, both names, and the known bytes with their places. They lie in a box, so that an entry
+/// is small and its moves in a map are cheap.
 #[derive(Drop)]
 pub struct EntryFacts {
-    pub(crate) kind: Kind,
-    pub(crate) parties: Parties,
-    pub(crate) cover: CoverFacts,
+    known: Box<Known>,
 }
 
 impl Model for EntryFacts {
@@ -44,14 +51,16 @@ impl Model for EntryFacts {
 
     ghost coded = { entry_facts_code };
 
+    ghost use Rattle.std.specs.Prelude.{box_value};
+
     ghost view = { λ f. record {
-      kind = f.kind;
-      source = f.parties.source;
-      destination = f.parties.destination;
-      cover = f.cover;
+      kind = (box_value f.known).kind;
+      source = (box_value f.known).source;
+      destination = (box_value f.known).destination;
+      cover = (box_value f.known).cover;
     } };
 
-    ghost invariant = { λ f. AreCoverFacts f.cover };
+    ghost invariant = { λ f. AreCoverFacts (box_value f.known).cover };
 }
 
 impl EntryFacts {
@@ -70,12 +79,43 @@ impl EntryFacts {
           cover = cover;
         }) }
     {
-        let parties = Parties::copy(alloc, source, destination)?;
-        Ok(EntryFacts {
+        let known = Known {
             kind,
-            parties,
+            source: KeptName::copy(alloc, source)?,
+            destination: KeptName::copy(alloc, destination)?,
             cover,
+        };
+        Ok(EntryFacts {
+            known: Box::new(alloc, known)?,
         })
+    }
+
+    /// To whom the datagram goes.
+    pub(crate) fn kind(&self) -> Kind
+        ensures { result ≡ self.now.kind }
+    {
+        self.known.kind
+    }
+
+    /// The sender's name.
+    pub(crate) fn source(&self) -> LentName<'_>
+        ensures { result ≡ self.now.source }
+    {
+        self.known.source.lent()
+    }
+
+    /// The name that the datagram is for.
+    pub(crate) fn destination(&self) -> LentName<'_>
+        ensures { result ≡ self.now.destination }
+    {
+        self.known.destination.lent()
+    }
+
+    /// The known bytes with their places.
+    pub(crate) fn cover(&self) -> &CoverFacts
+        ensures { result.now ≡ self.now.cover }
+    {
+        &self.known.cover
     }
 
     /// What one fragment says.
@@ -97,10 +137,10 @@ impl EntryFacts {
     pub(crate) fn agrees_with(&self, fragment: &LentFragment<'_>) -> bool
         ensures { result ≡ facts_agree self.now (facts_of (core_of fragment.now)) }
     {
-        self.kind == fragment.kind()
-            && self.parties.source().is(fragment.source())
-            && self.parties.destination().is(fragment.destination())
-            && self.cover.agrees_with(fragment)
+        self.known.kind == fragment.kind()
+            && self.source().is(fragment.source())
+            && self.destination().is(fragment.destination())
+            && self.known.cover.agrees_with(fragment)
     }
 
     /// The datagram's data, if the facts are whole. No memory is taken where they aren't.
@@ -111,7 +151,7 @@ impl EntryFacts {
         ensures no_memory_needed { bytes_to self.now.cover.bytes self.now.cover.end ≡ None
             → result ≡ Ok None }
     {
-        match self.cover.whole(alloc)? {
+        match self.known.cover.whole(alloc)? {
             Some(bytes) => Ok(Some(UserData::new(bytes))),
             None => Ok(None),
         }
@@ -122,14 +162,14 @@ impl EntryFacts {
         requires { AreShort MAX_LENGTH self.now }
         ensures { result ≡ length (runs_of_map self.now.cover.bytes) }
     {
-        self.cover.run_count() as u32
+        self.known.cover.run_count() as u32
     }
 
     /// Whether the end and each byte before it are known.
     pub(crate) fn is_whole(&self) -> bool
         ensures { IsTrue result ↔ IsWholeCover self.now.cover }
     {
-        self.cover.is_whole()
+        self.known.cover.is_whole()
     }
 }
 
@@ -142,10 +182,10 @@ impl PartialEq for EntryFacts {
     ghost laws = { entry_facts_per };
 
     fn eq(&self, other: &Self) -> bool {
-        self.kind == other.kind
-            && self.parties.source().is(&other.parties.source())
-            && self.parties.destination().is(&other.parties.destination())
-            && self.cover == other.cover
+        self.known.kind == other.known.kind
+            && self.source().is(&other.source())
+            && self.destination().is(&other.destination())
+            && self.known.cover == other.known.cover
     }
 }
 

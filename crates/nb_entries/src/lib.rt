@@ -7,7 +7,6 @@ mod entry;
 pub mod laws;
 mod load_fault;
 mod outline;
-mod parties;
 mod ranges;
 pub mod saved;
 mod slot;

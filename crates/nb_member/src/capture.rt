@@ -7,8 +7,9 @@ ghost use Rattle.nb_member.specs.Capture.{space, PortText, MomentText, Reads, Re
 use crate::limits::{MAX_LINE, MAX_MOMENT_DIGITS};
 use crate::line::Line;
 use crate::line_fault::LineFault;
-use nb_names::{ascii_str, data_of_text};
+use nb_names::{ascii_str, data_in};
 use std::alloc::Global;
+use std::mem;
 
 /// What a line of a capture says, or nothing where it is empty or a comment.
 ///
@@ -32,13 +33,21 @@ use std::alloc::Global;
 pub fn capture_line(alloc: Global, line: &[u8]) -> Result<Option<Line>, LineFault>
     ensures { Reads line.now result }
 {
+    capture_line_in(&mut Vec::new(alloc), line)
+}
+
+/// What a line of a capture says, as [`capture_line`] has it. A payload is read into this room,
+/// which is then an empty one.
+pub(crate) fn capture_line_in(room: &mut Vec<u8>, line: &[u8]) -> Result<Option<Line>, LineFault>
+    ensures { Reads line.now result }
+{
     if MAX_LINE < line.len() {
         return Err(LineFault::BadLine);
     }
     if is_blank(line) {
         return Ok(None);
     }
-    Ok(Some(value_of(alloc, line)?))
+    Ok(Some(value_of(room, line)?))
 }
 
 /// Whether a line is empty or a comment, whatever its length.
@@ -53,7 +62,7 @@ fn is_blank(line: &[u8]) -> bool
 }
 
 /// What a line says that is neither empty nor a comment, whatever its length.
-fn value_of(alloc: Global, line: &[u8]) -> Result<Line, LineFault>
+fn value_of(room: &mut Vec<u8>, line: &[u8]) -> Result<Line, LineFault>
     ensures { ReadsBy (HasWords line.now) NeedsMemory result }
 {
     if let Some(digits) = line.strip_prefix(b"tick ") {
@@ -63,7 +72,7 @@ fn value_of(alloc: Global, line: &[u8]) -> Result<Line, LineFault>
         };
     }
     match after_port(line) {
-        Some((port, words)) => packet_of(alloc, port, words),
+        Some((port, words)) => packet_of(room, port, words),
         None => Err(LineFault::BadLine),
     }
 }
@@ -89,7 +98,7 @@ fn after_port(line: &[u8]) -> Option<(u16, &[u8])>
 }
 
 /// The packet of a line with this port and, after it, these words.
-fn packet_of(alloc: Global, port: u16, words: &[u8]) -> Result<Line, LineFault>
+fn packet_of(room: &mut Vec<u8>, port: u16, words: &[u8]) -> Result<Line, LineFault>
     ensures { (text : List ℕ) → PortText port text →
         ReadsBy (HasWords (text ++ space ∷ words.now)) NeedsMemory result }
 {
@@ -99,7 +108,8 @@ fn packet_of(alloc: Global, port: u16, words: &[u8]) -> Result<Line, LineFault>
     let Some(moment) = moment_of(digits) else {
         return Err(LineFault::BadLine);
     };
-    let payload = data_of_text(alloc, hexadecimal)?;
+    let empty = Vec::new(*room.allocator());
+    let payload = data_in(mem::replace(room, empty), hexadecimal)?;
     Ok(Line::Packet {
         port,
         moment,

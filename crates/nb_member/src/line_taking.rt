@@ -4,7 +4,8 @@ ghost use Rattle.std.specs.Io.KnownBytes.{Consumes};
 ghost use Rattle.nb_member.specs.LineTaking.{TakesLine, TakesLines};
 ghost use Rattle.nb_member.specs.Code.LineTurns.{LineFails};
 
-use crate::capture::capture_line;
+use crate::capture::capture_line_in;
+use crate::line::Line;
 use crate::line_fault::LineFault;
 use crate::line_read_fault::LineReadFault;
 use crate::line_reading::next_from;
@@ -50,12 +51,13 @@ pub fn take_lines<R: Read, T: LineTaker>(
     ensures beside { T.beside taker.new ≡ T.beside taker.old }
 {
     let mut room = LineRoom::within(alloc, most);
+    let mut payload = Vec::new(alloc);
     let mut number = 0;
     'lines: loop {
         match next_from(&mut room, reader) {
             Ok(Some(line)) => {
                 number += 1;
-                take_line(alloc, number, line, taker)?;
+                take_line(&mut payload, number, line, taker)?;
             }
             Ok(None) => return Ok(number),
             Err(LineReadFault::TooLong) => {
@@ -67,13 +69,13 @@ pub fn take_lines<R: Read, T: LineTaker>(
     }
 }
 
-/// Gives the line with this number to a taker.
+/// Gives the line with this number to a taker. A payload is read into this room.
 ///
 /// # Errors
 ///
 /// The taker's, or what it makes of [`ReplayFault::Line`] and [`ReplayFault::NoMemory`].
 fn take_line<T: LineTaker>(
-    alloc: Global,
+    room: &mut Vec<u8>,
     number: u64,
     line: &[u8],
     taker: &mut T,
@@ -84,9 +86,20 @@ fn take_line<T: LineTaker>(
         number line.now (T.state taker.old) (T.state taker.new)) }
     ensures beside { T.beside taker.new ≡ T.beside taker.old }
 {
-    match capture_line(alloc, line) {
-        Ok(said) => taker.take(number, line, &said),
+    match capture_line_in(room, line) {
+        Ok(said) => {
+            let taken = taker.take(number, line, &said);
+            give_back(said, room);
+            taken
+        }
         Err(LineFault::BadLine) => Err(T::Fault::from(ReplayFault::Line(number))),
         Err(LineFault::NoMemory) => Err(T::Fault::from(ReplayFault::NoMemory)),
+    }
+}
+
+/// Gives back the room that a line's payload is in.
+fn give_back(said: Option<Line>, room: &mut Vec<u8>) {
+    if let Some(Line::Packet { payload, .. }) = said {
+        *room = payload.into_vec();
     }
 }

@@ -8,16 +8,16 @@ use crate::member::Member;
 use crate::replay_fault::ReplayFault;
 use nb_names::Counted;
 use nb_names::output::write_whole;
-use std::alloc::Global;
 use std::io::Write;
 
 /// A member that acts on the lines of a capture, and the writer that their report goes to, with
 /// these comments.
 #[derive(Drop)]
 pub struct Replayer<'a, W> {
-    pub(crate) alloc: Global,
     pub(crate) comments: Comments,
     pub(crate) member: &'a mut Member,
+    /// The report of a line is made in this.
+    pub(crate) text: &'a mut String,
     pub(crate) writer: &'a mut Counted<W>,
 }
 
@@ -41,8 +41,8 @@ impl<'a, W: Write> LineTaker for Replayer<'a, W> {
     ghost fails = { λ kept. FailsReport W.contents kept.0 };
 
     fn take(&mut self, number: u64, line: &[u8], said: &Option<Line>) -> Result<(), ReplayFault> {
-        let text = act_on(self.alloc, number, line, said, self.comments, self.member)?;
-        match write_whole(self.writer, text.as_bytes()) {
+        act_on(number, line, said, self.comments, self.member, self.text)?;
+        match write_whole(self.writer, self.text.as_bytes()) {
             Ok(()) => Ok(()),
             Err(_) => Err(ReplayFault::Write),
         }

@@ -141,10 +141,11 @@ pub fn replay_with<R: Read, W: Write>(
     ensures settings { member.new.settings ≡ member.old.settings }
     ensures names { member.new.names ≡ member.old.names }
 {
+    let mut text = String::new(alloc);
     let mut replayer = Replayer {
-        alloc,
         comments: options.comments,
         member,
+        text: &mut text,
         writer,
     };
     take_lines(alloc, options.most, reader, &mut replayer)

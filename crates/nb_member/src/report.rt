@@ -1,5 +1,5 @@
 //! The lines of a replay's report.
-ghost use Rattle.std.specs.Prelude.{◌≡◌, ◌++◌, [], codes, IfOk, IsOk, string_bytes};
+ghost use Rattle.std.specs.Prelude.{◌≡◌, ◌++◌, [], codes, IsOk, OnOk, string_bytes};
 ghost use Rattle.std.specs.Fmt.{decimal};
 ghost use Rattle.nb_datagram.specs.Datagram.{datagram_by};
 ghost use Rattle.nb_member.specs.declared.outcome.Outcome.TheVariants.{Delivered};
@@ -17,93 +17,97 @@ use crate::outcome::{Dropped, LentOutcome, Outcome};
 use crate::report::texts::{push_delivered, push_result};
 use nb_datagram::{LentFragment, UserData};
 use nb_names::{NoMemory, push_decimal};
-use std::alloc::Global;
 
 /// The room that a line takes, in bytes, its data and long scopes aside.
 const USUAL_ROOM: usize = 160;
 
-/// The report's line about a line that is a comment or empty: the comment, or nothing.
-pub fn comment_line(alloc: Global, comments: Comments, line: &[u8]) -> Result<String, NoMemory>
-    ensures written { IfOk result (λ text. string_bytes text ≡ blank_text comments line.now) }
+/// Begins a line, for which there is so much room, with its number, in a text that had another.
+fn begin_line(number: u64, room: usize, text: &mut String) -> Result<(), NoMemory>
+    ensures { OnOk result (string_bytes text.new ≡ decimal number) }
+{
+    text.clear();
+    text.reserve_exact(room)?;
+    push_decimal(number, text)
+}
+
+/// Makes a text the report's line about a line that is a comment or empty: the comment, or nothing.
+pub fn comment_line(comments: Comments, line: &[u8], text: &mut String) -> Result<(), NoMemory>
+    ensures written { OnOk result (string_bytes text.new ≡ blank_text comments line.now) }
     ensures left_out { comments ≡ Comments.LeftOut → IsOk result }
     ensures empty { line.now ≡ [] → IsOk result }
 {
-    let mut text = String::new(alloc);
-    push_comment(comments, line, &mut text)?;
-    Ok(text)
+    text.clear();
+    push_comment(comments, line, text)
 }
 
-/// The report's line about a payload that isn't the member's to take.
-pub fn passed_line(alloc: Global, number: u64) -> Result<String, NoMemory>
-    ensures { IfOk result (λ text. string_bytes text ≡ numbered number (codes "passed")) }
+/// Makes a text the report's line about a payload that isn't the member's to take.
+pub fn passed_line(number: u64, text: &mut String) -> Result<(), NoMemory>
+    ensures { OnOk result (string_bytes text.new ≡ numbered number (codes "passed")) }
 {
-    let mut text = String::with_capacity(alloc, USUAL_ROOM)?;
-    push_decimal(number, &mut text)?;
+    begin_line(number, USUAL_ROOM, text)?;
     text.push_str(" passed\n")?;
-    Ok(text)
+    Ok(())
 }
 
-/// The report's line about a look at the clock.
-pub fn dropped_line(alloc: Global, number: u64, dropped: Dropped) -> Result<String, NoMemory>
-    ensures { IfOk result (λ text. string_bytes text ≡
+/// Makes a text the report's line about a look at the clock.
+pub fn dropped_line(number: u64, dropped: Dropped, text: &mut String) -> Result<(), NoMemory>
+    ensures { OnOk result (string_bytes text.new ≡
         numbered number (codes "dropped " ++ decimal dropped.keys)) }
 {
-    let mut text = String::with_capacity(alloc, USUAL_ROOM)?;
-    push_decimal(number, &mut text)?;
+    begin_line(number, USUAL_ROOM, text)?;
     text.push_str(" dropped ")?;
-    push_decimal(u64::from(dropped.keys), &mut text)?;
+    push_decimal(u64::from(dropped.keys), text)?;
     text.push_str("\n")?;
-    Ok(text)
+    Ok(())
 }
 
-/// The report's line about a payload that the member took, or refused.
+/// Makes a text the report's line about a payload that the member took, or refused.
 pub fn taken_line(
-    alloc: Global,
     number: u64,
     taken: Result<LentOutcome<'_>, MemberFault>,
-) -> Result<String, NoMemory>
-    ensures { IfOk result (λ text.
-        string_bytes text ≡ numbered number (result_text (answer_of taken.entry))) }
+    text: &mut String,
+) -> Result<(), NoMemory>
+    ensures { OnOk result
+        (string_bytes text.new ≡ numbered number (result_text (answer_of taken.entry))) }
 {
     match taken {
         Ok(LentOutcome::Delivered(fragment, bytes)) => {
-            delivered_line(alloc, number, &fragment, &bytes)
+            delivered_line(number, &fragment, &bytes, text)
         }
-        Ok(outcome) => result_line(alloc, number, &Ok(outcome.made())),
-        Err(fault) => result_line(alloc, number, &Err(fault)),
+        Ok(outcome) => result_line(number, &Ok(outcome.made()), text),
+        Err(fault) => result_line(number, &Err(fault), text),
     }
 }
 
-/// The report's line about a datagram that was delivered: that of this fragment, with this data.
+/// Makes a text the line about a datagram that was delivered: that of this fragment, with this
+/// data.
 fn delivered_line(
-    alloc: Global,
     number: u64,
     fragment: &LentFragment<'_>,
     bytes: &UserData,
-) -> Result<String, NoMemory>
-    ensures { IfOk result (λ text. string_bytes text
+    text: &mut String,
+) -> Result<(), NoMemory>
+    ensures { OnOk result (string_bytes text.new
         ≡ numbered number (outcome_text (Delivered (datagram_by fragment.now bytes.now)))) }
 {
-    let mut text = String::with_capacity(alloc, USUAL_ROOM + 2 * bytes.as_slice().len())?;
-    push_decimal(number, &mut text)?;
+    begin_line(number, USUAL_ROOM + 2 * bytes.as_slice().len(), text)?;
     text.push_str(" ")?;
-    push_delivered(fragment, bytes, &mut text)?;
+    push_delivered(fragment, bytes, text)?;
     text.push_str("\n")?;
-    Ok(text)
+    Ok(())
 }
 
-/// The report's line about what became of a payload.
+/// Makes a text the line about what became of a payload.
 fn result_line(
-    alloc: Global,
     number: u64,
     taken: &Result<Outcome, MemberFault>,
-) -> Result<String, NoMemory>
-    ensures { IfOk result (λ text. string_bytes text ≡ numbered number (result_text taken.now)) }
+    text: &mut String,
+) -> Result<(), NoMemory>
+    ensures { OnOk result (string_bytes text.new ≡ numbered number (result_text taken.now)) }
 {
-    let mut text = String::with_capacity(alloc, USUAL_ROOM)?;
-    push_decimal(number, &mut text)?;
+    begin_line(number, USUAL_ROOM, text)?;
     text.push_str(" ")?;
-    push_result(alloc, taken, &mut text)?;
+    push_result(*text.allocator(), taken, text)?;
     text.push_str("\n")?;
-    Ok(text)
+    Ok(())
 }

@@ -1,4 +1,4 @@
-//! What is told of the lines of a capture.
+//! The fields of the lines of a capture.
 #![tactic(auto, using(nb_telling::proofs::FoldLemmas::told_both))]
 
 ghost use Rattle.std.specs.Prelude.{◌≡◌, ◌≢◌, Err, OnOk, fold};
@@ -16,7 +16,7 @@ use nb_text::laws::fields_are_members;
 use nb_text::tell_packet;
 use std::alloc::Global;
 
-/// What is told of the lines of a capture: fields of what each says.
+/// The fields of what each line of a capture says.
 pub trait LineFields {
     ghost use Rattle.std.specs.Prelude.{List};
     ghost use Rattle.nb_member.specs.declared.line.Line.{Line};

@@ -8,8 +8,9 @@ use Rattle.std.proofs.lemmas.List.{drop_more}
 use Rattle.std.proofs.lemmas.Option.{get_or_from_slice_get}
 use Rattle.nb_entries.specs.Saved.{run_bytes}
 use Rattle.nb_entries.specs.Runs.{RunValue, run_end, AreApart}
-use Rattle.nb_entries.specs.Code.RunSteps.{value_of, values_of, run_at, grown, Meet}
+use Rattle.nb_entries.specs.Code.RunSteps.{value_of, values_of, run_at, grown, Meet, StartTo, StartAfter}
 use Rattle.nb_entries.specs.declared.cover.runs.Run.{Run}
+use Rattle.nb_entries.proofs.KeptRuns.RunRowLemmas.{all_take, all_drop}
 
 pub on_err_of : {T E P : Type 0} (r : Result T E) → P → OnErr r P
 on_err_of (Ok x) p = tt
@@ -102,6 +103,19 @@ ends_rise xs a = IsNonDecreasingBy-from_all_adjacent (λ (p : Run). run_end (val
 pub starts_rise : (xs : List Run) → AreApart (values_of xs) → IsNonDecreasingBy (λ (p : Run). (value_of p).start) xs
 starts_rise xs a = IsNonDecreasingBy-from_all_adjacent (λ (p : Run). (value_of p).start) xs (λ k d h.
     (let step : suc k ≡ k + 1 = omega arith in subst (λ j. (value_of (slice_index_or xs k d)).start ≤ (value_of (slice_index_or xs j d)).start) step (starts_next xs a k d (omega (arith, h)))))
+
+start_at : (xs : List Run) (n : ℕ) (r d : Run) → n < length xs → r ≡ slice_index_or xs n r → (value_of r).start ≡ (value_of (slice_index_or xs n d)).start
+start_at xs n r d l e = ap (λ (x : Run). (value_of x).start) (read_at xs n r d l e)
+
+-- where a run starts at a place or before it, those before it do too
+pub start_to : (xs : List Run) (n place : ℕ) (r : Run) → AreApart (values_of xs) → n < length xs → r ≡ slice_index_or xs n r → (value_of r).start ≤ place → StartTo place (take (n + 1) (values_of xs))
+start_to xs n place r a l e h =
+    all_take (λ v. v.start ≤ place) value_of xs (n + 1) (λ k d b. (let rise = starts_rise xs a k n d (omega (arith, b)) l in let same = start_at xs n r d l e in omega (arith, rise, same, h))) (omega (arith, l))
+
+-- where a run starts after a place, those after it do too
+pub start_after : (xs : List Run) (n place : ℕ) (r : Run) → AreApart (values_of xs) → n < length xs → r ≡ slice_index_or xs n r → place < (value_of r).start → StartAfter place (drop n (values_of xs))
+start_after xs n place r a l e h =
+    all_drop (λ v. place < v.start) value_of xs n (λ k d m b. (let rise = starts_rise xs a n k d m b in let same = start_at xs n r d l e in omega (arith, rise, same, h)))
 
 -- the runs that are left, from one on
 pub runs_left : (runs : List Run) (i : ℕ) (run : Run) → i < length runs → slice_get runs i ≡ Some run

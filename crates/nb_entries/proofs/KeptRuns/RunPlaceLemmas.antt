@@ -28,6 +28,11 @@ lies_of xs ys zs f first past e d w b a v t s = record {
   after = subst (λ us. StartAfter (run_end f) (drop past (values_of us))) d s;
 }
 
+-- runs that end before bytes start by their end
+pub start_before : (n m : ℕ) (rs : List RunValue) → n ≤ m → EndBefore n rs → StartTo m rs
+start_before n m [] l h = tt
+start_before n m (r ∷ rs) l h = (let ends = h.0 in omega (arith, l, ends), start_before n m rs l h.1)
+
 pub some_run : (xs : List Run) (n : ℕ) → n < length xs → Run
 some_run [] n h = absurd (omega arith)
 some_run (x ∷ xs) n h = x

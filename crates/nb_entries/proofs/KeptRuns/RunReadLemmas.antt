@@ -92,6 +92,28 @@ between_read xs n from to r bytes a l e start order far same =
           ∙ sym (byte_mid (value_of r) from (to - from) k (from + k) start h refl ∙ there.1));
     })
 
+-- ---- the bytes below a place
+
+pub ends_early : (xs : List Run) (to : ℕ) (r : Run) → AreApart (values_of xs) → 0 < length xs → r ≡ slice_index_or xs 0 r → run_end (value_of r) < to → Lacks (values_of xs) 0 to
+ends_early [] to r a l e h = absurd (omega arith)
+ends_early (x ∷ xs) to r a l e h =
+    let q : ℕ = run_end (value_of x) in
+    let same : run_end (value_of r) ≡ q = ap (λ (y : Run). run_end (value_of y)) e in
+    record {
+      place = q;
+      least = omega arith;
+      most = omega (arith, same, h);
+      none = ap (λ o. first_of o (look_in (values_of xs) q)) (byte_past (value_of x) q (omega arith))
+          ∙ none_from (look_in (values_of xs) q) (λ y f. (let past = look_past q (values_of xs) a.1.0 a.1.1 q y f in omega (arith, past)));
+    }
+
+pub below_read : (xs : List Run) (to : ℕ) (r : Run) (bytes : List ℕ) → AreApart (values_of xs) → 0 < length xs → r ≡ slice_index_or xs 0 r → (value_of r).start ≡ 0 → to ≤ run_end (value_of r) → bytes ≡ (value_of r).bytes → AreBetween (values_of xs) 0 to (take to bytes)
+below_read xs to r bytes a l e s far same =
+    let count : to - (value_of r).start - (0 - (value_of r).start) ≡ to = omega (arith, s) in
+    let none : 0 - (value_of r).start ≡ 0 = omega arith in
+    subst (AreBetween (values_of xs) 0 to) (ap₂ (λ m n. take m (drop n bytes)) count none)
+    (between_read xs 0 0 to r bytes a l e (omega (arith, s)) (omega arith) far same)
+
 -- ---- bytes that agree
 
 pub same_by_get : (xs ys : List ℕ) → ((k : ℕ) → slice_get xs k ≡ slice_get ys k) → xs ≡ ys

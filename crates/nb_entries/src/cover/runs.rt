@@ -147,7 +147,7 @@ impl Runs {
     pub(crate) fn cover_below(&self, end: u32) -> bool
         ensures { IsTrue result ↔ AreCovered (maps.get self.now) end }
     {
-        match reading::bytes_between(&self.runs, 0, end as usize) {
+        match reading::bytes_below(&self.runs, end as usize) {
             Some(_) => true,
             None => false,
         }
@@ -159,7 +159,7 @@ impl Runs {
         ensures value { IfOk result (λ bytes. bytes ≡ map_below self.now end) }
         ensures no_memory_needed { map_below self.now end ≡ None → result ≡ Ok None }
     {
-        match reading::bytes_between(&self.runs, 0, end as usize) {
+        match reading::bytes_below(&self.runs, end as usize) {
             Some(bytes) => Ok(Some(Bytes::copy(alloc, bytes)?)),
             None => Ok(None),
         }

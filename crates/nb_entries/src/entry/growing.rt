@@ -43,7 +43,7 @@ impl EntryFacts {
             ≡ bytes_to (covers_together self.now.cover (cover_of (core_of fragment.now))).bytes
             (covers_together self.now.cover (cover_of (core_of fragment.now))).end) }
     {
-        match self.cover.whole_with(alloc, fragment)? {
+        match self.known.cover.whole_with(alloc, fragment)? {
             Some(bytes) => Ok(Some(UserData::new(bytes))),
             None => Ok(None),
         }
@@ -98,11 +98,11 @@ impl EntryFacts {
         ensures more { OnErr result
             (Holds self.old.cover (facts_of (core_of fragment.now)).cover → ⊥) }
     {
-        if self.cover.holds(fragment) {
+        if self.known.cover.holds(fragment) {
             return Ok(Change::Same);
         }
         let bytes = self.newly_whole_with(alloc, fragment, handing)?;
-        self.cover.insert(alloc, fragment)?;
+        self.known.cover.insert(alloc, fragment)?;
         Ok(grown_to(bytes))
     }
 

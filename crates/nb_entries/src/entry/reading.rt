@@ -17,14 +17,14 @@ impl EntryFacts {
         ensures { result ≡ outline_of self.now }
     {
         Outline {
-            kind: self.kind,
-            source: self.parties.source().to_name(),
-            destination: self.parties.destination().to_name(),
-            held: self.cover.held() as u32,
+            kind: self.known.kind,
+            source: self.source().to_name(),
+            destination: self.destination().to_name(),
+            held: self.known.cover.held() as u32,
             runs: self.run_count(),
-            end: self.cover.end(),
-            promise: self.cover.promise(),
-            awaited: self.cover.awaited(),
+            end: self.known.cover.end(),
+            promise: self.known.cover.promise(),
+            awaited: self.known.cover.awaited(),
         }
     }
 
@@ -33,7 +33,7 @@ impl EntryFacts {
         requires { AreShort MAX_LENGTH self.now }
         ensures { result ≡ ranges_of_map self.now.cover.bytes }
     {
-        self.cover.ranges()
+        self.known.cover.ranges()
     }
 }
 

@@ -55,20 +55,20 @@ impl Facts for EntryFacts {
     ghost formed_agree = { entry_agrees };
 
     fn agree(&self, other: &EntryFacts) -> bool {
-        if self.kind != other.kind {
+        if self.known.kind != other.known.kind {
             return false;
         }
-        if !self.parties.source().is(&other.parties.source()) {
+        if !self.source().is(&other.source()) {
             return false;
         }
-        if !self.parties.destination().is(&other.parties.destination()) {
+        if !self.destination().is(&other.destination()) {
             return false;
         }
-        self.cover.agree(&other.cover)
+        self.known.cover.agree(&other.known.cover)
     }
 
     fn together(&self, other: &EntryFacts) -> Result<EntryFacts, NoMemory> {
-        let cover = self.cover.together(&other.cover)?;
+        let cover = self.known.cover.together(&other.known.cover)?;
         self.with(cover)
     }
 }
@@ -83,12 +83,14 @@ impl EntryFacts {
           cover = cover;
         }) }
     {
-        let parties = self.parties.copied()?;
-        Ok(EntryFacts {
-            kind: self.kind,
-            parties,
+        let alloc = *Box::allocator(&self.known);
+        EntryFacts::new(
+            alloc,
+            self.known.kind,
+            &self.source(),
+            &self.destination(),
             cover,
-        })
+        )
     }
 
     /// Whether all places lie below this one, and the end and the promise, if there are any, are at
@@ -98,14 +100,14 @@ impl EntryFacts {
             ≡ (bytes_lie_below longest self.now.cover.bytes
             && (ends_by longest self.now.cover.end && ends_by longest self.now.cover.promise)) }
     {
-        self.cover.is_short(u32::from(longest))
+        self.known.cover.is_short(u32::from(longest))
     }
 
     /// A copy.
     pub(crate) fn copied(&self) -> Result<EntryFacts, NoMemory>
         ensures { IfOk result (λ facts. facts ≡ self.now) }
     {
-        let cover = self.cover.copied()?;
+        let cover = self.known.cover.copied()?;
         self.with(cover)
     }
 
@@ -113,19 +115,27 @@ impl EntryFacts {
     pub(crate) fn as_fragment(&self, key: Key) -> Option<LentFragment<'_>>
         ensures { MatchOption result (Unit {0}) (IsPart key (Held self.now)) }
     {
-        let Some((start, bytes)) = self.cover.only() else {
+        let Some((start, bytes)) = self.known.cover.only() else {
             return None;
         };
         let Ok(offset) = u16::try_from(start) else {
             return None;
         };
         let reach = usize::from(offset) + bytes.len();
-        let Some(flags) = flags_to(self.cover.end(), self.cover.promise(), reach) else {
+        let Some(flags) = flags_to(self.known.cover.end(), self.known.cover.promise(), reach) else {
             return None;
         };
-        let source = self.parties.source();
-        let destination = self.parties.destination();
-        match LentFragment::new(self.kind, flags, key, offset, source, destination, bytes) {
+        let source = self.source();
+        let destination = self.destination();
+        match LentFragment::new(
+            self.known.kind,
+            flags,
+            key,
+            offset,
+            source,
+            destination,
+            bytes,
+        ) {
             Ok(fragment) => Some(fragment),
             Err(_) => None,
         }
@@ -155,8 +165,8 @@ impl EntryFacts {
           bytes = bytes;
         } }
     {
-        let source = self.parties.source();
-        let destination = self.parties.destination();
-        Datagram::of_lent(key, self.kind, &source, &destination, bytes)
+        let source = self.source();
+        let destination = self.destination();
+        Datagram::of_lent(key, self.known.kind, &source, &destination, bytes)
     }
 }

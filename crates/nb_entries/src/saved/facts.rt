@@ -126,12 +126,12 @@ impl EntryFacts {
         ensures named { IsNamed self.now }
     {
         // For the clause `named`; the calls do nothing.
-        let _ = self.parties.source().bytes();
-        let _ = self.parties.destination().bytes();
-        sink.put(&[self.kind.message_type()])?;
-        sink.put(self.parties.source().to_domain().spelling())?;
-        sink.put(self.parties.destination().to_domain().spelling())?;
-        self.cover.put_to(sink)
+        let _ = self.source().bytes();
+        let _ = self.destination().bytes();
+        sink.put(&[self.kind().message_type()])?;
+        sink.put(self.source().to_domain().spelling())?;
+        sink.put(self.destination().to_domain().spelling())?;
+        self.cover().put_to(sink)
     }
 }
 

@@ -189,8 +189,7 @@ fn put_at(runs: &mut Vec<Run>, place: usize, run: Run) -> Result<(), NoMemory>
     ensures err { OnErr result (runs.new.items ≡ runs.old.items) }
 {
     reserve_first(runs)?;
-    runs.push(run)?;
-    runs[place..].rotate_right(1);
+    runs.insert(place, run)?;
     Ok(())
 }
 
@@ -229,7 +228,7 @@ pub(super) fn insert_bytes(
         return Ok(());
     }
     let first = first_from(runs, start as usize);
-    let past = past_to(runs, start as usize + bytes.len());
+    let past = past_to(runs, first, start as usize + bytes.len());
     if past <= first {
         return insert_at(alloc, runs, first, start, bytes);
     }

@@ -30,6 +30,28 @@ pub(super) fn bytes_between<'a>(runs: &'a [Run], from: usize, to: usize) -> Opti
     Some(&run.bytes()[from - start..to - start])
 }
 
+/// The bytes below a place, in order, if each is there. They are in the first run.
+pub(super) fn bytes_below<'a>(runs: &'a [Run], to: usize) -> Option<&'a [u8]>
+    requires { AreApart (values_of runs.now) }
+    ensures { MatchOption result (Lacks (values_of runs.now) 0 to)
+        (λ bytes. AreBetween (values_of runs.now) 0 to bytes.now) }
+{
+    if to == 0 {
+        return Some(&[]);
+    }
+    if runs.is_empty() {
+        return None;
+    }
+    let run = &runs[0];
+    if run.start() > 0 {
+        return None;
+    }
+    if run.end() < to {
+        return None;
+    }
+    Some(&run.bytes()[..to])
+}
+
 /// Whether a run has no other byte at a place of these, which overlap or touch it.
 fn agrees(run: &Run, start: u32, bytes: &[u8]) -> bool
     requires { Meet (value_of run.now) (run_at start bytes.now) }
@@ -48,7 +70,7 @@ pub(super) fn bytes_agree(runs: &[Run], start: u32, bytes: &[u8]) -> bool
     ensures { IsTrue result ↔ Agree (values_of runs.now) (run_at start bytes.now) }
 {
     let first = first_from(runs, start as usize);
-    let past = past_to(runs, start as usize + bytes.len());
+    let past = past_to(runs, first, start as usize + bytes.len());
     if past <= first {
         return true;
     }
@@ -78,7 +100,7 @@ pub(super) fn bytes_with(
 {
     let first = (start as usize).min(end);
     let count = bytes.len().min(end - first);
-    let front = match bytes_between(runs, 0, first) {
+    let front = match bytes_below(runs, first) {
         Some(front) => front,
         None => return Ok(None),
     };

@@ -1,16 +1,13 @@
-use Rattle.std.proofs.Common.{◌≡◌, List, ℕ, Result, string_bytes, subst, sym, inl, inr}
-use Rattle.std.proofs.lemmas.Result.{IfOk-weaker}
+use Rattle.std.proofs.Common.{List, ℕ, Result, subst, sym, inl, inr}
+use Rattle.std.proofs.lemmas.Result.{on_ok_weaker}
 use Rattle.nb_table.specs.declared.fault.TableFault.TheVariants.{NoMemory}
-use Rattle.nb_member.specs.declared.line.Line.TheVariants.{Packet}
 use Rattle.nb_member.specs.declared.member_fault.MemberFault.{MemberFault}
 use Rattle.nb_member.specs.declared.member_fault.MemberFault.TheVariants.{Table}
 use Rattle.nb_member.specs.declared.outcome.Outcome.{Outcome}
 use Rattle.nb_member.proofs.ReplayLemmas.LineReports.{took, always_on_err, taken_keeps}
 use Rattle.nb_member.proofs.line_reports.take.Goals as goal
 use Rattle.nb_member.specs.Code.Outcomes.{answer_of}
-use Rattle.nb_member.specs.Code.ReplayLines.{ReportsLine, ReportsValue}
-use Rattle.nb_member.specs.Live.{Timed}
-use Rattle.nb_member.specs.Member.{StandsOver}
+use Rattle.nb_member.specs.Code.ReplayLines.{ReportsLine}
 use Rattle.nb_member.specs.Report.{numbered, result_text}
 use Rattle.nb_member.specs.Taking.{Takes}
 
@@ -37,9 +34,8 @@ returns-clause-acted c =
     let payload = c.args.payload.now in
     let result = answer_of c.take_lent-taken.result in
     let law = c.a_member_does_what_is_said.ensures in
-    IfOk-weaker c.taken_line.result (λ text. string_bytes text ≡ numbered n (result_text result))
-    (λ text. (L : List Timed) → StandsOver m L → ReportsValue m L n (Packet 138 moment payload) new (string_bytes text))
-    (λ text is L s comments l h.
+    on_ok_weaker c.taken_line.result
+    (λ is L s comments l h.
     let says = law.says m new L moment payload result s c.take_lent-taken.ensures in
     let does = law.does m new L moment payload result says.0 s says.1 c.take_lent-taken.ensures (c.lacked_memory.ensures.had c.if-lacked_memory.false) in
     subst (λ (bytes : List ℕ). ReportsLine comments m L n l new bytes) (sym is) (took comments m L n moment payload new result says.0 l says.1 does h))

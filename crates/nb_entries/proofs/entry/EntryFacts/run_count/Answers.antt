@@ -1,3 +1,4 @@
+use Rattle.std.specs.Prelude.{box_value}
 use Rattle.std.proofs.Common.{◌<◌, ◌^◌, rules, sym, subst}
 use Rattle.nb_datagram.specs.declared.limits.TheConstants.{MAX_LENGTH}
 use Rattle.nb_entries.specs.Entry.{EntryFacts}
@@ -8,5 +9,5 @@ use Rattle.nb_entries.proofs.entry.EntryFacts.run_count.Goals as goal
 pub overflow_cast-result : goal.overflow_cast-result
 overflow_cast-result c =
     let short = subst (λ (f : EntryFacts). AreShort MAX_LENGTH f) (sym c.self.view_is) c.requires in
-    let few : c.run_count.result < 2 ^ 32 = subst (λ n. n < 2 ^ 32) (sym c.run_count.ensures) (few_runs_of c.self.inside.cover short.below) in
+    let few : c.run_count.result < 2 ^ 32 = subst (λ n. n < 2 ^ 32) (sym (rw c.deref.ensures at c.run_count.ensures)) (few_runs_of (box_value c.self.inside.known).cover short.below) in
     search rules

@@ -1,15 +1,20 @@
-use Rattle.std.proofs.Common.{◌<◌, length, sym, subst, arith, refl, ◌∙◌}
+use Rattle.std.proofs.Common.{◌<◌, length, take, sym, subst, arith, refl, ◌∙◌}
 use Rattle.std.proofs.lemmas.Bool.{eqb-true}
 use Rattle.std.proofs.lemmas.Result.{on_ok_weaker}
-use Rattle.nb_entries.specs.Code.RunSteps.{values_of, run_at, IsPut}
+use Rattle.nb_entries.specs.Code.RunSteps.{values_of, run_at, IsPut, EndBefore}
 use Rattle.nb_entries.proofs.Covers.CoverFactsLemmas.{not_empty}
 use Rattle.nb_entries.proofs.KeptRuns.RunPutLemmas.{put_empty}
-use Rattle.nb_entries.proofs.KeptRuns.RunPlaceLemmas.{Lies, lies_of, some_run, meet_at, touch_at, order_at, none_there, one_there, more_there}
+use Rattle.nb_entries.proofs.KeptRuns.RunPlaceLemmas.{Lies, lies_of, some_run, start_before, meet_at, touch_at, order_at, none_there, one_there, more_there}
 use Rattle.nb_entries.proofs.cover.runs.growing.insert_bytes.Goals as goal
 
 pub returns-then-is_empty-clause-ok : goal.returns-then-is_empty-clause-ok
 returns-then-is_empty-clause-ok c =
     put_empty (values_of c.args.runs.now.items) (run_at c.args.start c.args.bytes.now) c.requires.apart (eqb-true _ 0 (sym c.is_empty.ensures ∙ c.if-is_empty.true))
+
+pub past_to-past-requires-clause-first : goal.past_to-past-requires-clause-first
+past_to-past-requires-clause-first c =
+    start_before c.args.start _ _ (omega arith)
+    (subst (λ us. EndBefore c.args.start (take c.first_from-first.result (values_of us))) (c.deref.ensures.value ∙ sym c.deref-2.ensures.value) c.first_from-first.ensures.before)
 
 pub returns-then-past-first-clause-ok : goal.returns-then-past-first-clause-ok
 returns-then-past-first-clause-ok c =

@@ -118,37 +118,12 @@ wants_none() {
 
 # ---- The first example of each call, with each request of the whole program refused.
 
-# subject NAME: the first example of each call of a file answers as ever, or that memory ran out, or the program ends with
-# status 3. Some refusals are told, and with none the program answers as ever.
+# subject NAME: the first example of each call of a file, of which one lacks memory where a request is refused.
 subject() {
-    local name=$1 n told=0
-    "$here/join_examples.py" "$name" | awk '!seen[$1]++' >"$room/input"
-    requests "$program" <"$room/input" >"$room/ample"
-    count $? "$name: the first example of each call"
-    [ "$number" -gt 0 ]
-    count $? "$name: requests for memory are counted"
-    for ((n = 1; n <= number; n++)); do
-        refusing NBT_REFUSED=$n "$program" <"$room/input" >"$room/output" 2>"$room/errors"
-        case $? in
-        0) cmp -s "$room/ample" "$room/output" ;;
-        1) lacks_one && told=$((told + 1)) ;;
-        3) [ "$(cat "$room/errors")" = 'nb_examples: memory' ] && told=$((told + 1)) ;;
-        *) false ;;
-        esac
-        count $? "$name: request $n of $number refused"
-    done
-    [ "$told" -gt 0 ]
-    count $? "$name: some request that is refused is told"
-    refusing NBT_REFUSED=$n "$program" <"$room/input" >"$room/output" && cmp -s "$room/ample" "$room/output"
-    count $? "$name: no request refused"
-}
-
-# Whether the output is that with ample memory but for one example, whose answer is that memory ran out.
-lacks_one() {
-    diff "$room/ample" "$room/output" >"$room/differences"
-    [ "$(grep -c '^[<>] [0-9]* examples, ' "$room/differences")" -eq 2 ] &&
-        [ "$(grep -c '^> [a-z]*\.' "$room/differences")" -eq 1 ] &&
-        [ "$(grep -ciE '^>     .*(memory)' "$room/differences")" -eq 1 ]
+    "$here/join_examples.py" "$1" | awk '!seen[$1]++' >"$room/input"
+    "$program" <"$room/input" >"$room/output"
+    count $? "$1: the first example of each call"
+    counted_by every_request.py examples "$room/refuse_memory.so" "$room/input" "$program"
 }
 
 subjects() {

@@ -130,16 +130,10 @@ callers() {
 # Each request of the library for memory refused in turn: the call says so, changes nothing, and then does what it should.
 # Every one is a run over all the payloads, so none is long.
 refused() {
-    local each
     [ -f "$room/plain" ] || compiled plain
     lines 30 2 1000
-    requests "$room/plain" 2 <"$room/lines2" >"$room/output" 2>"$room/errors"
-    count $? "requests for memory are counted: $number"
-    for ((each = 1; each <= number; each++)); do
-        refusing NBT_REFUSED=$each "$room/plain" 2 <"$room/lines2" >"$room/output" 2>"$room/errors" \
-            && grep -q ' 1 refusals$' "$room/errors" && cmp -s "$room/lines2.wanted" "$room/output"
-        count $? "request $each is refused: $(tail -n 1 "$room/errors")"
-    done
+    worst plain "$room/lines2" 2
+    counted_by every_request.py again "$room/refuse_memory.so" "$room/lines2" "$room/plain" 2
 }
 
 # hostile NAME OPTION..: a caller who goes to every limit of the header, compiled so; its calls answer the statuses listed there.

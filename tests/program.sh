@@ -230,43 +230,11 @@ streams() {
 
 # ---- Each request for memory refused.
 
-# remembers WORD..: with each request refused, the process ends with status 3, `nbt: memory`, and what its command leaves
-# on its output then. Of words that aren't a command line, and of bad digits (digits=bad), it may also end as with ample
-# memory, but not at each request; with none refused it does.
+# remembers WORD..: the program over $input with each request refused; where its words have bad digits, digits=bad.
 remembers() {
-    local status n told=0
-    requests "$program" "$@" <"$input" >"$room/ample" 2>"$room/ample_errors"
-    status=$?
-    [ "$number" -gt 0 ]
-    count $? "nbt $*: it asks for memory"
-    for ((n = 1; n <= number; n++)); do
-        refusing NBT_REFUSED=$n "$program" "$@" <"$input" >"$room/output" 2>"$room/errors"
-        case $? in
-        1) [ "$status" -eq 1 ] && [ "${digits:-}" = bad ] && is_ample ;;
-        2) [ "$status" -eq 2 ] && is_ample ;;
-        3) holds "$room/errors" $'nbt: memory\n' && is_left_by "${1:-}" && told=$((told + 1)) ;;
-        *) false ;;
-        esac
-        count $? "nbt $*: request $n of $number refused"
-    done
-    [ "$told" -gt 0 ]
-    count $? "nbt $*: some request that is refused is told"
-    refusing NBT_REFUSED=$n "$program" "$@" <"$input" >"$room/output" 2>"$room/errors"
-    [ $? -eq "$status" ] && is_ample
-    count $? "nbt $*: no request refused"
-}
-
-# Whether what the process wrote is what it writes with ample memory.
-is_ample() { cmp -s "$room/ample" "$room/output" && cmp -s "$room/ample_errors" "$room/errors"; }
-
-# is_left_by COMMAND: whether the output is what a command leaves that ran out of memory: show and replay a front of the
-# output with ample memory that ends where a line does, the others nothing.
-is_left_by() {
-    local size
-    size=$(stat -c %s "$room/output")
-    [ "$size" -eq 0 ] || {
-        [[ $1 == show || $1 == replay ]] && head -c "$size" "$room/ample" | cmp -s - "$room/output" && [ -z "$(tail -c 1 "$room/output")" ]
-    }
+    local form=command
+    [ "${digits:-}" != bad ] || form=digits
+    counted_by every_request.py $form "$room/refuse_memory.so" "$input" "$program" "$@"
 }
 
 memory() {

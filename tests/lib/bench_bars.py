@@ -15,9 +15,8 @@ PER_SOURCE = 1.2
 # How far a number may be past its bar, or past what it is known to be.
 ALLOWED = 1.05
 # The rows that miss their bars, with their numbers, and those over captures a tenth as long.
-KNOWN = {('replay', 'pieces of a byte, shuffled'): (1.55, 1.13),
-         ('save', 'unfragmented'): (1.26, 1.22), ('save', 'pieces of a byte, shuffled'): (1.51, 0.95),
-         ('show', '10,800 to 111 labels'): (87.3, 73.2)}
+KNOWN = {('replay', 'pieces of a byte, shuffled'): (1.64, 0.91), ('save', 'pieces of a byte, shuffled'): (1.70, 0.87),
+         ('show', '10,800 to 111 labels'): (97.2, 78.0)}
 
 
 class Bars:

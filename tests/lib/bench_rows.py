@@ -13,25 +13,22 @@ SLACK = 1.05
 
 @dataclass
 class Row:
-    """What a way costs. `of` is how many times that of the way that it is held against, `most` how many it may be, and `known` how many
-    it is known to be, where that is more."""
+    """What a way costs. `of` is how many times that of the way that it is held against, and `most` how many it may be."""
 
     title: str
     counted: Optional[int] = None    # instructions for a payload, where they can be counted
     seconds: Optional[float] = None  # of processor time, for all payloads
     of: Optional[float] = None
     most: Optional[float] = None
-    known: float = 0.0
     said: str = ''                   # what else was found, or why nothing was
 
     def __str__(self):
         words = ['-' if self.counted is None else f'{self.counted:,}', '-' if self.seconds is None else f'{self.seconds:.3f}',
-                 '-' if self.of is None else f'{self.of:.2f}', '-' if self.most is None else f'{self.most:.1f}']
-        known = f'known to be {self.known}' if self.of and self.most and self.of > self.most and self.known else ''
-        return ('%-46s %13s %9s %7s %7s  %s' % (self.title, *words, self.said or known)).rstrip()
+                 '-' if self.of is None else f'{self.of:.2f}', '-' if self.most is None else f'{self.most:.2f}']
+        return ('%-46s %13s %9s %7s %7s  %s' % (self.title, *words, self.said)).rstrip()
 
     def missed(self):
-        return self.of is not None and self.most is not None and self.of > max(self.most, self.known) * SLACK
+        return self.of is not None and self.most is not None and self.of > self.most * SLACK
 
 
 HEADING = '%-46s %13s %9s %7s %7s' % ('way', 'instructions', 'seconds', 'of it', 'at most')

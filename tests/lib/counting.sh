@@ -69,17 +69,6 @@ compile() {
 # refusing NAME=VALUE.. COMMAND: runs a command over tests/lib/refuse_memory.c.
 refusing() { ended env LD_PRELOAD="$room/refuse_memory.so" "$@"; }
 
-# requests COMMAND..: runs a command with ample memory; $number is how many requests for it were counted.
-requests() {
-    local status
-    : >"$room/requests"
-    refusing NBT_REQUESTS="$room/requests" "$@"
-    status=$?
-    number=$(cat "$room/requests")
-    [[ $number =~ ^[0-9]{1,9}$ ]] || number=0
-    return $status
-}
-
 # counted COMMAND..: the cases of a command whose last line is 'N passed, M failed'.
 counted() {
     local counts='^([0-9]{1,9}) passed, ([0-9]{1,9}) failed$'

@@ -1,0 +1,128 @@
+#!/usr/bin/env python3
+"""Refuses each request of a program for memory in turn, and prints what failed.
+
+Usage: every_request.py FORM SHIM INPUT COMMAND [WORD]..
+
+The program reads INPUT. SHIM is tests/lib/refuse_memory.c, compiled. With ample memory the program writes and answers what is compared
+with, and with a request refused that no longer comes it has to do so too. What it may do where one is refused, the FORM says:
+
+- `again`: as with ample memory, but that its last line of standard error counts one refusal: tests/lib/library.c calls again.
+- `command`: end with status 3, `nbt: memory` and what the command leaves then: show and replay a front of the output that ends
+  where a line does, the others nothing. Of words that are no command line it may also end as ever, but not at each request.
+- `digits`: the same, where the words have digits that are bad.
+- `examples`: answer as ever but for one example, whose answer is that memory ran out; or end with status 3 and `nb_examples: memory`.
+  An answer may stay as ever, but not at each request.
+
+A case is a request, that there are some, that some refusal is met, and that without one all is as ever. The last line is
+'N passed, M failed'.
+"""
+import difflib
+import os
+import re
+import subprocess
+import sys
+import tempfile
+from dataclasses import dataclass
+
+# How long a run may take, in seconds.
+LONGEST = 120
+# The commands that write as they read.
+WRITING = ('show', 'replay')
+
+
+@dataclass(frozen=True)
+class Run:
+    """What a program did."""
+    status: int
+    output: bytes
+    errors: bytes
+
+
+@dataclass
+class Program:
+    """A program, its words and its input."""
+    shim: str
+    command: list
+    input: str
+
+    def run(self, **settings):
+        """Runs it over the shim."""
+        with open(self.input, 'rb') as given:
+            ran = subprocess.run(self.command, stdin=given, capture_output=True, timeout=LONGEST, check=False,
+                                 env={**os.environ, 'LD_PRELOAD': self.shim, **settings})
+        return Run(ran.returncode, ran.stdout, ran.stderr)
+
+    def ample(self):
+        """What it does with ample memory, and how many requests it makes."""
+        with tempfile.NamedTemporaryFile('r') as counted:
+            ran = self.run(NBT_REQUESTS=counted.name)
+            return ran, int(counted.read() or 0)
+
+
+def is_front(front, whole):
+    """Whether some output is a front of another that ends where a line does."""
+    return not front or whole.startswith(front) and front.endswith(b'\n')
+
+
+def again(ample, ran, _):
+    return 'refused' if (ran.status, ran.output) == (0, ample.output) and ran.errors.endswith(b' 1 refusals\n') else None
+
+
+def of_command(ample, ran, words, as_ever):
+    """What a command did, which may do as ever with this status."""
+    if ran.status == 3 and ran.errors == b'nbt: memory\n':
+        left = is_front(ran.output, ample.output) if words[:1] and words[0] in WRITING else not ran.output
+        return 'refused' if left else None
+    return 'as ever' if ran == ample and ran.status in as_ever else None
+
+
+def command(ample, ran, words):
+    return of_command(ample, ran, words, (2,))
+
+
+def digits(ample, ran, words):
+    return of_command(ample, ran, words, (1, 2))
+
+
+def examples(ample, ran, _):
+    if ran.status == 3:
+        return 'refused' if ran.errors == b'nb_examples: memory\n' else None
+    if ran.status == 0:
+        return 'as ever' if ran.output == ample.output else None
+    lines = (it.output.decode('utf-8', 'replace').splitlines() for it in (ample, ran))
+    changed = list(difflib.unified_diff(*lines, n=0, lineterm=''))
+    forms = (r'[+-]\d+ examples, ', r'\+[a-z]+\.', r'(?i)\+    .*memory')
+    counts, calls, answers = ([it for it in changed if re.match(form, it)] for form in forms)
+    return 'refused' if ran.status == 1 and [len(it) for it in (counts, calls, answers)] == [2, 1, 1] else None
+
+
+FORMS = {'again': again, 'command': command, 'digits': digits, 'examples': examples}
+
+
+def tried(form, program):
+    """Each case, whether it went well, and why not."""
+    ample, requests = program.ample()
+    yield f'{requests} requests for memory', requests > 0, 'there is none'
+    refused = 0
+    for number in range(1, requests + 1):
+        ran = program.run(NBT_REFUSED=str(number))
+        did = FORMS[form](ample, ran, program.command[1:])
+        refused += did == 'refused'
+        yield f'request {number} of {requests} refused', did is not None, f'status {ran.status}, {ran.errors[-200:]!r}'
+    yield 'some request that is refused is met', refused > 0, 'none is'
+    yield 'no request refused', program.run(NBT_REFUSED=str(requests + 1)) == ample, 'it does otherwise'
+
+
+def main():
+    form, shim, given, *words = sys.argv[1:]
+    passed, failed = 0, 0
+    for what, is_well, why in tried(form, Program(shim, words, given)):
+        passed, failed = passed + is_well, failed + (not is_well)
+        if not is_well:
+            print(f'failed: {what}: {why}')
+    print(f'{passed} passed, {failed} failed')
+    return failed > 0
+
+
+if __name__ == '__main__':
+    sys.exit(main())

@@ -8,3 +8,4 @@ pub mod RunPutLemmas
 pub mod RunReadLemmas
 pub mod RunRowLemmas
 pub mod RunUniteLemmas
+pub mod RowsLemmas

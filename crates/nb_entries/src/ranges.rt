@@ -6,7 +6,7 @@ ghost use Rattle.nb_entries.specs.Runs.{run_end};
 ghost use Rattle.nb_entries.specs.Code.RangeSteps.{EndBy};
 ghost use Rattle.nb_entries.specs.Code.RunSteps.{value_of, values_of};
 
-use crate::cover::runs::Run;
+use crate::cover::runs::{EachRun, Run};
 use std::marker::Model;
 
 /// Places that follow one another, of which there is at least one.
@@ -22,7 +22,7 @@ pub struct PlaceRange {
 /// taken.
 #[derive(Drop)]
 pub struct Ranges<'a> {
-    runs: &'a [Run],
+    runs: EachRun<'a>,
 }
 
 impl<'a> Model for Ranges<'a> {
@@ -35,9 +35,9 @@ impl<'a> Model for Ranges<'a> {
 
     ghost Value = { List PlaceRange };
 
-    ghost view = { λ r. map range_of (values_of r.runs.now) };
+    ghost view = { λ r. map range_of (values_of r.runs) };
 
-    ghost invariant = { λ r. EndBy MAX_LENGTH (values_of r.runs.now) };
+    ghost invariant = { λ r. EndBy MAX_LENGTH (values_of r.runs) };
 }
 
 impl<'a> Ranges<'a> {
@@ -45,13 +45,15 @@ impl<'a> Ranges<'a> {
     pub fn none() -> Ranges<'a>
         ensures { result ≡ [] }
     {
-        Ranges { runs: &[] }
+        Ranges {
+            runs: EachRun::none(),
+        }
     }
 
     /// Those of these runs, each of which ends where a datagram may at most.
-    pub(crate) fn of(runs: &'a [Run]) -> Ranges<'a>
-        requires { EndBy MAX_LENGTH (values_of runs.now) }
-        ensures { result ≡ map range_of (values_of runs.now) }
+    pub(crate) fn of(runs: EachRun<'a>) -> Ranges<'a>
+        requires { EndBy MAX_LENGTH (values_of runs) }
+        ensures { result ≡ map range_of (values_of runs) }
     {
         Ranges { runs }
     }
@@ -78,11 +80,8 @@ impl<'a> Iterator for Ranges<'a> {
     ghost remaining = { item_count (λ r. r) };
 
     fn next(&mut self) -> Option<PlaceRange> {
-        match self.runs.split_first() {
-            Some((run, rest)) => {
-                self.runs = rest;
-                Some(places_of(run))
-            }
+        match self.runs.next() {
+            Some(run) => Some(places_of(run)),
             None => None,
         }
     }

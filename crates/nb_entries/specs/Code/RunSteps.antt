@@ -1,23 +1,18 @@
 -- What the code's own functions do to rows of runs; no public contract cites this.
-use Rattle.std.specs.Prelude.{◌≡◌, ◌+◌, ◌-◌, ◌<◌, ◌≤◌, ◌++◌, ℕ, List, [], ◌∷◌, length, map, take, drop, min, cond, nat_le, slice_get, Option, Some, None, box_value}
+use Rattle.std.specs.Prelude.{◌≡◌, ◌+◌, ◌-◌, ◌<◌, ◌≤◌, ◌++◌, ℕ, List, [], ◌∷◌, length, map, take, drop, min, cond, nat_le, slice_get, Option, Some, None}
 use Rattle.std.specs.Vec.{vec_capacity}
 use Rattle.std.specs.List.{AllByRecursion}
 use Rattle.nb_entries.specs.Maps.{first_of}
 use Rattle.nb_entries.specs.Runs.{RunValue, run_end, AreApart}
 use Rattle.nb_entries.specs.declared.cover.runs.Run.{Run}
-use Rattle.nb_entries.specs.declared.cover.runs.Stretch.{Stretch}
-
--- what a run's box has, as the run's value
-abbrev pub stretch_of : Stretch → RunValue
-stretch_of s = record { start = s.start; bytes = s.bytes.items }
 
 -- a run of the code as its value
 abbrev pub value_of : Run → RunValue
-value_of r = stretch_of (box_value r.stretch)
+value_of r = record { start = r.start; bytes = r.bytes.items }
 
 -- how many bytes a run has room for
 abbrev pub room_in : Run → ℕ
-room_in r = vec_capacity (box_value r.stretch).bytes
+room_in r = vec_capacity r.bytes
 
 -- the values of runs of the code
 abbrev pub values_of : List Run → List RunValue

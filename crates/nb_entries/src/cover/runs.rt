@@ -9,34 +9,31 @@ ghost use Rattle.nb_entries.specs.Code.CoverFacts.{is_there, with_bytes, AreCove
 ghost use Rattle.nb_entries.specs.Runs.{AreApart, run_end, map_of_runs, runs_of_map};
 ghost use Rattle.nb_entries.specs.Saved.{runs_bytes};
 ghost use Rattle.nb_entries.specs.Whole.{bytes_below as map_below};
-ghost use Rattle.nb_entries.specs.Code.RunSteps.{value_of, values_of, run_at};
+ghost use Rattle.nb_entries.specs.Code.RunSteps.{value_of, run_at};
+ghost use Rattle.nb_entries.specs.Code.Rows.{values_in, NoneEmpty};
 ghost use Rattle.nb_entries.specs.Sinks.{Puts};
 
 mod counting;
+mod each_run;
 mod growing;
+mod inserting;
 mod reading;
 mod saving;
 mod searching;
 mod uniting;
 
 use crate::saved::sink::ByteSink;
+pub(crate) use each_run::EachRun;
+pub(crate) use inserting::add_run;
 use nb_names::{Bytes, NoMemory};
-pub(crate) use saving::add_run;
 use std::alloc::Global;
 use std::marker::Model;
 
-/// The place of the first of these bytes, and the bytes, in order.
-#[derive(Drop, PartialEq)]
-struct Stretch {
-    start: u32,
-    bytes: Vec<u8>,
-}
-
-/// Bytes at places that follow one another. They lie in a box, so that a run that is put between
-/// others moves eight bytes for each of them.
+/// Bytes at places that follow one another: the place of the first, and the bytes, in order.
 #[derive(Drop, PartialEq)]
 pub(crate) struct Run {
-    stretch: Box<Stretch>,
+    start: u32,
+    bytes: Vec<u8>,
 }
 
 impl Run {
@@ -46,36 +43,36 @@ impl Run {
     {
         let mut kept = Vec::with_capacity(alloc, bytes.len())?;
         kept.extend_from_slice(bytes)?;
-        let stretch = Box::new(alloc, Stretch { start, bytes: kept })?;
-        Ok(Run { stretch })
+        Ok(Run { start, bytes: kept })
     }
 
     /// The place of the first byte.
     pub(crate) fn start(&self) -> u32
         ensures { result ≡ (value_of self.now).start }
     {
-        self.stretch.start
+        self.start
     }
 
     /// The bytes.
     fn bytes(&self) -> &[u8]
         ensures { result.now ≡ (value_of self.now).bytes }
     {
-        &self.stretch.bytes
+        &self.bytes
     }
 
     /// The place after the last byte.
     pub(crate) fn end(&self) -> usize
         ensures { result ≡ run_end (value_of self.now) }
     {
-        self.stretch.start as usize + self.stretch.bytes.len()
+        self.start as usize + self.bytes.len()
     }
 }
 
-/// Bytes by place, in runs that are apart.
+/// Bytes by place, in runs that are apart. They lie in rows of few, so that a run which is put
+/// between others moves few of them.
 #[derive(Drop)]
 pub(crate) struct Runs {
-    runs: Vec<Run>,
+    rows: Vec<Vec<Run>>,
 }
 
 impl Model for Runs {
@@ -89,11 +86,11 @@ impl Model for Runs {
     ghost coded = { bytes_code };
 
     ghost use Rattle.nb_entries.specs.Runs.{AreApart, map_of_runs};
-    ghost use Rattle.nb_entries.specs.Code.RunSteps.{values_of};
+    ghost use Rattle.nb_entries.specs.Code.Rows.{values_in, NoneEmpty};
 
-    ghost view = { λ r. map_of_runs (values_of r.runs.items) };
+    ghost view = { λ r. map_of_runs (values_in r.rows.items) };
 
-    ghost invariant = { λ r. AreApart (values_of r.runs.items) };
+    ghost invariant = { λ r. NoneEmpty r.rows.items × AreApart (values_in r.rows.items) };
 }
 
 impl Runs {
@@ -102,7 +99,7 @@ impl Runs {
         ensures { result ≡ maps.empty }
     {
         Runs {
-            runs: Vec::new(alloc),
+            rows: Vec::new(alloc),
         }
     }
 
@@ -111,7 +108,7 @@ impl Runs {
         ensures { result
             ≡ list_all (λ e. same_where (maps.get self.now e.0) e.1) (placed start bytes.now) }
     {
-        reading::bytes_agree(&self.runs, start, bytes)
+        reading::bytes_agree(&self.rows, start, bytes)
     }
 
     /// Whether each of these bytes, which stand from `start` on, is there.
@@ -120,7 +117,7 @@ impl Runs {
             ≡ list_all (λ e. is_there (maps.get self.now e.0) e.1) (placed start bytes.now) }
     {
         let place = start as usize;
-        match reading::bytes_between(&self.runs, place, place + bytes.len()) {
+        match reading::bytes_between(&self.rows, place, place + bytes.len()) {
             Some(held) => held == bytes,
             None => false,
         }
@@ -133,21 +130,21 @@ impl Runs {
         ensures ok { OnOk result (self.new ≡ with_bytes self.old start bytes.now) }
         ensures err { OnErr result (self.new ≡ self.old) }
     {
-        growing::insert_bytes(alloc, &mut self.runs, start, bytes)
+        inserting::insert_bytes(alloc, &mut self.rows, start, bytes)
     }
 
     /// Whether each place lies below the end.
     pub(crate) fn lie_below(&self, end: u32) -> bool
         ensures { IsTrue result ↔ ((i x : ℕ) → maps.get self.now i ≡ Some x → i < end) }
     {
-        reading::end_by(&self.runs, end as usize)
+        reading::end_by(&self.rows, end as usize)
     }
 
     /// Whether each place below the end is covered.
     pub(crate) fn cover_below(&self, end: u32) -> bool
         ensures { IsTrue result ↔ AreCovered (maps.get self.now) end }
     {
-        match reading::bytes_below(&self.runs, end as usize) {
+        match reading::bytes_below(&self.rows, end as usize) {
             Some(_) => true,
             None => false,
         }
@@ -159,7 +156,7 @@ impl Runs {
         ensures value { IfOk result (λ bytes. bytes ≡ map_below self.now end) }
         ensures no_memory_needed { map_below self.now end ≡ None → result ≡ Ok None }
     {
-        match reading::bytes_below(&self.runs, end as usize) {
+        match reading::bytes_below(&self.rows, end as usize) {
             Some(bytes) => Ok(Some(Bytes::copy(alloc, bytes)?)),
             None => Ok(None),
         }
@@ -177,7 +174,7 @@ impl Runs {
         ensures { IfOk result (λ made.
             made ≡ map_below (with_bytes self.now start bytes.now) end) }
     {
-        match reading::bytes_with(alloc, &self.runs, end as usize, start, bytes)? {
+        match reading::bytes_with(alloc, &self.rows, end as usize, start, bytes)? {
             Some(made) => Ok(Some(Bytes::from_vec(made))),
             None => Ok(None),
         }
@@ -187,29 +184,30 @@ impl Runs {
     pub(crate) fn count(&self) -> usize
         ensures { result ≡ length (runs_of_map self.now) }
     {
-        self.runs.len()
+        counting::runs_in(&self.rows)
     }
 
     /// Whether both have the same bytes.
     pub(crate) fn are(&self, other: &Runs) -> bool
         ensures { IsTrue result ↔ (self.now ≡ other.now) }
     {
-        reading::are_equal(&self.runs, &other.runs)
+        reading::are_equal(&self.rows, &other.rows)
     }
 
-    /// The bytes of runs that are apart.
-    pub(crate) fn of_runs(runs: Vec<Run>) -> Runs
-        requires { AreApart (values_of runs.items) }
-        ensures { result ≡ map_of_runs (values_of runs.items) }
+    /// The bytes of rows of runs that are apart.
+    pub(crate) fn of_rows(rows: Vec<Vec<Run>>) -> Runs
+        requires some { NoneEmpty rows.items }
+        requires apart { AreApart (values_in rows.items) }
+        ensures { result ≡ map_of_runs (values_in rows.items) }
     {
-        Runs { runs }
+        Runs { rows }
     }
 
     /// Whether no place has another byte in the one than in the other.
     pub(crate) fn agree_all(&self, other: &Runs) -> bool
         ensures { result ≡ bytes_agree self.now other.now }
     {
-        uniting::rows_agree(&self.runs, &other.runs)
+        uniting::rows_agree(&self.rows, &other.rows)
     }
 
     /// The bytes of both, which don't contradict each other.
@@ -217,18 +215,18 @@ impl Runs {
         requires { bytes_agree self.now other.now ≡ true }
         ensures { IfOk result (λ runs. runs ≡ union self.now other.now) }
     {
-        let alloc = *self.runs.allocator();
-        let runs = uniting::united(alloc, &self.runs, &other.runs)?;
-        Ok(Runs { runs })
+        let alloc = *self.rows.allocator();
+        let rows = uniting::united(alloc, &self.rows, &other.rows)?;
+        Ok(Runs { rows })
     }
 
     /// A copy.
     pub(crate) fn copied(&self) -> Result<Runs, NoMemory>
         ensures { IfOk result (λ runs. runs ≡ self.now) }
     {
-        let alloc = *self.runs.allocator();
-        let runs = saving::copied(alloc, &self.runs)?;
-        Ok(Runs { runs })
+        let alloc = *self.rows.allocator();
+        let rows = saving::copied(alloc, &self.rows)?;
+        Ok(Runs { rows })
     }
 
     /// Puts the maximal runs.
@@ -236,6 +234,6 @@ impl Runs {
         ensures { Puts S.takes S.breaks sink.old sink.new
             (runs_bytes (runs_of_map self.now)) result }
     {
-        saving::put_runs(sink, &self.runs)
+        saving::put_runs(sink, &self.rows)
     }
 }

@@ -3,7 +3,7 @@ ghost use Rattle.std.specs.Prelude.{◌≡◌, ◌≤◌, IfOk, length, nat_le, 
 ghost use Rattle.std.specs.List.{list_all};
 ghost use Rattle.std.specs.FinMap as maps;
 ghost use Rattle.nb_datagram.specs.declared.limits.TheConstants.{MAX_LENGTH};
-ghost use Rattle.nb_entries.specs.Code.RunSteps.{values_of};
+ghost use Rattle.nb_entries.specs.Code.Rows.{values_in, NoneEmpty};
 ghost use Rattle.nb_entries.specs.Runs.{run_end, map_of_runs};
 ghost use Rattle.nb_entries.specs.SavedReading.{start_at, size_at, run_at, runs_at};
 ghost use Rattle.nb_entries.specs.Code.SavedRuns.{RunThere, RowThere, run_of, row_of, after_run};
@@ -172,18 +172,19 @@ fn row_is_short(bytes: &[u8], count: u16, limit: u16) -> bool
 }
 
 /// The runs, as many as these, which the bytes begin with.
-fn kept_runs(alloc: Global, bytes: &[u8], count: u16) -> Result<Vec<Run>, NoMemory>
+fn kept_runs(alloc: Global, bytes: &[u8], count: u16) -> Result<Vec<Vec<Run>>, NoMemory>
     requires { RowThere count bytes.now }
-    ensures { IfOk result (λ runs. values_of runs.items ≡ row_of count bytes.now) }
+    ensures some { IfOk result (λ rows. NoneEmpty rows.items) }
+    ensures runs { IfOk result (λ rows. values_in rows.items ≡ row_of count bytes.now) }
 {
-    let mut runs = Vec::with_capacity(alloc, usize::from(count))?;
+    let mut rows = Vec::new(alloc);
     let mut rest = bytes;
     for _ in 0..count {
         let (run, after) = split_run(rest);
-        add_run(alloc, &mut runs, run.start(), run.bytes())?;
+        add_run(alloc, &mut rows, run.start(), run.bytes())?;
         rest = after;
     }
-    Ok(runs)
+    Ok(rows)
 }
 
 impl<'a> SavedRuns<'a> {
@@ -199,7 +200,7 @@ impl<'a> SavedRuns<'a> {
     pub(crate) fn to_runs(&self, alloc: Global) -> Result<Runs, NoMemory>
         ensures { IfOk result (λ runs. runs ≡ map_of_runs self.now) }
     {
-        let runs = kept_runs(alloc, self.bytes, self.count)?;
-        Ok(Runs::of_runs(runs))
+        let rows = kept_runs(alloc, self.bytes, self.count)?;
+        Ok(Runs::of_rows(rows))
     }
 }

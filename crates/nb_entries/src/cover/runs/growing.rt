@@ -1,12 +1,12 @@
-//! Runs that grow in place.
+//! A row of runs, which grow in place.
 ghost use Rattle.std.specs.Prelude.{◌≡◌, ◌+◌, ◌-◌, ◌<◌, ◌≤◌, ◌++◌, ◌∷◌, length, take, drop, min, max, slice_index_or, slice_set, OnOk, OnErr};
 ghost use Rattle.std.specs.Vec.{vec_capacity, vec_len};
 ghost use Rattle.nb_entries.specs.Runs.{run_end, AreApart};
 ghost use Rattle.nb_entries.specs.declared.cover.runs.growing.TheConstants.{FEW};
-ghost use Rattle.nb_entries.specs.Code.RunSteps.{stretch_of, value_of, values_of, room_in, run_at, grown, Meet, Agree, IsPut};
+ghost use Rattle.nb_entries.specs.Code.RunSteps.{value_of, values_of, room_in, run_at, grown, Meet, Agree, IsPut};
 
+use super::Run;
 use super::searching::{first_from, past_to};
-use super::{Run, Stretch};
 use arrayvec::ArrayVec;
 use nb_names::NoMemory;
 use std::alloc::Global;
@@ -47,31 +47,6 @@ fn grow_front(items: &mut Vec<u8>, front: &[u8])
     items.rotate_right(count);
 }
 
-/// Adds what bytes that overlap or touch a stretch have before and after it, for which there is
-/// room.
-fn grow_stretch(stretch: &mut Stretch, start: u32, bytes: &[u8])
-    requires meet { Meet (stretch_of stretch.old) (run_at start bytes.now) }
-    requires room { length (grown (stretch_of stretch.old) (run_at start bytes.now)).bytes
-        ≤ vec_capacity stretch.old.bytes }
-    ensures value { stretch_of stretch.new
-        ≡ grown (stretch_of stretch.old) (run_at start bytes.now) }
-    ensures room { vec_capacity stretch.old.bytes ≤ vec_capacity stretch.new.bytes }
-{
-    let place = start as usize;
-    let end = stretch.start as usize + stretch.bytes.len();
-    if end < place + bytes.len() {
-        stretch
-            .bytes
-            .extend_from_slice(&bytes[end - place..])
-            .unwrap();
-    }
-    if start < stretch.start {
-        let count = (stretch.start - start) as usize;
-        grow_front(&mut stretch.bytes, &bytes[..count]);
-        stretch.start = start;
-    }
-}
-
 /// Adds what bytes that overlap or touch a run have before and after it, for which there is room.
 fn grow(run: &mut Run, start: u32, bytes: &[u8])
     requires meet { Meet (value_of run.old) (run_at start bytes.now) }
@@ -80,7 +55,16 @@ fn grow(run: &mut Run, start: u32, bytes: &[u8])
     ensures value { value_of run.new ≡ grown (value_of run.old) (run_at start bytes.now) }
     ensures room { room_in run.old ≤ room_in run.new }
 {
-    grow_stretch(&mut run.stretch, start, bytes);
+    let place = start as usize;
+    let end = run.end();
+    if end < place + bytes.len() {
+        run.bytes.extend_from_slice(&bytes[end - place..]).unwrap();
+    }
+    if start < run.start {
+        let count = (run.start - start) as usize;
+        grow_front(&mut run.bytes, &bytes[..count]);
+        run.start = start;
+    }
 }
 
 /// Takes the runs from `from` up to `past` out, and gives the last of them.
@@ -97,20 +81,6 @@ fn take_out(runs: &mut Vec<Run>, from: usize, past: usize) -> Run
     last
 }
 
-/// Takes the room that a stretch wants, once it reaches from `start` or before to `end` or past it.
-fn reserve_stretch(stretch: &mut Stretch, start: u32, end: usize) -> Result<(), NoMemory>
-    ensures same { stretch_of stretch.new ≡ stretch_of stretch.old }
-    ensures room { OnOk result
-        (max (run_end (stretch_of stretch.old)) end - min start stretch.old.start
-        ≤ vec_capacity stretch.new.bytes) }
-{
-    let first = stretch.start.min(start) as usize;
-    let past = (stretch.start as usize + stretch.bytes.len()).max(end);
-    let more = past - first - stretch.bytes.len();
-    stretch.bytes.reserve(more)?;
-    Ok(())
-}
-
 /// Takes the room that a run wants, once it reaches from `start` or before to `end` or past it.
 fn reserve(run: &mut Run, start: u32, end: usize) -> Result<(), NoMemory>
     ensures same { value_of run.new ≡ value_of run.old }
@@ -118,7 +88,11 @@ fn reserve(run: &mut Run, start: u32, end: usize) -> Result<(), NoMemory>
         (max (run_end (value_of run.old)) end - min start (value_of run.old).start
         ≤ room_in run.new) }
 {
-    reserve_stretch(&mut run.stretch, start, end)
+    let first = run.start.min(start) as usize;
+    let past = run.end().max(end);
+    let more = past - first - run.bytes.len();
+    run.bytes.reserve(more)?;
+    Ok(())
 }
 
 /// Joins bytes with the one run that they overlap or touch.
@@ -171,16 +145,6 @@ fn join_more(
     Ok(())
 }
 
-/// Takes room for one run where there is none: most datagrams have no second one.
-fn reserve_first(runs: &mut Vec<Run>) -> Result<(), NoMemory>
-    ensures { runs.new.items ≡ runs.old.items }
-{
-    if runs.is_empty() {
-        runs.reserve_exact(1)?;
-    }
-    Ok(())
-}
-
 /// Puts a run before the runs from `place` on.
 fn put_at(runs: &mut Vec<Run>, place: usize, run: Run) -> Result<(), NoMemory>
     requires { place ≤ length runs.old.items }
@@ -188,7 +152,6 @@ fn put_at(runs: &mut Vec<Run>, place: usize, run: Run) -> Result<(), NoMemory>
         (runs.new.items ≡ take place runs.old.items ++ run ∷ drop place runs.old.items) }
     ensures err { OnErr result (runs.new.items ≡ runs.old.items) }
 {
-    reserve_first(runs)?;
     runs.insert(place, run)?;
     Ok(())
 }
@@ -211,7 +174,7 @@ fn insert_at(
     put_at(runs, place, run)
 }
 
-/// Inserts bytes that don't contradict them into the runs.
+/// Inserts bytes that don't contradict them into a row of runs.
 pub(super) fn insert_bytes(
     alloc: Global,
     runs: &mut Vec<Run>,

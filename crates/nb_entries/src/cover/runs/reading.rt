@@ -1,28 +1,26 @@
 //! What runs have that are apart.
 ghost use Rattle.std.specs.Prelude.{◌≡◌, ◌↔◌, ◌≤◌, ◌<◌, ℕ, IsTrue, IfOk, MatchOption, Some};
 ghost use Rattle.nb_entries.specs.Runs.{AreApart};
+ghost use Rattle.nb_entries.specs.Code.Rows.{values_in, NoneEmpty};
 ghost use Rattle.nb_entries.specs.Code.RunSteps.{value_of, values_of, run_at, Meet, Agree, AgreeOne, look_in, look_with, AreBetween, Lacks, AreFirst, LacksOne};
 
-use super::Run;
-use super::searching::{first_from, past_to};
+use super::searching::{first_from, first_to, last_run, past_to, row_to, rows_to};
+use super::{EachRun, Run};
 use nb_names::NoMemory;
 use std::alloc::Global;
 
 /// The bytes from one place up to another, in order, if each is there.
-pub(super) fn bytes_between<'a>(runs: &'a [Run], from: usize, to: usize) -> Option<&'a [u8]>
-    requires apart { AreApart (values_of runs.now) }
+pub(super) fn bytes_between<'a>(rows: &'a [Vec<Run>], from: usize, to: usize) -> Option<&'a [u8]>
+    requires some { NoneEmpty rows.now }
+    requires apart { AreApart (values_in rows.now) }
     requires order { from ≤ to }
-    ensures { MatchOption result (Lacks (values_of runs.now) from to)
-        (λ bytes. AreBetween (values_of runs.now) from to bytes.now) }
+    ensures { MatchOption result (Lacks (values_in rows.now) from to)
+        (λ bytes. AreBetween (values_in rows.now) from to bytes.now) }
 {
     if from == to {
         return Some(&[]);
     }
-    let place = first_from(runs, to);
-    if place == runs.len() {
-        return None;
-    }
-    let run = &runs[place];
+    let run = first_to(rows, to)?;
     let start = run.start() as usize;
     if from < start {
         return None;
@@ -31,18 +29,16 @@ pub(super) fn bytes_between<'a>(runs: &'a [Run], from: usize, to: usize) -> Opti
 }
 
 /// The bytes below a place, in order, if each is there. They are in the first run.
-pub(super) fn bytes_below<'a>(runs: &'a [Run], to: usize) -> Option<&'a [u8]>
-    requires { AreApart (values_of runs.now) }
-    ensures { MatchOption result (Lacks (values_of runs.now) 0 to)
-        (λ bytes. AreBetween (values_of runs.now) 0 to bytes.now) }
+pub(super) fn bytes_below<'a>(rows: &'a [Vec<Run>], to: usize) -> Option<&'a [u8]>
+    requires some { NoneEmpty rows.now }
+    requires apart { AreApart (values_in rows.now) }
+    ensures { MatchOption result (Lacks (values_in rows.now) 0 to)
+        (λ bytes. AreBetween (values_in rows.now) 0 to bytes.now) }
 {
     if to == 0 {
         return Some(&[]);
     }
-    if runs.is_empty() {
-        return None;
-    }
-    let run = &runs[0];
+    let run = rows.first()?.first()?;
     if run.start() > 0 {
         return None;
     }
@@ -64,8 +60,8 @@ fn agrees(run: &Run, start: u32, bytes: &[u8]) -> bool
     run.bytes()[from - own..to - own] == bytes[from - place..to - place]
 }
 
-/// Whether no place has another byte among these.
-pub(super) fn bytes_agree(runs: &[Run], start: u32, bytes: &[u8]) -> bool
+/// Whether no place of a row has another byte among these.
+fn row_agrees(runs: &[Run], start: u32, bytes: &[u8]) -> bool
     requires { AreApart (values_of runs.now) }
     ensures { IsTrue result ↔ Agree (values_of runs.now) (run_at start bytes.now) }
 {
@@ -83,28 +79,47 @@ pub(super) fn bytes_agree(runs: &[Run], start: u32, bytes: &[u8]) -> bool
     true
 }
 
+/// Whether no place has another byte among these.
+pub(super) fn bytes_agree(rows: &[Vec<Run>], start: u32, bytes: &[u8]) -> bool
+    requires some { NoneEmpty rows.now }
+    requires apart { AreApart (values_in rows.now) }
+    ensures { IsTrue result ↔ Agree (values_in rows.now) (run_at start bytes.now) }
+{
+    let place = start as usize;
+    let first = row_to(rows, place);
+    let past = rows_to(rows, first, place + bytes.len());
+    let touched = &rows[first..past];
+    for row in touched {
+        if !row_agrees(row, start, bytes) {
+            return false;
+        }
+    }
+    true
+}
+
 /// The bytes below a place, in order, of the runs with others, if each is there. No memory is taken
 /// where one isn't.
 pub(super) fn bytes_with(
     alloc: Global,
-    runs: &[Run],
+    rows: &[Vec<Run>],
     end: usize,
     start: u32,
     bytes: &[u8],
 ) -> Result<Option<Vec<u8>>, NoMemory>
-    requires { AreApart (values_of runs.now) }
+    requires some { NoneEmpty rows.now }
+    requires apart { AreApart (values_in rows.now) }
     ensures { IfOk result (λ made. MatchOption made
-        (LacksOne (look_with (values_of runs.now) (run_at start bytes.now)) end)
-        (λ bytes_made. AreFirst (look_with (values_of runs.now) (run_at start bytes.now)) end
+        (LacksOne (look_with (values_in rows.now) (run_at start bytes.now)) end)
+        (λ bytes_made. AreFirst (look_with (values_in rows.now) (run_at start bytes.now)) end
         bytes_made.items)) }
 {
     let first = (start as usize).min(end);
     let count = bytes.len().min(end - first);
-    let front = match bytes_below(runs, first) {
+    let front = match bytes_below(rows, first) {
         Some(front) => front,
         None => return Ok(None),
     };
-    let back = match bytes_between(runs, first + count, end) {
+    let back = match bytes_between(rows, first + count, end) {
         Some(back) => back,
         None => return Ok(None),
     };
@@ -115,19 +130,29 @@ pub(super) fn bytes_with(
     Ok(Some(made))
 }
 
-/// Whether two rows of runs are one.
-pub(super) fn are_equal(runs: &[Run], others: &[Run]) -> bool
-    ensures { IsTrue result ↔ (values_of runs.now ≡ values_of others.now) }
+/// Whether the runs of two are the same.
+pub(super) fn are_equal(rows: &[Vec<Run>], others: &[Vec<Run>]) -> bool
+    requires some { NoneEmpty rows.now }
+    requires other_some { NoneEmpty others.now }
+    ensures { IsTrue result ↔ (values_in rows.now ≡ values_in others.now) }
 {
-    runs == others
+    let mut own = EachRun::of(rows);
+    for other in EachRun::of(others) {
+        match own.next() {
+            Some(run) if run == other => {}
+            _ => return false,
+        }
+    }
+    own.next().is_none()
 }
 
 /// Whether each run ends at a place or before it.
-pub(super) fn end_by(runs: &[Run], end: usize) -> bool
-    requires { AreApart (values_of runs.now) }
-    ensures { IsTrue result ↔ ((q x : ℕ) → look_in (values_of runs.now) q ≡ Some x → q < end) }
+pub(super) fn end_by(rows: &[Vec<Run>], end: usize) -> bool
+    requires some { NoneEmpty rows.now }
+    requires apart { AreApart (values_in rows.now) }
+    ensures { IsTrue result ↔ ((q x : ℕ) → look_in (values_in rows.now) q ≡ Some x → q < end) }
 {
-    match runs.last() {
+    match last_run(rows) {
         Some(run) => run.end() <= end,
         None => true,
     }

@@ -1,10 +1,13 @@
-//! Rows of runs, saved, copied, and made of runs in order.
-ghost use Rattle.std.specs.Prelude.{◌≡◌, ◌++◌, ◌∷◌, [], IfOk, OnOk};
-ghost use Rattle.nb_entries.specs.Code.RunSteps.{value_of, values_of, run_at};
+//! Runs, saved and copied.
+ghost use Rattle.std.specs.Prelude.{◌≡◌, IfOk};
+ghost use Rattle.nb_entries.specs.Runs.{AreApart};
+ghost use Rattle.nb_entries.specs.Code.RunSteps.{value_of};
+ghost use Rattle.nb_entries.specs.Code.Rows.{values_in, NoneEmpty};
 ghost use Rattle.nb_entries.specs.Sinks.{Puts};
 ghost use Rattle.nb_entries.specs.Saved.{run_bytes, runs_bytes};
 
-use super::Run;
+use super::counting::runs_in;
+use super::{EachRun, Run, add_run};
 use crate::saved::fields::put_two_bytes;
 use crate::saved::sink::ByteSink;
 use nb_names::NoMemory;
@@ -21,37 +24,26 @@ fn put_run<S: ByteSink>(sink: &mut S, run: &Run) -> Result<(), S::Fault>
 }
 
 /// Puts runs, how many there are in front.
-pub(super) fn put_runs<S: ByteSink>(sink: &mut S, runs: &[Run]) -> Result<(), S::Fault>
-    ensures { Puts S.takes S.breaks sink.old sink.new (runs_bytes (values_of runs.now)) result }
+pub(super) fn put_runs<S: ByteSink>(sink: &mut S, rows: &[Vec<Run>]) -> Result<(), S::Fault>
+    requires some { NoneEmpty rows.now }
+    requires apart { AreApart (values_in rows.now) }
+    ensures { Puts S.takes S.breaks sink.old sink.new (runs_bytes (values_in rows.now)) result }
 {
-    put_two_bytes(sink, runs.len() as u64)?;
-    for run in runs {
+    put_two_bytes(sink, runs_in(rows) as u64)?;
+    for run in EachRun::of(rows) {
         put_run(sink, run)?;
     }
     Ok(())
 }
 
-/// Adds bytes after the runs, as a run of their own.
-pub(crate) fn add_run(
-    alloc: Global,
-    runs: &mut Vec<Run>,
-    start: u32,
-    bytes: &[u8],
-) -> Result<(), NoMemory>
-    ensures { OnOk result
-        (values_of runs.new.items ≡ values_of runs.old.items ++ run_at start bytes.now ∷ []) }
+/// A copy of rows.
+pub(super) fn copied(alloc: Global, rows: &[Vec<Run>]) -> Result<Vec<Vec<Run>>, NoMemory>
+    requires { NoneEmpty rows.now }
+    ensures some { IfOk result (λ made. NoneEmpty made.items) }
+    ensures same { IfOk result (λ made. values_in made.items ≡ values_in rows.now) }
 {
-    let run = Run::copy(alloc, start, bytes)?;
-    runs.push(run)?;
-    Ok(())
-}
-
-/// A copy of a row.
-pub(super) fn copied(alloc: Global, runs: &[Run]) -> Result<Vec<Run>, NoMemory>
-    ensures { IfOk result (λ made. values_of made.items ≡ values_of runs.now) }
-{
-    let mut made = Vec::with_capacity(alloc, runs.len())?;
-    for run in runs {
+    let mut made = Vec::new(alloc);
+    for run in EachRun::of(rows) {
         add_run(alloc, &mut made, run.start(), run.bytes())?;
     }
     Ok(made)

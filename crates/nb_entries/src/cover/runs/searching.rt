@@ -1,7 +1,8 @@
-//! Where runs lie that are apart.
-ghost use Rattle.std.specs.Prelude.{◌≤◌, length, take, drop};
-ghost use Rattle.nb_entries.specs.Runs.{AreApart};
+//! Where runs lie that are apart, in a row and in several.
+ghost use Rattle.std.specs.Prelude.{◌≡◌, ◌≤◌, ◌<◌, [], length, take, drop, slice_index_or, ltb, MatchOption, IsTrue};
+ghost use Rattle.nb_entries.specs.Runs.{AreApart, StartsPast};
 ghost use Rattle.nb_entries.specs.Code.RunSteps.{values_of, EndBefore, EndFrom, StartTo, StartAfter};
+ghost use Rattle.nb_entries.specs.Code.Rows.{runs_in, values_in, NoneEmpty, last_end, IsFirstTo, IsLast};
 
 use super::Run;
 
@@ -31,4 +32,78 @@ pub(super) fn past_to(runs: &[Run], first: usize, place: usize) -> usize
         }
     }
     runs.len()
+}
+
+/// Whether the last run of a row ends before a place.
+fn ends_before(row: &Vec<Run>, place: usize) -> bool
+    ensures { result ≡ ltb (last_end row.now.items) place }
+{
+    match row.last() {
+        Some(run) => run.end() < place,
+        None => 0 < place,
+    }
+}
+
+/// How many rows have no run that ends at a place or after it.
+pub(super) fn row_to(rows: &[Vec<Run>], place: usize) -> usize
+    requires some { NoneEmpty rows.now }
+    requires apart { AreApart (values_in rows.now) }
+    ensures within { result ≤ length rows.now }
+    ensures before { EndBefore place (values_in (take result rows.now)) }
+    ensures reaches { (d : _) → result < length rows.now
+        → place ≤ last_end (slice_index_or rows.now result d).items }
+{
+    rows.partition_point(|row| ends_before(row, place))
+}
+
+/// The first run that ends at a place or after it.
+pub(super) fn first_to<'a>(rows: &'a [Vec<Run>], place: usize) -> Option<&'a Run>
+    requires some { NoneEmpty rows.now }
+    requires apart { AreApart (values_in rows.now) }
+    ensures { MatchOption result (EndBefore place (values_in rows.now))
+        (λ run. IsFirstTo (runs_in rows.now) place run.now) }
+{
+    let at = row_to(rows, place);
+    if at == rows.len() {
+        return None;
+    }
+    let row = &rows[at];
+    Some(&row[first_from(row, place)])
+}
+
+/// Whether the first run of a row starts after a place.
+fn starts_after(row: &[Run], place: usize) -> bool
+    requires { 0 < length row.now }
+    ensures { IsTrue result → StartsPast place (values_of row.now) }
+{
+    row[0].start() as usize > place
+}
+
+/// How many rows may have a run that starts at a place or before it: the first `first` of them,
+/// and those that follow, looked at one by one.
+pub(super) fn rows_to(rows: &[Vec<Run>], first: usize, place: usize) -> usize
+    requires some { NoneEmpty rows.now }
+    requires apart { AreApart (values_in rows.now) }
+    requires within { first ≤ length rows.now }
+    ensures first { first ≤ result }
+    ensures within { result ≤ length rows.now }
+    ensures after { StartAfter place (values_in (drop result rows.now)) }
+{
+    for index in first..rows.len() {
+        if starts_after(&rows[index], place) {
+            return index;
+        }
+    }
+    rows.len()
+}
+
+/// The last run.
+pub(super) fn last_run<'a>(rows: &'a [Vec<Run>]) -> Option<&'a Run>
+    requires { NoneEmpty rows.now }
+    ensures { MatchOption result (runs_in rows.now ≡ []) (λ run. IsLast (runs_in rows.now) run.now) }
+{
+    match rows.last() {
+        Some(row) => row.last(),
+        None => None,
+    }
 }

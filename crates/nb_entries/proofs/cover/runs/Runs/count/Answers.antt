@@ -5,5 +5,5 @@ use Rattle.nb_entries.proofs.cover.runs.Runs.count.Goals as goal
 
 pub returns : goal.returns
 returns c =
-    let size : vec_len c.self.inside.runs ≡ length c.self.inside.runs.items = search rules in
-    rw (← c.self.view_is) (c.len.ensures ∙ size ∙ count_is c.self.inside.runs.items c.self.invariant)
+    let size : vec_len c.self.inside.rows ≡ length c.self.inside.rows.items = search rules in
+    rw (← c.self.view_is) (c.len.ensures ∙ size ∙ count_is c.self.inside.rows.items c.self.invariant.1)

@@ -2,7 +2,7 @@ use Rattle.std.proofs.Common.{◌≡◌, arith, ◌+◌, ◌-◌, refl, sym, sub
 use Rattle.nb_entries.specs.Code.RunSteps.{value_of, run_at, Meet, AgreeOne}
 use Rattle.nb_entries.proofs.KeptRuns.RunPlaceLemmas.{Lies, lies_of, start_before}
 use Rattle.nb_entries.proofs.KeptRuns.RunReadLemmas.{all_met, meet_within, one_agrees, touched_at, touched_back}
-use Rattle.nb_entries.proofs.cover.runs.reading.bytes_agree.Goals as goal
+use Rattle.nb_entries.proofs.cover.runs.reading.row_agrees.Goals as goal
 
 pub past_to-past-requires-clause-first : goal.past_to-past-requires-clause-first
 past_to-past-requires-clause-first c = start_before _ _ _ (omega arith) c.first_from-first.ensures.before

@@ -1,0 +1,23 @@
+use Rattle.std.proofs.Common.{rules, ◌≡◌, ◌≤◌, ◌<◌, [], length, take, drop, slice_index_or, ltb, ℕ, ap, sym, subst, ◌∙◌, arith, ltb-true, ltb-false, refl}
+use Rattle.nb_entries.proofs.KeptRuns.RowsLemmas.{last_is, rows_rise, rows_before, first_found, rows_after, none_after, last_found, last_one, some_at, last_before, apart_at}
+use Rattle.std.specs.Vec.{vec_len}
+use Rattle.nb_entries.specs.Code.RunSteps.{EndBefore, EndFrom, values_of}
+use Rattle.nb_entries.specs.Code.Rows.{values_in}
+use Rattle.nb_entries.specs.Runs.{AreApart}
+use Rattle.std.proofs.lemmas.List.{take_all, length-map}
+use Rattle.nb_entries.proofs.cover.runs.searching.first_to.Goals as goal
+
+pub returns-then-at-rows : goal.returns-then-at-rows
+returns-then-at-rows c = subst (λ rs. EndBefore c.args.place (values_in rs)) (take_all c.row_to-at.result c.args.rows.now (omega (arith, c.if-at-rows.true))) c.row_to-at.ensures.before
+
+pub first_from-requires : goal.first_from-requires
+first_from-requires c =
+    let within = c.row_to-at.ensures.within in
+    subst (λ xs. AreApart (values_of xs)) (sym c.deref.ensures.value)
+    (subst (λ r. AreApart (values_of r.items)) (sym c.index-rows-at.is) (apart_at c.args.rows.now c.row_to-at.result c.index-rows-at.result c.requires.apart (omega (arith, within, c.if-at-rows.false))))
+
+pub index-requires : goal.index-requires
+index-requires c = ?
+
+pub returns : goal.returns
+returns c = ?

@@ -1,0 +1,40 @@
+-- Runs that lie in several rows, one after the other; no public contract cites this.
+use Rattle.std.specs.Prelude.{◌≡◌, ◌<◌, ◌≤◌, ◌-◌, ◌++◌, ℕ, List, [], ◌∷◌, length, take, slice_index_or}
+use Rattle.std.specs.Vec.{vec_len}
+use Rattle.std.specs.declared.vec.Vec.{Vec}
+use Rattle.std.specs.List.{AllByRecursion}
+use Rattle.nb_entries.specs.Runs.{RunValue, run_end}
+use Rattle.nb_entries.specs.Code.RunSteps.{value_of, values_of, EndBefore}
+use Rattle.nb_entries.specs.declared.cover.runs.Run.{Run}
+
+-- the runs of all rows, in order
+abbrev pub runs_in : {Z : Type 0} → List (Vec Run Z) → List Run
+runs_in [] = []
+runs_in (r ∷ rs) = r.items ++ runs_in rs
+
+-- the values of these runs
+abbrev pub values_in : {Z : Type 0} → List (Vec Run Z) → List RunValue
+values_in rs = values_of (runs_in rs)
+
+-- each row has a run
+abbrev pub NoneEmpty : {Z : Type 0} → List (Vec Run Z) → Type 0
+NoneEmpty {Z} rs = AllByRecursion (λ (r : Vec Run Z). 0 < length r.items) rs
+
+-- where the last of these runs ends
+abbrev pub last_end : List Run → ℕ
+last_end [] = 0
+last_end (r ∷ []) = run_end (value_of r)
+last_end (r ∷ s ∷ rs) = last_end (s ∷ rs)
+
+-- the run is the first one that ends at the place n or after it
+pub record IsFirstTo (rs : List Run) (n : ℕ) (r : Run) : Type 0 where
+  pub index : ℕ
+  pub inside : index < length rs
+  pub is : r ≡ slice_index_or rs index r
+  pub before : EndBefore n (take index (values_of rs))
+  pub reaches : n ≤ run_end (value_of r)
+
+-- the run is the last one
+pub record IsLast (rs : List Run) (r : Run) : Type 0 where
+  pub some : 0 < length rs
+  pub is : r ≡ slice_index_or rs (length rs - 1) r

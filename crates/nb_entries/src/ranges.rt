@@ -53,7 +53,7 @@ impl<'a> Ranges<'a> {
     /// Those of these runs, each of which ends where a datagram may at most.
     pub(crate) fn of(runs: EachRun<'a>) -> Ranges<'a>
         requires { EndBy MAX_LENGTH (values_of runs) }
-        ensures { result ≡ map range_of (values_of runs) }
+        ensures { result ≡ map range_of (values_of runs.entry) }
     {
         Ranges { runs }
     }

@@ -116,10 +116,3 @@ start_to xs n place r a l e h =
 pub start_after : (xs : List Run) (n place : ℕ) (r : Run) → AreApart (values_of xs) → n < length xs → r ≡ slice_index_or xs n r → place < (value_of r).start → StartAfter place (drop n (values_of xs))
 start_after xs n place r a l e h =
     all_drop (λ v. place < v.start) value_of xs n (λ k d m b. (let rise = starts_rise xs a n k d m b in let same = start_at xs n r d l e in omega (arith, rise, same, h)))
-
--- the runs that are left, from one on
-pub runs_left : (runs : List Run) (i : ℕ) (run : Run) → i < length runs → slice_get runs i ≡ Some run
-    → concat (map run_bytes (values_of (drop i runs))) ≡ run_bytes (value_of run) ++ concat (map run_bytes (values_of (drop (i + 1) runs)))
-runs_left runs i run short there =
-    let first = ap (λ (r : Run). r ∷ drop (i + 1) runs) (get_or_from_slice_get runs i run run there) in
-    ap (λ (rs : List Run). concat (map run_bytes (values_of rs))) (drop_more runs i run short ∙ first)

@@ -112,10 +112,3 @@ pub record RowsAgree (rs ss : List RunValue) : Type 0 where
 pub record IsUnion (rs ss all : List RunValue) : Type 0 where
   pub apart : AreApart all
   pub look : (q : ℕ) → look_in all q ≡ first_of (look_in rs q) (look_in ss q)
-
--- a row has the bytes of the first i runs of the one row, and of the first j of the other
-pub record IsMerged (rs ss : List RunValue) (i j : ℕ) (made : List RunValue) : Type 0 where
-  pub within : i ≤ length rs
-  pub other_within : j ≤ length ss
-  pub apart : AreApart made
-  pub look : (q : ℕ) → look_in made q ≡ first_of (look_in (take i rs) q) (look_in (take j ss) q)

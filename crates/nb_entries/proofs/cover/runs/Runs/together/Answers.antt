@@ -12,4 +12,4 @@ united-requires-clause-agree c =
 pub returns : goal.returns
 returns c =
     rw (← c.self.view_is, ← c.other.view_is)
-    (map_union (values_in c.self.inside.rows.items) (values_in c.other.inside.rows.items) _ _ (values_in c.in_ok-runs.rows.items) (ap values_in c.deref.ensures.value) (ap values_in c.deref-2.ensures.value) c.in_ok-runs.ensures)
+    (map_union (values_in c.self.inside.rows.items) (values_in c.other.inside.rows.items) _ _ (values_in c.in_ok-rows.rows.items) (ap values_in c.deref.ensures.value) (ap values_in c.deref-2.ensures.value) c.in_ok-rows.ensures.union)

@@ -1,47 +1,39 @@
-use Rattle.std.proofs.Common.{◌<◌, length, map, arith, refl, sym, ap}
+use Rattle.std.proofs.Common.{length, map, refl, sym, ap, ◌∙◌}
 use Rattle.std.specs.Int.{w16, to_be_bytes}
 use Rattle.std.specs.List.{concat}
-use Rattle.std.proofs.lemmas.List.{length-map}
-use Rattle.std.proofs.lemmas.Option.{slice_get_read}
 use Rattle.nb_entries.specs.Code.RunSteps.{value_of, values_of}
+use Rattle.nb_entries.specs.Code.Rows.{values_in}
 use Rattle.nb_entries.specs.Saved.{run_bytes, runs_bytes}
-use Rattle.nb_entries.proofs.KeptRuns.RunCodeLemmas.{runs_left}
 use Rattle.nb_entries.specs.Shared.PuttingLemmas.{begun, told, turn, stop}
 use Rattle.nb_entries.proofs.cover.runs.saving.put_runs.Goals as goal
 
 pub returns-in_err-put_two_bytes : goal.returns-in_err-put_two_bytes
 returns-in_err-put_two_bytes g c =
-    let runs = values_of c.args.runs.now in
+    let runs = values_in c.args.rows.now in
     let laws = g.met.S.ByteSink.laws in
     let none = begun laws c.args.sink.now (runs_bytes runs) in
-    let count = ap (to_be_bytes w16) (sym (length-map c.args.runs.now value_of)) in
+    let count = ap (to_be_bytes w16) c.runs_in.ensures in
     stop laws (to_be_bytes w16 (length runs)) (concat (map run_bytes runs)) none count
     c.in_err-put_two_bytes.ensures _ c.from_residual.result c.from_residual.ensures.1
 
 pub loop-run-init : goal.loop-run-init
 loop-run-init g c =
-    let runs = values_of c.args.runs.now in
+    let runs = values_in c.args.rows.now in
     let laws = g.met.S.ByteSink.laws in
     let none = begun laws c.args.sink.now (runs_bytes runs) in
-    let count = ap (to_be_bytes w16) (sym (length-map c.args.runs.now value_of)) in
-    turn laws (to_be_bytes w16 (length runs)) (concat (map run_bytes runs)) none count c.in_ok-put_two_bytes.ensures
+    let count = ap (to_be_bytes w16) c.runs_in.ensures in
+    let order = c.into_iter-run-iterator.ensures.into_iter_gives ∙ c.of-run-items.ensures in
+    told laws _ _ (ap (λ rs. concat (map run_bytes (values_of rs))) (sym order))
+    (turn laws (to_be_bytes w16 (length runs)) (concat (map run_bytes runs)) none count c.in_ok-put_two_bytes.ensures)
 
 pub returns-in_err-put_run : goal.returns-in_err-put_run
 returns-in_err-put_run g c =
-    let runs = c.args.runs.now in
-    let i = c.loop-run.run-index in
-    let run = c.run-item.result in
     let laws = g.met.S.ByteSink.laws in
-    let short : i < length runs = omega (arith, c.loop-run-test.true) in
-    let left = told laws _ _ (runs_left runs i run short (slice_get_read runs _ i run refl short c.run-item.is)) c.loop-run.invariant in
-    stop laws (run_bytes (value_of run)) _ left refl c.in_err-put_run.ensures _ c.from_residual-in_err-put_run.result c.from_residual-in_err-put_run.ensures.1
+    let left = told laws _ _ (ap (λ rs. concat (map run_bytes (values_of rs))) c.in-Some.ensures.steps) c.loop-run.invariant in
+    stop laws (run_bytes (value_of c.in-Some.run'.now)) _ left refl c.in_err-put_run.ensures _ c.from_residual-in_err-put_run.result c.from_residual-in_err-put_run.ensures.1
 
 pub loop-run-preserved : goal.loop-run-preserved
 loop-run-preserved g c =
-    let runs = c.args.runs.now in
-    let i = c.loop-run.run-index in
-    let run = c.run-item.result in
     let laws = g.met.S.ByteSink.laws in
-    let short : i < length runs = omega (arith, c.loop-run-test.true) in
-    let left = told laws _ _ (runs_left runs i run short (slice_get_read runs _ i run refl short c.run-item.is)) c.loop-run.invariant in
-    turn laws (run_bytes (value_of run)) _ left refl c.in_ok-put_run.ensures
+    let left = told laws _ _ (ap (λ rs. concat (map run_bytes (values_of rs))) c.in-Some.ensures.steps) c.loop-run.invariant in
+    turn laws (run_bytes (value_of c.in-Some.run'.now)) _ left refl c.in_ok-put_run.ensures

@@ -1,7 +1,11 @@
-use Rattle.std.proofs.Common.{ℕ, ◌<◌, slice_index_or}
-use Rattle.nb_entries.specs.Code.RunSteps.{value_of, values_of, Agree}
-use Rattle.nb_entries.specs.declared.cover.runs.Run.{Run}
+use Rattle.nb_entries.specs.Runs.{AreApart}
+use Rattle.nb_entries.specs.Code.RunSteps.{values_of, RowsAgree}
+use Rattle.nb_entries.specs.Code.Rows.{values_in}
 use Rattle.nb_entries.proofs.cover.runs.uniting.rows_agree.Given as goal
 
 abbrev pub invariant-loop-run : goal.invariant-loop-run
-invariant-loop-run l = (k : ℕ) (d : Run) → k < l.run-index → Agree (values_of l.runs) (value_of (slice_index_or l.others k d))
+invariant-loop-run l = record {
+  apart : AreApart (values_of l.run-iterator);
+  onward : RowsAgree (values_in l.rows) (values_of l.run-iterator) → RowsAgree (values_in l.rows) (values_in l.others);
+  back : RowsAgree (values_in l.rows) (values_in l.others) → RowsAgree (values_in l.rows) (values_of l.run-iterator);
+}

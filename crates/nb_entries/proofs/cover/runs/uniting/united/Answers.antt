@@ -1,21 +1,33 @@
-use Rattle.std.proofs.Common.{◌≡◌, subst, sym, refl, arith, length}
-use Rattle.std.proofs.lemmas.List.{length-map}
-use Rattle.nb_entries.specs.Code.RunSteps.{value_of, values_of, IsMerged}
-use Rattle.nb_entries.proofs.KeptRuns.RunUniteLemmas.{merged_none, merged_all}
+use Rattle.std.proofs.Common.{ap, ◌∙◌}
+use Rattle.nb_entries.specs.Code.RunSteps.{value_of, values_of}
+use Rattle.nb_entries.specs.Code.Rows.{values_in}
+use Rattle.nb_entries.proofs.KeptRuns.EachRunLemmas.{value_is, going_first, going_agrees, going_next, going_all}
 use Rattle.nb_entries.proofs.cover.runs.uniting.united.Goals as goal
 
-pub loop-init : goal.loop-init
-loop-init c = record {
-  merged = subst (λ xs. IsMerged (values_of c.args.runs.now) (values_of c.args.others.now) 0 0 (values_of xs)) (sym c.new-made.ensures.items) (merged_none (values_of c.args.runs.now) (values_of c.args.others.now));
-  count = refl;
+pub loop-run-init : goal.loop-run-init
+loop-run-init c = record {
+  some = c.in_ok-made.ensures.some;
+  going = going_first _ _ _ _ c.requires.apart c.requires.other_apart c.requires.agree c.in_ok-made.ensures.same
+      (ap values_of (c.into_iter-run-iterator.ensures.into_iter_gives ∙ c.of-run-items.ensures));
 }
 
+pub insert_bytes-requires-clause-agree : goal.insert_bytes-requires-clause-agree
+insert_bytes-requires-clause-agree c =
+    let run = c.in-Some.run'.now in
+    going_agrees _ _ _ _ (value_of run) _ (values_of c.next.new.self) c.loop-run.invariant.going (ap values_of c.in-Some.ensures.steps)
+    (value_is run c.start.result c.bytes.result.now c.start.ensures c.bytes.ensures)
+
+pub loop-run-preserved : goal.loop-run-preserved
+loop-run-preserved c =
+    let run = c.in-Some.run'.now in
+    record {
+      some = c.in_ok-insert_bytes.ensures.some;
+      going = going_next _ _ _ _ _ (value_of run) _ (values_of c.next.new.self) c.loop-run.invariant.going (ap values_of c.in-Some.ensures.steps)
+          (value_is run c.start.result c.bytes.result.now c.start.ensures c.bytes.ensures) c.in_ok-insert_bytes.ensures.ok;
+    }
+
 pub returns : goal.returns
-returns c =
-    let own : length (values_of c.args.runs.now) ≡ length c.args.runs.now = length-map c.args.runs.now value_of in
-    let other : length (values_of c.args.others.now) ≡ length c.args.others.now = length-map c.args.others.now value_of in
-    let merged = c.loop.invariant.merged in
-    let count = c.loop.invariant.count in
-    let within = merged.within in
-    let other_within = merged.other_within in
-    merged_all (values_of c.args.runs.now) (values_of c.args.others.now) _ _ (values_of c.loop.made.items) merged (omega (arith, own, other, within, other_within, count)) (omega (arith, own, other, within, other_within, count))
+returns c = record {
+  some = c.loop-run.invariant.some;
+  union = going_all _ _ _ _ c.loop-run.invariant.going (ap values_of c.in-None.ensures.steps.0);
+}

@@ -1,9 +1,11 @@
-use Rattle.std.proofs.Common.{◌≡◌, ◌+◌}
-use Rattle.nb_entries.specs.Code.RunSteps.{values_of, IsMerged}
+use Rattle.nb_entries.specs.Runs.{AreApart}
+use Rattle.nb_entries.specs.Code.RunSteps.{values_of}
+use Rattle.nb_entries.specs.Code.Rows.{values_in, NoneEmpty}
+use Rattle.nb_entries.proofs.KeptRuns.EachRunLemmas.{IsGoing}
 use Rattle.nb_entries.proofs.cover.runs.uniting.united.Given as goal
 
-abbrev pub invariant-loop : goal.invariant-loop
-invariant-loop l = record {
-  merged : IsMerged (values_of l.runs) (values_of l.others) l.next.0 l.next.1 (values_of l.made.items);
-  count : l.next.0 + l.next.1 ≡ l.counter;
+abbrev pub invariant-loop-run : goal.invariant-loop-run
+invariant-loop-run l = record {
+  some : NoneEmpty l.made.items;
+  going : IsGoing (values_in l.rows) (values_in l.others) (values_in l.made.items) (values_of l.run-iterator);
 }

@@ -1,0 +1,13 @@
+use Rattle.std.proofs.Common.{◌≡◌, ◌+◌, length}
+use Rattle.nb_entries.specs.Runs.{AreApart}
+use Rattle.nb_entries.specs.Code.RunSteps.{values_of}
+use Rattle.nb_entries.specs.Code.Rows.{values_in}
+use Rattle.nb_entries.proofs.KeptRuns.EachRunLemmas.{FewTo}
+use Rattle.nb_entries.proofs.cover.runs.counting.runs_in.Given as goal
+
+abbrev pub invariant-loop-run : goal.invariant-loop-run
+invariant-loop-run l = record {
+  apart : AreApart (values_of l.run-iterator);
+  few : FewTo l.count (values_of l.run-iterator);
+  left : l.count + length (values_of l.run-iterator) ≡ length (values_in l.rows);
+}

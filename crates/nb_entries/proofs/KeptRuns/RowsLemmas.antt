@@ -55,7 +55,6 @@ all_set P (y ∷ xs) (suc n) x h k = (h.0, all_set P xs n x h.1 k)
 
 -- ---- the runs of rows
 
-
 pub values_cons : {Z : Type 0} → (r : Vec Run Z) (rs : List (Vec Run Z)) → values_in (r ∷ rs) ≡ values_of r.items ++ values_in rs
 values_cons r rs = map-append value_of r.items (runs_in rs)
 
@@ -120,7 +119,6 @@ last_seam [] ys l k a = absurd (omega arith)
 last_seam (x ∷ xs) [] l k a = absurd (omega arith)
 last_seam (x ∷ []) (y ∷ ys) l k a = let past = a.1.0 in let far = last_from y ys a.1.1 in omega (arith, past, far)
 last_seam (x ∷ z ∷ xs) (y ∷ ys) l k a = last_seam (z ∷ xs) (y ∷ ys) (omega arith) k a.1.1
-
 
 pub some_at : {Z : Type 0} → (rs : List (Vec Run Z)) (i : ℕ) (d : Vec Run Z) → NoneEmpty rs → i < length rs → 0 < length (slice_index_or rs i d).items
 some_at {Z} rs i d h l = all_here (λ (r : Vec Run Z). 0 < length r.items) rs i d h l
@@ -350,10 +348,14 @@ parts_apart bs (t ∷ ss) a p q x y e f =
 -- parts between whose places another one lies are apart
 pub apart_parts : (bs ss : List RunValue) → AreApart bs → AreApart ss → ((p q x y : ℕ) → look_in bs p ≡ Some x → look_in ss q ≡ Some y → p + 1 < q) → AreApart (bs ++ ss)
 apart_parts [] ss a b h = b
-apart_parts (r ∷ rs) ss a b h =
-    (a.0, (seam rs ss a.1.0 b (λ q y f. (let some = a.0 in let last = byte_within r (run_end r - 1) (omega (arith, some)) (omega (arith, some)) in
-    let past = h (run_end r - 1) q last.0 y (ap (λ o. first_of o (look_in rs (run_end r - 1))) last.1) f in omega (arith, past, some))),
-    apart_parts rs ss a.1.1 b (λ p q x y e f. h p q x y (later_look r rs a p x e) f)))
+apart_parts (r ∷ rs) ss a b h = (
+  a.0,
+  (
+    seam rs ss a.1.0 b (λ q y f. (let some = a.0 in let last = byte_within r (run_end r - 1) (omega (arith, some)) (omega (arith, some)) in
+        let past = h (run_end r - 1) q last.0 y (ap (λ o. first_of o (look_in rs (run_end r - 1))) last.1) f in omega (arith, past, some))),
+    apart_parts rs ss a.1.1 b (λ p q x y e f. h p q x y (later_look r rs a p x e) f),
+  ),
+)
   where
     seam : (rs ss : List RunValue) → StartsPast (run_end r) rs → AreApart ss → ((q y : ℕ) → look_in ss q ≡ Some y → run_end r < q) → StartsPast (run_end r) (rs ++ ss)
     seam (t ∷ rs) ss p b h = p

@@ -64,7 +64,7 @@ returns-clause-ok c =
     let before : EndBefore c.args.start (values_in (take own rows)) = subst (λ rs. EndBefore c.args.start (values_in rs)) (sym c.in_ok-join_rows.ensures.front) c.in_ok-own.ensures.before in
     let step : own + 1 ≡ suc own = omega arith in
     let after : StartAfter (run_end f) (values_in (drop (suc own) rows)) = subst (λ n. StartAfter (run_end f) (values_in (drop n rows))) step
-        (subst (λ rs. StartAfter (run_end f) (values_in rs)) (sym c.in_ok-join_rows.ensures.back) (subst (λ rs. StartAfter (run_end f) (values_in (drop c.rows_to-past.result rs))) c.deref.ensures.value c.rows_to-past.ensures.after)) in
+    (subst (λ rs. StartAfter (run_end f) (values_in rs)) (sym c.in_ok-join_rows.ensures.back) (subst (λ rs. StartAfter (run_end f) (values_in (drop c.rows_to-past.result rs))) c.deref.ensures.value c.rows_to-past.ensures.after)) in
     on_ok_weaker c.insert_bytes.result (λ put. subst (λ us. IsPut us f (values_in (slice_set rows own c.insert_bytes.new.runs))) (ap values_of same)
     (row_put rows own c.index_mut.result.now c.insert_bytes.new.runs f apart within c.index_mut.ensures.value before after put)) c.insert_bytes.ensures.ok
 

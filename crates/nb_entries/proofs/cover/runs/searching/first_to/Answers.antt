@@ -21,14 +21,14 @@ pub index-requires : goal.index-requires
 index-requires c =
     let size : vec_len c.index-rows-at.result ≡ length c.index-rows-at.result.items = search rules in
     let inside = inside_row c.args.rows.now c.row_to-at.result c.first_from.result c.args.place c.index-rows-at.result c.deref.result.now c.requires.some (omega (arith, c.row_to-at.ensures.within, c.if-at-rows.false)) c.index-rows-at.is c.deref.ensures.value
-        (c.row_to-at.ensures.reaches c.index-rows-at.result (omega (arith, c.row_to-at.ensures.within, c.if-at-rows.false))) c.first_from.ensures.before in
+    (c.row_to-at.ensures.reaches c.index-rows-at.result (omega (arith, c.row_to-at.ensures.within, c.if-at-rows.false))) c.first_from.ensures.before in
     omega (arith, size, inside)
 
 pub returns : goal.returns
 returns c =
     let at : c.row_to-at.result < length c.args.rows.now = omega (arith, c.row_to-at.ensures.within, c.if-at-rows.false) in
     let inside = inside_row c.args.rows.now c.row_to-at.result c.first_from.result c.args.place c.index-rows-at.result c.deref.result.now c.requires.some at c.index-rows-at.is c.deref.ensures.value
-        (c.row_to-at.ensures.reaches c.index-rows-at.result at) c.first_from.ensures.before in
+    (c.row_to-at.ensures.reaches c.index-rows-at.result at) c.first_from.ensures.before in
     first_found c.args.rows.now c.row_to-at.result c.first_from.result c.args.place c.index-rows-at.result c.index.result.now c.requires.some c.requires.apart at c.index-rows-at.is c.row_to-at.ensures.before
     (subst (λ xs. EndBefore c.args.place (take c.first_from.result (values_of xs))) c.deref.ensures.value c.first_from.ensures.before)
     (subst (λ xs. EndFrom c.args.place (drop c.first_from.result (values_of xs))) c.deref.ensures.value c.first_from.ensures.after)

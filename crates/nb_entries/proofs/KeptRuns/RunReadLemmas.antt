@@ -32,21 +32,16 @@ in_rows xs n r h e a q x g =
 
 -- ---- the bytes between two places
 
-pub far_read : (xs : List Run) (n : ℕ) (r : Run) (to : ℕ) → EndFrom to (drop n (values_of xs)) → n < length xs → r ≡ slice_index_or xs n r → to ≤ run_end (value_of r)
-far_read xs n r to h l e =
-    let size : length (values_of xs) ≡ length xs = length-map xs value_of in
-    subst (λ (v : RunValue). to ≤ run_end v) (at_value xs n r l ∙ ap value_of (sym e)) (all_from_at (λ v. to ≤ run_end v) (values_of xs) n n (value_of r) h (omega arith) (omega (arith, size, l)))
+pub none_reach : (xs : List Run) (from to : ℕ) → EndBefore to (values_of xs) → from < to → Lacks (values_of xs) from to
+none_reach xs from to ends l = record {
+  place = to - 1;
+  least = omega (arith, l);
+  most = omega (arith, l);
+  none = none_from (look_in (values_of xs) (to - 1)) (λ x f. (let b = look_before to (values_of xs) ends (to - 1) x f in omega (arith, b, l)));
+}
 
-pub none_reach : (xs : List Run) (n from to : ℕ) → EndBefore to (take n (values_of xs)) → n ≡ length xs → from < to → Lacks (values_of xs) from to
-none_reach xs n from to e all l =
-    let size : length (values_of xs) ≡ length xs = length-map xs value_of in
-    let ends : EndBefore to (values_of xs) = subst (EndBefore to) (take_all n (values_of xs) (omega (arith, size, all))) e in
-    record {
-      place = to - 1;
-      least = omega (arith, l);
-      most = omega (arith, l);
-      none = none_from (look_in (values_of xs) (to - 1)) (λ x f. (let b = look_before to (values_of xs) ends (to - 1) x f in omega (arith, b, l)));
-    }
+pub none_below : (xs : List Run) (to : ℕ) → xs ≡ [] → 0 < to → Lacks (values_of xs) 0 to
+none_below xs to none l = record { place = 0; least = omega arith; most = l; none = ap (λ (ys : List Run). look_in (values_of ys) 0) none }
 
 pub starts_late : (xs : List Run) (n from to : ℕ) (r : Run) → AreApart (values_of xs) → EndBefore to (take n (values_of xs)) → n < length xs → r ≡ slice_index_or xs n r → from < (value_of r).start → from < to → Lacks (values_of xs) from to
 starts_late xs n from to r a e l g late some =
@@ -195,17 +190,17 @@ all_met xs f first past h met = all_agree xs f (λ k d l.
 pub one_agrees : (xs : List Run) (f : RunValue) (k : ℕ) (r : Run) → AreApart (values_of xs) → Agree (values_of xs) f → k < length xs → r ≡ slice_index_or xs k r → AgreeOne (value_of r) f
 one_agrees xs f k r a h l e = record { same = λ q x y g i. h.same q x y (in_rows xs k r l e a q x g) i }
 
--- the runs that the bytes may meet, by their places in the row
-pub touched_at : (xs : List Run) (first past i : ℕ) (r : Run) → i < length (take (past - first) (drop first xs)) → r ≡ slice_index_or (take (past - first) (drop first xs)) i r → (first + i < past) × (first + i < length xs) × (r ≡ slice_index_or xs (first + i) r)
-touched_at xs first past i r h e =
+-- the elements from one place up to another, by their places in the list
+pub touched_at : {X : Type 0} → (xs : List X) (first past i : ℕ) (x : X) → i < length (take (past - first) (drop first xs)) → x ≡ slice_index_or (take (past - first) (drop first xs)) i x → (first + i < past) × (first + i < length xs) × (x ≡ slice_index_or xs (first + i) x)
+touched_at xs first past i x h e =
     let size = length-take (past - first) (drop first xs) in
     let left = length-drop first xs in (
       omega (arith, size, h),
       omega (arith, size, left, h),
-      e ∙ get_or-take (past - first) (drop first xs) i r (omega (arith, size, h)) ∙ get_or-drop first xs i r,
+      e ∙ get_or-take (past - first) (drop first xs) i x (omega (arith, size, h)) ∙ get_or-drop first xs i x,
     )
 
-pub touched_back : (xs : List Run) (first past k : ℕ) (d : Run) → first ≤ k → k < past → past ≤ length xs → (k - first < length (take (past - first) (drop first xs))) × (slice_index_or (take (past - first) (drop first xs)) (k - first) d ≡ slice_index_or xs k d)
+pub touched_back : {X : Type 0} → (xs : List X) (first past k : ℕ) (d : X) → first ≤ k → k < past → past ≤ length xs → (k - first < length (take (past - first) (drop first xs))) × (slice_index_or (take (past - first) (drop first xs)) (k - first) d ≡ slice_index_or xs k d)
 touched_back xs first past k d h l w =
     let size = length-take (past - first) (drop first xs) in
     let left = length-drop first xs in

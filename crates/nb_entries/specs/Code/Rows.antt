@@ -38,3 +38,8 @@ pub record IsFirstTo (rs : List Run) (n : ℕ) (r : Run) : Type 0 where
 pub record IsLast (rs : List Run) (r : Run) : Type 0 where
   pub some : 0 < length rs
   pub is : r ≡ slice_index_or rs (length rs - 1) r
+
+-- the run is the first one
+pub record IsFirst (rs : List Run) (r : Run) : Type 0 where
+  pub some : 0 < length rs
+  pub is : r ≡ slice_index_or rs 0 r

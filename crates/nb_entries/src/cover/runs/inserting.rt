@@ -1,5 +1,5 @@
 //! Runs put into rows, none of which has many.
-ghost use Rattle.std.specs.Prelude.{◌≡◌, ◌≤◌, ◌<◌, ◌+◌, ◌++◌, ◌∷◌, [], length, take, drop, slice_index_or, OnOk, OnErr, IfOk};
+ghost use Rattle.std.specs.Prelude.{◌≡◌, ◌≤◌, ◌<◌, ◌+◌, ◌++◌, ◌∷◌, [], length, take, drop, slice_index_or, IsTrue, OnOk, OnErr, IfOk};
 ghost use Rattle.nb_entries.specs.Runs.{AreApart};
 ghost use Rattle.nb_entries.specs.Code.RunSteps.{run_at, EndBefore, Agree, IsPut};
 ghost use Rattle.nb_entries.specs.Code.Rows.{runs_in, values_in, NoneEmpty};
@@ -12,6 +12,16 @@ use std::alloc::Global;
 /// How many runs a row has at which it is halved, before another one comes.
 const MANY: usize = 32;
 
+/// Takes room for one row where there is none: most datagrams have no second run.
+fn reserve_first(rows: &mut Vec<Vec<Run>>) -> Result<(), NoMemory>
+    ensures { rows.new.items ≡ rows.old.items }
+{
+    if rows.is_empty() {
+        rows.reserve_exact(1)?;
+    }
+    Ok(())
+}
+
 /// Puts a run behind the others, as a row of its own.
 fn push_row(alloc: Global, rows: &mut Vec<Vec<Run>>, run: Run) -> Result<(), NoMemory>
     requires { NoneEmpty rows.old.items }
@@ -21,11 +31,19 @@ fn push_row(alloc: Global, rows: &mut Vec<Vec<Run>>, run: Run) -> Result<(), NoM
 {
     let mut row = Vec::with_capacity(alloc, 1)?;
     row.push(run)?;
-    if rows.is_empty() {
-        rows.reserve_exact(1)?;
-    }
+    reserve_first(rows)?;
     rows.push(row)?;
     Ok(())
+}
+
+/// Whether there is a last row, with room for a run more.
+fn last_has_room(rows: &[Vec<Run>]) -> bool
+    ensures { IsTrue result → 0 < length rows.now }
+{
+    match rows.last() {
+        Some(row) => row.len() < MANY,
+        None => false,
+    }
 }
 
 /// Adds bytes behind the runs, as a run of their own.
@@ -42,13 +60,10 @@ pub(crate) fn add_run(
     ensures err { OnErr result (values_in rows.new.items ≡ values_in rows.old.items) }
 {
     let run = Run::copy(alloc, start, bytes)?;
-    let count = rows.len();
-    if count > 0 {
-        let row = &mut rows[count - 1];
-        if row.len() < MANY {
-            row.push(run)?;
-            return Ok(());
-        }
+    if last_has_room(rows) {
+        let last = rows.len() - 1;
+        rows[last].push(run)?;
+        return Ok(());
     }
     push_row(alloc, rows, run)
 }
@@ -108,6 +123,7 @@ fn join_next(rows: &mut Vec<Vec<Run>>, own: usize) -> Result<(), NoMemory>
     ensures same { runs_in rows.new.items ≡ runs_in rows.old.items }
     ensures front { OnOk result (take own rows.new.items ≡ take own rows.old.items) }
     ensures back { OnOk result (drop (own + 1) rows.new.items ≡ drop (own + 2) rows.old.items) }
+    ensures size { OnOk result (length rows.new.items + 1 ≡ length rows.old.items) }
 {
     let count = rows[own + 1].len();
     rows[own].reserve(count)?;
@@ -125,6 +141,7 @@ fn join_rows(rows: &mut Vec<Vec<Run>>, own: usize, past: usize) -> Result<(), No
     ensures same { runs_in rows.new.items ≡ runs_in rows.old.items }
     ensures front { OnOk result (take own rows.new.items ≡ take own rows.old.items) }
     ensures back { OnOk result (drop (own + 1) rows.new.items ≡ drop past rows.old.items) }
+    ensures within { OnOk result (own < length rows.new.items) }
 {
     for _ in own + 1..past {
         join_next(rows, own)?;

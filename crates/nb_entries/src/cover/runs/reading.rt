@@ -4,7 +4,7 @@ ghost use Rattle.nb_entries.specs.Runs.{AreApart};
 ghost use Rattle.nb_entries.specs.Code.Rows.{values_in, NoneEmpty};
 ghost use Rattle.nb_entries.specs.Code.RunSteps.{value_of, values_of, run_at, Meet, Agree, AgreeOne, look_in, look_with, AreBetween, Lacks, AreFirst, LacksOne};
 
-use super::searching::{first_from, first_to, last_run, past_to, row_to, rows_to};
+use super::searching::{first_from, first_run, first_to, last_run, past_to, row_to, rows_to};
 use super::{EachRun, Run};
 use nb_names::NoMemory;
 use std::alloc::Global;
@@ -20,7 +20,10 @@ pub(super) fn bytes_between<'a>(rows: &'a [Vec<Run>], from: usize, to: usize) ->
     if from == to {
         return Some(&[]);
     }
-    let run = first_to(rows, to)?;
+    let run = match first_to(rows, to) {
+        Some(run) => run,
+        None => return None,
+    };
     let start = run.start() as usize;
     if from < start {
         return None;
@@ -38,7 +41,10 @@ pub(super) fn bytes_below<'a>(rows: &'a [Vec<Run>], to: usize) -> Option<&'a [u8
     if to == 0 {
         return Some(&[]);
     }
-    let run = rows.first()?.first()?;
+    let run = match first_run(rows) {
+        Some(run) => run,
+        None => return None,
+    };
     if run.start() > 0 {
         return None;
     }

@@ -2,7 +2,7 @@
 ghost use Rattle.std.specs.Prelude.{◌≡◌, ◌≤◌, ◌<◌, [], length, take, drop, slice_index_or, ltb, MatchOption, IsTrue};
 ghost use Rattle.nb_entries.specs.Runs.{AreApart, StartsPast};
 ghost use Rattle.nb_entries.specs.Code.RunSteps.{values_of, EndBefore, EndFrom, StartTo, StartAfter};
-ghost use Rattle.nb_entries.specs.Code.Rows.{runs_in, values_in, NoneEmpty, last_end, IsFirstTo, IsLast};
+ghost use Rattle.nb_entries.specs.Code.Rows.{runs_in, values_in, NoneEmpty, last_end, IsFirstTo, IsFirst, IsLast};
 
 use super::Run;
 
@@ -102,8 +102,20 @@ pub(super) fn last_run<'a>(rows: &'a [Vec<Run>]) -> Option<&'a Run>
     requires { NoneEmpty rows.now }
     ensures { MatchOption result (runs_in rows.now ≡ []) (λ run. IsLast (runs_in rows.now) run.now) }
 {
-    match rows.last() {
-        Some(row) => row.last(),
+    let row = match rows.last() {
+        Some(row) => row,
+        None => return None,
+    };
+    Some(&row[row.len() - 1])
+}
+
+/// The first run.
+pub(super) fn first_run<'a>(rows: &'a [Vec<Run>]) -> Option<&'a Run>
+    requires { NoneEmpty rows.now }
+    ensures { MatchOption result (runs_in rows.now ≡ []) (λ run. IsFirst (runs_in rows.now) run.now) }
+{
+    match rows.first() {
+        Some(row) => Some(&row[0]),
         None => None,
     }
 }

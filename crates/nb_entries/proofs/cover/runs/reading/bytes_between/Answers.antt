@@ -1,23 +1,22 @@
 use Rattle.std.proofs.Common.{arith, ap, length}
-use Rattle.nb_entries.proofs.KeptRuns.RunReadLemmas.{far_read, none_reach, starts_late, between_read}
+use Rattle.nb_entries.specs.Code.Rows.{runs_in}
+use Rattle.nb_entries.proofs.KeptRuns.RunReadLemmas.{none_reach, starts_late, between_read}
 use Rattle.nb_entries.proofs.cover.runs.reading.bytes_between.Goals as goal
 
-pub returns-then-place-runs : goal.returns-then-place-runs
-returns-then-place-runs c = none_reach c.args.runs.now c.first_from-place.result c.args.from c.args.to c.first_from-place.ensures.before (omega arith) (omega arith)
+pub returns-in-None : goal.returns-in-None
+returns-in-None c = none_reach (runs_in c.args.rows.now) c.args.from c.args.to c.in-None.ensures (omega arith)
 
 pub returns-then-from-start : goal.returns-then-from-start
 returns-then-from-start c =
-    let within = c.first_from-place.ensures.within in
-    starts_late c.args.runs.now c.first_from-place.result c.args.from c.args.to c.index-runs-place.result c.requires.apart c.first_from-place.ensures.before (omega (arith, within)) c.index-runs-place.is (omega arith) (omega arith)
+    let first = c.in-Some.ensures in
+    starts_late (runs_in c.args.rows.now) first.index c.args.from c.args.to _ c.requires.apart first.before first.inside first.is (omega arith) (omega arith)
 
 pub slice_bounds-result-end-2 : goal.slice_bounds-result-end-2
 slice_bounds-result-end-2 c =
-    let within = c.first_from-place.ensures.within in
-    let far = far_read c.args.runs.now c.first_from-place.result c.index-runs-place.result c.args.to c.first_from-place.ensures.after (omega (arith, within)) c.index-runs-place.is in
+    let far = c.in-Some.ensures.reaches in
     omega (arith, far, ap length c.bytes.ensures)
 
 pub returns : goal.returns
 returns c =
-    let within = c.first_from-place.ensures.within in
-    let far = far_read c.args.runs.now c.first_from-place.result c.index-runs-place.result c.args.to c.first_from-place.ensures.after (omega (arith, within)) c.index-runs-place.is in
-    rw c.start-start.ensures (between_read c.args.runs.now c.first_from-place.result c.args.from c.args.to c.index-runs-place.result c.bytes.result.now c.requires.apart (omega (arith, within)) c.index-runs-place.is (omega arith) c.requires.order far c.bytes.ensures)
+    let first = c.in-Some.ensures in
+    rw c.start-start.ensures (between_read (runs_in c.args.rows.now) first.index c.args.from c.args.to _ c.bytes.result.now c.requires.apart first.inside first.is (omega arith) c.requires.order first.reaches c.bytes.ensures)

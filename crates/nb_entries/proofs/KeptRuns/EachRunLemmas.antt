@@ -51,7 +51,7 @@ agree_rest rs r ss a h = record { same = λ q x y e g. h.same q x y e (behind r 
 
 pub agree_more : (rs : List RunValue) (r : RunValue) (ss : List RunValue) → Agree rs r → RowsAgree rs ss → RowsAgree rs (r ∷ ss)
 agree_more rs r ss h k = record {
-  same = λ q x y e g. elim (first_either (byte_in r q) (look_in ss q) y g) [ | inl i ↦ h.same q x y e i | inr i ↦ k.same q x y e i ];
+  same = λ q x y e g. elim (first_either (byte_in r q) (look_in ss q) y g) [ inl i ↦ h.same q x y e i | inr i ↦ k.same q x y e i ];
 }
 
 -- ---- rows united

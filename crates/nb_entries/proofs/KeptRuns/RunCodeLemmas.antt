@@ -1,12 +1,8 @@
 -- Lists of the code's runs, changed at a place, and their values.
-use Rattle.std.proofs.Common.{◌≡◌, ◌<◌, ◌≤◌, ◌+◌, ◌-◌, ◌++◌, ℕ, zero, suc, List, [], ◌∷◌, length, take, drop, Result, Ok, Err, OnErr, refl, sym, ap, ap₂, subst, ◌∙◌, arith, slice_set, slice_index_or, Some, map, slice_get}
+use Rattle.std.proofs.Common.{◌≡◌, ◌<◌, ◌≤◌, ◌+◌, ◌-◌, ◌++◌, ℕ, zero, suc, List, [], ◌∷◌, length, take, drop, Result, Ok, Err, OnErr, refl, sym, ap, ap₂, subst, ◌∙◌, arith, slice_set, slice_index_or}
 use Rattle.std.proofs.lemmas.List.{map-append, take-map, drop-map, get_or_default, get_or-set_other}
 use Rattle.std.specs.List.Sorted.{IsNonDecreasingBy}
 use Rattle.std.proofs.lemmas.List.Sorted.{IsNonDecreasingBy-from_all_adjacent}
-use Rattle.std.specs.List.{concat}
-use Rattle.std.proofs.lemmas.List.{drop_more}
-use Rattle.std.proofs.lemmas.Option.{get_or_from_slice_get}
-use Rattle.nb_entries.specs.Saved.{run_bytes}
 use Rattle.nb_entries.specs.Runs.{RunValue, run_end, AreApart}
 use Rattle.nb_entries.specs.Code.RunSteps.{value_of, values_of, run_at, grown, Meet, StartTo, StartAfter}
 use Rattle.nb_entries.specs.declared.cover.runs.Run.{Run}

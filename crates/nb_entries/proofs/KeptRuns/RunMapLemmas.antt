@@ -1,7 +1,7 @@
 -- The map of the code's runs: what its tests and changes say of it.
 use Rattle.std.proofs.Common.{◌≡◌, ◌+◌, ◌-◌, ◌==◌, ℕ, zero, suc, inl, inr, Bool, true, false, List, [], ◌∷◌, length, get_or, slice_get, Option, Some, None, refl, sym, ap, ap₂, ◌∙◌, subst, arith}
 use Rattle.std.proofs.lemmas.Bool.{cases_lt, eqb-true, eq-eqb, and_from}
-use Rattle.std.proofs.lemmas.List.{take_all, length-map}
+use Rattle.std.proofs.lemmas.List.{take_all}
 use Rattle.std.proofs.lemmas.Option.{slice_get-get_or, slice_get_past}
 use Rattle.std.specs.List.{list_all}
 use Rattle.std.specs.Ordering.{nat_cmp}
@@ -12,14 +12,12 @@ use Rattle.std.specs.FinMap.{nat_cmp-IsAntisymmetric}
 use Rattle.nb_entries.specs.Cover.{placed, same_where, bytes_agree}
 use Rattle.nb_entries.specs.Maps.{first_of, union}
 use Rattle.nb_entries.specs.Code.CoverFacts.{AreCovered, is_there, with_bytes}
-use Rattle.nb_entries.specs.Runs.{RunValue, AreApart, map_of_runs, runs_of_map}
+use Rattle.nb_entries.specs.Runs.{RunValue, map_of_runs}
 use Rattle.nb_entries.specs.Whole.{bytes_below}
-use Rattle.nb_entries.specs.Code.RunSteps.{values_of, run_at, byte_in, look_in, look_with, Agree, IsPut, AreBetween, Lacks, AreFirst, LacksOne, RowsAgree, IsUnion}
-use Rattle.nb_entries.specs.declared.cover.runs.Run.{Run}
+use Rattle.nb_entries.specs.Code.RunSteps.{run_at, byte_in, look_in, look_with, Agree, IsPut, AreBetween, Lacks, AreFirst, LacksOne, RowsAgree, IsUnion}
 use Rattle.nb_entries.specs.Shared.MapsLemmas.{and_left, and_right, get-union, all_entries_found, all_entries_from}
 use Rattle.nb_entries.specs.Shared.PlacedLemmas.{find-placed}
 use Rattle.nb_entries.proofs.Covers.PutLemmas.{get-with_bytes}
-use Rattle.nb_entries.specs.Shared.RunsLemmas.{runs_back}
 use Rattle.nb_entries.specs.Shared.WholeLemmas.{below_from, below_none}
 use Rattle.nb_entries.proofs.KeptRuns.RunRowLemmas.{has_of, has_from, has_below, byte_on, byte_within, get-runs}
 use Rattle.nb_entries.proofs.KeptRuns.RunReadLemmas.{same_by_get}
@@ -156,11 +154,6 @@ pub lacks_put : (rs ss : List RunValue) (s n : ℕ) (xs : List ℕ) → ss ≡ r
 lacks_put rs ss s n xs same lacks =
     let h : LacksOne (look_with rs (run_at s xs)) n = subst (λ us. LacksOne (look_with us (run_at s xs)) n) same lacks in
     below_lacks _ n (record { place = h.place; most = h.most; none = look_put rs s xs h.place ∙ h.none })
-
--- ---- rows
-
-pub count_is : (xs : List Run) → AreApart (values_of xs) → length xs ≡ length (runs_of_map (map_of_runs (values_of xs)))
-count_is xs a = sym (ap length (runs_back (values_of xs) a) ∙ length-map xs _)
 
 -- ---- two rows
 

@@ -1,14 +1,13 @@
 -- What the code reads of its runs.
-use Rattle.std.proofs.Common.{◌≡◌, ◌<◌, ◌≤◌, ◌+◌, ◌-◌, ◌++◌, ℕ, suc, inl, inr, List, [], ◌∷◌, length, take, drop, min, max, slice_get, Some, None, refl, sym, ap, ap₂, ◌∙◌, subst, arith, slice_index_or, length-take, length-drop, length-append, ◌==◌, ◌&&◌, Bool, true, Decides}
-use Rattle.std.proofs.lemmas.Bool.{cases_lt, eqb-true, eq-eqb, and_from}
-use Rattle.std.proofs.lemmas.List.{take_all, drop_all, length-map, get_or-take, get_or-drop}
-use Rattle.std.proofs.lemmas.Option.{same_Some, slice_get_past, slice_get_within, get_or_from_slice_get}
+use Rattle.std.proofs.Common.{◌≡◌, ◌<◌, ◌≤◌, ◌+◌, ◌-◌, ◌++◌, ℕ, suc, inl, inr, List, [], ◌∷◌, length, take, drop, min, max, slice_get, Some, None, refl, sym, ap, ap₂, ◌∙◌, subst, arith, slice_index_or, length-take, length-drop, length-append, ◌==◌, Bool, true}
+use Rattle.std.proofs.lemmas.Bool.{cases_lt}
+use Rattle.std.proofs.lemmas.List.{drop_all, length-map, get_or-take, get_or-drop}
+use Rattle.std.proofs.lemmas.Option.{same_Some, slice_get_past}
 use Rattle.nb_entries.specs.Runs.{RunValue, run_end, AreApart}
-use Rattle.nb_entries.specs.Code.RunSteps.{value_of, values_of, byte_in, look_in, Meet, EndBefore, EndFrom, look_with, Agree, AgreeOne, AreBetween, Lacks, AreFirst, LacksOne}
+use Rattle.nb_entries.specs.Code.RunSteps.{value_of, values_of, byte_in, look_in, Meet, EndBefore, look_with, Agree, AgreeOne, AreBetween, Lacks, AreFirst, LacksOne}
 use Rattle.nb_entries.specs.declared.cover.runs.Run.{Run}
 use Rattle.std.specs.Cmp.{unsigned_Decides}
 use Rattle.std.specs.Cmp.Lexicographic.{pointwise, pointwise_decides}
-use Rattle.nb_entries.specs.Shared.MapsLemmas.{and_left, and_right}
 use Rattle.nb_entries.specs.Shared.CoverLemmas.{first_either}
 use Rattle.nb_entries.proofs.KeptRuns.RunRowLemmas.{byte_on, byte_off, byte_past, has_below, has_from, byte_within, look-append, none_from, look_before, look_past, apart_back, apart_seam, split_at, all_at, all_from_at}
 use Rattle.nb_entries.proofs.KeptRuns.RunGrownLemmas.{slice_get-take, slice_get-drop, slice_get-back}
@@ -256,31 +255,6 @@ agrees_is r f from to bytes b same e d t =
       λ h. same_agree r f from to e d (decides.0 (sym test ∙ h)),
       λ h. test ∙ decides.1 (agree_same r f from to e d h),
     )
-
--- the derived test of two runs
-pub run_decides : (a b : Run) → Decides (((value_of a).start == (value_of b).start) && pointwise ◌==◌ (value_of a).bytes (value_of b).bytes) (value_of a ≡ value_of b)
-run_decides a b =
-    let bytes = pointwise_decides unsigned_Decides (value_of a).bytes (value_of b).bytes in (
-      λ h. (let start = eqb-true (value_of a).start (value_of b).start (and_left _ _ h) in
-          let same = bytes.0 (and_right _ _ h) in
-          λ i. record { start = start i; bytes = same i }),
-      λ e. and_from _ _ (eq-eqb (value_of a).start (value_of b).start (ap (λ (r : RunValue). r.start) e)) (bytes.1 (ap (λ (r : RunValue). r.bytes) e)),
-    )
-
-pub rows_decide : (same : Run → Run → Bool) → ((a b : Run) → Decides (same a b) (value_of a ≡ value_of b)) → (xs ys : List Run) → Decides (pointwise same xs ys) (values_of xs ≡ values_of ys)
-rows_decide same d [] [] = (λ h. refl, λ e. refl)
-rows_decide same d [] (y ∷ ys) = (λ h. absurd (cc), λ e. absurd (cc))
-rows_decide same d (x ∷ xs) [] = (λ h. absurd (cc), λ e. absurd (cc))
-rows_decide same d (x ∷ xs) (y ∷ ys) = (
-  λ h. ap₂ (λ r rs. r ∷ rs) ((d x y).0 (and_left _ _ h)) ((rows_decide same d xs ys).0 (and_right _ _ h)),
-  λ e. and_from _ _ ((d x y).1 (cc)) ((rows_decide same d xs ys).1 (cc)),
-)
-
--- the last run, as it is read
-pub last_read : (xs : List Run) (r : Run) → Some r ≡ slice_get xs (length xs - 1) → (0 < length xs) × (r ≡ slice_index_or xs (length xs - 1) r)
-last_read xs r e =
-    let inside = slice_get_within xs (length xs - 1) r (sym e) in
-    (omega (arith, inside), sym (get_or_from_slice_get xs (length xs - 1) r r (sym e)))
 
 -- ---- the bytes below a place, with others
 

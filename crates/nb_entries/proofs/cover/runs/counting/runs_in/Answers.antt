@@ -1,5 +1,4 @@
-use Rattle.std.proofs.Common.{◌≡◌, ◌<◌, ◌≤◌, ◌+◌, ◌∷◌, length, arith, rules, sym, ap, ◌∙◌, subst}
-use Rattle.std.proofs.lemmas.List.{length-map}
+use Rattle.std.proofs.Common.{◌<◌, ◌≤◌, ◌∷◌, length, arith, rules, sym, ap, ◌∙◌, subst}
 use Rattle.nb_entries.specs.Runs.{AreApart}
 use Rattle.nb_entries.specs.Code.RunSteps.{value_of, values_of}
 use Rattle.nb_entries.proofs.KeptRuns.EachRunLemmas.{FewTo, few_none, few_next}

@@ -18,9 +18,9 @@ pub returns-then-not-bytes_agree : goal.returns-then-not-bytes_agree
 returns-then-not-bytes_agree c = (
   λ h. (let clash : false ≡ true = h in absurd (cc)),
   λ h. (let rs = values_in c.args.rows.now in
-    let run = c.in-Some.run'.now in
-    let left = subst (RowsAgree rs) (ap values_of c.in-Some.ensures.steps) (c.loop-run.invariant.back h) in
-    c.if-not-bytes_agree.ensures.1 (subst (Agree rs) (sym (value_is run c.start.result c.bytes.result.now c.start.ensures c.bytes.ensures)) (agree_first rs (value_of run) (values_of c.next.new.self) left))),
+      let run = c.in-Some.run'.now in
+      let left = subst (RowsAgree rs) (ap values_of c.in-Some.ensures.steps) (c.loop-run.invariant.back h) in
+      c.if-not-bytes_agree.ensures.1 (subst (Agree rs) (sym (value_is run c.start.result c.bytes.result.now c.start.ensures c.bytes.ensures)) (agree_first rs (value_of run) (values_of c.next.new.self) left))),
 )
 
 pub loop-run-preserved : goal.loop-run-preserved

@@ -1,6 +1,5 @@
 use Rattle.std.proofs.Common.{ap, ◌∙◌}
 use Rattle.nb_entries.specs.Code.RunSteps.{value_of, values_of}
-use Rattle.nb_entries.specs.Code.Rows.{values_in}
 use Rattle.nb_entries.proofs.KeptRuns.EachRunLemmas.{value_is, going_first, going_agrees, going_next, going_all}
 use Rattle.nb_entries.proofs.cover.runs.uniting.united.Goals as goal
 

@@ -1,4 +1,3 @@
-use Rattle.nb_entries.specs.Runs.{AreApart}
 use Rattle.nb_entries.specs.Code.RunSteps.{values_of}
 use Rattle.nb_entries.specs.Code.Rows.{values_in, NoneEmpty}
 use Rattle.nb_entries.proofs.KeptRuns.EachRunLemmas.{IsGoing}

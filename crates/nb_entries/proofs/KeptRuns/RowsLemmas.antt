@@ -1,6 +1,6 @@
 -- Runs in several rows: where they lie, and what is left once rows are cut and joined.
-use Rattle.std.proofs.Common.{◌≡◌, ◌<◌, ◌≤◌, ◌+◌, ◌-◌, ◌++◌, ℕ, zero, suc, inl, inr, List, [], ◌∷◌, length, take, drop, map, slice_get, slice_set, slice_index_or, Result, Ok, Err, OnOk, OnErr, Some, None, refl, sym, ap, ap₂, ◌∙◌, subst, arith, length-append, length-take, append_assoc}
-use Rattle.std.proofs.lemmas.List.{append-nil, map-append, length-map, take-map, take-append-le, get_or-append-add, get_or_append_left, take_all, drop_all}
+use Rattle.std.proofs.Common.{◌≡◌, ◌<◌, ◌≤◌, ◌+◌, ◌-◌, ◌++◌, ℕ, zero, suc, inl, inr, List, [], ◌∷◌, length, take, drop, slice_get, slice_set, slice_index_or, Result, Ok, Err, OnOk, OnErr, Some, None, refl, sym, ap, ap₂, ◌∙◌, subst, arith, length-append, append_assoc}
+use Rattle.std.proofs.lemmas.List.{append-nil, map-append, length-map, take-append-le, get_or-append-add, get_or_append_left, take_all, drop_all}
 use Rattle.std.proofs.lemmas.Bool.{cases_lt}
 use Rattle.std.proofs.lemmas.Option.{same_Some, slice_get-get_or, slice_get_within, get_or_from_slice_get}
 use Rattle.std.specs.List.{AllByRecursion, insert, remove}

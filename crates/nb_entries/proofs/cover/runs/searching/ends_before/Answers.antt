@@ -1,5 +1,5 @@
-use Rattle.std.proofs.Common.{rules, Some, slice_get, ◌-◌, ◌≡◌, ◌≤◌, ◌<◌, [], length, take, drop, slice_index_or, ltb, ℕ, ap, sym, subst, ◌∙◌, arith, ltb-true, ltb-false, refl}
-use Rattle.nb_entries.proofs.KeptRuns.RowsLemmas.{last_is, rows_rise, rows_before, first_found, rows_after, none_after, last_found, last_one, some_at, last_before, apart_at}
+use Rattle.std.proofs.Common.{Some, slice_get, ◌-◌, ◌≡◌, length, ltb, ap, sym, subst, ◌∙◌}
+use Rattle.nb_entries.proofs.KeptRuns.RowsLemmas.{last_is}
 use Rattle.nb_entries.proofs.cover.runs.searching.ends_before.Goals as goal
 
 pub returns-in-Some : goal.returns-in-Some

@@ -1,10 +1,10 @@
-use Rattle.std.proofs.Common.{rules, ◌≡◌, ◌≤◌, ◌<◌, [], length, take, drop, slice_index_or, ltb, ℕ, ap, sym, subst, ◌∙◌, arith, ltb-true, ltb-false, refl}
-use Rattle.nb_entries.proofs.KeptRuns.RowsLemmas.{last_is, rows_rise, rows_before, first_found, rows_after, none_after, last_found, last_one, some_at, last_before, apart_at}
+use Rattle.std.proofs.Common.{rules, ◌≡◌, ◌<◌, length, take, drop, sym, subst, arith}
+use Rattle.nb_entries.proofs.KeptRuns.RowsLemmas.{first_found, apart_at}
 use Rattle.std.specs.Vec.{vec_len}
 use Rattle.nb_entries.specs.Code.RunSteps.{EndBefore, EndFrom, values_of}
 use Rattle.nb_entries.specs.Code.Rows.{values_in}
 use Rattle.nb_entries.specs.Runs.{AreApart}
-use Rattle.std.proofs.lemmas.List.{take_all, length-map}
+use Rattle.std.proofs.lemmas.List.{take_all}
 use Rattle.nb_entries.proofs.KeptRuns.RowsLemmas.{inside_row}
 use Rattle.nb_entries.proofs.cover.runs.searching.first_to.Goals as goal
 

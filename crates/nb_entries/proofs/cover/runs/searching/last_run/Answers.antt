@@ -1,9 +1,7 @@
-use Rattle.std.proofs.Common.{rules, ◌≡◌, ◌≤◌, ◌<◌, ◌-◌, [], length, take, drop, slice_index_or, slice_get, Some, None, ltb, ℕ, ap, sym, subst, ◌∙◌, arith, ltb-true, ltb-false, refl}
+use Rattle.std.proofs.Common.{rules, ◌≡◌, ◌<◌, ◌-◌, length, slice_get, Some, ap, sym, subst, ◌∙◌, arith, refl}
 use Rattle.std.specs.Vec.{vec_len}
-use Rattle.nb_entries.specs.Runs.{StartsPast}
 use Rattle.std.proofs.lemmas.Option.{slice_get_read, slice_get_within, get_or_from_slice_get}
-use Rattle.nb_entries.specs.Code.RunSteps.{values_of}
-use Rattle.nb_entries.proofs.KeptRuns.RowsLemmas.{last_is, rows_rise, rows_before, first_found, rows_after, none_after, last_found, last_one, none_rows, some_at, last_before, apart_at}
+use Rattle.nb_entries.proofs.KeptRuns.RowsLemmas.{last_found, last_one, none_rows, some_at}
 use Rattle.nb_entries.proofs.cover.runs.searching.last_run.Goals as goal
 
 pub index-requires : goal.index-requires

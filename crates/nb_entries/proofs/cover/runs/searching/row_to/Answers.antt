@@ -1,5 +1,5 @@
-use Rattle.std.proofs.Common.{rules, ◌≡◌, ◌≤◌, ◌<◌, [], length, take, drop, slice_index_or, ltb, ℕ, ap, sym, subst, ◌∙◌, arith, ltb-true, ltb-false, refl}
-use Rattle.nb_entries.proofs.KeptRuns.RowsLemmas.{last_is, rows_rise, rows_before, first_found, rows_after, none_after, last_found, last_one, some_at, last_before, apart_at}
+use Rattle.std.proofs.Common.{rules, ltb, arith, ltb-true, ltb-false}
+use Rattle.nb_entries.proofs.KeptRuns.RowsLemmas.{rows_rise, rows_before}
 use Rattle.std.proofs.lemmas.List.Sorted.{IsPartitionPoint-from_clause, IsPartitionedBy-ltb}
 use Rattle.nb_entries.specs.Code.Rows.{last_end}
 use Rattle.nb_entries.proofs.cover.runs.searching.row_to.Goals as goal

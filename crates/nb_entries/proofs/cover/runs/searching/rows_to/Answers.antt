@@ -1,9 +1,7 @@
-use Rattle.std.proofs.Common.{rules, ◌≡◌, ◌≤◌, ◌<◌, ◌-◌, [], length, take, drop, slice_index_or, slice_get, Some, None, ltb, ℕ, ap, sym, subst, ◌∙◌, arith, ltb-true, ltb-false, refl}
-use Rattle.std.specs.Vec.{vec_len}
+use Rattle.std.proofs.Common.{length, subst, arith, refl}
 use Rattle.nb_entries.specs.Runs.{StartsPast}
-use Rattle.std.proofs.lemmas.Option.{slice_get_read, slice_get_within, get_or_from_slice_get}
 use Rattle.nb_entries.specs.Code.RunSteps.{values_of}
-use Rattle.nb_entries.proofs.KeptRuns.RowsLemmas.{last_is, rows_rise, rows_before, first_found, rows_after, none_after, last_found, last_one, none_rows, some_at, last_before, apart_at}
+use Rattle.nb_entries.proofs.KeptRuns.RowsLemmas.{rows_after, none_after}
 use Rattle.nb_entries.proofs.cover.runs.searching.rows_to.Goals as goal
 
 pub returns-then-starts_after-clause-after : goal.returns-then-starts_after-clause-after

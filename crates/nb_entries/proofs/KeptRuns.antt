@@ -9,3 +9,4 @@ pub mod RunReadLemmas
 pub mod RunRowLemmas
 pub mod EachRunLemmas
 pub mod RowsLemmas
+pub mod RowsPutLemmas

@@ -4,7 +4,7 @@ use Rattle.std.proofs.lemmas.Bool.{cases_lt}
 use Rattle.std.proofs.lemmas.List.{drop_all, length-map, get_or-take, get_or-drop}
 use Rattle.std.proofs.lemmas.Option.{same_Some, slice_get_past}
 use Rattle.nb_entries.specs.Runs.{RunValue, run_end, AreApart}
-use Rattle.nb_entries.specs.Code.RunSteps.{value_of, values_of, byte_in, look_in, Meet, EndBefore, look_with, Agree, AgreeOne, AreBetween, Lacks, AreFirst, LacksOne}
+use Rattle.nb_entries.specs.Code.RunSteps.{value_of, values_of, byte_in, look_in, Meet, EndBefore, look_with, Agree, AgreeOne, AreBetween, Lacks, AreFirst}
 use Rattle.nb_entries.specs.declared.cover.runs.Run.{Run}
 use Rattle.std.specs.Cmp.{unsigned_Decides}
 use Rattle.std.specs.Cmp.Lexicographic.{pointwise, pointwise_decides}
@@ -291,14 +291,3 @@ made_first rs f end first count front back e d a b =
         ]
       ];
     }
-
-pub front_lacks : (rs : List RunValue) (f : RunValue) (end first : ℕ) → first ≡ min f.start end → Lacks rs 0 first → LacksOne (look_with rs f) end
-front_lacks rs f end first e h =
-    let most = h.most in
-    record { place = h.place; most = omega (arith, e, most); none = ap (λ o. first_of o (look_in rs h.place)) (byte_off f h.place (omega (arith, e, most))) ∙ h.none }
-
-pub back_lacks : (rs : List RunValue) (f : RunValue) (end first count : ℕ) → first ≡ min f.start end → count ≡ min (length f.bytes) (end - first) → Lacks rs (first + count) end → LacksOne (look_with rs f) end
-back_lacks rs f end first count e d h =
-    let most = h.most in
-    let least = h.least in
-    record { place = h.place; most = most; none = ap (λ o. first_of o (look_in rs h.place)) (byte_past f h.place (omega (arith, e, d, most, least))) ∙ h.none }

@@ -100,7 +100,8 @@ pub(super) fn rows_to(rows: &[Vec<Run>], first: usize, place: usize) -> usize
 /// The last run.
 pub(super) fn last_run<'a>(rows: &'a [Vec<Run>]) -> Option<&'a Run>
     requires { NoneEmpty rows.now }
-    ensures { MatchOption result (runs_in rows.now ≡ []) (λ run. IsLast (runs_in rows.now) run.now) }
+    ensures { MatchOption result (runs_in rows.now ≡ [])
+        (λ run. IsLast (runs_in rows.now) run.now) }
 {
     let row = match rows.last() {
         Some(row) => row,
@@ -112,7 +113,8 @@ pub(super) fn last_run<'a>(rows: &'a [Vec<Run>]) -> Option<&'a Run>
 /// The first run.
 pub(super) fn first_run<'a>(rows: &'a [Vec<Run>]) -> Option<&'a Run>
     requires { NoneEmpty rows.now }
-    ensures { MatchOption result (runs_in rows.now ≡ []) (λ run. IsFirst (runs_in rows.now) run.now) }
+    ensures { MatchOption result (runs_in rows.now ≡ [])
+        (λ run. IsFirst (runs_in rows.now) run.now) }
 {
     match rows.first() {
         Some(row) => Some(&row[0]),

@@ -5,7 +5,7 @@ use Rattle.std.specs.Vec.{vec_len}
 use Rattle.nb_entries.specs.Code.RunSteps.{value_of, values_of}
 use Rattle.nb_entries.specs.Code.Rows.{runs_in, values_in}
 use Rattle.nb_entries.proofs.KeptRuns.RunCodeLemmas.{on_err_of}
-use Rattle.nb_entries.proofs.KeptRuns.RowsLemmas.{set_same_rows, last_pushed}
+use Rattle.nb_entries.proofs.KeptRuns.RowsPutLemmas.{set_same_rows, last_pushed}
 use Rattle.nb_entries.proofs.cover.runs.inserting.add_run.Goals as goal
 
 pub returns-in_err-push-clause-err : goal.returns-in_err-push-clause-err

@@ -1,6 +1,6 @@
 use Rattle.std.proofs.Common.{◌≡◌, ◌++◌, length, ap, ap₂, ◌∙◌, arith, take-append-drop}
 use Rattle.nb_entries.specs.Code.Rows.{runs_in}
-use Rattle.nb_entries.proofs.KeptRuns.RowsLemmas.{halved}
+use Rattle.nb_entries.proofs.KeptRuns.RowsPutLemmas.{halved}
 use Rattle.nb_entries.proofs.cover.runs.inserting.halve.Goals as goal
 
 pub returns-clause-same : goal.returns-clause-same

@@ -6,7 +6,8 @@ use Rattle.std.specs.Vec.{vec_len}
 use Rattle.nb_entries.specs.Runs.{AreApart, run_end}
 use Rattle.nb_entries.specs.Code.RunSteps.{value_of, values_of, run_at, Agree, IsPut, EndBefore, StartAfter}
 use Rattle.nb_entries.specs.Code.Rows.{runs_in, values_in}
-use Rattle.nb_entries.proofs.KeptRuns.RowsLemmas.{all_set, values_split, apart_at, some_at, set_values, put_some, row_put, row_agrees, either_way}
+use Rattle.nb_entries.proofs.KeptRuns.RowsLemmas.{all_set, values_split, apart_at, some_at}
+use Rattle.nb_entries.proofs.KeptRuns.RowsPutLemmas.{set_values, put_some, row_put, row_agrees, either_way}
 use Rattle.nb_entries.proofs.cover.runs.inserting.insert_bytes.Goals as goal
 
 pub index_mut-requires : goal.index_mut-requires

@@ -1,7 +1,8 @@
 use Rattle.std.proofs.Common.{◌≡◌, ◌<◌, ◌+◌, ◌++◌, length, slice_index_or, slice_set, ap, sym, subst, ◌∙◌, arith, length-append}
 use Rattle.std.proofs.lemmas.List.{get_or_default, get_or-set_other}
 use Rattle.nb_entries.specs.Code.Rows.{runs_in, NoneEmpty}
-use Rattle.nb_entries.proofs.KeptRuns.RowsLemmas.{set_same_rows, joined, kept_row, all_removed, all_set, some_at}
+use Rattle.nb_entries.proofs.KeptRuns.RowsLemmas.{all_set, some_at}
+use Rattle.nb_entries.proofs.KeptRuns.RowsPutLemmas.{set_same_rows, joined, kept_row, all_removed}
 use Rattle.nb_entries.proofs.cover.runs.inserting.join_next.Goals as goal
 
 pub returns-in_err-reserve-clause-same : goal.returns-in_err-reserve-clause-same

@@ -1,5 +1,5 @@
 use Rattle.std.proofs.Common.{◌≡◌, ◌+◌, drop, ap, ◌∙◌, arith}
-use Rattle.nb_entries.proofs.KeptRuns.RowsLemmas.{drop_next}
+use Rattle.nb_entries.proofs.KeptRuns.RowsPutLemmas.{drop_next}
 use Rattle.nb_entries.proofs.cover.runs.inserting.join_rows.Goals as goal
 
 pub loop-preserved : goal.loop-preserved

@@ -1,6 +1,6 @@
 use Rattle.std.proofs.Common.{◌++◌, ◌∷◌, [], ap, ◌∙◌}
 use Rattle.nb_entries.specs.Code.Rows.{runs_in}
-use Rattle.nb_entries.proofs.KeptRuns.RowsLemmas.{rows_pushed}
+use Rattle.nb_entries.proofs.KeptRuns.RowsPutLemmas.{rows_pushed}
 use Rattle.nb_entries.proofs.cover.runs.inserting.push_row.Goals as goal
 
 pub returns-clause-ok : goal.returns-clause-ok

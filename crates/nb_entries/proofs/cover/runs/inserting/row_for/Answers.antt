@@ -1,5 +1,5 @@
 use Rattle.std.proofs.Common.{arith}
-use Rattle.nb_entries.proofs.KeptRuns.RowsLemmas.{before_less}
+use Rattle.nb_entries.proofs.KeptRuns.RowsPutLemmas.{before_less}
 use Rattle.nb_entries.proofs.cover.runs.inserting.row_for.Goals as goal
 
 pub returns-clause-before : goal.returns-clause-before

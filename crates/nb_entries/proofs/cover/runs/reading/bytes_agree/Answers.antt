@@ -2,7 +2,8 @@ use Rattle.std.proofs.Common.{◌≡◌, arith, ◌+◌, ◌-◌, refl, sym, sub
 use Rattle.nb_entries.specs.Runs.{AreApart}
 use Rattle.nb_entries.specs.Code.RunSteps.{values_of, run_at, Agree}
 use Rattle.nb_entries.proofs.KeptRuns.RunReadLemmas.{touched_at, touched_back}
-use Rattle.nb_entries.proofs.KeptRuns.RowsLemmas.{apart_at, row_agrees, rows_met}
+use Rattle.nb_entries.proofs.KeptRuns.RowsLemmas.{apart_at}
+use Rattle.nb_entries.proofs.KeptRuns.RowsPutLemmas.{row_agrees, rows_met}
 use Rattle.nb_entries.proofs.cover.runs.reading.bytes_agree.Goals as goal
 
 pub row_agrees-requires : goal.row_agrees-requires

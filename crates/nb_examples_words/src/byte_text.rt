@@ -1,8 +1,9 @@
 //! Bytes as words. A word is parts joined by `+`. A part is hexadecimal digits or `empty`, and may
 //! have `*` and a number after it: it stands so often.
 
-use crate::line::Line;
+use crate::line::{Line, cut};
 use hex::FromHexError;
+use std::alloc::AllocError;
 
 /// From how many equal bytes on they are written as one of them with their number.
 const LONG_RUN: usize = 16;
@@ -18,11 +19,19 @@ pub fn bytes_of(line: &mut Line<'_>, word: &str) -> Vec<u8> {
 
 /// Adds the bytes that a part stands for.
 fn push_part(line: &mut Line<'_>, bytes: &mut Vec<u8>, part: &str) {
-    let (once, times) = part.split_once("*").unwrap_or((part, "1"));
-    let times: u32 = line.number_of(times);
+    let (once, number) = cut(part, "*");
     let piece = bytes_once(line, once);
+    let times = match once.len() == part.len() {
+        true => 1,
+        false => line.number_of(number),
+    };
+    push_times(line, bytes, piece.as_slice(), times);
+}
+
+/// Adds some bytes so often.
+fn push_times(line: &mut Line<'_>, bytes: &mut Vec<u8>, piece: &[u8], times: u32) {
     for _ in 0..times {
-        if bytes.extend_from_slice(piece.as_slice()).is_err() {
+        if let Err(AllocError) = bytes.extend_from_slice(piece) {
             return line.no_memory();
         }
     }
@@ -77,9 +86,10 @@ fn run_length(bytes: &[u8], first: u8) -> usize {
 /// Says a run of equal bytes.
 fn say_run(line: &mut Line<'_>, byte: u8, count: usize) {
     if count >= LONG_RUN {
-        return write!(line, "{byte:02x}*{count}");
+        line.say_hex_8("", byte);
+        return line.say_with("*", count);
     }
     for _ in 0..count {
-        write!(line, "{byte:02x}");
+        line.say_hex_8("", byte);
     }
 }

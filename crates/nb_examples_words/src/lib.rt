@@ -7,3 +7,4 @@ mod calls;
 pub mod devices;
 pub mod fault;
 pub mod line;
+mod saying;

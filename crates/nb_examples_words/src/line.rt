@@ -4,11 +4,11 @@
 //! asked for is noted as a fault, and another value stands in its place; so is a text for which
 //! memory ran out. [`Line::finish`] reports the first fault, whatever was said after it.
 
-use crate::byte_text::{bytes_of, say_bytes};
+use crate::byte_text::bytes_of;
 use crate::devices::Conduct;
 use crate::fault::ExampleFault;
 use nb_names::{DomainName, Name, Pointers, Scope, name_from_text, read_domain};
-use std::alloc::Global;
+use std::alloc::{AllocError, Global};
 use std::fmt::Display;
 use std::mem::replace;
 use std::num::ParseIntError;
@@ -31,6 +31,8 @@ pub struct Line<'a> {
     rest: Rest<'a>,
     said: String,
     mark: String,
+    is_lacking: bool,
+    is_again: bool,
     fault: Option<ExampleFault>,
 }
 
@@ -42,6 +44,8 @@ impl<'a> Line<'a> {
             rest: Rest { text, between: " " },
             said: String::new(alloc),
             mark: String::new(alloc),
+            is_lacking: false,
+            is_again: false,
             fault: None,
         }
     }
@@ -83,12 +87,22 @@ impl<'a> Line<'a> {
         self.note(ExampleFault::NoMemory);
     }
 
+    /// Notes that memory ran out in a call between marks, so that the line is made once more.
+    pub fn lacks(&mut self) {
+        if self.is_again {
+            self.no_memory();
+        }
+        self.is_lacking = true;
+    }
+
     // ---- Words.
 
     /// Goes on with the words of another text, between which this stands; what was left before is
     /// for [`Line::leave`].
     pub fn enter(&mut self, text: &'a str, between: &'a str) -> Rest<'a> {
-        replace(&mut self.rest, Rest { text, between })
+        let before = self.rest;
+        self.rest = Rest { text, between };
+        before
     }
 
     /// Goes back to the words that were left before. A word that is left now is a fault.
@@ -106,23 +120,24 @@ impl<'a> Line<'a> {
 
     /// All that is left, which may have several words.
     pub fn rest(&mut self) -> &'a str {
-        replace(&mut self.rest.text, "")
+        let text = self.rest.text;
+        self.rest.text = "";
+        text
     }
 
     /// All that is left, in two parts with this between them.
     pub fn halves(&mut self, between: &str) -> (&'a str, &'a str) {
         let text = self.rest();
-        let (one, other) = text.split_once(between).unwrap_or((text, ""));
-        if one.len() == text.len() {
+        let Some(halves) = text.split_once(between) else {
             self.bad_words();
-        }
-        (one, other)
+            return (text, "");
+        };
+        halves
     }
 
     /// The next word. That there is none, or an empty one, is a fault.
     pub fn word(&mut self) -> &'a str {
-        let text = self.rest.text;
-        let (word, rest) = text.split_once(self.rest.between).unwrap_or((text, ""));
+        let (word, rest) = cut(self.rest.text, self.rest.between);
         self.rest.text = rest;
         if word.is_empty() {
             self.bad_words();
@@ -253,37 +268,15 @@ impl<'a> Line<'a> {
 
     /// Says a text.
     pub fn say(&mut self, text: &str) {
-        if self.said.push_str(text).is_err() {
+        if let Err(AllocError) = self.said.push_str(text) {
             self.no_memory();
         }
     }
 
     /// Says what `write!` makes of its arguments.
     pub fn write_fmt<T: Display + Drop>(&mut self, value: T) {
-        if self.said.write_fmt(value).is_err() {
+        if let Err(AllocError) = self.said.write_fmt(value) {
             self.no_memory();
-        }
-    }
-
-    /// Says bytes as a word.
-    pub fn say_bytes(&mut self, bytes: &[u8]) {
-        say_bytes(self, bytes);
-    }
-
-    /// Says bytes that are a text, whose lines end with `;` here.
-    pub fn say_lines(&mut self, text: &[u8]) {
-        let Ok(text) = str::from_utf8(text) else {
-            return self.bad_words();
-        };
-        let lines = text.replace(self.alloc, "\n", ";").ok();
-        self.say_made(lines);
-    }
-
-    /// Says a text that a call made; none is made where memory ran out.
-    pub fn say_made(&mut self, text: Option<String>) {
-        match text {
-            Some(text) => self.say(text.as_str()),
-            None => self.no_memory(),
         }
     }
 
@@ -299,19 +292,38 @@ impl<'a> Line<'a> {
 
     // ---- Marks, which stand round a call whose requests for memory are counted.
 
-    /// The mark before a call.
+    /// The mark before a call, unless the line is made once more.
     pub fn begin(&mut self) {
+        if self.is_again {
+            return;
+        }
         match String::with_capacity(self.alloc, MARK) {
             Ok(mark) => self.mark = mark,
-            Err(_) => self.no_memory(),
+            Err(AllocError) => self.no_memory(),
         }
     }
 
     /// The mark after a call.
     pub fn end(&mut self) {
-        if self.mark.reserve(MARK + 1).is_err() {
+        if self.is_again {
+            return;
+        }
+        if let Err(AllocError) = self.mark.reserve(MARK + 1) {
             self.no_memory();
         }
+    }
+
+    /// Whether the line has to be made once more, because memory ran out in a call; its words are
+    /// then these, and there are no marks.
+    pub fn begins_again(&mut self, text: &'a str) -> bool {
+        if !self.is_lacking || self.is_again {
+            return false;
+        }
+        self.is_again = true;
+        self.rest.text = text;
+        self.said.clear();
+        self.say("memory, ");
+        true
     }
 
     /// Says that memory ran out in a call that is made again, and whether what has to be as before
@@ -322,4 +334,9 @@ impl<'a> Line<'a> {
             false => "memory, changed, ",
         });
     }
+}
+
+/// What stands in front of this in a text, and behind it; the whole text where it isn't there.
+pub fn cut<'a>(text: &'a str, between: &str) -> (&'a str, &'a str) {
+    text.split_once(between).unwrap_or((text, ""))
 }

@@ -32,7 +32,9 @@ pub fn scope_of(line: &mut Line<'_>) -> Scope {
 pub fn labels(line: &mut Line<'_>) {
     let domain = domain_of(line);
     line.begin();
-    let (count, is_empty, length) = (domain.len(), domain.is_empty(), domain.spelled_len());
+    let count = domain.len();
+    let is_empty = domain.is_empty();
+    let length = domain.spelled_len();
     line.end();
     line.say_with("labels ", count);
     line.say_with(", empty ", is_empty);

@@ -1,8 +1,8 @@
 //! Packets of port 137: read, and made of the items of others.
 
 use crate::service_texts::say_packet;
-use nb_examples_words::line::Line;
 use nb_examples_words::asked;
+use nb_examples_words::line::Line;
 use nb_names::{Bytes, DomainName, Name, Scope};
 use nb_service::{
     NodeStatus, Packet, PushFault, Question, Rdata, Record, Section, ServiceFault, decode, encode,
@@ -51,13 +51,24 @@ fn encoded(line: &mut Line<'_>, packet: &Packet<'_>) -> Bytes {
 /// were added to it, one after another; or the faults of those that aren't, and how many questions,
 /// answers, authorities and additional records there are then.
 pub fn pushed(line: &mut Line<'_>) {
-    let (first, second) = (line.bytes(), line.bytes());
-    let mut packet = front(line, first.as_slice());
-    let added = front(line, second.as_slice());
-    match push_all(line, &mut packet, &added) {
+    let first = line.bytes();
+    let second = line.bytes();
+    say_pushed(line, first.as_slice(), second.as_slice());
+}
+
+/// Says the packet at the front of some bytes, with the items of a second one.
+fn say_pushed<'a>(line: &mut Line<'_>, first: &'a [u8], second: &'a [u8]) {
+    let mut packet = front(line, first);
+    match push_front(line, &mut packet, second) {
         true => say_encoded(line, &packet),
         false => say_counts(line, &packet),
     }
+}
+
+/// Adds the items of the packet at the front of some bytes: whether all were added.
+fn push_front<'a>(line: &mut Line<'_>, packet: &mut Packet<'a>, bytes: &'a [u8]) -> bool {
+    let added = front(line, bytes);
+    push_all(line, packet, &added)
 }
 
 /// Adds the questions and the records of a packet to another: whether all were added.
@@ -174,7 +185,9 @@ fn push_record<'a>(
 /// The same record; the name of a record of bytes that can't be so is the root, which shows.
 fn copy_of_record<'a>(record: &Record<'a>) -> Record<'a> {
     let name = record.name().copied();
-    let (kind, class, ttl) = (record.kind(), record.class(), record.ttl());
+    let kind = record.kind();
+    let class = record.class();
+    let ttl = record.ttl();
     match record.rdata() {
         Rdata::Domain(target) => Record::ns(name, class, ttl, target.copied()),
         Rdata::Bytes(bytes) => match Record::bytes(name, kind, class, ttl, bytes) {
@@ -203,7 +216,16 @@ pub fn word(line: &mut Line<'_>) {
     let word = line.hex_16();
     line.begin();
     let packet = Packet::new(line.alloc(), 0, word);
-    let (opcode, rcode, flags) = (packet.opcode(), packet.rcode(), packet.nm_flags());
+    line.end();
+    say_word(line, &packet);
+}
+
+/// Says what stands in the flag word of a packet.
+fn say_word(line: &mut Line<'_>, packet: &Packet<'_>) {
+    line.begin();
+    let opcode = packet.opcode();
+    let rcode = packet.rcode();
+    let flags = packet.nm_flags();
     line.end();
     line.say_with("opcode ", opcode);
     line.say_with(" rcode ", rcode);
@@ -215,7 +237,12 @@ pub fn word(line: &mut Line<'_>) {
 pub fn status(line: &mut Line<'_>) {
     let bytes = line.bytes();
     let packet = front(line, bytes.as_slice());
-    match packet.answers().as_slice().first() {
+    say_first_status(line, packet.answers().as_slice());
+}
+
+/// Says the node status of the first of some records.
+fn say_first_status(line: &mut Line<'_>, records: &[Record<'_>]) {
+    match records.first() {
         Some(record) => say_record_status(line, record),
         None => line.bad_words(),
     }
@@ -235,7 +262,9 @@ fn say_record_status(line: &mut Line<'_>, record: &Record<'_>) {
 /// Says a node's status.
 fn say_status(line: &mut Line<'_>, status: &NodeStatus<'_>) {
     line.begin();
-    let (count, statistics, unit) = (status.len(), status.statistics(), status.unit_id());
+    let count = status.len();
+    let statistics = status.statistics();
+    let unit = status.unit_id();
     line.end();
     line.say_with("names ", count);
     for place in 0..=count {
@@ -252,7 +281,8 @@ fn say_node_name(line: &mut Line<'_>, status: &NodeStatus<'_>, place: usize) {
         return line.say("; none");
     };
     line.begin();
-    let (owner, flags) = (ont(name.flags), name.node_flags());
+    let owner = ont(name.flags);
+    let flags = name.node_flags();
     line.end();
     line.say_name("; ", &Name::new(name.bytes, Scope::empty()));
     line.say_hex_16(" ", name.flags);

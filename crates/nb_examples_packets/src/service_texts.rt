@@ -64,7 +64,10 @@ fn say_records(line: &mut Line<'_>, section: &str, records: &[Record<'_>]) {
 /// Says a record: name, kind, class, time to live, and RDATA of bytes or of a name.
 pub fn say_record(line: &mut Line<'_>, record: &Record<'_>) {
     line.begin();
-    let (name, kind, class, ttl) = (record.name(), record.kind(), record.class(), record.ttl());
+    let name = record.name();
+    let kind = record.kind();
+    let class = record.class();
+    let ttl = record.ttl();
     let rdata = record.rdata();
     line.end();
     say_name(line, name);

@@ -14,10 +14,15 @@ pub fn run_by_one(line: &mut Line<'_>) {
     let events = line.rest();
     let mut member = member_of(line, station);
     let events = events_of(line, events);
+    run_member(line, &mut member, events.as_slice());
+}
+
+/// Runs a member, and says what comes of it.
+fn run_member(line: &mut Line<'_>, member: &mut Member, events: &[Event]) {
     line.begin();
-    let report = run(line.alloc(), &mut member, events.as_slice());
+    let report = run(line.alloc(), member, events);
     line.end();
-    say_run(line, &report, &mut member, events.as_slice());
+    say_run(line, &report, member, events);
 }
 
 /// `two STATION NAMES EVENTS | EVENTS`: what comes of the runs of two new members, the second of
@@ -28,8 +33,13 @@ pub fn run_by_two(line: &mut Line<'_>) {
     let (a, b) = line.halves(" | ");
     let a = events_of(line, a);
     let b = events_of(line, b);
-    let mut pair = pair_of(line, station, other, a.as_slice(), b.as_slice());
-    say_pair(line, &mut pair, a.as_slice(), b.as_slice());
+    run_pair(line, station, other, a.as_slice(), b.as_slice());
+}
+
+/// Runs two new members, and says what comes of it.
+fn run_pair<'a>(line: &mut Line<'a>, station: &'a str, other: &str, a: &[Event], b: &[Event]) {
+    let mut pair = pair_of(line, station, other, a, b);
+    say_pair(line, &mut pair, a, b);
 }
 
 /// Two new members, and what came of their runs.

@@ -27,6 +27,15 @@ fn reassembled(alloc: Global, payloads: &[Bytes]) -> Option<Datagram> {
 
 /// `reassembled BYTES ..`: the first datagram that the payloads come to, or `none`.
 pub fn first_datagram(line: &mut Line<'_>) {
+    let payloads = rest_payloads(line);
+    match reassembled(line.alloc(), payloads.as_slice()) {
+        Some(datagram) => say_datagram(line, &datagram),
+        None => line.say("none"),
+    }
+}
+
+/// The payloads that all words say that are left.
+fn rest_payloads(line: &mut Line<'_>) -> Vec<Bytes> {
     let mut payloads = Vec::new(line.alloc());
     for word in line.rest().split_whitespace() {
         let payload = Bytes::from_vec(line.bytes_of(word));
@@ -34,8 +43,5 @@ pub fn first_datagram(line: &mut Line<'_>) {
             line.no_memory();
         }
     }
-    match reassembled(line.alloc(), payloads.as_slice()) {
-        Some(datagram) => say_datagram(line, &datagram),
-        None => line.say("none"),
-    }
+    payloads
 }

@@ -8,20 +8,35 @@ use crate::{
     caller, comparing, definitions, events, hearing, inserting, joining, line_reading, reading,
     replays,
 };
-use nb_examples_words::line::Line;
+use nb_examples_words::fault::ExampleFault;
+use nb_examples_words::line::{Line, cut};
 use nb_table::{Cover, Entry};
 
 /// Says what a call answers.
 pub fn answer(line: &mut Line<'_>, call: &str) {
-    let (of, name) = call.split_once(".").unwrap_or(("", call));
-    match name {
-        _ if of == "member" => answer_of_stations(line, name),
-        _ if of != "table" => nb_examples_packets::answer(line, call),
-        "insert" | "insert_over" | "insert_kept" | "refusals" => inserting::inserts(line, name),
+    let (of, name) = cut(call, ".");
+    match of {
+        "table" => answer_of_tables(line, name),
+        "member" => answer_of_stations(line, name),
+        _ => nb_examples_packets::answer(line, of, name),
+    }
+}
+
+/// Says what a call of nb_table answers.
+fn answer_of_tables(line: &mut Line<'_>, call: &str) {
+    match call {
+        "insert" | "insert_over" | "insert_kept" | "refusals" => inserting::inserts(line, call),
         "known" => reading::known(line),
         "datagram" => reading::datagram(line),
         "save" => reading::saved(line),
         "load" => reading::loaded(line),
+        _ => answer_of_two(line, call),
+    }
+}
+
+/// Says what a call of nb_table answers that takes several tables, or none.
+fn answer_of_two(line: &mut Line<'_>, call: &str) {
+    match call {
         "fits" => joining::fits(line),
         "merge" => joining::merged(line),
         "join_all" => joining::joined_all(line),
@@ -29,7 +44,7 @@ pub fn answer(line: &mut Line<'_>, call: &str) {
         "entry" => comparing::compared::<Entry>(line),
         "plain" => definitions::plain(line),
         "reassembled" => caller::first_datagram(line),
-        _ => nb_examples_packets::answer(line, call),
+        _ => line.note(ExampleFault::NoSuchCall),
     }
 }
 
@@ -45,6 +60,6 @@ fn answer_of_stations(line: &mut Line<'_>, call: &str) {
         "datagram" => replays::parts(line),
         "replay" => replays::replayed(line, false),
         "within" => replays::replayed(line, true),
-        _ => nb_examples_packets::answer(line, call),
+        _ => line.note(ExampleFault::NoSuchCall),
     }
 }

@@ -2,8 +2,8 @@
 
 use crate::steps::{lent, step_of};
 use nb_datagram::Fragment;
-use nb_examples_words::line::Line;
-use nb_examples_words::{alone, asked};
+use nb_examples_words::asked;
+use nb_examples_words::line::{Line, cut};
 use nb_names::NoMemory;
 use nb_table::{Cover, Entry, Join, TableFault};
 use std::alloc::Global;
@@ -33,11 +33,23 @@ fn made<'a, J: Said + Drop>(line: &mut Line<'a>, step: &'a str) -> Option<J> {
     let Some(fragment) = lent(line, &parts) else {
         return None;
     };
-    let value = alone!(line, Err(_), J::of_fragment(line.alloc(), &fragment));
-    if value.is_err() {
+    line.begin();
+    let value = J::of_fragment(line.alloc(), &fragment).ok();
+    line.end();
+    if value.is_none() {
+        return made_again(line, &fragment);
+    }
+    value
+}
+
+/// What a fragment says, where memory ran out before.
+fn made_again<J: Said + Drop>(line: &mut Line<'_>, fragment: &Fragment<'_>) -> Option<J> {
+    line.say("memory, ");
+    let value = J::of_fragment(line.alloc(), fragment).ok();
+    if value.is_none() {
         line.no_memory();
     }
-    value.ok()
+    value
 }
 
 /// Joins what a step says into a value between marks, and then into one that is equal to it.
@@ -47,30 +59,43 @@ fn join_step<'a, J: Said + Join + PartialEq + Drop>(
     equal: &mut J,
     step: &'a str,
 ) {
-    let Some(other) = made(line, step) else {
-        return;
-    };
-    let joined = asked!(
+    let other: Option<J> = made(line, step);
+    if let Some(other) = &other {
+        join(line, value, equal, other);
+        let joined = equal.join(other);
+        note_joined(line, joined);
+    }
+}
+
+/// Joins a value into another between marks.
+fn join<J: Join + PartialEq>(line: &mut Line<'_>, value: &mut J, equal: &J, other: &J) {
+    asked!(
         line,
         Err(TableFault::NoMemory),
-        value.join(&other),
-        *value == *equal
+        value.join(other),
+        *value == *equal,
+        note_joined
     );
-    if joined.is_err() || equal.join(&other).is_err() {
+}
+
+/// Notes that a value wasn't joined into another.
+fn note_joined(line: &mut Line<'_>, joined: Result<(), TableFault>) {
+    if joined.is_err() {
         line.no_memory();
     }
 }
 
 /// The join of what steps say.
 fn joined<'a, J: Said + Join + PartialEq + Drop>(line: &mut Line<'a>, steps: &'a str) -> Option<J> {
-    let (first, others) = steps.split_once(" ").unwrap_or((steps, ""));
-    let (Some(mut value), Some(mut equal)) = (made(line, first), made(line, first)) else {
-        return None;
-    };
-    for step in others.split_whitespace() {
-        join_step(line, &mut value, &mut equal, step);
+    let (first, others) = cut(steps, " ");
+    let mut value: Option<J> = made(line, first);
+    let mut equal: Option<J> = made(line, first);
+    if let (Some(value), Some(equal)) = (&mut value, &mut equal) {
+        for step in others.split_whitespace() {
+            join_step(line, value, equal, step);
+        }
     }
-    Some(value)
+    value
 }
 
 /// `cover STEP .. | STEP ..`, `entry ..`: whether the joins of the covers, or of the entries, of
@@ -80,6 +105,6 @@ pub fn compared<J: Said + Join + PartialEq + Drop>(line: &mut Line<'_>) {
     let one: Option<J> = joined(line, one);
     let other: Option<J> = joined(line, other);
     if let (Some(one), Some(other)) = (one, other) {
-        write!(line, "{}", one == other);
+        line.say_with("", one == other);
     }
 }

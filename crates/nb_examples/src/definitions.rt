@@ -12,7 +12,14 @@ use nb_table::plain::{PlainFault, byte_at, datagram, end_of, is_spoilt, is_whole
 /// its end, its promise, its datagram.
 pub fn plain(line: &mut Line<'_>) {
     let key = next_key(line);
-    let place = line.number_32();
+    let place: u32 = line.number();
+    let steps = rest_steps(line);
+    let fragments = all_lent(line, steps.as_slice());
+    say_plain(line, fragments.as_slice(), &key, place);
+}
+
+/// The parts of the fragments that all words say that are left.
+fn rest_steps(line: &mut Line<'_>) -> Vec<OwnedFragment> {
     let mut steps = Vec::new(line.alloc());
     for step in line.rest().split_whitespace() {
         let fragment = step_of(line, step);
@@ -20,17 +27,21 @@ pub fn plain(line: &mut Line<'_>) {
             line.no_memory();
         }
     }
-    let fragments = all_lent(line, steps.as_slice());
-    let fragments = fragments.as_slice();
-    let state = state_of(fragments, &key);
-    let (byte, end) = (byte_at(fragments, &key, place), end_of(fragments, &key));
-    let promise = promise_of(fragments, &key);
-    write!(line, "{state:?}, {byte:?}, {end:?}, {promise:?}, ");
-    match datagram(line.alloc(), fragments, &key) {
+    steps
+}
+
+/// Says what the definitions say of a key.
+fn say_plain(line: &mut Line<'_>, fragments: &[Fragment<'_>], key: &Key, place: u32) {
+    line.say_debug("", &state_of(fragments, key));
+    line.say_debug(", ", &byte_at(fragments, key, place));
+    line.say_debug(", ", &end_of(fragments, key));
+    line.say_debug(", ", &promise_of(fragments, key));
+    line.say(", ");
+    match datagram(line.alloc(), fragments, key) {
         Ok(Some(datagram)) => say_datagram(line, &datagram),
         Ok(None) => line.say("none"),
         Err(PlainFault::NoMemory) => line.no_memory(),
-        Err(fault) => write!(line, "{fault:?}"),
+        Err(fault) => line.say_debug("", &fault),
     }
 }
 

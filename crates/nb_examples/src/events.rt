@@ -4,7 +4,7 @@ use crate::stations::{member_of, names_of, settings_of};
 use nb_datagram::{Datagrams, ErrorPackets, Packet, encode};
 use nb_examples_packets::fragments::{say_datagram, say_key};
 use nb_examples_words::line::Line;
-use nb_member::{Event, Member, RunReport, RunStop, run, two_members};
+use nb_member::{Event, Member, Pair, RunReport, RunStop, run, two_members};
 use nb_names::Bytes;
 
 /// `run STATION EVENT, EVENT ..`: what comes of a run of a new member. An event is
@@ -14,31 +14,57 @@ pub fn run_by_one(line: &mut Line<'_>) {
     let events = line.rest();
     let mut member = member_of(line, station);
     let events = events_of(line, events);
+    run_member(line, &mut member, events.as_slice());
+}
+
+/// Runs a member, and says what comes of it.
+fn run_member(line: &mut Line<'_>, member: &mut Member, events: &[Event]) {
     line.begin();
-    let report = run(line.alloc(), &mut member, events.as_slice());
+    let report = run(line.alloc(), member, events);
     line.end();
-    say_run(line, &report, &mut member, events.as_slice());
+    say_run(line, &report, member, events);
 }
 
 /// `two STATION NAMES EVENTS | EVENTS`: what comes of the runs of two new members, the second of
 /// which has these names, and whether their tables are equal.
 pub fn run_by_two(line: &mut Line<'_>) {
-    let (station, other) = (line.word(), line.word());
+    let station = line.word();
+    let other = line.word();
     let (a, b) = line.halves(" | ");
     let a = events_of(line, a);
     let b = events_of(line, b);
+    run_pair(line, station, other, a.as_slice(), b.as_slice());
+}
+
+/// Runs two new members, and says what comes of it.
+fn run_pair<'a>(line: &mut Line<'a>, station: &'a str, other: &str, a: &[Event], b: &[Event]) {
+    let mut pair = pair_of(line, station, other, a, b);
+    say_pair(line, &mut pair, a, b);
+}
+
+/// Two new members, and what came of their runs.
+fn pair_of<'a>(
+    line: &mut Line<'a>,
+    station: &'a str,
+    other: &str,
+    a: &[Event],
+    b: &[Event],
+) -> Pair {
     let settings = settings_of(line, station);
-    let names_a = names_of(line, station);
-    let names_b = names_of(line, other);
-    let (a, b) = (a.as_slice(), b.as_slice());
+    let names = names_of(line, station);
+    let others = names_of(line, other);
     line.begin();
-    let mut pair = two_members(line.alloc(), settings, names_a, names_b, a, b);
+    let pair = two_members(line.alloc(), settings, names, others, a, b);
     line.end();
+    pair
+}
+
+/// Says what came of two runs, and whether the tables are equal.
+fn say_pair(line: &mut Line<'_>, pair: &mut Pair, a: &[Event], b: &[Event]) {
     say_run(line, &pair.report_a, &mut pair.a, a);
     line.say(" | ");
     say_run(line, &pair.report_b, &mut pair.b, b);
-    let is_same = pair.a.table().same(pair.b.table());
-    write!(line, " | {is_same}");
+    line.say_with(" | ", pair.a.table().same(pair.b.table()));
 }
 
 /// The events of a text.
@@ -80,7 +106,7 @@ fn say_run(line: &mut Line<'_>, report: &RunReport, member: &mut Member, events:
     };
     let after = run(line.alloc(), member, rest);
     say_reports(line, report, &after);
-    write!(line, "; keys {}", member.table().len());
+    line.say_with("; keys ", member.table().len());
 }
 
 /// Says what two runs report, the second of which went on where memory ran out.
@@ -92,7 +118,8 @@ fn say_reports(line: &mut Line<'_>, report: &RunReport, after: &RunReport) {
         line.say("memory, ");
         stop = after.stop;
     }
-    write!(line, "taken {taken}, refused {refused}");
+    line.say_with("taken ", taken);
+    line.say_with(", refused ", refused);
     say_stop(line, stop);
     say_all_delivered(line, &report.deliveries);
     say_all_delivered(line, &after.deliveries);
@@ -103,14 +130,8 @@ fn say_reports(line: &mut Line<'_>, report: &RunReport, after: &RunReport) {
 /// Says why a run stopped, if it did.
 fn say_stop(line: &mut Line<'_>, stop: Option<RunStop>) {
     match stop {
-        Some(RunStop::Full(key)) => {
-            line.say(", stopped full ");
-            say_key(line, key);
-        }
-        Some(RunStop::FullSource(key)) => {
-            line.say(", stopped full source ");
-            say_key(line, key);
-        }
+        Some(RunStop::Full(key)) => say_key(line, ", stopped full ", key),
+        Some(RunStop::FullSource(key)) => say_key(line, ", stopped full source ", key),
         Some(RunStop::NoMemory) => line.no_memory(),
         None => {}
     }

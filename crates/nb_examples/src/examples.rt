@@ -2,7 +2,7 @@
 
 use crate::calls::answer;
 use nb_examples_words::fault::ExampleFault;
-use nb_examples_words::line::Line;
+use nb_examples_words::line::{Line, cut};
 use std::alloc::Global;
 use std::io::Write;
 
@@ -42,9 +42,12 @@ impl Examples {
 /// What the call of an example answers, where that isn't what the example says.
 fn difference(alloc: Global, example: &str) -> Result<Option<String>, ExampleFault> {
     let (asked, wanted) = example.split_once(" = ").ok_or(ExampleFault::NoExample)?;
-    let (call, words) = asked.split_once(" ").unwrap_or((asked, ""));
+    let (call, words) = cut(asked, " ");
     let mut line = Line::new(alloc, words);
     answer(&mut line, call);
+    if line.begins_again(words) {
+        answer(&mut line, call);
+    }
     let said = line.finish()?;
     match said.as_str() == wanted {
         true => Ok(None),

@@ -19,32 +19,42 @@ pub fn held(line: &mut Line<'_>) {
             line.say("; ");
         }
         let before = line.enter(step, " ");
-        let word = line.word();
-        let name = line.name();
-        match word {
-            "add" => add(line, &mut names, &name),
-            "holds" => {
-                let answers = holds(line, &names, &name);
-                write!(line, "{answers:?}");
-            }
-            _ => line.bad_words(),
-        }
+        say_step(line, &mut names);
         line.leave(before);
+    }
+}
+
+/// Says what is answered to the next words.
+fn say_step(line: &mut Line<'_>, names: &mut LocalNames) {
+    let word = line.word();
+    let name = line.name();
+    match word {
+        "add" => add(line, names, &name),
+        "holds" => {
+            let answers = holds(line, names, &name);
+            line.say_debug("", &answers);
+        }
+        _ => line.bad_words(),
     }
 }
 
 /// Adds a name, and says what was answered.
 fn add(line: &mut Line<'_>, names: &mut LocalNames, name: &Name) {
-    let answer = asked!(
+    asked!(
         line,
         Err(AddFault::NoMemory),
         names.add(name.copied()),
-        holds(line, names, name)
+        holds(line, names, name),
+        say_added
     );
+}
+
+/// Says what was answered to a name that was added.
+fn say_added(line: &mut Line<'_>, answer: Result<(), AddFault>) {
     match answer {
         Ok(()) => line.say("added"),
         Err(AddFault::NoMemory) => line.no_memory(),
-        Err(fault) => write!(line, "{fault}"),
+        Err(fault) => line.say_with("", fault),
     }
 }
 
@@ -66,5 +76,5 @@ pub fn heard(line: &mut Line<'_>) {
     line.begin();
     let is_heard = names.hears(&datagram);
     line.end();
-    write!(line, "{is_heard}");
+    line.say_with("", is_heard);
 }

@@ -17,24 +17,33 @@ pub fn inserts(line: &mut Line<'_>, call: &str) {
             line.say(", ");
         }
         let parts = step_of(line, step);
-        let Some(fragment) = lent(line, &parts) else {
-            return;
-        };
-        match call {
-            "refusals" => say_refusal(line, &table, &fragment),
-            _ => say_insert(line, call, &mut table, &fragment),
+        if let Some(fragment) = lent(line, &parts) {
+            say_step(line, call, &mut table, &fragment);
         }
+    }
+}
+
+/// Says what a call answers of a table and a fragment.
+fn say_step(line: &mut Line<'_>, call: &str, table: &mut Table, fragment: &Fragment<'_>) {
+    match call {
+        "refusals" => say_refusal(line, table, fragment),
+        _ => say_insert(line, call, table, fragment),
     }
 }
 
 /// Says what the insert of a fragment answers, by a call.
 fn say_insert(line: &mut Line<'_>, call: &str, table: &mut Table, fragment: &Fragment<'_>) {
-    let answer = asked!(
+    asked!(
         line,
         Err(TableFault::NoMemory),
         insert_by(call, table, fragment),
-        reads(line, table)
+        reads(line, table),
+        say_inserted
     );
+}
+
+/// Says what the insert of a fragment answered.
+fn say_inserted(line: &mut Line<'_>, answer: Result<Change, TableFault>) {
     match answer {
         Ok(change) => say_change(line, &change),
         Err(fault) => say_fault(line, fault),

@@ -14,7 +14,7 @@ pub fn fits(line: &mut Line<'_>) {
     line.begin();
     let answer = (one.same(&other), one.fits(&other));
     line.end();
-    write!(line, "{answer:?}");
+    line.say_debug("", &answer);
 }
 
 /// `merge TABLE | TABLE ..`: what the first table hands over as it merges each of the others, one
@@ -27,16 +27,26 @@ pub fn merged(line: &mut Line<'_>) {
             line.say("; ");
         }
         let other = table_of(line, other);
-        let answer = asked!(
-            line,
-            Err(TableFault::NoMemory),
-            table.merge(&other),
-            reads(line, &table)
-        );
-        match answer {
-            Ok(datagrams) => say_datagrams(line, &datagrams),
-            Err(fault) => say_fault(line, fault),
-        }
+        merge(line, &mut table, &other);
+    }
+}
+
+/// Merges a table into another, and says what was answered.
+fn merge(line: &mut Line<'_>, table: &mut Table, other: &Table) {
+    asked!(
+        line,
+        Err(TableFault::NoMemory),
+        table.merge(other),
+        reads(line, table),
+        say_merged
+    );
+}
+
+/// Says what the merge of a table answered.
+fn say_merged(line: &mut Line<'_>, answer: Result<Datagrams, TableFault>) {
+    match answer {
+        Ok(datagrams) => say_datagrams(line, &datagrams),
+        Err(fault) => say_fault(line, fault),
     }
 }
 
@@ -60,31 +70,46 @@ fn say_datagrams(line: &mut Line<'_>, datagrams: &Datagrams) {
 pub fn joined_all(line: &mut Line<'_>) {
     let (first, others) = line.halves(" | ");
     let mut table = table_of(line, first);
-    let mut tables = Vec::new(line.alloc());
-    for part in others.split(" | ") {
-        let other = table_of(line, part);
-        if tables.push(other).is_err() {
-            line.no_memory();
-        }
-    }
+    let tables = tables_of(line, others);
+    let tables = tables.as_slice();
     line.begin();
-    let mut answer = join_all(&mut table, tables.as_slice());
+    let answer = join_all(&mut table, tables);
     line.end();
-    if let Err((place, TableFault::NoMemory)) = answer {
-        let front = tables.as_slice().get(..place).unwrap_or(&[]);
-        let is_same = has_front(line, first, front, &table);
-        line.again(is_same);
-        answer = join_all(&mut table, tables.as_slice());
-    }
     match answer {
-        Ok(()) => line.say("joined"),
-        Err((place, fault)) => {
-            write!(line, "{place} ");
-            say_fault(line, fault);
+        Err((place, TableFault::NoMemory)) => {
+            let front = tables.get(..place).unwrap_or(&[]);
+            let is_same = has_front(line, first, front, &table);
+            line.again(is_same);
+            say_joined(line, join_all(&mut table, tables));
         }
+        answer => say_joined(line, answer),
     }
     line.say("; ");
     say_saved(line, &table);
+}
+
+/// The tables of a text.
+fn tables_of<'a>(line: &mut Line<'a>, text: &'a str) -> Vec<Table> {
+    let mut tables = Vec::new(line.alloc());
+    for part in text.split(" | ") {
+        let table = table_of(line, part);
+        if tables.push(table).is_err() {
+            line.no_memory();
+        }
+    }
+    tables
+}
+
+/// Says what the join of tables answered.
+fn say_joined(line: &mut Line<'_>, answer: Result<(), (usize, TableFault)>) {
+    match answer {
+        Ok(()) => line.say("joined"),
+        Err((place, fault)) => {
+            line.say_with("", place);
+            line.say(" ");
+            say_fault(line, fault);
+        }
+    }
 }
 
 /// Whether a table is that of a text, joined with those of the front.

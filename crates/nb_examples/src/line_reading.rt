@@ -1,6 +1,5 @@
 //! Lines of captures: what one says, and the lines of an input, read one after another.
 
-use nb_examples_words::alone;
 use nb_examples_words::devices::Source;
 use nb_examples_words::line::Line;
 use nb_member::{Line as CaptureLine, LineFault, LineReadFault, LineRoom, capture_line, next_line};
@@ -10,16 +9,14 @@ use nb_names::Counted;
 /// clock shows, or `nothing`.
 pub fn read(line: &mut Line<'_>) {
     let bytes = line.bytes();
-    let read = alone!(
-        line,
-        Err(LineFault::NoMemory),
-        capture_line(line.alloc(), bytes.as_slice())
-    );
+    line.begin();
+    let read = capture_line(line.alloc(), bytes.as_slice());
+    line.end();
     match read {
         Ok(Some(read)) => say_said(line, &read),
         Ok(None) => line.say("nothing"),
-        Err(LineFault::NoMemory) => line.no_memory(),
-        Err(fault) => write!(line, "{fault}"),
+        Err(LineFault::NoMemory) => line.lacks(),
+        Err(fault) => line.say_with("", fault),
     }
 }
 
@@ -31,24 +28,26 @@ fn say_said(line: &mut Line<'_>, read: &CaptureLine) {
             moment,
             payload,
         } => {
-            write!(line, "port {port}, moment {moment}, ");
+            line.say_with("port ", *port);
+            line.say_with(", moment ", *moment);
+            line.say(", ");
             line.say_bytes(payload.as_slice());
         }
-        CaptureLine::Tick { now } => write!(line, "clock {now}"),
+        CaptureLine::Tick { now } => line.say_with("clock ", *now),
     }
 }
 
 /// `next CALLS DEVICE BYTES`: how many bytes a new room has, what each of so many calls for the
 /// next line answers, over a device, and how many bytes the room has after it.
 pub fn each_line(line: &mut Line<'_>) {
-    let calls = line.number();
+    let calls: u64 = line.number();
     let conduct = line.conduct();
     let capture = line.bytes();
     line.begin();
     let mut room = LineRoom::new(line.alloc());
     let held = room.held();
     line.end();
-    write!(line, "held {held}");
+    line.say_with("held ", held);
     let mut source = Source::new(capture.as_slice(), conduct);
     let mut reader = Counted::new(&mut source);
     for _ in 0..calls {
@@ -63,13 +62,14 @@ fn say_next(line: &mut Line<'_>, reader: &mut Counted<&mut Source<'_>>, room: &m
     line.begin();
     let answer = next_line(reader, room);
     line.end();
-    if let Err(LineReadFault::NoMemory) = answer {
-        line.say("memory, ");
-        say_read(line, next_line(reader, room));
-    } else {
-        say_read(line, answer);
+    match answer {
+        Err(LineReadFault::NoMemory) => {
+            line.say("memory, ");
+            say_read(line, next_line(reader, room));
+        }
+        answer => say_read(line, answer),
     }
-    write!(line, " held {}", room.held());
+    line.say_with(" held ", room.held());
 }
 
 /// Says a line that was read, or why none was.

@@ -2,7 +2,6 @@
 
 use crate::steps::{rest_table, say_saved};
 use nb_examples_packets::fragments::{next_key, say_datagram};
-use nb_examples_words::alone;
 use nb_examples_words::line::Line;
 use nb_table::{LoadFault, load};
 
@@ -14,26 +13,33 @@ pub fn known(line: &mut Line<'_>) {
     let state = table.state(&key);
     let runs = table.run_count(&key);
     line.end();
-    write!(line, "{state:?}, {runs:?}");
+    line.say_debug("", &state);
+    line.say_debug(", ", &runs);
 }
 
 /// `datagram KEY TABLE`: the key's datagram, `KIND KEY SOURCE DESTINATION BYTES`, or `none`.
 pub fn datagram(line: &mut Line<'_>) {
     let key = next_key(line);
     let table = rest_table(line);
-    match alone!(line, Err(_), table.datagram(&key)) {
+    line.begin();
+    let answer = table.datagram(&key);
+    line.end();
+    match answer {
         Ok(Some(datagram)) => say_datagram(line, &datagram),
         Ok(None) => line.say("none"),
-        Err(_) => line.no_memory(),
+        Err(_) => line.lacks(),
     }
 }
 
 /// `save TABLE`: the bytes that the table is saved as.
 pub fn saved(line: &mut Line<'_>) {
     let table = rest_table(line);
-    match alone!(line, Err(_), table.save()) {
+    line.begin();
+    let answer = table.save();
+    line.end();
+    match answer {
         Ok(bytes) => line.say_bytes(bytes.as_slice()),
-        Err(_) => line.no_memory(),
+        Err(_) => line.lacks(),
     }
 }
 
@@ -41,16 +47,14 @@ pub fn saved(line: &mut Line<'_>) {
 /// saved as again, or why there is none.
 pub fn loaded(line: &mut Line<'_>) {
     let (keys, per_source) = line.capacity();
-    let longest = line.number_16();
+    let longest = line.number();
     let bytes = line.bytes();
-    let loaded = alone!(
-        line,
-        Err(LoadFault::NoMemory),
-        load(line.alloc(), bytes.as_slice(), keys, per_source, longest)
-    );
+    line.begin();
+    let loaded = load(line.alloc(), bytes.as_slice(), keys, per_source, longest);
+    line.end();
     match loaded {
         Ok(table) => say_saved(line, &table),
-        Err(LoadFault::NoMemory) => line.no_memory(),
-        Err(fault) => write!(line, "{fault}"),
+        Err(LoadFault::NoMemory) => line.lacks(),
+        Err(fault) => line.say_with("", fault),
     }
 }

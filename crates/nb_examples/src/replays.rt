@@ -3,7 +3,6 @@
 use crate::stations::member_of;
 use nb_datagram::Datagram;
 use nb_examples_packets::datagrams::datagram_of;
-use nb_examples_words::alone;
 use nb_examples_words::devices::Sink;
 use nb_examples_words::line::Line;
 use nb_member::{Member, ReplayFault, push_parts, replay, replay_within};
@@ -26,24 +25,35 @@ pub fn replayed(line: &mut Line<'_>, is_within: bool) {
         false => None,
     };
     let capture = line.bytes();
-    let capture = capture.as_slice();
-    let (Ok(mut first), Ok(mut second)) = (
-        Sink::with_room(line.alloc(), REPORT_ROOM),
-        Sink::with_room(line.alloc(), REPORT_ROOM),
-    ) else {
-        return line.no_memory();
-    };
+    if let Some(mut sink) = report_sink(line) {
+        replay_into(line, station, most, capture.as_slice(), &mut sink);
+    }
+}
+
+/// A writer that has room for a report.
+fn report_sink(line: &mut Line<'_>) -> Option<Sink> {
+    let sink = Sink::with_room(line.alloc(), REPORT_ROOM).ok();
+    if sink.is_none() {
+        line.no_memory();
+    }
+    sink
+}
+
+/// Replays a capture by a new member, and by another one where memory ran out.
+fn replay_into<'a>(
+    line: &mut Line<'a>,
+    station: &'a str,
+    most: Option<u64>,
+    capture: &[u8],
+    sink: &mut Sink,
+) {
     let mut member = member_of(line, station);
     line.begin();
-    let answer = replay_by(line.alloc(), most, capture, &mut first, &mut member);
+    let answer = replay_by(line.alloc(), most, capture, sink, &mut member);
     line.end();
-    if let Err(ReplayFault::NoMemory) = answer {
-        let mut member = member_of(line, station);
-        let answer = replay_by(line.alloc(), most, capture, &mut second, &mut member);
-        line.again(second.taken().starts_with(first.taken()));
-        say_replayed(line, answer, second.taken());
-    } else {
-        say_replayed(line, answer, first.taken());
+    match answer {
+        Err(ReplayFault::NoMemory) => replay_again(line, station, most, capture, sink.taken()),
+        answer => say_replayed(line, answer, sink.taken()),
     }
 }
 
@@ -63,11 +73,34 @@ fn replay_by(
     }
 }
 
+/// Replays a capture by a new member, and says what was answered, and whether what was written
+/// before is a front of the report.
+fn replay_again<'a>(
+    line: &mut Line<'a>,
+    station: &'a str,
+    most: Option<u64>,
+    capture: &[u8],
+    before: &[u8],
+) {
+    let mut member = member_of(line, station);
+    if let Some(mut sink) = report_sink(line) {
+        let answer = replay_by(line.alloc(), most, capture, &mut sink, &mut member);
+        line.again(sink.taken().starts_with(before));
+        say_replayed(line, answer, sink.taken());
+    }
+}
+
 /// Says what a replay answered, and what was written.
 fn say_replayed(line: &mut Line<'_>, answer: Result<u64, ReplayFault>, written: &[u8]) {
     match answer {
-        Ok(count) => write!(line, "{count} lines:"),
-        Err(fault) => write!(line, "{fault}:"),
+        Ok(count) => {
+            line.say_with("", count);
+            line.say(" lines:");
+        }
+        Err(fault) => {
+            line.say_with("", fault);
+            line.say(":");
+        }
     }
     if !written.is_empty() {
         line.say(" ");
@@ -77,12 +110,11 @@ fn say_replayed(line: &mut Line<'_>, answer: Result<u64, ReplayFault>, written: 
 
 /// `datagram DATAGRAM`: all parts of a datagram as a report has them, after `parts`.
 pub fn parts(line: &mut Line<'_>) {
-    let Some(datagram) = datagram_of(line) else {
-        return;
-    };
-    match alone!(line, Err(_), parts_text(line.alloc(), &datagram)) {
-        Ok(text) => line.say(text.as_str()),
-        Err(_) => line.no_memory(),
+    if let Some(datagram) = datagram_of(line) {
+        line.begin();
+        let text = parts_text(line.alloc(), &datagram);
+        line.end();
+        line.say_called(text.ok());
     }
 }
 

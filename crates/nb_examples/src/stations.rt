@@ -2,7 +2,7 @@
 //! `none`, how many keys it may hold, and of one address, as `8:2`, how many bytes a datagram may
 //! have, and its address and port, as `10.0.0.9:138`.
 
-use nb_examples_words::line::Line;
+use nb_examples_words::line::{Line, cut};
 use nb_member::{AddFault, LocalNames, Member, Settings};
 use nb_names::name_from_text;
 
@@ -21,11 +21,11 @@ pub fn settings_of<'a>(line: &mut Line<'a>, station: &'a str) -> Settings {
     let before = line.enter(station, "/");
     line.word();
     let (keys, per_source) = line.capacity();
-    let longest = line.number_16();
+    let longest = line.number();
     let word = line.word();
     let after = line.enter(word, ":");
     let ip = line.address();
-    let port = line.number_16();
+    let port = line.number();
     line.leave(after);
     line.leave(before);
     Settings {
@@ -39,7 +39,7 @@ pub fn settings_of<'a>(line: &mut Line<'a>, station: &'a str) -> Settings {
 
 /// The names of a station.
 pub fn names_of(line: &mut Line<'_>, station: &str) -> LocalNames {
-    let (listed, _) = station.split_once("/").unwrap_or((station, ""));
+    let (listed, _) = cut(station, "/");
     line.begin();
     let mut names = LocalNames::new(line.alloc());
     line.end();

@@ -26,7 +26,7 @@ pub fn lent<'a>(line: &mut Line<'_>, parts: &'a OwnedFragment) -> Option<Fragmen
 /// nothing.
 pub fn rest_table(line: &mut Line<'_>) -> Table {
     let (keys, per_source) = line.capacity();
-    let longest = line.number_16();
+    let longest = line.number();
     let mut table = Table::new(line.alloc(), keys, per_source, longest);
     for step in line.rest().split_whitespace() {
         let parts = step_of(line, step);
@@ -72,10 +72,10 @@ pub fn say_fault(line: &mut Line<'_>, fault: TableFault) {
     match fault {
         TableFault::NoMemory => line.no_memory(),
         TableFault::FullSource(key) | TableFault::Full(key) => {
-            write!(line, "{fault} ");
-            say_key(line, key);
+            line.say_with("", fault);
+            say_key(line, " ", key);
         }
-        _ => write!(line, "{fault}"),
+        _ => line.say_with("", fault),
     }
 }
 
@@ -92,11 +92,11 @@ pub fn say_saved(line: &mut Line<'_>, table: &Table) {
 pub fn reads(line: &mut Line<'_>, table: &Table) -> String {
     let before = line.aside();
     say_saved(line, table);
-    write!(line, " {}", table.len());
+    line.say_with(" ", table.len());
     for key in table.keys() {
-        line.say(" ");
-        say_key(line, key);
-        write!(line, " {:?} {:?}", table.state(&key), table.run_count(&key));
+        say_key(line, " ", key);
+        line.say_debug(" ", &table.state(&key));
+        line.say_debug(" ", &table.run_count(&key));
     }
     line.back_to(before)
 }

@@ -3,7 +3,7 @@
 use crate::fragments::{next_key, next_kind, say_fragment, say_key};
 use nb_datagram::{Datagram, Front, Packet, QueryKind, QueryPacket, decode, read_front};
 use nb_examples_words::line::Line;
-use nb_names::{Bytes, LentName, name_text};
+use nb_names::{Bytes, LentName};
 
 /// `decode BYTES`: the packet at the front, and how many bytes it takes up.
 ///
@@ -18,9 +18,9 @@ pub fn decoded(line: &mut Line<'_>) {
     match answer {
         Ok((packet, used)) => {
             say_packet(line, &packet);
-            write!(line, ", used {used}");
+            line.say_with(", used ", used);
         }
-        Err(fault) => write!(line, "{fault}"),
+        Err(fault) => line.say_with("", fault),
     }
 }
 
@@ -29,9 +29,9 @@ fn say_packet(line: &mut Line<'_>, packet: &Packet<'_>) {
     match packet {
         Packet::Direct(fragment) => say_fragment(line, fragment),
         Packet::Error(error) => {
-            write!(line, "error {:02x} ", error.flags);
-            say_key(line, error.key);
-            write!(line, " {:02x}", error.code);
+            line.say_hex_8("error ", error.flags);
+            say_key(line, " ", error.key);
+            line.say_hex_8(" ", error.code);
         }
         Packet::Query(query) => say_query(line, query),
     }
@@ -40,14 +40,13 @@ fn say_packet(line: &mut Line<'_>, packet: &Packet<'_>) {
 /// Says a query packet: `find FLAGS KEY DESTINATION`, `found ..` or `missing ..`.
 fn say_query(line: &mut Line<'_>, query: &QueryPacket) {
     let word = match query.kind {
-        QueryKind::Request => "find",
-        QueryKind::Positive => "found",
-        QueryKind::Negative => "missing",
+        QueryKind::Request => "find ",
+        QueryKind::Positive => "found ",
+        QueryKind::Negative => "missing ",
     };
-    write!(line, "{word} {:02x} ", query.flags);
-    say_key(line, query.key);
-    line.say(" ");
-    line.say_made(name_text(line.alloc(), &query.destination).ok());
+    line.say_hex_8(word, query.flags);
+    say_key(line, " ", query.key);
+    line.say_name(" ", &query.destination);
 }
 
 /// `front BYTES`: what stands at the front, whether or not a packet does: MSG_TYPE, FLAGS and the
@@ -66,10 +65,11 @@ pub fn front(line: &mut Line<'_>) {
 
 /// Says what stands.
 fn say_front(line: &mut Line<'_>, front: &Front<'_>) {
-    write!(line, "{:02x} {:02x} ", front.message_type, front.flags);
-    say_key(line, front.key);
+    line.say_hex_8("", front.message_type);
+    line.say_hex_8(" ", front.flags);
+    say_key(line, " ", front.key);
     if let Some(fragment) = &front.fragment {
-        write!(line, " {}", fragment.offset);
+        line.say_with(" ", fragment.offset);
         say_standing_name(line, &fragment.source);
         say_standing_name(line, &fragment.destination);
     }
@@ -78,8 +78,7 @@ fn say_front(line: &mut Line<'_>, front: &Front<'_>) {
 /// Says a name that stands whole.
 fn say_standing_name(line: &mut Line<'_>, name: &Option<LentName<'_>>) {
     if let Some(name) = name {
-        line.say(" ");
-        line.say_made(name_text(line.alloc(), &name.to_name()).ok());
+        line.say_name(" ", &name.to_name());
     }
 }
 

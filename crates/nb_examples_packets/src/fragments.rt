@@ -2,7 +2,7 @@
 
 use nb_datagram::{Datagram, Fragment, Key, Kind, TooLong};
 use nb_examples_words::line::Line;
-use nb_names::{Name, name_text};
+use nb_names::Name;
 
 /// The parts of a fragment, with data of their own.
 #[derive(Drop)]
@@ -23,7 +23,7 @@ impl OwnedFragment {
             kind: next_kind(line),
             flags: line.hex_8(),
             key: next_key(line),
-            offset: line.number_16(),
+            offset: line.number(),
             source: line.name(),
             destination: line.name(),
             bytes: line.bytes(),
@@ -70,17 +70,19 @@ pub fn kind_word(kind: Kind) -> &'static str {
     }
 }
 
-/// Says a key: `10.0.0.5:138/0001`.
-pub fn say_key(line: &mut Line<'_>, key: Key) {
-    let [a, b, c, d] = key.ip;
-    write!(line, "{a}.{b}.{c}.{d}:{}/{:04x}", key.port, key.id);
+/// Says a key after a text: `10.0.0.5:138/0001`.
+pub fn say_key(line: &mut Line<'_>, lead: &str, key: Key) {
+    line.say_address(lead, key.ip);
+    line.say_with(":", key.port);
+    line.say_hex_16("/", key.id);
 }
 
-/// Says the sender's name and the receiver's.
-pub fn say_names(line: &mut Line<'_>, source: &Name, target: &Name) {
-    line.say_made(name_text(line.alloc(), source).ok());
+/// Says the sender's name, the receiver's and the data.
+fn say_rest(line: &mut Line<'_>, source: &Name, target: &Name, bytes: &[u8]) {
+    line.say_name(" ", source);
+    line.say_name(" ", target);
     line.say(" ");
-    line.say_made(name_text(line.alloc(), target).ok());
+    line.say_bytes(bytes);
 }
 
 /// Says a fragment: `KIND FLAGS KEY OFFSET SOURCE DESTINATION BYTES`. Its parts are read between
@@ -95,12 +97,11 @@ pub fn say_fragment(line: &mut Line<'_>, fragment: &Fragment<'_>) {
     let destination = fragment.destination();
     let bytes = fragment.bytes();
     line.end();
-    write!(line, "{} {flags:02x} ", kind_word(kind));
-    say_key(line, key);
-    write!(line, " {offset} ");
-    say_names(line, source, destination);
-    line.say(" ");
-    line.say_bytes(bytes);
+    line.say(kind_word(kind));
+    line.say_hex_8(" ", flags);
+    say_key(line, " ", key);
+    line.say_with(" ", offset);
+    say_rest(line, source, destination, bytes);
 }
 
 /// Says a datagram: `KIND KEY SOURCE DESTINATION BYTES`. Its parts are read between marks.
@@ -112,12 +113,9 @@ pub fn say_datagram(line: &mut Line<'_>, datagram: &Datagram) {
     let destination = datagram.destination();
     let bytes = datagram.bytes();
     line.end();
-    write!(line, "{} ", kind_word(kind));
-    say_key(line, key);
-    line.say(" ");
-    say_names(line, source, destination);
-    line.say(" ");
-    line.say_bytes(bytes);
+    line.say(kind_word(kind));
+    say_key(line, " ", key);
+    say_rest(line, source, destination, bytes);
 }
 
 /// `parts FRAGMENT`: the parts of a fragment, whether it is the first one, whether more follow, and
@@ -129,7 +127,7 @@ pub fn parts(line: &mut Line<'_>) {
     line.end();
     match answer {
         Ok(fragment) => say_parts(line, &fragment),
-        Err(fault) => write!(line, "{fault}"),
+        Err(fault) => line.say_with("", fault),
     }
 }
 
@@ -141,5 +139,7 @@ fn say_parts(line: &mut Line<'_>, fragment: &Fragment<'_>) {
     let reach = fragment.reach();
     line.end();
     say_fragment(line, fragment);
-    write!(line, "; first {is_first}, more {has_more}, reach {reach}");
+    line.say_with("; first ", is_first);
+    line.say_with(", more ", has_more);
+    line.say_with(", reach ", reach);
 }

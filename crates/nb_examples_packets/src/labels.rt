@@ -1,8 +1,7 @@
 //! Domain names and scopes, made label by label.
 
-use nb_examples_words::alone;
 use nb_examples_words::line::Line;
-use nb_names::{DomainName, LabelFault, Name, Scope, domain_text, name_text};
+use nb_names::{DomainName, LabelFault, Name, Scope, domain_text};
 
 /// The domain name of all labels that are left.
 fn domain_of(line: &mut Line<'_>) -> DomainName {
@@ -33,18 +32,28 @@ pub fn scope_of(line: &mut Line<'_>) -> Scope {
 pub fn labels(line: &mut Line<'_>) {
     let domain = domain_of(line);
     line.begin();
-    let (count, is_empty, length) = (domain.len(), domain.is_empty(), domain.spelled_len());
+    let count = domain.len();
+    let is_empty = domain.is_empty();
+    let length = domain.spelled_len();
     line.end();
-    write!(line, "labels {count}, empty {is_empty}, bytes {length}:");
+    line.say_with("labels ", count);
+    line.say_with(", empty ", is_empty);
+    line.say_with(", bytes ", length);
+    line.say(":");
     for place in 0..=count {
-        line.begin();
-        let label = domain.label(place);
-        line.end();
-        line.say(" ");
-        match label {
-            Some(label) => line.say_bytes(label),
-            None => line.say("none"),
-        }
+        say_label(line, &domain, place);
+    }
+}
+
+/// Says the label at a place of a domain name.
+fn say_label(line: &mut Line<'_>, domain: &DomainName, place: usize) {
+    line.say(" ");
+    line.begin();
+    let label = domain.label(place);
+    line.end();
+    match label {
+        Some(label) => line.say_bytes(label),
+        None => line.say("none"),
     }
 }
 
@@ -82,9 +91,10 @@ fn say_pushed(line: &mut Line<'_>, answer: Result<(), LabelFault>, length: usize
         line.say(", ");
     }
     match answer {
-        Ok(()) => write!(line, "added {length}"),
-        Err(fault) => write!(line, "{fault} {length}"),
+        Ok(()) => line.say("added"),
+        Err(fault) => line.say_with("", fault),
     }
+    line.say_with(" ", length);
 }
 
 /// `from_domain LABEL ..`: the name that has these labels, or the place in their spelling at which
@@ -95,14 +105,16 @@ pub fn from_domain(line: &mut Line<'_>) {
     let name = Name::from_domain(&domain);
     line.end();
     match name {
-        Ok(name) => line.say_made(name_text(line.alloc(), &name).ok()),
-        Err(fault) => write!(line, "place {}", fault.place),
+        Ok(name) => line.say_name("", &name),
+        Err(fault) => line.say_with("place ", fault.place),
     }
 }
 
 /// `domain_text LABEL ..`: the text of the domain name of these labels.
 pub fn written(line: &mut Line<'_>) {
     let domain = domain_of(line);
-    let text = alone!(line, Err(_), domain_text(line.alloc(), &domain));
-    line.say_made(text.ok());
+    line.begin();
+    let text = domain_text(line.alloc(), &domain);
+    line.end();
+    line.say_called(text.ok());
 }

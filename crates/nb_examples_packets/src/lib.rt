@@ -2,6 +2,7 @@
 #![tactic(auto)]
 
 pub mod counting_sink;
+mod data;
 pub mod datagrams;
 pub mod fragments;
 mod labels;
@@ -16,43 +17,84 @@ mod streams;
 use nb_examples_words::fault::ExampleFault;
 use nb_examples_words::line::Line;
 
-/// Says what a call answers, which is named as its crate without `nb_`, a point, and the call.
-pub fn answer(line: &mut Line<'_>, call: &str) {
-    match call {
-        "names.read_domain" => names::domain_read(line),
-        "names.read_name" => names::name_read(line),
-        "names.from_text" => names::of_text(line),
-        "names.from_bytes" => names::of_bytes(line),
-        "names.name_text" => names::written(line),
-        "names.order" => names::ordered(line),
-        "names.read_input" => names::input(line),
-        "names.labels" => labels::labels(line),
-        "names.push" => labels::pushed(line),
-        "names.push_scope" => labels::pushed_to_scope(line),
-        "names.from_domain" => labels::from_domain(line),
-        "names.domain_text" => labels::written(line),
-        _ => answer_of_packets(line, call),
+/// Says what a call answers, which is named as its crate without `nb_`, and by its own name.
+pub fn answer(line: &mut Line<'_>, of: &str, call: &str) {
+    match of {
+        "names" => answer_of_names(line, call),
+        "service" => answer_of_service(line, call),
+        "session" => answer_of_session(line, call),
+        "datagram" => answer_of_datagram(line, call),
+        "text" => answer_of_text(line, call),
+        _ => line.note(ExampleFault::NoSuchCall),
     }
 }
 
-/// Says what a call answers that is about packets.
-fn answer_of_packets(line: &mut Line<'_>, call: &str) {
+/// Says what a call of nb_names answers.
+fn answer_of_names(line: &mut Line<'_>, call: &str) {
     match call {
-        "service.decode" => service::decoded(line),
-        "service.items" => service_items::items(line),
-        "service.push" => service::pushed(line),
-        "service.word" => service::word(line),
-        "service.status" => service::status(line),
-        "session.header" => sessions::header(line),
-        "session.parse" => sessions::parsed(line),
-        "session.read" => sessions::read(line),
-        "session.stream" => streams::streamed(line, true),
-        "session.pieces" => streams::streamed(line, false),
-        "datagram.decode" => datagrams::decoded(line),
-        "datagram.front" => datagrams::front(line),
-        "datagram.parts" => fragments::parts(line),
-        "text.object" => shown::object(line),
-        "text.count" => shown::count(line),
+        "read_domain" => names::domain_read(line),
+        "read_name" => names::name_read(line),
+        "from_text" => names::of_text(line),
+        "from_bytes" => names::of_bytes(line),
+        "name_text" => names::written(line),
+        "order" => names::ordered(line),
+        "read_input" => names::input(line),
+        _ => answer_of_labels(line, call),
+    }
+}
+
+/// Says what a call of nb_names answers that takes labels, or data.
+fn answer_of_labels(line: &mut Line<'_>, call: &str) {
+    match call {
+        "labels" => labels::labels(line),
+        "push" => labels::pushed(line),
+        "push_scope" => labels::pushed_to_scope(line),
+        "from_domain" => labels::from_domain(line),
+        "domain_text" => labels::written(line),
+        "data_in" => data::read(line),
+        _ => line.note(ExampleFault::NoSuchCall),
+    }
+}
+
+/// Says what a call of nb_service answers.
+fn answer_of_service(line: &mut Line<'_>, call: &str) {
+    match call {
+        "decode" => service::decoded(line),
+        "items" => service_items::items(line),
+        "push" => service::pushed(line),
+        "word" => service::word(line),
+        "status" => service::status(line),
+        _ => line.note(ExampleFault::NoSuchCall),
+    }
+}
+
+/// Says what a call of nb_session answers.
+fn answer_of_session(line: &mut Line<'_>, call: &str) {
+    match call {
+        "header" => sessions::header(line),
+        "parse" => sessions::parsed(line),
+        "read" => sessions::read(line),
+        "stream" => streams::streamed(line, true),
+        "pieces" => streams::streamed(line, false),
+        _ => line.note(ExampleFault::NoSuchCall),
+    }
+}
+
+/// Says what a call of nb_datagram answers.
+fn answer_of_datagram(line: &mut Line<'_>, call: &str) {
+    match call {
+        "decode" => datagrams::decoded(line),
+        "front" => datagrams::front(line),
+        "parts" => fragments::parts(line),
+        _ => line.note(ExampleFault::NoSuchCall),
+    }
+}
+
+/// Says what a call of nb_text answers.
+fn answer_of_text(line: &mut Line<'_>, call: &str) {
+    match call {
+        "object" => shown::object(line),
+        "count" => shown::count(line),
         _ => line.note(ExampleFault::NoSuchCall),
     }
 }

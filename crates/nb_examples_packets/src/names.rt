@@ -1,9 +1,8 @@
 //! Names: as packets have them, and as text; and an input.
 
 use crate::labels::scope_of;
-use nb_examples_words::alone;
 use nb_examples_words::line::Line;
-use nb_names::input::read_input;
+use nb_names::input::{Input, read_input};
 use nb_names::{Counted, Name, Pointers, name_from_text, name_text, read_domain, read_name};
 
 /// The next word, as what is done at pointers: `followed` or `refused`.
@@ -20,7 +19,7 @@ fn pointers(line: &mut Line<'_>) -> Pointers {
 /// after the name.
 pub fn domain_read(line: &mut Line<'_>) {
     let pointers = pointers(line);
-    let at = line.size();
+    let at = line.number();
     let packet = line.bytes();
     line.begin();
     let read = read_domain(packet.as_slice(), at, pointers);
@@ -28,26 +27,26 @@ pub fn domain_read(line: &mut Line<'_>) {
     match read {
         Ok((name, next)) => {
             line.say_bytes(name.spelling());
-            write!(line, ", next {next}");
+            line.say_with(", next ", next);
         }
-        Err(fault) => write!(line, "{fault}"),
+        Err(fault) => line.say_with("", fault),
     }
 }
 
 /// `read_name POINTERS AT BYTES`: the NetBIOS name at an offset, and the offset after the name.
 pub fn name_read(line: &mut Line<'_>) {
     let pointers = pointers(line);
-    let at = line.size();
+    let at = line.number();
     let packet = line.bytes();
     line.begin();
     let read = read_name(packet.as_slice(), at, pointers);
     line.end();
     match read {
         Ok((name, next)) => {
-            line.say_made(name_text(line.alloc(), &name).ok());
-            write!(line, ", next {next}");
+            line.say_name("", &name);
+            line.say_with(", next ", next);
         }
-        Err(fault) => write!(line, "{fault}"),
+        Err(fault) => line.say_with("", fault),
     }
 }
 
@@ -78,36 +77,56 @@ fn say_name_of(line: &mut Line<'_>, text: &str) {
             line.say(" ");
             line.say_bytes(name.scope().as_domain().spelling());
         }
-        Err(fault) => write!(line, "{fault}"),
+        Err(fault) => line.say_with("", fault),
     }
 }
 
 /// `name_text BYTES LABEL ..`: the text of a name of sixteen bytes, in the scope of these labels.
 pub fn written(line: &mut Line<'_>) {
-    let bytes = line.bytes();
-    let mut name = [0; 16];
-    if bytes.len() != name.len() {
-        return line.bad_words();
+    let bytes = sixteen_bytes(line);
+    let name = Name::new(bytes, scope_of(line));
+    line.begin();
+    let text = name_text(line.alloc(), &name);
+    line.end();
+    line.say_called(text.ok());
+}
+
+/// The next word, as the sixteen bytes of a name.
+fn sixteen_bytes(line: &mut Line<'_>) -> [u8; 16] {
+    let word = line.bytes();
+    let mut bytes = [0; 16];
+    match word.len() == bytes.len() {
+        true => bytes.copy_from_slice(word.as_slice()),
+        false => line.bad_words(),
     }
-    name.copy_from_slice(bytes.as_slice());
-    let name = Name::new(name, scope_of(line));
-    let text = alone!(line, Err(_), name_text(line.alloc(), &name));
-    line.say_made(text.ok());
+    bytes
 }
 
 /// `order TYPE WORD WORD`: how two names, scopes or domain names are ordered, and whether they are
 /// equal. A name, and the scope of a name, is a word of its text; a domain name is its spelling.
 pub fn ordered(line: &mut Line<'_>) {
-    let of = line.word();
-    if of == "domain" {
-        let (first, second) = (line.domain(), line.domain());
-        return say_order(line, &first, &second);
-    }
-    let (first, second) = (line.name(), line.name());
-    match of {
-        "name" => say_order(line, &first, &second),
-        "scope" => say_order(line, first.scope(), second.scope()),
+    match line.word() {
+        "domain" => order_domains(line),
+        "name" => order_names(line, false),
+        "scope" => order_names(line, true),
         _ => line.bad_words(),
+    }
+}
+
+/// Says how two domain names are ordered.
+fn order_domains(line: &mut Line<'_>) {
+    let first = line.domain();
+    let second = line.domain();
+    say_order(line, &first, &second);
+}
+
+/// Says how two names are ordered, or their scopes.
+fn order_names(line: &mut Line<'_>, is_of_scopes: bool) {
+    let first = line.name();
+    let second = line.name();
+    match is_of_scopes {
+        true => say_order(line, first.scope(), second.scope()),
+        false => say_order(line, &first, &second),
     }
 }
 
@@ -118,16 +137,24 @@ fn say_order<T: Ord>(line: &mut Line<'_>, first: &T, second: &T) {
     let is_below = first < second;
     let is_equal = first == second;
     line.end();
-    write!(line, "{order:?}, below {is_below}, equal {is_equal}");
+    line.say_debug("", &order);
+    line.say_with(", below ", is_below);
+    line.say_with(", equal ", is_equal);
 }
 
 /// `read_input BYTES`: what is read of an input, whether that is all of it, and how many bytes are
 /// looked at.
 pub fn input(line: &mut Line<'_>) {
     let bytes = line.bytes();
-    let Ok(input) = read_input(line.alloc(), &mut Counted::new(bytes.as_slice())) else {
-        return line.no_memory();
-    };
+    match read_input(line.alloc(), &mut Counted::new(bytes.as_slice())) {
+        Ok(input) => say_input(line, &input),
+        Err(_) => line.no_memory(),
+    }
+}
+
+/// Says what was read of an input.
+fn say_input(line: &mut Line<'_>, input: &Input) {
     line.say_bytes(input.bytes.as_slice());
-    write!(line, " {} {}", input.is_whole, input.front().len());
+    line.say_with(" ", input.is_whole);
+    line.say_with(" ", input.front().len());
 }

@@ -1,9 +1,9 @@
 //! Packets of port 137: read, and made of the items of others.
 
 use crate::service_texts::say_packet;
+use nb_examples_words::asked;
 use nb_examples_words::line::Line;
-use nb_examples_words::{alone, asked};
-use nb_names::{Bytes, DomainName, Name, Scope, name_text};
+use nb_names::{Bytes, DomainName, Name, Scope};
 use nb_service::{
     NodeStatus, Packet, PushFault, Question, Rdata, Record, Section, ServiceFault, decode, encode,
     ont,
@@ -13,18 +13,16 @@ use nb_service::{
 /// up. Of a list with more than four items only their number is said.
 pub fn decoded(line: &mut Line<'_>) {
     let bytes = line.bytes();
-    let answer = alone!(
-        line,
-        Err(ServiceFault::NoMemory),
-        decode(line.alloc(), bytes.as_slice())
-    );
+    line.begin();
+    let answer = decode(line.alloc(), bytes.as_slice());
+    line.end();
     match answer {
         Ok((packet, used)) => {
             say_packet(line, &packet);
-            write!(line, "used {used}");
+            line.say_with("used ", used);
         }
-        Err(ServiceFault::NoMemory) => line.no_memory(),
-        Err(fault) => write!(line, "{fault}"),
+        Err(ServiceFault::NoMemory) => line.lacks(),
+        Err(fault) => line.say_with("", fault),
     }
 }
 
@@ -53,19 +51,49 @@ fn encoded(line: &mut Line<'_>, packet: &Packet<'_>) -> Bytes {
 /// were added to it, one after another; or the faults of those that aren't, and how many questions,
 /// answers, authorities and additional records there are then.
 pub fn pushed(line: &mut Line<'_>) {
-    let (first, second) = (line.bytes(), line.bytes());
-    let mut packet = front(line, first.as_slice());
-    let added = front(line, second.as_slice());
-    let questions = push_questions(line, &mut packet, &added);
-    let answers = push_records(line, &mut packet, &added, Section::Answer);
-    let authorities = push_records(line, &mut packet, &added, Section::Authority);
-    let additional = push_records(line, &mut packet, &added, Section::Additional);
-    if !(questions && answers && authorities && additional) {
-        return say_counts(line, &packet);
+    let first = line.bytes();
+    let second = line.bytes();
+    say_pushed(line, first.as_slice(), second.as_slice());
+}
+
+/// Says the packet at the front of some bytes, with the items of a second one.
+fn say_pushed<'a>(line: &mut Line<'_>, first: &'a [u8], second: &'a [u8]) {
+    let mut packet = front(line, first);
+    match push_front(line, &mut packet, second) {
+        true => say_encoded(line, &packet),
+        false => say_counts(line, &packet),
     }
-    match alone!(line, Err(_), encode(line.alloc(), &packet)) {
+}
+
+/// Adds the items of the packet at the front of some bytes: whether all were added.
+fn push_front<'a>(line: &mut Line<'_>, packet: &mut Packet<'a>, bytes: &'a [u8]) -> bool {
+    let added = front(line, bytes);
+    push_all(line, packet, &added)
+}
+
+/// Adds the questions and the records of a packet to another: whether all were added.
+fn push_all<'a>(line: &mut Line<'_>, packet: &mut Packet<'a>, added: &Packet<'a>) -> bool {
+    let mut is_whole = push_questions(line, packet, added);
+    for section in [Section::Answer, Section::Authority, Section::Additional] {
+        if !push_records(line, packet, added, section) {
+            is_whole = false;
+        }
+    }
+    is_whole
+}
+
+/// Says a packet's bytes, made between marks; once more where memory ran out.
+fn say_encoded(line: &mut Line<'_>, packet: &Packet<'_>) {
+    line.begin();
+    let answer = encode(line.alloc(), packet);
+    line.end();
+    match answer {
         Ok(bytes) => line.say_bytes(bytes.as_slice()),
-        Err(_) => line.no_memory(),
+        Err(_) => {
+            line.say("memory, ");
+            let bytes = encoded(line, packet);
+            line.say_bytes(bytes.as_slice());
+        }
     }
 }
 
@@ -82,17 +110,22 @@ fn records_of<'a, 'b>(packet: &'b Packet<'a>, section: Section) -> &'b [Record<'
 fn push_questions(line: &mut Line<'_>, packet: &mut Packet<'_>, added: &Packet<'_>) -> bool {
     let mut is_whole = true;
     for question in added.questions().as_slice() {
-        let answer = asked!(
-            line,
-            Err(PushFault::NoMemory),
-            packet.push_question(copy_of_question(question)),
-            encoded(line, packet)
-        );
-        if !is_pushed(line, answer) {
+        if !push_question(line, packet, question) {
             is_whole = false;
         }
     }
     is_whole
+}
+
+/// Adds a question to a packet: whether it was added.
+fn push_question(line: &mut Line<'_>, packet: &mut Packet<'_>, question: &Question) -> bool {
+    asked!(
+        line,
+        Err(PushFault::NoMemory),
+        packet.push_question(copy_of_question(question)),
+        encoded(line, packet),
+        is_pushed
+    )
 }
 
 /// Whether an item was added; where it wasn't, the fault is said.
@@ -100,7 +133,10 @@ fn is_pushed(line: &mut Line<'_>, answer: Result<(), PushFault>) -> bool {
     match answer {
         Ok(()) => return true,
         Err(PushFault::NoMemory) => line.no_memory(),
-        Err(fault) => write!(line, "{fault}; "),
+        Err(fault) => {
+            line.say_with("", fault);
+            line.say("; ");
+        }
     }
     false
 }
@@ -123,23 +159,35 @@ fn push_records<'a>(
 ) -> bool {
     let mut is_whole = true;
     for record in records_of(added, section) {
-        let answer = asked!(
-            line,
-            Err(PushFault::NoMemory),
-            packet.push(section, copy_of_record(record)),
-            encoded(line, packet)
-        );
-        if !is_pushed(line, answer) {
+        if !push_record(line, packet, record, section) {
             is_whole = false;
         }
     }
     is_whole
 }
 
+/// Adds a record to a section of a packet: whether it was added.
+fn push_record<'a>(
+    line: &mut Line<'_>,
+    packet: &mut Packet<'a>,
+    record: &Record<'a>,
+    section: Section,
+) -> bool {
+    asked!(
+        line,
+        Err(PushFault::NoMemory),
+        packet.push(section, copy_of_record(record)),
+        encoded(line, packet),
+        is_pushed
+    )
+}
+
 /// The same record; the name of a record of bytes that can't be so is the root, which shows.
 fn copy_of_record<'a>(record: &Record<'a>) -> Record<'a> {
     let name = record.name().copied();
-    let (kind, class, ttl) = (record.kind(), record.class(), record.ttl());
+    let kind = record.kind();
+    let class = record.class();
+    let ttl = record.ttl();
     match record.rdata() {
         Rdata::Domain(target) => Record::ns(name, class, ttl, target.copied()),
         Rdata::Bytes(bytes) => match Record::bytes(name, kind, class, ttl, bytes) {
@@ -157,7 +205,10 @@ fn say_counts(line: &mut Line<'_>, packet: &Packet<'_>) {
     let authorities = packet.authorities().as_slice().len();
     let additional = packet.additional().as_slice().len();
     line.end();
-    write!(line, "{questions} {answers} {authorities} {additional}");
+    line.say_with("", questions);
+    line.say_with(" ", answers);
+    line.say_with(" ", authorities);
+    line.say_with(" ", additional);
 }
 
 /// `word WORD`: the opcode, the result code and the flags of a packet's flag word.
@@ -165,9 +216,20 @@ pub fn word(line: &mut Line<'_>) {
     let word = line.hex_16();
     line.begin();
     let packet = Packet::new(line.alloc(), 0, word);
-    let (opcode, rcode, flags) = (packet.opcode(), packet.rcode(), packet.nm_flags());
     line.end();
-    write!(line, "opcode {opcode} rcode {rcode} {flags:?}");
+    say_word(line, &packet);
+}
+
+/// Says what stands in the flag word of a packet.
+fn say_word(line: &mut Line<'_>, packet: &Packet<'_>) {
+    line.begin();
+    let opcode = packet.opcode();
+    let rcode = packet.rcode();
+    let flags = packet.nm_flags();
+    line.end();
+    line.say_with("opcode ", opcode);
+    line.say_with(" rcode ", rcode);
+    line.say_debug(" ", &flags);
 }
 
 /// `status BYTES`: the node status of a packet's first answer: how many names it has, each with its
@@ -175,9 +237,19 @@ pub fn word(line: &mut Line<'_>) {
 pub fn status(line: &mut Line<'_>) {
     let bytes = line.bytes();
     let packet = front(line, bytes.as_slice());
-    let Some(record) = packet.answers().as_slice().first() else {
-        return line.bad_words();
-    };
+    say_first_status(line, packet.answers().as_slice());
+}
+
+/// Says the node status of the first of some records.
+fn say_first_status(line: &mut Line<'_>, records: &[Record<'_>]) {
+    match records.first() {
+        Some(record) => say_record_status(line, record),
+        None => line.bad_words(),
+    }
+}
+
+/// Says the node status that a record has, or `none`.
+fn say_record_status(line: &mut Line<'_>, record: &Record<'_>) {
     line.begin();
     let status = record.node_status();
     line.end();
@@ -190,15 +262,17 @@ pub fn status(line: &mut Line<'_>) {
 /// Says a node's status.
 fn say_status(line: &mut Line<'_>, status: &NodeStatus<'_>) {
     line.begin();
-    let (count, statistics, unit) = (status.len(), status.statistics(), status.unit_id());
+    let count = status.len();
+    let statistics = status.statistics();
+    let unit = status.unit_id();
     line.end();
-    write!(line, "names {count}");
+    line.say_with("names ", count);
     for place in 0..=count {
         say_node_name(line, status, place);
     }
     line.say("; statistics ");
     line.say_bytes(statistics);
-    write!(line, "; unit {unit:?}");
+    line.say_debug("; unit ", &unit);
 }
 
 /// Says the name at a place of a node's status, and its flags.
@@ -207,9 +281,11 @@ fn say_node_name(line: &mut Line<'_>, status: &NodeStatus<'_>, place: usize) {
         return line.say("; none");
     };
     line.begin();
-    let (owner, flags) = (ont(name.flags), name.node_flags());
+    let owner = ont(name.flags);
+    let flags = name.node_flags();
     line.end();
-    line.say("; ");
-    line.say_made(name_text(line.alloc(), &Name::new(name.bytes, Scope::empty())).ok());
-    write!(line, " {:04x} ont {owner} {flags:?}", name.flags);
+    line.say_name("; ", &Name::new(name.bytes, Scope::empty()));
+    line.say_hex_16(" ", name.flags);
+    line.say_with(" ont ", owner);
+    line.say_debug(" ", &flags);
 }

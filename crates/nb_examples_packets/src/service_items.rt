@@ -16,13 +16,15 @@ pub fn items(line: &mut Line<'_>) {
     line.end();
     match answer {
         Ok(header) => say_items(line, bytes.as_slice(), &header),
-        Err(fault) => write!(line, "{fault}"),
+        Err(fault) => line.say_with("", fault),
     }
 }
 
 /// Says the items of a packet of this header.
 fn say_items(line: &mut Line<'_>, bytes: &[u8], header: &Header) {
-    write!(line, "{:04x} {:04x}; ", header.id, header.word);
+    line.say_hex_16("", header.id);
+    line.say_hex_16(" ", header.word);
+    line.say("; ");
     let names = NameReader::of(bytes, &mut []);
     let mut at = HEADER_LENGTH;
     for number in 0..=4 * MAX_ENTRIES {
@@ -47,7 +49,7 @@ fn next_item(
     match answer {
         Ok(Some((item, extent))) => return Some(say_item(line, &item, extent)),
         Ok(None) => line.say("no further one"),
-        Err(fault) => write!(line, "{fault}"),
+        Err(fault) => line.say_with("", fault),
     }
     None
 }
@@ -61,7 +63,9 @@ fn say_item(line: &mut Line<'_>, item: &Item<'_>, extent: Extent) -> usize {
             say_record(line, record);
         }
     }
-    write!(line, "{} {}; ", extent.rdata, extent.next);
+    line.say_with("", extent.rdata);
+    line.say_with(" ", extent.next);
+    line.say("; ");
     extent.next
 }
 

@@ -9,7 +9,9 @@ const MOST_ITEMS: usize = 4;
 
 /// Says all parts of a packet.
 pub fn say_packet(line: &mut Line<'_>, packet: &Packet<'_>) {
-    write!(line, "{:04x} {:04x}; ", packet.id(), packet.word());
+    line.say_hex_16("", packet.id());
+    line.say_hex_16(" ", packet.word());
+    line.say("; ");
     say_questions(line, packet.questions().as_slice());
     say_records(line, "answer", packet.answers().as_slice());
     say_records(line, "authority", packet.authorities().as_slice());
@@ -28,7 +30,8 @@ fn say_name(line: &mut Line<'_>, domain: &DomainName) {
 /// Says questions.
 fn say_questions(line: &mut Line<'_>, questions: &[Question]) {
     if questions.len() > MOST_ITEMS {
-        return write!(line, "{} questions; ", questions.len());
+        line.say_with("", questions.len());
+        return line.say(" questions; ");
     }
     for question in questions {
         say_question(line, question);
@@ -39,16 +42,21 @@ fn say_questions(line: &mut Line<'_>, questions: &[Question]) {
 pub fn say_question(line: &mut Line<'_>, question: &Question) {
     line.say("question ");
     say_name(line, &question.name);
-    write!(line, " {:04x} {:04x}; ", question.kind, question.class);
+    line.say_hex_16(" ", question.kind);
+    line.say_hex_16(" ", question.class);
+    line.say("; ");
 }
 
 /// Says the records of a section.
 fn say_records(line: &mut Line<'_>, section: &str, records: &[Record<'_>]) {
     if records.len() > MOST_ITEMS {
-        return write!(line, "{} of {section}; ", records.len());
+        line.say_with("", records.len());
+        line.say_with(" of ", section);
+        return line.say("; ");
     }
     for record in records {
-        write!(line, "{section} ");
+        line.say(section);
+        line.say(" ");
         say_record(line, record);
     }
 }
@@ -56,18 +64,23 @@ fn say_records(line: &mut Line<'_>, section: &str, records: &[Record<'_>]) {
 /// Says a record: name, kind, class, time to live, and RDATA of bytes or of a name.
 pub fn say_record(line: &mut Line<'_>, record: &Record<'_>) {
     line.begin();
-    let (name, kind, class, ttl) = (record.name(), record.kind(), record.class(), record.ttl());
+    let name = record.name();
+    let kind = record.kind();
+    let class = record.class();
+    let ttl = record.ttl();
     let rdata = record.rdata();
     line.end();
     say_name(line, name);
-    write!(line, " {kind:04x} {class:04x} {ttl} ");
+    line.say_hex_16(" ", kind);
+    line.say_hex_16(" ", class);
+    line.say_with(" ", ttl);
     match rdata {
         Rdata::Bytes(bytes) => {
-            line.say("bytes ");
+            line.say(" bytes ");
             line.say_bytes(bytes);
         }
         Rdata::Domain(domain) => {
-            line.say("name ");
+            line.say(" name ");
             say_name(line, domain);
         }
     }

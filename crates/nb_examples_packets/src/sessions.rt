@@ -2,7 +2,7 @@
 
 use nb_examples_words::devices::{Source, WILLING};
 use nb_examples_words::line::Line;
-use nb_names::{Counted, name_text};
+use nb_names::Counted;
 use nb_session::{Packet, Parsed, ReadFault, Room, front_header, parse, read_packet};
 
 /// Says a packet.
@@ -13,16 +13,14 @@ pub fn say_packet(line: &mut Line<'_>, packet: &Packet<'_>) {
             line.say_bytes(data.bytes());
         }
         Packet::Request { called, calling } => {
-            line.say("request ");
-            line.say_made(name_text(line.alloc(), &called.to_name()).ok());
-            line.say(" ");
-            line.say_made(name_text(line.alloc(), &calling.to_name()).ok());
+            line.say_name("request ", &called.to_name());
+            line.say_name(" ", &calling.to_name());
         }
         Packet::Positive => line.say("positive"),
-        Packet::Negative(code) => write!(line, "negative {code:02x}"),
+        Packet::Negative(code) => line.say_hex_8("negative ", *code),
         Packet::Retarget { address, port } => {
-            let [a, b, c, d] = *address;
-            write!(line, "retarget {a}.{b}.{c}.{d} {port}");
+            line.say_address("retarget ", *address);
+            line.say_with(" ", *port);
         }
         Packet::Keepalive => line.say("keepalive"),
     }
@@ -37,10 +35,10 @@ pub fn parsed(line: &mut Line<'_>) {
     match answer {
         Parsed::Whole(packet, used) => {
             say_packet(line, &packet);
-            write!(line, ", used {used}");
+            line.say_with(", used ", used);
         }
-        Parsed::More(needed) => write!(line, "more {needed}"),
-        Parsed::Refused(fault) => write!(line, "{fault}"),
+        Parsed::More(needed) => line.say_with("more ", needed),
+        Parsed::Refused(fault) => line.say_with("", fault),
     }
 }
 
@@ -54,8 +52,10 @@ pub fn header(line: &mut Line<'_>) {
     let Some(header) = answer else {
         return line.say("none");
     };
-    write!(line, "{:02x} {:02x} ", header.packet_type, header.flags);
-    write!(line, "{} {}", header.length, header.body_length());
+    line.say_hex_8("", header.packet_type);
+    line.say_hex_8(" ", header.flags);
+    line.say_with(" ", header.length);
+    line.say_with(" ", header.body_length());
 }
 
 /// `read MOST INTERRUPTS FAILING BYTES`: the packets that are read from a device, up to its end or
@@ -65,14 +65,19 @@ pub fn read(line: &mut Line<'_>) {
     let bytes = line.bytes();
     let mut source = Source::new(bytes.as_slice(), conduct);
     let mut room = Room::new(line.alloc());
-    for _ in 0..=bytes.len() {
-        if !is_packet(line, &mut source, &mut room) {
-            break;
-        }
-    }
-    write!(line, "left {}", source.left().len());
+    read_each(line, &mut source, &mut room);
+    line.say_with("left ", source.left().len());
     if !reads_a_keepalive(&mut room) {
         line.say(", the room is spent");
+    }
+}
+
+/// Reads packets from a device, up to its end or the first fault.
+fn read_each(line: &mut Line<'_>, source: &mut Source<'_>, room: &mut Room) {
+    for _ in 0..=source.left().len() {
+        if !is_packet(line, source, room) {
+            return;
+        }
     }
 }
 
@@ -91,13 +96,21 @@ fn is_packet(line: &mut Line<'_>, source: &mut Source<'_>, room: &mut Room) -> b
     line.begin();
     let answer = read_packet(&mut Counted::new(&mut *source), room);
     line.end();
-    if !matches!(answer, Err(ReadFault::NoMemory)) {
-        return say_read(line, answer);
+    match answer {
+        Err(ReadFault::NoMemory) => {
+            say_taken(line, before, source);
+            *source = Source::new(before, WILLING);
+            say_read(line, read_packet(&mut Counted::new(source), room))
+        }
+        answer => say_read(line, answer),
     }
+}
+
+/// Says how many bytes were taken from a device before memory ran out.
+fn say_taken(line: &mut Line<'_>, before: &[u8], source: &Source<'_>) {
     let taken = before.len().saturating_sub(source.left().len());
-    write!(line, "memory, {taken} bytes taken, ");
-    *source = Source::new(before, WILLING);
-    say_read(line, read_packet(&mut Counted::new(source), room))
+    line.say_with("memory, ", taken);
+    line.say(" bytes taken, ");
 }
 
 /// Says what was read: whether it is a packet.
@@ -109,7 +122,10 @@ fn say_read(line: &mut Line<'_>, answer: Result<Option<Packet<'_>>, ReadFault>) 
             return true;
         }
         Ok(None) => line.say("end; "),
-        Err(fault) => write!(line, "{fault}; "),
+        Err(fault) => {
+            line.say_with("", fault);
+            line.say("; ");
+        }
     }
     false
 }

@@ -1,35 +1,34 @@
 //! Payloads of any port, as JSON objects and told to a sink.
 
 use crate::counting_sink::CountingSink;
-use nb_examples_words::alone;
 use nb_examples_words::line::Line;
 use nb_telling::JsonRoom;
 use nb_text::{packet_object, tell_packet};
 
 /// `object PORT BYTES`: the JSON object of a payload that came to the port.
 pub fn object(line: &mut Line<'_>) {
-    let port = line.number_16();
+    let port = line.number();
     let payload = line.bytes();
-    match alone!(
-        line,
-        Err(_),
-        packet_object(port, payload.as_slice(), JsonRoom::new(line.alloc()))
-    ) {
+    line.begin();
+    let room = JsonRoom::new(line.alloc());
+    let answer = packet_object(port, payload.as_slice(), room);
+    line.end();
+    match answer {
         Ok(room) => line.say_lines(room.as_slice()),
-        Err(_) => line.no_memory(),
+        Err(_) => line.lacks(),
     }
 }
 
 /// `count PORT BYTES`: how many fields are reported of a payload that came to the port.
 pub fn count(line: &mut Line<'_>) {
-    let port = line.number_16();
+    let port = line.number();
     let payload = line.bytes();
     let mut sink = CountingSink::new();
     line.begin();
     let told = tell_packet(port, payload.as_slice(), &mut sink);
     line.end();
     match told {
-        Ok(()) => write!(line, "{}", sink.count),
+        Ok(()) => line.say_with("", sink.count),
         Err(_) => line.no_memory(),
     }
 }

@@ -16,11 +16,7 @@ pub fn streamed(line: &mut Line<'_>, has_all: bool) {
             true => say_fed(line, stream.feed(piece.as_slice())),
             false => feed(line, &mut stream, piece.as_slice()),
         }
-        for _ in 0..=piece.len() {
-            if !is_packet(line, &mut stream, has_all) {
-                break;
-            }
-        }
+        say_packets(line, &mut stream, piece.len(), has_all);
         if has_all {
             say_end(line, &mut stream);
         }
@@ -30,22 +26,32 @@ pub fn streamed(line: &mut Line<'_>, has_all: bool) {
     }
 }
 
+/// Says the packets that a stream has after a piece of so many bytes.
+fn say_packets(line: &mut Line<'_>, stream: &mut Stream, count: usize, has_all: bool) {
+    for _ in 0..=count {
+        if !is_packet(line, stream, has_all) {
+            return;
+        }
+    }
+}
+
 /// Feeds a piece to a stream that has no whole packet, between marks, and once more where memory
 /// ran out: what comes next in the stream has to be the same then.
 fn feed(line: &mut Line<'_>, stream: &mut Stream, piece: &[u8]) {
-    let answer = asked!(
+    asked!(
         line,
         Err(FeedFault::NoMemory),
         stream.feed(piece),
-        lacks(stream)
+        lacks(stream),
+        say_fed
     );
-    say_fed(line, answer);
 }
 
 /// Says why a piece wasn't taken, where it wasn't.
 fn say_fed(line: &mut Line<'_>, answer: Result<(), FeedFault>) {
     if let Err(fault) = answer {
-        write!(line, "fed {fault}; ");
+        line.say_with("fed ", fault);
+        line.say("; ");
     }
 }
 
@@ -74,7 +80,8 @@ fn is_packet(line: &mut Line<'_>, stream: &mut Stream, has_all: bool) -> bool {
 /// Says what a stream needs, or its fault.
 fn say_end(line: &mut Line<'_>, stream: &mut Stream) {
     match lacks(stream) {
-        Ok(needed) => write!(line, "more {needed}; "),
-        Err(fault) => write!(line, "failed {fault}; "),
+        Ok(needed) => line.say_with("more ", needed),
+        Err(fault) => line.say_with("failed ", fault),
     }
+    line.say("; ");
 }

@@ -1,82 +1,95 @@
 //! Bytes as words. A word is parts joined by `+`. A part is hexadecimal digits or `empty`, and may
 //! have `*` and a number after it: it stands so often.
 
-use crate::fault::ExampleFault;
+use crate::line::{Line, cut};
 use hex::FromHexError;
-use std::alloc::{AllocError, Global};
+use std::alloc::AllocError;
 
 /// From how many equal bytes on they are written as one of them with their number.
 const LONG_RUN: usize = 16;
 
-/// The bytes that a word stands for.
-///
-/// # Errors
-///
-/// [`ExampleFault::BadWords`] where a part has none of the forms.
-pub fn bytes_of(alloc: Global, word: &str) -> Result<Vec<u8>, ExampleFault> {
-    let mut bytes = Vec::new(alloc);
+/// The bytes that a word stands for; that a part has none of the forms is noted.
+pub fn bytes_of(line: &mut Line<'_>, word: &str) -> Vec<u8> {
+    let mut bytes = Vec::new(line.alloc());
     for part in word.split("+") {
-        let (once, times) = part.split_once("*").unwrap_or((part, "1"));
-        let times: u32 = times.parse().ok().ok_or(ExampleFault::BadWords)?;
-        let piece = bytes_once(alloc, once)?;
-        for _ in 0..times {
-            bytes.extend_from_slice(&piece)?;
+        push_part(line, &mut bytes, part);
+    }
+    bytes
+}
+
+/// Adds the bytes that a part stands for.
+fn push_part(line: &mut Line<'_>, bytes: &mut Vec<u8>, part: &str) {
+    let (once, number) = cut(part, "*");
+    let piece = bytes_once(line, once);
+    let times = match once.len() == part.len() {
+        true => 1,
+        false => line.number_of(number),
+    };
+    push_times(line, bytes, piece.as_slice(), times);
+}
+
+/// Adds some bytes so often.
+fn push_times(line: &mut Line<'_>, bytes: &mut Vec<u8>, piece: &[u8], times: u32) {
+    for _ in 0..times {
+        if let Err(AllocError) = bytes.extend_from_slice(piece) {
+            return line.no_memory();
         }
     }
-    Ok(bytes)
 }
 
 /// The bytes that a part without a number stands for.
-fn bytes_once(alloc: Global, part: &str) -> Result<Vec<u8>, ExampleFault> {
-    if part == "empty" {
-        return Ok(Vec::new(alloc));
-    }
+fn bytes_once(line: &mut Line<'_>, part: &str) -> Vec<u8> {
     if part.is_empty() {
-        return Err(ExampleFault::BadWords);
+        line.bad_words();
     }
-    match hex::decode(alloc, part) {
-        Ok(bytes) => Ok(bytes),
-        Err(FromHexError::OutOfMemory) => Err(ExampleFault::NoMemory),
-        Err(_) => Err(ExampleFault::BadWords),
+    let digits = if part == "empty" { "" } else { part };
+    match hex::decode(line.alloc(), digits) {
+        Ok(bytes) => return bytes,
+        Err(FromHexError::OutOfMemory) => line.no_memory(),
+        Err(_) => line.bad_words(),
     }
+    Vec::new(line.alloc())
 }
 
-/// The word for some bytes: digits, and `07*99` for a long run of equal bytes.
-pub fn text_of_bytes(alloc: Global, bytes: &[u8]) -> Result<String, AllocError> {
+/// Says the word for some bytes: digits, and `07*99` for a long run of equal bytes.
+pub fn say_bytes(line: &mut Line<'_>, bytes: &[u8]) {
     if bytes.is_empty() {
-        return String::from_str(alloc, "empty");
+        return line.say("empty");
     }
-    let mut text = String::new(alloc);
     let mut rest = bytes;
     let mut is_after_run = false;
     for _ in 0..bytes.len() {
         let Some(first) = rest.first() else {
-            break;
+            return;
         };
         let run = run_length(rest, *first);
         let is_run = run >= LONG_RUN;
-        if !text.is_empty() && (is_run || is_after_run) {
-            text.push('+')?;
+        if rest.len() < bytes.len() && (is_run || is_after_run) {
+            line.say("+");
         }
-        push_run(&mut text, *first, run)?;
+        say_run(line, *first, run);
         is_after_run = is_run;
         rest = rest.get(run..).unwrap_or(&[]);
     }
-    Ok(text)
 }
 
 /// How many bytes at the front are this one.
 fn run_length(bytes: &[u8], first: u8) -> usize {
-    bytes.iter().take_while(|byte| **byte == first).count()
+    for (place, byte) in bytes.iter().enumerate() {
+        if *byte != first {
+            return place;
+        }
+    }
+    bytes.len()
 }
 
-/// Writes a run of equal bytes.
-fn push_run(text: &mut String, byte: u8, count: usize) -> Result<(), AllocError> {
+/// Says a run of equal bytes.
+fn say_run(line: &mut Line<'_>, byte: u8, count: usize) {
     if count >= LONG_RUN {
-        return Ok(write!(text, "{byte:02x}*{count}")?);
+        line.say_hex_8("", byte);
+        return line.say_with("*", count);
     }
     for _ in 0..count {
-        write!(text, "{byte:02x}")?;
+        line.say_hex_8("", byte);
     }
-    Ok(())
 }

@@ -4,7 +4,7 @@ use std::alloc::{AllocError, AllocFailed};
 use std::{fmt, io};
 
 /// Why a line has no answer.
-#[derive(Clone, Copy, Debug, PartialEq, Eq)]
+#[derive(Clone, Copy)]
 pub enum ExampleFault {
     /// The line has none of the forms that lines have.
     NoExample,

@@ -2,8 +2,9 @@
 //! and the marks that stand round a call whose requests for memory are counted.
 #![tactic(auto)]
 
-pub mod byte_text;
+mod byte_text;
 mod calls;
 pub mod devices;
 pub mod fault;
 pub mod line;
+mod saying;

@@ -4,13 +4,15 @@
 //! asked for is noted as a fault, and another value stands in its place; so is a text for which
 //! memory ran out. [`Line::finish`] reports the first fault, whatever was said after it.
 
-use crate::byte_text::{bytes_of, text_of_bytes};
+use crate::byte_text::bytes_of;
 use crate::devices::Conduct;
 use crate::fault::ExampleFault;
 use nb_names::{DomainName, Name, Pointers, Scope, name_from_text, read_domain};
-use std::alloc::Global;
+use std::alloc::{AllocError, Global};
 use std::fmt::Display;
 use std::mem::replace;
+use std::num::ParseIntError;
+use std::str::FromStr;
 
 /// For how many bytes the text has room that is made right before a call (tests/refuse_memory.c).
 const MARK: usize = 50_021;
@@ -29,6 +31,8 @@ pub struct Line<'a> {
     rest: Rest<'a>,
     said: String,
     mark: String,
+    is_lacking: bool,
+    is_again: bool,
     fault: Option<ExampleFault>,
 }
 
@@ -40,6 +44,8 @@ impl<'a> Line<'a> {
             rest: Rest { text, between: " " },
             said: String::new(alloc),
             mark: String::new(alloc),
+            is_lacking: false,
+            is_again: false,
             fault: None,
         }
     }
@@ -81,12 +87,22 @@ impl<'a> Line<'a> {
         self.note(ExampleFault::NoMemory);
     }
 
+    /// Notes that memory ran out in a call between marks, so that the line is made once more.
+    pub fn lacks(&mut self) {
+        if self.is_again {
+            self.no_memory();
+        }
+        self.is_lacking = true;
+    }
+
     // ---- Words.
 
     /// Goes on with the words of another text, between which this stands; what was left before is
     /// for [`Line::leave`].
     pub fn enter(&mut self, text: &'a str, between: &'a str) -> Rest<'a> {
-        replace(&mut self.rest, Rest { text, between })
+        let before = self.rest;
+        self.rest = Rest { text, between };
+        before
     }
 
     /// Goes back to the words that were left before. A word that is left now is a fault.
@@ -104,25 +120,24 @@ impl<'a> Line<'a> {
 
     /// All that is left, which may have several words.
     pub fn rest(&mut self) -> &'a str {
-        replace(&mut self.rest.text, "")
+        let text = self.rest.text;
+        self.rest.text = "";
+        text
     }
 
     /// All that is left, in two parts with this between them.
     pub fn halves(&mut self, between: &str) -> (&'a str, &'a str) {
         let text = self.rest();
-        match text.split_once(between) {
-            Some(parts) => parts,
-            None => {
-                self.bad_words();
-                (text, "")
-            }
-        }
+        let Some(halves) = text.split_once(between) else {
+            self.bad_words();
+            return (text, "");
+        };
+        halves
     }
 
     /// The next word. That there is none, or an empty one, is a fault.
     pub fn word(&mut self) -> &'a str {
-        let text = self.rest.text;
-        let (word, rest) = text.split_once(self.rest.between).unwrap_or((text, ""));
+        let (word, rest) = cut(self.rest.text, self.rest.between);
         self.rest.text = rest;
         if word.is_empty() {
             self.bad_words();
@@ -130,55 +145,36 @@ impl<'a> Line<'a> {
         word
     }
 
-    /// The next word, as a decimal number.
-    pub fn number(&mut self) -> u64 {
-        let number = self.word().parse().ok();
-        self.or_bad(number, 0)
+    /// The next word, as a decimal number of its type.
+    pub fn number<T: FromStr<Err = ParseIntError> + Default + Drop>(&mut self) -> T {
+        let word = self.word();
+        self.number_of(word)
     }
 
-    /// The next word, as a decimal number of at most 32 bits.
-    pub fn number_32(&mut self) -> u32 {
-        let number = self.word().parse().ok();
-        self.or_bad(number, 0)
-    }
-
-    /// The next word, as a decimal number of at most 16 bits.
-    pub fn number_16(&mut self) -> u16 {
-        let number = self.word().parse().ok();
-        self.or_bad(number, 0)
-    }
-
-    /// The next word, as a decimal number of at most 8 bits.
-    pub fn number_8(&mut self) -> u8 {
-        let number = self.word().parse().ok();
-        self.or_bad(number, 0)
-    }
-
-    /// The next word, as a length or an offset.
-    pub fn size(&mut self) -> usize {
-        let number = self.word().parse().ok();
-        self.or_bad(number, 0)
+    /// The decimal number that a word stands for.
+    pub fn number_of<T: FromStr<Err = ParseIntError> + Default + Drop>(&mut self, word: &str) -> T {
+        self.or_bad(word.parse().ok())
     }
 
     /// The next word, as a number of 16 bits in hexadecimal.
     pub fn hex_16(&mut self) -> u16 {
         let number = u16::from_str_radix(self.word(), 16).ok();
-        self.or_bad(number, 0)
+        self.or_bad(number)
     }
 
     /// The next word, as a byte in hexadecimal.
     pub fn hex_8(&mut self) -> u8 {
         let number = u8::from_str_radix(self.word(), 16).ok();
-        self.or_bad(number, 0)
+        self.or_bad(number)
     }
 
-    /// A value that a word stands for; another one where it stands for none, which is a fault.
-    fn or_bad<T: Drop>(&mut self, value: Option<T>, other: T) -> T {
+    /// A value that a word stands for; 0 where it stands for none, which is a fault.
+    fn or_bad<T: Default + Drop>(&mut self, value: Option<T>) -> T {
         match value {
             Some(value) => value,
             None => {
                 self.bad_words();
-                other
+                T::default()
             }
         }
     }
@@ -186,18 +182,12 @@ impl<'a> Line<'a> {
     /// The next word, as the bytes that it stands for.
     pub fn bytes(&mut self) -> Vec<u8> {
         let word = self.word();
-        self.bytes_of(word)
+        bytes_of(self, word)
     }
 
     /// The bytes that a word stands for.
     pub fn bytes_of(&mut self, word: &str) -> Vec<u8> {
-        match bytes_of(self.alloc, word) {
-            Ok(bytes) => bytes,
-            Err(fault) => {
-                self.note(fault);
-                Vec::new(self.alloc)
-            }
-        }
+        bytes_of(self, word)
     }
 
     /// The next word, as the text of a name.
@@ -223,10 +213,7 @@ impl<'a> Line<'a> {
     pub fn address(&mut self) -> [u8; 4] {
         let word = self.word();
         let before = self.enter(word, ".");
-        let mut address = [0; 4];
-        for byte in &mut address {
-            *byte = self.number_8();
-        }
+        let address = [self.number(), self.number(), self.number(), self.number()];
         self.leave(before);
         address
     }
@@ -237,7 +224,7 @@ impl<'a> Line<'a> {
         let before = self.enter(word, ":");
         let ip = self.address();
         self.rest.between = "/";
-        let port = self.number_16();
+        let port = self.number();
         let id = self.hex_16();
         self.leave(before);
         (ip, port, id)
@@ -247,8 +234,8 @@ impl<'a> Line<'a> {
     pub fn capacity(&mut self) -> (u32, u32) {
         let word = self.word();
         let before = self.enter(word, ":");
-        let keys = self.number_32();
-        let per_source = self.number_32();
+        let keys = self.number();
+        let per_source = self.number();
         self.leave(before);
         (keys, per_source)
     }
@@ -257,10 +244,10 @@ impl<'a> Line<'a> {
     /// is `600/4` for 600 interrupts before the first, the fifth and each fourth call after it, and
     /// `1023` for 1,023 before each.
     pub fn conduct(&mut self) -> Conduct {
-        let most = self.size();
+        let most = self.number();
         let word = self.word();
         let before = self.enter(word, "/");
-        let interrupts = self.number_32();
+        let interrupts = self.number();
         let every = if self.is_empty() { 1 } else { self.number() };
         self.leave(before);
         let failing = self.number();
@@ -281,48 +268,15 @@ impl<'a> Line<'a> {
 
     /// Says a text.
     pub fn say(&mut self, text: &str) {
-        if self.said.push_str(text).is_err() {
+        if let Err(AllocError) = self.said.push_str(text) {
             self.no_memory();
         }
     }
 
     /// Says what `write!` makes of its arguments.
     pub fn write_fmt<T: Display + Drop>(&mut self, value: T) {
-        if write!(self.said, "{value}").is_err() {
+        if let Err(AllocError) = self.said.write_fmt(value) {
             self.no_memory();
-        }
-    }
-
-    /// Says bytes as a word.
-    pub fn say_bytes(&mut self, bytes: &[u8]) {
-        match text_of_bytes(self.alloc, bytes) {
-            Ok(text) => self.say(text.as_str()),
-            Err(_) => self.no_memory(),
-        }
-    }
-
-    /// Says the place of a fault after its text, `, at 12`, or that it has none.
-    pub fn say_place(&mut self, place: Option<usize>) {
-        match place {
-            Some(place) => write!(self, ", at {place}"),
-            None => self.say(", no place"),
-        }
-    }
-
-    /// Says bytes that are a text, whose lines end with `;` here.
-    pub fn say_lines(&mut self, text: &[u8]) {
-        let Ok(text) = str::from_utf8(text) else {
-            return self.bad_words();
-        };
-        let lines = text.replace(self.alloc, "\n", ";").ok();
-        self.say_made(lines);
-    }
-
-    /// Says a text that a call made; none is made where memory ran out.
-    pub fn say_made(&mut self, text: Option<String>) {
-        match text {
-            Some(text) => self.say(text.as_str()),
-            None => self.no_memory(),
         }
     }
 
@@ -338,19 +292,38 @@ impl<'a> Line<'a> {
 
     // ---- Marks, which stand round a call whose requests for memory are counted.
 
-    /// The mark before a call.
+    /// The mark before a call, unless the line is made once more.
     pub fn begin(&mut self) {
+        if self.is_again {
+            return;
+        }
         match String::with_capacity(self.alloc, MARK) {
             Ok(mark) => self.mark = mark,
-            Err(_) => self.no_memory(),
+            Err(AllocError) => self.no_memory(),
         }
     }
 
     /// The mark after a call.
     pub fn end(&mut self) {
-        if self.mark.reserve(MARK + 1).is_err() {
+        if self.is_again {
+            return;
+        }
+        if let Err(AllocError) = self.mark.reserve(MARK + 1) {
             self.no_memory();
         }
+    }
+
+    /// Whether the line has to be made once more, because memory ran out in a call; its words are
+    /// then these, and there are no marks.
+    pub fn begins_again(&mut self, text: &'a str) -> bool {
+        if !self.is_lacking || self.is_again {
+            return false;
+        }
+        self.is_again = true;
+        self.rest.text = text;
+        self.said.clear();
+        self.say("memory, ");
+        true
     }
 
     /// Says that memory ran out in a call that is made again, and whether what has to be as before
@@ -361,4 +334,9 @@ impl<'a> Line<'a> {
             false => "memory, changed, ",
         });
     }
+}
+
+/// What stands in front of this in a text, and behind it; the whole text where it isn't there.
+pub fn cut<'a>(text: &'a str, between: &str) -> (&'a str, &'a str) {
+    text.split_once(between).unwrap_or((text, ""))
 }

@@ -40,8 +40,12 @@ gives() {
 # variant NAME CASES: $room/NAME, the program but for some commands, of which CASES says what is done first or instead.
 variant() { printf '#!/bin/sh\ncase $1 in\n%s\nesac\nexec "%s" "$@"\n' "$2" "$program" >"$1" && chmod +x "$1"; }
 
-# A program that tells when it starts, and takes its time. Its parent is the worker: a job's shell, or a process of dask.
-variant slow "save | merge) echo \$\$ \$PPID >>'$room/started'; sleep 0.3 ;;"
+# A program that tells when it starts, and takes its time; the run whose number the file held has waits until that is gone. Its
+# parent is the worker: a job's shell, or a process of dask.
+variant slow "save | merge)
+    echo \$\$ \$PPID >>'$room/started'
+    sleep 0.3
+    while [ -s '$room/held' ] && [ \"\$(sed -n \"\$(cat '$room/held')s/ .*//p\" '$room/started')\" = \$\$ ]; do sleep 0.1; done 2>/dev/null ;;"
 
 # Programs that give no table: their memory runs out, or they are killed, at each try.
 printf '#!/bin/sh\necho nbt: memory >&2\nexit 3\n' >starving && chmod +x starving
@@ -52,9 +56,9 @@ printf '#!/bin/sh\necho "$@"\n' >echoing && chmod +x echoing
 variant lying 'save | merge) echo 4e42543200; exit ;;'
 variant unjoining 'merge) exit 3 ;;'
 
-# Waits for the start of so many runs of the slowed program.
+# await NUMBER: waits for the start of so many runs of the slowed program, the last of which goes on once the file held is gone.
 await() {
-    for ((i = 0; i < 600; i++)); do
+    for ((i = 0; i < 1000; i++)); do
         [ "$(wc -l <started)" -ge "$1" ] && return
         sleep 0.1
     done
@@ -63,11 +67,12 @@ await() {
 # loses_worker WORD..: a worker is killed while it works.
 loses_worker() {
     : >started
+    echo 4 >held
     ended "$@" many --shard-bytes 4194304 out >output 2>errors </dev/null &
     await 4
-    kill -9 "$(sed -n '4s/.* //p' started)" && wait $! && cmp -s table out && [ ! -e out.work ]
+    kill -9 "$(sed -n '4s/.* //p' started)" && rm held && wait $! && cmp -s table out && [ ! -e out.work ]
     count $? "$*, a worker killed: $(cat errors)"
-    rm -rf out out.work
+    rm -rf held out out.work
 }
 
 # kills NAME COUNT: the client is killed at random moments, and run again.
@@ -79,10 +84,12 @@ kills() {
 # loses_client WORD..: the client is killed while it works, and run again.
 loses_client() {
     : >started
+    echo 6 >held
     "$@" many --shard-bytes 4194304 out >output 2>errors </dev/null &
     await 6
-    kill -9 $! && ! wait $! 2>/dev/null && [ ! -e out ]
+    kill -9 $! && rm held && ! wait $! 2>/dev/null && [ ! -e out ]
     count $? "$*, the client killed: nothing is there"
+    rm -f held
     : >started
     ended "$@" many --shard-bytes 4194304 out >output 2>errors </dev/null && cmp -s table out && [ ! -e out.work ]
     count $? "$*, the client killed, and run again: $(cat errors)"

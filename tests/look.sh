@@ -101,11 +101,11 @@ samba() {
 shown() { look "$@" "$office" | awk '/^ *[0-9]+ +[0-9.]+ / { printf "%s ", $1 }'; }
 
 filters() {
-    local each words wanted
+    local each words wanted found
     while IFS='|' read -r words wanted; do
         IFS=' ' read -ra each <<<"$words"
-        [ "$(shown "${each[@]}")" = "$wanted" ]
-        count $? "nbt-look $words: $(shown "${each[@]}"), not $wanted"
+        found=$(shown "${each[@]}") && [ "$found" = "$wanted" ]
+        count $? "nbt-look $words: $found, not $wanted"
     done <<'END'
 --name fred|1 2 3 4 5 6 7 8 11 12 13 14 15 16 
 --name FRED<20> --name ANN|1 2 3 4 5 6 7 8 9 11 12 13 14 15 16 

@@ -12,10 +12,8 @@ cd "$room" || exit
 save() { ended "$program" save --keys 65535; }
 merge() { ended "$program" merge --keys 65535; }
 
-# engine NAME WORD..: $room/NAME, the tool of that name on two workers; its first word is the program.
-engine() { printf '#!/bin/sh\nexec "%s" %s --program "$@"\n' "$tools/$1" "${*:2}" >"$1" && chmod +x "$1"; }
-engine nbt-parallel --jobs 2
-engine nbt-dask --workers 2
+# engine NAME WORD..: $room/NAME, a tool by these words; its first word is the program.
+engine() { printf '#!/bin/sh\nexec %s--program "$@"\n' "$(printf '%q ' "${@:2}")" >"$1" && chmod +x "$1"; }
 
 # refuses STATUS TEXT WORD..: the command ends with the status, and these words alone on standard error, TEXT being a
 # pattern, and leaves no OUT.
@@ -96,24 +94,25 @@ loses_client() {
     rm -rf out out.work
 }
 
-# refusals ENGINE: inputs that are refused, devices that fail, and words that make no sense.
+# refusals ENGINE WORKING: inputs that are refused, devices that fail, and words that make no sense. What isn't refused before work
+# begins is asked of the second engine.
 refusals() {
     local name=${1#./}
-    refuses 1 "$name: bad: line 54321 is malformed (shard g0000-00000?)" "$1" "$program" bad
-    refuses 1 "$name: bad: line 54321 is malformed (shard g0000-00000?)" "$1" "$program" --by-source 2 bad
+    refuses 1 "$name: bad: line 54321 is malformed (shard g0000-00000?)" "$2" "$program" bad
+    refuses 1 "$name: bad: line 54321 is malformed (shard g0000-00000?)" "$2" "$program" --by-source 2 bad
     refuses 1 "$name: ever: lines 1 to * has * bytes, *: keys live across *(--by-source 3)*(nbt-pcap2cap --no-ticks)*" "$1" "$program" ever
     refuses 1 "$name: $here/../examples/office.pcap is a pcap file, and a capture is wanted: nbt-pcap2cap --no-ticks makes one of it" \
         "$1" "$program" "$here/../examples/office.pcap"
-    refuses 3 "$name: many: lines * (shard g0000-00000?): *nbt: memory*" "$1" "$room/starving" many
-    refuses 3 "$name: many: lines * (shard g0000-00000?): *signal 9 ended the program*" "$1" "$room/killed" many
+    refuses 3 "$name: many: lines * (shard g0000-00000?): *nbt: memory*" "$2" "$room/starving" many
+    refuses 3 "$name: many: lines * (shard g0000-00000?): *signal 9 ended the program*" "$2" "$room/killed" many
     refuses 3 "$name: nowhere: no such file" "$1" "$program" many nowhere
     refuses 3 "$name: ./nbt: no such program*" "$1" ./nbt many
     cp bad kept && ended "$1" "$program" many kept >output 2>errors
     [ $? -eq 2 ] && cmp -s bad kept && [[ $(cat errors) == "$name: kept is there, and is no saved table"* ]]
     count $? "$1: OUT is a capture: $(cat errors)"
-    keeps_table "$1" "$program" --tables gaps.table
+    keeps_table "$2" "$program" --tables gaps.table
     keeps 2 "$name: out is there, and is a saved table: --force replaces it" "$1" "$program" gaps
-    wrong_programs "$1"
+    wrong_programs "$2"
 }
 
 # keeps STATUS TEXT WORD..: the command ends with the status and the text, and OUT, a saved table, stays.
@@ -261,7 +260,7 @@ with_parallel() {
     loses_client ./nbt-parallel "$room/slow"
     [ "$(wc -l <started)" -lt 12 ]
     count $? "./nbt-parallel, run again: it goes on where it was, $(wc -l <started) runs of the program"
-    refusals ./nbt-parallel
+    refusals ./nbt-parallel ./nbt-parallel
     kills nbt-parallel 5
     folders
     programs
@@ -276,7 +275,7 @@ with_parallel() {
     for each in part.*; do save <"$each" >"$each.table"; done
     gives table ./nbt-parallel "$program" --tables part.*.table
     refuses 1 'nbt-parallel: 2 tables are left, of which no two can be merged:*' ./nbt-parallel "$program" --tables table copy
-    too_large ./nbt-parallel
+    too_large ./nbt-parallel ./nbt-parallel
     ended ./nbt-parallel "$program" --by-source 2 keys out && [ "$(wc -l <out)" -eq 2 ]
     count $? './nbt-parallel --by-source 2, of 66,000 keys'
     rm out
@@ -306,7 +305,7 @@ with_parallel() {
     shows_progress ./nbt-parallel
 }
 
-# too_large ENGINE: captures whose table is too large are refused before anything is done, with a number that is enough.
+# too_large ENGINE WORKING: captures whose table is too large are refused before anything is done, with a number that is enough.
 too_large() {
     local name=${1#./}
     : >started
@@ -315,8 +314,8 @@ too_large() {
     refuses 1 "$name: wide has about 50000 keys and * in 2 groups, *--by-source [5-7]" "$1" "$room/slow" --by-source 2 wide
     [ ! -s started ]
     count $? "$1: nothing is begun where a table is too large"
-    refuses 1 "$name: *: nbt: full: *" "$1" "$program" --no-estimate keys
-    gives rubbish.table "$1" "$program" rubbish
+    refuses 1 "$name: *: nbt: full: *" "$2" "$program" --no-estimate keys
+    gives rubbish.table "$2" "$program" rubbish
 }
 
 # shows_progress ENGINE: how many shards are done, on a terminal; it is gone at the end.
@@ -334,18 +333,18 @@ with_dask() {
     loses_worker ./nbt-dask "$room/slow"
     loses_client ./nbt-dask "$room/slow"
     on_cluster loses_worker "$tools/nbt-dask" --send --program "$room/slow" --scheduler
-    on_cluster same_files
+    on_cluster shared
     lonely
     taken_port
     kills nbt-dask 2
-    refusals ./nbt-dask
-    too_large ./nbt-dask
+    refuses 1 "nbt-dask: bad: line 54321 is malformed (shard g0000-00000?)" ./nbt-dask "$program" bad
     shows_progress ./nbt-dask
     PATH=$room/installed/bin:$PATH gives gaps.table nbt-dask --workers 2 gaps
 }
 
 part inputs inputs
 if [[ $(parallel --version 2>/dev/null) == 'GNU parallel'* ]]; then
+    engine nbt-parallel "$tools/nbt-parallel" --jobs 2
     part nbt-parallel with_parallel
     full_disk nbt-parallel-disk ./nbt-parallel
 else
@@ -356,6 +355,7 @@ for python in python3 /usr/bin/python3 ''; do
     [ -n "$python" ] && "$python" -c 'import distributed' 2>/dev/null && break
 done
 if [ -n "$python" ]; then
+    engine nbt-dask "$python" "$tools/nbt-dask" --workers 2
     part nbt-dask with_dask
     full_disk nbt-dask-disk ./nbt-dask
 else

@@ -45,11 +45,21 @@ on_cluster() {
     scheduler
     worker one
     worker other
+    "$python" -c 'import sys, distributed; distributed.Client(sys.argv[1], timeout=60).wait_for_workers(2, timeout=120)' "$address" >>logs 2>&1
     "$@" "$address"
     unclustered
 }
 
-# same_files: workers read the client's captures by their whole paths, and nothing else of these names.
+# shared ADDRESS: one cluster for the cases that leave it as it is.
+shared() {
+    mkdir shared
+    engine shared/nbt-dask "$python" "$tools/nbt-dask" --scheduler "$1"
+    same_files "$1"
+    refusals ./nbt-dask shared/nbt-dask
+    too_large ./nbt-dask shared/nbt-dask
+}
+
+# same_files ADDRESS: workers read the client's captures by their whole paths, and nothing else of these names.
 same_files() {
     cp flow elsewhere/gaps
     gives gaps.table "$tools/nbt-dask" gaps --program "$program" --scheduler "$1"

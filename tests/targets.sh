@@ -215,7 +215,7 @@ missing() {
     local tool python few=$room/few_tools
     python=$(python3 -c 'import sys; print(sys.executable)')
     mkdir "$few"
-    for tool in awk basename dirname grep mktemp mkdir realpath rm rt sort tail timeout; do ln -s "$(command -v $tool)" "$few/$tool"; done
+    for tool in awk basename dirname grep ln mktemp mkdir realpath rm rt sort tail timeout; do ln -s "$(command -v $tool)" "$few/$tool"; done
     ln -s "$python" "$few/python3"
     says 'no cross compiler' 'install gcc-aarch64-linux-gnu' env PATH="$few" "$BASH" "$top/tools/targets" check "$room/out2"
     ln -s /bin/true "$few/llvm-symbolizer"

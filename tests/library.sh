@@ -74,7 +74,7 @@ examples() {
 }
 
 under_valgrind() {
-    local each under=(valgrind -q --error-exitcode=99 --leak-check=full)
+    local each under=(valgrind -q --error-exitcode=99 --leak-check=full --read-inline-info=no)
     for each in "$top"/bindings/c/*.c; do
         example "$each" valgrind "$built/libnbt.a"
     done
@@ -442,7 +442,7 @@ user_program() {
         "$1" "$room/root/share/nbt/rust" >"$room/$1/Cargo.toml"
     printf '%s\n' "${@:3}" >>"$room/$1/Cargo.toml"
     cp "$2" "$room/$1/src/main.rs"
-    (cd "$room/$1" && PKG_CONFIG_PATH=$room/root/lib/pkgconfig NBT_STATIC=1 CARGO_TARGET_DIR=$room/user \
+    (cd "$room/$1" && PKG_CONFIG_PATH=$room/root/lib/pkgconfig NBT_STATIC=1 CARGO_TARGET_DIR=$room/target \
         "$timeout" -k 5 600 cargo run --quiet "${words[@]}") 2>&1
 }
 

@@ -18,6 +18,9 @@ office=$here/../examples/office.pcap
 
 look() { ended nbt-look "$@"; }
 
+# looks WORD..: the words end well and say nothing on standard error; their output is in $room/output.
+looks() { look "$@" >"$room/output" 2>"$room/errors" && [ ! -s "$room/errors" ]; }
+
 # made WHAT: a capture of tests/lib/look_captures.py.
 made() { "$here/lib/look_captures.py" "$1" "$room/$1.pcap"; }
 
@@ -98,11 +101,11 @@ samba() {
 shown() { look "$@" "$office" | awk '/^ *[0-9]+ +[0-9.]+ / { printf "%s ", $1 }'; }
 
 filters() {
-    local each words wanted
+    local each words wanted found
     while IFS='|' read -r words wanted; do
         IFS=' ' read -ra each <<<"$words"
-        [ "$(shown "${each[@]}")" = "$wanted" ]
-        count $? "nbt-look $words: $(shown "${each[@]}"), not $wanted"
+        found=$(shown "${each[@]}") && [ "$found" = "$wanted" ]
+        count $? "nbt-look $words: $found, not $wanted"
     done <<'END'
 --name fred|1 2 3 4 5 6 7 8 11 12 13 14 15 16 
 --name FRED<20> --name ANN|1 2 3 4 5 6 7 8 9 11 12 13 14 15 16 
@@ -122,7 +125,7 @@ filters() {
 END
     [ "$(look --kind query "$office" | tail -n 1)" = '16 frames, 15 packets, 0 malformed, 0 left out; 1 shown' ]
     count $? 'the last line says how many are shown'
-    [ "$(look --time utc --kind query "$office" | head -n 1 | cut -c 1-52)" = '    4 1970-01-01T00:00:01.200000Z 192.0.2.1       19' ]
+    looks --time utc --kind query "$office" && [ "$(head -n 1 "$room/output" | cut -c 1-52)" = '    4 1970-01-01T00:00:01.200000Z 192.0.2.1       19' ]
     count $? 'nbt-look --time utc'
 }
 
@@ -208,8 +211,8 @@ END
     prints 'a summary of what is decided elsewhere, or not at all' --summary "$room/disputes.pcap" <"$here/lib/look_disputes.txt"
     [ "$(look --summary --name joe "$room/disputes.pcap" | grep '^  JOE<00>  FRED')" = "$(grep '^  JOE<00>  FRED' "$here/lib/look_disputes.txt")" ]
     count $? 'a session has all its packets where --name chooses it'
-    [ "$(look --kind conflict "$room/disputes.pcap" | cut -c 1-5 | head -n 2 | tr -d ' \n')" = 24 ] &&
-        [ "$(look --kind conflict "$room/life.pcap" | cut -c 1-5 | head -n 3 | tr -s ' \n' ' ')" = ' 2 3 22 ' ]
+    looks --kind conflict "$room/disputes.pcap" && [ "$(head -n 2 "$room/output" | cut -c 1-5 | tr -d ' \n')" = 24 ] &&
+        looks --kind conflict "$room/life.pcap" && [ "$(head -n 3 "$room/output" | cut -c 1-5 | tr -s ' \n' ' ')" = ' 2 3 22 ' ]
     count $? 'nbt-look --kind conflict: who claims a name too, is refused it, and has to give it up'
 }
 
@@ -231,8 +234,9 @@ END
 16 frames, 15 packets, 0 malformed, 0 left out; 0 shown
 no packet of kind missing (answers that none are relayed; see also fragment for pieces of datagrams, of which --summary has what is missing, negative for names that are not found)
 END
-    look --help >"$room/output" && for word in $(kinds | tr -d ,); do grep -qE "^    $word +[a-z]" "$room/output" || echo "$word"; done | grep -q .
-    count $((PIPESTATUS[1] != 1)) '--help has a word on each kind'
+    looks --help && kinds >"$room/kinds" && [ -s "$room/kinds" ] &&
+        for word in $(tr -d , <"$room/kinds"); do grep -qE "^    $word +[a-z]" "$room/output" || echo "$word"; done >"$room/missing" && [ ! -s "$room/missing" ]
+    count $? "--help has a word on each kind: $(tr '\n' ' ' <"$room/missing")"
 }
 
 frames() {
@@ -270,7 +274,7 @@ END
     [ "$(cat "$room/output")" = 'there is no frame 99: the capture has 16 frames' ]
     count $? "what is said of a frame past the last one: $(cat "$room/output")"
     made fragments
-    look --frame 1 "$room/fragments.pcap" 2>&1 | grep -qx 'left out: fragments of IP whose others are missing'
+    looks --frame 1 "$room/fragments.pcap" && grep -qx 'left out: fragments of IP whose others are missing' "$room/output"
     count $? 'a frame that is left out'
 }
 
@@ -351,8 +355,8 @@ END
 2 frames, 2 packets, 0 malformed, 0 left out
 END
     for each in --json --summary '--frame 2' '--color always' '--summary --json'; do
-        look $each "$room/evil.pcap" 2>&1 | LC_ALL=C grep -qP '[^\x20-\x7e]|\x1b'
-        count $((PIPESTATUS[1] != 1)) "nbt-look $each: nothing of it comes to a terminal as it is"
+        look $each "$room/evil.pcap" >"$room/output" 2>&1 && [ -s "$room/output" ] && { LC_ALL=C grep -qP '[^\x20-\x7e]|\x1b' "$room/output"; [ $? -eq 1 ]; }
+        count $? "nbt-look $each: nothing of it comes to a terminal as it is"
     done
     made chance
     look "$room/chance.pcap" >"$room/output" 2>"$room/errors"
@@ -390,7 +394,7 @@ terminals() {
     count $? "the list fits a terminal: $(sed -n 1p "$room/output")"
     NO_COLOR=1 on_terminal 200 nbt-look "$room/life.pcap" >"$room/output" && ! grep -q $'\x1b' "$room/output"
     count $? 'NO_COLOR'
-    ! look "$room/life.pcap" | grep -q $'\x1b'
+    looks "$room/life.pcap" && [ -s "$room/output" ] && ! grep -q $'\x1b' "$room/output"
     count $? 'no colour where standard output is no terminal'
 }
 
@@ -398,9 +402,9 @@ terminals() {
 colours() {
     mkdir "$room/system" && ln -s /usr/bin/python3 "$room/system"
     local PATH=$room/system:$PATH
-    TERM=xterm on_terminal 200 nbt-look "$room/life.pcap" | grep -q $'\x1b\[31m.*refused: .*\x1b\[0m'
+    TERM=xterm on_terminal 200 nbt-look "$room/life.pcap" >"$room/output" && grep -q $'\x1b\[31m.*refused: .*\x1b\[0m' "$room/output"
     count $? 'a refused packet is red on a terminal'
-    look --color always "$room/life.pcap" | grep -q $'\x1b\[33m.*cut: .*\x1b\[0m'
+    looks --color always "$room/life.pcap" && grep -q $'\x1b\[33m.*cut: .*\x1b\[0m' "$room/output"
     count $? 'nbt-look --color always'
     python3 "$here/lib/summary_pictures.py" --check
     count $? 'docs/summary-light.svg and docs/summary-dark.svg have these words: tests/lib/summary_pictures.py draws them'

@@ -12,10 +12,8 @@ cd "$room" || exit
 save() { ended "$program" save --keys 65535; }
 merge() { ended "$program" merge --keys 65535; }
 
-# engine NAME WORD..: $room/NAME, the tool of that name on two workers; its first word is the program.
-engine() { printf '#!/bin/sh\nexec "%s" %s --program "$@"\n' "$tools/$1" "${*:2}" >"$1" && chmod +x "$1"; }
-engine nbt-parallel --jobs 2
-engine nbt-dask --workers 2
+# engine NAME WORD..: $room/NAME, a tool by these words; its first word is the program.
+engine() { printf '#!/bin/sh\nexec %s--program "$@"\n' "$(printf '%q ' "${@:2}")" >"$1" && chmod +x "$1"; }
 
 # refuses STATUS TEXT WORD..: the command ends with the status, and these words alone on standard error, TEXT being a
 # pattern, and leaves no OUT.
@@ -40,8 +38,12 @@ gives() {
 # variant NAME CASES: $room/NAME, the program but for some commands, of which CASES says what is done first or instead.
 variant() { printf '#!/bin/sh\ncase $1 in\n%s\nesac\nexec "%s" "$@"\n' "$2" "$program" >"$1" && chmod +x "$1"; }
 
-# A program that tells when it starts, and takes its time. Its parent is the worker: a job's shell, or a process of dask.
-variant slow "save | merge) echo \$\$ \$PPID >>'$room/started'; sleep 0.3 ;;"
+# A program that tells when it starts, and takes its time; the run whose number the file held has waits until that is gone. Its
+# parent is the worker: a job's shell, or a process of dask.
+variant slow "save | merge)
+    echo \$\$ \$PPID >>'$room/started'
+    sleep 0.3
+    while [ -s '$room/held' ] && [ \"\$(sed -n \"\$(cat '$room/held')s/ .*//p\" '$room/started')\" = \$\$ ]; do sleep 0.1; done 2>/dev/null ;;"
 
 # Programs that give no table: their memory runs out, or they are killed, at each try.
 printf '#!/bin/sh\necho nbt: memory >&2\nexit 3\n' >starving && chmod +x starving
@@ -52,9 +54,9 @@ printf '#!/bin/sh\necho "$@"\n' >echoing && chmod +x echoing
 variant lying 'save | merge) echo 4e42543200; exit ;;'
 variant unjoining 'merge) exit 3 ;;'
 
-# Waits for the start of so many runs of the slowed program.
+# await NUMBER: waits for the start of so many runs of the slowed program, the last of which goes on once the file held is gone.
 await() {
-    for ((i = 0; i < 600; i++)); do
+    for ((i = 0; i < 1000; i++)); do
         [ "$(wc -l <started)" -ge "$1" ] && return
         sleep 0.1
     done
@@ -63,11 +65,12 @@ await() {
 # loses_worker WORD..: a worker is killed while it works.
 loses_worker() {
     : >started
+    echo 4 >held
     ended "$@" many --shard-bytes 4194304 out >output 2>errors </dev/null &
     await 4
-    kill -9 "$(sed -n '4s/.* //p' started)" && wait $! && cmp -s table out && [ ! -e out.work ]
+    kill -9 "$(sed -n '4s/.* //p' started)" && rm held && wait $! && cmp -s table out && [ ! -e out.work ]
     count $? "$*, a worker killed: $(cat errors)"
-    rm -rf out out.work
+    rm -rf held out out.work
 }
 
 # kills NAME COUNT: the client is killed at random moments, and run again.
@@ -79,34 +82,37 @@ kills() {
 # loses_client WORD..: the client is killed while it works, and run again.
 loses_client() {
     : >started
+    echo 6 >held
     "$@" many --shard-bytes 4194304 out >output 2>errors </dev/null &
     await 6
-    kill -9 $! && ! wait $! 2>/dev/null && [ ! -e out ]
+    kill -9 $! && rm held && ! wait $! 2>/dev/null && [ ! -e out ]
     count $? "$*, the client killed: nothing is there"
+    rm -f held
     : >started
     ended "$@" many --shard-bytes 4194304 out >output 2>errors </dev/null && cmp -s table out && [ ! -e out.work ]
     count $? "$*, the client killed, and run again: $(cat errors)"
     rm -rf out out.work
 }
 
-# refusals ENGINE: inputs that are refused, devices that fail, and words that make no sense.
+# refusals ENGINE WORKING: inputs that are refused, devices that fail, and words that make no sense. What isn't refused before work
+# begins is asked of the second engine.
 refusals() {
     local name=${1#./}
-    refuses 1 "$name: bad: line 54321 is malformed (shard g0000-00000?)" "$1" "$program" bad
-    refuses 1 "$name: bad: line 54321 is malformed (shard g0000-00000?)" "$1" "$program" --by-source 2 bad
+    refuses 1 "$name: bad: line 54321 is malformed (shard g0000-00000?)" "$2" "$program" bad
+    refuses 1 "$name: bad: line 54321 is malformed (shard g0000-00000?)" "$2" "$program" --by-source 2 bad
     refuses 1 "$name: ever: lines 1 to * has * bytes, *: keys live across *(--by-source 3)*(nbt-pcap2cap --no-ticks)*" "$1" "$program" ever
     refuses 1 "$name: $here/../examples/office.pcap is a pcap file, and a capture is wanted: nbt-pcap2cap --no-ticks makes one of it" \
         "$1" "$program" "$here/../examples/office.pcap"
-    refuses 3 "$name: many: lines * (shard g0000-00000?): *nbt: memory*" "$1" "$room/starving" many
-    refuses 3 "$name: many: lines * (shard g0000-00000?): *signal 9 ended the program*" "$1" "$room/killed" many
+    refuses 3 "$name: many: lines * (shard g0000-00000?): *nbt: memory*" "$2" "$room/starving" many
+    refuses 3 "$name: many: lines * (shard g0000-00000?): *signal 9 ended the program*" "$2" "$room/killed" many
     refuses 3 "$name: nowhere: no such file" "$1" "$program" many nowhere
     refuses 3 "$name: ./nbt: no such program*" "$1" ./nbt many
     cp bad kept && ended "$1" "$program" many kept >output 2>errors
     [ $? -eq 2 ] && cmp -s bad kept && [[ $(cat errors) == "$name: kept is there, and is no saved table"* ]]
     count $? "$1: OUT is a capture: $(cat errors)"
-    keeps_table "$1" "$program" --tables gaps.table
+    keeps_table "$2" "$program" --tables gaps.table
     keeps 2 "$name: out is there, and is a saved table: --force replaces it" "$1" "$program" gaps
-    wrong_programs "$1"
+    wrong_programs "$2"
 }
 
 # keeps STATUS TEXT WORD..: the command ends with the status and the text, and OUT, a saved table, stays.
@@ -254,7 +260,7 @@ with_parallel() {
     loses_client ./nbt-parallel "$room/slow"
     [ "$(wc -l <started)" -lt 12 ]
     count $? "./nbt-parallel, run again: it goes on where it was, $(wc -l <started) runs of the program"
-    refusals ./nbt-parallel
+    refusals ./nbt-parallel ./nbt-parallel
     kills nbt-parallel 5
     folders
     programs
@@ -269,7 +275,7 @@ with_parallel() {
     for each in part.*; do save <"$each" >"$each.table"; done
     gives table ./nbt-parallel "$program" --tables part.*.table
     refuses 1 'nbt-parallel: 2 tables are left, of which no two can be merged:*' ./nbt-parallel "$program" --tables table copy
-    too_large ./nbt-parallel
+    too_large ./nbt-parallel ./nbt-parallel
     ended ./nbt-parallel "$program" --by-source 2 keys out && [ "$(wc -l <out)" -eq 2 ]
     count $? './nbt-parallel --by-source 2, of 66,000 keys'
     rm out
@@ -299,7 +305,7 @@ with_parallel() {
     shows_progress ./nbt-parallel
 }
 
-# too_large ENGINE: captures whose table is too large are refused before anything is done, with a number that is enough.
+# too_large ENGINE WORKING: captures whose table is too large are refused before anything is done, with a number that is enough.
 too_large() {
     local name=${1#./}
     : >started
@@ -308,8 +314,8 @@ too_large() {
     refuses 1 "$name: wide has about 50000 keys and * in 2 groups, *--by-source [5-7]" "$1" "$room/slow" --by-source 2 wide
     [ ! -s started ]
     count $? "$1: nothing is begun where a table is too large"
-    refuses 1 "$name: *: nbt: full: *" "$1" "$program" --no-estimate keys
-    gives rubbish.table "$1" "$program" rubbish
+    refuses 1 "$name: *: nbt: full: *" "$2" "$program" --no-estimate keys
+    gives rubbish.table "$2" "$program" rubbish
 }
 
 # shows_progress ENGINE: how many shards are done, on a terminal; it is gone at the end.
@@ -327,18 +333,18 @@ with_dask() {
     loses_worker ./nbt-dask "$room/slow"
     loses_client ./nbt-dask "$room/slow"
     on_cluster loses_worker "$tools/nbt-dask" --send --program "$room/slow" --scheduler
-    on_cluster same_files
+    on_cluster shared
     lonely
     taken_port
     kills nbt-dask 2
-    refusals ./nbt-dask
-    too_large ./nbt-dask
+    refuses 1 "nbt-dask: bad: line 54321 is malformed (shard g0000-00000?)" ./nbt-dask "$program" bad
     shows_progress ./nbt-dask
     PATH=$room/installed/bin:$PATH gives gaps.table nbt-dask --workers 2 gaps
 }
 
 part inputs inputs
 if [[ $(parallel --version 2>/dev/null) == 'GNU parallel'* ]]; then
+    engine nbt-parallel "$tools/nbt-parallel" --jobs 2
     part nbt-parallel with_parallel
     full_disk nbt-parallel-disk ./nbt-parallel
 else
@@ -349,6 +355,7 @@ for python in python3 /usr/bin/python3 ''; do
     [ -n "$python" ] && "$python" -c 'import distributed' 2>/dev/null && break
 done
 if [ -n "$python" ]; then
+    engine nbt-dask "$python" "$tools/nbt-dask" --workers 2
     part nbt-dask with_dask
     full_disk nbt-dask-disk ./nbt-dask
 else

@@ -2,7 +2,8 @@
 # The library for other targets, made of the module of which the one for x86-64 is made: the same calls answer the same on x86-64, on
 # aarch64 (by qemu) and in WebAssembly (in node), where memory runs out too; the examples of bindings/c, stations and tables on each;
 # the package for JavaScript; what is said where a tool is missing. Usage: [MODULE=FILE] [OUT=FOLDER] tests/targets.sh [PROGRAM]; its last
-# line is 'N passed, M failed, K skipped'. MODULE is the module, if it is there; else tools/module makes it. OUT keeps what is made.
+# line is 'N passed, M failed, K skipped'. MODULE is the module, if it is there; else tools/module makes it. MODULE.a may be what the kit
+# made of it. OUT keeps what is made.
 set -uo pipefail
 shopt -s lastpipe
 . "$(dirname "$0")/lib/counting.sh"
@@ -35,9 +36,13 @@ files() {
     count $? "tools/targets: $(tail -n 1 "$room/log")"
     cp "$module" "$out/nbt.bc" && cp "$module.verdict" "$out/nbt.bc.verdict"
     count $? 'the module and its verdict'
-    # The library for x86-64, of the same module.
-    "$here/lib/x86_64" "$module" "$out/lib" >"$room/log" 2>&1
-    count $? "tests/lib/x86_64: $(tail -n 1 "$room/log")"
+    # The library for x86-64, of the same module: of the archive that the kit made of it, if that is there.
+    if [ -s "$module.a" ]; then
+        "$top/tools/library" "$module.a" "$out/lib"
+    else
+        "$here/lib/x86_64" "$module" "$out/lib"
+    fi >"$room/log" 2>&1
+    count $? "the library for x86-64: $(tail -n 1 "$room/log")"
     aarch64-linux-gnu-nm -D --defined-only "$arm/libnbt.so.0" | awk '{ print $3 }' | sort | same "$(calls)" 'libnbt.so.0 of aarch64 exports the calls of the header'
     aarch64-linux-gnu-nm -g --defined-only "$arm/libnbt.a" | awk 'NF == 3 { print $3 }' | sort | same "$(calls)" 'so does libnbt.a'
     aarch64-linux-gnu-readelf -d "$arm/libnbt.so.0" | sed -nE 's/.*\((SONAME|NEEDED)\).*\[(.*)\]/\2/p' | sort \
@@ -210,7 +215,7 @@ missing() {
     local tool python few=$room/few_tools
     python=$(python3 -c 'import sys; print(sys.executable)')
     mkdir "$few"
-    for tool in awk basename dirname grep mktemp mkdir realpath rm rt sort tail timeout; do ln -s "$(command -v $tool)" "$few/$tool"; done
+    for tool in awk basename dirname grep ln mktemp mkdir realpath rm rt sort tail timeout; do ln -s "$(command -v $tool)" "$few/$tool"; done
     ln -s "$python" "$few/python3"
     says 'no cross compiler' 'install gcc-aarch64-linux-gnu' env PATH="$few" "$BASH" "$top/tools/targets" check "$room/out2"
     ln -s /bin/true "$few/llvm-symbolizer"

@@ -304,9 +304,9 @@ EOF
 
     # On a terminal the progress comes, and goes; not with --quiet.
     local each="$here/../tools/pcap2cap"
-    ended "$here/lib/terminal.py" "$room/output" "$each" "$room/long.pcap" >"$room/shown" && head -n 1 "$room/shown" |
-        grep -q $'^\rpcap2cap: [0-9]* of [0-9]* bytes *\r.* *\rpcap2cap: more than' && tail -n 1 "$room/shown" |
-        grep -qE $'(^| \r)100000 frames, 100000 of these ports, 0 left out\r$'
+    ended "$here/lib/terminal.py" "$room/output" "$each" "$room/long.pcap" >"$room/shown" &&
+        grep -q $'^\rpcap2cap: [0-9]* of [0-9]* bytes *\r.* *\rpcap2cap: more than' <<<"$(head -n 1 "$room/shown")" &&
+        grep -qE $'(^| \r)100000 frames, 100000 of these ports, 0 left out\r$' <<<"$(tail -n 1 "$room/shown")"
     count $? 'pcap2cap on a terminal'
     ended "$here/lib/terminal.py" "$room/output" "$each" --quiet "$room/network.pcap" >"$room/shown" && [ ! -s "$room/shown" ]
     count $? 'pcap2cap --quiet on a terminal'
@@ -349,7 +349,7 @@ office() {
     count $? 'examples/office.sh makes examples/office.pcap'
     pcap2cap --bare --quiet "$example.pcap" | grep -v '^tick' | cmp - "$room/lines"
     count $? 'examples/office.pcap has the packets that were built'
-    pcap2cap --quiet "$example.pcap" | nbt show 2>"$room/errors" | head -n 4 |
+    pcap2cap --quiet "$example.pcap" | nbt show >"$room/shown" 2>"$room/errors" && head -n 4 "$room/shown" |
         diff <(sed -n '/^```text$/,/^```$/p' "$here/../README.md" | sed '1d;$d') -
     count $? 'README.md has the first packet of examples/office.pcap'
 }

@@ -7,7 +7,7 @@ scheduler() {
     rm -f cluster
     mkdir -p elsewhere
     background "$python" -m distributed.cli.dask_scheduler --host 127.0.0.1 --port 0 --no-dashboard --scheduler-file "$room/cluster"
-    for ((i = 0; i < 300; i++)); do
+    for ((i = 0; i < 1000; i++)); do
         [ -s cluster ] && break
         sleep 0.1
     done
@@ -45,11 +45,21 @@ on_cluster() {
     scheduler
     worker one
     worker other
+    "$python" -c 'import sys, distributed; distributed.Client(sys.argv[1], timeout=60).wait_for_workers(2, timeout=120)' "$address" >>logs 2>&1
     "$@" "$address"
     unclustered
 }
 
-# same_files: workers read the client's captures by their whole paths, and nothing else of these names.
+# shared ADDRESS: one cluster for the cases that leave it as it is.
+shared() {
+    mkdir shared
+    engine shared/nbt-dask "$python" "$tools/nbt-dask" --scheduler "$1"
+    same_files "$1"
+    refusals ./nbt-dask shared/nbt-dask
+    too_large ./nbt-dask shared/nbt-dask
+}
+
+# same_files ADDRESS: workers read the client's captures by their whole paths, and nothing else of these names.
 same_files() {
     cp flow elsewhere/gaps
     gives gaps.table "$tools/nbt-dask" gaps --program "$program" --scheduler "$1"
@@ -58,7 +68,7 @@ same_files() {
 
 # awaited LINE: waits until the client says this.
 awaited() {
-    for ((i = 0; i < 300; i++)); do
+    for ((i = 0; i < 1000; i++)); do
         grep -q "$1" errors && break
         sleep 0.1
     done
@@ -100,8 +110,11 @@ lonely() {
 # taken_port: another program has the port of dask's pages.
 taken_port() {
     : >bound
-    "$python" -c 'import socket, time; it = socket.socket(); it.bind(("", 8787)); it.listen(); print(flush=True); time.sleep(100)' >bound 2>/dev/null &
-    for ((i = 0; i < 50 && $(wc -c <bound) == 0; i++)); do sleep 0.1; done
+    "$python" -c 'import socket, time; it = socket.socket(); it.bind(("", 8787)); it.listen(); print(flush=True); time.sleep(500)' >bound 2>/dev/null &
+    for ((i = 0; i < 1000 && $(wc -c <bound) == 0; i++)); do
+        kill -0 $! 2>/dev/null || break
+        sleep 0.1
+    done
     gives gaps.table ./nbt-dask "$program" gaps
     kill $!
 }

@@ -8,6 +8,11 @@ passed=0
 failed=0
 skipped=0
 
+# python3 by its own place: what versions of it are chosen by may take as long as its start.
+mkdir "$room/python"
+ln -s "$(python3 -c 'import os, sys; print(os.path.realpath(sys.executable))')" "$room/python/python3"
+PATH=$room/python:$PATH
+
 # count STATUS NAME: one case more, which went well if the status is 0.
 count() {
     if [ "$1" -eq 0 ]; then

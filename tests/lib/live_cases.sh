@@ -2,23 +2,30 @@
 
 # interrupted SECONDS TOOL: what a tool that waits for its input, or still begins, says to Ctrl-C.
 interrupted() {
-    sleep 4 | timeout --preserve-status -s INT "$1" "$here/../tools/$2" ${3:-} >"$room/output" 2>"$room/errors"
-    [ "${PIPESTATUS[1]}" -eq 130 ] && [ "$(cat "$room/errors")" = "$2: interrupted" ]
+    "$here/lib/interrupted.py" "$1" /dev/null "$room/output" "$here/../tools/$2" ${3:-} 2>"$room/errors"
+    [ $? -eq 130 ] && [ "$(cat "$room/errors")" = "$2: interrupted" ]
     count $? "$2 ${3:-}, Ctrl-C after $1 s: $(cat "$room/errors")"
 }
 
-# A packet, a pause, another one, and Ctrl-C.
+# live_once TIMES: a packet, a pause, another one, and Ctrl-C; what tshark has to begin and to end is so many times as long.
 live_once() {
-    (sleep 2; sends abc 20137; sleep 4; sends last 138) &
-    timeout --preserve-status -s INT 9 "$here/../tools/pcap2cap" -i lo --port 137=20137 >"$room/output" 2>"$room/errors"
+    (sleep $((2 * $1)); sends abc 20137; sleep 4; sends last 138) &
+    timeout --preserve-status -s INT $((5 * $1 + 4)) "$here/../tools/pcap2cap" -i lo --port 137=20137 >"$room/output" 2>"$room/errors"
     [ $? -eq 0 ] && [ "$(cat "$room/errors")" = '2 frames, 2 of these ports, 0 left out' ] &&
-        sed -E 's/^(# frame [12]) 2[-0-9T:.]+Z 127.0.0.1:[0-9]+/\1/; s/^(138 4)[0-9]+/\1/' "$room/output" | head -n 9 | diff - <(printf '%s\n' \
+        sed -E 's/^(# frame [12]) 2[-0-9T:.]+Z 127.0.0.1:[0-9]+/\1/; s/^(138 4)[0-9]+/\1/; 9q' "$room/output" | diff - <(printf '%s\n' \
             '# frame 1 > 127.0.0.1:20137' '137 0 616263' 'tick 1000' 'tick 2000' 'tick 3000' 'tick 4000' '# frame 2 > 127.0.0.1:138' \
             '138 4 6c617374' 'tick 5000')
 }
 
-# thrice COMMAND: the status of a command that other work on this machine may be in the way of: it has three tries.
-thrice() { "$1" || "$1" || "$1"; }
+# thrice COMMAND: the status of a command that other work on this machine may be in the way of: it has three tries, with ever more time.
+thrice() {
+    local times
+    for times in 1 3 9; do
+        "$1" $times && return
+        wait
+    done
+    return 1
+}
 
 live() {
     thrice live_once
@@ -64,8 +71,8 @@ waits() {
         interrupted $seconds pcap2cap -
         interrupted $seconds cap2pcap
     done
-    (cat "$here/../examples/office.pcap"; sleep 5) | timeout --preserve-status -s INT 4 "$here/../tools/pcap2cap" - >"$room/output" 2>"$room/errors"
-    [ "${PIPESTATUS[1]}" -eq 130 ] && [ "$(cat "$room/errors")" = 'pcap2cap: interrupted after frame 16' ]
+    "$here/lib/interrupted.py" '# frame 16' "$here/../examples/office.pcap" "$room/output" "$here/../tools/pcap2cap" - 2>"$room/errors"
+    [ $? -eq 130 ] && [ "$(cat "$room/errors")" = 'pcap2cap: interrupted after frame 16' ]
     count $? "pcap2cap -, Ctrl-C says how far it came: $(cat "$room/errors")"
     if ended tshark -i lo -a duration:0 >"$room/output" 2>&1; then
         live
@@ -94,10 +101,10 @@ early() {
     done
 }
 
-# Frames with tags, PPPoE and extension headers, by the capture filter of -i.
+# heard_once TIMES: frames with tags, PPPoE and extension headers, by the capture filter of -i.
 heard_once() {
-    (sleep 3; "$here/lib/hear.py" send) &
-    timeout --preserve-status -s INT 6 "$here/../tools/pcap2cap" -i lo --bare --quiet --port 138=20137 2>"$room/errors" |
+    (sleep $((3 * $1)); "$here/lib/hear.py" send) &
+    timeout --preserve-status -s INT $((6 * $1)) "$here/../tools/pcap2cap" -i lo --bare --quiet --port 138=20137 2>"$room/errors" |
         sed -n 's/^138 [0-9]* //p' | diff <("$here/lib/hear.py" expected) -
 }
 

@@ -101,8 +101,11 @@ debian() {
     block python "$each" >"$fresh/packages/first.py"
     ended chroot "$fresh" python3 /packages/first.py 2>&1 | same "$(block text "$each")" 'python3-nbt'
     ended "$program" build group 10.0.0.5:138/0001 'JOE<00>' 'FRED<20>' 68656c6c6f 4 | ended "$program" save >"$fresh/packages/table"
-    "$timeout" -s TERM 5 chroot "$fresh" nbt-station --bind 127.0.0.1:0 --join /packages/table 'FRED<20>' 2>"$room/log" \
-        | cut -d ' ' -f 2- | same '- delivered 10.0.0.5:138/0001 group JOE<00> FRED<20> 68656c6c6f' 'nbt-station, over python3-nbt'
+    "$timeout" -s TERM 120 chroot "$fresh" nbt-station --bind 127.0.0.1:0 --join /packages/table 'FRED<20>' >"$room/delivered" 2>"$room/log" &
+    while [ ! -s "$room/delivered" ] && kill -0 $! 2>/dev/null; do sleep 0.1; done
+    kill $! 2>/dev/null
+    wait $!
+    cut -d ' ' -f 2- "$room/delivered" | same '- delivered 10.0.0.5:138/0001 group JOE<00> FRED<20> 68656c6c6f' 'nbt-station, over python3-nbt'
     for each in amd64:x86_64-linux-gnu arm64:aarch64-linux-gnu; do
         grep -qx "$(sha256sum <"$fresh/usr/lib/${each#*:}/libnbt.so.0" | cut -c 1-64)  libnbt.so.0 of ${each%:*}" "$dist/PROOF"
         count $? "PROOF has the library for ${each%:*}"

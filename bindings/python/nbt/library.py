@@ -21,7 +21,8 @@ DONE, NO_ROOM = 0, 1
 
 # Addresses are given as numbers. Lengths have the same type: both are as wide, so C is passed the same, and ctypes takes a
 # number for c_void_p in half the time that it wants for c_size_t.
-ADDRESS = LENGTH = ctypes.c_void_p
+# A port is the first word of its calls, which stands in a register of its own: one of sixteen bits is the same in a wider one.
+ADDRESS = LENGTH = PORT = ctypes.c_void_p
 BYTES = (ctypes.c_char_p, LENGTH)
 
 
@@ -102,7 +103,8 @@ class Reader:
 
 
 class Room:
-    """What a call writes to: bytes, how many of them it used, and a place; `words` are what the call is told of it."""
+    """What a call writes to: bytes, how many of them it used, and a place; `words` are what a call is told of it that answers no place,
+    and what one is told that does."""
 
     def __init__(self) -> None:
         self.used, self.at = ctypes.c_size_t(), ctypes.c_size_t()
@@ -112,7 +114,8 @@ class Room:
         """Room for so many bytes."""
         self.length = length
         self.into: Any = ctypes.create_string_buffer(length)
-        self.words = ctypes.addressof(self.into), length, ctypes.addressof(self.used), ctypes.addressof(self.at)
+        placed = ctypes.addressof(self.into), length, ctypes.addressof(self.used), ctypes.addressof(self.at)
+        self.words: Any = placed[:3], placed
 
 
 # Rooms that no call uses now. A call takes one and puts it back, so no two calls ever have the same.
@@ -121,8 +124,7 @@ SPARE: List[Room] = []
 
 def writer(name: str, *arguments: Any, places: bool = True) -> Callable[..., bytes]:
     """A call that writes bytes into a buffer: it is made again with more room where that is wanted."""
-    count = 4 if places else 3
-    made = call(name, *arguments, *(ADDRESS, LENGTH, ADDRESS, ADDRESS)[:count])
+    made = call(name, *arguments, *(ADDRESS, LENGTH, ADDRESS, ADDRESS)[:4 if places else 3])
 
     def write(*arguments: Any) -> bytes:
         try:
@@ -130,10 +132,10 @@ def writer(name: str, *arguments: Any, places: bool = True) -> Callable[..., byt
         except IndexError:
             room = Room()
         try:
-            while (status := made(*(arguments + room.words[:count]))) == NO_ROOM:
+            while status := made(*(arguments + room.words[places])):  # DONE is 0.
+                if status != NO_ROOM:
+                    raise failure(status, room.at.value)
                 room.grow(room.used.value)
-            if status != DONE:
-                raise failure(status, room.at.value)
             written: bytes = room.into[:room.used.value]
             return written
         finally:

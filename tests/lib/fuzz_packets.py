@@ -8,11 +8,6 @@ LONGEST_LINE = 262_200
 KINDS = {0x10: 'unique', 0x11: 'group', 0x12: 'broadcast'}
 QUERIES = {0x14: 'find', 0x15: 'found', 0x16: 'missing'}
 SESSION_LENGTHS = {0x00: (0, 131_071), 0x81: (68, 510), 0x82: (0, 0), 0x83: (1, 1), 0x84: (6, 6), 0x85: (0, 0)}
-# The letters in which packets spell the halves of bytes, and hexadecimal digits, each as the other.
-LETTERS, DIGITS = b'ABCDEFGHIJKLMNOP', b'0123456789abcdef'
-TO_LETTERS, TO_DIGITS = bytes.maketrans(DIGITS, LETTERS), bytes.maketrans(LETTERS, DIGITS)
-BEGIN_OF_LINE = re.compile(rb'[^\n]')
-NO_LETTER = re.compile(rb'[^A-P]')
 LINE = re.compile(rb'(?:#.*|(13[789]) (\d{1,20}) (empty|(?:[0-9A-Fa-f]{2})+)|tick (\d{1,20})|)', re.DOTALL)
 
 Line = collections.namedtuple('Line', 'number port moment payload')
@@ -43,12 +38,9 @@ def read_capture(given):
 def numbered(given):
     """The lines of an input that have bytes, with their numbers."""
     number, end = 1, 0
-    while found := BEGIN_OF_LINE.search(given, end):
-        start = found.start()
-        number += given.count(b'\n', end, start)
-        end = given.find(b'\n', start)
-        end = len(given) if end < 0 else end
-        yield number, given[start:end]
+    for found in re.finditer(rb'[^\n]+', given):
+        number, end = number + given.count(b'\n', end, found.start()), found.start()
+        yield number, found[0]
 
 
 def cut_at_line_feeds(given):
@@ -57,12 +49,9 @@ def cut_at_line_feeds(given):
     return lines[:-1] if lines[-1] == b'' else lines
 
 
-ITEMS = [chr(it) if 0x21 <= it <= 0x7e and it not in b'.<>\\' else f'\\{it:02x}' for it in range(256)]
-
-
 def items(data):
     """How bytes are written in a name's text."""
-    return ''.join([ITEMS[it] for it in data])
+    return ''.join(chr(it) if 0x21 <= it <= 0x7e and it not in b'.<>\\' else f'\\{it:02x}' for it in data)
 
 
 def text_of(name):
@@ -73,7 +62,7 @@ def text_of(name):
 
 def spelling_of(name):
     """A name as packets spell it."""
-    letters = name.bytes.hex().encode().translate(TO_LETTERS)
+    letters = bytes(ord('A') + half for byte in name.bytes for half in (byte >> 4, byte & 15))
     return b''.join(bytes([len(it)]) + it for it in (letters, *name.scope)) + b'\0'
 
 
@@ -114,10 +103,11 @@ def name_of(labels):
     letters = labels[0] if labels else b''
     if len(letters) != 32:
         raise Refused('not netbios 0')
-    fault = NO_LETTER.search(letters)
-    if fault:
-        raise Refused(f'not netbios {1 + fault.start()}')
-    return Name(bytes.fromhex(letters.translate(TO_DIGITS).decode()), tuple(labels[1:]))
+    for place, letter in enumerate(letters):
+        if not ord('A') <= letter <= ord('P'):
+            raise Refused(f'not netbios {1 + place}')
+    halves = [it - ord('A') for it in letters]
+    return Name(bytes(16 * high + low for high, low in zip(halves[::2], halves[1::2])), tuple(labels[1:]))
 
 
 def read_name_of(role, data, at):

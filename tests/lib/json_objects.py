@@ -24,7 +24,7 @@ import sys
 import tempfile
 
 from fuzz_inputs import ROOT, capture_lines, example_bytes
-from fuzz_packets import numbered
+from fuzz_packets import cut_at_line_feeds
 from object_commands import Unknown, wanted
 from object_inputs import Inputs
 
@@ -64,10 +64,7 @@ class Cases:
 
     def run(self, words, given):
         """The status, the output and the errors of a command."""
-        with tempfile.TemporaryFile() as file:
-            file.write(given)
-            file.seek(0)
-            made = subprocess.run([self.program, *words], stdin=file, capture_output=True, timeout=120, check=False)
+        made = subprocess.run([self.program, *words], input=given, capture_output=True, timeout=120)
         return made.returncode, made.stdout, made.stderr
 
     def count(self, why, words, given):
@@ -159,8 +156,7 @@ def unlike(found, right, place):
 def line_of(wanted_object, given):
     """The line of the input of which an object is, if it is of one."""
     number = (wanted_object or {}).get('line', 0)
-    line = next((it for at, it in numbered(given) if at == number), b'') if number else b''
-    return f', of line {line[:LONGEST_PRINTED].decode("latin-1")}' if number else ''
+    return f', of line {cut_at_line_feeds(given)[number - 1][:LONGEST_PRINTED].decode("latin-1")}' if number else ''
 
 
 def spelled_cases():

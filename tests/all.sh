@@ -79,12 +79,10 @@ missing() {
     fi
 }
 
-# How many checks run side by side: half as many as there are processors, two at least, where there are 4 GB for each. Processors
-# share cores and caches, so more at a time count more seconds, and `rt ci` waits for a chain of crates anyway. By itself it expects
-# more memory than they take, and leaves processors idle.
-checks=$(awk -v processors="$(nproc)" '$1 == "MemAvailable:" {
+# How many checks `rt ci` runs side by side: one for each processor, where there are 4 GB for each. By itself it expects more
+# memory than they take, and leaves processors idle.
+checks=$(awk -v most="$(nproc)" '$1 == "MemAvailable:" {
     checks = int($2 / 4000000)
-    most = processors < 4 ? processors : int(processors / 2)
     print checks < 1 ? 1 : checks < most ? checks : most
 }' /proc/meminfo)
 

@@ -29,7 +29,7 @@ class Wrong(Exception):
 
 
 class TooSlow(Exception):
-    """The machine was too busy: keys were dropped before the case was done, or it took too long. It is tried again."""
+    """Keys were dropped before the case was done: it is tried again."""
 
 
 class LeftOut(Exception):

@@ -8,7 +8,7 @@ import sys
 import tempfile
 import time
 
-from station_runs import (EMPTY, GROUP, NOBODY, PATIENCE, PROGRAM, TOOL, UNIQUE, LeftOut, Station, TooSlow, Wrong, begun, expect, packet,
+from station_runs import (EMPTY, GROUP, NOBODY, PATIENCE, PROGRAM, TOOL, UNIQUE, LeftOut, Station, Wrong, begun, expect, packet,
                           pieces, station)
 from wire import FRED
 
@@ -33,17 +33,12 @@ def mode_of(path):
     return stat.S_IMODE(os.stat(path).st_mode)
 
 
-def took_a_second_at_most(began):
-    """What a station has to do within a second; where it doesn't the machine may have been too busy, and the case is tried again."""
-    if time.monotonic() - began > 1:
-        raise TooSlow('it took more than a second')
-
-
 def within_a_second(each, number):
     """The status with which a station ends at a signal, and what it said by then; it takes no longer than a second."""
     began = time.monotonic()
     ended = each.ended(number)
-    took_a_second_at_most(began)
+    if time.monotonic() - began > 1:
+        raise Wrong('it took more than a second')
     return ended
 
 
@@ -156,7 +151,7 @@ def unread_output():
                 began = time.monotonic()
                 each.process.send_signal(signal.SIGUSR1)
                 each.saved()
-                took_a_second_at_most(began)
+                expect(True, time.monotonic() - began < 1)
                 os.unlink(os.path.join(each.folder, 'table'))
                 status, said = within_a_second(each, number)
                 expect((3, ['nbt-station:', 'standard', 'output:', 'deliveries', 'that', 'were', 'left', 'out:']), (status, said.split()[:-1]))
@@ -201,7 +196,7 @@ def unread_errors():
             began = time.monotonic()
             each.process.send_signal(signal.SIGTERM)
             expect(3, each.process.wait(PATIENCE))
-            took_a_second_at_most(began)
+            expect(True, time.monotonic() - began < 1)
             expect(True, len(os.read(said, 1 << 20)) > 40_000)
     finally:
         os.close(reader)

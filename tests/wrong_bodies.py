@@ -5,11 +5,10 @@ Usage: tests/wrong_bodies.py [CRATE ..], of all crates without a name; `rt ci` o
 checked over the crates below it as they were built last. RT_JOBS says how many checks run side by side.
 
 A function is proved over what others promise, whatever their bodies are. So wrong bodies of different functions are planted in
-one copy of the crate, and one check of those functions, and of what they call, tells of each. A second one of a function waits for
-a further check, over what the one before it proved; a change outside of functions, such as that of a constant, has one of
-its own. A case is a wrong body, which its own function has to be refused for, at the clause that is stated; and a check, in which
-nothing else may be refused: what is called is proved, but for what calls a planted function in its turn. The table has the
-processor seconds of a crate's checks. The last line is 'N passed, M failed', and the status 1 where one failed.
+one copy of the crate, in which the bodies of the others are left out, and one check of those functions tells of each. A second one of
+a function waits for a further check; a change outside of functions, such as that of a constant, has one of its own. A case is a wrong
+body, which its own function has to be refused for, at the clause that is stated; and a check, in which nothing else may be refused. The
+table has the processor seconds of a crate's checks. The last line is 'N passed, M failed', and the status 1 where one failed.
 """
 import os
 import re
@@ -22,6 +21,8 @@ from concurrent.futures import ThreadPoolExecutor
 from dataclasses import dataclass, field
 from pathlib import Path
 
+from lib.left_out import leave_out_bodies
+
 ROOT = Path(__file__).resolve().parent.parent
 # How long a check may take: they take half a minute to six.
 LONGEST = '40m'
@@ -30,6 +31,8 @@ ANSWERED = re.compile(r'\./proofs/(\S+)/(?:Answers|Invariants|Proof)\.antt:\d+:\
 OPEN = re.compile(r'note: `([^`]+)` of proofs/(\S+)/(?:Answers|Proof)\.antt must prove')
 PLACED = re.compile(r'note: src/\S+: it is not proved that .*?\(`([^`]+)`\)')
 FUNCTION = re.compile(r'fn \w+::(\S+): (.*)')
+# A function that is proved, or would be if bodies that are left out were.
+WELL = re.compile(r'no holes|depends on a hole')
 # A function that isn't proved since it calls one that isn't.
 CALLS = re.compile(r'it calls .* (?:is|are) not proved')
 # An answer to a goal that there no longer is says nothing of the body.
@@ -113,7 +116,7 @@ def refused(output):
         elif met := PLACED.match(line):
             placed.append(met[1])
         elif met := FUNCTION.match(line):
-            if not met[2].startswith('proved') and (placed or not CALLS.search(met[2])):
+            if not WELL.match(met[2]) and (placed or not CALLS.search(met[2])):
                 found[met[1]].update(map(clause, placed))
             placed = []
     return found
@@ -140,6 +143,8 @@ class Check:
                 if text.count(old) != 1:
                     return f'{body.path.stem}: its old line stands {text.count(old)} times'
                 path.write_text(text.replace(old, new), encoding='utf-8')
+        leave_out_bodies(
+            Path(room), self.crate, {body.function for body in self.bodies}, {new for body in self.bodies for _, _, new in body.changes})
         return ''
 
     def run(self, kept):
@@ -151,7 +156,7 @@ class Check:
             words = subprocess.run([ROOT / 'tests/lib/crate_words', self.crate], stdout=subprocess.PIPE, text=True, check=True)
             only = [word for body in self.bodies for word in ('--only', body.function)]
             root = next(it for it in ('src/main.rt', 'src/lib.rt') if Path(room, it).exists())
-            command = ['timeout', LONGEST, 'rattle', 'check', *words.stdout.split(), *kept, *only, root]
+            command = ['timeout', LONGEST, 'rattle', 'check', *words.stdout.split(), *kept, *only, '--allow-holes', root]
             with open(f'{room}/said', 'w+', encoding='utf-8', errors='replace') as said:
                 with subprocess.Popen(command, cwd=room, stdout=said, stderr=said) as ran:
                     _, status, used = os.wait4(ran.pid, 0)
@@ -164,7 +169,7 @@ class Check:
         """Each wrong body with why it fails, or None; and then the check itself."""
         found = refused(self.output)
         last = self.output.rstrip().rpartition('\n')[2]
-        is_checked = self.status in (0, 1) and re.fullmatch(r'only=\d+ proved=\d+', last)
+        is_checked = self.status in (0, 1) and re.fullmatch(r'only=\d+ holes=\d+', last)
         for body in self.bodies:
             seen = found.get(body.function, set())
             why = None if body.clause in seen else f'refused at {sorted(seen)}, not at {body.clause}' if seen else 'it is not refused'

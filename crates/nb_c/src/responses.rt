@@ -132,6 +132,8 @@ fn domain_of(bytes: &[u8]) -> Result<DomainName, Refusal>
 fn bytes_of(alloc: Global, answered: Answered, made: Record<'_>) -> Result<Bytes, NoMemory>
     ensures { IfOk result (λ bytes. bytes ≡ response_of answered made.entry) }
 {
-    let packet = response(alloc, answered.identifier, answered.word, made)?;
-    encode(alloc, &packet)
+    match response(alloc, answered.identifier, answered.word, made) {
+        Ok(packet) => encode(alloc, &packet),
+        Err(fault) => Err(fault),
+    }
 }

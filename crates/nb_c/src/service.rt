@@ -121,8 +121,10 @@ fn bytes_of(alloc: Global, asked: Asked, name: &Name) -> Result<Bytes, NoMemory>
         bytes ≡ packet_bytes (requested asked name.now (entry_bytes (entry_of asked)))) }
 {
     let entry = entry_of(asked).to_bytes();
-    let packet = packet_of(alloc, asked, name, &entry)?;
-    encode(alloc, &packet)
+    match packet_of(alloc, asked, name, &entry) {
+        Ok(packet) => encode(alloc, &packet),
+        Err(fault) => Err(fault),
+    }
 }
 
 /// A request about a name.

@@ -1,5 +1,5 @@
 //! Packets of the session service, written.
-ghost use Rattle.std.specs.Prelude.{◌≡◌, ◌++◌, ◌≤◌, List, ℕ, length, IfOk, OnOk};
+ghost use Rattle.std.specs.Prelude.{◌≡◌, ◌++◌, ◌≤◌, List, ℕ, length, IfOk};
 ghost use Rattle.nb_c.specs.Framing.{Stands, Writes, follow_the_type, frame};
 ghost use Rattle.nb_c.specs.Outputs.{Alone, Does, HasOne, OrMemory};
 ghost use Rattle.nb_session.specs.declared.limits.TheConstants.{MAX_MESSAGE};
@@ -58,29 +58,18 @@ fn frame(alloc: Global, kind: Kind, body: &[u8]) -> Result<Bytes, NoMemory>
     requires { length body.now ≤ MAX_MESSAGE }
     ensures { IfOk result (λ bytes. bytes ≡ frame kind body.now) }
 {
-    let mut bytes = match Vec::with_capacity(alloc, HEADER_LENGTH + body.len()) {
+    let size = body.len();
+    let [high, low] = ((size % 65_536) as u16).to_be_bytes();
+    let mut bytes = match Vec::with_capacity(alloc, HEADER_LENGTH + size) {
         Ok(bytes) => bytes,
         Err(AllocError) => return Err(NoMemory),
     };
-    match push_frame(kind, body, &mut bytes) {
-        Ok(()) => Ok(Bytes::from_vec(bytes)),
-        Err(fault) => Err(fault),
-    }
-}
-
-/// Adds a header of this kind, and this body.
-fn push_frame(kind: Kind, body: &[u8], bytes: &mut Vec<u8>) -> Result<(), NoMemory>
-    requires { length body.now ≤ MAX_MESSAGE }
-    ensures { OnOk result (bytes.new.items ≡ bytes.old.items ++ frame kind body.now) }
-{
-    let size = body.len();
-    let [high, low] = ((size % 65_536) as u16).to_be_bytes();
     let header = [kind.packet_type(), (size / 65_536) as u8, high, low];
     if let Err(AllocError) = bytes.extend_from_slice(&header) {
         return Err(NoMemory);
     }
     match bytes.extend_from_slice(body) {
-        Ok(()) => Ok(()),
+        Ok(()) => Ok(Bytes::from_vec(bytes)),
         Err(AllocError) => Err(NoMemory),
     }
 }

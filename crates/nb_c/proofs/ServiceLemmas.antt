@@ -99,6 +99,19 @@ same_numbers s t f g number labels is section fields =
     let found = is ∙ ap section_number section in
     λ i. numbers (found i) (fields i) labels
 
+-- where no header stands, no item does
+pub item_cut : (payload : List ℕ) → HeaderLaws payload → (k at : ℕ) (fault : ServiceFault) → IsCut payload fault
+    → Alone NbtServiceItem (ReadsItem payload k at) (Err (service_refusal fault))
+item_cut payload headers k at fault cut = record { said = said; only = others } where
+  said : ReadsItem payload k at (Err (service_refusal fault))
+  said = subst (λ (r : Refusal). ReadsItem payload k at (Err r)) (sym (cut_refusal payload fault cut)) (headless cut.1)
+
+  others : (other : Result NbtServiceItem Refusal) → ReadsItem payload k at other → other ≡ Err (service_refusal fault)
+  others _ (headless low) = ap Err (sym (cut_refusal payload fault cut))
+  others _ (uncounted g t past) = absurd (omega (arith, cut.1, headers.whole g t))
+  others _ (fails g f t i) = absurd (omega (arith, cut.1, headers.whole g t))
+  others _ (stands g x e t i r) = absurd (omega (arith, cut.1, headers.whole g t))
+
 module _ (payload : List ℕ) (headers : HeaderLaws payload) (laws : ItemLaws payload) (k at : ℕ) where
   same_count : (h g : PacketHeader) → HasHeader payload h → HasHeader payload g → item_count h ≡ item_count g
   same_count h g s t = ap item_count (headers.one h g s t)
@@ -136,7 +149,3 @@ module _ (payload : List ℕ) (headers : HeaderLaws payload) (laws : ItemLaws pa
 
   pub item_read : (answer : Result NbtServiceItem Refusal) → ReadsItem payload k at answer → Alone NbtServiceItem (ReadsItem payload k at) answer
   item_read answer said = record { said = said; only = λ other also. one_answer other answer also said }
-
-  pub item_cut : (fault : ServiceFault) → IsCut payload fault → Alone NbtServiceItem (ReadsItem payload k at) (Err (service_refusal fault))
-  item_cut fault cut =
-      item_read (Err (service_refusal fault)) (subst (λ (r : Refusal). ReadsItem payload k at (Err r)) (sym (cut_refusal payload fault cut)) (headless cut.1))

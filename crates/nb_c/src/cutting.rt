@@ -13,7 +13,7 @@ use nb_datagram::limits::{DIRECT_HEADER_LENGTH, MAX_LENGTH};
 use nb_datagram::{Datagram, Fragment, Key, Kind, Packet, Pieces, cut, encode};
 use nb_names::text_laws::{one_name, one_text_fault};
 use nb_names::{Bytes, Name, NoMemory, TextFault};
-use std::alloc::Global;
+use std::alloc::{AllocError, Global};
 
 /// How a datagram is sent: what its packets say but for the names, and the most data of each.
 #[derive(Clone, Copy)]
@@ -205,9 +205,21 @@ fn cut_whole(
       bytes = contents.now;
     }) sent.most) }
 {
-    let bytes = Bytes::copy(alloc, contents)?;
-    let datagram = Datagram::new(key_of(sent), kind, source, destination, bytes).unwrap();
-    match cut(alloc, &datagram, sent.most) {
+    match Bytes::copy(alloc, contents) {
+        Ok(bytes) => {
+            let key = key_of(sent);
+            let datagram = Datagram::new(key, kind, source, destination, bytes).unwrap();
+            cut_datagram(alloc, &datagram, sent.most)
+        }
+        Err(fault) => Err(fault),
+    }
+}
+
+/// The packets of a datagram, each with so many bytes of data at most.
+fn cut_datagram(alloc: Global, datagram: &Datagram, most: u16) -> Result<Bytes, NoMemory>
+    ensures { IfOk result (λ bytes. bytes ≡ packets_of datagram.now most) }
+{
+    match cut(alloc, datagram, most) {
         Ok(pieces) => joined(alloc, pieces),
         // The other faults were judged.
         Err(_) => Err(NoMemory),
@@ -221,7 +233,9 @@ fn joined(alloc: Global, pieces: Pieces<'_>) -> Result<Bytes, NoMemory>
 {
     let mut bytes = Vec::new(alloc);
     for piece in pieces.into_vec() {
-        push_piece(alloc, piece, &mut bytes)?;
+        if let Err(fault) = push_piece(alloc, piece, &mut bytes) {
+            return Err(fault);
+        }
     }
     Ok(Bytes::from_vec(bytes))
 }
@@ -230,8 +244,10 @@ fn joined(alloc: Global, pieces: Pieces<'_>) -> Result<Bytes, NoMemory>
 fn push_piece(alloc: Global, piece: Fragment<'_>, bytes: &mut Vec<u8>) -> Result<(), NoMemory>
     ensures { OnOk result (bytes.new.items ≡ bytes.old.items ++ counted (packet_of piece.entry)) }
 {
-    let packet = encode(alloc, &Packet::Direct(piece))?;
-    push_counted(packet.as_slice(), bytes)
+    match encode(alloc, &Packet::Direct(piece)) {
+        Ok(packet) => push_counted(packet.as_slice(), bytes),
+        Err(fault) => Err(fault),
+    }
 }
 
 /// Adds the bytes of a packet, after their number in two bytes.
@@ -239,7 +255,11 @@ fn push_counted(packet: &[u8], bytes: &mut Vec<u8>) -> Result<(), NoMemory>
     ensures { OnOk result (bytes.new.items ≡ bytes.old.items ++ counted packet.now) }
 {
     let length = (packet.len() % 65_536) as u16;
-    bytes.extend_from_slice(&length.to_be_bytes())?;
-    bytes.extend_from_slice(packet)?;
-    Ok(())
+    if let Err(AllocError) = bytes.extend_from_slice(&length.to_be_bytes()) {
+        return Err(NoMemory);
+    }
+    match bytes.extend_from_slice(packet) {
+        Ok(()) => Ok(()),
+        Err(AllocError) => Err(NoMemory),
+    }
 }

@@ -28,12 +28,16 @@ fn names_between(alloc: Global, texts: &[u8]) -> Result<LocalNames, Refusal>
     let mut rest = texts;
     let mut place = 0;
     while let Some((text, others)) = at_space(rest) {
-        add(text, place, &mut names)?;
+        if let Err(refusal) = add(text, place, &mut names) {
+            return Err(refusal);
+        }
         place += text.len() + 1;
         rest = others;
     }
-    add(rest, place, &mut names)?;
-    Ok(names)
+    match add(rest, place, &mut names) {
+        Ok(()) => Ok(names),
+        Err(refusal) => Err(refusal),
+    }
 }
 
 /// What stands before the first space, and what after it; `None` where there is none.

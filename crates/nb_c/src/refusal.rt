@@ -23,7 +23,7 @@ use nb_session::SessionFault;
 use nb_table::{LoadFault, TableFault};
 
 /// Why a call does nothing: a status, and where the fault stands, if it has a place.
-#[derive(Clone, Copy, Debug, PartialEq, Eq)]
+#[derive(Clone, Copy)]
 pub enum Refusal {
     /// Memory ran out.
     Memory,

@@ -6,13 +6,14 @@ ghost use Rattle.nb_service.specs.Record.{ResourceData};
 
 use crate::output::{answer_of, write_answer};
 use crate::refusal::{Refusal, name_refusal, text_refusal};
+use crate::service::bytes_if_made;
 use crate::statuses::{LONG_DATA, NAME_TRAILING_BYTES};
 use crate::texts::name_of_text;
 use nb_names::laws::{one_fault, one_reading};
 use nb_names::text_laws::{one_name, one_text_fault};
 use nb_names::{Bytes, DomainName, Name, NoMemory, Pointers, read_domain};
 use nb_service::classes::IN;
-use nb_service::{Record, RecordFault, encode, response};
+use nb_service::{Record, RecordFault, response};
 use std::alloc::Global;
 
 /// What a response says, but for the name and RDATA.
@@ -132,6 +133,8 @@ fn domain_of(bytes: &[u8]) -> Result<DomainName, Refusal>
 fn bytes_of(alloc: Global, answered: Answered, made: Record<'_>) -> Result<Bytes, NoMemory>
     ensures { IfOk result (λ bytes. bytes ≡ response_of answered made.entry) }
 {
-    let packet = response(alloc, answered.identifier, answered.word, made)?;
-    encode(alloc, &packet)
+    bytes_if_made(
+        alloc,
+        response(alloc, answered.identifier, answered.word, made),
+    )
 }

@@ -3,6 +3,7 @@ ghost use Rattle.std.specs.Prelude.{◌≡◌, IfOk};
 ghost use Rattle.nb_c.specs.Outputs.{Does, HasOne, OrMemory, none_late};
 ghost use Rattle.nb_c.specs.Requests.{Requests, entry_of, request_answer, requested};
 ghost use Rattle.nb_service.specs.Encoding.{packet_bytes};
+ghost use Rattle.nb_service.specs.Packet.{ServicePacket};
 ghost use Rattle.nb_service.specs.Views.{entry_bytes};
 
 use crate::output::{answer_of, write_answer};
@@ -121,8 +122,21 @@ fn bytes_of(alloc: Global, asked: Asked, name: &Name) -> Result<Bytes, NoMemory>
         bytes ≡ packet_bytes (requested asked name.now (entry_bytes (entry_of asked)))) }
 {
     let entry = entry_of(asked).to_bytes();
-    let packet = packet_of(alloc, asked, name, &entry)?;
-    encode(alloc, &packet)
+    bytes_if_made(alloc, packet_of(alloc, asked, name, &entry))
+}
+
+/// The bytes of a packet, if it was made.
+pub(crate) fn bytes_if_made(
+    alloc: Global,
+    made: Result<Packet<'_>, NoMemory>,
+) -> Result<Bytes, NoMemory>
+    ensures { (expected : ServicePacket) → IfOk made.entry (λ packet. packet ≡ expected) →
+        IfOk result (λ bytes. bytes ≡ packet_bytes expected) }
+{
+    match made {
+        Ok(packet) => encode(alloc, &packet),
+        Err(fault) => Err(fault),
+    }
 }
 
 /// A request about a name.

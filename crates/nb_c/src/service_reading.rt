@@ -190,9 +190,8 @@ fn fill_item(
     ensures { FilledAlone NbtServiceItem (ReadsItem payload.now number place)
         into.old into.new result }
 {
-    // For the clause: a payload has one header at most, and one item there. The calls do nothing.
+    // For the clause: a payload has one header at most. The call does nothing.
     one_header();
-    one_item();
     match read_header(payload) {
         Ok(header) => fill_item_of(
             &NameReader::of(payload, &mut []),

@@ -1,8 +1,8 @@
 //! The texts of packets, their phrases, and their JSON objects.
-ghost use Rattle.std.specs.Prelude.{IfOk};
+ghost use Rattle.std.specs.Prelude.{IfOk, OnOk, string_bytes};
 ghost use Rattle.nb_c.specs.Outputs.{Answers, Does, none_late, of_memory};
 ghost use Rattle.nb_c.specs.Showing.{Objects, Phrases, Shows};
-ghost use Rattle.nb_text.specs.SaysPacket.{IsSaid};
+ghost use Rattle.nb_text.specs.SaysPacket.{AddsSaid, IsSaid};
 ghost use Rattle.nb_text.specs.Shown.{Shown};
 
 use crate::output::{put, write_bytes};
@@ -38,8 +38,10 @@ fn shown(alloc: Global, port: u16, payload: &[u8]) -> Result<Bytes, NoMemory>
     ensures { IfOk result (Shown payload.now port) }
 {
     let mut text = String::new(alloc);
-    push_packet(port, payload, &mut text)?;
-    Ok(Bytes::from_vec(text.into_bytes()))
+    match push_packet(port, payload, &mut text) {
+        Ok(()) => Ok(Bytes::from_vec(text.into_bytes())),
+        Err(fault) => Err(fault),
+    }
 }
 
 /// Writes the phrase of a payload that came to a port, as `nbt show --brief` prints it.
@@ -66,10 +68,19 @@ pub extern "C" fn nbt_brief(
 fn phrase(alloc: Global, port: u16, payload: &[u8]) -> Result<Bytes, NoMemory>
     ensures { IfOk result (IsSaid payload.now port) }
 {
-    let mut sink = BriefSink::new(alloc);
     let mut text = String::new(alloc);
-    push_brief(port, payload, &mut sink, &mut text)?;
-    Ok(Bytes::from_vec(text.into_bytes()))
+    match push_phrase(alloc, port, payload, &mut text) {
+        Ok(()) => Ok(Bytes::from_vec(text.into_bytes())),
+        Err(fault) => Err(fault),
+    }
+}
+
+/// Adds the phrase of a payload.
+fn push_phrase(alloc: Global, port: u16, payload: &[u8], text: &mut String) -> Result<(), NoMemory>
+    ensures { OnOk result
+        (AddsSaid payload.now port (string_bytes text.old) (string_bytes text.new)) }
+{
+    push_brief(port, payload, &mut BriefSink::new(alloc), text)
 }
 
 /// Writes the JSON object of a payload that came to a port: the members that `nbt show --json`

@@ -67,160 +67,171 @@ fn later_words(status: u32) -> Option<&'static str>
 fn outcome_words(status: u32) -> Option<&'static str>
     ensures { option_map (λ words. words.now) result ≡ outcome_word status }
 {
-    match status {
-        DONE => Some("done"),
-        NO_ROOM => Some("no room"),
-        NO_MEMORY => Some("memory"),
-        UNKNOWN_STATUS => Some("unknown status"),
-        _ => None,
-    }
+    let words = match status {
+        DONE => "done",
+        NO_ROOM => "no room",
+        NO_MEMORY => "memory",
+        UNKNOWN_STATUS => "unknown status",
+        _ => return None,
+    };
+    Some(words)
 }
 
 /// The words of a status on a text.
 fn text_words(status: u32) -> Option<&'static str>
     ensures { option_map (λ words. words.now) result ≡ text_word status }
 {
-    match status {
-        BAD_TEXT => Some("bad text"),
-        LONG_TEXT => Some("text too long"),
-        SOURCE_BAD_TEXT => Some("source: bad text"),
-        SOURCE_LONG_TEXT => Some("source: text too long"),
-        DESTINATION_BAD_TEXT => Some("destination: bad text"),
-        DESTINATION_LONG_TEXT => Some("destination: text too long"),
-        _ => None,
-    }
+    let words = match status {
+        BAD_TEXT => "bad text",
+        LONG_TEXT => "text too long",
+        SOURCE_BAD_TEXT => "source: bad text",
+        SOURCE_LONG_TEXT => "source: text too long",
+        DESTINATION_BAD_TEXT => "destination: bad text",
+        DESTINATION_LONG_TEXT => "destination: text too long",
+        _ => return None,
+    };
+    Some(words)
 }
 
 /// The words of a status on a name that is read.
 fn name_words(status: u32) -> Option<&'static str>
     ensures { option_map (λ words. words.now) result ≡ name_word status }
 {
-    match status {
-        NAME_TRUNCATED => Some("name: truncated"),
-        NAME_RESERVED_LABEL => Some("name: reserved label"),
-        NAME_POINTER => Some("name: pointer not allowed"),
-        NAME_LONG => Some("name: too long"),
-        NAME_NOT_NETBIOS => Some("name: not netbios"),
-        NAME_TRAILING_BYTES => Some("name: trailing bytes"),
-        NAME_BAD_POINTER => Some("name: bad pointer"),
-        _ => None,
-    }
+    let words = match status {
+        NAME_TRUNCATED => "name: truncated",
+        NAME_RESERVED_LABEL => "name: reserved label",
+        NAME_POINTER => "name: pointer not allowed",
+        NAME_LONG => "name: too long",
+        NAME_NOT_NETBIOS => "name: not netbios",
+        NAME_TRAILING_BYTES => "name: trailing bytes",
+        NAME_BAD_POINTER => "name: bad pointer",
+        _ => return None,
+    };
+    Some(words)
 }
 
 /// The words of a status on a source's name that is read.
 fn source_words(status: u32) -> Option<&'static str>
     ensures { option_map (λ words. words.now) result ≡ source_word status }
 {
-    match status {
-        SOURCE_TRUNCATED => Some("source name: truncated"),
-        SOURCE_RESERVED_LABEL => Some("source name: reserved label"),
-        SOURCE_POINTER => Some("source name: pointer not allowed"),
-        SOURCE_LONG => Some("source name: too long"),
-        SOURCE_NOT_NETBIOS => Some("source name: not netbios"),
-        SOURCE_BAD_POINTER => Some("source name: bad pointer"),
-        _ => None,
-    }
+    let words = match status {
+        SOURCE_TRUNCATED => "source name: truncated",
+        SOURCE_RESERVED_LABEL => "source name: reserved label",
+        SOURCE_POINTER => "source name: pointer not allowed",
+        SOURCE_LONG => "source name: too long",
+        SOURCE_NOT_NETBIOS => "source name: not netbios",
+        SOURCE_BAD_POINTER => "source name: bad pointer",
+        _ => return None,
+    };
+    Some(words)
 }
 
 /// The words of a status on a destination's name that is read.
 fn destination_words(status: u32) -> Option<&'static str>
     ensures { option_map (λ words. words.now) result ≡ destination_word status }
 {
-    match status {
-        DESTINATION_TRUNCATED => Some("destination name: truncated"),
-        DESTINATION_RESERVED_LABEL => Some("destination name: reserved label"),
-        DESTINATION_POINTER => Some("destination name: pointer not allowed"),
-        DESTINATION_LONG => Some("destination name: too long"),
-        DESTINATION_NOT_NETBIOS => Some("destination name: not netbios"),
-        DESTINATION_BAD_POINTER => Some("destination name: bad pointer"),
-        _ => None,
-    }
+    let words = match status {
+        DESTINATION_TRUNCATED => "destination name: truncated",
+        DESTINATION_RESERVED_LABEL => "destination name: reserved label",
+        DESTINATION_POINTER => "destination name: pointer not allowed",
+        DESTINATION_LONG => "destination name: too long",
+        DESTINATION_NOT_NETBIOS => "destination name: not netbios",
+        DESTINATION_BAD_POINTER => "destination name: bad pointer",
+        _ => return None,
+    };
+    Some(words)
 }
 
 /// The words of a status on a packet.
 fn packet_words(status: u32) -> Option<&'static str>
     ensures { option_map (λ words. words.now) result ≡ packet_word status }
 {
-    match status {
-        TRUNCATED => Some("truncated"),
-        UNKNOWN_TYPE => Some("unknown type"),
-        MORE => Some("more bytes needed"),
-        RESERVED_FLAGS => Some("reserved flags"),
-        BAD_LENGTH => Some("bad length"),
-        TRAILING_BYTES => Some("trailing bytes"),
-        NAME_RDATA => Some("name rdata"),
-        NO_ITEM => Some("no item"),
-        OTHER_RDATA => Some("other rdata"),
-        NO_PART => Some("no part"),
-        _ => None,
-    }
+    let words = match status {
+        TRUNCATED => "truncated",
+        UNKNOWN_TYPE => "unknown type",
+        MORE => "more bytes needed",
+        RESERVED_FLAGS => "reserved flags",
+        BAD_LENGTH => "bad length",
+        TRAILING_BYTES => "trailing bytes",
+        NAME_RDATA => "name rdata",
+        NO_ITEM => "no item",
+        OTHER_RDATA => "other rdata",
+        NO_PART => "no part",
+        _ => return None,
+    };
+    Some(words)
 }
 
 /// The words of a status on what is asked to be written.
 fn request_words(status: u32) -> Option<&'static str>
     ensures { option_map (λ words. words.now) result ≡ request_word status }
 {
-    match status {
-        UNKNOWN_REQUEST => Some("unknown request"),
-        ZERO_PIECE => Some("zero piece"),
-        LONG_DATA => Some("data too long"),
-        _ => None,
-    }
+    let words = match status {
+        UNKNOWN_REQUEST => "unknown request",
+        ZERO_PIECE => "zero piece",
+        LONG_DATA => "data too long",
+        _ => return None,
+    };
+    Some(words)
 }
 
 /// The words of a status on a saved table.
 fn table_words(status: u32) -> Option<&'static str>
     ensures { option_map (λ words. words.now) result ≡ table_word status }
 {
-    match status {
-        TABLE_BAD_MAGIC => Some("table: bad magic"),
-        TABLE_TRUNCATED => Some("table: truncated"),
-        TABLE_NOT_CANONICAL => Some("table: not canonical"),
-        TABLE_LONG => Some("table: too long"),
-        TABLE_FULL_SOURCE => Some("table: full source"),
-        TABLE_FULL => Some("table: full"),
-        _ => None,
-    }
+    let words = match status {
+        TABLE_BAD_MAGIC => "table: bad magic",
+        TABLE_TRUNCATED => "table: truncated",
+        TABLE_NOT_CANONICAL => "table: not canonical",
+        TABLE_LONG => "table: too long",
+        TABLE_FULL_SOURCE => "table: full source",
+        TABLE_FULL => "table: full",
+        _ => return None,
+    };
+    Some(words)
 }
 
 /// The words of a status on the second of two saved tables.
 fn second_words(status: u32) -> Option<&'static str>
     ensures { option_map (λ words. words.now) result ≡ second_word status }
 {
-    match status {
-        SECOND_BAD_MAGIC => Some("second table: bad magic"),
-        SECOND_TRUNCATED => Some("second table: truncated"),
-        SECOND_NOT_CANONICAL => Some("second table: not canonical"),
-        SECOND_LONG => Some("second table: too long"),
-        SECOND_FULL_SOURCE => Some("second table: full source"),
-        SECOND_FULL => Some("second table: full"),
-        _ => None,
-    }
+    let words = match status {
+        SECOND_BAD_MAGIC => "second table: bad magic",
+        SECOND_TRUNCATED => "second table: truncated",
+        SECOND_NOT_CANONICAL => "second table: not canonical",
+        SECOND_LONG => "second table: too long",
+        SECOND_FULL_SOURCE => "second table: full source",
+        SECOND_FULL => "second table: full",
+        _ => return None,
+    };
+    Some(words)
 }
 
 /// The words of a status on a table that takes in no more.
 fn joining_words(status: u32) -> Option<&'static str>
     ensures { option_map (λ words. words.now) result ≡ joining_word status }
 {
-    match status {
-        MISPLACED_FIRST => Some("misplaced first"),
-        LONG => Some("too long"),
-        FULL_SOURCE => Some("full source"),
-        FULL => Some("full"),
-        _ => None,
-    }
+    let words = match status {
+        MISPLACED_FIRST => "misplaced first",
+        LONG => "too long",
+        FULL_SOURCE => "full source",
+        FULL => "full",
+        _ => return None,
+    };
+    Some(words)
 }
 
 /// The words of a status on a station and its names.
 fn station_words(status: u32) -> Option<&'static str>
     ensures { option_map (λ words. words.now) result ≡ station_word status }
 {
-    match status {
-        NAME_PRESENT => Some("name: present"),
-        TOO_MANY_NAMES => Some("too many names"),
-        NO_STATION => Some("no station"),
-        _ => None,
-    }
+    let words = match status {
+        NAME_PRESENT => "name: present",
+        TOO_MANY_NAMES => "too many names",
+        NO_STATION => "no station",
+        _ => return None,
+    };
+    Some(words)
 }
 
 /// The words of a status on a part of a packet.

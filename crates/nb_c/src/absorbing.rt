@@ -5,7 +5,6 @@ ghost use Rattle.nb_c.specs.Outputs.{Answers, OrMemory, all_late};
 ghost use Rattle.nb_c.specs.Stations.{OnStation};
 ghost use Rattle.nb_c.specs.declared.refusal.Refusal.TheVariants.{Fault};
 ghost use Rattle.nb_c.specs.declared.statuses.TheConstants.{NO_STATION};
-ghost use Rattle.nb_datagram.specs.Packet.{name_bytes};
 ghost use Rattle.nb_table.specs.Saved.{key_bytes};
 
 use crate::handle::{NbtStation, put_back, taken};
@@ -16,9 +15,9 @@ use crate::statuses::NO_STATION;
 use nb_datagram::{Datagram, Datagrams, Key};
 use nb_member::Member;
 use nb_member::laws::a_preview_is_what_is_handed_over;
-use nb_names::{Bytes, Name, NoMemory};
+use nb_names::{Bytes, NoMemory};
 use nb_table::Table;
-use std::alloc::{AllocError, Global};
+use std::alloc::Global;
 
 /// Joins the saved table of another station to the station's at this moment, and writes the
 /// datagrams that become whole by this, of those that are heard, by ascending key.
@@ -147,9 +146,7 @@ fn bytes_of(alloc: Global, datagrams: Datagrams) -> Result<Bytes, NoMemory>
 {
     let mut bytes = Vec::new(alloc);
     for datagram in datagrams.into_vec() {
-        if let Err(fault) = push_datagram(&datagram, &mut bytes) {
-            return Err(fault);
-        }
+        push_datagram(&datagram, &mut bytes)?;
     }
     Ok(Bytes::from_vec(bytes))
 }
@@ -158,50 +155,22 @@ fn bytes_of(alloc: Global, datagrams: Datagrams) -> Result<Bytes, NoMemory>
 fn push_datagram(datagram: &Datagram, bytes: &mut Vec<u8>) -> Result<(), NoMemory>
     ensures { OnOk result (bytes.new.items ≡ bytes.old.items ++ heard_bytes datagram.now) }
 {
-    if let Err(fault) = push_key(datagram.key(), bytes) {
-        return Err(fault);
-    }
-    if let Err(_) = bytes.push(datagram.kind().message_type()) {
-        return Err(NoMemory);
-    }
-    if let Err(fault) = push_name(datagram.source(), bytes) {
-        return Err(fault);
-    }
-    if let Err(fault) = push_name(datagram.destination(), bytes) {
-        return Err(fault);
-    }
+    push_key(datagram.key(), bytes)?;
+    bytes.push(datagram.kind().message_type())?;
+    bytes.extend_from_slice(datagram.source().to_domain().spelling())?;
+    bytes.extend_from_slice(datagram.destination().to_domain().spelling())?;
     let length = datagram.bytes().len() as u16;
-    if let Err(AllocError) = bytes.extend_from_slice(&length.to_be_bytes()) {
-        return Err(NoMemory);
-    }
-    match bytes.extend_from_slice(datagram.bytes()) {
-        Ok(()) => Ok(()),
-        Err(AllocError) => Err(NoMemory),
-    }
-}
-
-/// Adds the spelling of a name.
-fn push_name(name: &Name, bytes: &mut Vec<u8>) -> Result<(), NoMemory>
-    ensures { OnOk result (bytes.new.items ≡ bytes.old.items ++ name_bytes name.now) }
-{
-    match bytes.extend_from_slice(name.to_domain().spelling()) {
-        Ok(()) => Ok(()),
-        Err(AllocError) => Err(NoMemory),
-    }
+    bytes.extend_from_slice(&length.to_be_bytes())?;
+    bytes.extend_from_slice(datagram.bytes())?;
+    Ok(())
 }
 
 /// Adds the bytes of a key.
 fn push_key(key: Key, bytes: &mut Vec<u8>) -> Result<(), NoMemory>
     ensures { OnOk result (bytes.new.items ≡ bytes.old.items ++ key_bytes key) }
 {
-    if let Err(AllocError) = bytes.extend_from_slice(&key.ip) {
-        return Err(NoMemory);
-    }
-    if let Err(AllocError) = bytes.extend_from_slice(&key.port.to_be_bytes()) {
-        return Err(NoMemory);
-    }
-    match bytes.extend_from_slice(&key.id.to_be_bytes()) {
-        Ok(()) => Ok(()),
-        Err(AllocError) => Err(NoMemory),
-    }
+    bytes.extend_from_slice(&key.ip)?;
+    bytes.extend_from_slice(&key.port.to_be_bytes())?;
+    bytes.extend_from_slice(&key.id.to_be_bytes())?;
+    Ok(())
 }

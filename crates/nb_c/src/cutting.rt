@@ -13,7 +13,7 @@ use nb_datagram::limits::{DIRECT_HEADER_LENGTH, MAX_LENGTH};
 use nb_datagram::{Datagram, Fragment, Key, Kind, Packet, Pieces, cut, encode};
 use nb_names::text_laws::{one_name, one_text_fault};
 use nb_names::{Bytes, Name, NoMemory, TextFault};
-use std::alloc::{AllocError, Global};
+use std::alloc::Global;
 
 /// How a datagram is sent: what its packets say but for the names, and the most data of each.
 #[derive(Clone, Copy)]
@@ -205,14 +205,9 @@ fn cut_whole(
       bytes = contents.now;
     }) sent.most) }
 {
-    match Bytes::copy(alloc, contents) {
-        Ok(bytes) => {
-            let key = key_of(sent);
-            let datagram = Datagram::new(key, kind, source, destination, bytes).unwrap();
-            cut_datagram(alloc, &datagram, sent.most)
-        }
-        Err(fault) => Err(fault),
-    }
+    let bytes = Bytes::copy(alloc, contents)?;
+    let datagram = Datagram::new(key_of(sent), kind, source, destination, bytes).unwrap();
+    cut_datagram(alloc, &datagram, sent.most)
 }
 
 /// The packets of a datagram, each with so many bytes of data at most.
@@ -233,9 +228,7 @@ fn joined(alloc: Global, pieces: Pieces<'_>) -> Result<Bytes, NoMemory>
 {
     let mut bytes = Vec::new(alloc);
     for piece in pieces.into_vec() {
-        if let Err(fault) = push_piece(alloc, piece, &mut bytes) {
-            return Err(fault);
-        }
+        push_piece(alloc, piece, &mut bytes)?;
     }
     Ok(Bytes::from_vec(bytes))
 }
@@ -244,10 +237,8 @@ fn joined(alloc: Global, pieces: Pieces<'_>) -> Result<Bytes, NoMemory>
 fn push_piece(alloc: Global, piece: Fragment<'_>, bytes: &mut Vec<u8>) -> Result<(), NoMemory>
     ensures { OnOk result (bytes.new.items ≡ bytes.old.items ++ counted (packet_of piece.entry)) }
 {
-    match encode(alloc, &Packet::Direct(piece)) {
-        Ok(packet) => push_counted(packet.as_slice(), bytes),
-        Err(fault) => Err(fault),
-    }
+    let packet = encode(alloc, &Packet::Direct(piece))?;
+    push_counted(packet.as_slice(), bytes)
 }
 
 /// Adds the bytes of a packet, after their number in two bytes.
@@ -255,11 +246,7 @@ fn push_counted(packet: &[u8], bytes: &mut Vec<u8>) -> Result<(), NoMemory>
     ensures { OnOk result (bytes.new.items ≡ bytes.old.items ++ counted packet.now) }
 {
     let length = (packet.len() % 65_536) as u16;
-    if let Err(AllocError) = bytes.extend_from_slice(&length.to_be_bytes()) {
-        return Err(NoMemory);
-    }
-    match bytes.extend_from_slice(packet) {
-        Ok(()) => Ok(()),
-        Err(AllocError) => Err(NoMemory),
-    }
+    bytes.extend_from_slice(&length.to_be_bytes())?;
+    bytes.extend_from_slice(packet)?;
+    Ok(())
 }

@@ -11,7 +11,7 @@ use nb_names::{Bytes, NoMemory};
 use nb_session::laws::one_answer;
 use nb_session::limits::{HEADER_LENGTH, MAX_MESSAGE};
 use nb_session::{Kind, Parsed, parse};
-use std::alloc::{AllocError, Global};
+use std::alloc::Global;
 
 /// Writes the packet with this type and this body.
 ///
@@ -60,18 +60,10 @@ fn frame(alloc: Global, kind: Kind, body: &[u8]) -> Result<Bytes, NoMemory>
 {
     let size = body.len();
     let [high, low] = ((size % 65_536) as u16).to_be_bytes();
-    let mut bytes = match Vec::with_capacity(alloc, HEADER_LENGTH + size) {
-        Ok(bytes) => bytes,
-        Err(AllocError) => return Err(NoMemory),
-    };
-    let header = [kind.packet_type(), (size / 65_536) as u8, high, low];
-    if let Err(AllocError) = bytes.extend_from_slice(&header) {
-        return Err(NoMemory);
-    }
-    match bytes.extend_from_slice(body) {
-        Ok(()) => Ok(Bytes::from_vec(bytes)),
-        Err(AllocError) => Err(NoMemory),
-    }
+    let mut bytes = Vec::with_capacity(alloc, HEADER_LENGTH + size)?;
+    bytes.extend_from_slice(&[kind.packet_type(), (size / 65_536) as u8, high, low])?;
+    bytes.extend_from_slice(body)?;
+    Ok(Bytes::from_vec(bytes))
 }
 
 /// The bytes, if they are a packet, else why they aren't.

@@ -94,8 +94,5 @@ fn text_of(alloc: Global, spelling: &[u8]) -> Result<Bytes, Refusal>
 fn text_bytes(alloc: Global, name: &Name) -> Result<Bytes, NoMemory>
     ensures { IfOk result (λ bytes. bytes ≡ written name.now) }
 {
-    match name_text(alloc, name) {
-        Ok(text) => Ok(Bytes::from_vec(text.into_bytes())),
-        Err(fault) => Err(fault),
-    }
+    Ok(Bytes::from_vec(name_text(alloc, name)?.into_bytes()))
 }

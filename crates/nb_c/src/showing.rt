@@ -38,10 +38,8 @@ fn shown(alloc: Global, port: u16, payload: &[u8]) -> Result<Bytes, NoMemory>
     ensures { IfOk result (Shown payload.now port) }
 {
     let mut text = String::new(alloc);
-    match push_packet(port, payload, &mut text) {
-        Ok(()) => Ok(Bytes::from_vec(text.into_bytes())),
-        Err(fault) => Err(fault),
-    }
+    push_packet(port, payload, &mut text)?;
+    Ok(Bytes::from_vec(text.into_bytes()))
 }
 
 /// Writes the phrase of a payload that came to a port, as `nbt show --brief` prints it.
@@ -69,10 +67,8 @@ fn phrase(alloc: Global, port: u16, payload: &[u8]) -> Result<Bytes, NoMemory>
     ensures { IfOk result (IsSaid payload.now port) }
 {
     let mut text = String::new(alloc);
-    match push_phrase(alloc, port, payload, &mut text) {
-        Ok(()) => Ok(Bytes::from_vec(text.into_bytes())),
-        Err(fault) => Err(fault),
-    }
+    push_phrase(alloc, port, payload, &mut text)?;
+    Ok(Bytes::from_vec(text.into_bytes()))
 }
 
 /// Adds the phrase of a payload.

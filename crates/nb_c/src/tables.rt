@@ -123,10 +123,8 @@ fn listed(alloc: Global, table: &[u8]) -> Result<Bytes, Refusal>
 pub(crate) fn lines_of(alloc: Global, table: &Table) -> Result<Bytes, NoMemory>
     ensures { IfOk result (λ bytes. bytes ≡ listing table.now.contents) }
 {
-    match list_keys(alloc, table) {
-        Ok(lines) => Ok(Bytes::from_vec(lines.into_bytes())),
-        Err(fault) => Err(fault),
-    }
+    let lines = list_keys(alloc, table)?;
+    Ok(Bytes::from_vec(lines.into_bytes()))
 }
 
 /// Writes the JSON objects of a saved table's keys, each a line, as `nbt list --json` prints them.
@@ -166,8 +164,6 @@ fn told(alloc: Global, table: &[u8]) -> Result<Bytes, Refusal>
 fn objects_of(alloc: Global, table: &Table) -> Result<Bytes, NoMemory>
     ensures { IfOk result (λ bytes. bytes ≡ listed_objects table.now.contents) }
 {
-    match list_objects(alloc, table) {
-        Ok(objects) => Ok(Bytes::from_vec(objects)),
-        Err(fault) => Err(fault),
-    }
+    let objects = list_objects(alloc, table)?;
+    Ok(Bytes::from_vec(objects))
 }

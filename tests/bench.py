@@ -1,8 +1,8 @@
 #!/usr/bin/env python3
 """What the built program's commands cost, over captures made here, beside bars.  Usage: tests/bench.py [--small] [PROGRAM]
 
-Prints a line for each command and workload: instructions a packet (counted by valgrind's callgrind, where it is installed; they
-are the same from run to run), packets a second (the best of three runs), the peak of resident memory, and how many times the
+Prints a line for each command and workload: instructions a packet (counted by valgrind's cachegrind, where it is installed;
+they are the same from run to run), packets a second (the best of three runs), the peak of resident memory, and how many times the
 instructions are those of the plain program of tests/plain/ on the same crates, or of the same packets as text, beside the most that
 they may be (tests/lib/bench_bars.py). Then come lines on growth. A number that is more than 5 % past its bar, or past what it is known
 to be, is a failure, and the last line counts them. With --small captures are a tenth as long.
@@ -76,10 +76,10 @@ def instructions(command, path):
     """How many instructions the command takes over an input, or None without valgrind."""
     if not shutil.which('valgrind'):
         return None
-    count = ['valgrind', '--tool=callgrind', '--callgrind-out-file=/dev/null']
+    count = ['valgrind', '--tool=cachegrind', '--cache-sim=no', '--cachegrind-out-file=/dev/null']
     with open(path, 'rb') as capture:
         done = subprocess.run(count + command, stdin=capture, stdout=subprocess.DEVNULL, stderr=subprocess.PIPE, check=True)
-    return int(re.search(rb'Collected : (\d+)', done.stderr).group(1))
+    return int(re.search(rb'I +refs: +([\d,]+)', done.stderr).group(1).replace(b',', b''))
 
 
 def seconds(command, path):

@@ -47,36 +47,56 @@ files() {
 # wanted FILE: what an example prints, which its last comment says.
 wanted() { awk '/^ \*\/$/ { shown = 0 } shown { sub(/^ \* ?/, ""); print } /^\/\* Prints:$/ { shown = 1 }' "$1"; }
 
-# example FILE WAY OPTION..: an example, compiled and linked so, prints what it says.
+# example FILE WAY WORD..: an example, compiled and linked by these words, prints what it says.
 example() {
-    $CC "${strict[@]}" -o "$room/example" "$1" "${@:3}" >"$room/log" 2>&1
+    $CC "${strict[@]}" -o "$room/example" "${@:3}" >"$room/log" 2>&1
     count $? "$(basename "$1"), $2: $(head -n 1 "$room/log")"
-    LD_LIBRARY_PATH=$built ended ${under[@]+"${under[@]}"} "$room/example" 2>"$room/errors" | sed 's/ *$//' | same "$(wanted "$1")" "$(basename "$1"), $2"
+    LD_LIBRARY_PATH=$built ended "$room/example" 2>"$room/errors" | sed 's/ *$//' | same "$(wanted "$1")" "$(basename "$1"), $2"
     [ ! -s "$room/errors" ]
     count $? "$(basename "$1"), $2: $(head -n 1 "$room/errors")"
 }
 
-# Each call of the header has an example of its own.
+# Each call of the header has an example of its own. Their objects are kept for valgrind.
 examples() {
-    local each under=()
+    local each object
     for each in $(calls); do
         [ -f "$top/bindings/c/${each#nbt_}.c" ]
         count $? "an example of $each"
     done
+    mkdir "$room/objects"
     for each in "$top"/bindings/c/*.c; do
-        example "$each" shared "-L$built" -lnbt
-        example "$each" static "$built/libnbt.a"
-        example "$each" sanitized -fsanitize=address,undefined -fno-sanitize-recover=all "$built/libnbt.a"
+        object=$room/objects/$(basename "$each" .c).o
+        $CC "${strict[@]}" -c -o "$object" "$each" >"$room/log" 2>&1 || cat "$room/log"
+        example "$each" shared "$object" "-L$built" -lnbt
+        example "$each" static "$object" "$built/libnbt.a"
+        example "$each" sanitized -fsanitize=address,undefined -fno-sanitize-recover=all "$each" "$built/libnbt.a"
     done
     printf '#include <nbt.h>\nint main() { return nbt_status_text(0, nullptr, 0, nullptr) == NBT_DONE; }\n' >"$room/header.cpp"
     c++ -Wall -Wextra -Werror "-I$top/include" -c -o "$room/header.o" "$room/header.cpp" >"$room/log" 2>&1
     count $? "the header in C++: $(head -n 1 "$room/log")"
 }
 
+# The examples under valgrind, which takes long to begin: they are linked into one program, tests/lib/examples.c, in which each is a
+# process of its own.
 under_valgrind() {
-    local each under=(valgrind -q --error-exitcode=99 --leak-check=full --read-inline-info=no)
+    local each number name status list='' folder=$room/valgrind
+    mkdir "$folder"
     for each in "$top"/bindings/c/*.c; do
-        example "$each" valgrind "$built/libnbt.a"
+        name=$(basename "$each" .c)
+        objcopy --redefine-sym "main=example_$name" "$room/objects/$name.o" "$folder/$name.o" >"$room/log" 2>&1
+        count $? "$name.c, valgrind: $(head -n 1 "$room/log")"
+        list+="EXAMPLE($name) "
+    done
+    $CC "${strict[@]}" "-DEXAMPLES=$list" -o "$room/examples" "$here/lib/examples.c" "$folder"/*.o "$built/libnbt.a" >"$room/log" 2>&1 \
+        && ended valgrind -q --error-exitcode=99 --leak-check=full --read-inline-info=no "$room/examples" "$folder" \
+            >"$folder/statuses" 2>"$folder/found"
+    count $? "tests/lib/examples.c, valgrind: $(cat "$room/log" "$folder/found" | head -n 1)"
+    for each in "$top"/bindings/c/*.c; do
+        name=$(basename "$each" .c) number='' status=''
+        IFS=' ' read -r number status < <(sed -n "s/ $name / /p" "$folder/statuses")
+        sed 's/ *$//' "$folder/$name.output" | same "$(wanted "$each")" "$name.c, valgrind"
+        [ "$status" = 0 ] && [ ! -s "$folder/$name.errors" ] && ! grep "^==$number==" "$folder/found" >"$room/errors"
+        count $? "$name.c, valgrind: status $status, $(head -n 1 "$room/errors")"
     done
 }
 
@@ -152,12 +172,13 @@ hostile() {
 # nothing behind where it gives up.
 short_of_memory() {
     local granted leaks=0 source=$top/bindings/c/$1.c
+    wanted "$source" >"$room/wanted"
     $CC "${strict[@]}" -fsanitize=address -Wl,--wrap=malloc,--wrap=realloc -o "$room/example" "$source" "$here/lib/wrapped_memory.c" \
         "$built/libnbt.a" >"$room/log" 2>&1
     count $? "$1.c over tests/lib/wrapped_memory.c: $(head -n 1 "$room/log")"
     for ((granted = 0; granted < 200; granted++)); do
         NBT_GRANTED=$granted ended "$room/example" >"$room/output" 2>"$room/errors" \
-            && sed 's/ *$//' "$room/output" | cmp -s - <(wanted "$source") && break
+            && sed 's/ *$//' "$room/output" | cmp -s - "$room/wanted" && break
         ! grep -q Sanitizer "$room/errors" || leaks=$((leaks + 1))
     done
     [ "$granted" -gt 0 ] && [ "$granted" -lt 200 ] && [ "$leaks" -eq 0 ]
@@ -235,7 +256,10 @@ values() {
     "$here/lib/values_payloads.py" --seed 11 "$values" >"$room/values"
     grep '^137 ' "$room/values" >"$room/values137"
     said "$room/values"
-    said "$room/values137"
+    # Of those of port 137 the model says the same, but for the numbers of their lines.
+    awk '/^[0-9]/ { shown = $2 == 137; if (shown) sub(/^[0-9]+/, ++count) } shown' "$room/values.wanted" >"$room/values137.wanted"
+    [ "$(grep -cE '^[0-9]+ 137 ' "$room/values137.wanted")" -eq "$(wc -l <"$room/values137")" ]
+    count $? "what it reads in the $(wc -l <"$room/values137") payloads of port 137"
     [ "$(grep -c ' whole$' "$room/values137.wanted")" -ge 4000 ] && [ "$(grep -c ' refused ' "$room/values137.wanted")" -ge 15000 ]
     count $? 'at least 19,000 payloads of port 137, of which some stand and many are refused'
     $CC "${strict[@]}" -fsanitize=address,undefined -fno-sanitize-recover=all -o "$room/service_values" \
@@ -360,6 +384,8 @@ installed_below() {
 # What Cargo takes in the place of crates.io, without network: Debian's packages of crates, in which serde is.
 registry=/usr/share/cargo/registry
 debian=(--offline --config 'source.crates-io.replace-with="debian"' --config "source.debian.directory=\"$registry\"")
+# What is compiled here runs a few times: nothing is kept for a later compilation, nor for a debugger.
+export CARGO_INCREMENTAL=0 CARGO_PROFILE_DEV_DEBUG=0
 
 # in_rust COMMAND [OPTION]..: cargo's command on a copy of the crate for Rust, over what is installed below $room/root. It may take ten
 # minutes, for beside other work serde alone takes two.
@@ -395,12 +421,13 @@ rust() {
         in_rust_too clippy "${debian[@]}" --features "$each" --all-targets -- -D warnings
         RUSTDOCFLAGS='-D warnings' in_rust doc "${debian[@]}" --features "$each" --no-deps
     done
-    in_rust build "${debian[@]}" --release --examples
+    released
+    in_rust build --offline --release --manifest-path "$room/released/Cargo.toml"
     lines "$payloads" 4
-    LD_LIBRARY_PATH=$room/root/lib ended "$room/target/release/examples/show_lines" <"$room/lines4" >"$room/output" 2>"$room/errors"
+    LD_LIBRARY_PATH=$room/root/lib ended "$room/target/release/show_lines" <"$room/lines4" >"$room/output" 2>"$room/errors"
     cmp -s "$room/lines4.wanted" "$room/output"
     count $? "nbt::show_into prints what nbt show prints: $(tail -n 1 "$room/errors")"
-    LD_LIBRARY_PATH=$room/root/lib reads "$room/values" show_values.rs ended "$room/target/release/examples/show_values"
+    LD_LIBRARY_PATH=$room/root/lib reads "$room/values" show_values.rs ended "$room/target/release/show_values"
     block rust >"$room/first.rs"
     user_program first "$room/first.rs" </dev/null | same "$(block text 6)" 'the program in Rust of docs/CALLING.md'
     block rust 2 >"$room/as_json.rs"
@@ -408,6 +435,18 @@ rust() {
         | same "$(block text 7)" 'the program in Rust of docs/CALLING.md with serde'
     status_answers
     [ ! -f "$room/samba.txt" ] || node_statuses
+}
+
+# released: a package of the crate's examples, but for the one that needs serde, as programs: by itself the crate has them compiled with
+# what its tests need too.
+released() {
+    local each
+    mkdir "$room/released"
+    printf '[package]\nname = "released"\nversion = "0.1.0"\nedition = "2021"\n\n[dependencies]\nnbt.path = "%s"\n' "$room/rust" \
+        >"$room/released/Cargo.toml"
+    for each in "$room"/rust/examples/*.rs; do
+        [[ $each == */as_json.rs ]] || printf '\n[[bin]]\nname = "%s"\npath = "%s"\n' "$(basename "$each" .rs)" "$each"
+    done >>"$room/released/Cargo.toml"
 }
 
 # The program of examples/ in Rust that answers: two requests of its own names and one of any, and neither another name nor a query.

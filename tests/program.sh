@@ -81,7 +81,7 @@ saved() {
 
 # Three tables in every order and every grouping, beside a model that finds their join from the definitions.
 merges() {
-    counted_by random_merges.py "$program"
+    counted_by random_merges.py "$program" "$room/refuse_memory.so"
 }
 
 # What `--json` prints, beside a model that makes the objects from payloads.

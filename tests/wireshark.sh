@@ -302,20 +302,18 @@ EOF
         "$room/output")" = '3600 3598' ]
     count $? "an hour of datagrams through a pipe: $(tail -n 1 "$room/output")"
 
-    # On a terminal the progress comes, and goes; not with --quiet.
-    local each="$here/../tools/pcap2cap"
-    ended "$here/lib/terminal.py" "$room/output" "$each" "$room/long.pcap" >"$room/shown" &&
+    # On a terminal the progress comes, at most twice a second, and goes; not with --quiet.
+    local each="$here/../tools/pcap2cap" began=$SECONDS took=''
+    ended "$here/lib/terminal.py" "$room/output" "$each" "$room/long.pcap" >"$room/shown" && took=$((SECONDS - began)) &&
         grep -q $'^\rpcap2cap: [0-9]* of [0-9]* bytes *\r.* *\rpcap2cap: more than' <<<"$(head -n 1 "$room/shown")" &&
         grep -qE $'(^| \r)100000 frames, 100000 of these ports, 0 left out\r$' <<<"$(tail -n 1 "$room/shown")"
     count $? 'pcap2cap on a terminal'
+    [ -n "$took" ] && [ "$(tr '\r' '\n' <"$room/shown" | grep -c ' of [0-9]* bytes')" -le $((2 * took + 3)) ]
+    count $? 'pcap2cap on a terminal: at most twice a second'
     ended "$here/lib/terminal.py" "$room/output" "$each" --quiet "$room/network.pcap" >"$room/shown" && [ ! -s "$room/shown" ]
     count $? 'pcap2cap --quiet on a terminal'
     ended "$here/lib/terminal.py" "$room/output" sh -c "'$each' '$room/long.pcap' | cat" >"$room/shown" && ! grep -q ' of [0-9]* bytes' "$room/shown"
     count $? 'pcap2cap on a terminal, into a pipe: no progress among what its reader prints'
-    local began=$SECONDS
-    ended "$here/lib/terminal.py" "$room/output" "$each" "$room/long.pcap" >"$room/shown" &&
-        [ "$(tr '\r' '\n' <"$room/shown" | grep -c ' of [0-9]* bytes')" -le $((2 * (SECONDS - began) + 3)) ]
-    count $? 'pcap2cap on a terminal: at most twice a second'
 }
 
 # peak FILE: the most memory of pcap2cap itself, in kB; tshark's comes from another process.

@@ -19,44 +19,20 @@ A case is a request, that there are some, that some refusal is met, and that wit
 import difflib
 import os
 import re
-import subprocess
 import sys
 import tempfile
-from dataclasses import dataclass
 
-# How long a run may take, in seconds.
-LONGEST = 120
+from served import Program, Served
+
 # The commands that write as they read.
 WRITING = ('show', 'replay')
 
 
-@dataclass(frozen=True)
-class Run:
-    """What a program did."""
-    status: int
-    output: bytes
-    errors: bytes
-
-
-@dataclass
-class Program:
-    """A program, its words and its input."""
-    shim: str
-    command: list
-    input: str
-
-    def run(self, **settings):
-        """Runs it over the shim."""
-        with open(self.input, 'rb') as given:
-            ran = subprocess.run(self.command, stdin=given, capture_output=True, timeout=LONGEST, check=False,
-                                 env={**os.environ, 'LD_PRELOAD': self.shim, **settings})
-        return Run(ran.returncode, ran.stdout, ran.stderr)
-
-    def ample(self):
-        """What it does with ample memory, and how many requests it makes."""
-        with tempfile.NamedTemporaryFile('r') as counted:
-            ran = self.run(NBT_REQUESTS=counted.name)
-            return ran, int(counted.read() or 0)
+def with_ample(program):
+    """What a program does with ample memory, and how many requests it makes."""
+    with tempfile.NamedTemporaryFile('r') as counted:
+        ran = program.run(NBT_REQUESTS=counted.name)
+        return ran, int(counted.read() or 0)
 
 
 def is_front(front, whole):
@@ -101,14 +77,15 @@ FORMS = {'again': again, 'command': command, 'digits': digits, 'examples': examp
 
 def tried(form, program):
     """Each case, whether it went well, and why not."""
-    ample, requests = program.ample()
+    ample, requests = with_ample(program)
     yield f'{requests} requests for memory', requests > 0, 'there is none'
     refused = 0
-    for number in range(1, requests + 1):
-        ran = program.run(NBT_REFUSED=str(number))
-        did = FORMS[form](ample, ran, program.command[1:])
-        refused += did == 'refused'
-        yield f'request {number} of {requests} refused', did is not None, f'status {ran.status}, {ran.errors[-200:]!r}'
+    with Served(program) as served:
+        for number in range(1, requests + 1):
+            ran = served.run(number)
+            did = FORMS[form](ample, ran, program.command[1:])
+            refused += did == 'refused'
+            yield f'request {number} of {requests} refused', did is not None, f'status {ran.status}, {ran.errors[-200:]!r}'
     yield 'some request that is refused is met', refused > 0, 'none is'
     yield 'no request refused', program.run(NBT_REFUSED=str(requests + 1)) == ample, 'it does otherwise'
 
@@ -116,7 +93,7 @@ def tried(form, program):
 def main():
     form, shim, given, *words = sys.argv[1:]
     passed, failed = 0, 0
-    for what, is_well, why in tried(form, Program(shim, words, given)):
+    for what, is_well, why in tried(form, Program(shim, words, os.open(given, os.O_RDONLY))):
         passed, failed = passed + is_well, failed + (not is_well)
         if not is_well:
             print(f'failed: {what}: {why}')

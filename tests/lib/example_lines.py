@@ -128,12 +128,22 @@ def example(line):
     return f'{call} {asked(call, words)} = {answer}' if words else line
 
 
+def define(line, words):
+    """Adds the word that a line defines."""
+    name, text = line.removeprefix('let ').split(' = ', 1)
+    words[name] = bytes_of(written_out(text, words))
+
+
+def written_lines(subject):
+    """The lines of a file as they are written."""
+    return (FOLDER / f'{subject}.txt').read_text().splitlines()
+
+
 def lines_of(subject, words):
     """The lines of a file, whose words are added to those."""
-    for line in (FOLDER / f'{subject}.txt').read_text().splitlines():
+    for line in written_lines(subject):
         if line.startswith('let '):
-            name, text = line[4:].split(' = ', 1)
-            words[name] = bytes_of(written_out(text, words))
+            define(line, words)
         elif line.startswith('each '):
             _, places, repeated = line.split(' ', 2)
             first, end = map(int, places.split('..'))
@@ -152,6 +162,7 @@ def definitions():
     """The bytes of each word that a file defines."""
     for subject in SUBJECTS:
         words = {}
-        for _ in lines_of(subject, words):
-            pass
+        for line in written_lines(subject):
+            if line.startswith('let '):
+                define(line, words)
         yield from words.values()

@@ -4,6 +4,8 @@
  * NBT_REQUESTS      a file that gets the number of requests, in decimal, when the program ends
  * NBT_CALL_REFUSED  the number of the request to refuse in each call between marks, the first of each being 1
  * NBT_CALLS         a file that gets how many requests each call between marks made, a line each, when the program ends
+ * NBT_SERVES        two descriptors: for each number that comes from the first one the program runs, as a process of its own, with the
+ *                   request of that number refused, and its status goes to the second one. So it is loaded once for many runs.
  *
  * A request is a call of malloc or realloc, which are all that the program's allocator calls. A program marks a call of
  * its own by two requests of an odd size, which no other request has: one of MARK bytes right before the call, and right
@@ -13,6 +15,8 @@
 #include <errno.h>
 #include <stdio.h>
 #include <stdlib.h>
+#include <sys/wait.h>
+#include <unistd.h>
 
 #define MARK 50021
 #define MOST_CALLS 1000000
@@ -76,11 +80,32 @@ static unsigned long asked(const char *name)
     return number == NULL ? 0 : strtoul(number, NULL, 10);
 }
 
+/* Runs the program for each number. Each run returns from here as a child; what serves ends here. */
+static void serve(int numbers, int statuses)
+{
+    while (read(numbers, &refused, sizeof refused) == sizeof refused) {
+        pid_t child = fork();
+        int status;
+        if (child == 0) {
+            close(numbers);
+            close(statuses);
+            return;
+        }
+        if (child < 0 || waitpid(child, &status, 0) != child || write(statuses, &status, sizeof status) != sizeof status)
+            _exit(1);
+    }
+    _exit(0);
+}
+
 __attribute__((constructor)) static void begin(void)
 {
-    requests = 0;
+    const char *served = getenv("NBT_SERVES");
+    int numbers, statuses;
     refused = asked("NBT_REFUSED");
     call_refused = asked("NBT_CALL_REFUSED");
+    if (served != NULL && sscanf(served, "%d %d", &numbers, &statuses) == 2)
+        serve(numbers, statuses);
+    requests = 0;
 }
 
 /* Writes numbers into the file that a variable names, if it names one. */

@@ -1,0 +1,77 @@
+"""Runs of a program over tests/lib/refuse_memory.c, of which many take one start: the shim serves them, each in a process of its own."""
+import os
+import select
+import signal
+import struct
+import subprocess
+from dataclasses import dataclass
+
+# How long a run may take, in seconds.
+LONGEST = 120
+
+
+@dataclass(frozen=True)
+class Run:
+    """What a program did."""
+    status: int
+    output: bytes
+    errors: bytes
+
+
+class Program:
+    """A program over the shim, with its words and an input. What it writes goes to files, which each run begins anew."""
+
+    def __init__(self, shim, command, given):
+        self.shim, self.command = shim, command
+        self.streams = [given, *(os.memfd_create(name) for name in ('output', 'errors'))]
+
+    def start(self, others=(), **settings):
+        """Starts it."""
+        self.rewind()
+        given, output, errors = self.streams
+        return subprocess.Popen(self.command, stdin=given, stdout=output, stderr=errors, pass_fds=others, start_new_session=True,
+                                env={**os.environ, 'LD_PRELOAD': self.shim, **settings})
+
+    def rewind(self):
+        """Puts its input and what it writes at their begin, where every run starts."""
+        for each in self.streams:
+            os.lseek(each, 0, os.SEEK_SET)
+        for each in self.streams[1:]:
+            os.ftruncate(each, 0)
+
+    def ran(self, status):
+        """What it did, by its status."""
+        return Run(status, *(os.pread(each, os.fstat(each).st_size, 0) for each in self.streams[1:]))
+
+    def run(self, **settings):
+        """Runs it once, in a process that is started for it."""
+        return self.ran(self.start(**settings).wait(LONGEST))
+
+
+class Served:
+    """A program that is loaded once, and then runs as often as it is asked to."""
+
+    def __init__(self, program):
+        self.program = program
+        theirs, self.numbers = os.pipe()
+        self.statuses, to_us = os.pipe()
+        self.server = program.start((theirs, to_us), NBT_SERVES=f'{theirs} {to_us}')
+        os.close(theirs)
+        os.close(to_us)
+
+    def __enter__(self):
+        return self
+
+    def __exit__(self, *_):
+        os.killpg(self.server.pid, signal.SIGKILL)
+        self.server.wait()
+        os.close(self.numbers)
+        os.close(self.statuses)
+
+    def run(self, refused=0):
+        """Runs it with the request of this number refused, or none."""
+        self.program.rewind()
+        os.write(self.numbers, struct.pack('L', refused))
+        if not select.select([self.statuses], [], [], LONGEST)[0]:
+            raise TimeoutError(f'{self.program.command}: it takes more than {LONGEST} seconds')
+        return self.program.ran(os.waitstatus_to_exitcode(*struct.unpack('i', os.read(self.statuses, 4))))

@@ -1,15 +1,18 @@
 //! A datagram service packet, told to a sink.
-#![tactic(auto, using(nb_telling::proofs::FoldLemmas::told_both))]
 
-ghost use Rattle.std.specs.Prelude.{◌≡◌, ◌++◌, List, ℕ, OnOk, fold};
+ghost use Rattle.std.specs.Prelude.{◌≡◌, ◌∷◌, [], ◌++◌, List, ℕ, OnOk, fold};
+ghost use Rattle.nb_names.specs.NameText.{written};
+ghost use Rattle.nb_datagram.specs.Texts.{kind_text};
+ghost use Rattle.nb_telling.specs.Fields.{Number, Text};
 ghost use Rattle.nb_telling.specs.Telling.{Grows};
 ghost use Rattle.nb_text.specs.DatagramFields.{begin_fields, datagram_fields, error_fields, fragment_fields, parts_fields, query_fields};
+ghost use Rattle.nb_text.specs.Keys.{destination_key, offset_key, source_key};
 ghost use Rattle.nb_text.specs.Tells.{IsTold};
 ghost use Rattle.nb_text.specs.Words.{query_word};
 
 use crate::faults::tell_refusal;
-use crate::keys::{CODE, DATA, DESTINATION, FLAGS, KEY, KIND, OFFSET, SOURCE};
-use crate::words::tell_used;
+use crate::keys::{CODE, DATA, DESTINATION, FLAGS, KEY, OFFSET, SOURCE};
+use crate::words::{tell_byte, tell_kind, tell_number, tell_used};
 use nb_datagram::{
     ErrorPacket, Key, LentFragment, LentPacket, LentQuery, QueryKind, decode_lent, kind_name,
 };
@@ -57,8 +60,8 @@ fn tell_begin<S: Sink>(kind: &str, flags: u8, key: Key, sink: &mut S) -> Result<
         (S.seen sink.new ≡ fold S.after (S.seen sink.old) (begin_fields kind.now flags key)) }
     ensures front { Grows S.is_front (S.seen sink.old) (S.seen sink.new) }
 {
-    sink.text(KIND, kind)?;
-    sink.digits(FLAGS, &[flags])?;
+    tell_kind(kind, sink)?;
+    tell_byte(FLAGS, flags, sink)?;
     sink.shown(KEY, &key)
 }
 
@@ -68,16 +71,36 @@ fn tell_fragment<S: Sink>(fragment: &LentFragment<'_>, sink: &mut S) -> Result<(
         (S.seen sink.new ≡ fold S.after (S.seen sink.old) (fragment_fields fragment.now)) }
     ensures front { Grows S.is_front (S.seen sink.old) (S.seen sink.new) }
 {
+    tell_fragment_header(fragment, sink)?;
+    tell_ends(fragment, sink)?;
+    sink.data(DATA, fragment.bytes())
+}
+
+/// Tells what a fragment's header says.
+fn tell_fragment_header<S: Sink>(fragment: &LentFragment<'_>, sink: &mut S) -> Result<(), NoMemory>
+    ensures told { OnOk result (S.seen sink.new ≡ fold S.after (S.seen sink.old)
+        (begin_fields (kind_text fragment.now.kind) fragment.now.flags fragment.now.key
+        ++ Number offset_key fragment.now.offset ∷ [])) }
+    ensures front { Grows S.is_front (S.seen sink.old) (S.seen sink.new) }
+{
     tell_begin(
         kind_name(fragment.kind()),
         fragment.flags(),
         fragment.key(),
         sink,
     )?;
-    sink.number(OFFSET, u64::from(fragment.offset()))?;
+    tell_number(OFFSET, fragment.offset(), sink)
+}
+
+/// Tells who sends a fragment, and to whom.
+fn tell_ends<S: Sink>(fragment: &LentFragment<'_>, sink: &mut S) -> Result<(), NoMemory>
+    ensures told { OnOk result (S.seen sink.new ≡ fold S.after (S.seen sink.old)
+        (Text source_key (written fragment.now.source)
+        ∷ Text destination_key (written fragment.now.destination) ∷ [])) }
+    ensures front { Grows S.is_front (S.seen sink.old) (S.seen sink.new) }
+{
     sink.shown(SOURCE, fragment.source())?;
-    sink.shown(DESTINATION, fragment.destination())?;
-    sink.data(DATA, fragment.bytes())
+    sink.shown(DESTINATION, fragment.destination())
 }
 
 /// Tells an error's parts.
@@ -87,7 +110,7 @@ fn tell_error<S: Sink>(error: ErrorPacket, sink: &mut S) -> Result<(), NoMemory>
     ensures front { Grows S.is_front (S.seen sink.old) (S.seen sink.new) }
 {
     tell_begin("error", error.flags, error.key, sink)?;
-    sink.digits(CODE, &[error.code])
+    tell_byte(CODE, error.code, sink)
 }
 
 /// Tells a query's parts.

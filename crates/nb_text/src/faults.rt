@@ -1,5 +1,4 @@
 //! Why a payload begins with no packet, told to a sink.
-#![tactic(auto, using(nb_telling::proofs::FoldLemmas::told_both))]
 
 ghost use Rattle.std.specs.Prelude.{◌≡◌, IfSome, OnOk, fold};
 ghost use Rattle.nb_telling.specs.Telling.{Grows};

@@ -1,6 +1,5 @@
 //! What still stands at the front of a payload of port 137 that begins with no packet, told to a
 //! sink: the header, and the questions and records that stand whole.
-#![tactic(auto, using(nb_telling::proofs::FoldLemmas::told_both))]
 
 ghost use Rattle.std.specs.Prelude.{◌≡◌, ◌+◌, ◌<◌, ℕ, List, None, IfSome, IfOk, OnOk, codes, fold};
 ghost use Rattle.std.specs.List.{flat_map};

@@ -1,5 +1,4 @@
 //! A name service packet, told to a sink.
-#![tactic(auto, using(nb_telling::proofs::FoldLemmas::told_both))]
 
 ghost use Rattle.std.specs.Prelude.{◌≡◌, ◌∷◌, ℕ, List, IfOk, OnOk, codes, fold};
 ghost use Rattle.std.specs.List.{flat_map};
@@ -8,16 +7,19 @@ ghost use Rattle.nb_service.specs.Code.Steps.{HasRow, RowOf};
 ghost use Rattle.nb_service.specs.Header.{header_value};
 ghost use Rattle.nb_service.specs.Packet.{HasOutline, IsPacket, QuestionAt, ServicePacket};
 ghost use Rattle.nb_telling.specs.Telling.{Grows};
-ghost use Rattle.nb_text.specs.Keys.{id_key, word_key};
+ghost use Rattle.nb_text.specs.Keys.{id_key, op_key, rcode_key, word_key};
 ghost use Rattle.nb_text.specs.LineFields.{list_fields};
-ghost use Rattle.nb_text.specs.ServiceFields.{count_fields, header_fields, named_fields, question_fields, service_fields, state_fields, word_field};
+ghost use Rattle.nb_text.specs.ServiceFields.{count_fields, header_fields, named_field, named_fields, question_fields, service_fields, state_fields, word_field};
 ghost use Rattle.nb_text.specs.Tells.{IsTold};
+ghost use Rattle.nb_text.specs.Words.{operation_word, rcode_word};
 
 use crate::faults::tell_refusal;
 use crate::flags::packet_flags_of;
 use crate::keys::{AN, AR, CLASS, FLAGS, ID, NAME, NS, OP, QD, RCODE, TYPE, WORD};
 use crate::records::tell_section;
-use crate::words::{operation_name, rcode_name, tell_named, tell_used};
+use crate::words::{
+    end_part, operation_name, rcode_name, tell_named, tell_number, tell_used, tell_word,
+};
 use nb_names::limits::POINTED_OFFSETS;
 use nb_names::{DomainName, NameReader, NoMemory};
 use nb_service::laws::sections_in_order;
@@ -107,8 +109,8 @@ pub fn tell_words<S: Sink>(header: &Header, sink: &mut S) -> Result<(), NoMemory
         ∷ state_fields header.now.word)) }
     ensures front { Grows S.is_front (S.seen sink.old) (S.seen sink.new) }
 {
-    sink.digits(ID, &header.id.to_be_bytes())?;
-    sink.digits(WORD, &header.word.to_be_bytes())?;
+    tell_word(ID, header.id, sink)?;
+    tell_word(WORD, header.word, sink)?;
     tell_state(header.word, sink)
 }
 
@@ -118,10 +120,26 @@ fn tell_state<S: Sink>(word: u16, sink: &mut S) -> Result<(), NoMemory>
         (S.seen sink.new ≡ fold S.after (S.seen sink.old) (state_fields word)) }
     ensures front { Grows S.is_front (S.seen sink.old) (S.seen sink.new) }
 {
-    let operation = opcode(word);
-    let outcome = rcode(word);
-    tell_named(OP, operation_name(operation), operation, sink)?;
+    tell_operation(opcode(word), sink)?;
     sink.set(FLAGS, &packet_flags_of(word))?;
+    tell_outcome(rcode(word), sink)
+}
+
+/// Tells an operation, by its name where it has one.
+fn tell_operation<S: Sink>(operation: u8, sink: &mut S) -> Result<(), NoMemory>
+    ensures told { OnOk result (S.seen sink.new ≡ S.after (S.seen sink.old)
+        (named_field op_key (operation_word operation) operation)) }
+    ensures front { Grows S.is_front (S.seen sink.old) (S.seen sink.new) }
+{
+    tell_named(OP, operation_name(operation), operation, sink)
+}
+
+/// Tells an outcome, by its name where it has one.
+fn tell_outcome<S: Sink>(outcome: u8, sink: &mut S) -> Result<(), NoMemory>
+    ensures told { OnOk result (S.seen sink.new ≡ S.after (S.seen sink.old)
+        (named_field rcode_key (rcode_word outcome) outcome)) }
+    ensures front { Grows S.is_front (S.seen sink.old) (S.seen sink.new) }
+{
     tell_named(RCODE, rcode_name(outcome), outcome, sink)
 }
 
@@ -131,10 +149,10 @@ pub fn tell_counts<S: Sink>(header: &Header, sink: &mut S) -> Result<(), NoMemor
         ≡ fold S.after (S.seen sink.old) (count_fields (header_value header.now))) }
     ensures front { Grows S.is_front (S.seen sink.old) (S.seen sink.new) }
 {
-    sink.number(QD, u64::from(header.questions))?;
-    sink.number(AN, u64::from(header.answers))?;
-    sink.number(NS, u64::from(header.authorities))?;
-    sink.number(AR, u64::from(header.additional))
+    tell_number(QD, header.questions, sink)?;
+    tell_number(AN, header.answers, sink)?;
+    tell_number(NS, header.authorities, sink)?;
+    tell_number(AR, header.additional, sink)
 }
 
 /// Tells the list of so many questions, which stand one after the other from an offset on, and
@@ -189,8 +207,7 @@ pub fn tell_question<S: Sink>(question: &Question, sink: &mut S) -> Result<(), N
 {
     sink.part("  question")?;
     tell_front(&question.name, question.kind, question.class, sink)?;
-    sink.line_ends()?;
-    sink.part_ends()
+    end_part(sink)
 }
 
 /// Tells the name, the type and the class of a question or a record.
@@ -205,6 +222,6 @@ pub fn tell_front<S: Sink>(
     ensures front { Grows S.is_front (S.seen sink.old) (S.seen sink.new) }
 {
     sink.shown(NAME, name)?;
-    sink.digits(TYPE, &kind.to_be_bytes())?;
-    sink.digits(CLASS, &class.to_be_bytes())
+    tell_word(TYPE, kind, sink)?;
+    tell_word(CLASS, class, sink)
 }

@@ -1,19 +1,21 @@
 //! What still stands at the front of a payload of port 138 or 139 that begins with no packet, told
 //! to a sink: its header, and the names that stand whole.
-#![tactic(auto, using(nb_telling::proofs::FoldLemmas::told_both))]
 
-ghost use Rattle.std.specs.Prelude.{◌≡◌, ◌≢◌, ℕ, List, Some, None, OnOk, fold, option_map};
+ghost use Rattle.std.specs.Prelude.{◌≡◌, ◌≢◌, ◌∷◌, [], ℕ, List, Some, None, OnOk, fold, option_map};
 ghost use Rattle.nb_datagram.specs.declared.fault.DatagramFault.{DatagramFault};
 ghost use Rattle.nb_datagram.specs.DatagramFaults.{PacketFails};
+ghost use Rattle.nb_datagram.specs.Texts.{key_text};
 ghost use Rattle.nb_session.specs.declared.parsing.Parsed.{Parsed as ParsedValue};
 ghost use Rattle.nb_session.specs.Parsing.{Parses, taken_by};
-ghost use Rattle.nb_telling.specs.Fields.{Field};
+ghost use Rattle.nb_telling.specs.Fields.{Digits, Field, Text};
 ghost use Rattle.nb_telling.specs.Telling.{Grows, key_of};
 ghost use Rattle.nb_text.specs.FrontFields.{datagram_front_fields, fragment_front_fields, session_front_fields, standing_name, type_field};
+ghost use Rattle.nb_text.specs.Keys.{flags_key, key_key};
 ghost use Rattle.nb_text.specs.TellsFront.{FrontOf};
 ghost use Rattle.nb_text.specs.Words.{datagram_word, session_word};
 
-use crate::keys::{DESTINATION, FLAGS, KEY, KIND, LENGTH, OFFSET, PACKET_TYPE, SOURCE};
+use crate::keys::{DESTINATION, FLAGS, KEY, LENGTH, OFFSET, PACKET_TYPE, SOURCE};
+use crate::words::{tell_byte, tell_kind, tell_number};
 use nb_datagram::{FragmentFront, Front, decode_lent, read_front};
 use nb_names::{LentName, NoMemory};
 use nb_session::{Header, Parsed, front_header, parse};
@@ -52,11 +54,21 @@ fn tell_datagram_line<S: Sink>(front: &Front<'_>, sink: &mut S) -> Result<(), No
     ensures front { Grows S.is_front (S.seen sink.old) (S.seen sink.new) }
 {
     sink.words("  ")?;
-    tell_type(datagram_name(front.message_type), front.message_type, sink)?;
-    sink.digits(FLAGS, &[front.flags])?;
-    sink.shown(KEY, &front.key)?;
+    tell_datagram_header(front, sink)?;
     tell_fragment_front(&front.fragment, sink)?;
     sink.line_ends()
+}
+
+/// Tells the ten bytes with which all packets of port 138 begin.
+fn tell_datagram_header<S: Sink>(front: &Front<'_>, sink: &mut S) -> Result<(), NoMemory>
+    ensures told { OnOk result (S.seen sink.new ≡ fold S.after (S.seen sink.old)
+        (type_field (datagram_word front.now.message_type) front.now.message_type
+        ∷ Digits flags_key (front.now.flags ∷ []) ∷ Text key_key (key_text front.now.key) ∷ [])) }
+    ensures front { Grows S.is_front (S.seen sink.old) (S.seen sink.new) }
+{
+    tell_type(datagram_name(front.message_type), front.message_type, sink)?;
+    tell_byte(FLAGS, front.flags, sink)?;
+    sink.shown(KEY, &front.key)
 }
 
 /// Tells what stands after the ten bytes with which all packets of port 138 begin.
@@ -80,7 +92,7 @@ fn tell_fragment<S: Sink>(front: &FragmentFront<'_>, sink: &mut S) -> Result<(),
         ≡ fold S.after (S.seen sink.old) (fragment_front_fields (Some front.now))) }
     ensures front { Grows S.is_front (S.seen sink.old) (S.seen sink.new) }
 {
-    sink.number(OFFSET, u64::from(front.offset))?;
+    tell_number(OFFSET, front.offset, sink)?;
     tell_standing_name(SOURCE, &front.source, sink)?;
     tell_standing_name(DESTINATION, &front.destination, sink)
 }
@@ -153,8 +165,8 @@ fn tell_type<S: Sink>(
     ensures front { Grows S.is_front (S.seen sink.old) (S.seen sink.new) }
 {
     match word {
-        Some(word) => sink.text(KIND, word),
-        None => sink.digits(PACKET_TYPE, &[packet_type]),
+        Some(word) => tell_kind(word, sink),
+        None => tell_byte(PACKET_TYPE, packet_type, sink),
     }
 }
 

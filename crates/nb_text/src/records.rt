@@ -1,22 +1,24 @@
 //! The records of a name service packet, told to a sink.
-#![tactic(auto, using(nb_telling::proofs::FoldLemmas::told_both))]
 
-ghost use Rattle.std.specs.Prelude.{◌≡◌, ℕ, List, IfOk, OnOk, codes, fold};
+ghost use Rattle.std.specs.Prelude.{◌≡◌, ◌∷◌, [], ◌++◌, ℕ, List, IfOk, OnOk, codes, fold};
 ghost use Rattle.std.specs.List.{flat_map};
 ghost use Rattle.nb_service.specs.Code.Steps.{HasRow, RowOf};
 ghost use Rattle.nb_service.specs.Packet.{RecordAt};
 ghost use Rattle.nb_service.specs.Record.{ResourceRecord, rdata_of};
 ghost use Rattle.nb_service.specs.Views.{entries_in};
+ghost use Rattle.nb_telling.specs.Fields.{LineEnds, Number};
 ghost use Rattle.nb_telling.specs.Telling.{Grows};
+ghost use Rattle.nb_text.specs.Keys.{ttl_key};
 ghost use Rattle.nb_text.specs.LineFields.{list_fields};
-ghost use Rattle.nb_text.specs.ServiceFields.{entry_fields, rdata_field, record_fields, view_fields};
+ghost use Rattle.nb_text.specs.ServiceFields.{entry_fields, named_fields, rdata_field, record_fields, view_fields};
 
-use crate::keys::{ADDRESS, DATA, DOMAIN, FLAGS, ONT, TTL};
+use crate::keys::{ADDRESS, DATA, DOMAIN, TTL};
 use crate::names::tell_front;
 use crate::statuses::tell_status;
+use crate::words::{end_part, tell_owner};
 use nb_names::{NameReader, NoMemory};
 use nb_service::kinds::{NB, NBSTAT};
-use nb_service::{AddressEntries, AddressEntry, Rdata, Record, ont, read_record};
+use nb_service::{AddressEntries, AddressEntry, Rdata, Record, read_record};
 use nb_telling::Sink;
 
 /// Tells the list of so many records, a section of this name, which stand one after the other from
@@ -92,12 +94,22 @@ pub fn tell_record<S: Sink>(lead: &str, entry: &Record<'_>, sink: &mut S) -> Res
     ensures front { Grows S.is_front (S.seen sink.old) (S.seen sink.new) }
 {
     sink.part(lead)?;
+    tell_line(entry, sink)?;
+    tell_view(entry, sink)?;
+    sink.part_ends()
+}
+
+/// Tells the line of a record.
+fn tell_line<S: Sink>(entry: &Record<'_>, sink: &mut S) -> Result<(), NoMemory>
+    ensures told { OnOk result (S.seen sink.new ≡ fold S.after (S.seen sink.old)
+        (named_fields entry.now.name entry.now.kind entry.now.class
+        ++ Number ttl_key entry.now.ttl ∷ rdata_field entry.now.rdata ∷ LineEnds ∷ [])) }
+    ensures front { Grows S.is_front (S.seen sink.old) (S.seen sink.new) }
+{
     tell_front(entry.name(), entry.kind(), entry.class(), sink)?;
     sink.number(TTL, u64::from(entry.ttl()))?;
     tell_rdata(entry.rdata(), sink)?;
-    sink.line_ends()?;
-    tell_view(entry, sink)?;
-    sink.part_ends()
+    sink.line_ends()
 }
 
 /// Tells a record's RDATA.
@@ -134,10 +146,20 @@ fn tell_entries<S: Sink>(entry: &Record<'_>, sink: &mut S) -> Result<(), NoMemor
     ensures front { Grows S.is_front (S.seen sink.old) (S.seen sink.new) }
 {
     sink.begins("entries")?;
-    if let Some(entries) = entry.address_entries() {
-        tell_each(&entries, sink)?;
-    }
+    tell_listed(entry, sink)?;
     sink.ends()
+}
+
+/// Tells a record's address entries, where its RDATA has the form.
+fn tell_listed<S: Sink>(entry: &Record<'_>, sink: &mut S) -> Result<(), NoMemory>
+    ensures told { OnOk result (S.seen sink.new
+        ≡ fold S.after (S.seen sink.old) (flat_map entry_fields (entries_in entry.now))) }
+    ensures front { Grows S.is_front (S.seen sink.old) (S.seen sink.new) }
+{
+    match entry.address_entries() {
+        Some(entries) => tell_each(&entries, sink),
+        None => Ok(()),
+    }
 }
 
 /// Tells each of these address entries.
@@ -160,9 +182,7 @@ fn tell_entry<S: Sink>(entry: AddressEntry, sink: &mut S) -> Result<(), NoMemory
     ensures front { Grows S.is_front (S.seen sink.old) (S.seen sink.new) }
 {
     sink.part("    entry")?;
-    sink.digits(FLAGS, &entry.flags.to_be_bytes())?;
-    sink.number(ONT, u64::from(ont(entry.flags)))?;
+    tell_owner(entry.flags, sink)?;
     sink.shown(ADDRESS, &entry.address)?;
-    sink.line_ends()?;
-    sink.part_ends()
+    end_part(sink)
 }

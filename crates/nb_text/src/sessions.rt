@@ -1,15 +1,14 @@
 //! A session packet, told to a sink.
-#![tactic(auto, using(nb_telling::proofs::FoldLemmas::told_both))]
 
-ghost use Rattle.std.specs.Prelude.{◌≡◌, ◌≢◌, ℕ, OnOk, fold};
+ghost use Rattle.std.specs.Prelude.{◌≡◌, ◌≢◌, ◌++◌, ℕ, OnOk, fold};
 ghost use Rattle.nb_telling.specs.Telling.{Grows};
 ghost use Rattle.nb_text.specs.LineFields.{used_fields};
 ghost use Rattle.nb_text.specs.SessionFields.{parts_fields, session_fields};
 ghost use Rattle.nb_text.specs.Tells.{IsTold};
 
 use crate::faults::tell_refusal;
-use crate::keys::{ADDRESS, CALLED, CALLING, CODE, DATA, KIND, LENGTH, MORE, TO_PORT};
-use crate::words::tell_used;
+use crate::keys::{ADDRESS, CALLED, CALLING, CODE, DATA, LENGTH, MORE, TO_PORT};
+use crate::words::{tell_byte, tell_kind, tell_number, tell_used};
 use nb_names::{LentName, NoMemory};
 use nb_session::{Packet, Parsed, parse};
 use nb_telling::Sink;
@@ -30,16 +29,30 @@ fn tell_parsed<S: Sink>(parsed: &Parsed<'_>, sink: &mut S) -> Result<(), NoMemor
     ensures front { Grows S.is_front (S.seen sink.old) (S.seen sink.new) }
 {
     match parsed {
-        Parsed::Whole(packet, used) => {
-            tell_parts(packet, sink)?;
-            tell_used(*used, sink)
-        }
-        Parsed::More(needed) => {
-            sink.number(MORE, *needed as u64)?;
-            sink.line_ends()
-        }
+        Parsed::Whole(packet, used) => tell_whole(packet, *used, sink),
+        Parsed::More(needed) => tell_more(*needed, sink),
         Parsed::Refused(fault) => tell_refusal(*fault, fault.place(), sink),
     }
+}
+
+/// Tells a packet that takes up so many bytes.
+fn tell_whole<S: Sink>(packet: &Packet<'_>, used: usize, sink: &mut S) -> Result<(), NoMemory>
+    ensures told { OnOk result (S.seen sink.new
+        ≡ fold S.after (S.seen sink.old) (parts_fields packet.now ++ used_fields used)) }
+    ensures front { Grows S.is_front (S.seen sink.old) (S.seen sink.new) }
+{
+    tell_parts(packet, sink)?;
+    tell_used(used, sink)
+}
+
+/// Tells how many bytes a packet lacks, of which the front is there.
+fn tell_more<S: Sink>(needed: usize, sink: &mut S) -> Result<(), NoMemory>
+    ensures told { OnOk result (S.seen sink.new
+        ≡ fold S.after (S.seen sink.old) (session_fields (Parsed.More needed))) }
+    ensures front { Grows S.is_front (S.seen sink.old) (S.seen sink.new) }
+{
+    sink.number(MORE, needed as u64)?;
+    sink.line_ends()
 }
 
 /// Tells what the packet is, and its parts.
@@ -51,13 +64,10 @@ fn tell_parts<S: Sink>(packet: &Packet<'_>, sink: &mut S) -> Result<(), NoMemory
     match packet {
         Packet::Message(message) => tell_message(message.bytes(), sink),
         Packet::Request { called, calling } => tell_request(called, calling, sink),
-        Packet::Positive => sink.text(KIND, "positive"),
-        Packet::Negative(code) => {
-            sink.text(KIND, "negative")?;
-            sink.digits(CODE, &[*code])
-        }
+        Packet::Positive => tell_kind("positive", sink),
+        Packet::Negative(code) => tell_negative(*code, sink),
         Packet::Retarget { address, port } => tell_retarget(*address, *port, sink),
-        Packet::Keepalive => sink.text(KIND, "keepalive"),
+        Packet::Keepalive => tell_kind("keepalive", sink),
     }
 }
 
@@ -67,7 +77,7 @@ fn tell_message<S: Sink>(bytes: &[u8], sink: &mut S) -> Result<(), NoMemory>
         ≡ fold S.after (S.seen sink.old) (parts_fields (Packet.Message bytes.now))) }
     ensures front { Grows S.is_front (S.seen sink.old) (S.seen sink.new) }
 {
-    sink.text(KIND, "message")?;
+    tell_kind("message", sink)?;
     sink.number(LENGTH, bytes.len() as u64)?;
     sink.data(DATA, bytes)
 }
@@ -82,9 +92,19 @@ fn tell_request<S: Sink>(
         ≡ fold S.after (S.seen sink.old) (parts_fields (Packet.Request called.now calling.now))) }
     ensures front { Grows S.is_front (S.seen sink.old) (S.seen sink.new) }
 {
-    sink.text(KIND, "request")?;
+    tell_kind("request", sink)?;
     sink.shown(CALLED, called)?;
     sink.shown(CALLING, calling)
+}
+
+/// Tells a negative response's parts.
+fn tell_negative<S: Sink>(code: u8, sink: &mut S) -> Result<(), NoMemory>
+    ensures told { OnOk result (S.seen sink.new
+        ≡ fold S.after (S.seen sink.old) (parts_fields (Packet.Negative code))) }
+    ensures front { Grows S.is_front (S.seen sink.old) (S.seen sink.new) }
+{
+    tell_kind("negative", sink)?;
+    tell_byte(CODE, code, sink)
 }
 
 /// Tells a retarget response's parts.
@@ -93,7 +113,7 @@ fn tell_retarget<S: Sink>(address: [u8; 4], port: u16, sink: &mut S) -> Result<(
         ≡ fold S.after (S.seen sink.old) (parts_fields (Packet.Retarget address port))) }
     ensures front { Grows S.is_front (S.seen sink.old) (S.seen sink.new) }
 {
-    sink.text(KIND, "retarget")?;
+    tell_kind("retarget", sink)?;
     sink.shown(ADDRESS, &address)?;
-    sink.number(TO_PORT, u64::from(port))
+    tell_number(TO_PORT, port, sink)
 }

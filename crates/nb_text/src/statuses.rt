@@ -1,16 +1,21 @@
 //! A node status, told to a sink.
-#![tactic(auto, using(nb_telling::proofs::FoldLemmas::told_both))]
 
-ghost use Rattle.std.specs.Prelude.{◌≡◌, OnOk, fold};
+ghost use Rattle.std.specs.Prelude.{◌≡◌, [], OnOk, codes, fold};
 ghost use Rattle.std.specs.List.{flat_map};
+ghost use Rattle.nb_names.specs.NameText.{written};
 ghost use Rattle.nb_service.specs.Views.{status_in};
+ghost use Rattle.nb_telling.specs.Fields.{Text};
 ghost use Rattle.nb_telling.specs.Telling.{Grows};
+ghost use Rattle.nb_text.specs.Keys.{name_key};
+ghost use Rattle.nb_text.specs.LineFields.{list_fields};
 ghost use Rattle.nb_text.specs.ServiceFields.{node_name_fields, status_fields, unit_fields};
 
 use crate::flags::name_flags_of;
-use crate::keys::{FLAGS, NAME, ONT, SET, UNIT};
+use crate::keys::{NAME, SET, UNIT};
+use crate::words::{end_part, tell_owner};
+use nb_names::limits::NAME_LENGTH;
 use nb_names::{Name, NoMemory, Scope};
-use nb_service::{NodeName, NodeStatus, Record, ont};
+use nb_service::{NodeName, NodeStatus, Record};
 use nb_telling::Sink;
 
 /// Tells the node status of a record: a list of its names, which is empty where the RDATA hasn't
@@ -20,15 +25,41 @@ pub fn tell_status<S: Sink>(entry: &Record<'_>, sink: &mut S) -> Result<(), NoMe
         ≡ fold S.after (S.seen sink.old) (status_fields (status_in entry.now))) }
     ensures front { Grows S.is_front (S.seen sink.old) (S.seen sink.new) }
 {
-    sink.begins("names")?;
     match entry.node_status() {
-        Some(status) => {
-            tell_names(&status, sink)?;
-            sink.ends()?;
-            tell_unit(&status, sink)
-        }
-        None => sink.ends(),
+        Some(status) => tell_standing(&status, sink),
+        None => tell_none(sink),
     }
+}
+
+/// Tells the list of the names of no status.
+fn tell_none<S: Sink>(sink: &mut S) -> Result<(), NoMemory>
+    ensures told { OnOk result
+        (S.seen sink.new ≡ fold S.after (S.seen sink.old) (list_fields (codes "names") [])) }
+    ensures front { Grows S.is_front (S.seen sink.old) (S.seen sink.new) }
+{
+    sink.begins("names")?;
+    sink.ends()
+}
+
+/// Tells a node status.
+fn tell_standing<S: Sink>(status: &NodeStatus<'_>, sink: &mut S) -> Result<(), NoMemory>
+    ensures told { OnOk result
+        (S.seen sink.new ≡ fold S.after (S.seen sink.old) (status_fields status.now)) }
+    ensures front { Grows S.is_front (S.seen sink.old) (S.seen sink.new) }
+{
+    tell_list(status, sink)?;
+    tell_unit(status, sink)
+}
+
+/// Tells the list of a node's names.
+fn tell_list<S: Sink>(status: &NodeStatus<'_>, sink: &mut S) -> Result<(), NoMemory>
+    ensures told { OnOk result (S.seen sink.new ≡ fold S.after (S.seen sink.old)
+        (list_fields (codes "names") (flat_map node_name_fields status.now.names))) }
+    ensures front { Grows S.is_front (S.seen sink.old) (S.seen sink.new) }
+{
+    sink.begins("names")?;
+    tell_names(status, sink)?;
+    sink.ends()
 }
 
 /// Tells each name of a node.
@@ -65,12 +96,19 @@ fn tell_node_name<S: Sink>(name: NodeName, sink: &mut S) -> Result<(), NoMemory>
         (S.seen sink.new ≡ fold S.after (S.seen sink.old) (node_name_fields name)) }
     ensures front { Grows S.is_front (S.seen sink.old) (S.seen sink.new) }
 {
-    let plain = Name::new(name.bytes, Scope::empty());
     sink.part("    name")?;
-    sink.shown(NAME, &plain)?;
-    sink.digits(FLAGS, &name.flags.to_be_bytes())?;
-    sink.number(ONT, u64::from(ont(name.flags)))?;
+    tell_plain(name.bytes, sink)?;
+    tell_owner(name.flags, sink)?;
     sink.set(SET, &name_flags_of(name.flags))?;
-    sink.line_ends()?;
-    sink.part_ends()
+    end_part(sink)
+}
+
+/// Tells a name without a scope.
+fn tell_plain<S: Sink>(bytes: [u8; NAME_LENGTH], sink: &mut S) -> Result<(), NoMemory>
+    ensures told { OnOk result (S.seen sink.new ≡ S.after (S.seen sink.old)
+        (Text name_key (written (record { bytes = bytes; scope = [] })))) }
+    ensures front { Grows S.is_front (S.seen sink.old) (S.seen sink.new) }
+{
+    let plain = Name::new(bytes, Scope::empty());
+    sink.shown(NAME, &plain)
 }

@@ -1,14 +1,17 @@
-//! The words for numbers, and what lines end with.
-#![tactic(auto, using(nb_telling::proofs::FoldLemmas::told_both))]
+//! Numbers told, by their words where they have some, and what lines end with.
 
 ghost use Rattle.std.specs.Prelude.{◌≡◌, ◌∷◌, [], OnOk, fold, option_map};
+ghost use Rattle.nb_service.specs.Flags.{ont_of};
+ghost use Rattle.nb_telling.specs.Fields.{Digits, LineEnds, Number, PartEnds, Text};
 ghost use Rattle.nb_telling.specs.Telling.{Grows, key_of};
+ghost use Rattle.nb_text.specs.Keys.{flags_key, kind_key, ont_key};
 ghost use Rattle.nb_text.specs.LineFields.{used_fields};
-ghost use Rattle.nb_text.specs.ServiceFields.{named_field};
+ghost use Rattle.nb_text.specs.ServiceFields.{named_field, word_field};
 ghost use Rattle.nb_text.specs.Words.{operation_word, rcode_word};
 
-use crate::keys::USED;
+use crate::keys::{FLAGS, KIND, ONT, USED};
 use nb_names::NoMemory;
+use nb_service::ont;
 use nb_telling::{FieldKey, Sink};
 
 /// The name of an operation (RFC 1002 section 4.2.1.1; that 8 is a refresh too is our choice).
@@ -57,6 +60,62 @@ pub fn tell_named<S: Sink>(
         Some(word) => sink.text(key, word),
         None => sink.number(key, u64::from(number)),
     }
+}
+
+/// Tells what a packet is.
+pub fn tell_kind<S: Sink>(kind: &str, sink: &mut S) -> Result<(), NoMemory>
+    ensures told { OnOk result
+        (S.seen sink.new ≡ S.after (S.seen sink.old) (Text kind_key kind.now)) }
+    ensures front { Grows S.is_front (S.seen sink.old) (S.seen sink.new) }
+{
+    sink.text(KIND, kind)
+}
+
+/// Tells a number of sixteen bits.
+pub fn tell_number<S: Sink>(key: FieldKey, number: u16, sink: &mut S) -> Result<(), NoMemory>
+    ensures told { OnOk result
+        (S.seen sink.new ≡ S.after (S.seen sink.old) (Number (key_of key) number)) }
+    ensures front { Grows S.is_front (S.seen sink.old) (S.seen sink.new) }
+{
+    sink.number(key, u64::from(number))
+}
+
+/// Tells a number of sixteen bits, as four digits.
+pub fn tell_word<S: Sink>(key: FieldKey, word: u16, sink: &mut S) -> Result<(), NoMemory>
+    ensures told { OnOk result
+        (S.seen sink.new ≡ S.after (S.seen sink.old) (word_field (key_of key) word)) }
+    ensures front { Grows S.is_front (S.seen sink.old) (S.seen sink.new) }
+{
+    sink.digits(key, &word.to_be_bytes())
+}
+
+/// Tells a byte, as two digits.
+pub fn tell_byte<S: Sink>(key: FieldKey, byte: u8, sink: &mut S) -> Result<(), NoMemory>
+    ensures told { OnOk result
+        (S.seen sink.new ≡ S.after (S.seen sink.old) (Digits (key_of key) (byte ∷ []))) }
+    ensures front { Grows S.is_front (S.seen sink.old) (S.seen sink.new) }
+{
+    sink.digits(key, &[byte])
+}
+
+/// Tells the flags of an owner, and its type.
+pub fn tell_owner<S: Sink>(flags: u16, sink: &mut S) -> Result<(), NoMemory>
+    ensures told { OnOk result (S.seen sink.new ≡ fold S.after (S.seen sink.old)
+        (word_field flags_key flags ∷ Number ont_key (ont_of flags) ∷ [])) }
+    ensures front { Grows S.is_front (S.seen sink.old) (S.seen sink.new) }
+{
+    tell_word(FLAGS, flags, sink)?;
+    sink.number(ONT, u64::from(ont(flags)))
+}
+
+/// Ends the line of a part, and the part.
+pub fn end_part<S: Sink>(sink: &mut S) -> Result<(), NoMemory>
+    ensures told { OnOk result
+        (S.seen sink.new ≡ fold S.after (S.seen sink.old) (LineEnds ∷ PartEnds ∷ [])) }
+    ensures front { Grows S.is_front (S.seen sink.old) (S.seen sink.new) }
+{
+    sink.line_ends()?;
+    sink.part_ends()
 }
 
 /// Tells how many bytes a packet takes up, with which its line ends.

@@ -7,7 +7,7 @@ ghost use Rattle.nb_text.specs.Noted.{first_of, is_type, no_facts, with_byte, wi
 use crate::brief::kind::Kind;
 
 /// Facts of a packet, or of why there is none.
-#[derive(Clone, Copy, Debug)]
+#[derive(Clone, Copy)]
 pub struct Facts {
     /// What the packet is.
     pub kind: Kind,
@@ -59,59 +59,45 @@ impl Facts {
         }
     }
 
-    /// The facts after a number with this key.
-    pub fn with_number(self, key: &str, number: u64) -> Facts
-        ensures { result ≡ with_number key.now self number }
+    /// Notes a number under this key.
+    pub fn note_number(&mut self, key: &str, number: u64)
+        ensures { self.new ≡ with_number key.now self.old number }
     {
         match key {
-            "used" => Facts {
-                used: Some(number),
-                ..self
-            },
-            "ttl" => Facts {
-                ttl: self.ttl.or(Some(number)),
-                ..self
-            },
-            "offset" | "to_port" => Facts { number, ..self },
-            "more" => Facts {
-                kind: Kind::More,
-                number,
-                ..self
-            },
-            _ => self,
+            "used" => self.used = Some(number),
+            "ttl" => self.ttl = self.ttl.or(Some(number)),
+            "offset" | "to_port" => self.number = number,
+            "more" => {
+                self.kind = Kind::More;
+                self.number = number;
+            }
+            _ => (),
         }
     }
 
-    /// The facts after a number of one byte.
-    pub fn with_byte(self, key: &str, byte: u8) -> Facts
-        ensures { result ≡ with_byte key.now self byte }
+    /// Notes a number of one byte under this key.
+    pub fn note_byte(&mut self, key: &str, byte: u8)
+        ensures { self.new ≡ with_byte key.now self.old byte }
     {
         match key {
-            "flags" => Facts {
-                flags: self.flags.or(Some(u16::from(byte))),
-                ..self
-            },
-            "code" => Facts { code: byte, ..self },
-            _ => self,
+            "flags" => self.flags = self.flags.or(Some(u16::from(byte))),
+            "code" => self.code = byte,
+            _ => (),
         }
     }
 
-    /// The facts after a number of two bytes.
-    pub fn with_word(self, key: &str, word: u16) -> Facts
-        ensures { result ≡ with_word key.now self word }
+    /// Notes a number of two bytes under this key.
+    pub fn note_word(&mut self, key: &str, word: u16)
+        ensures { self.new ≡ with_word key.now self.old word }
     {
         match key {
-            "type" => Facts {
-                first_type: self.first_type.or(Some(word)),
-                last_type: word,
-                ..self
-            },
-            "flags" => Facts {
-                flags: self.flags.or(Some(word)),
-                ..self
-            },
-            "word" => Facts { word, ..self },
-            _ => self,
+            "type" => {
+                self.first_type = self.first_type.or(Some(word));
+                self.last_type = word;
+            }
+            "flags" => self.flags = self.flags.or(Some(word)),
+            "word" => self.word = word,
+            _ => (),
         }
     }
 

@@ -14,7 +14,7 @@ use nb_service::{NmFlags, opcode, rcode};
 const RESPONSE: u16 = 0x8000;
 
 /// A packet of RFC 1002 section 4.2.
-#[derive(Clone, Copy, Debug, PartialEq, Eq)]
+#[derive(Clone, Copy)]
 pub enum Form {
     /// A query for a name (4.2.12).
     Query,

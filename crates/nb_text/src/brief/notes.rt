@@ -1,7 +1,7 @@
 //! What is noted of a packet's fields.
 
 ghost use Rattle.std.specs.Prelude.{◌≡◌, OnOk, string_bytes};
-ghost use Rattle.nb_text.specs.Noted.{Noted, comma, first_text, listed_text, nothing_noted, with_listed, without_end};
+ghost use Rattle.nb_text.specs.Noted.{Noted, comma, first_text, listed_text, nothing_noted, with_byte, with_listed, with_number, with_word, without_end};
 
 use crate::brief::facts::Facts;
 use nb_names::NoMemory;
@@ -90,6 +90,28 @@ impl Notes {
         ensures { self.new ≡ record self.old { facts = facts } }
     {
         self.facts = facts;
+    }
+
+    /// Notes a number under this key.
+    pub fn note_number(&mut self, key: &str, number: u64)
+        ensures { self.new
+            ≡ record self.old { facts = with_number key.now self.old.facts number } }
+    {
+        self.facts.note_number(key, number);
+    }
+
+    /// Notes a number of one byte under this key.
+    pub fn note_byte(&mut self, key: &str, byte: u8)
+        ensures { self.new ≡ record self.old { facts = with_byte key.now self.old.facts byte } }
+    {
+        self.facts.note_byte(key, byte);
+    }
+
+    /// Notes a number of two bytes under this key.
+    pub fn note_word(&mut self, key: &str, word: u16)
+        ensures { self.new ≡ record self.old { facts = with_word key.now self.old.facts word } }
+    {
+        self.facts.note_word(key, word);
     }
 
     /// Notes a name, if it is the first.

@@ -1,8 +1,9 @@
 //! A packet's fields, noted.
 #![tactic(auto, using(crate::proofs::TextTests::is_so, crate::proofs::TextTests::is_not))]
 
-ghost use Rattle.std.specs.Prelude.{◌≡◌, ◌∷◌, OnOk};
+ghost use Rattle.std.specs.Prelude.{◌≡◌, ◌==◌, ◌∷◌, OnOk, length, if◌then◌else◌};
 ghost use Rattle.std.specs.Fmt.{decimal};
+ghost use Rattle.nb_names.specs.Addresses.{address_text};
 ghost use Rattle.nb_text.specs.Noted.{with_address, with_data, with_digits, with_domain, with_name, with_place, with_text, with_unit, within_names};
 
 use crate::brief::facts::Facts;
@@ -63,8 +64,7 @@ impl Sink for BriefSink {
     }
 
     fn number(&mut self, key: FieldKey, value: u64) -> Result<(), NoMemory> {
-        let facts = self.notes.facts();
-        self.notes.set_facts(facts.with_number(key.name, value));
+        self.notes.note_number(key.name, value);
         Ok(())
     }
 
@@ -224,14 +224,11 @@ fn note_digits(
 {
     match bytes {
         [byte] => {
-            let facts = notes.facts().with_byte(key, *byte);
-            notes.set_facts(facts);
+            notes.note_byte(key, *byte);
             Ok(())
         }
         [high, low] => {
-            let word = u16::from_be_bytes([*high, *low]);
-            let facts = notes.facts().with_word(key, word);
-            notes.set_facts(facts);
+            notes.note_word(key, u16::from_be_bytes([*high, *low]));
             Ok(())
         }
         _ => note_unit(key, bytes, scratch, notes),
@@ -259,17 +256,44 @@ fn note_unit(
 fn note_data(bytes: &[u8], scratch: &mut String, notes: &mut Notes) -> Result<(), NoMemory>
     ensures { OnOk result (notes.new ≡ with_data notes.old bytes.now) }
 {
+    note_size(bytes.len() as u64, notes);
+    if notes.facts().last_type == A {
+        return note_data_address(bytes, scratch, notes);
+    }
+    Ok(())
+}
+
+/// Notes how much data there is.
+fn note_size(size: u64, notes: &mut Notes)
+    ensures { notes.new ≡ record notes.old { facts = record notes.old.facts { size = size } } }
+{
     let facts = Facts {
-        size: bytes.len() as u64,
+        size,
         ..notes.facts()
     };
     notes.set_facts(facts);
-    match (facts.last_type, bytes) {
-        (A, [a, b, c, d]) => {
-            scratch.clear();
-            push_address([*a, *b, *c, *d], scratch)?;
-            note_address(scratch.as_str(), notes)
-        }
+}
+
+/// Notes the address that data is, where it is one.
+fn note_data_address(bytes: &[u8], scratch: &mut String, notes: &mut Notes) -> Result<(), NoMemory>
+    ensures { OnOk result (notes.new ≡ (if length bytes.now == 4
+        then with_address notes.old (address_text bytes.now) else notes.old)) }
+{
+    match bytes {
+        [a, b, c, d] => note_number_address([*a, *b, *c, *d], scratch, notes),
         _ => Ok(()),
     }
+}
+
+/// Notes the address of four numbers.
+fn note_number_address(
+    numbers: [u8; 4],
+    scratch: &mut String,
+    notes: &mut Notes,
+) -> Result<(), NoMemory>
+    ensures { OnOk result (notes.new ≡ with_address notes.old (address_text numbers)) }
+{
+    scratch.clear();
+    push_address(numbers, scratch)?;
+    note_address(scratch.as_str(), notes)
 }

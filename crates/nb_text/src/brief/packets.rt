@@ -1,9 +1,9 @@
 //! The phrases of packets of ports 138 and 139, and what phrases are made of.
-#![tactic(auto, using(nb_names::specs::GrowthFacts::front_stays))]
 
-ghost use Rattle.std.specs.Prelude.{◌≡◌, ◌++◌, OnOk, string_bytes};
+ghost use Rattle.std.specs.Prelude.{◌≡◌, ◌++◌, OnOk, codes, string_bytes};
 ghost use Rattle.std.specs.Fmt.{decimal};
 ghost use Rattle.nb_names.specs.Growth.{OnlyAdds};
+ghost use Rattle.nb_names.specs.NameText.{digits_of};
 ghost use Rattle.nb_text.specs.Said.{coded_said, datagram_said, error_said, extent_said, goes_on, offset_said, refusal_said};
 
 use crate::brief::facts::Facts;
@@ -13,15 +13,24 @@ use nb_names::{NoMemory, push_decimal, push_digits};
 /// M of the flags of a datagram (RFC 1002 section 4.4.1): more of it follows.
 const MORE: u16 = 0x01;
 
+/// Adds a text.
+#[tactic(auto, using(nb_names::specs::GrowthFacts::front_stays))]
+pub fn push_text(piece: &str, text: &mut String) -> Result<(), NoMemory>
+    ensures added { OnOk result (string_bytes text.new ≡ string_bytes text.old ++ piece.now) }
+    ensures front { OnlyAdds (string_bytes text.old) (string_bytes text.new) }
+{
+    text.push_str(piece)?;
+    Ok(())
+}
+
 /// Adds two texts.
 pub fn push_both(first: &str, second: &str, text: &mut String) -> Result<(), NoMemory>
     ensures added { OnOk result
         (string_bytes text.new ≡ string_bytes text.old ++ (first.now ++ second.now)) }
     ensures front { OnlyAdds (string_bytes text.old) (string_bytes text.new) }
 {
-    text.push_str(first)?;
-    text.push_str(second)?;
-    Ok(())
+    push_text(first, text)?;
+    push_text(second, text)
 }
 
 /// Adds a number between two texts.
@@ -30,10 +39,9 @@ pub fn push_count(first: &str, count: u64, last: &str, text: &mut String) -> Res
         ≡ string_bytes text.old ++ (first.now ++ (decimal count ++ last.now))) }
     ensures front { OnlyAdds (string_bytes text.old) (string_bytes text.new) }
 {
-    text.push_str(first)?;
+    push_text(first, text)?;
     push_decimal(count, text)?;
-    text.push_str(last)?;
-    Ok(())
+    push_text(last, text)
 }
 
 /// Adds a datagram, or a part of one, which is called so.
@@ -91,10 +99,18 @@ pub fn push_coded(lead: &str, words: &str, code: u8, text: &mut String) -> Resul
     ensures front { OnlyAdds (string_bytes text.old) (string_bytes text.new) }
 {
     push_both(lead, words, text)?;
-    text.push_str(" (")?;
+    push_code(code, text)
+}
+
+/// Adds a code, which stands behind its words.
+fn push_code(code: u8, text: &mut String) -> Result<(), NoMemory>
+    ensures added { OnOk result (string_bytes text.new
+        ≡ string_bytes text.old ++ (codes " (" ++ (digits_of code ++ codes ")"))) }
+    ensures front { OnlyAdds (string_bytes text.old) (string_bytes text.new) }
+{
+    push_text(" (", text)?;
     push_digits(&[code], text)?;
-    text.push_str(")")?;
-    Ok(())
+    push_text(")", text)
 }
 
 /// What an error of the datagram service says (RFC 1002 section 4.4.3).

@@ -1,5 +1,4 @@
 //! The phrases of what is noted.
-#![tactic(auto, using(nb_names::specs::GrowthFacts::front_stays))]
 
 ghost use Rattle.std.specs.Prelude.{◌≡◌, ◌++◌, OnOk, string_bytes};
 ghost use Rattle.nb_names.specs.Growth.{OnlyAdds};
@@ -8,10 +7,10 @@ ghost use Rattle.nb_text.specs.Said.{fault_said, follow_said, kind_said, noted_s
 use crate::brief::kind::Kind;
 use crate::brief::notes::Notes;
 use crate::brief::packets::{
-    error_words, push_both, push_coded, push_count, push_datagram, refusal_words,
+    error_words, push_both, push_coded, push_count, push_datagram, push_text, refusal_words,
 };
 use crate::brief::services::push_service;
-use nb_names::{NoMemory, push_decimal};
+use nb_names::NoMemory;
 
 /// Adds the phrase of what is noted of a payload of this size.
 pub fn push_noted(notes: &Notes, size: usize, text: &mut String) -> Result<(), NoMemory>
@@ -45,10 +44,10 @@ fn push_kind(notes: &Notes, text: &mut String) -> Result<(), NoMemory>
         Kind::Missing => push_both("answers: no datagrams are relayed to ", notes.other(), text),
         Kind::Message => push_count("sends ", facts.size, " bytes", text),
         Kind::Request => push_caller(notes, text),
-        Kind::Positive => push_both("accepts", "", text),
+        Kind::Positive => push_text("accepts", text),
         Kind::Negative => push_coded("refuses: ", refusal_words(facts.code), facts.code, text),
         Kind::Retarget => push_retarget(notes, text),
-        Kind::Keepalive => push_both("keeps the session alive", "", text),
+        Kind::Keepalive => push_text("keeps the session alive", text),
         Kind::More => push_count("begins a packet that lacks ", facts.number, " bytes", text),
         Kind::Refused => push_fault(notes.name(), facts.place, text),
     }
@@ -98,6 +97,5 @@ fn push_retarget(notes: &Notes, text: &mut String) -> Result<(), NoMemory>
     ensures front { OnlyAdds (string_bytes text.old) (string_bytes text.new) }
 {
     push_both("sends the caller to ", notes.listed(), text)?;
-    text.push_str(", port ")?;
-    push_decimal(notes.facts().number, text)
+    push_count(", port ", notes.facts().number, "", text)
 }

@@ -1,5 +1,4 @@
 //! The phrases of packets of port 137.
-#![tactic(auto, using(nb_names::specs::GrowthFacts::front_stays))]
 
 ghost use Rattle.std.specs.Prelude.{◌≡◌, ◌++◌, OnOk, codes, string_bytes};
 ghost use Rattle.nb_names.specs.Growth.{OnlyAdds};
@@ -9,9 +8,9 @@ ghost use Rattle.nb_text.specs.Said.{addresses_said, claim_said, ending, holder_
 
 use crate::brief::form::{Form, form_of};
 use crate::brief::notes::{MOST_LISTED, Notes};
-use crate::brief::packets::{push_both, push_count};
+use crate::brief::packets::{push_both, push_count, push_text};
 use bitflags::Flags;
-use nb_names::{NoMemory, push_decimal};
+use nb_names::NoMemory;
 use nb_service::{NodeFlags, opcode, rcode};
 
 /// Adds the phrase of a packet of port 137.
@@ -145,11 +144,10 @@ fn push_addresses(lead: &str, notes: &Notes, text: &mut String) -> Result<(), No
         ≡ string_bytes text.old ++ (lead.now ++ addresses_said notes.now)) }
     ensures front { OnlyAdds (string_bytes text.old) (string_bytes text.new) }
 {
-    text.push_str(lead)?;
     if notes.facts().listed == 0 {
-        text.push_str("no address")?;
-        return Ok(());
+        return push_both(lead, "no address", text);
     }
+    push_text(lead, text)?;
     push_listed(notes, text)
 }
 
@@ -159,7 +157,7 @@ fn push_listed(notes: &Notes, text: &mut String) -> Result<(), NoMemory>
         (string_bytes text.new ≡ string_bytes text.old ++ listed_said notes.now) }
     ensures front { OnlyAdds (string_bytes text.old) (string_bytes text.new) }
 {
-    text.push_str(notes.listed())?;
+    push_text(notes.listed(), text)?;
     let count = notes.facts().listed;
     if MOST_LISTED < count {
         return push_count(" and ", count - MOST_LISTED, " more", text);
@@ -189,12 +187,9 @@ fn push_names(notes: &Notes, text: &mut String) -> Result<(), NoMemory>
 {
     let count = notes.facts().listed;
     if count == 0 {
-        text.push_str(" has no names")?;
-        return Ok(());
+        return push_text(" has no names", text);
     }
-    text.push_str(" has ")?;
-    push_decimal(count, text)?;
-    text.push_str(" names: ")?;
+    push_count(" has ", count, " names: ", text)?;
     push_listed(notes, text)
 }
 
@@ -214,7 +209,7 @@ fn push_absence(word: u16, text: &mut String) -> Result<(), NoMemory>
         ≡ string_bytes text.old ++ (codes " is not found" ++ reason_said (rcode_of word))) }
     ensures front { OnlyAdds (string_bytes text.old) (string_bytes text.new) }
 {
-    text.push_str(" is not found")?;
+    push_text(" is not found", text)?;
     push_reason(word, text)
 }
 

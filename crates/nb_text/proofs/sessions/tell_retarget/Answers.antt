@@ -1,4 +1,4 @@
-use Rattle.std.proofs.Common.{ap, ap₂, ◌∙◌}
+use Rattle.std.proofs.Common.{ap, ◌∙◌}
 use Rattle.std.proofs.lemmas.Result.{on_ok_weaker}
 use Rattle.nb_names.specs.Addresses.{address_text}
 use Rattle.nb_telling.specs.Fields.{Text, Number}
@@ -7,8 +7,7 @@ use Rattle.nb_text.proofs.sessions.tell_retarget.Goals as goal
 
 pub returns-clause-told : goal.returns-clause-told
 returns-clause-told g c =
-    on_ok_weaker c.number.result
-    (λ told. told ∙ ap₂ (λ s n. g.S.Sink.after s (Number to_port_key n))
-    (c.in_ok-shown.ensures.told ∙ ap (λ s. g.S.Sink.after s (Text address_key (address_text c.args.address))) c.in_ok-text.ensures.told)
-    c.from.ensures)
-    c.number.ensures.told
+    on_ok_weaker c.tell_number.result
+    (λ told. told ∙ ap (λ s. g.S.Sink.after s (Number to_port_key c.args.port))
+    (c.in_ok-shown.ensures.told ∙ ap (λ s. g.S.Sink.after s (Text address_key (address_text c.args.address))) c.in_ok-tell_kind.ensures.told))
+    c.tell_number.ensures.told

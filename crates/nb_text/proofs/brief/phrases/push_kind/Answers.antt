@@ -1,4 +1,4 @@
-use Rattle.std.proofs.Common.{ℕ, List, ◌++◌, codes, refl, ap, string_bytes}
+use Rattle.std.proofs.Common.{ℕ, List, ◌++◌, codes, ap, string_bytes}
 use Rattle.std.specs.Fmt.{decimal}
 use Rattle.std.proofs.lemmas.Result.{on_ok_weaker}
 use Rattle.nb_text.specs.declared.brief.facts.Facts.{Facts}
@@ -19,13 +19,6 @@ returns-in-Missing-clause-added c =
     (kind_added (string_bytes c.args.text.now) _ (string_bytes c.push_both-in-Missing.new.text) c.args.notes.now c.facts-facts.result kinds.Missing
     c.facts-facts.ensures c.in-Missing.is (ap (λ (t : List ℕ). codes "answers: no datagrams are relayed to " ++ t) c.other-in-Missing.ensures))
     c.push_both-in-Missing.ensures.added
-
-pub returns-in-Keepalive-clause-added : goal.returns-in-Keepalive-clause-added
-returns-in-Keepalive-clause-added c =
-    on_ok_weaker c.push_both-in-Keepalive.result
-    (kind_added (string_bytes c.args.text.now) (codes "keeps the session alive") (string_bytes c.push_both-in-Keepalive.new.text) c.args.notes.now
-    c.facts-facts.result kinds.Keepalive c.facts-facts.ensures c.in-Keepalive.is refl)
-    c.push_both-in-Keepalive.ensures.added
 
 pub returns-in-More-clause-added : goal.returns-in-More-clause-added
 returns-in-More-clause-added c =

@@ -8,6 +8,6 @@ use Rattle.nb_text.proofs.brief.services.push_absence.Goals as goal
 pub returns-clause-added : goal.returns-clause-added
 returns-clause-added c =
     on_ok_weaker c.push_reason.result
-    (two_added (string_bytes c.args.text.now) (codes " is not found") (reason_said (rcode_of c.args.word)) (string_bytes c.push_str.new.self)
-    (string_bytes c.push_reason.new.text) c.in_ok-push_str.ensures.bytes)
+    (two_added (string_bytes c.args.text.now) (codes " is not found") (reason_said (rcode_of c.args.word)) (string_bytes c.push_text.new.text)
+    (string_bytes c.push_reason.new.text) c.in_ok-push_text.ensures.added)
     c.push_reason.ensures.added

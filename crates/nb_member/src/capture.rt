@@ -7,6 +7,7 @@ ghost use Rattle.nb_member.specs.Capture.{space, PortText, MomentText, Reads, Re
 use crate::limits::{MAX_LINE, MAX_MOMENT_DIGITS};
 use crate::line::Line;
 use crate::line_fault::LineFault;
+use memchr::memchr;
 use nb_names::{ascii_str, data_in};
 use std::alloc::Global;
 use std::mem;
@@ -123,8 +124,10 @@ fn at_space(text: &[u8]) -> Option<(&[u8], &[u8])>
         (λ parts. (text.now ≡ parts.0.now ++ space ∷ parts.1.now)
         × (¬ Contains parts.0.now space)) }
 {
-    let at = text.iter().position(|byte| *byte == b' ')?;
-    Some((&text[..at], &text[at + 1..]))
+    match memchr(b' ', text) {
+        Some(at) => Some((&text[..at], &text[at + 1..])),
+        None => None,
+    }
 }
 
 /// The moment that a word stands for.
@@ -145,5 +148,10 @@ fn moment_of(text: &[u8]) -> Option<u64>
 fn are_digits(text: &[u8]) -> bool
     ensures { result ≡ list_all is_ascii_digit text.now }
 {
-    text.iter().all(|digit| digit.is_ascii_digit())
+    for digit in text {
+        if !digit.is_ascii_digit() {
+            return false;
+        }
+    }
+    true
 }

@@ -44,7 +44,7 @@ fn push_line(line: &[u8], text: &mut String) -> Result<(), NoMemory>
         return Ok(());
     }
     push_comment_bytes(line, text)?;
-    text.push('\n')?;
+    text.push_str("\n")?;
     Ok(())
 }
 
@@ -74,7 +74,7 @@ fn push_byte(byte: u8, text: &mut String) -> Result<(), NoMemory>
         text.push(char::from(byte))?;
         return Ok(());
     }
-    text.push('\\')?;
+    text.push_str("\\")?;
     push_digits(&[byte], text)
 }
 

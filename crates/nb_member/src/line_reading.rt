@@ -1,12 +1,12 @@
 //! Reading the lines of an input as they come.
-ghost use Rattle.std.specs.Prelude.{◌≡◌, ◌≢◌, ◌⊎◌, ◌≤◌, [], IfOk, IfSome, length, take, Contains};
+ghost use Rattle.std.specs.Prelude.{◌≡◌, ◌≢◌, ◌⊎◌, ◌<◌, ◌≤◌, [], IfOk, IfSome, MatchOption, length, take, Contains};
 ghost use Rattle.std.specs.Borrow.{sem};
 ghost use Rattle.std.specs.Io.BufRead.{Rests};
 ghost use Rattle.nb_member.specs.contracts.line_room.LineRoom.{the_row};
 ghost use Rattle.nb_member.specs.declared.line_room.standing.Standing.TheVariants as standing;
 ghost use Rattle.nb_member.specs.LineReading.{ReadsLine, lent_line};
 ghost use Rattle.nb_member.specs.LineRoom.{IsOpen};
-ghost use Rattle.nb_member.specs.Code.LineSteps.{HandsFirst, line_of_size};
+ghost use Rattle.nb_member.specs.Code.LineSteps.{HandsFirst, handed_out, line_of_size, stopped_by, with_standing};
 
 mod searching;
 
@@ -96,11 +96,29 @@ fn advance<R: Read>(
 {
     room.let_go();
     match room.standing() {
-        Standing::Reading => {}
-        Standing::Ended => return Ok(None),
-        Standing::Unread => return Err(LineReadFault::Read),
-        Standing::TooLong => return Err(LineReadFault::TooLong),
+        Standing::Reading => seek(room, reader),
+        Standing::Ended => Ok(None),
+        Standing::Unread => Err(LineReadFault::Read),
+        Standing::TooLong => Err(LineReadFault::TooLong),
     }
+}
+
+/// Reads to the next line, as [`advance`] does, in a room that is read on and has nothing handed
+/// out.
+#[inline]
+fn seek<R: Read>(
+    room: &mut LineRoom,
+    reader: &mut Counted<R>,
+) -> Result<Option<usize>, LineReadFault>
+    requires lent { room.old.lent ≡ [] }
+    requires reading { room.old.standing ≡ standing.Reading }
+    requires taken { room.old.taken ≤ room.old.most }
+    ensures reads { ReadsLine room.old (R.remaining reader.old.inner)
+        (R.remaining reader.new.inner) reader.old.counts reader.new.counts
+        (line_of_size room.new result) room.new }
+    ensures within { IfOk result (λ found. IfSome found (λ size. size ≤ length room.new.lent)) }
+    ensures waits { IsOpen room.old.rest ⊎ (reader.new ≡ reader.old) }
+{
     let mut seen = 0;
     loop {
         match take_first(room, seen) {
@@ -109,26 +127,42 @@ fn advance<R: Read>(
             First::Open(size) => seen = size,
         }
         match room.read_more(reader) {
-            Ok(0) => break,
+            Ok(0) => return Ok(last_of(room, seen)),
             Ok(_) => {}
-            Err(LineReadFault::Read) => {
-                room.stop(Standing::Unread);
-                return Err(LineReadFault::Read);
-            }
-            Err(LineReadFault::NoMemory) => return Err(LineReadFault::NoMemory),
-            Err(LineReadFault::TooLong) => return Err(LineReadFault::TooLong),
+            Err(fault) => return Err(stopped(room, fault)),
         }
     }
-    room.hand_out(seen);
+}
+
+/// Hands out the last line, which is all of so many bytes that are held, if there are any.
+fn last_of(room: &mut LineRoom, size: usize) -> Option<usize>
+    requires reading { room.old.standing ≡ standing.Reading }
+    requires all { size ≡ length room.old.rest }
+    ensures room { room.new ≡ with_standing standing.Ended (handed_out size room.old) }
+    ensures line { MatchOption result (size ≡ 0) (λ last. (last ≡ size) × (0 < size)) }
+{
+    room.hand_out(size);
     room.stop(Standing::Ended);
-    if seen == 0 {
-        return Ok(None);
+    if size == 0 {
+        return None;
     }
-    Ok(Some(seen))
+    Some(size)
+}
+
+/// Notes that the input can't be read further, where this fault says so. The fault.
+fn stopped(room: &mut LineRoom, fault: LineReadFault) -> LineReadFault
+    requires { IsOpen room.old.rest }
+    ensures fault { result ≡ fault }
+    ensures room { room.new ≡ stopped_by fault room.old }
+{
+    if let LineReadFault::Read = fault {
+        room.stop(Standing::Unread);
+    }
+    fault
 }
 
 /// What the bytes of a room begin with.
-#[derive(Clone, Copy, Debug, PartialEq, Eq)]
+#[derive(Clone, Copy)]
 enum First {
     /// A line of so many bytes, and a line feed.
     Line(usize),

@@ -10,7 +10,7 @@ pub mod standing;
 
 use crate::limits::MAX_READ;
 use crate::line_read_fault::LineReadFault;
-use crate::line_room::moving::{make_room, move_to_front, read_after};
+use crate::line_room::moving::read_behind;
 use crate::line_room::standing::Standing;
 use nb_names::Counted;
 use nb_names::limits::MAX_INPUT;
@@ -147,24 +147,18 @@ impl LineRoom {
         ensures { ReadsMore self.old (R.remaining reader.old.inner)
             (R.remaining reader.new.inner) reader.old.counts reader.new.counts result self.new }
     {
-        move_to_front(&mut self.bytes, self.start, self.end);
-        self.end -= self.start;
-        self.start = 0;
+        let start = self.start;
+        let end = self.end;
         self.from = 0;
-        if make_room(&mut self.bytes, self.end).is_err() {
-            return Err(LineReadFault::NoMemory);
-        }
-        let left = self.most - self.taken;
-        match read_after(reader, &mut self.bytes, self.end, wanted_of(left)) {
+        self.start = 0;
+        self.end = end - start;
+        match read_behind(reader, &mut self.bytes, start, end, self.most - self.taken) {
             Ok(count) => {
-                if count != 0 && left == 0 {
-                    return Err(LineReadFault::Read);
-                }
                 self.end += count;
                 self.taken += count as u64;
                 Ok(count)
             }
-            Err(_) => Err(LineReadFault::Read),
+            Err(fault) => Err(fault),
         }
     }
 

@@ -299,7 +299,7 @@ turn_unheld old room opened mid before now after counts midway later seen n s p 
       grow = subst (λ (c : Counts). GrowTo counts c) (sym r.2) s.grow;
     }
 
-empty_is : (xs : List ℕ) → length xs ≡ 0 → xs ≡ []
+pub empty_is : (xs : List ℕ) → length xs ≡ 0 → xs ≡ []
 empty_is [] h = refl
 empty_is (x ∷ xs) h = absurd (omega (arith, h))
 

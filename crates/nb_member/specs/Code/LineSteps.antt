@@ -78,6 +78,21 @@ ReadsMore old before left counts later (Err fault.NoMemory) new =
     Keeps before left × (new ≡ old) × (later ≡ counts)
 ReadsMore old before left counts later (Err fault.TooLong) new = ⊥
 
+-- ReadsBehind before left counts later bytes new held most result: a read put so many bytes behind these, which are so
+-- many at the front, where the input may have at most so many more; or the input can't be read further, maybe because it
+-- gave more bytes than are looked at; or nothing was read
+abbrev pub ReadsBehind : Option (List ℕ) → Option (List ℕ) → Counts → Counts → List ℕ → List ℕ → ℕ → ℕ → Result ℕ LineReadFault → Type 0
+ReadsBehind before left counts later bytes new held most (Ok n) =
+    (got : List ℕ) × (n ≡ length got) × Consumes before left got × (n ≤ most) × (n ≡ 0 → IsAtEnd left)
+    × (take (held + n) new ≡ bytes ++ got) × GrowTo counts later × (n ≤ MAX_READ)
+ReadsBehind before left counts later bytes new held most (Err fault.Read) =
+    (over : List ℕ) × Consumes before left over
+    × ((ShowsReadFault counts later × (over ≡ [])) ⊎ ((0 < length over) × (most ≡ 0)))
+    × (take held new ≡ bytes) × GrowTo counts later × (length over ≤ 1)
+ReadsBehind before left counts later bytes new held most (Err fault.NoMemory) =
+    Keeps before left × (take held new ≡ bytes) × (later ≡ counts)
+ReadsBehind before left counts later bytes new held most (Err fault.TooLong) = ⊥
+
 -- ReadsInto before left counts later old new held most result: a read put so many bytes, no more than are
 -- asked for, into the buffer, after those held; or it failed
 abbrev pub ReadsInto : Option (List ℕ) → Option (List ℕ) → Counts → Counts → List ℕ → List ℕ → ℕ → ℕ → Result ℕ DeviceFault → Type 0
@@ -86,6 +101,12 @@ ReadsInto before left counts later old new held most (Ok n) =
     × (take (held + n) new ≡ take held old ++ got) × (take held new ≡ take held old) × GrowTo counts later
 ReadsInto before left counts later old new held most (Err _) =
     Keeps before left × (take held new ≡ take held old) × ShowsReadFault counts later × GrowTo counts later
+
+-- stopped_by fault room: the room after this fault, by which it may not be read further
+abbrev pub stopped_by : LineReadFault → RoomValue → RoomValue
+stopped_by fault.Read room = with_standing standing.Unread room
+stopped_by fault.NoMemory room = room
+stopped_by fault.TooLong room = room
 
 -- the line of so many bytes of those handed out last
 abbrev pub line_of_size : RoomValue → Result (Option ℕ) LineReadFault → Result (Option (List ℕ)) LineReadFault

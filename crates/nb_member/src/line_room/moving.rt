@@ -1,16 +1,18 @@
 //! Room in a vector, after the bytes that are held in it.
-ghost use Rattle.std.specs.Prelude.{◌≡◌, ◌≤◌, ◌<◌, ◌+◌, ◌-◌, take, drop, length, vec_len, OnOk};
+ghost use Rattle.std.specs.Prelude.{◌≡◌, ◌≤◌, ◌<◌, ◌+◌, ◌-◌, take, drop, length, vec_len, IfOk, OnOk};
 ghost use Rattle.nb_member.specs.declared.limits.TheConstants.{MAX_HELD, MAX_LINE, MAX_READ};
-ghost use Rattle.nb_member.specs.Code.LineSteps.{ReadsInto};
+ghost use Rattle.nb_member.specs.Code.LineSteps.{ReadsBehind, ReadsInto};
 
+use super::wanted_of;
 use crate::limits::MAX_READ;
+use crate::line_read_fault::LineReadFault;
 use nb_names::input::read_some;
 use nb_names::{Counted, DeviceFault, NoMemory};
 use std::io::Read;
 
 /// Moves the bytes from one place up to another to the front. What stands after them then is of no
 /// account.
-pub fn move_to_front(bytes: &mut Vec<u8>, start: usize, end: usize)
+fn move_to_front(bytes: &mut Vec<u8>, start: usize, end: usize)
     requires order { start ≤ end }
     requires within { end ≤ vec_len bytes.old }
     ensures front { take (end - start) bytes.new.items ≡ drop start (take end bytes.old.items) }
@@ -26,7 +28,7 @@ pub fn move_to_front(bytes: &mut Vec<u8>, start: usize, end: usize)
 /// # Errors
 ///
 /// [`NoMemory`] where memory ran out. The vector is then as it was.
-pub fn make_room(bytes: &mut Vec<u8>, held: usize) -> Result<(), NoMemory>
+fn make_room(bytes: &mut Vec<u8>, held: usize) -> Result<(), NoMemory>
     requires few { held ≤ MAX_LINE }
     requires within { held ≤ vec_len bytes.old }
     requires most { vec_len bytes.old ≤ MAX_HELD }
@@ -49,7 +51,7 @@ pub fn make_room(bytes: &mut Vec<u8>, held: usize) -> Result<(), NoMemory>
 /// # Errors
 ///
 /// Those of [`read_some`].
-pub fn read_into<R: Read>(
+fn read_into<R: Read>(
     reader: &mut Counted<R>,
     buffer: &mut [u8],
     held: usize,
@@ -71,7 +73,7 @@ pub fn read_into<R: Read>(
 /// # Errors
 ///
 /// Those of [`read_some`].
-pub fn read_after<R: Read>(
+fn read_after<R: Read>(
     reader: &mut Counted<R>,
     bytes: &mut Vec<u8>,
     held: usize,
@@ -84,4 +86,67 @@ pub fn read_after<R: Read>(
     ensures len { vec_len bytes.new ≡ vec_len bytes.old }
 {
     read_into(reader, bytes.as_mut_slice(), held, most)
+}
+
+/// Reads once after so many first bytes of a vector, as many bytes as a read asks for where the
+/// input may have so many more.
+///
+/// # Errors
+///
+/// [`LineReadFault::Read`] where the read failed, or gave a byte and the input may have none.
+fn read_within<R: Read>(
+    reader: &mut Counted<R>,
+    bytes: &mut Vec<u8>,
+    held: usize,
+    left: u64,
+) -> Result<usize, LineReadFault>
+    requires { held + MAX_READ ≤ vec_len bytes.old }
+    ensures reads { ReadsBehind (R.remaining reader.old.inner) (R.remaining reader.new.inner)
+        reader.old.counts reader.new.counts (take held bytes.old.items) bytes.new.items held left
+        result }
+    ensures room { IfOk result (λ count. held + count ≤ vec_len bytes.new) }
+    ensures len { vec_len bytes.new ≡ vec_len bytes.old }
+{
+    match read_after(reader, bytes, held, wanted_of(left)) {
+        Ok(count) => {
+            if count != 0 && left == 0 {
+                return Err(LineReadFault::Read);
+            }
+            Ok(count)
+        }
+        Err(_) => Err(LineReadFault::Read),
+    }
+}
+
+/// Moves the bytes from one place up to another to the front, and reads once after them, where the
+/// input may have so many bytes more. Answers how many came.
+///
+/// # Errors
+///
+/// [`LineReadFault::NoMemory`] where memory ran out, and [`LineReadFault::Read`] where the read
+/// failed, or gave a byte and the input may have none. The bytes are at the front then too.
+pub fn read_behind<R: Read>(
+    reader: &mut Counted<R>,
+    bytes: &mut Vec<u8>,
+    start: usize,
+    end: usize,
+    left: u64,
+) -> Result<usize, LineReadFault>
+    requires order { start ≤ end }
+    requires within { end ≤ vec_len bytes.old }
+    requires few { end - start ≤ MAX_LINE }
+    requires most { vec_len bytes.old ≤ MAX_HELD }
+    ensures reads { ReadsBehind (R.remaining reader.old.inner) (R.remaining reader.new.inner)
+        reader.old.counts reader.new.counts (drop start (take end bytes.old.items))
+        bytes.new.items (end - start) left result }
+    ensures room { IfOk result (λ count. end - start + count ≤ vec_len bytes.new) }
+    ensures held { end - start ≤ vec_len bytes.new }
+    ensures most { vec_len bytes.new ≤ MAX_HELD }
+{
+    let held = end - start;
+    move_to_front(bytes, start, end);
+    match make_room(bytes, held) {
+        Ok(()) => read_within(reader, bytes, held, left),
+        Err(NoMemory) => Err(LineReadFault::NoMemory),
+    }
 }

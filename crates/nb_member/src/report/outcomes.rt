@@ -4,17 +4,19 @@
 ghost use Rattle.std.specs.Prelude.{◌≡◌, ◌∷◌, [], OnOk, fold};
 ghost use Rattle.nb_telling.specs.Telling.{Grows};
 ghost use Rattle.nb_datagram.specs.Datagram.{datagram_by};
-ghost use Rattle.nb_datagram.specs.Texts.{kind_text};
+ghost use Rattle.nb_datagram.specs.Texts.{key_text, kind_text};
 ghost use Rattle.nb_names.specs.NameText.{written};
 ghost use Rattle.nb_telling.specs.Fields.{Text, Data};
-ghost use Rattle.nb_member.specs.Keys.{kind_key, source_key, destination_key, data_key};
-ghost use Rattle.nb_member.specs.declared.outcome.Outcome.TheVariants.{Delivered};
+ghost use Rattle.nb_member.specs.Keys.{outcome_key, key_key, kind_key, source_key, destination_key, data_key};
+ghost use Rattle.nb_member.specs.declared.outcome.Outcome.TheVariants.{Delivered, Unheard};
 ghost use Rattle.nb_member.specs.ReportFields.{dropped_fields, error_fields, outcome_fields, parts_fields, passed_fields, refused_fields, result_fields};
 
 use crate::keys::{COUNT, DATA, DESTINATION, ERROR, KEY, KIND, OUTCOME, REFUSED, SOURCE};
 use crate::member_fault::MemberFault;
 use crate::outcome::{Dropped, Outcome};
-use nb_datagram::{Datagram, ErrorPacket, Kind, LentFragment, Packet, UserData, encode, kind_name};
+use nb_datagram::{
+    Datagram, ErrorPacket, Key, Kind, LentFragment, Packet, UserData, encode, kind_name,
+};
 use nb_names::{LentName, NoMemory};
 use nb_telling::{Sink, tell_place};
 use std::alloc::Global;
@@ -76,26 +78,47 @@ fn tell_outcome<S: Sink>(alloc: Global, outcome: &Outcome, sink: &mut S) -> Resu
     ensures front { Grows S.is_front (S.seen sink.old) (S.seen sink.new) }
 {
     match outcome {
-        Outcome::Kept(key) => {
-            sink.text(OUTCOME, "kept")?;
-            sink.shown(KEY, key)
-        }
-        Outcome::Spoilt(key) => {
-            sink.text(OUTCOME, "spoilt")?;
-            sink.shown(KEY, key)
-        }
-        Outcome::Delivered(datagram) => {
-            sink.text(OUTCOME, "delivered")?;
-            sink.shown(KEY, &datagram.key())?;
-            tell_parts(datagram, sink)
-        }
-        Outcome::Unheard(key, error) => {
-            sink.text(OUTCOME, "unheard")?;
-            sink.shown(KEY, key)?;
-            tell_error(alloc, *error, sink)
-        }
+        Outcome::Kept(key) => tell_of("kept", *key, sink),
+        Outcome::Spoilt(key) => tell_of("spoilt", *key, sink),
+        Outcome::Delivered(datagram) => tell_datagram(datagram, sink),
+        Outcome::Unheard(key, error) => tell_unheard(alloc, *key, *error, sink),
         Outcome::Other => sink.text(OUTCOME, "other"),
     }
+}
+
+/// Tells what became of a payload, and the key that it is about.
+fn tell_of<S: Sink>(word: &str, key: Key, sink: &mut S) -> Result<(), NoMemory>
+    ensures told { OnOk result (S.seen sink.new ≡ fold S.after (S.seen sink.old)
+        (Text outcome_key word.now ∷ Text key_key (key_text key) ∷ [])) }
+    ensures front { Grows S.is_front (S.seen sink.old) (S.seen sink.new) }
+{
+    sink.text(OUTCOME, word)?;
+    sink.shown(KEY, &key)
+}
+
+/// Tells that a datagram was delivered.
+fn tell_datagram<S: Sink>(datagram: &Datagram, sink: &mut S) -> Result<(), NoMemory>
+    ensures told { OnOk result (S.seen sink.new ≡ fold S.after (S.seen sink.old)
+        (outcome_fields (Delivered datagram.now))) }
+    ensures front { Grows S.is_front (S.seen sink.old) (S.seen sink.new) }
+{
+    tell_of("delivered", datagram.key(), sink)?;
+    tell_parts(datagram, sink)
+}
+
+/// Tells that a datagram with this key isn't heard, and the error packet, if there is one.
+fn tell_unheard<S: Sink>(
+    alloc: Global,
+    key: Key,
+    error: Option<ErrorPacket>,
+    sink: &mut S,
+) -> Result<(), NoMemory>
+    ensures told { OnOk result
+        (S.seen sink.new ≡ fold S.after (S.seen sink.old) (outcome_fields (Unheard key error))) }
+    ensures front { Grows S.is_front (S.seen sink.old) (S.seen sink.new) }
+{
+    tell_of("unheard", key, sink)?;
+    tell_error(alloc, error, sink)
 }
 
 /// Tells why a payload was refused.
@@ -118,7 +141,8 @@ pub(crate) fn tell_parts<S: Sink>(datagram: &Datagram, sink: &mut S) -> Result<(
         (S.seen sink.new ≡ fold S.after (S.seen sink.old) (parts_fields datagram.now)) }
     ensures front { Grows S.is_front (S.seen sink.old) (S.seen sink.new) }
 {
-    let (source, destination) = (datagram.source().lent(), datagram.destination().lent());
+    let source = datagram.source().lent();
+    let destination = datagram.destination().lent();
     tell_lent(
         datagram.kind(),
         &source,
@@ -157,10 +181,14 @@ pub(crate) fn tell_delivered<S: Sink>(
         (outcome_fields (Delivered (datagram_by fragment.now bytes.now)))) }
     ensures front { Grows S.is_front (S.seen sink.old) (S.seen sink.new) }
 {
-    sink.text(OUTCOME, "delivered")?;
-    sink.shown(KEY, &fragment.key())?;
-    let (source, destination) = (fragment.source(), fragment.destination());
-    tell_lent(fragment.kind(), source, destination, bytes.as_slice(), sink)
+    tell_of("delivered", fragment.key(), sink)?;
+    tell_lent(
+        fragment.kind(),
+        fragment.source(),
+        fragment.destination(),
+        bytes.as_slice(),
+        sink,
+    )
 }
 
 /// Tells the bytes of an error packet, if there is one.

@@ -1,7 +1,7 @@
 use Rattle.std.proofs.Common.{◌-◌, ◌≡◌, ◌⊎◌}
 use Rattle.nb_member.specs.LineRoom.{IsOpen}
 use Rattle.nb_member.proofs.LineLemmas.Seeking.{IsSeeking}
-use Rattle.nb_member.proofs.line_reading.advance.Given as goal
+use Rattle.nb_member.proofs.line_reading.seek.Given as goal
 
 abbrev pub invariant-loop-size : goal.invariant-loop-size
 invariant-loop-size g l =

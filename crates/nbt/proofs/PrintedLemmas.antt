@@ -2,13 +2,13 @@
 use Rattle.std.proofs.Common.{◌≡◌, ◌≢◌, ◌++◌, ℕ, Bool, false, true, List, Option, refl, sym, subst, Result, Ok, Err, OnOk, OnErr, IfErr}
 use Rattle.std.specs.Io.KnownBytes.{Appends, Keeps}
 use Rattle.nb_names.specs.Devices.{AppendsFront}
-use Rattle.nb_names.specs.DeviceFacts.{Appends-more, front_after, front_wider}
+use Rattle.nb_names.specs.DeviceFacts.{Appends-more, Keeps-same, front_after, front_wider}
 use Rattle.nbt.specs.declared.fault.Fault.{Fault}
 use Rattle.nbt.specs.declared.fault.Fault.TheVariants.{Read, Write, Memory}
 use Rattle.clap.specs.declared.parser.matches.ArgMatches.{ArgMatches}
 use Rattle.nbt.specs.Commands.{ListCommand, PrintsTables, Streams}
 use Rattle.nbt.specs.Objects.{listed_as}
-use Rattle.nbt.specs.Printing.{PrintsText}
+use Rattle.nbt.specs.Printing.{IsNoWrite, Leaves, PrintsLine, PrintsText, line}
 use Rattle.nbt.specs.Settings.{AsksJson, AsksText}
 
 -- a text that is written at once
@@ -59,6 +59,31 @@ prints_uncut X text old new (Ok done) p = tt
 prints_uncut X text old new (Err Write) p = λ read. absurd (cc read)
 prints_uncut X text old new (Err Memory) p = λ read. absurd (cc read)
 prints_uncut X text old new (Err _) p = absurd p
+
+-- ---- what is printed of a text as a line, or left of it
+
+pub line_printed : (IsText : List ℕ → Type 0) (text : List ℕ) (old new : Option (List ℕ)) (r : Result (Unit {0}) Fault) → IsText text
+    → PrintsText (line text) old new r → OnOk r ((t : List ℕ) × IsText t × PrintsLine old new t)
+line_printed IsText text old new (Ok done) is p = (text, is, p)
+line_printed IsText text old new (Err fault) is p = tt
+
+pub line_refused : (IsFault : Fault → Type 0) (text : List ℕ) (old new : Option (List ℕ)) (r : Result (Unit {0}) Fault) → IsFault Write → IsFault Memory
+    → PrintsText text old new r → IfErr r IsFault
+line_refused IsFault text old new (Ok done) write memory p = tt
+line_refused IsFault text old new (Err Write) write memory p = write
+line_refused IsFault text old new (Err Memory) write memory p = memory
+line_refused IsFault text old new (Err _) write memory p = absurd p
+
+pub line_left : (IsText : List ℕ → Type 0) (text : List ℕ) (old new : Option (List ℕ)) (r : Result (Unit {0}) Fault) → IsText text
+    → PrintsText (line text) old new r → IfErr r (Leaves IsText old new)
+line_left IsText text old new (Ok done) is p = tt
+line_left IsText text old new (Err Write) is p = (text, is, p)
+line_left IsText text old new (Err Memory) is p = p
+line_left IsText text old new (Err _) is p = absurd p
+
+pub nothing_left : (IsText : List ℕ → Type 0) (old : Option (List ℕ)) (fault : Fault) → IsNoWrite fault → Leaves IsText old old fault
+nothing_left IsText old Write other = absurd (other refl)
+nothing_left IsText old _ other = Keeps-same old
 
 -- the join of tables as it is asked for
 pub listed : (matches : ArgMatches) (json : Bool) (s : Streams) (r : Result Unit Fault) → (AsksText matches → json ≡ false) → (AsksJson matches → json ≡ true)

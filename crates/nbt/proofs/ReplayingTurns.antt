@@ -86,6 +86,15 @@ pub replay_ends : (options : CaptureOptions) (m new : MemberValue) (old_in new_i
 replay_ends options m new old_in new_in old_out new_out bytes why read replays =
     ends_for (ReplaysIn options m old_in new_in old_out new_out) why (record { bytes = bytes; new = new; read = read; replays = replays })
 
+-- the same, where what the output held is told otherwise
+pub replay_ends_on : (options : CaptureOptions) (m new : MemberValue) (old_in new_in old_out new_out held : Option (List ℕ)) (bytes : List ℕ) (why : ReplayFault)
+    → held ≡ old_out → Consumes old_in new_in bytes
+    → ((H : List Event) (s : Stands m H) → Replays options.comments options.most m H (live m.settings s.sayings) bytes new_in new old_out new_out (Err why))
+    → EndsWith (ReplaysIn options m old_in new_in held new_out) (Err (of_replay why))
+replay_ends_on options m new old_in new_in old_out new_out held bytes why same read replays =
+    subst (λ (o : Option (List ℕ)). EndsWith (ReplaysIn options m old_in new_in o new_out) (Err (of_replay why))) (sym same)
+    (replay_ends options m new old_in new_in old_out new_out bytes why read replays)
+
 ends_weaker : (P Q : Result ℕ ReplayFault → Type 0) (result : Result Unit Fault) → ((answer : Result ℕ ReplayFault) → P answer → Q answer)
     → EndsWith P result → EndsWith Q result
 ends_weaker P Q (Ok done) step (n, p) = (n, step (Ok n) p)
@@ -171,14 +180,13 @@ pub unread_cut : (IsMost : ℕ → Type 0) (most : ℕ) (old_in new_in : Option 
 unread_cut IsMost most old_in new_in reads after bytes (Ok done) limited read cut = tt
 unread_cut IsMost most old_in new_in reads after bytes (Err fault) limited read cut = λ is. (most, limited, (bytes, read, cut (ap (λ (f : Fault). Err f) is)))
 
--- the same where a replay ended so
-pub replay_cut : (IsMost : ℕ → Type 0) (most : ℕ) (old_in new_in : Option (List ℕ)) (reads after : Counts) (bytes : List ℕ) (answer : Result ℕ ReplayFault) (why : ReplayFault) → IsMost most
-    → Consumes old_in new_in bytes → (answer ≡ Err replay.Read → ShowsUnread most bytes reads after) → answer ≡ Err why → of_replay why ≡ Read
-    → (n : ℕ) × IsMost n × WasCut n old_in new_in reads after
-replay_cut IsMost most old_in new_in reads after bytes answer (replay.Line n) limited read cut is unread = absurd (cc unread)
-replay_cut IsMost most old_in new_in reads after bytes answer replay.Read limited read cut is unread = (most, limited, (bytes, read, cut is))
-replay_cut IsMost most old_in new_in reads after bytes answer replay.Write limited read cut is unread = absurd (cc unread)
-replay_cut IsMost most old_in new_in reads after bytes answer replay.NoMemory limited read cut is unread = absurd (cc unread)
+-- a fault of the replay in reading is one of the program in reading
+pub replay_unread : (X : Type 0) (answer : Result ℕ ReplayFault) (result : Result Unit Fault) (why : ReplayFault) → (answer ≡ Err replay.Read → X)
+    → answer ≡ Err why → result ≡ Err (of_replay why) → result ≡ Err Read → X
+replay_unread X answer result (replay.Line n) cut is told unread = absurd (cc (told, unread))
+replay_unread X answer result replay.Read cut is told unread = cut is
+replay_unread X answer result replay.Write cut is told unread = absurd (cc (told, unread))
+replay_unread X answer result replay.NoMemory cut is told unread = absurd (cc (told, unread))
 
 -- a write is at fault only where the calls of the output show it
 pub replay_writes : (answer : Result ℕ ReplayFault) (why : ReplayFault) (writes after : Counts) → (answer ≡ Err replay.Write → ShowsWriteFault writes after) → answer ≡ Err why

@@ -1,8 +1,10 @@
 -- The program's command line, as clap reads it (our choice).
-use Rattle.std.specs.Prelude.{◌≡◌, ◌⊎◌, ℕ, List, [], ◌∷◌, Option, Some, true, codes}
+use Rattle.std.specs.Prelude.{◌≡◌, ◌⊎◌, ℕ, List, [], ◌∷◌, Option, Some, true, false, codes, Result, IfOk, IsOkAnd}
 use Rattle.nbt.specs.declared.subcommand.Subcommand.{Subcommand}
 use Rattle.nbt.specs.declared.subcommand.Subcommand.TheVariants as commands
-use Rattle.clap.specs.Words.{App, Rule, Text, new_app, new_rule, with_rule, with_subcommand}
+use Rattle.clap.specs.Words.{App, Rule, Text, app_of, new_app, new_rule, with_rule, with_subcommand}
+use Rattle.clap.specs.declared.builder.command.Command.{Command}
+use Rattle.clap.specs.declared.builder.command.Command.TheViews.{out-Command as fields_of}
 use Rattle.clap.specs.Simple.{on_top}
 use Rattle.clap.specs.declared.builder.action.ArgAction.TheVariants.{Set, SetTrue, Append}
 use Rattle.clap.specs.declared.builder.value_parser.ValueParser.TheVariants.{Unsigned}
@@ -29,6 +31,17 @@ some_rule name = record (new_rule name) {
   action = Some Append;
   range = Some (record { start_inclusive = 1; end_inclusive = 18446744073709551615 });
 }
+
+-- words, at least so many, which may be none
+abbrev pub words_rule : Text → ℕ → Rule
+words_rule name least = record (new_rule name) {
+  action = Some Append;
+  range = Some (record { start_inclusive = least; end_inclusive = 18446744073709551615 });
+}
+
+-- an option with a value that the help names
+abbrev pub valued_rule : Text → Rule
+valued_rule name = record (new_rule name) { long = Some name; value_names = 1 }
 
 -- an option that is a decimal number from 1 to the greatest that it may be; none where it isn't given
 abbrev pub number_rule : Text → ℕ → Rule
@@ -97,6 +110,27 @@ top_app = on_top (λ s. record s { subcommand_required = true }) (on_top (λ s. 
 -- the whole command line
 abbrev pub nbt_app : App
 nbt_app = with_subcommand (with_subcommand (with_subcommand (with_subcommand (with_subcommand (with_subcommand (with_subcommand (with_subcommand top_app name_app.top) show_app.top) build_app.top) replay_app.top) save_app.top) merge_app.top) list_app.top) agree_app.top
+
+-- with the options of a command that reads a capture
+abbrev pub capture_added : App → App
+capture_added app = with_rule (with_rule app input_limit_rule) (flag_rule (codes "comments"))
+
+-- with the subcommands of packets and captures
+abbrev pub packets_added : App → App
+packets_added app = with_subcommand (with_subcommand (with_subcommand (with_subcommand app name_app.top) show_app.top) build_app.top) replay_app.top
+
+-- with the subcommands of saved tables
+abbrev pub tables_added : App → App
+tables_added app = with_subcommand (with_subcommand (with_subcommand (with_subcommand app save_app.top) merge_app.top) list_app.top) agree_app.top
+
+-- a command has this shape of another's, and nothing more that its subcommands inherit
+pub record Extends (old : Command) (more : App → App) (new : Command) : Type 0 where
+  pub app : app_of new ≡ more (app_of old)
+  pub local : (fields_of old).has_globals ≡ false → (fields_of new).has_globals ≡ false
+
+-- where a command was made, it was made of this one, and has this shape of it
+abbrev pub IsMadeOf : {E : Type 0} → Result Command E → (App → App) → Result Command E → Type 0
+IsMadeOf old more new = IfOk new (λ whole. IsOkAnd old (λ command. Extends command more whole))
 
 -- a subcommand that may stand alone
 abbrev pub IsAlone : Text → Type 0

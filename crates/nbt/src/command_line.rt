@@ -1,8 +1,8 @@
 //! The words that the program takes.
 ghost use Rattle.std.specs.Prelude.{◌≡◌, IfOk, IsOkAnd, false, codes};
-ghost use Rattle.clap.specs.Words.{AddsArg, AddsSubcommand, app_of, new_app, rule_of};
+ghost use Rattle.clap.specs.Words.{AddsArg, AddsSubcommand, app_of, new_app, rule_of, with_rule};
 ghost use Rattle.clap.specs.declared.builder.command.Command.TheViews.{out-Command as fields_of};
-ghost use Rattle.nbt.specs.CommandLine.{name_app, show_app, build_app, replay_app, save_app, merge_app, list_app, agree_app, nbt_app, flag_rule, value_rule, list_rule, number_rule, input_limit_rule, keys_rule, limited_app, per_source_rule, some_rule};
+ghost use Rattle.nbt.specs.CommandLine.{name_app, show_app, build_app, replay_app, save_app, merge_app, list_app, agree_app, nbt_app, flag_rule, value_rule, words_rule, number_rule, valued_rule, input_limit_rule, keys_rule, limited_app, per_source_rule, IsMadeOf, capture_added, packets_added, tables_added};
 
 use crate::help::{
     AGREE_HELP, BUILD_HELP, LIST_HELP, MERGE_HELP, NAME_HELP, REPLAY_HELP, SAVE_HELP, SHOW_HELP,
@@ -43,14 +43,33 @@ pub fn command<'a>(alloc: Global) -> Result<Command<'a>, AllocError>
     )
     .version(VERSION)
     .subcommand_required(true);
-    let top = added(Ok(top), name_command(alloc));
-    let top = added(top, show_command(alloc));
-    let top = added(top, build_command(alloc));
-    let top = added(top, replay_command(alloc));
-    let top = added(top, save_command(alloc));
-    let top = added(top, merge_command(alloc));
-    let top = added(top, list_command(alloc));
-    added(top, agree_command(alloc))
+    with_tables(alloc, with_packets(alloc, Ok(top)))
+}
+
+/// A command with the subcommands of packets and captures, where they could be made.
+fn with_packets<'a>(
+    alloc: Global,
+    command: Result<Command<'a>, AllocError>,
+) -> Result<Command<'a>, AllocError>
+    ensures { IsMadeOf command.entry packets_added result }
+{
+    let command = added(command, name_command(alloc));
+    let command = added(command, show_command(alloc));
+    let command = added(command, build_command(alloc));
+    added(command, replay_command(alloc))
+}
+
+/// A command with the subcommands of saved tables, where they could be made.
+fn with_tables<'a>(
+    alloc: Global,
+    command: Result<Command<'a>, AllocError>,
+) -> Result<Command<'a>, AllocError>
+    ensures { IsMadeOf command.entry tables_added result }
+{
+    let command = added(command, save_command(alloc));
+    let command = added(command, merge_command(alloc));
+    let command = added(command, list_command(alloc));
+    added(command, agree_command(alloc))
 }
 
 /// A command with a subcommand more, where both could be made.
@@ -61,9 +80,12 @@ fn added<'a>(
     ensures { IfOk result (λ whole. IsOkAnd command.entry (λ old.
         IsOkAnd subcommand.entry (λ added. AddsSubcommand old added whole))) }
 {
-    match (command, subcommand) {
-        (Ok(command), Ok(subcommand)) => command.subcommand(subcommand),
-        _ => Err(AllocError),
+    match command {
+        Ok(command) => match subcommand {
+            Ok(subcommand) => command.subcommand(subcommand),
+            Err(error) => Err(error),
+        },
+        Err(error) => Err(error),
     }
 }
 
@@ -78,8 +100,9 @@ fn name_command<'a>(alloc: Global) -> Result<Command<'a>, AllocError>
         "Print the spelling of a name, or with --bytes the text of a spelling",
         NAME_HELP,
     );
-    let bytes = flag(
+    let name = with_flag(
         alloc,
+        Ok(name),
         "bytes",
         "VALUE is a spelling in hexadecimal: print the text of its name",
     );
@@ -88,7 +111,7 @@ fn name_command<'a>(alloc: Global) -> Result<Command<'a>, AllocError>
         "VALUE",
         "The text of a name, such as 'FRED<20>.NETBIOS.COM'; with --bytes its spelling",
     );
-    taking(taking(Ok(name), bytes), value)
+    taking(name, value)
 }
 
 /// `show [--input-limit BYTES] [--comments] [--brief] [--partial] [--json]`.
@@ -102,13 +125,10 @@ fn show_command<'a>(alloc: Global) -> Result<Command<'a>, AllocError>
         "Show the packets of the capture on standard input",
         SHOW_HELP,
     );
-    let show = taking(
-        taking(Ok(show), input_limit(alloc)),
-        flag(alloc, "comments", COMMENTS),
-    );
-    let show = taking(show, flag(alloc, "brief", BRIEF));
-    let show = taking(show, flag(alloc, "partial", PARTIAL));
-    taking(show, flag(alloc, "json", JSON))
+    let show = of_capture(alloc, Ok(show));
+    let show = with_flag(alloc, show, "brief", BRIEF);
+    let show = with_flag(alloc, show, "partial", PARTIAL);
+    with_flag(alloc, show, "json", JSON)
 }
 
 /// `build [--broadcast] WHAT ARG..`.
@@ -122,10 +142,11 @@ fn build_command<'a>(alloc: Global) -> Result<Command<'a>, AllocError>
         "Print the capture line of a packet",
         BUILD_HELP,
     );
-    let broadcast = flag(alloc, "broadcast", "The packet of port 137 is broadcast");
-    let what = required(alloc, "WHAT", "The packet to build");
-    let words = list(alloc, "ARG", "The fields of the packet, as listed below");
-    taking(taking(taking(Ok(build), broadcast), what), words)
+    let help = "The packet of port 137 is broadcast";
+    let build = with_flag(alloc, Ok(build), "broadcast", help);
+    let build = taking(build, required(alloc, "WHAT", "The packet to build"));
+    let help = "The fields of the packet, as listed below";
+    taking(build, list(alloc, "ARG", help, 0))
 }
 
 /// `replay [--keys N] [--per-source N] [--input-limit BYTES] [--comments] [--json] NAME..`.
@@ -139,16 +160,10 @@ fn replay_command<'a>(alloc: Global) -> Result<Command<'a>, AllocError>
         "Replay the capture on standard input in a station with these names, and print the report",
         REPLAY_HELP,
     );
-    let names = at_least_one(
-        alloc,
-        "NAME",
-        "A name of the station, such as 'FRED<20>.NETBIOS.COM'",
-    );
-    let replay = taking(
-        taking(replay, input_limit(alloc)),
-        flag(alloc, "comments", COMMENTS),
-    );
-    taking(taking(replay, flag(alloc, "json", JSON)), names)
+    let replay = of_capture(alloc, replay);
+    let replay = with_flag(alloc, replay, "json", JSON);
+    let help = "A name of the station, such as 'FRED<20>.NETBIOS.COM'";
+    taking(replay, list(alloc, "NAME", help, 1).required(true))
 }
 
 /// `save [--keys N] [--per-source N] [--input-limit BYTES]`.
@@ -189,7 +204,7 @@ fn list_command<'a>(alloc: Global) -> Result<Command<'a>, AllocError>
         "Print what the saved tables on standard input, a line each, know together of each key",
         LIST_HELP,
     );
-    taking(list, flag(alloc, "json", JSON))
+    with_flag(alloc, list, "json", JSON)
 }
 
 /// `agree [--list]`.
@@ -203,12 +218,8 @@ fn agree_command<'a>(alloc: Global) -> Result<Command<'a>, AllocError>
         "Print whether the two saved tables on standard input, a line each, are equal",
         AGREE_HELP,
     );
-    let list = flag(
-        alloc,
-        "list",
-        "Where they differ, print what either has of each key at which they do",
-    );
-    taking(Ok(agree), list)
+    let help = "Where they differ, print what either has of each key at which they do";
+    with_flag(alloc, Ok(agree), "list", help)
 }
 
 /// A command of this name, with the texts before and after its help.
@@ -233,6 +244,29 @@ fn limited<'a>(
     taking(taking(Ok(command), keys(alloc)), per_source(alloc))
 }
 
+/// A command that reads a capture, with the options for that, where it could be made.
+fn of_capture<'a>(
+    alloc: Global,
+    command: Result<Command<'a>, AllocError>,
+) -> Result<Command<'a>, AllocError>
+    ensures { IsMadeOf command.entry capture_added result }
+{
+    let command = taking(command, input_limit(alloc));
+    with_flag(alloc, command, "comments", COMMENTS)
+}
+
+/// A command with an option more that is given or not, where it could be made.
+fn with_flag<'a>(
+    alloc: Global,
+    command: Result<Command<'a>, AllocError>,
+    name: &'a str,
+    help: &'a str,
+) -> Result<Command<'a>, AllocError>
+    ensures { IsMadeOf command.entry (λ app. with_rule app (flag_rule name.entry.now)) result }
+{
+    taking(command, flag(alloc, name, help))
+}
+
 /// A command with an argument more, where it could be made.
 fn taking<'a>(
     command: Result<Command<'a>, AllocError>,
@@ -240,7 +274,10 @@ fn taking<'a>(
 ) -> Result<Command<'a>, AllocError>
     ensures { IfOk result (λ whole. IsOkAnd command.entry (λ old. AddsArg old arg.entry whole)) }
 {
-    command?.arg(arg)
+    match command {
+        Ok(command) => command.arg(arg),
+        Err(error) => Err(error),
+    }
 }
 
 /// An option that is given or not.
@@ -265,26 +302,14 @@ fn required<'a>(alloc: Global, name: &'a str, help: &'a str) -> Arg<'a>
         .action(ArgAction::Set)
 }
 
-/// Words, any number of them.
-fn list<'a>(alloc: Global, name: &'a str, help: &'a str) -> Arg<'a>
-    ensures rule { rule_of result ≡ list_rule name.entry.now }
+/// Words, at least so many.
+fn list<'a>(alloc: Global, name: &'a str, help: &'a str, least: usize) -> Arg<'a>
+    ensures rule { rule_of result ≡ words_rule name.entry.now least }
     ensures local { result.global ≡ false }
 {
     Arg::new(alloc, name)
         .help(help)
-        .num_args(0..)
-        .action(ArgAction::Append)
-}
-
-/// Words, at least one.
-fn at_least_one<'a>(alloc: Global, name: &'a str, help: &'a str) -> Arg<'a>
-    ensures rule { rule_of result ≡ some_rule name.entry.now }
-    ensures local { result.global ≡ false }
-{
-    Arg::new(alloc, name)
-        .help(help)
-        .required(true)
-        .num_args(1..)
+        .num_args(least..)
         .action(ArgAction::Append)
 }
 
@@ -293,12 +318,20 @@ fn number<'a>(alloc: Global, name: &'a str, value: &'a str, help: &'a str, most:
     ensures rule { rule_of result ≡ number_rule name.entry.now most }
     ensures local { result.global ≡ false }
 {
+    valued(alloc, name, value, help)
+        .value_parser(ValueParser::unsigned(1, most))
+        .action(ArgAction::Set)
+}
+
+/// An option with a value that the help calls by `value`.
+fn valued<'a>(alloc: Global, name: &'a str, value: &'a str, help: &'a str) -> Arg<'a>
+    ensures rule { rule_of result ≡ valued_rule name.entry.now }
+    ensures local { result.global ≡ false }
+{
     Arg::new(alloc, name)
         .long(name)
         .value_name(value)
         .help(help)
-        .value_parser(ValueParser::unsigned(1, most))
-        .action(ArgAction::Set)
 }
 
 /// `--keys N`.

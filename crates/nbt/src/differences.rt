@@ -1,10 +1,11 @@
 //! The keys at which two tables differ, and what each of them has there.
-ghost use Rattle.std.specs.Prelude.{◌≡◌, ◌≢◌, ◌⊎◌, ◌++◌, true, map, IfOk, IfErr, OnOk, string_bytes};
+ghost use Rattle.std.specs.Prelude.{◌≡◌, ◌≢◌, ◌⊎◌, ◌++◌, true, map, codes, IfOk, IfErr, OnOk, string_bytes};
 ghost use Rattle.std.specs.FinMap as maps;
 ghost use Rattle.std.specs.Io.KnownBytes.{Appends, Keeps};
 ghost use Rattle.nb_datagram.specs.Key.{key_cmp};
 ghost use Rattle.nb_names.specs.Devices.{AppendsFront, ShowsWriteFault};
-ghost use Rattle.nbt.specs.Differences.{differing, line_where, two_lines};
+ghost use Rattle.nbt.specs.Differences.{differing, line_where, lines_of_keys, two_lines};
+ghost use Rattle.nbt.specs.Printing.{line};
 ghost use Rattle.nbt.specs.Tables.{difference_text};
 ghost use Rattle.nbt.specs.Code.Marks.{marked, with_mark};
 
@@ -54,11 +55,26 @@ fn differences_of(alloc: Global, one: &Table, other: &Table) -> Result<String, N
 {
     let keys = differing_keys(alloc, one, other)?;
     let mut lines = String::new(alloc);
-    lines.push_str("different\n")?;
-    for key in keys.keys() {
-        push_two_lines(one, other, *key, &mut lines)?;
-    }
+    push_differences(&keys, one, other, &mut lines)?;
     Ok(lines)
+}
+
+/// Adds that two tables differ, and what either has at each of these keys.
+fn push_differences(
+    keys: &BTreeMap<Key, ()>,
+    one: &Table,
+    other: &Table,
+    text: &mut String,
+) -> Result<(), NoMemory>
+    ensures { OnOk result (string_bytes text.new ≡ string_bytes text.old
+        ++ (line (codes "different") ++ lines_of_keys one.now.contents other.now.contents
+        (maps.keys (maps.from_entries {R = key_cmp} keys.now.entries)))) }
+{
+    text.push_str("different\n")?;
+    for key in keys.keys() {
+        push_two_lines(one, other, *key, text)?;
+    }
+    Ok(())
 }
 
 /// The keys at which two tables differ.

@@ -73,17 +73,20 @@ fn audience_of<'a>(rt: &HostRuntime, front: &'a Cell<Front>) -> Audience<'a> {
 /// [`Fault::Write`] where what was printed can't be written out: this is then reported alone.
 fn run_buffered(rt: &HostRuntime, front: &Cell<Front>) -> Result<u8, Fault> {
     let words = words_of(rt)?;
-    let printed = RefCell::new(buffered(rt.alloc(), rt.stdout())?);
+    run_words(rt, words.as_slice(), front)
+}
+
+/// Runs the program with these words, as [`run_buffered`] has it.
+fn run_words(rt: &HostRuntime, words: &[String], front: &Cell<Front>) -> Result<u8, Fault> {
+    let stdout = buffered(rt.alloc(), rt.stdout())?;
     let stderr = buffered(rt.alloc(), rt.stderr())?;
+    let printed = RefCell::new(stdout);
     let mut errors = Errors::new(stderr, audience_of(rt, front));
     let input = FrontInput::new(rt.stdin(), front);
-    let answer = run_flushing(rt, words.as_slice(), input, &printed, &mut errors);
+    let answer = run_flushing(rt, words, input, &printed, &mut errors);
     let mut errors = errors.into_inner();
     let mut output = printed.into_inner();
-    let shown = match answer {
-        Ok(code) => output.flush().map(|()| code).map_err(|_| Fault::Write),
-        Err(fault) => Err(fault),
-    };
+    let shown = flushed(answer, &mut output);
     // What a failed flush left is let go: it isn't written once more.
     let (_stdout, _left) = output.into_parts();
     if shown.is_ok() {
@@ -91,6 +94,15 @@ fn run_buffered(rt: &HostRuntime, front: &Cell<Front>) -> Result<u8, Fault> {
     }
     let (_stderr, _unwritten) = errors.into_parts();
     shown
+}
+
+/// What the program answers once its output is flushed.
+fn flushed<W: Write>(answer: Result<u8, Fault>, output: &mut W) -> Result<u8, Fault> {
+    let code = answer?;
+    match output.flush() {
+        Ok(()) => Ok(code),
+        Err(_) => Err(Fault::Write),
+    }
 }
 
 /// Runs the program over this input, before each read of which the output in the cell is flushed.
@@ -116,18 +128,29 @@ fn run_flushing<R: Read + Drop, W: Write, E: Write>(
 
 /// A device with a buffer of fixed size before it.
 fn buffered<W: Write + Drop>(alloc: Global, device: W) -> Result<BufWriter<Output<W>>, Fault> {
-    BufWriter::new(alloc, Output::new(device)).map_err(|_| Fault::Memory)
+    match BufWriter::new(alloc, Output::new(device)) {
+        Ok(buffered) => Ok(buffered),
+        Err(_) => Err(Fault::Memory),
+    }
 }
 
 /// The words that the program was called with, its own name first.
 fn words_of(rt: &HostRuntime) -> Result<Vec<String>, Fault> {
+    let given = match env::args(rt) {
+        Ok(given) => given,
+        Err(error) => return Err(words_fault(error.kind())),
+    };
     let mut words = Vec::new(rt.alloc());
-    let given = env::args(rt).map_err(|error| match error.kind() {
-        ErrorKind::OutOfMemory => Fault::Memory,
-        _ => Fault::Read,
-    })?;
     for word in given {
-        words.push(word).map_err(|_| Fault::Memory)?;
+        words.push(word)?;
     }
     Ok(words)
+}
+
+/// Why the words can't be had.
+fn words_fault(kind: ErrorKind) -> Fault {
+    match kind {
+        ErrorKind::OutOfMemory => Fault::Memory,
+        _ => Fault::Read,
+    }
 }

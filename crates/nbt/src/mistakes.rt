@@ -1,8 +1,8 @@
 //! Which of the words of a packet is wrong, and what was wanted.
 
-use crate::forms::{Form, forms};
+use crate::forms::{Field, Form, forms};
 use nb_building::{BuildFault, capture_lines};
-use nb_names::NoMemory;
+use nb_names::{NoMemory, push_decimal};
 use std::alloc::Global;
 
 /// The most bytes of a word that is repeated.
@@ -39,18 +39,13 @@ fn push_packets(what: &str, line: &mut String) -> Result<(), NoMemory> {
 
 /// Says how many words a packet takes, and how many are given.
 fn push_count(form: &Form, given: usize, line: &mut String) -> Result<(), NoMemory> {
-    write!(
-        line,
-        "words after {}: {} wanted",
-        form.what,
-        form.fields.len()
-    )?;
+    push_both("words after ", form.what, line)?;
+    push_number(": ", form.fields.len(), line)?;
+    line.push_str(" wanted")?;
     for field in form.fields {
-        line.push_str(" ")?;
-        line.push_str(field.name())?;
+        push_both(" ", field.name(), line)?;
     }
-    write!(line, ", and not {given}")?;
-    Ok(())
+    push_number(", and not ", given, line)
 }
 
 /// Says which word of a packet is wrong, and what it has to be.
@@ -62,29 +57,51 @@ fn push_wrong(
 ) -> Result<(), NoMemory> {
     for (place, (field, word)) in form.fields.iter().zip(words).enumerate() {
         if !is_taken(alloc, form, words, place)? {
-            write!(
-                line,
-                "word {} after {} is {}, {}, such as {}",
-                place + 1,
-                form.what,
-                field.name(),
-                field.wanted(),
-                field.example()
-            )?;
+            push_place(form.what, place + 1, line)?;
+            push_wanted(*field, line)?;
             return push_given(word, line);
         }
     }
     Ok(())
 }
 
+/// Says which word after WHAT is wrong.
+fn push_place(what: &str, place: usize, line: &mut String) -> Result<(), NoMemory> {
+    push_number("word ", place, line)?;
+    push_both(" after ", what, line)
+}
+
+/// Says what a word has to be.
+fn push_wanted(field: Field, line: &mut String) -> Result<(), NoMemory> {
+    push_both(" is ", field.name(), line)?;
+    push_both(", ", field.wanted(), line)?;
+    push_both(", such as ", field.example(), line)
+}
+
 /// Whether a packet takes these words up to this place, with examples behind them.
 fn is_taken(alloc: Global, form: &Form, words: &[&str], place: usize) -> Result<bool, NoMemory> {
     let mut tried = Vec::new(alloc);
+    push_tried(form, words, place, &mut tried)?;
+    Ok(is_packet(alloc, form.what, tried.as_slice()))
+}
+
+/// Adds the words up to this place, and examples behind them.
+fn push_tried<'a>(
+    form: &Form,
+    words: &[&'a str],
+    place: usize,
+    tried: &mut Vec<&'a str>,
+) -> Result<(), NoMemory> {
     for (at, (field, word)) in form.fields.iter().zip(words).enumerate() {
         tried.push(if at <= place { *word } else { field.example() })?;
     }
-    let built = capture_lines(alloc, form.what, tried.as_slice(), false);
-    Ok(!matches!(built, Err(BuildFault::Arguments)))
+    Ok(())
+}
+
+/// Whether these words are taken for a packet.
+fn is_packet(alloc: Global, what: &str, words: &[&str]) -> bool {
+    let built = capture_lines(alloc, what, words, false);
+    !matches!(built, Err(BuildFault::Arguments))
 }
 
 /// Adds a word that was given, unless it is long or has other bytes than a terminal shows.
@@ -92,7 +109,18 @@ fn push_given(word: &str, line: &mut String) -> Result<(), NoMemory> {
     if word.len() > SHORT || !word.bytes().all(|byte| byte.is_ascii_graphic()) {
         return Ok(());
     }
-    line.push_str(", and not ")?;
-    line.push_str(word)?;
+    push_both(", and not ", word, line)
+}
+
+/// Adds two texts.
+fn push_both(first: &str, second: &str, line: &mut String) -> Result<(), NoMemory> {
+    line.push_str(first)?;
+    line.push_str(second)?;
     Ok(())
+}
+
+/// Adds a number after a text.
+fn push_number(text: &str, number: usize, line: &mut String) -> Result<(), NoMemory> {
+    line.push_str(text)?;
+    push_decimal(number as u64, line)
 }

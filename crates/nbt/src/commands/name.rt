@@ -2,7 +2,7 @@
 ghost use Rattle.std.specs.Prelude.{◌≡◌, ℕ, List, codes, IfOk, IfErr, OnOk, string_bytes};
 ghost use Rattle.nb_names.specs.Devices.{ShowsWriteFault};
 ghost use Rattle.nbt.specs.NameCommand.{IsValue, IsFlag, OutcomeOf};
-ghost use Rattle.nbt.specs.Printing.{Leaves, PrintsSpelling, PrintsName, IsSpellingOf, IsSpellingFault, IsNameOf, IsNameFault, IsNoWrite};
+ghost use Rattle.nbt.specs.Printing.{Leaves, PrintsSpelling, PrintsName, IsSpellingOf, IsSpellingFault, IsNameOf, IsNameFault, IsNoWrite, PrintsText, line};
 
 use crate::fault::Fault;
 use crate::output::Output;
@@ -64,9 +64,10 @@ pub fn print_spelling<W: Write>(
     ensures why { IfErr result (λ fault. fault ≡ Fault.Write →
         ShowsWriteFault output.old.counts output.new.counts) }
 {
-    let mut line = spelling_of(alloc, text)?;
-    line.push('\n')?;
-    output.print(line.as_bytes())
+    match spelling_of(alloc, text) {
+        Ok(digits) => print_line(digits, output),
+        Err(fault) => Err(fault),
+    }
 }
 
 /// Prints the text of the name whose spelling the digits are, in hexadecimal of either case.
@@ -89,9 +90,26 @@ pub fn print_name<W: Write>(
     ensures why { IfErr result (λ fault. fault ≡ Fault.Write →
         ShowsWriteFault output.old.counts output.new.counts) }
 {
-    let mut line = name_of(alloc, digits)?;
-    line.push('\n')?;
-    output.print(line.as_bytes())
+    match name_of(alloc, digits) {
+        Ok(text) => print_line(text, output),
+        Err(fault) => Err(fault),
+    }
+}
+
+/// Prints a text as a line.
+///
+/// # Errors
+///
+/// [`Fault::Memory`] where memory ran out; nothing is printed then. [`Fault::Write`] where the
+/// output failed.
+fn print_line<W: Write>(mut text: String, output: &mut Output<W>) -> Result<(), Fault>
+    ensures prints { PrintsText (line (string_bytes text))
+        (W.contents output.old.inner) (W.contents output.new.inner) result }
+    ensures why { IfErr result (λ fault. fault ≡ Fault.Write →
+        ShowsWriteFault output.old.counts output.new.counts) }
+{
+    text.push('\n')?;
+    output.print(text.as_bytes())
 }
 
 /// The spelling, in hexadecimal, of the name that a text stands for.

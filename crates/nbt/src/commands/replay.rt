@@ -1,8 +1,10 @@
 //! `nbt replay`: the report of a capture, in a member with names.
-ghost use Rattle.std.specs.Prelude.{map, OnOk, IfOk, IfErr};
+ghost use Rattle.std.specs.Prelude.{◌≡◌, ℕ, List, Err, map, OnOk, IfOk, IfErr};
+ghost use Rattle.std.specs.Io.KnownBytes.{Consumes};
+ghost use Rattle.nb_names.specs.Devices.{ShowsUnread, ShowsWriteFault};
 ghost use Rattle.nb_names.specs.NameText.{IsFaultOf};
 ghost use Rattle.nbt.specs.Commands.{ReplayCommand, streams};
-ghost use Rattle.nbt.specs.Replaying.{AddsEach, AddsName, AreTexts, Begins, IsNamesFault, IsRefusedName, IsUnbegun};
+ghost use Rattle.nbt.specs.Replaying.{AddsEach, AddsName, AreTexts, Begins, EndsWith, IsNamesFault, IsRefusedName, IsUnbegun, ReplaysIn};
 ghost use Rattle.nbt.specs.Settings.{IsCapacity};
 
 use crate::fault::Fault;
@@ -11,7 +13,7 @@ use crate::printing_lines::print_objects;
 use crate::settings::{capacity_of, is_json, options_of, settings_with};
 use crate::telling::Outcomes;
 use clap::ArgMatches;
-use nb_member::{AddFault, LocalNames, Member, replay_with};
+use nb_member::{AddFault, CaptureOptions, LocalNames, Member, replay_with};
 use nb_names::{Counted, name_from_text};
 use std::alloc::Global;
 use std::io::{Read, Write};
@@ -43,7 +45,28 @@ pub fn run_replay<R: Read, W: Write>(
         let told = Outcomes { alloc, member };
         return print_objects(alloc, told, options, input, output);
     }
-    replay_with(alloc, input, &mut output.device, &mut member, options)?;
+    replay_text(alloc, &mut member, options, input, output)
+}
+
+/// Replays the input in a member, and prints the report as lines.
+fn replay_text<R: Read, W: Write>(
+    alloc: Global,
+    member: &mut Member,
+    options: CaptureOptions,
+    input: &mut Counted<R>,
+    output: &mut Output<W>,
+) -> Result<(), Fault>
+    ensures replays { EndsWith (ReplaysIn options member.old
+        (R.remaining input.old.inner) (R.remaining input.new.inner)
+        (W.contents output.old.inner) (W.contents output.new.inner)) result }
+    ensures unread { (bytes : List ℕ) ×
+        Consumes (R.remaining input.old.inner) (R.remaining input.new.inner) bytes ×
+        (result ≡ Err Fault.Read →
+        ShowsUnread options.most bytes input.old.counts input.new.counts) }
+    ensures why { IfErr result (λ fault. fault ≡ Fault.Write →
+        ShowsWriteFault output.old.counts output.new.counts) }
+{
+    replay_with(alloc, input, &mut output.device, member, options)?;
     Ok(())
 }
 

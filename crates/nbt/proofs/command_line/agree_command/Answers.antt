@@ -1,9 +1,9 @@
 use Rattle.std.specs.Prelude.{Ok}
-use Rattle.nbt.proofs.CommandShapes.{HasShape, with_arg}
+use Rattle.nbt.proofs.CommandShapes.{HasShape, with_shape}
 use Rattle.nbt.proofs.command_line.agree_command.Goals as goal
 
 pub returns : goal.returns
 returns c =
     let agree : HasShape (Ok c.described-agree.result) _ = record { app = c.described-agree.ensures.app; local = c.described-agree.ensures.local } in
-    let made = with_arg c.taking.result c.flag-list.result _ agree c.taking.ensures c.flag-list.ensures.rule c.flag-list.ensures.local in
+    let made = with_shape c.with_flag.result _ agree c.with_flag.ensures in
     record { app = made.app; local = made.local }

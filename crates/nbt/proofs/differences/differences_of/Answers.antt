@@ -1,16 +1,16 @@
-use Rattle.std.proofs.Common.{◌++◌, List, ap, map, sym, ◌∙◌, codes, string_bytes}
+use Rattle.std.proofs.Common.{◌++◌, List, ap, ◌∙◌, codes}
+use Rattle.std.specs.FinMap as maps
+use Rattle.nb_datagram.specs.Key.{key_cmp}
 use Rattle.nb_datagram.specs.declared.key.Key.{Key}
-use Rattle.nb_datagram.specs.KeyOrder.{key_cmp_total, key_cmp_exact}
-use Rattle.nb_table.specs.Shared.TreeLemmas.{entries_are}
-use Rattle.nbt.specs.Differences.{differences, lines_of_keys}
+use Rattle.nbt.specs.Differences.{lines_of_keys}
 use Rattle.nbt.specs.Printing.{line}
 use Rattle.nbt.proofs.differences.differences_of.Goals as goal
 
-pub loop-key-init : goal.loop-key-init
-loop-key-init c =
+pub returns : goal.returns
+returns c =
     let t = c.args.one.now.contents in
     let u = c.args.other.now.contents in
-    let held = c.keys-key-items.ensures in
-    let keys = c.into_iter-key-iterator.ensures.into_iter_gives ∙ held.rest ∙ sym (ap (map (λ e. e.0)) (entries_are key_cmp_total key_cmp_exact c.in_ok-keys.keys held.ordered)) ∙ c.in_ok-keys.ensures in
-    ap (λ (ks : List Key). string_bytes c.push_str.new.self ++ lines_of_keys t u ks) keys
-    ∙ ap (λ text. text ++ differences t u) (c.in_ok-push_str.ensures.bytes ∙ ap (λ text. text ++ line (codes "different")) c.new-lines.ensures.bytes)
+    let rest = line (codes "different") ++ lines_of_keys t u (maps.keys (maps.from_entries {R = key_cmp} c.in_ok-keys.keys.entries)) in
+    c.in_ok-push_differences.ensures
+    ∙ ap (λ text. text ++ rest) c.new-lines.ensures.bytes
+    ∙ ap (λ (ks : List Key). line (codes "different") ++ lines_of_keys t u ks) c.in_ok-keys.ensures

@@ -1,9 +1,8 @@
 use Rattle.nbt.specs.Replaying.{AreTexts, ReplaysCapture}
-use Rattle.nbt.specs.Reported.{of_replay}
 use Rattle.nbt.specs.Settings.{AreOptions, IsCapacity}
-use Rattle.std.proofs.Common.{Ok, Err, inl, inr, refl}
+use Rattle.std.proofs.Common.{inl, inr}
 use Rattle.std.proofs.lemmas.Result.{err_from_is_err_and}
-use Rattle.nbt.proofs.ReplayingTurns.{not_begun, not_cut, not_written, replay_cut, replay_done, replay_ends, replay_writes, replays_capture, unread_cut}
+use Rattle.nbt.proofs.ReplayingTurns.{not_begun, not_cut, not_written, replays_capture, unread_cut}
 use Rattle.nb_names.specs.DeviceFacts.{Keeps-same}
 use Rattle.nbt.proofs.ShowingTurns.{shows_capture}
 use Rattle.nbt.proofs.commands.replay.run_replay.Goals as goal
@@ -33,25 +32,9 @@ returns-then-is_json g c = record {
 
 pub returns : goal.returns
 returns g c =
-    let r = c.in_ok-replay_with.ensures.replays in
-    let replayed = replay_done _ _ _ _ _ _ _ r.0 _ r.1 r.2.1 in
-    rw (← c.output.view_is) (record {
-      text = λ text. replays_capture (IsCapacity c.args.matches.now) (AreOptions c.args.matches.now) (AreTexts c.args.matches.now) (g.R.Read.remaining c.args.input.now.inner) (g.R.Read.remaining c.replay_with.new.reader.inner) (g.W.Write.contents c.output.inside.device.inner) (g.W.Write.contents c.replay_with.new.writer.inner) c.options_of-options.result c.in_ok-member.member (Ok tt) c.in_ok-member.ensures.made c.options_of-options.ensures replayed;
+    let said = c.replay_text.ensures in record {
+      text = λ text. replays_capture (IsCapacity c.args.matches.now) (AreOptions c.args.matches.now) (AreTexts c.args.matches.now) (g.R.Read.remaining c.args.input.now.inner) (g.R.Read.remaining c.replay_text.new.input.inner) (g.W.Write.contents c.args.output.now.inner) (g.W.Write.contents c.replay_text.new.output.inner) c.options_of-options.result c.in_ok-member.member c.replay_text.result c.in_ok-member.ensures.made c.options_of-options.ensures said.replays;
       json = λ json. absurd (cc (c.is_json.ensures.json json, c.if-is_json.false));
-      cut = tt;
-      why = tt;
-    })
-
-pub returns-in_err-replay_with : goal.returns-in_err-replay_with
-returns-in_err-replay_with g c =
-    let p = err_from_is_err_and c.from_residual-in_err-replay_with.result c.from_residual-in_err-replay_with.ensures.1 in
-    let e = c.in_err-replay_with in
-    let r = e.ensures.replays in
-    let asked = c.options_of-options.ensures in
-    let replayed = replay_ends _ _ _ _ _ _ _ r.0 _ r.1 r.2.1 in
-    rw (p.1, p.2, ← c.output.view_is) (record {
-      text = λ text. replays_capture (IsCapacity c.args.matches.now) (AreOptions c.args.matches.now) (AreTexts c.args.matches.now) (g.R.Read.remaining c.args.input.now.inner) (g.R.Read.remaining c.replay_with.new.reader.inner) (g.W.Write.contents c.output.inside.device.inner) (g.W.Write.contents c.replay_with.new.writer.inner) c.options_of-options.result c.in_ok-member.member (Err (of_replay _)) c.in_ok-member.ensures.made asked replayed;
-      json = λ json. absurd (cc (c.is_json.ensures.json json, c.if-is_json.false));
-      cut = replay_cut _ _ _ _ c.args.input.now.counts c.replay_with.new.reader.counts r.0 _ _ asked.limited r.1 r.2.0 refl;
-      why = replay_writes _ _ c.output.inside.device.counts c.replay_with.new.writer.counts e.ensures.write refl;
-    })
+      cut = unread_cut _ _ _ _ c.args.input.now.counts c.replay_text.new.input.counts _ c.replay_text.result c.options_of-options.ensures.limited said.unread.1 said.unread.2;
+      why = said.why;
+    }

@@ -1,0 +1,11 @@
+use Rattle.std.proofs.Common.{◌≡◌, ◌++◌, string_bytes, codes}
+use Rattle.std.specs.FinMap as maps
+use Rattle.nb_datagram.specs.Key.{key_cmp}
+use Rattle.nbt.specs.Differences.{lines_of_keys}
+use Rattle.nbt.specs.Printing.{line}
+use Rattle.nbt.proofs.differences.push_differences.Given as goal
+
+abbrev pub invariant-loop-key : goal.invariant-loop-key
+invariant-loop-key l =
+    string_bytes l.text ++ lines_of_keys l.one.contents l.other.contents l.key-iterator
+    ≡ string_bytes l.fn.text ++ (line (codes "different") ++ lines_of_keys l.one.contents l.other.contents (maps.keys (maps.from_entries {R = key_cmp} l.keys.entries)))

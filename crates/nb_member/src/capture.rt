@@ -7,7 +7,6 @@ ghost use Rattle.nb_member.specs.Capture.{space, PortText, MomentText, Reads, Re
 use crate::limits::{MAX_LINE, MAX_MOMENT_DIGITS};
 use crate::line::Line;
 use crate::line_fault::LineFault;
-use memchr::memchr;
 use nb_names::{ascii_str, data_in};
 use std::alloc::Global;
 use std::mem;
@@ -124,10 +123,8 @@ fn at_space(text: &[u8]) -> Option<(&[u8], &[u8])>
         (λ parts. (text.now ≡ parts.0.now ++ space ∷ parts.1.now)
         × (¬ Contains parts.0.now space)) }
 {
-    match memchr(b' ', text) {
-        Some(at) => Some((&text[..at], &text[at + 1..])),
-        None => None,
-    }
+    let at = text.iter().position(|byte| *byte == b' ')?;
+    Some((&text[..at], &text[at + 1..]))
 }
 
 /// The moment that a word stands for.

@@ -46,6 +46,7 @@ pub fn rcode_name(rcode: u8) -> Option<&'static str>
 }
 
 /// Tells a number by its name, where it has one.
+#[inline(always)]
 pub fn tell_named<S: Sink>(
     key: FieldKey,
     name: Option<&'static str>,
@@ -63,6 +64,7 @@ pub fn tell_named<S: Sink>(
 }
 
 /// Tells what a packet is.
+#[inline(always)]
 pub fn tell_kind<S: Sink>(kind: &str, sink: &mut S) -> Result<(), NoMemory>
     ensures told { OnOk result
         (S.seen sink.new ≡ S.after (S.seen sink.old) (Text kind_key kind.now)) }
@@ -72,6 +74,7 @@ pub fn tell_kind<S: Sink>(kind: &str, sink: &mut S) -> Result<(), NoMemory>
 }
 
 /// Tells a number of sixteen bits.
+#[inline(always)]
 pub fn tell_number<S: Sink>(key: FieldKey, number: u16, sink: &mut S) -> Result<(), NoMemory>
     ensures told { OnOk result
         (S.seen sink.new ≡ S.after (S.seen sink.old) (Number (key_of key) number)) }
@@ -81,6 +84,7 @@ pub fn tell_number<S: Sink>(key: FieldKey, number: u16, sink: &mut S) -> Result<
 }
 
 /// Tells a number of sixteen bits, as four digits.
+#[inline(always)]
 pub fn tell_word<S: Sink>(key: FieldKey, word: u16, sink: &mut S) -> Result<(), NoMemory>
     ensures told { OnOk result
         (S.seen sink.new ≡ S.after (S.seen sink.old) (word_field (key_of key) word)) }
@@ -90,6 +94,7 @@ pub fn tell_word<S: Sink>(key: FieldKey, word: u16, sink: &mut S) -> Result<(), 
 }
 
 /// Tells a byte, as two digits.
+#[inline(always)]
 pub fn tell_byte<S: Sink>(key: FieldKey, byte: u8, sink: &mut S) -> Result<(), NoMemory>
     ensures told { OnOk result
         (S.seen sink.new ≡ S.after (S.seen sink.old) (Digits (key_of key) (byte ∷ []))) }
@@ -99,6 +104,7 @@ pub fn tell_byte<S: Sink>(key: FieldKey, byte: u8, sink: &mut S) -> Result<(), N
 }
 
 /// Tells the flags of an owner, and its type.
+#[inline(always)]
 pub fn tell_owner<S: Sink>(flags: u16, sink: &mut S) -> Result<(), NoMemory>
     ensures told { OnOk result (S.seen sink.new ≡ fold S.after (S.seen sink.old)
         (word_field flags_key flags ∷ Number ont_key (ont_of flags) ∷ [])) }
@@ -109,6 +115,7 @@ pub fn tell_owner<S: Sink>(flags: u16, sink: &mut S) -> Result<(), NoMemory>
 }
 
 /// Ends the line of a part, and the part.
+#[inline(always)]
 pub fn end_part<S: Sink>(sink: &mut S) -> Result<(), NoMemory>
     ensures told { OnOk result
         (S.seen sink.new ≡ fold S.after (S.seen sink.old) (LineEnds ∷ PartEnds ∷ [])) }

@@ -87,6 +87,7 @@ fn tell_outcome<S: Sink>(alloc: Global, outcome: &Outcome, sink: &mut S) -> Resu
 }
 
 /// Tells what became of a payload, and the key that it is about.
+#[inline(always)]
 fn tell_of<S: Sink>(word: &str, key: Key, sink: &mut S) -> Result<(), NoMemory>
     ensures told { OnOk result (S.seen sink.new ≡ fold S.after (S.seen sink.old)
         (Text outcome_key word.now ∷ Text key_key (key_text key) ∷ [])) }

@@ -93,10 +93,6 @@ handed_all t o =
 abbrev pub seen : Contents → List (Key × EntryValue) → List DatagramParts
 seen t es = filter_map (λ (e : Key × EntryValue). handed_at Over t e.0 e.1) es
 
--- one more key
-pub seen_turn : (t : Contents) (ds more : List DatagramParts) (e : Key × EntryValue) (rest : List (Key × EntryValue)) → more ≡ ds ++ cons_option (handed_at Over t e.0 e.1) [] → more ++ seen t rest ≡ ds ++ seen t (e ∷ rest)
-seen_turn t ds more e rest given = ap (λ q. q ++ seen t rest) given ∙ one_after ds (handed_at Over t e.0 e.1) (seen t rest)
-
 -- a key below these makes no difference to what is seen of them
 above_seen : (t : Contents) (k : Key) (v : EntryValue) (es : List (Key × EntryValue)) → T (below_all key_cmp k es) → seen (maps.insert t k v) es ≡ seen t es
 above_seen t k v [] h = refl

@@ -95,6 +95,17 @@ fn reserve(run: &mut Run, start: u32, end: usize) -> Result<(), NoMemory>
     Ok(())
 }
 
+/// Joins bytes with a run that they overlap or touch.
+pub(super) fn join(run: &mut Run, start: u32, bytes: &[u8]) -> Result<(), NoMemory>
+    requires { Meet (value_of run.old) (run_at start bytes.now) }
+    ensures ok { OnOk result (value_of run.new ≡ grown (value_of run.old) (run_at start bytes.now)) }
+    ensures err { OnErr result (value_of run.new ≡ value_of run.old) }
+{
+    reserve(run, start, start as usize + bytes.len())?;
+    grow(run, start, bytes);
+    Ok(())
+}
+
 /// Joins bytes with the one run that they overlap or touch.
 fn join_one(runs: &mut Vec<Run>, place: usize, start: u32, bytes: &[u8]) -> Result<(), NoMemory>
     requires within { place < length runs.old.items }
@@ -105,10 +116,7 @@ fn join_one(runs: &mut Vec<Run>, place: usize, start: u32, bytes: &[u8]) -> Resu
         (grown (value_of (slice_index_or runs.old.items place d)) (run_at start bytes.now))) }
     ensures err { OnErr result (values_of runs.new.items ≡ values_of runs.old.items) }
 {
-    let run = &mut runs[place];
-    reserve(run, start, start as usize + bytes.len())?;
-    grow(run, start, bytes);
-    Ok(())
+    join(&mut runs[place], start, bytes)
 }
 
 /// Joins bytes with the several runs that they overlap or touch.

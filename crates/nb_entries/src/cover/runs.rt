@@ -154,7 +154,10 @@ impl Runs {
     pub(crate) fn lie_below(&self, end: u32) -> bool
         ensures { IsTrue result ↔ ((i x : ℕ) → maps.get self.now i ≡ Some x → i < end) }
     {
-        reading::end_by(&self.kept, end)
+        match searching::first_to(&self.kept, end as usize + 1) {
+            Some(_) => false,
+            None => true,
+        }
     }
 
     /// Whether each place below the end is covered.

@@ -1,8 +1,8 @@
 //! What runs have that are apart.
-ghost use Rattle.std.specs.Prelude.{◌≡◌, ◌↔◌, ◌≤◌, ◌<◌, ℕ, IsTrue, IfOk, MatchOption, Some};
+ghost use Rattle.std.specs.Prelude.{◌≡◌, ◌↔◌, ◌≤◌, IsTrue, IfOk, MatchOption, Some};
 ghost use Rattle.nb_entries.specs.Runs.{AreApart};
 ghost use Rattle.nb_entries.specs.Code.Rows.{kept_values, values_in, AreFilled, NoneEmpty};
-ghost use Rattle.nb_entries.specs.Code.RunSteps.{value_of, values_of, run_at, Meet, Agree, AgreeOne, look_in, look_with, AreBetween, Lacks, AreFirst, LacksOne};
+ghost use Rattle.nb_entries.specs.Code.RunSteps.{value_of, values_of, run_at, Meet, Agree, AgreeOne, look_with, AreBetween, Lacks, AreFirst, LacksOne};
 
 use super::searching::{first_from, first_to, past_to, row_to, rows_to};
 use super::{EachRun, Kept, Run};
@@ -140,16 +140,4 @@ pub(super) fn are_equal(kept: &Kept, others: &Kept) -> bool
         }
     }
     own.next().is_none()
-}
-
-/// Whether each run ends at a place or before it.
-pub(super) fn end_by(kept: &Kept, end: u32) -> bool
-    requires some { AreFilled kept.now }
-    requires apart { AreApart (kept_values kept.now) }
-    ensures { IsTrue result ↔ ((q x : ℕ) → look_in (kept_values kept.now) q ≡ Some x → q < end) }
-{
-    match first_to(kept, end as usize + 1) {
-        Some(_) => false,
-        None => true,
-    }
 }

@@ -58,13 +58,9 @@ impl Runs {
             (λ one. self.now ≡ maps.from_entries (placed one.0 one.1.now)) }
     {
         let mut runs = EachRun::of(&self.kept);
-        let run = match runs.next() {
-            Some(run) => run,
-            None => return None,
-        };
-        if runs.next().is_some() {
-            return None;
+        match (runs.next(), runs.next()) {
+            (Some(run), None) => Some((run.start(), run.bytes())),
+            _ => None,
         }
-        Some((run.start(), run.bytes()))
     }
 }

@@ -9,7 +9,7 @@ use Rattle.std.proofs.lemmas.List.Sorted.{IsNonDecreasingBy-from_all_adjacent}
 use Rattle.std.specs.declared.vec.Vec.{Vec}
 use Rattle.nb_entries.specs.Runs.{RunValue, run_end, StartsPast, AreApart}
 use Rattle.nb_entries.specs.Code.RunSteps.{value_of, values_of, EndBefore, EndFrom, StartAfter}
-use Rattle.nb_entries.specs.Code.Rows.{runs_in, values_in, NoneEmpty, last_end, IsFirstTo, IsLast}
+use Rattle.nb_entries.specs.Code.Rows.{runs_in, values_in, NoneEmpty, last_end, IsFirstTo}
 use Rattle.nb_entries.specs.declared.cover.runs.Run.{Run}
 use Rattle.nb_entries.proofs.KeptRuns.RunRowLemmas.{apart_front, apart_back, all_from_at}
 use Rattle.nb_entries.proofs.KeptRuns.RunPlaceLemmas.{at_value}
@@ -205,31 +205,3 @@ rows_after (r ∷ rs) n (suc i) row s a l e h = rows_after rs n i row s.1 (rest_
 
 pub none_after : {Z : Type 0} → (rs : List (Vec Run Z)) (n i : ℕ) → length rs ≤ i → StartAfter n (values_in (drop i rs))
 none_after {Z} rs n i l = subst (λ (xs : List (Vec Run Z)). StartAfter n (values_in xs)) (sym (drop_all i rs l)) tt
-
--- ---- the last run
-
-pub last_found : {Z : Type 0} → (rs : List (Vec Run Z)) (row : Vec Run Z) (run : Run) → slice_get rs (length rs - 1) ≡ Some row → slice_get row.items (length row.items - 1) ≡ Some run → slice_get (runs_in rs) (length (runs_in rs) - 1) ≡ Some run
-last_found [] row run e f = absurd (cc)
-last_found {Z} (r ∷ []) row run e f =
-    let one : r ≡ row = same_Some r row e in
-    subst (λ (xs : List Run). slice_get xs (length xs - 1) ≡ Some run) (sym (append-nil r.items)) (subst (λ (v : Vec Run Z). slice_get v.items (length v.items - 1) ≡ Some run) (sym one) f)
-last_found {Z} (r ∷ s ∷ rs) row run e f =
-    let place : length (r ∷ s ∷ rs) - 1 ≡ suc (length (s ∷ rs) - 1) = omega arith in
-    let rest = last_found (s ∷ rs) row run (ap (slice_get (r ∷ s ∷ rs)) (sym place) ∙ e) f in
-    get_back r.items (runs_in (s ∷ rs)) run rest
-  where
-    get_back : (xs ys : List Run) (q : Run) → slice_get ys (length ys - 1) ≡ Some q → slice_get (xs ++ ys) (length (xs ++ ys) - 1) ≡ Some q
-    get_back [] ys q h = h
-    get_back (x ∷ xs) ys q h =
-        let inside = slice_get_within (xs ++ ys) (length (xs ++ ys) - 1) q (get_back xs ys q h) in
-        let place : length ((x ∷ xs) ++ ys) - 1 ≡ suc (length (xs ++ ys) - 1) = omega (arith, inside) in
-        ap (slice_get (x ∷ (xs ++ ys))) place ∙ get_back xs ys q h
-
-pub none_rows : {Z : Type 0} → (rs : List (Vec Run Z)) → slice_get rs (length rs - 1) ≡ None → runs_in rs ≡ []
-none_rows [] e = refl
-none_rows {Z} (r ∷ rs) e =
-    let there : slice_get (r ∷ rs) (length (r ∷ rs) - 1) ≡ Some (slice_index_or (r ∷ rs) (length (r ∷ rs) - 1) r) = slice_get-get_or (r ∷ rs) (length (r ∷ rs) - 1) r (omega arith) in
-    let clash : None ≡ Some (slice_index_or (r ∷ rs) (length (r ∷ rs) - 1) r) = sym e ∙ there in absurd (cc)
-
-pub last_one : (xs : List Run) (run : Run) → slice_get xs (length xs - 1) ≡ Some run → IsLast xs run
-last_one xs run e = let inside = slice_get_within xs (length xs - 1) run e in record { some = omega (arith, inside); is = sym (get_or_from_slice_get xs (length xs - 1) run run e) }

@@ -73,17 +73,6 @@ joined {Z} rs i own new next l e f put =
     let at : next ≡ slice_index_or rs (suc i) next = f ∙ ap (λ j. slice_index_or rs j next) (sym step) in
     subst (λ j. runs_in (slice_set (remove (slice_set rs i own) j) i new) ≡ runs_in rs) step (joined_suc rs i own new next (omega (arith, l)) e at put)
 
-kept_suc : {X : Type 0} (xs : List X) (i : ℕ) (x d : X) → suc i < length xs → slice_index_or (remove (slice_set xs i x) (suc i)) i d ≡ x
-kept_suc [] i x d l = absurd (omega arith)
-kept_suc (y ∷ xs) zero x d l = refl
-kept_suc (y ∷ xs) (suc i) x d l = kept_suc xs i x d (omega arith)
-
--- the element before the one that was taken out
-pub kept_row : {X : Type 0} (xs : List X) (i : ℕ) (x d : X) → i + 1 < length xs → slice_index_or (remove (slice_set xs i x) (i + 1)) i d ≡ x
-kept_row xs i x d l =
-    let step : suc i ≡ i + 1 = omega arith in
-    subst (λ j. slice_index_or (remove (slice_set xs i x) j) i d ≡ x) step (kept_suc xs i x d (omega (arith, l)))
-
 pub all_removed : {X : Type 0} (P : X → Type 0) (xs : List X) (i j : ℕ) (x : X) → AllByRecursion P xs → P x → AllByRecursion P (remove (slice_set xs i x) j)
 all_removed P xs i j x h k =
     let set = all_set P xs i x h k in

@@ -34,14 +34,14 @@ set_same (x ∷ xs) (suc i) old new e same = ap (λ ys. value_of x ∷ ys) (set_
 pub read_at : (xs : List Run) (i : ℕ) (x d : Run) → i < length xs → x ≡ slice_index_or xs i x → x ≡ slice_index_or xs i d
 read_at xs i x d h e = e ∙ get_or_default xs i x d h
 
-get_suc : (xs : List Run) (i p : ℕ) (r d : Run) → i < length xs → i < p → slice_index_or (take (suc i) (slice_set xs i r) ++ drop p (slice_set xs i r)) i d ≡ r
+get_suc : {X : Type 0} (xs : List X) (i p : ℕ) (r d : X) → i < length xs → i < p → slice_index_or (take (suc i) (slice_set xs i r) ++ drop p (slice_set xs i r)) i d ≡ r
 get_suc [] i p r d h l = absurd (omega arith)
 get_suc (x ∷ xs) i zero r d h l = absurd (omega arith)
 get_suc (x ∷ xs) zero (suc p) r d h l = refl
 get_suc (x ∷ xs) (suc i) (suc p) r d h l = get_suc xs i p r d (omega arith) (omega arith)
 
--- the run before those that were taken out
-pub get_first : (xs : List Run) (i p : ℕ) (r d : Run) → i < length xs → i + 1 < p → slice_index_or (take (i + 1) (slice_set xs i r) ++ drop p (slice_set xs i r)) i d ≡ r
+-- the element before those that were taken out
+pub get_first : {X : Type 0} (xs : List X) (i p : ℕ) (r d : X) → i < length xs → i + 1 < p → slice_index_or (take (i + 1) (slice_set xs i r) ++ drop p (slice_set xs i r)) i d ≡ r
 get_first xs i p r d h l =
     let step : suc i ≡ i + 1 = omega arith in
     subst (λ j. slice_index_or (take j (slice_set xs i r) ++ drop p (slice_set xs i r)) i d ≡ r) step (get_suc xs i p r d h (omega arith))

@@ -68,10 +68,8 @@ agree_from rs s xs h = record { same = λ q x y e g. same_value (maps.get (map_o
 pub from_agree : (rs : List RunValue) (s : ℕ) (xs : List ℕ) → Agree rs (run_at s xs) → list_all (λ (e : ℕ × ℕ). same_where (maps.get (map_of_runs rs) e.0) e.1) (placed s xs) ≡ true
 from_agree rs s xs h = all_from_each (λ i v. same_where (maps.get (map_of_runs rs) i) v) s xs (λ q y g. value_same (maps.get (map_of_runs rs) q) y (λ x e. h.same q x y (sym (get-runs rs q) ∙ e) g))
 
-pub agree_test : (rs ss : List RunValue) (s : ℕ) (xs : List ℕ) (b : Bool) → ss ≡ rs → (b ≡ true → Agree ss (run_at s xs)) × (Agree ss (run_at s xs) → b ≡ true) → b ≡ list_all (λ (e : ℕ × ℕ). same_where (maps.get (map_of_runs rs) e.0) e.1) (placed s xs)
-agree_test rs ss s xs b same h = both_ways _ _
-    (λ t. from_agree rs s xs (subst (λ us. Agree us (run_at s xs)) same (h.0 t)))
-    (λ t. h.1 (subst (λ us. Agree us (run_at s xs)) (sym same) (agree_from rs s xs t)))
+pub agree_test : (rs : List RunValue) (s : ℕ) (xs : List ℕ) (b : Bool) → (b ≡ true → Agree rs (run_at s xs)) × (Agree rs (run_at s xs) → b ≡ true) → b ≡ list_all (λ (e : ℕ × ℕ). same_where (maps.get (map_of_runs rs) e.0) e.1) (placed s xs)
+agree_test rs s xs b h = both_ways _ _ (λ t. from_agree rs s xs (h.0 t)) (λ t. h.1 (agree_from rs s xs t))
 
 -- ---- bytes put
 
@@ -82,9 +80,8 @@ map_put rs new s xs p = maps.same_map nat_cmp_total nat_cmp-IsAntisymmetric _ _ 
 
 -- ---- bytes that are there
 
-pub held_test : (rs ss : List RunValue) (s : ℕ) (xs held : List ℕ) (b : Bool) → ss ≡ rs → AreBetween ss s (s + length xs) held → b ≡ pointwise ◌==◌ held xs → b ≡ list_all (λ (e : ℕ × ℕ). is_there (maps.get (map_of_runs rs) e.0) e.1) (placed s xs)
-held_test rs ss s xs held b same between test =
-    let h : AreBetween rs s (s + length xs) held = subst (λ us. AreBetween us s (s + length xs) held) same between in
+pub held_test : (rs : List RunValue) (s : ℕ) (xs held : List ℕ) (b : Bool) → AreBetween rs s (s + length xs) held → b ≡ pointwise ◌==◌ held xs → b ≡ list_all (λ (e : ℕ × ℕ). is_there (maps.get (map_of_runs rs) e.0) e.1) (placed s xs)
+held_test rs s xs held b h test =
     let size = h.sized in
     let decides = pointwise_decides unsigned_Decides held xs in both_ways _ _
     (λ t. all_from_each (λ i v. is_there (maps.get (map_of_runs rs) i) v) s xs (λ q x e.
@@ -105,28 +102,24 @@ held_test rs ss s xs held b same between test =
       | inr past ↦ slice_get_past held k (omega (arith, size, past)) ∙ sym (slice_get_past xs k past)
     ])))
 
-pub lacks_test : (rs ss : List RunValue) (s : ℕ) (xs : List ℕ) → ss ≡ rs → Lacks ss s (s + length xs) → false ≡ list_all (λ (e : ℕ × ℕ). is_there (maps.get (map_of_runs rs) e.0) e.1) (placed s xs)
-lacks_test rs ss s xs same lacks =
-    let l : Lacks rs s (s + length xs) = subst (λ us. Lacks us s (s + length xs)) same lacks in both_ways _ _ (λ t. absurd (cc))
+pub lacks_test : (rs : List RunValue) (s : ℕ) (xs : List ℕ) → Lacks rs s (s + length xs) → false ≡ list_all (λ (e : ℕ × ℕ). is_there (maps.get (map_of_runs rs) e.0) e.1) (placed s xs)
+lacks_test rs s xs l = both_ways _ _ (λ t. absurd (cc))
     (λ t. (let there = byte_within (run_at s xs) l.place l.least l.most in
     let clash : Some there.0 ≡ None = sym (there_is _ there.0 (test_each (λ i v. is_there (maps.get (map_of_runs rs) i) v) s xs t l.place there.0 there.1)) ∙ get-runs rs l.place ∙ l.none in
     absurd (cc)))
 
 -- ---- bytes below a place
 
-pub first_of_between : (rs ss : List RunValue) (n : ℕ) (xs : List ℕ) → ss ≡ rs → AreBetween ss 0 n xs → AreFirst (maps.get (map_of_runs rs)) n xs
-first_of_between rs ss n xs same between =
-    let h : AreBetween rs 0 n xs = subst (λ us. AreBetween us 0 n xs) same between in
+pub first_of_between : (rs : List RunValue) (n : ℕ) (xs : List ℕ) → AreBetween rs 0 n xs → AreFirst (maps.get (map_of_runs rs)) n xs
+first_of_between rs n xs h =
     let size = h.sized in
     record {
       sized = omega (arith, size);
       each = λ k l. (let place : k ≡ 0 + k = omega arith in get-runs rs k ∙ ap (look_in rs) place ∙ h.each k (omega (arith, l)));
     }
 
-pub lacks_first : (rs ss : List RunValue) (n : ℕ) → ss ≡ rs → Lacks ss 0 n → LacksOne (maps.get (map_of_runs rs)) n
-lacks_first rs ss n same lacks =
-    let l : Lacks rs 0 n = subst (λ us. Lacks us 0 n) same lacks in
-    record { place = l.place; most = l.most; none = get-runs rs l.place ∙ l.none }
+pub lacks_first : (rs : List RunValue) (n : ℕ) → Lacks rs 0 n → LacksOne (maps.get (map_of_runs rs)) n
+lacks_first rs n l = record { place = l.place; most = l.most; none = get-runs rs l.place ∙ l.none }
 
 pub below_is : (m : maps.FinMap nat_cmp ℕ) (n : ℕ) (xs : List ℕ) → AreFirst (maps.get m) n xs → bytes_below m n ≡ Some xs
 below_is m n xs h = let size = h.sized in below_from m xs n (omega (arith, size)) h.each ∙ ap Some (take_all n xs (omega (arith, size)))
@@ -145,36 +138,31 @@ covered_lacks look n h c = let there = c h.place h.most in let clash : Some ther
 pub look_put : (rs : List RunValue) (s : ℕ) (xs : List ℕ) (q : ℕ) → maps.get (with_bytes (map_of_runs rs) s xs) q ≡ look_with rs (run_at s xs) q
 look_put rs s xs q = get-with_bytes (map_of_runs rs) s xs q ∙ ap₂ first_of (find-placed s xs q) (get-runs rs q)
 
-pub first_put : (rs ss : List RunValue) (s n : ℕ) (xs made : List ℕ) → ss ≡ rs → AreFirst (look_with ss (run_at s xs)) n made → bytes_below (with_bytes (map_of_runs rs) s xs) n ≡ Some made
-first_put rs ss s n xs made same first =
-    let h : AreFirst (look_with rs (run_at s xs)) n made = subst (λ us. AreFirst (look_with us (run_at s xs)) n made) same first in
-    below_is _ n made (record { sized = h.sized; each = λ k l. look_put rs s xs k ∙ h.each k l })
+pub first_put : (rs : List RunValue) (s n : ℕ) (xs made : List ℕ) → AreFirst (look_with rs (run_at s xs)) n made → bytes_below (with_bytes (map_of_runs rs) s xs) n ≡ Some made
+first_put rs s n xs made h = below_is _ n made (record { sized = h.sized; each = λ k l. look_put rs s xs k ∙ h.each k l })
 
-pub lacks_put : (rs ss : List RunValue) (s n : ℕ) (xs : List ℕ) → ss ≡ rs → LacksOne (look_with ss (run_at s xs)) n → bytes_below (with_bytes (map_of_runs rs) s xs) n ≡ None
-lacks_put rs ss s n xs same lacks =
-    let h : LacksOne (look_with rs (run_at s xs)) n = subst (λ us. LacksOne (look_with us (run_at s xs)) n) same lacks in
-    below_lacks _ n (record { place = h.place; most = h.most; none = look_put rs s xs h.place ∙ h.none })
+pub lacks_put : (rs : List RunValue) (s n : ℕ) (xs : List ℕ) → LacksOne (look_with rs (run_at s xs)) n → bytes_below (with_bytes (map_of_runs rs) s xs) n ≡ None
+lacks_put rs s n xs h = below_lacks _ n (record { place = h.place; most = h.most; none = look_put rs s xs h.place ∙ h.none })
 
 -- ---- two rows
 
-pub rows_from : (rs ss us vs : List RunValue) → us ≡ rs → vs ≡ ss → bytes_agree (map_of_runs rs) (map_of_runs ss) ≡ true → RowsAgree us vs
-rows_from rs ss us vs one other t = record {
+pub rows_from : (rs ss : List RunValue) → bytes_agree (map_of_runs rs) (map_of_runs ss) ≡ true → RowsAgree rs ss
+rows_from rs ss t = record {
   same = λ q x y e g.
-      let found : maps.get (map_of_runs rs) q ≡ Some x = get-runs rs q ∙ ap (λ ws. look_in ws q) (sym one) ∙ e in
-      let beside : maps.get (map_of_runs ss) q ≡ Some y = get-runs ss q ∙ ap (λ ws. look_in ws q) (sym other) ∙ g in
+      let found : maps.get (map_of_runs rs) q ≡ Some x = get-runs rs q ∙ e in
+      let beside : maps.get (map_of_runs ss) q ≡ Some y = get-runs ss q ∙ g in
       sym (same_value (maps.get (map_of_runs ss) q) x y (all_entries_found nat_cmp-IsAntisymmetric (λ i v. same_where (maps.get (map_of_runs ss) i) v) (map_of_runs rs) t q x found) beside);
 }
 
-from_rows : (rs ss us vs : List RunValue) → us ≡ rs → vs ≡ ss → RowsAgree us vs → bytes_agree (map_of_runs rs) (map_of_runs ss) ≡ true
-from_rows rs ss us vs one other h =
+from_rows : (rs ss : List RunValue) → RowsAgree rs ss → bytes_agree (map_of_runs rs) (map_of_runs ss) ≡ true
+from_rows rs ss h =
     all_entries_from nat_cmp_total nat_cmp-IsAntisymmetric (λ i v. same_where (maps.get (map_of_runs ss) i) v) (map_of_runs rs) (λ q x e.
-    value_same (maps.get (map_of_runs ss) q) x (λ y g. sym (h.same q x y (ap (λ ws. look_in ws q) one ∙ sym (get-runs rs q) ∙ e) (ap (λ ws. look_in ws q) other ∙ sym (get-runs ss q) ∙ g))))
+    value_same (maps.get (map_of_runs ss) q) x (λ y g. sym (h.same q x y (sym (get-runs rs q) ∙ e) (sym (get-runs ss q) ∙ g))))
 
-pub rows_test : (rs ss us vs : List RunValue) (b : Bool) → us ≡ rs → vs ≡ ss → (b ≡ true → RowsAgree us vs) × (RowsAgree us vs → b ≡ true) → b ≡ bytes_agree (map_of_runs rs) (map_of_runs ss)
-rows_test rs ss us vs b one other h = both_ways _ _ (λ t. from_rows rs ss us vs one other (h.0 t)) (λ t. h.1 (rows_from rs ss us vs one other t))
+pub rows_test : (rs ss : List RunValue) (b : Bool) → (b ≡ true → RowsAgree rs ss) × (RowsAgree rs ss → b ≡ true) → b ≡ bytes_agree (map_of_runs rs) (map_of_runs ss)
+rows_test rs ss b h = both_ways _ _ (λ t. from_rows rs ss (h.0 t)) (λ t. h.1 (rows_from rs ss t))
 
-pub map_union : (rs ss us vs all : List RunValue) → us ≡ rs → vs ≡ ss → IsUnion us vs all → map_of_runs all ≡ union (map_of_runs rs) (map_of_runs ss)
-map_union rs ss us vs all one other h = maps.same_map nat_cmp_total nat_cmp-IsAntisymmetric _ _ (λ q.
+pub map_union : (rs ss all : List RunValue) → IsUnion rs ss all → map_of_runs all ≡ union (map_of_runs rs) (map_of_runs ss)
+map_union rs ss all h = maps.same_map nat_cmp_total nat_cmp-IsAntisymmetric _ _ (λ q.
     get-runs all q ∙ h.look q
-    ∙ ap₂ (λ ts ws. first_of (look_in ts q) (look_in ws q)) one other
     ∙ sym (get-union nat_cmp_total nat_cmp-IsAntisymmetric (map_of_runs rs) (map_of_runs ss) q ∙ ap₂ first_of (get-runs rs q) (get-runs ss q)))

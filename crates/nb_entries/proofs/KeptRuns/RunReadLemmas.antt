@@ -39,9 +39,6 @@ none_reach xs from to ends l = record {
   none = none_from (look_in (values_of xs) (to - 1)) (λ x f. (let b = look_before to (values_of xs) ends (to - 1) x f in omega (arith, b, l)));
 }
 
-pub none_below : (xs : List Run) (to : ℕ) → xs ≡ [] → 0 < to → Lacks (values_of xs) 0 to
-none_below xs to none l = record { place = 0; least = omega arith; most = l; none = ap (λ (ys : List Run). look_in (values_of ys) 0) none }
-
 pub starts_late : (xs : List Run) (n from to : ℕ) (r : Run) → AreApart (values_of xs) → EndBefore to (take n (values_of xs)) → n < length xs → r ≡ slice_index_or xs n r → from < (value_of r).start → from < to → Lacks (values_of xs) from to
 starts_late xs n from to r a e l g late some =
     let cut = cut_at xs n r l g in
@@ -85,28 +82,6 @@ between_read xs n from to r bytes a l e start order far same =
           in_rows xs n r l e a (from + k) there.0 there.1
           ∙ sym (byte_mid (value_of r) from (to - from) k (from + k) start h refl ∙ there.1));
     })
-
--- ---- the bytes below a place
-
-pub ends_early : (xs : List Run) (to : ℕ) (r : Run) → AreApart (values_of xs) → 0 < length xs → r ≡ slice_index_or xs 0 r → run_end (value_of r) < to → Lacks (values_of xs) 0 to
-ends_early [] to r a l e h = absurd (omega arith)
-ends_early (x ∷ xs) to r a l e h =
-    let q : ℕ = run_end (value_of x) in
-    let same : run_end (value_of r) ≡ q = ap (λ (y : Run). run_end (value_of y)) e in
-    record {
-      place = q;
-      least = omega arith;
-      most = omega (arith, same, h);
-      none = ap (λ o. first_of o (look_in (values_of xs) q)) (byte_past (value_of x) q (omega arith))
-          ∙ none_from (look_in (values_of xs) q) (λ y f. (let past = look_past q (values_of xs) a.1.0 a.1.1 q y f in omega (arith, past)));
-    }
-
-pub below_read : (xs : List Run) (to : ℕ) (r : Run) (bytes : List ℕ) → AreApart (values_of xs) → 0 < length xs → r ≡ slice_index_or xs 0 r → (value_of r).start ≡ 0 → to ≤ run_end (value_of r) → bytes ≡ (value_of r).bytes → AreBetween (values_of xs) 0 to (take to bytes)
-below_read xs to r bytes a l e s far same =
-    let count : to - (value_of r).start - (0 - (value_of r).start) ≡ to = omega (arith, s) in
-    let none : 0 - (value_of r).start ≡ 0 = omega arith in
-    subst (AreBetween (values_of xs) 0 to) (ap₂ (λ m n. take m (drop n bytes)) count none)
-    (between_read xs 0 0 to r bytes a l e (omega (arith, s)) (omega arith) far same)
 
 -- ---- bytes that agree
 
@@ -208,36 +183,17 @@ touched_back xs first past k d h l w =
       get_or-take (past - first) (drop first xs) (k - first) d (omega (arith, h, l)) ∙ get_or-drop first xs (k - first) d ∙ ap (λ j. slice_index_or xs j d) place,
     )
 
--- ---- the last run
+-- ---- where the runs end
 
-pub last_ends : (xs : List Run) (r : Run) (end : ℕ) → AreApart (values_of xs) → 0 < length xs → r ≡ slice_index_or xs (length xs - 1) r → ((q x : ℕ) → look_in (values_of xs) q ≡ Some x → q < end) → run_end (value_of r) ≤ end
-last_ends xs r end a some e h =
-    let n = length xs - 1 in
-    let inside : n < length xs = omega (arith, some) in
-    let cut = cut_at xs n r inside e in
-    let own = apart_back (take n (values_of xs)) (value_of r ∷ drop (suc n) (values_of xs)) (subst AreApart cut a) in
+-- where each place lies below an end, a run ends there or before
+pub ends_by : (xs : List Run) (n : ℕ) (r : Run) (end : ℕ) → AreApart (values_of xs) → n < length xs → r ≡ slice_index_or xs n r → ((q x : ℕ) → look_in (values_of xs) q ≡ Some x → q < end) → run_end (value_of r) ≤ end
+ends_by xs n r end a inside e h =
+    let own = apart_back (take n (values_of xs)) (value_of r ∷ drop (suc n) (values_of xs)) (subst AreApart (cut_at xs n r inside e) a) in
     let size = own.0 in
     let q : ℕ = run_end (value_of r) - 1 in
     let there = byte_within (value_of r) q (omega (arith, size)) (omega (arith, size)) in
     let below = h q there.0 (in_rows xs n r inside e a q there.0 there.1) in
     omega (arith, below, size)
-
-pub ends_last : (xs : List Run) (r : Run) (end : ℕ) → AreApart (values_of xs) → 0 < length xs → r ≡ slice_index_or xs (length xs - 1) r → run_end (value_of r) ≤ end → (q x : ℕ) → look_in (values_of xs) q ≡ Some x → q < end
-ends_last xs r end a some e h q x g =
-    let n = length xs - 1 in
-    let size : length (values_of xs) ≡ length xs = length-map xs value_of in
-    let cut = cut_at xs n r (omega (arith, some)) e in
-    let bs = take n (values_of xs) in
-    let none : drop (suc n) (values_of xs) ≡ [] = drop_all (suc n) (values_of xs) (omega (arith, size, some)) in
-    let cut' : values_of xs ≡ bs ++ value_of r ∷ [] = cut ∙ ap (λ ss. bs ++ value_of r ∷ ss) none in
-    let apart : AreApart (bs ++ value_of r ∷ []) = subst AreApart cut' a in
-    elim (first_either (look_in bs q) (look_in (value_of r ∷ []) q) x (sym (look-append bs (value_of r ∷ []) q) ∙ ap (λ rs. look_in rs q) (sym cut') ∙ g)) [
-      | inl i ↦ let before = look_before (value_of r).start bs (apart_seam bs (value_of r) [] apart) q x i in omega (arith, before, h)
-      | inr i ↦ elim (first_either (byte_in (value_of r) q) None x i) [
-        | inl j ↦ let below = has_below (value_of r) q x j in omega (arith, below, h)
-        | inr j ↦ absurd (cc)
-      ]
-    ]
 
 -- ---- tests
 

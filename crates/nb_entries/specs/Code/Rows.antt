@@ -5,6 +5,8 @@ use Rattle.std.specs.List.{AllByRecursion}
 use Rattle.nb_entries.specs.Runs.{RunValue, run_end}
 use Rattle.nb_entries.specs.Code.RunSteps.{value_of, values_of, EndBefore}
 use Rattle.nb_entries.specs.declared.cover.runs.Run.{Run}
+use Rattle.nb_entries.specs.declared.cover.runs.Kept.{Kept}
+use Rattle.nb_entries.specs.declared.cover.runs.Kept.TheVariants.{One, Many}
 
 -- the runs of all rows, in order
 abbrev pub runs_in : {Z : Type 0} → List (Vec Run Z) → List Run
@@ -19,6 +21,20 @@ values_in rs = values_of (runs_in rs)
 abbrev pub NoneEmpty : {Z : Type 0} → List (Vec Run Z) → Type 0
 NoneEmpty {Z} rs = AllByRecursion (λ (r : Vec Run Z). 0 < length r.items) rs
 
+-- the runs that are kept, in order
+abbrev pub kept_runs : Kept → List Run
+kept_runs (One run) = run ∷ []
+kept_runs (Many rows) = runs_in rows.items
+
+-- the values of the runs that are kept
+abbrev pub kept_values : Kept → List RunValue
+kept_values k = values_of (kept_runs k)
+
+-- each row that is kept has a run
+abbrev pub AreFilled : Kept → Type 0
+AreFilled (One run) = Unit {0}
+AreFilled (Many rows) = NoneEmpty rows.items
+
 -- where the last of these runs ends
 abbrev pub last_end : List Run → ℕ
 last_end [] = 0
@@ -32,13 +48,3 @@ pub record IsFirstTo (rs : List Run) (n : ℕ) (r : Run) : Type 0 where
   pub is : r ≡ slice_index_or rs index r
   pub before : EndBefore n (take index (values_of rs))
   pub reaches : n ≤ run_end (value_of r)
-
--- the run is the last one
-pub record IsLast (rs : List Run) (r : Run) : Type 0 where
-  pub some : 0 < length rs
-  pub is : r ≡ slice_index_or rs (length rs - 1) r
-
--- the run is the first one
-pub record IsFirst (rs : List Run) (r : Run) : Type 0 where
-  pub some : 0 < length rs
-  pub is : r ≡ slice_index_or rs 0 r

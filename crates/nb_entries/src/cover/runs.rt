@@ -10,7 +10,7 @@ ghost use Rattle.nb_entries.specs.Runs.{AreApart, run_end, map_of_runs, runs_of_
 ghost use Rattle.nb_entries.specs.Saved.{runs_bytes};
 ghost use Rattle.nb_entries.specs.Whole.{bytes_below as map_below};
 ghost use Rattle.nb_entries.specs.Code.RunSteps.{value_of, run_at};
-ghost use Rattle.nb_entries.specs.Code.Rows.{values_in, NoneEmpty};
+ghost use Rattle.nb_entries.specs.Code.Rows.{kept_values, AreFilled};
 ghost use Rattle.nb_entries.specs.Sinks.{Puts};
 
 mod counting;
@@ -68,11 +68,28 @@ impl Run {
     }
 }
 
-/// Bytes by place, in runs that are apart. They lie in rows of few, so that a run which is put
-/// between others moves few of them.
+/// Runs that are apart: one, as most datagrams have, in place; else in rows of few, so that a run
+/// which is put between others moves few of them.
+#[derive(Drop)]
+pub(crate) enum Kept {
+    One(Run),
+    Many(Vec<Vec<Run>>),
+}
+
+impl Kept {
+    /// Where its memory is taken.
+    fn allocator(&self) -> Global {
+        match self {
+            Kept::One(run) => *run.bytes.allocator(),
+            Kept::Many(rows) => *rows.allocator(),
+        }
+    }
+}
+
+/// Bytes by place, in runs that are apart.
 #[derive(Drop)]
 pub(crate) struct Runs {
-    rows: Vec<Vec<Run>>,
+    kept: Kept,
 }
 
 impl Model for Runs {
@@ -86,11 +103,11 @@ impl Model for Runs {
     ghost coded = { bytes_code };
 
     ghost use Rattle.nb_entries.specs.Runs.{AreApart, map_of_runs};
-    ghost use Rattle.nb_entries.specs.Code.Rows.{values_in, NoneEmpty};
+    ghost use Rattle.nb_entries.specs.Code.Rows.{kept_values, AreFilled};
 
-    ghost view = { λ r. map_of_runs (values_in r.rows.items) };
+    ghost view = { λ r. map_of_runs (kept_values r.kept) };
 
-    ghost invariant = { λ r. NoneEmpty r.rows.items × AreApart (values_in r.rows.items) };
+    ghost invariant = { λ r. AreFilled r.kept × AreApart (kept_values r.kept) };
 }
 
 impl Runs {
@@ -99,7 +116,7 @@ impl Runs {
         ensures { result ≡ maps.empty }
     {
         Runs {
-            rows: Vec::new(alloc),
+            kept: Kept::Many(Vec::new(alloc)),
         }
     }
 
@@ -108,7 +125,7 @@ impl Runs {
         ensures { result
             ≡ list_all (λ e. same_where (maps.get self.now e.0) e.1) (placed start bytes.now) }
     {
-        reading::bytes_agree(&self.rows, start, bytes)
+        reading::bytes_agree(&self.kept, start, bytes)
     }
 
     /// Whether each of these bytes, which stand from `start` on, is there.
@@ -117,7 +134,7 @@ impl Runs {
             ≡ list_all (λ e. is_there (maps.get self.now e.0) e.1) (placed start bytes.now) }
     {
         let place = start as usize;
-        match reading::bytes_between(&self.rows, place, place + bytes.len()) {
+        match reading::bytes_between(&self.kept, place, place + bytes.len()) {
             Some(held) => held == bytes,
             None => false,
         }
@@ -130,21 +147,24 @@ impl Runs {
         ensures ok { OnOk result (self.new ≡ with_bytes self.old start bytes.now) }
         ensures err { OnErr result (self.new ≡ self.old) }
     {
-        inserting::insert_bytes(alloc, &mut self.rows, start, bytes)
+        inserting::insert_bytes(alloc, &mut self.kept, start, bytes)
     }
 
     /// Whether each place lies below the end.
     pub(crate) fn lie_below(&self, end: u32) -> bool
         ensures { IsTrue result ↔ ((i x : ℕ) → maps.get self.now i ≡ Some x → i < end) }
     {
-        reading::end_by(&self.rows, end as usize)
+        match searching::first_to(&self.kept, end as usize + 1) {
+            Some(_) => false,
+            None => true,
+        }
     }
 
     /// Whether each place below the end is covered.
     pub(crate) fn cover_below(&self, end: u32) -> bool
         ensures { IsTrue result ↔ AreCovered (maps.get self.now) end }
     {
-        match reading::bytes_below(&self.rows, end as usize) {
+        match reading::bytes_between(&self.kept, 0, end as usize) {
             Some(_) => true,
             None => false,
         }
@@ -156,7 +176,7 @@ impl Runs {
         ensures value { IfOk result (λ bytes. bytes ≡ map_below self.now end) }
         ensures no_memory_needed { map_below self.now end ≡ None → result ≡ Ok None }
     {
-        match reading::bytes_below(&self.rows, end as usize) {
+        match reading::bytes_between(&self.kept, 0, end as usize) {
             Some(bytes) => Ok(Some(Bytes::copy(alloc, bytes)?)),
             None => Ok(None),
         }
@@ -174,7 +194,7 @@ impl Runs {
         ensures { IfOk result (λ made.
             made ≡ map_below (with_bytes self.now start bytes.now) end) }
     {
-        match reading::bytes_with(alloc, &self.rows, end as usize, start, bytes)? {
+        match reading::bytes_with(alloc, &self.kept, end as usize, start, bytes)? {
             Some(made) => Ok(Some(Bytes::from_vec(made))),
             None => Ok(None),
         }
@@ -184,30 +204,30 @@ impl Runs {
     pub(crate) fn count(&self) -> usize
         ensures { result ≡ length (runs_of_map self.now) }
     {
-        counting::runs_in(&self.rows)
+        counting::runs_in(&self.kept)
     }
 
     /// Whether both have the same bytes.
     pub(crate) fn are(&self, other: &Runs) -> bool
         ensures { IsTrue result ↔ (self.now ≡ other.now) }
     {
-        reading::are_equal(&self.rows, &other.rows)
+        reading::are_equal(&self.kept, &other.kept)
     }
 
-    /// The bytes of rows of runs that are apart.
-    pub(crate) fn of_rows(rows: Vec<Vec<Run>>) -> Runs
-        requires some { NoneEmpty rows.items }
-        requires apart { AreApart (values_in rows.items) }
-        ensures { result ≡ map_of_runs (values_in rows.items) }
+    /// The bytes of runs that are apart.
+    pub(crate) fn of(kept: Kept) -> Runs
+        requires some { AreFilled kept }
+        requires apart { AreApart (kept_values kept) }
+        ensures { result ≡ map_of_runs (kept_values kept) }
     {
-        Runs { rows }
+        Runs { kept }
     }
 
     /// Whether no place has another byte in the one than in the other.
     pub(crate) fn agree_all(&self, other: &Runs) -> bool
         ensures { result ≡ bytes_agree self.now other.now }
     {
-        uniting::rows_agree(&self.rows, &other.rows)
+        uniting::rows_agree(&self.kept, &other.kept)
     }
 
     /// The bytes of both, which don't contradict each other.
@@ -215,18 +235,18 @@ impl Runs {
         requires { bytes_agree self.now other.now ≡ true }
         ensures { IfOk result (λ runs. runs ≡ union self.now other.now) }
     {
-        let alloc = *self.rows.allocator();
-        let rows = uniting::united(alloc, &self.rows, &other.rows)?;
-        Ok(Runs { rows })
+        let alloc = self.kept.allocator();
+        let kept = uniting::united(alloc, &self.kept, &other.kept)?;
+        Ok(Runs { kept })
     }
 
     /// A copy.
     pub(crate) fn copied(&self) -> Result<Runs, NoMemory>
         ensures { IfOk result (λ runs. runs ≡ self.now) }
     {
-        let alloc = *self.rows.allocator();
-        let rows = saving::copied(alloc, &self.rows)?;
-        Ok(Runs { rows })
+        let alloc = self.kept.allocator();
+        let kept = saving::copied(alloc, &self.kept)?;
+        Ok(Runs { kept })
     }
 
     /// Puts the maximal runs.
@@ -234,6 +254,6 @@ impl Runs {
         ensures { Puts S.takes S.breaks sink.old sink.new
             (runs_bytes (runs_of_map self.now)) result }
     {
-        saving::put_runs(sink, &self.rows)
+        saving::put_runs(sink, &self.kept)
     }
 }

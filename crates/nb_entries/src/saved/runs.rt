@@ -3,13 +3,13 @@ ghost use Rattle.std.specs.Prelude.{◌≡◌, ◌≤◌, IfOk, length, nat_le, 
 ghost use Rattle.std.specs.List.{list_all};
 ghost use Rattle.std.specs.FinMap as maps;
 ghost use Rattle.nb_datagram.specs.declared.limits.TheConstants.{MAX_LENGTH};
-ghost use Rattle.nb_entries.specs.Code.Rows.{values_in, NoneEmpty};
+ghost use Rattle.nb_entries.specs.Code.Rows.{kept_values, AreFilled};
 ghost use Rattle.nb_entries.specs.Runs.{run_end, map_of_runs};
 ghost use Rattle.nb_entries.specs.SavedReading.{start_at, size_at, run_at, runs_at};
 ghost use Rattle.nb_entries.specs.Code.SavedRuns.{RunThere, RowThere, run_of, row_of, after_run};
 
 use super::fields::{read_bytes, read_number};
-use crate::cover::runs::{Run, Runs, add_run};
+use crate::cover::runs::{Kept, Runs, add_run};
 use crate::load_fault::LoadFault;
 use nb_names::NoMemory;
 use nb_names::numbers::number_16;
@@ -172,19 +172,19 @@ fn row_is_short(bytes: &[u8], count: u16, limit: u16) -> bool
 }
 
 /// The runs, as many as these, which the bytes begin with.
-fn kept_runs(alloc: Global, bytes: &[u8], count: u16) -> Result<Vec<Vec<Run>>, NoMemory>
+fn kept_runs(alloc: Global, bytes: &[u8], count: u16) -> Result<Kept, NoMemory>
     requires { RowThere count bytes.now }
-    ensures some { IfOk result (λ rows. NoneEmpty rows.items) }
-    ensures runs { IfOk result (λ rows. values_in rows.items ≡ row_of count bytes.now) }
+    ensures some { IfOk result (λ kept. AreFilled kept) }
+    ensures runs { IfOk result (λ kept. kept_values kept ≡ row_of count bytes.now) }
 {
-    let mut rows = Vec::new(alloc);
+    let mut kept = Kept::Many(Vec::new(alloc));
     let mut rest = bytes;
     for _ in 0..count {
         let (run, after) = split_run(rest);
-        add_run(alloc, &mut rows, run.start(), run.bytes())?;
+        add_run(alloc, &mut kept, run.start(), run.bytes())?;
         rest = after;
     }
-    Ok(rows)
+    Ok(kept)
 }
 
 impl<'a> SavedRuns<'a> {
@@ -200,7 +200,7 @@ impl<'a> SavedRuns<'a> {
     pub(crate) fn to_runs(&self, alloc: Global) -> Result<Runs, NoMemory>
         ensures { IfOk result (λ runs. runs ≡ map_of_runs self.now) }
     {
-        let rows = kept_runs(alloc, self.bytes, self.count)?;
-        Ok(Runs::of_rows(rows))
+        let kept = kept_runs(alloc, self.bytes, self.count)?;
+        Ok(Runs::of(kept))
     }
 }

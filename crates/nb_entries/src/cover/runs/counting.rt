@@ -6,19 +6,19 @@ ghost use Rattle.nb_entries.specs.Cover.{BytesBelow};
 ghost use Rattle.nb_entries.specs.Ranges.{ranges_of_map};
 ghost use Rattle.nb_entries.specs.Runs.{AreApart};
 ghost use Rattle.nb_entries.specs.Code.RunSteps.{held_in};
-ghost use Rattle.nb_entries.specs.Code.Rows.{values_in, NoneEmpty};
+ghost use Rattle.nb_entries.specs.Code.Rows.{kept_values, AreFilled};
 
-use super::{EachRun, Run, Runs};
+use super::{EachRun, Kept, Runs};
 use crate::ranges::Ranges;
 
-/// How many runs the rows have.
-pub(super) fn runs_in(rows: &[Vec<Run>]) -> usize
-    requires some { NoneEmpty rows.now }
-    requires apart { AreApart (values_in rows.now) }
-    ensures { result ≡ length (values_in rows.now) }
+/// How many runs are kept.
+pub(super) fn runs_in(kept: &Kept) -> usize
+    requires some { AreFilled kept.now }
+    requires apart { AreApart (kept_values kept.now) }
+    ensures { result ≡ length (kept_values kept.now) }
 {
     let mut count = 0;
-    for run in EachRun::of(rows) {
+    for run in EachRun::of(kept) {
         // a run starts past the one before, at a place of 32 bits, so that the count fits
         let _ = run.start();
         count += 1;
@@ -27,13 +27,13 @@ pub(super) fn runs_in(rows: &[Vec<Run>]) -> usize
 }
 
 /// How many bytes all the runs have.
-fn bytes_in(rows: &[Vec<Run>]) -> usize
-    requires some { NoneEmpty rows.now }
-    requires few { held_in (values_in rows.now) ≤ MAX_LENGTH }
-    ensures { result ≡ held_in (values_in rows.now) }
+fn bytes_in(kept: &Kept) -> usize
+    requires some { AreFilled kept.now }
+    requires few { held_in (kept_values kept.now) ≤ MAX_LENGTH }
+    ensures { result ≡ held_in (kept_values kept.now) }
 {
     let mut held = 0;
-    for run in EachRun::of(rows) {
+    for run in EachRun::of(kept) {
         held += run.bytes().len();
     }
     held
@@ -45,7 +45,7 @@ impl Runs {
         requires { maps.len self.now ≤ MAX_LENGTH }
         ensures { result ≡ maps.len self.now }
     {
-        bytes_in(&self.rows)
+        bytes_in(&self.kept)
     }
 
     /// The ranges of their places.
@@ -53,6 +53,6 @@ impl Runs {
         requires { BytesBelow MAX_LENGTH self.now }
         ensures { result ≡ ranges_of_map self.now }
     {
-        Ranges::of(EachRun::of(&self.rows))
+        Ranges::of(EachRun::of(&self.kept))
     }
 }

@@ -1,9 +1,10 @@
 //! The runs of several rows, one after the other.
 ghost use Rattle.std.specs.Prelude.{◌≡◌, []};
-ghost use Rattle.nb_entries.specs.Code.Rows.{runs_in, NoneEmpty};
+ghost use Rattle.nb_entries.specs.Code.Rows.{kept_runs, AreFilled};
 
-use super::Run;
+use super::{Kept, Run};
 use std::marker::Model;
+use std::slice::from_ref;
 
 /// The runs of rows that are left, in order.
 #[derive(Drop)]
@@ -35,12 +36,18 @@ impl<'a> EachRun<'a> {
         }
     }
 
-    /// The runs of these rows.
-    pub(crate) fn of(rows: &'a [Vec<Run>]) -> EachRun<'a>
-        requires { NoneEmpty rows.now }
-        ensures { result ≡ runs_in rows.now }
+    /// The runs that are kept.
+    pub(crate) fn of(kept: &'a Kept) -> EachRun<'a>
+        requires { AreFilled kept.now }
+        ensures { result ≡ kept_runs kept.now }
     {
-        EachRun { row: &[], rows }
+        match kept {
+            Kept::One(run) => EachRun {
+                row: from_ref(run),
+                rows: &[],
+            },
+            Kept::Many(rows) => EachRun { row: &[], rows },
+        }
     }
 }
 

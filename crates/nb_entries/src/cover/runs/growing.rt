@@ -95,17 +95,12 @@ fn reserve(run: &mut Run, start: u32, end: usize) -> Result<(), NoMemory>
     Ok(())
 }
 
-/// Joins bytes with the one run that they overlap or touch.
-fn join_one(runs: &mut Vec<Run>, place: usize, start: u32, bytes: &[u8]) -> Result<(), NoMemory>
-    requires within { place < length runs.old.items }
-    requires meet { (d : Run)
-        → Meet (value_of (slice_index_or runs.old.items place d)) (run_at start bytes.now) }
-    ensures ok { (d : Run) → OnOk result (values_of runs.new.items
-        ≡ slice_set (values_of runs.old.items) place
-        (grown (value_of (slice_index_or runs.old.items place d)) (run_at start bytes.now))) }
-    ensures err { OnErr result (values_of runs.new.items ≡ values_of runs.old.items) }
+/// Joins bytes with a run that they overlap or touch.
+pub(super) fn join(run: &mut Run, start: u32, bytes: &[u8]) -> Result<(), NoMemory>
+    requires { Meet (value_of run.old) (run_at start bytes.now) }
+    ensures ok { OnOk result (value_of run.new ≡ grown (value_of run.old) (run_at start bytes.now)) }
+    ensures err { OnErr result (value_of run.new ≡ value_of run.old) }
 {
-    let run = &mut runs[place];
     reserve(run, start, start as usize + bytes.len())?;
     grow(run, start, bytes);
     Ok(())
@@ -145,17 +140,6 @@ fn join_more(
     Ok(())
 }
 
-/// Puts a run before the runs from `place` on.
-fn put_at(runs: &mut Vec<Run>, place: usize, run: Run) -> Result<(), NoMemory>
-    requires { place ≤ length runs.old.items }
-    ensures ok { OnOk result
-        (runs.new.items ≡ take place runs.old.items ++ run ∷ drop place runs.old.items) }
-    ensures err { OnErr result (runs.new.items ≡ runs.old.items) }
-{
-    runs.insert(place, run)?;
-    Ok(())
-}
-
 /// Puts bytes before the runs from `place` on, as a run of their own.
 fn insert_at(
     alloc: Global,
@@ -171,7 +155,8 @@ fn insert_at(
     ensures err { OnErr result (values_of runs.new.items ≡ values_of runs.old.items) }
 {
     let run = Run::copy(alloc, start, bytes)?;
-    put_at(runs, place, run)
+    runs.insert(place, run)?;
+    Ok(())
 }
 
 /// Inserts bytes that don't contradict them into a row of runs.
@@ -196,7 +181,7 @@ pub(super) fn insert_bytes(
         return insert_at(alloc, runs, first, start, bytes);
     }
     if past == first + 1 {
-        return join_one(runs, first, start, bytes);
+        return join(&mut runs[first], start, bytes);
     }
     join_more(runs, first, past, start, bytes)
 }

@@ -1,71 +1,83 @@
 //! Runs put into rows, none of which has many.
-ghost use Rattle.std.specs.Prelude.{◌≡◌, ◌≤◌, ◌<◌, ◌+◌, ◌++◌, ◌∷◌, [], length, take, drop, slice_index_or, IsTrue, OnOk, OnErr, IfOk};
+ghost use Rattle.std.specs.Prelude.{◌≡◌, ◌↔◌, ◌≤◌, ◌<◌, ◌+◌, ◌++◌, ◌∷◌, [], length, take, drop, slice_index_or, IsTrue, OnOk, OnErr, IfOk};
 ghost use Rattle.nb_entries.specs.Runs.{AreApart};
-ghost use Rattle.nb_entries.specs.Code.RunSteps.{run_at, EndBefore, Agree, IsPut};
-ghost use Rattle.nb_entries.specs.Code.Rows.{runs_in, values_in, NoneEmpty};
+ghost use Rattle.nb_entries.specs.Code.RunSteps.{value_of, run_at, EndBefore, Meet, Agree, IsPut};
+ghost use Rattle.nb_entries.specs.Code.Rows.{runs_in, values_in, NoneEmpty, kept_runs, kept_values, AreFilled};
 
 use super::searching::{row_to, rows_to};
-use super::{Run, growing};
+use super::{Kept, Run, growing};
 use nb_names::NoMemory;
 use std::alloc::Global;
+use std::mem::replace;
 
 /// How many runs a row has at which it is halved, before another one comes.
 const MANY: usize = 32;
 
-/// Takes room for one row where there is none: most datagrams have no second run.
-fn reserve_first(rows: &mut Vec<Vec<Run>>) -> Result<(), NoMemory>
-    ensures { rows.new.items ≡ rows.old.items }
+/// Takes the runs out, in rows.
+fn taken(alloc: Global, kept: &mut Kept) -> Result<Vec<Vec<Run>>, NoMemory>
+    requires { AreFilled kept.old }
+    ensures some { IfOk result (λ rows. NoneEmpty rows.items) }
+    ensures ok { IfOk result (λ rows. runs_in rows.items ≡ kept_runs kept.old) }
+    ensures left { OnOk result (kept_runs kept.new ≡ []) }
+    ensures err { OnErr result (kept.new ≡ kept.old) }
+    ensures filled { AreFilled kept.new }
 {
-    if rows.is_empty() {
-        rows.reserve_exact(1)?;
+    if let Kept::Many(rows) = kept {
+        return Ok(replace(rows, Vec::new(alloc)));
     }
-    Ok(())
+    let mut row = Vec::with_capacity(alloc, 2)?;
+    let mut rows = Vec::with_capacity(alloc, 1)?;
+    match replace(kept, Kept::Many(Vec::new(alloc))) {
+        Kept::One(run) => {
+            row.push(run).unwrap();
+            rows.push(row).unwrap();
+            Ok(rows)
+        }
+        Kept::Many(rows) => Ok(rows),
+    }
 }
 
-/// Puts a run behind the others, as a row of its own.
-fn push_row(alloc: Global, rows: &mut Vec<Vec<Run>>, run: Run) -> Result<(), NoMemory>
-    requires { NoneEmpty rows.old.items }
+/// Puts a run behind those of the rows.
+fn push_run(alloc: Global, rows: &mut Vec<Vec<Run>>, run: Run) -> Result<(), NoMemory>
+    requires any { 0 < length rows.old.items }
+    requires some { NoneEmpty rows.old.items }
     ensures some { NoneEmpty rows.new.items }
     ensures ok { OnOk result (runs_in rows.new.items ≡ runs_in rows.old.items ++ run ∷ []) }
-    ensures err { OnErr result (rows.new.items ≡ rows.old.items) }
+    ensures err { OnErr result (runs_in rows.new.items ≡ runs_in rows.old.items) }
 {
+    let last = rows.len() - 1;
+    if rows[last].len() < MANY {
+        rows[last].push(run)?;
+        return Ok(());
+    }
     let mut row = Vec::with_capacity(alloc, 1)?;
     row.push(run)?;
-    reserve_first(rows)?;
     rows.push(row)?;
     Ok(())
-}
-
-/// Whether there is a last row, with room for a run more.
-fn last_has_room(rows: &[Vec<Run>]) -> bool
-    ensures { IsTrue result → 0 < length rows.now }
-{
-    match rows.last() {
-        Some(row) => row.len() < MANY,
-        None => false,
-    }
 }
 
 /// Adds bytes behind the runs, as a run of their own.
 pub(crate) fn add_run(
     alloc: Global,
-    rows: &mut Vec<Vec<Run>>,
+    kept: &mut Kept,
     start: u32,
     bytes: &[u8],
 ) -> Result<(), NoMemory>
-    requires { NoneEmpty rows.old.items }
-    ensures some { NoneEmpty rows.new.items }
+    requires { AreFilled kept.old }
+    ensures some { AreFilled kept.new }
     ensures ok { OnOk result
-        (values_in rows.new.items ≡ values_in rows.old.items ++ run_at start bytes.now ∷ []) }
-    ensures err { OnErr result (values_in rows.new.items ≡ values_in rows.old.items) }
+        (kept_values kept.new ≡ kept_values kept.old ++ run_at start bytes.now ∷ []) }
+    ensures err { OnErr result (kept_values kept.new ≡ kept_values kept.old) }
 {
     let run = Run::copy(alloc, start, bytes)?;
-    if last_has_room(rows) {
-        let last = rows.len() - 1;
-        rows[last].push(run)?;
+    let mut rows = taken(alloc, kept)?;
+    if rows.is_empty() {
+        *kept = Kept::One(run);
         return Ok(());
     }
-    push_row(alloc, rows, run)
+    let pushed = push_run(alloc, &mut rows, run);
+    *kept = Kept::Many(rows);
+    pushed
 }
 
 /// The row for bytes from a place on: that of the first run which they may touch, or else the
@@ -104,59 +116,61 @@ fn roomy_row(rows: &mut Vec<Vec<Run>>, place: usize) -> Result<usize, NoMemory>
     requires apart { AreApart (values_in rows.old.items) }
     ensures some { NoneEmpty rows.new.items }
     ensures same { runs_in rows.new.items ≡ runs_in rows.old.items }
-    ensures within { IfOk result (λ own. own < length rows.new.items) }
-    ensures before { IfOk result (λ own. EndBefore place (values_in (take own rows.new.items))) }
+    ensures within { IfOk result (λ at. at < length rows.new.items) }
+    ensures before { IfOk result (λ at. EndBefore place (values_in (take at rows.new.items))) }
 {
-    let own = row_for(rows, place);
-    if rows[own].len() < MANY {
-        return Ok(own);
+    let at = row_for(rows, place);
+    if rows[at].len() < MANY {
+        return Ok(at);
     }
-    halve(rows, own)?;
+    halve(rows, at)?;
     Ok(row_for(rows, place))
 }
 
 /// Joins a row with the one after it.
-fn join_next(rows: &mut Vec<Vec<Run>>, own: usize) -> Result<(), NoMemory>
-    requires within { own + 1 < length rows.old.items }
+fn join_next(rows: &mut Vec<Vec<Run>>, at: usize) -> Result<(), NoMemory>
+    requires within { at + 1 < length rows.old.items }
     requires some { NoneEmpty rows.old.items }
     ensures some { NoneEmpty rows.new.items }
     ensures same { runs_in rows.new.items ≡ runs_in rows.old.items }
-    ensures front { OnOk result (take own rows.new.items ≡ take own rows.old.items) }
-    ensures back { OnOk result (drop (own + 1) rows.new.items ≡ drop (own + 2) rows.old.items) }
+    ensures front { OnOk result (take at rows.new.items ≡ take at rows.old.items) }
+    ensures back { OnOk result (drop (at + 1) rows.new.items ≡ drop (at + 2) rows.old.items) }
     ensures size { OnOk result (length rows.new.items + 1 ≡ length rows.old.items) }
 {
-    let count = rows[own + 1].len();
-    rows[own].reserve(count)?;
-    let mut next = rows.remove(own + 1);
-    rows[own].append(&mut next).unwrap();
+    let count = rows[at + 1].len();
+    rows[at].reserve(count)?;
+    let mut next = rows.remove(at + 1);
+    rows[at].append(&mut next).unwrap();
     Ok(())
 }
 
 /// Joins a row with those after it, up to a place among them.
-fn join_rows(rows: &mut Vec<Vec<Run>>, own: usize, past: usize) -> Result<(), NoMemory>
+fn join_rows(rows: &mut Vec<Vec<Run>>, at: usize, past: usize) -> Result<(), NoMemory>
     requires some { NoneEmpty rows.old.items }
-    requires order { own < past }
+    requires order { at < past }
     requires within { past ≤ length rows.old.items }
     ensures some { NoneEmpty rows.new.items }
     ensures same { runs_in rows.new.items ≡ runs_in rows.old.items }
-    ensures front { OnOk result (take own rows.new.items ≡ take own rows.old.items) }
-    ensures back { OnOk result (drop (own + 1) rows.new.items ≡ drop past rows.old.items) }
-    ensures within { OnOk result (own < length rows.new.items) }
+    ensures front { OnOk result (take at rows.new.items ≡ take at rows.old.items) }
+    ensures back { OnOk result (drop (at + 1) rows.new.items ≡ drop past rows.old.items) }
+    ensures within { OnOk result (at < length rows.new.items) }
 {
-    for _ in own + 1..past {
-        join_next(rows, own)?;
+    for _ in at + 1..past {
+        join_next(rows, at)?;
     }
     Ok(())
 }
 
-/// Inserts bytes that don't contradict them into the runs: into one row, which those that the
-/// bytes touch are joined with.
-pub(super) fn insert_bytes(
+/// Inserts bytes that don't contradict them into the rows: into one, which those that the bytes
+/// touch are joined with.
+fn insert_in_rows(
     alloc: Global,
     rows: &mut Vec<Vec<Run>>,
     start: u32,
     bytes: &[u8],
 ) -> Result<(), NoMemory>
+    requires any { 0 < length rows.old.items }
+    requires put { 0 < length bytes.now }
     requires some { NoneEmpty rows.old.items }
     requires apart { AreApart (values_in rows.old.items) }
     requires agree { Agree (values_in rows.old.items) (run_at start bytes.now) }
@@ -165,15 +179,50 @@ pub(super) fn insert_bytes(
         (IsPut (values_in rows.old.items) (run_at start bytes.now) (values_in rows.new.items)) }
     ensures err { OnErr result (values_in rows.new.items ≡ values_in rows.old.items) }
 {
+    let place = start as usize;
+    let at = roomy_row(rows, place)?;
+    let past = rows_to(rows, at + 1, place + bytes.len());
+    join_rows(rows, at, past)?;
+    growing::insert_bytes(alloc, &mut rows[at], start, bytes)
+}
+
+/// Whether bytes overlap or touch a run.
+fn meets(run: &Run, start: u32, bytes: &[u8]) -> bool
+    ensures { IsTrue result ↔ Meet (value_of run.now) (run_at start bytes.now) }
+{
+    let place = start as usize;
+    run.start() as usize <= place + bytes.len() && place <= run.end()
+}
+
+/// Inserts bytes that don't contradict them into the runs.
+pub(super) fn insert_bytes(
+    alloc: Global,
+    kept: &mut Kept,
+    start: u32,
+    bytes: &[u8],
+) -> Result<(), NoMemory>
+    requires some { AreFilled kept.old }
+    requires apart { AreApart (kept_values kept.old) }
+    requires agree { Agree (kept_values kept.old) (run_at start bytes.now) }
+    ensures some { AreFilled kept.new }
+    ensures ok { OnOk result
+        (IsPut (kept_values kept.old) (run_at start bytes.now) (kept_values kept.new)) }
+    ensures err { OnErr result (kept_values kept.new ≡ kept_values kept.old) }
+{
     if bytes.is_empty() {
         return Ok(());
     }
-    if rows.is_empty() {
-        return add_run(alloc, rows, start, bytes);
+    if let Kept::One(run) = kept {
+        if meets(run, start, bytes) {
+            return growing::join(run, start, bytes);
+        }
     }
-    let place = start as usize;
-    let own = roomy_row(rows, place)?;
-    let past = rows_to(rows, own + 1, place + bytes.len());
-    join_rows(rows, own, past)?;
-    growing::insert_bytes(alloc, &mut rows[own], start, bytes)
+    let mut rows = taken(alloc, kept)?;
+    if rows.is_empty() {
+        *kept = Kept::One(Run::copy(alloc, start, bytes)?);
+        return Ok(());
+    }
+    let inserted = insert_in_rows(alloc, &mut rows, start, bytes);
+    *kept = Kept::Many(rows);
+    inserted
 }

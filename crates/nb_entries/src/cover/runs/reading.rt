@@ -1,26 +1,27 @@
 //! What runs have that are apart.
-ghost use Rattle.std.specs.Prelude.{◌≡◌, ◌↔◌, ◌≤◌, ◌<◌, ℕ, IsTrue, IfOk, MatchOption, Some};
+ghost use Rattle.std.specs.Prelude.{◌≡◌, ◌↔◌, ◌≤◌, IsTrue, IfOk, MatchOption, Some};
 ghost use Rattle.nb_entries.specs.Runs.{AreApart};
-ghost use Rattle.nb_entries.specs.Code.Rows.{values_in, NoneEmpty};
-ghost use Rattle.nb_entries.specs.Code.RunSteps.{value_of, values_of, run_at, Meet, Agree, AgreeOne, look_in, look_with, AreBetween, Lacks, AreFirst, LacksOne};
+ghost use Rattle.nb_entries.specs.Code.Rows.{kept_values, values_in, AreFilled, NoneEmpty};
+ghost use Rattle.nb_entries.specs.Code.RunSteps.{value_of, values_of, run_at, Meet, Agree, AgreeOne, look_with, AreBetween, Lacks, AreFirst, LacksOne};
 
-use super::searching::{first_from, first_run, first_to, last_run, past_to, row_to, rows_to};
-use super::{EachRun, Run};
+use super::searching::{first_from, first_to, past_to, row_to, rows_to};
+use super::{EachRun, Kept, Run};
 use nb_names::NoMemory;
 use std::alloc::Global;
+use std::slice::from_ref;
 
 /// The bytes from one place up to another, in order, if each is there.
-pub(super) fn bytes_between<'a>(rows: &'a [Vec<Run>], from: usize, to: usize) -> Option<&'a [u8]>
-    requires some { NoneEmpty rows.now }
-    requires apart { AreApart (values_in rows.now) }
+pub(super) fn bytes_between<'a>(kept: &'a Kept, from: usize, to: usize) -> Option<&'a [u8]>
+    requires some { AreFilled kept.now }
+    requires apart { AreApart (kept_values kept.now) }
     requires order { from ≤ to }
-    ensures { MatchOption result (Lacks (values_in rows.now) from to)
-        (λ bytes. AreBetween (values_in rows.now) from to bytes.now) }
+    ensures { MatchOption result (Lacks (kept_values kept.now) from to)
+        (λ bytes. AreBetween (kept_values kept.now) from to bytes.now) }
 {
     if from == to {
         return Some(&[]);
     }
-    let run = match first_to(rows, to) {
+    let run = match first_to(kept, to) {
         Some(run) => run,
         None => return None,
     };
@@ -29,29 +30,6 @@ pub(super) fn bytes_between<'a>(rows: &'a [Vec<Run>], from: usize, to: usize) ->
         return None;
     }
     Some(&run.bytes()[from - start..to - start])
-}
-
-/// The bytes below a place, in order, if each is there. They are in the first run.
-pub(super) fn bytes_below<'a>(rows: &'a [Vec<Run>], to: usize) -> Option<&'a [u8]>
-    requires some { NoneEmpty rows.now }
-    requires apart { AreApart (values_in rows.now) }
-    ensures { MatchOption result (Lacks (values_in rows.now) 0 to)
-        (λ bytes. AreBetween (values_in rows.now) 0 to bytes.now) }
-{
-    if to == 0 {
-        return Some(&[]);
-    }
-    let run = match first_run(rows) {
-        Some(run) => run,
-        None => return None,
-    };
-    if run.start() > 0 {
-        return None;
-    }
-    if run.end() < to {
-        return None;
-    }
-    Some(&run.bytes()[..to])
 }
 
 /// Whether a run has no other byte at a place of these, which overlap or touch it.
@@ -85,8 +63,8 @@ fn row_agrees(runs: &[Run], start: u32, bytes: &[u8]) -> bool
     true
 }
 
-/// Whether no place has another byte among these.
-pub(super) fn bytes_agree(rows: &[Vec<Run>], start: u32, bytes: &[u8]) -> bool
+/// Whether no place of several rows has another byte among these.
+fn all_agree(rows: &[Vec<Run>], start: u32, bytes: &[u8]) -> bool
     requires some { NoneEmpty rows.now }
     requires apart { AreApart (values_in rows.now) }
     ensures { IsTrue result ↔ Agree (values_in rows.now) (run_at start bytes.now) }
@@ -103,29 +81,41 @@ pub(super) fn bytes_agree(rows: &[Vec<Run>], start: u32, bytes: &[u8]) -> bool
     true
 }
 
+/// Whether no place has another byte among these.
+pub(super) fn bytes_agree(kept: &Kept, start: u32, bytes: &[u8]) -> bool
+    requires some { AreFilled kept.now }
+    requires apart { AreApart (kept_values kept.now) }
+    ensures { IsTrue result ↔ Agree (kept_values kept.now) (run_at start bytes.now) }
+{
+    match kept {
+        Kept::One(run) => row_agrees(from_ref(run), start, bytes),
+        Kept::Many(rows) => all_agree(rows, start, bytes),
+    }
+}
+
 /// The bytes below a place, in order, of the runs with others, if each is there. No memory is taken
 /// where one isn't.
 pub(super) fn bytes_with(
     alloc: Global,
-    rows: &[Vec<Run>],
+    kept: &Kept,
     end: usize,
     start: u32,
     bytes: &[u8],
 ) -> Result<Option<Vec<u8>>, NoMemory>
-    requires some { NoneEmpty rows.now }
-    requires apart { AreApart (values_in rows.now) }
+    requires some { AreFilled kept.now }
+    requires apart { AreApart (kept_values kept.now) }
     ensures { IfOk result (λ made. MatchOption made
-        (LacksOne (look_with (values_in rows.now) (run_at start bytes.now)) end)
-        (λ bytes_made. AreFirst (look_with (values_in rows.now) (run_at start bytes.now)) end
+        (LacksOne (look_with (kept_values kept.now) (run_at start bytes.now)) end)
+        (λ bytes_made. AreFirst (look_with (kept_values kept.now) (run_at start bytes.now)) end
         bytes_made.items)) }
 {
     let first = (start as usize).min(end);
     let count = bytes.len().min(end - first);
-    let front = match bytes_below(rows, first) {
+    let front = match bytes_between(kept, 0, first) {
         Some(front) => front,
         None => return Ok(None),
     };
-    let back = match bytes_between(rows, first + count, end) {
+    let back = match bytes_between(kept, first + count, end) {
         Some(back) => back,
         None => return Ok(None),
     };
@@ -137,12 +127,12 @@ pub(super) fn bytes_with(
 }
 
 /// Whether the runs of two are the same.
-pub(super) fn are_equal(rows: &[Vec<Run>], others: &[Vec<Run>]) -> bool
-    requires some { NoneEmpty rows.now }
-    requires other_some { NoneEmpty others.now }
-    ensures { IsTrue result ↔ (values_in rows.now ≡ values_in others.now) }
+pub(super) fn are_equal(kept: &Kept, others: &Kept) -> bool
+    requires some { AreFilled kept.now }
+    requires other_some { AreFilled others.now }
+    ensures { IsTrue result ↔ (kept_values kept.now ≡ kept_values others.now) }
 {
-    let mut own = EachRun::of(rows);
+    let mut own = EachRun::of(kept);
     for other in EachRun::of(others) {
         match own.next() {
             Some(run) if run == other => {}
@@ -150,16 +140,4 @@ pub(super) fn are_equal(rows: &[Vec<Run>], others: &[Vec<Run>]) -> bool
         }
     }
     own.next().is_none()
-}
-
-/// Whether each run ends at a place or before it.
-pub(super) fn end_by(rows: &[Vec<Run>], end: usize) -> bool
-    requires some { NoneEmpty rows.now }
-    requires apart { AreApart (values_in rows.now) }
-    ensures { IsTrue result ↔ ((q x : ℕ) → look_in (values_in rows.now) q ≡ Some x → q < end) }
-{
-    match last_run(rows) {
-        Some(run) => run.end() <= end,
-        None => true,
-    }
 }

@@ -2,12 +2,12 @@
 ghost use Rattle.std.specs.Prelude.{◌≡◌, IfOk};
 ghost use Rattle.nb_entries.specs.Runs.{AreApart};
 ghost use Rattle.nb_entries.specs.Code.RunSteps.{value_of};
-ghost use Rattle.nb_entries.specs.Code.Rows.{values_in, NoneEmpty};
+ghost use Rattle.nb_entries.specs.Code.Rows.{kept_values, AreFilled};
 ghost use Rattle.nb_entries.specs.Sinks.{Puts};
 ghost use Rattle.nb_entries.specs.Saved.{run_bytes, runs_bytes};
 
 use super::counting::runs_in;
-use super::{EachRun, Run, add_run};
+use super::{EachRun, Kept, Run, add_run};
 use crate::saved::fields::put_two_bytes;
 use crate::saved::sink::ByteSink;
 use nb_names::NoMemory;
@@ -24,26 +24,26 @@ fn put_run<S: ByteSink>(sink: &mut S, run: &Run) -> Result<(), S::Fault>
 }
 
 /// Puts runs, how many there are in front.
-pub(super) fn put_runs<S: ByteSink>(sink: &mut S, rows: &[Vec<Run>]) -> Result<(), S::Fault>
-    requires some { NoneEmpty rows.now }
-    requires apart { AreApart (values_in rows.now) }
-    ensures { Puts S.takes S.breaks sink.old sink.new (runs_bytes (values_in rows.now)) result }
+pub(super) fn put_runs<S: ByteSink>(sink: &mut S, kept: &Kept) -> Result<(), S::Fault>
+    requires some { AreFilled kept.now }
+    requires apart { AreApart (kept_values kept.now) }
+    ensures { Puts S.takes S.breaks sink.old sink.new (runs_bytes (kept_values kept.now)) result }
 {
-    put_two_bytes(sink, runs_in(rows) as u64)?;
-    for run in EachRun::of(rows) {
+    put_two_bytes(sink, runs_in(kept) as u64)?;
+    for run in EachRun::of(kept) {
         put_run(sink, run)?;
     }
     Ok(())
 }
 
-/// A copy of rows.
-pub(super) fn copied(alloc: Global, rows: &[Vec<Run>]) -> Result<Vec<Vec<Run>>, NoMemory>
-    requires { NoneEmpty rows.now }
-    ensures some { IfOk result (λ made. NoneEmpty made.items) }
-    ensures same { IfOk result (λ made. values_in made.items ≡ values_in rows.now) }
+/// A copy of runs.
+pub(super) fn copied(alloc: Global, kept: &Kept) -> Result<Kept, NoMemory>
+    requires { AreFilled kept.now }
+    ensures some { IfOk result (λ made. AreFilled made) }
+    ensures same { IfOk result (λ made. kept_values made ≡ kept_values kept.now) }
 {
-    let mut made = Vec::new(alloc);
-    for run in EachRun::of(rows) {
+    let mut made = Kept::Many(Vec::new(alloc));
+    for run in EachRun::of(kept) {
         add_run(alloc, &mut made, run.start(), run.bytes())?;
     }
     Ok(made)

@@ -1,10 +1,10 @@
 //! Where runs lie that are apart, in a row and in several.
-ghost use Rattle.std.specs.Prelude.{◌≡◌, ◌≤◌, ◌<◌, [], length, take, drop, slice_index_or, ltb, MatchOption, IsTrue};
+ghost use Rattle.std.specs.Prelude.{◌≡◌, ◌≤◌, ◌<◌, length, take, drop, slice_index_or, ltb, MatchOption, IsTrue};
 ghost use Rattle.nb_entries.specs.Runs.{AreApart, StartsPast};
 ghost use Rattle.nb_entries.specs.Code.RunSteps.{values_of, EndBefore, EndFrom, StartTo, StartAfter};
-ghost use Rattle.nb_entries.specs.Code.Rows.{runs_in, values_in, NoneEmpty, last_end, IsFirstTo, IsFirst, IsLast};
+ghost use Rattle.nb_entries.specs.Code.Rows.{runs_in, values_in, NoneEmpty, last_end, kept_runs, kept_values, AreFilled, IsFirstTo};
 
-use super::Run;
+use super::{Kept, Run};
 
 /// How many runs end before a place.
 pub(super) fn first_from(runs: &[Run], place: usize) -> usize
@@ -56,8 +56,8 @@ pub(super) fn row_to(rows: &[Vec<Run>], place: usize) -> usize
     rows.partition_point(|row| ends_before(row, place))
 }
 
-/// The first run that ends at a place or after it.
-pub(super) fn first_to<'a>(rows: &'a [Vec<Run>], place: usize) -> Option<&'a Run>
+/// The first run of several rows that ends at a place or after it.
+fn first_in<'a>(rows: &'a [Vec<Run>], place: usize) -> Option<&'a Run>
     requires some { NoneEmpty rows.now }
     requires apart { AreApart (values_in rows.now) }
     ensures { MatchOption result (EndBefore place (values_in rows.now))
@@ -69,6 +69,20 @@ pub(super) fn first_to<'a>(rows: &'a [Vec<Run>], place: usize) -> Option<&'a Run
     }
     let row = &rows[at];
     Some(&row[first_from(row, place)])
+}
+
+/// The first run that ends at a place or after it.
+pub(super) fn first_to<'a>(kept: &'a Kept, place: usize) -> Option<&'a Run>
+    requires some { AreFilled kept.now }
+    requires apart { AreApart (kept_values kept.now) }
+    ensures { MatchOption result (EndBefore place (kept_values kept.now))
+        (λ run. IsFirstTo (kept_runs kept.now) place run.now) }
+{
+    match kept {
+        Kept::One(run) if run.end() < place => None,
+        Kept::One(run) => Some(run),
+        Kept::Many(rows) => first_in(rows, place),
+    }
 }
 
 /// Whether the first run of a row starts after a place.
@@ -95,29 +109,4 @@ pub(super) fn rows_to(rows: &[Vec<Run>], first: usize, place: usize) -> usize
         }
     }
     rows.len()
-}
-
-/// The last run.
-pub(super) fn last_run<'a>(rows: &'a [Vec<Run>]) -> Option<&'a Run>
-    requires { NoneEmpty rows.now }
-    ensures { MatchOption result (runs_in rows.now ≡ [])
-        (λ run. IsLast (runs_in rows.now) run.now) }
-{
-    let row = match rows.last() {
-        Some(row) => row,
-        None => return None,
-    };
-    Some(&row[row.len() - 1])
-}
-
-/// The first run.
-pub(super) fn first_run<'a>(rows: &'a [Vec<Run>]) -> Option<&'a Run>
-    requires { NoneEmpty rows.now }
-    ensures { MatchOption result (runs_in rows.now ≡ [])
-        (λ run. IsFirst (runs_in rows.now) run.now) }
-{
-    match rows.first() {
-        Some(row) => Some(&row[0]),
-        None => None,
-    }
 }

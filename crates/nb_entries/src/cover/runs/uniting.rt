@@ -4,25 +4,25 @@ ghost use Rattle.std.specs.FinMap as maps;
 ghost use Rattle.nb_entries.specs.Cover.{placed};
 ghost use Rattle.nb_entries.specs.Runs.{AreApart};
 ghost use Rattle.nb_entries.specs.Code.RunSteps.{RowsAgree, IsUnion};
-ghost use Rattle.nb_entries.specs.Code.Rows.{values_in, NoneEmpty};
+ghost use Rattle.nb_entries.specs.Code.Rows.{kept_values, AreFilled};
 
 use super::inserting::insert_bytes;
 use super::reading::bytes_agree;
 use super::saving::copied;
-use super::{EachRun, Run, Runs};
+use super::{EachRun, Kept, Runs};
 use nb_names::NoMemory;
 use std::alloc::Global;
 
 /// Whether no place has another byte in the one than in the other.
-pub(super) fn rows_agree(rows: &[Vec<Run>], others: &[Vec<Run>]) -> bool
-    requires some { NoneEmpty rows.now }
-    requires apart { AreApart (values_in rows.now) }
-    requires other_some { NoneEmpty others.now }
-    requires other_apart { AreApart (values_in others.now) }
-    ensures { IsTrue result ↔ RowsAgree (values_in rows.now) (values_in others.now) }
+pub(super) fn rows_agree(kept: &Kept, others: &Kept) -> bool
+    requires some { AreFilled kept.now }
+    requires apart { AreApart (kept_values kept.now) }
+    requires other_some { AreFilled others.now }
+    requires other_apart { AreApart (kept_values others.now) }
+    ensures { IsTrue result ↔ RowsAgree (kept_values kept.now) (kept_values others.now) }
 {
     for run in EachRun::of(others) {
-        if !bytes_agree(rows, run.start(), run.bytes()) {
+        if !bytes_agree(kept, run.start(), run.bytes()) {
             return false;
         }
     }
@@ -32,19 +32,19 @@ pub(super) fn rows_agree(rows: &[Vec<Run>], others: &[Vec<Run>]) -> bool
 /// The runs of the bytes of two that agree.
 pub(super) fn united(
     alloc: Global,
-    rows: &[Vec<Run>],
-    others: &[Vec<Run>],
-) -> Result<Vec<Vec<Run>>, NoMemory>
-    requires some { NoneEmpty rows.now }
-    requires apart { AreApart (values_in rows.now) }
-    requires other_some { NoneEmpty others.now }
-    requires other_apart { AreApart (values_in others.now) }
-    requires agree { RowsAgree (values_in rows.now) (values_in others.now) }
-    ensures some { IfOk result (λ made. NoneEmpty made.items) }
+    kept: &Kept,
+    others: &Kept,
+) -> Result<Kept, NoMemory>
+    requires some { AreFilled kept.now }
+    requires apart { AreApart (kept_values kept.now) }
+    requires other_some { AreFilled others.now }
+    requires other_apart { AreApart (kept_values others.now) }
+    requires agree { RowsAgree (kept_values kept.now) (kept_values others.now) }
+    ensures some { IfOk result (λ made. AreFilled made) }
     ensures union { IfOk result (λ made.
-        IsUnion (values_in rows.now) (values_in others.now) (values_in made.items)) }
+        IsUnion (kept_values kept.now) (kept_values others.now) (kept_values made)) }
 {
-    let mut made = copied(alloc, rows)?;
+    let mut made = copied(alloc, kept)?;
     for run in EachRun::of(others) {
         insert_bytes(alloc, &mut made, run.start(), run.bytes())?;
     }
@@ -57,14 +57,10 @@ impl Runs {
         ensures { MatchOption result (Unit {0})
             (λ one. self.now ≡ maps.from_entries (placed one.0 one.1.now)) }
     {
-        if self.rows.len() != 1 {
-            return None;
+        let mut runs = EachRun::of(&self.kept);
+        match (runs.next(), runs.next()) {
+            (Some(run), None) => Some((run.start(), run.bytes())),
+            _ => None,
         }
-        let row = &self.rows[0];
-        if row.len() != 1 {
-            return None;
-        }
-        let run = &row[0];
-        Some((run.start(), run.bytes()))
     }
 }

@@ -1,5 +1,5 @@
 use Rattle.std.proofs.Common.{◌+◌, ◌-◌, arith}
-use Rattle.nb_entries.specs.Code.Rows.{values_in}
+use Rattle.nb_entries.specs.Code.Rows.{kept_values}
 use Rattle.nb_entries.specs.Shared.RowLemmas.{row_next}
 use Rattle.nb_entries.proofs.KeptRuns.RunFactsLemmas.{row_kept}
 use Rattle.nb_entries.proofs.saved.runs.kept_runs.Goals as goal
@@ -8,5 +8,5 @@ pub loop-preserved : goal.loop-preserved
 loop-preserved c = record {
   some = c.in_ok-add_run.ensures.some;
   there = row_next (c.args.count - c.loop.counter) (c.args.count - (c.loop.counter + 1)) _ _ (omega arith) c.split_run-run.ensures.rest c.loop.invariant.there;
-  left = row_kept (values_in c.loop.rows.items) _ _ (c.args.count - c.loop.counter) (c.args.count - (c.loop.counter + 1)) _ _ _ _ _ (omega arith) c.split_run-run.ensures.run c.split_run-run.ensures.rest c.start.ensures.value c.bytes.ensures.value c.in_ok-add_run.ensures.ok c.loop.invariant.left;
+  left = row_kept (kept_values c.loop.kept) _ _ (c.args.count - c.loop.counter) (c.args.count - (c.loop.counter + 1)) _ _ _ _ _ (omega arith) c.split_run-run.ensures.run c.split_run-run.ensures.rest c.start.ensures.value c.bytes.ensures.value c.in_ok-add_run.ensures.ok c.loop.invariant.left;
 }

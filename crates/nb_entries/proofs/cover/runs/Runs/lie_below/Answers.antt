@@ -1,14 +1,22 @@
-use Rattle.std.proofs.Common.{◌∙◌, ap, sym}
-use Rattle.nb_entries.specs.Code.RunSteps.{look_in}
-use Rattle.nb_entries.specs.Code.Rows.{values_in}
-use Rattle.nb_entries.proofs.KeptRuns.RunRowLemmas.{get-runs}
+use Rattle.std.proofs.Common.{◌≡◌, ◌+◌, ◌∙◌, true, false, arith, refl, sym}
+use Rattle.nb_entries.specs.Code.Rows.{kept_runs, kept_values}
+use Rattle.nb_entries.proofs.KeptRuns.RunRowLemmas.{get-runs, look_before}
+use Rattle.nb_entries.proofs.KeptRuns.RunReadLemmas.{ends_by}
 use Rattle.nb_entries.proofs.cover.runs.Runs.lie_below.Goals as goal
 
-pub returns : goal.returns
-returns c =
-    let rs = values_in c.self.inside.rows.items in
-    let same = ap values_in c.deref.ensures.value in
+pub returns-in-Some : goal.returns-in-Some
+returns-in-Some c =
+    let rs = kept_values c.self.inside.kept in
+    let past = c.in-Some.ensures in
     rw (← c.self.view_is) (
-      λ h. (λ i x g. c.end_by.ensures.0 h i x (ap (λ us. look_in us i) same ∙ sym (get-runs rs i) ∙ g)),
-      λ h. c.end_by.ensures.1 (λ i x g. h i x (get-runs rs i ∙ sym (ap (λ us. look_in us i) same) ∙ g)),
+      λ h. (let clash : false ≡ true = h in absurd (cc)),
+      λ h. (let end = ends_by (kept_runs c.self.inside.kept) past.index _ c.args.end c.self.invariant.1 past.inside past.is (λ q x e. h q x (get-runs rs q ∙ e)) in absurd (omega (arith, end, past.reaches))),
+    )
+
+pub returns-in-None : goal.returns-in-None
+returns-in-None c =
+    let rs = kept_values c.self.inside.kept in
+    rw (← c.self.view_is) (
+      λ _. (λ q x e. (let before = look_before (c.args.end + 1) rs c.in-None.ensures q x (sym (get-runs rs q) ∙ e) in omega (arith, before))),
+      λ _. refl,
     )

@@ -1,5 +1,4 @@
 use Rattle.std.proofs.Common.{◌∙◌, ap, ◌++◌, ◌∷◌, take, drop}
-use Rattle.std.proofs.lemmas.Result.{on_ok_weaker}
 use Rattle.nb_entries.specs.Code.RunSteps.{values_of}
 use Rattle.nb_entries.proofs.KeptRuns.RunCodeLemmas.{values_put}
 use Rattle.nb_entries.proofs.cover.runs.growing.insert_at.Goals as goal
@@ -8,8 +7,6 @@ pub returns-clause-ok : goal.returns-clause-ok
 returns-clause-ok c =
     let xs = c.args.runs.now.items in
     let place = c.args.place in
-    on_ok_weaker c.put_at.result (λ e.
-    ap values_of e
+    ap values_of c.in_ok-insert.ensures.items
     ∙ values_put xs place _
-    ∙ ap (λ v. take place (values_of xs) ++ v ∷ drop place (values_of xs)) c.in_ok-run.ensures)
-    c.put_at.ensures.ok
+    ∙ ap (λ v. take place (values_of xs) ++ v ∷ drop place (values_of xs)) c.in_ok-run.ensures

@@ -1,15 +1,15 @@
 use Rattle.std.proofs.Common.{arith, ap, length}
-use Rattle.nb_entries.specs.Code.Rows.{runs_in}
+use Rattle.nb_entries.specs.Code.Rows.{kept_runs}
 use Rattle.nb_entries.proofs.KeptRuns.RunReadLemmas.{none_reach, starts_late, between_read}
 use Rattle.nb_entries.proofs.cover.runs.reading.bytes_between.Goals as goal
 
 pub returns-in-None : goal.returns-in-None
-returns-in-None c = none_reach (runs_in c.args.rows.now) c.args.from c.args.to c.in-None.ensures (omega arith)
+returns-in-None c = none_reach (kept_runs c.args.kept.now) c.args.from c.args.to c.in-None.ensures (omega arith)
 
 pub returns-then-from-start : goal.returns-then-from-start
 returns-then-from-start c =
     let first = c.in-Some.ensures in
-    starts_late (runs_in c.args.rows.now) first.index c.args.from c.args.to _ c.requires.apart first.before first.inside first.is (omega arith) (omega arith)
+    starts_late (kept_runs c.args.kept.now) first.index c.args.from c.args.to _ c.requires.apart first.before first.inside first.is (omega arith) (omega arith)
 
 pub slice_bounds-result-end-2 : goal.slice_bounds-result-end-2
 slice_bounds-result-end-2 c =
@@ -19,4 +19,4 @@ slice_bounds-result-end-2 c =
 pub returns : goal.returns
 returns c =
     let first = c.in-Some.ensures in
-    rw c.start-start.ensures (between_read (runs_in c.args.rows.now) first.index c.args.from c.args.to _ c.bytes.result.now c.requires.apart first.inside first.is (omega arith) c.requires.order first.reaches c.bytes.ensures)
+    rw c.start-start.ensures (between_read (kept_runs c.args.kept.now) first.index c.args.from c.args.to _ c.bytes.result.now c.requires.apart first.inside first.is (omega arith) c.requires.order first.reaches c.bytes.ensures)

@@ -1,12 +1,12 @@
 use Rattle.std.proofs.Common.{◌≡◌, ◌++◌, ap, sym, subst, take, ◌∙◌, append_assoc}
-use Rattle.nb_entries.specs.Code.Rows.{values_in}
+use Rattle.nb_entries.specs.Code.Rows.{kept_values}
 use Rattle.nb_entries.specs.Code.RunSteps.{run_at, look_with, AreFirst}
 use Rattle.nb_entries.proofs.KeptRuns.RunReadLemmas.{made_first}
 use Rattle.nb_entries.proofs.cover.runs.reading.bytes_with.Goals as goal
 
 pub returns : goal.returns
 returns c =
-    let rs = values_in c.args.rows.now in
+    let rs = kept_values c.args.kept.now in
     let f = run_at c.args.start c.args.bytes.now in
     let front = c.in-Some.front.now in
     let middle = take c.min-count.result c.args.bytes.now in

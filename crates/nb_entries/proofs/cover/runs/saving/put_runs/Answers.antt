@@ -2,14 +2,14 @@ use Rattle.std.proofs.Common.{length, map, refl, sym, ap, ◌∙◌}
 use Rattle.std.specs.Int.{w16, to_be_bytes}
 use Rattle.std.specs.List.{concat}
 use Rattle.nb_entries.specs.Code.RunSteps.{value_of, values_of}
-use Rattle.nb_entries.specs.Code.Rows.{values_in}
+use Rattle.nb_entries.specs.Code.Rows.{kept_values}
 use Rattle.nb_entries.specs.Saved.{run_bytes, runs_bytes}
 use Rattle.nb_entries.specs.Shared.PuttingLemmas.{begun, told, turn, stop}
 use Rattle.nb_entries.proofs.cover.runs.saving.put_runs.Goals as goal
 
 pub returns-in_err-put_two_bytes : goal.returns-in_err-put_two_bytes
 returns-in_err-put_two_bytes g c =
-    let runs = values_in c.args.rows.now in
+    let runs = kept_values c.args.kept.now in
     let laws = g.met.S.ByteSink.laws in
     let none = begun laws c.args.sink.now (runs_bytes runs) in
     let count = ap (to_be_bytes w16) c.runs_in.ensures in
@@ -18,7 +18,7 @@ returns-in_err-put_two_bytes g c =
 
 pub loop-run-init : goal.loop-run-init
 loop-run-init g c =
-    let runs = values_in c.args.rows.now in
+    let runs = kept_values c.args.kept.now in
     let laws = g.met.S.ByteSink.laws in
     let none = begun laws c.args.sink.now (runs_bytes runs) in
     let count = ap (to_be_bytes w16) c.runs_in.ensures in

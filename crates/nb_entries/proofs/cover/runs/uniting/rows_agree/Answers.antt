@@ -1,7 +1,7 @@
 use Rattle.std.proofs.Common.{◌≡◌, true, false, ◌∷◌, refl, sym, ap, ◌∙◌, subst}
 use Rattle.nb_entries.specs.Runs.{AreApart}
 use Rattle.nb_entries.specs.Code.RunSteps.{value_of, values_of, Agree, RowsAgree}
-use Rattle.nb_entries.specs.Code.Rows.{values_in}
+use Rattle.nb_entries.specs.Code.Rows.{kept_values}
 use Rattle.nb_entries.proofs.KeptRuns.EachRunLemmas.{value_is, agree_first, agree_rest, agree_more}
 use Rattle.nb_entries.proofs.cover.runs.uniting.rows_agree.Goals as goal
 
@@ -10,14 +10,14 @@ loop-run-init c =
     let order = ap values_of (c.into_iter-run-iterator.ensures.into_iter_gives ∙ c.of-run-items.ensures) in
     record {
       apart = subst AreApart (sym order) c.requires.other_apart;
-      onward = λ h. subst (RowsAgree (values_in c.args.rows.now)) order h;
-      back = λ h. subst (RowsAgree (values_in c.args.rows.now)) (sym order) h;
+      onward = λ h. subst (RowsAgree (kept_values c.args.kept.now)) order h;
+      back = λ h. subst (RowsAgree (kept_values c.args.kept.now)) (sym order) h;
     }
 
 pub returns-then-not-bytes_agree : goal.returns-then-not-bytes_agree
 returns-then-not-bytes_agree c = (
   λ h. (let clash : false ≡ true = h in absurd (cc)),
-  λ h. (let rs = values_in c.args.rows.now in
+  λ h. (let rs = kept_values c.args.kept.now in
       let run = c.in-Some.run'.now in
       let left = subst (RowsAgree rs) (ap values_of c.in-Some.ensures.steps) (c.loop-run.invariant.back h) in
       c.if-not-bytes_agree.ensures.1 (subst (Agree rs) (sym (value_is run c.start.result c.bytes.result.now c.start.ensures c.bytes.ensures)) (agree_first rs (value_of run) (values_of c.next.new.self) left))),
@@ -25,7 +25,7 @@ returns-then-not-bytes_agree c = (
 
 pub loop-run-preserved : goal.loop-run-preserved
 loop-run-preserved c =
-    let rs = values_in c.args.rows.now in
+    let rs = kept_values c.args.kept.now in
     let run = c.in-Some.run'.now in
     let rest = values_of c.next.new.self in
     let step = ap values_of c.in-Some.ensures.steps in
@@ -39,6 +39,6 @@ loop-run-preserved c =
 
 pub returns : goal.returns
 returns c = (
-  λ _. c.loop-run.invariant.onward (subst (RowsAgree (values_in c.args.rows.now)) (sym (ap values_of c.in-None.ensures.steps.0)) (record { same = λ q x y e g. absurd (cc) })),
+  λ _. c.loop-run.invariant.onward (subst (RowsAgree (kept_values c.args.kept.now)) (sym (ap values_of c.in-None.ensures.steps.0)) (record { same = λ q x y e g. absurd (cc) })),
   λ _. refl,
 )

@@ -4,7 +4,7 @@ use Rattle.nb_entries.specs.Code.RunSteps.{values_of, run_at, Agree}
 use Rattle.nb_entries.proofs.KeptRuns.RunReadLemmas.{touched_at, touched_back}
 use Rattle.nb_entries.proofs.KeptRuns.RowsLemmas.{apart_at}
 use Rattle.nb_entries.proofs.KeptRuns.RowsPutLemmas.{row_agrees, rows_met}
-use Rattle.nb_entries.proofs.cover.runs.reading.bytes_agree.Goals as goal
+use Rattle.nb_entries.proofs.cover.runs.reading.all_agree.Goals as goal
 
 pub row_agrees-requires : goal.row_agrees-requires
 row_agrees-requires c =

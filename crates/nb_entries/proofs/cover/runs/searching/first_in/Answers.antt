@@ -6,7 +6,7 @@ use Rattle.nb_entries.specs.Code.Rows.{values_in}
 use Rattle.nb_entries.specs.Runs.{AreApart}
 use Rattle.std.proofs.lemmas.List.{take_all}
 use Rattle.nb_entries.proofs.KeptRuns.RowsLemmas.{inside_row}
-use Rattle.nb_entries.proofs.cover.runs.searching.first_to.Goals as goal
+use Rattle.nb_entries.proofs.cover.runs.searching.first_in.Goals as goal
 
 pub returns-then-at-rows : goal.returns-then-at-rows
 returns-then-at-rows c = subst (λ rs. EndBefore c.args.place (values_in rs)) (take_all c.row_to-at.result c.args.rows.now (omega (arith, c.if-at-rows.true))) c.row_to-at.ensures.before

@@ -1,3 +1,5 @@
 mod ArgumentLemmas
+mod MarkLemmas
+mod RefusalLemmas
 mod BuiltLemmas
 mod BuildingTurns

@@ -1,13 +1,13 @@
 -- What the texts of arguments stand for, and words one by one.
-use Rattle.std.proofs.Common.{◌≡◌, ℕ, ◌≤◌, ◌<◌, true, List, [], ◌∷◌, length, get_or, map, refl, sym, ap, ◌∙◌, arith, Result, Ok}
+use Rattle.std.proofs.Common.{◌≡◌, ℕ, zero, suc, ◌+◌, ◌≤◌, ◌<◌, ◌^◌, true, List, [], ◌∷◌, length, get_or, map, refl, sym, ap, ◌∙◌, arith, Result, Ok, Err}
 use Rattle.std.specs.List.{list_all}
 use Rattle.std.specs.Char.{is_ascii_digit, digit_value}
 use Rattle.std.specs.Fmt.{decimal}
 use Rattle.std.specs.Str.Parse.{AllDigits, ParsesUnsigned, digits_value}
 use Rattle.std.proofs.lemmas.Bool.{and_parts}
 use Rattle.std.proofs.lemmas.Bool.Decides.{nat_tests}
-use Rattle.std.proofs.lemmas.Fmt.{decimal-digits_value}
-use Rattle.std.proofs.lemmas.Str.Parse.{IsNumeralModel, parse_digits, numerals_by_value, tells_digits}
+use Rattle.std.proofs.lemmas.Fmt.{decimal_injective, decimal-digits_value, decimal_digit, digits_decimal, first_decimal, parse-decimal}
+use Rattle.std.proofs.lemmas.Str.Parse.{IsNumeralModel, digit_from_value, parse_digits, numerals_by_value, tells_digits}
 use Rattle.nb_building.specs.Built.{NumberText}
 
 -- ---- decimal numbers
@@ -33,6 +33,41 @@ number_from_parse {E} text r n is h shortest parsed =
     let p = parse_digits by_value {E = E} 32 text (Ok n) (rw is at parsed) all in
     let one : get_or text 0 0 ≡ 48 → length text ≡ 1 = λ zero. omega (arith, shortest zero, p.0.0) in
     (rw p.1 (omega (arith, p.0.1)), sym (decimal-digits_value by_value text all p.0.0 one (omega (arith, p.0.1))) ∙ ap decimal (sym p.1))
+
+-- digits pass the test
+digit_passes : (c : ℕ) → digit_value c < 10 → is_ascii_digit c ≡ true
+digit_passes c h = let within = digit_from_value c h in grind (arith, nat_tests, within)
+
+passes-from_AllDigits : (text : List ℕ) → AllDigits 10 text → list_all is_ascii_digit text ≡ true
+passes-from_AllDigits [] h = refl
+passes-from_AllDigits (c ∷ cs) h = rw (digit_passes c h.0) (passes-from_AllDigits cs h.1)
+
+pub AllDigits-decimal : (n : ℕ) → n < 2 ^ 64 → AllDigits 10 (decimal n)
+AllDigits-decimal n small = digits_decimal by_value n small
+
+-- a number's text is of digits, and has no leading zero
+pub decimal_passes : (n : ℕ) (text : List ℕ) → NumberText 4294967295 n text → list_all is_ascii_digit text ≡ true
+decimal_passes n text h = rw (h.1) (passes-from_AllDigits (decimal n) (AllDigits-decimal n (omega (arith, h.0))))
+
+decimal_leads : (n : ℕ) → n < 2 ^ 64 → get_or (decimal n) 0 0 ≡ 48 → length (decimal n) < 2
+decimal_leads zero small leads = rw (decimal_digit 0 (omega arith)) (omega arith)
+decimal_leads (suc n) small leads = absurd (omega (arith, leads, first_decimal (suc n) (omega arith) small))
+
+pub number_leads : (n : ℕ) (text : List ℕ) → NumberText 4294967295 n text → get_or text 0 0 ≡ 48 → length text < 2
+number_leads n text h = rw (h.1) (decimal_leads n (omega (arith, h.0)))
+
+-- what is not parsed is no number
+pub no_number_from_parse : {E : Type 0} (text : List ℕ) (r : Result ℕ E) (e : E) → r ≡ Err e → ParsesUnsigned 32 10 text r
+    → (n : ℕ) → ¬ NumberText 4294967295 n text
+no_number_from_parse text r e is parsed n h =
+    let read = parse-decimal 32 n text r (omega (arith, h.0)) (omega (arith, h.0)) h.1 parsed in absurd (cc (is, read))
+
+-- a number that is too great is no less
+pub none_so_small : (text : List ℕ) (most n : ℕ) → most ≤ 4294967295 → NumberText 4294967295 n text → ¬ (n < most + 1)
+    → (m : ℕ) → ¬ NumberText most m text
+none_so_small text most n low is far m h =
+    let same = decimal_injective m n (omega (arith, low, h.0)) (omega (arith, is.0)) (sym h.1 ∙ is.1) in
+    far (omega (arith, same, h.0))
 
 -- ---- words, one by one
 

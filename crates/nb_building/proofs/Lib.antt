@@ -1,3 +1,8 @@
 mod ArgumentLemmas
+mod MarkLemmas
+mod RefusalLemmas
+mod UnnamedLemmas
+mod DatagramWordLemmas
+mod ServiceWordLemmas
 mod BuiltLemmas
 mod BuildingTurns

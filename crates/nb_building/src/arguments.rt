@@ -1,10 +1,13 @@
 //! Words as the parts of packets. Decimal numbers have no leading zeros; hexadecimal digits are
 //! read in either case.
-ghost use Rattle.std.specs.Prelude.{◌≡◌, ◌≢◌, ◌<◌, ◌++◌, ◌∷◌, IsTrue, MatchResult, true, length, slice_index};
+ghost use Rattle.std.specs.Prelude.{◌≡◌, ◌≢◌, ◌<◌, ◌^◌, ◌++◌, [], ◌∷◌, ℕ, List, IsTrue, MatchResult, true, length, slice_index};
 ghost use Rattle.std.specs.List.{list_all};
 ghost use Rattle.std.specs.Char.{is_ascii_digit};
+ghost use Rattle.std.specs.Int.{w16, to_be_bytes};
+ghost use Rattle.std.specs.Fmt.{decimal};
 ghost use Rattle.nb_names.specs.Hexadecimal.{DataText};
 ghost use Rattle.nb_building.specs.Built.{AddressText, CodeText, EntryTexts, KeyText, NumberText, WordText};
+ghost use Rattle.nb_building.specs.Refusals.{IsRefused, NamesNone, SplitsAt};
 
 use crate::build_fault::BuildFault;
 use nb_datagram::Key;
@@ -15,10 +18,18 @@ use std::alloc::Global;
 /// A word of a packet, as an identifier or flags: four hexadecimal digits.
 pub fn word(alloc: Global, text: &str) -> Result<u16, BuildFault>
     ensures { MatchResult result (λ number. WordText number text.now)
-        (λ fault. fault ≢ BuildFault.TooLong) }
+        (IsRefused (λ number. WordText number text.now)) }
 {
     let digits = bytes_of_digits(alloc, text.as_bytes())?;
-    match digits.as_slice() {
+    word_of(digits.as_slice())
+}
+
+/// The number of sixteen bits that two bytes are.
+fn word_of(bytes: &[u8]) -> Result<u16, BuildFault>
+    ensures { MatchResult result (λ number. (number < 2 ^ 16) × (bytes.now ≡ to_be_bytes w16 number))
+        (λ fault. (fault ≡ BuildFault.Arguments) × (length bytes.now ≢ 2)) }
+{
+    match bytes {
         [high, low] => Ok(u16::from_be_bytes([*high, *low])),
         _ => Err(BuildFault::Arguments),
     }
@@ -27,10 +38,18 @@ pub fn word(alloc: Global, text: &str) -> Result<u16, BuildFault>
 /// A code: two hexadecimal digits.
 pub fn code(alloc: Global, text: &str) -> Result<u8, BuildFault>
     ensures { MatchResult result (λ code. CodeText code text.now)
-        (λ fault. fault ≢ BuildFault.TooLong) }
+        (IsRefused (λ code. CodeText code text.now)) }
 {
     let digits = bytes_of_digits(alloc, text.as_bytes())?;
-    match digits.as_slice() {
+    code_of(digits.as_slice())
+}
+
+/// The number that one byte is.
+fn code_of(bytes: &[u8]) -> Result<u8, BuildFault>
+    ensures { MatchResult result (λ code. bytes.now ≡ code ∷ [])
+        (λ fault. (fault ≡ BuildFault.Arguments) × (length bytes.now ≢ 1)) }
+{
+    match bytes {
         [code] => Ok(*code),
         _ => Err(BuildFault::Arguments),
     }
@@ -39,7 +58,7 @@ pub fn code(alloc: Global, text: &str) -> Result<u8, BuildFault>
 /// A decimal number to 4,294,967,295.
 pub fn long_number(text: &str) -> Result<u32, BuildFault>
     ensures { MatchResult result (λ number. NumberText 4294967295 number text.now)
-        (λ fault. fault ≢ BuildFault.TooLong) }
+        (NamesNone (λ number. NumberText 4294967295 number text.now)) }
 {
     if !is_decimal(text) {
         return Err(BuildFault::Arguments);
@@ -53,7 +72,7 @@ pub fn long_number(text: &str) -> Result<u32, BuildFault>
 /// A decimal number to 65,535.
 pub fn number(text: &str) -> Result<u16, BuildFault>
     ensures { MatchResult result (λ number. NumberText 65535 number text.now)
-        (λ fault. fault ≢ BuildFault.TooLong) }
+        (NamesNone (λ number. NumberText 65535 number text.now)) }
 {
     match u16::try_from(long_number(text)?) {
         Ok(number) => Ok(number),
@@ -64,23 +83,18 @@ pub fn number(text: &str) -> Result<u16, BuildFault>
 /// An IPv4 address: four decimal numbers to 255, with dots between them.
 pub fn address(text: &str) -> Result<[u8; 4], BuildFault>
     ensures { MatchResult result (λ address. AddressText address text.now)
-        (λ fault. fault ≢ BuildFault.TooLong) }
+        (NamesNone (λ address. AddressText address text.now)) }
 {
-    let (first, rest) = parts(text, '.')?;
-    let (second, rest) = parts(rest, '.')?;
-    let (third, fourth) = parts(rest, '.')?;
-    Ok([
-        small_number(first)?,
-        small_number(second)?,
-        small_number(third)?,
-        small_number(fourth)?,
-    ])
+    let (first, rest) = before_dot(text)?;
+    let (second, rest) = before_dot(rest)?;
+    let (third, rest) = before_dot(rest)?;
+    Ok([first, second, third, small_number(rest)?])
 }
 
 /// An address entry of a packet, of its flags and its address.
 pub fn entry(alloc: Global, flags: &str, place: &str) -> Result<AddressEntry, BuildFault>
     ensures { MatchResult result (λ entry. EntryTexts entry flags.now place.now)
-        (λ fault. fault ≢ BuildFault.TooLong) }
+        (IsRefused (λ entry. EntryTexts entry flags.now place.now)) }
 {
     Ok(AddressEntry {
         flags: word(alloc, flags)?,
@@ -91,7 +105,7 @@ pub fn entry(alloc: Global, flags: &str, place: &str) -> Result<AddressEntry, Bu
 /// A datagram's key: its sender's address and port, and the identifier, as `10.0.0.5:138/0001`.
 pub fn key(alloc: Global, text: &str) -> Result<Key, BuildFault>
     ensures { MatchResult result (λ key. KeyText key text.now)
-        (λ fault. fault ≢ BuildFault.TooLong) }
+        (IsRefused (λ key. KeyText key text.now)) }
 {
     let (place, id) = parts(text, '/')?;
     let (ip, port) = parts(place, ':')?;
@@ -105,7 +119,7 @@ pub fn key(alloc: Global, text: &str) -> Result<Key, BuildFault>
 /// Data: hexadecimal digits, two a byte and at least two, or `empty`.
 pub fn data(alloc: Global, text: &str) -> Result<Bytes, BuildFault>
     ensures { MatchResult result (λ bytes. DataText bytes text.now)
-        (λ fault. fault ≢ BuildFault.TooLong) }
+        (IsRefused (λ bytes. DataText bytes text.now)) }
 {
     Ok(data_of_text(alloc, text.as_bytes())?)
 }
@@ -113,8 +127,8 @@ pub fn data(alloc: Global, text: &str) -> Result<Bytes, BuildFault>
 /// What stands before the first of these marks, which is ASCII, and what stands behind it.
 fn parts(text: &str, mark: char) -> Result<(&str, &str), BuildFault>
     requires { mark < 128 }
-    ensures { MatchResult result (λ parts. text.now ≡ parts.0.now ++ mark ∷ parts.1.now)
-        (λ fault. fault ≢ BuildFault.TooLong) }
+    ensures { MatchResult result (λ parts. SplitsAt mark text.now parts.0.now parts.1.now)
+        (NamesNone (λ (parts : List ℕ × List ℕ). text.now ≡ parts.0 ++ mark ∷ parts.1)) }
 {
     match text.split_once(mark) {
         Some(parts) => Ok(parts),
@@ -122,10 +136,21 @@ fn parts(text: &str, mark: char) -> Result<(&str, &str), BuildFault>
     }
 }
 
+/// The decimal number to 255 before the first dot, and what stands behind it.
+fn before_dot(text: &str) -> Result<(u8, &str), BuildFault>
+    ensures { MatchResult result
+        (λ parts. (parts.0 < 256) × (text.now ≡ decimal parts.0 ++ 46 ∷ parts.1.now))
+        (NamesNone (λ (parts : ℕ × List ℕ). (parts.0 < 256)
+        × (text.now ≡ decimal parts.0 ++ 46 ∷ parts.1))) }
+{
+    let (number, rest) = parts(text, '.')?;
+    Ok((small_number(number)?, rest))
+}
+
 /// A decimal number to 255.
 fn small_number(text: &str) -> Result<u8, BuildFault>
     ensures { MatchResult result (λ number. NumberText 255 number text.now)
-        (λ fault. fault ≢ BuildFault.TooLong) }
+        (NamesNone (λ number. NumberText 255 number text.now)) }
 {
     match u8::try_from(long_number(text)?) {
         Ok(number) => Ok(number),
@@ -137,6 +162,8 @@ fn small_number(text: &str) -> Result<u8, BuildFault>
 fn is_decimal(text: &str) -> bool
     ensures leading { IsTrue result → slice_index text.now 0 ≡ 48 → length text.now < 2 }
     ensures digits { IsTrue result → list_all is_ascii_digit text.now ≡ true }
+    ensures only { (slice_index text.now 0 ≡ 48 → length text.now < 2)
+        → list_all is_ascii_digit text.now ≡ true → IsTrue result }
 {
     let digits = text.as_bytes();
     if !has_no_leading_zero(digits) {
@@ -147,7 +174,8 @@ fn is_decimal(text: &str) -> bool
 
 /// Whether more than one digit don't begin with a zero.
 fn has_no_leading_zero(digits: &[u8]) -> bool
-    ensures { IsTrue result → slice_index digits.now 0 ≡ 48 → length digits.now < 2 }
+    ensures leading { IsTrue result → slice_index digits.now 0 ≡ 48 → length digits.now < 2 }
+    ensures only { (slice_index digits.now 0 ≡ 48 → length digits.now < 2) → IsTrue result }
 {
     if digits.len() < 2 {
         return true;

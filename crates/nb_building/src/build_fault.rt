@@ -31,10 +31,10 @@ impl From<TextFault> for BuildFault {
 }
 
 impl From<DigitsFault> for BuildFault {
-    ghost use Rattle.std.specs.Prelude.{◌≢◌};
-    ghost use Rattle.nb_building.specs.declared.build_fault.BuildFault.TheVariants.{TooLong};
+    ghost use Rattle.std.specs.Prelude.{◌≡◌};
+    ghost use Rattle.nb_building.specs.Refusals.{of_digits};
 
-    ghost from_gives = { λ _ made. made ≢ TooLong };
+    ghost from_gives = { λ fault made. made ≡ of_digits fault };
 
     fn from(fault: DigitsFault) -> BuildFault {
         match fault {
@@ -79,10 +79,9 @@ impl<T: Drop> From<AllocFailed<T>> for BuildFault {
 
 impl From<CutFault> for BuildFault {
     ghost use Rattle.std.specs.Prelude.{◌≡◌};
-    ghost use Rattle.nb_datagram.specs.declared.cut_fault.CutFault.TheVariants as cut_fault;
-    ghost use Rattle.nb_building.specs.declared.build_fault.BuildFault.TheVariants.{TooLong};
+    ghost use Rattle.nb_building.specs.Refusals.{of_cut};
 
-    ghost from_gives = { λ fault made. made ≡ TooLong → fault ≡ cut_fault.TooLong };
+    ghost from_gives = { λ fault made. made ≡ of_cut fault };
 
     fn from(fault: CutFault) -> BuildFault {
         match fault {

@@ -1,6 +1,8 @@
 //! The packets that words name, as the lines of a capture.
 ghost use Rattle.std.specs.Prelude.{◌≡◌, ◌++◌, Bool, map, IfErr, IfOk, OnOk, string_bytes};
 ghost use Rattle.nb_building.specs.Building.{AreLinesOf, payload_line, payload_lines};
+ghost use Rattle.nb_building.specs.Built.{IsServiceBuilt, IsSessionBuilt, Names, NamesDatagrams};
+ghost use Rattle.nb_building.specs.Refusals.{Unnamed};
 ghost use Rattle.nb_building.specs.TooMuchData.{GiveTooMuch};
 
 use crate::build_fault::BuildFault;
@@ -73,6 +75,7 @@ fn service_line(
         (string_bytes lines)) }
     ensures too_long { IfErr result (λ fault. fault ≡ BuildFault.TooLong →
         GiveTooMuch what.now (map (λ w. w.now) words.now)) }
+    ensures refused { IfErr result (Unnamed (IsServiceBuilt broadcast what.now (map (λ w. w.now) words.now))) }
 {
     let packet = service::build(alloc, what, words, broadcast)?;
     Ok(line(alloc, 137, &packet)?)
@@ -84,6 +87,7 @@ fn session_line(alloc: Global, what: &str, words: &[&str]) -> Result<String, Bui
         AreLinesOf broadcast what.now (map (λ w. w.now) words.now) (string_bytes lines)) }
     ensures too_long { IfErr result (λ fault. fault ≡ BuildFault.TooLong →
         GiveTooMuch what.now (map (λ w. w.now) words.now)) }
+    ensures refused { IfErr result (Unnamed (IsSessionBuilt what.now (map (λ w. w.now) words.now))) }
 {
     let packet = session::build(alloc, what, words)?;
     Ok(line(alloc, 139, &packet)?)
@@ -95,6 +99,7 @@ fn datagram_lines(alloc: Global, what: &str, words: &[&str]) -> Result<String, B
         AreLinesOf broadcast what.now (map (λ w. w.now) words.now) (string_bytes lines)) }
     ensures too_long { IfErr result (λ fault. fault ≡ BuildFault.TooLong →
         GiveTooMuch what.now (map (λ w. w.now) words.now)) }
+    ensures refused { IfErr result (Unnamed (NamesDatagrams what.now (map (λ w. w.now) words.now))) }
 {
     let packets = datagram::build(alloc, what, words)?;
     Ok(lines(alloc, 138, packets.as_slice())?)

@@ -5,6 +5,7 @@ ghost use Rattle.nb_datagram.specs.Pieces.{AreTooLong, pieces};
 ghost use Rattle.nb_datagram.specs.Texts.{kind_text};
 ghost use Rattle.nb_text.specs.Words.{query_word};
 ghost use Rattle.nb_building.specs.Built.{NamesDatagrams};
+ghost use Rattle.nb_building.specs.Refusals.{Unnamed};
 ghost use Rattle.nb_building.specs.TooMuchData.{GiveTooMuch};
 
 use crate::arguments::{code, data, key, number};
@@ -26,6 +27,7 @@ pub fn build(alloc: Global, what: &str, words: &[&str]) -> Result<Items<Bytes>, 
     ensures built { IfOk result (NamesDatagrams what.now (map (λ w. w.now) words.now)) }
     ensures too_long { IfErr result (λ fault. fault ≡ BuildFault.TooLong →
         GiveTooMuch what.now (map (λ w. w.now) words.now)) }
+    ensures refused { IfErr result (Unnamed (NamesDatagrams what.now (map (λ w. w.now) words.now))) }
 {
     match what {
         "unique" => fragments(alloc, Kind::Unique, words),
@@ -44,6 +46,7 @@ fn fragments(alloc: Global, kind: Kind, words: &[&str]) -> Result<Items<Bytes>, 
     ensures built { IfOk result (NamesDatagrams (kind_text kind) (map (λ w. w.now) words.now)) }
     ensures too_long { IfErr result (λ fault. fault ≡ BuildFault.TooLong →
         GiveTooMuch (kind_text kind) (map (λ w. w.now) words.now)) }
+    ensures refused { IfErr result (Unnamed (NamesDatagrams (kind_text kind) (map (λ w. w.now) words.now))) }
 {
     let [place, source, destination, digits, most] = words else {
         return Err(BuildFault::Arguments);
@@ -66,6 +69,8 @@ fn fragments_of(alloc: Global, datagram: &Datagram, most: u16) -> Result<Items<B
         map (λ piece. packet_bytes (Packet.Direct piece)) (pieces datagram.now most))) }
     ensures too_long { IfErr result (λ fault. fault ≡ BuildFault.TooLong →
         (1 ≤ most) × AreTooLong datagram.now most) }
+    ensures refused { IfErr result (λ fault. fault ≢ BuildFault.Memory →
+        1 ≤ most → AreTooLong datagram.now most) }
 {
     let pieces = cut(alloc, datagram, most)?;
     encoded_pieces(alloc, pieces)
@@ -75,7 +80,7 @@ fn fragments_of(alloc: Global, datagram: &Datagram, most: u16) -> Result<Items<B
 fn encoded_pieces(alloc: Global, pieces: Pieces<'_>) -> Result<Items<Bytes>, BuildFault>
     ensures built { IfOk result (λ packets. packets ≡
         map (λ piece. packet_bytes (Packet.Direct piece)) pieces.entry) }
-    ensures too_long { IfErr result (λ fault. fault ≢ BuildFault.TooLong) }
+    ensures memory { IfErr result (λ fault. fault ≡ BuildFault.Memory) }
 {
     let mut packets = Items::from_vec(Vec::new(alloc));
     for piece in pieces.into_vec() {
@@ -88,6 +93,8 @@ fn encoded_pieces(alloc: Global, pieces: Pieces<'_>) -> Result<Items<Bytes>, Bui
 fn error(alloc: Global, words: &[&str]) -> Result<Items<Bytes>, BuildFault>
     ensures built { IfOk result (NamesDatagrams (codes "error") (map (λ w. w.now) words.now)) }
     ensures too_long { IfErr result (λ fault. fault ≢ BuildFault.TooLong) }
+    ensures refused { IfErr result
+        (Unnamed (NamesDatagrams (codes "error") (map (λ w. w.now) words.now))) }
 {
     let [place, digits] = words else {
         return Err(BuildFault::Arguments);
@@ -102,6 +109,8 @@ fn error(alloc: Global, words: &[&str]) -> Result<Items<Bytes>, BuildFault>
 fn query(alloc: Global, kind: QueryKind, words: &[&str]) -> Result<Items<Bytes>, BuildFault>
     ensures built { IfOk result (NamesDatagrams (query_word kind) (map (λ w. w.now) words.now)) }
     ensures too_long { IfErr result (λ fault. fault ≢ BuildFault.TooLong) }
+    ensures refused { IfErr result
+        (Unnamed (NamesDatagrams (query_word kind) (map (λ w. w.now) words.now))) }
 {
     let [place, name] = words else {
         return Err(BuildFault::Arguments);
@@ -123,7 +132,7 @@ fn query(alloc: Global, kind: QueryKind, words: &[&str]) -> Result<Items<Bytes>,
 /// The bytes of one packet.
 fn alone(alloc: Global, packet: Packet<'_>) -> Result<Items<Bytes>, BuildFault>
     ensures built { IfOk result (λ packets. packets ≡ packet_bytes packet.entry ∷ []) }
-    ensures too_long { IfErr result (λ fault. fault ≢ BuildFault.TooLong) }
+    ensures memory { IfErr result (λ fault. fault ≡ BuildFault.Memory) }
 {
     let mut packets = Items::from_vec(Vec::new(alloc));
     push(alloc, packet, &mut packets)?;
@@ -133,7 +142,7 @@ fn alone(alloc: Global, packet: Packet<'_>) -> Result<Items<Bytes>, BuildFault>
 /// Adds the bytes of a packet after those of the others.
 fn push(alloc: Global, packet: Packet<'_>, packets: &mut Items<Bytes>) -> Result<(), BuildFault>
     ensures added { OnOk result (packets.new ≡ packets.old ++ packet_bytes packet.entry ∷ []) }
-    ensures too_long { IfErr result (λ fault. fault ≢ BuildFault.TooLong) }
+    ensures memory { IfErr result (λ fault. fault ≡ BuildFault.Memory) }
 {
     packets.push(encode(alloc, &packet)?)?;
     Ok(())

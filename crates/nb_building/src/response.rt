@@ -11,6 +11,7 @@ ghost use Rattle.nb_service.specs.Encoding.{packet_bytes};
 ghost use Rattle.nb_service.specs.Record.{ResourceData, ResourceRecord, record_of};
 ghost use Rattle.nb_building.specs.Built.{IsServiceBuilt, NumberText, WordText};
 ghost use Rattle.nb_building.specs.Responses.{HasRdata, response_packet, with_flag};
+ghost use Rattle.nb_building.specs.Refusals.{IsRefused, NamesNone, Unnamed};
 ghost use Rattle.nb_building.specs.TooMuchData.{GiveTooMuch};
 
 use crate::arguments::{data, long_number, word};
@@ -36,6 +37,8 @@ pub fn build(alloc: Global, words: &[&str], broadcast: bool) -> Result<Bytes, Bu
         (IsServiceBuilt broadcast (codes "response") (map (λ w. w.now) words.now)) }
     ensures too_long { IfErr result (λ fault. fault ≡ BuildFault.TooLong →
         GiveTooMuch (codes "response") (map (λ w. w.now) words.now)) }
+    ensures refused { IfErr result
+        (Unnamed (IsServiceBuilt broadcast (codes "response") (map (λ w. w.now) words.now))) }
 {
     let [id, flags, name, kind, ttl, digits] = words else {
         return Err(BuildFault::Arguments);
@@ -52,7 +55,7 @@ pub fn build(alloc: Global, words: &[&str], broadcast: bool) -> Result<Bytes, Bu
 fn flag_word(alloc: Global, digits: &str, broadcast: bool) -> Result<u16, BuildFault>
     ensures { MatchResult result (λ made. (number : ℕ) × WordText number digits.now
         × (made ≡ with_flag number broadcast))
-        (λ fault. fault ≢ BuildFault.TooLong) }
+        (IsRefused (λ number. WordText number digits.now)) }
 {
     let flags = word(alloc, digits)?;
     Ok(if broadcast {
@@ -66,7 +69,8 @@ fn flag_word(alloc: Global, digits: &str, broadcast: bool) -> Result<u16, BuildF
 fn kind_and_ttl(alloc: Global, kind: &str, ttl: &str) -> Result<(u16, u32), BuildFault>
     ensures { MatchResult result (λ both. WordText both.0 kind.now
         × NumberText 4294967295 both.1 ttl.now)
-        (λ fault. fault ≢ BuildFault.TooLong) }
+        (IsRefused (λ (both : ℕ × ℕ). WordText both.0 kind.now
+        × NumberText 4294967295 both.1 ttl.now)) }
 {
     Ok((word(alloc, kind)?, long_number(ttl)?))
 }
@@ -77,6 +81,7 @@ fn answer<'a>(name: &Name, kind: u16, ttl: u32, bytes: &'a [u8]) -> Result<Recor
         × (made ≡ record_of (labels_of_name name.now) kind IN ttl rdata)) }
     ensures too_long { IfErr result (λ fault. fault ≡ BuildFault.TooLong →
         (kind ≢ NS) × (65535 < length bytes.entry.now)) }
+    ensures refused { IfErr result (Unnamed (HasRdata kind bytes.entry.now)) }
 {
     match Record::bytes(name.to_domain(), kind, IN, ttl, bytes) {
         Ok(answer) => Ok(answer),
@@ -91,7 +96,7 @@ fn answer<'a>(name: &Name, kind: u16, ttl: u32, bytes: &'a [u8]) -> Result<Recor
 /// The domain name whose spelling the bytes are.
 fn domain_of(bytes: &[u8]) -> Result<DomainName, BuildFault>
     ensures { MatchResult result (λ labels. NameAt bytes.now Refused 0 labels (length bytes.now))
-        (λ fault. fault ≢ BuildFault.TooLong) }
+        (NamesNone (λ labels. NameAt bytes.now Refused 0 labels (length bytes.now))) }
 {
     match read_domain(bytes, 0, Pointers::Refused) {
         Ok((domain, next)) if next == bytes.len() => Ok(domain),
@@ -110,6 +115,7 @@ fn answered(
         × (bytes ≡ packet_bytes (packet_of id word [] (made ∷ []) [] []))) }
     ensures too_long { IfErr result (λ fault. fault ≡ BuildFault.TooLong →
         answer.entry ≡ Err BuildFault.TooLong) }
+    ensures refused { IfErr result (λ fault. fault ≢ BuildFault.Memory → answer.entry ≡ Err fault) }
 {
     match answer {
         Ok(answer) => encoded(alloc, id, word, answer),
@@ -121,7 +127,7 @@ fn answered(
 fn encoded(alloc: Global, id: u16, word: u16, answer: Record<'_>) -> Result<Bytes, BuildFault>
     ensures { MatchResult result (λ bytes.
         bytes ≡ packet_bytes (packet_of id word [] (answer.entry ∷ []) [] []))
-        (λ fault. fault ≢ BuildFault.TooLong) }
+        (λ fault. fault ≡ BuildFault.Memory) }
 {
     let packet = response(alloc, id, word, answer)?;
     Ok(encode(alloc, &packet)?)

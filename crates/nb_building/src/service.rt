@@ -1,8 +1,10 @@
 //! Name service packets from arguments.
-ghost use Rattle.std.specs.Prelude.{◌≡◌, ◌≢◌, ℕ, map, codes, IfErr, IfOk, MatchResult, Ok};
+ghost use Rattle.std.specs.Prelude.{◌≡◌, ◌≢◌, ◌⊎◌, ℕ, map, codes, IfErr, IfOk, MatchResult, Ok};
+ghost use Rattle.nb_service.specs.declared.address_entry.AddressEntry as entries;
 ghost use Rattle.nb_service.specs.Packet.{ServicePacket};
 ghost use Rattle.nb_service.specs.Encoding.{packet_bytes};
 ghost use Rattle.nb_building.specs.Built.{EntryTexts, IsServiceBuilt, NumberText};
+ghost use Rattle.nb_building.specs.Refusals.{IsRefused, Unnamed};
 ghost use Rattle.nb_building.specs.TooMuchData.{GiveTooMuch};
 
 use crate::arguments::{entry, long_number, word};
@@ -27,10 +29,14 @@ pub fn build(
     ensures built { IfOk result (IsServiceBuilt broadcast what.now (map (λ w. w.now) words.now)) }
     ensures too_long { IfErr result (λ fault. fault ≡ BuildFault.TooLong →
         GiveTooMuch what.now (map (λ w. w.now) words.now)) }
+    ensures refused { IfErr result
+        (Unnamed (IsServiceBuilt broadcast what.now (map (λ w. w.now) words.now))) }
 {
     match what {
-        "query" | "status" => question(alloc, what, words, broadcast),
-        "registration" | "refresh" => claim(alloc, what, words, broadcast),
+        "query" => question(alloc, what, words, broadcast),
+        "status" => question(alloc, what, words, broadcast),
+        "registration" => claim(alloc, what, words, broadcast),
+        "refresh" => claim(alloc, what, words, broadcast),
         "release" => withdrawal(alloc, words, broadcast),
         "response" => response::build(alloc, words, broadcast),
         _ => Err(BuildFault::Arguments),
@@ -39,8 +45,11 @@ pub fn build(
 
 /// A packet that asks for a name, or for a node's status, from ID NAME.
 fn question(alloc: Global, what: &str, words: &[&str], broadcast: bool) -> Result<Bytes, BuildFault>
+    requires { (what.now ≡ codes "query") ⊎ (what.now ≡ codes "status") }
     ensures built { IfOk result (IsServiceBuilt broadcast what.now (map (λ w. w.now) words.now)) }
     ensures too_long { IfErr result (λ fault. fault ≢ BuildFault.TooLong) }
+    ensures refused { IfErr result
+        (Unnamed (IsServiceBuilt broadcast what.now (map (λ w. w.now) words.now))) }
 {
     let [id, name] = words else {
         return Err(BuildFault::Arguments);
@@ -56,8 +65,11 @@ fn question(alloc: Global, what: &str, words: &[&str], broadcast: bool) -> Resul
 
 /// A packet that registers a name, or refreshes it, from ID NAME TTL FLAGS ADDRESS.
 fn claim(alloc: Global, what: &str, words: &[&str], broadcast: bool) -> Result<Bytes, BuildFault>
+    requires { (what.now ≡ codes "registration") ⊎ (what.now ≡ codes "refresh") }
     ensures built { IfOk result (IsServiceBuilt broadcast what.now (map (λ w. w.now) words.now)) }
     ensures too_long { IfErr result (λ fault. fault ≢ BuildFault.TooLong) }
+    ensures refused { IfErr result
+        (Unnamed (IsServiceBuilt broadcast what.now (map (λ w. w.now) words.now))) }
 {
     let [id, name, ttl, flags, place] = words else {
         return Err(BuildFault::Arguments);
@@ -83,6 +95,8 @@ fn withdrawal(alloc: Global, words: &[&str], broadcast: bool) -> Result<Bytes, B
     ensures built { IfOk result
         (IsServiceBuilt broadcast (codes "release") (map (λ w. w.now) words.now)) }
     ensures too_long { IfErr result (λ fault. fault ≢ BuildFault.TooLong) }
+    ensures refused { IfErr result
+        (Unnamed (IsServiceBuilt broadcast (codes "release") (map (λ w. w.now) words.now))) }
 {
     let [id, name, flags, place] = words else {
         return Err(BuildFault::Arguments);
@@ -102,7 +116,8 @@ fn claimed(
 ) -> Result<(u32, AddressEntry), BuildFault>
     ensures { MatchResult result (λ claim. NumberText 4294967295 claim.0 ttl.now
         × EntryTexts claim.1 flags.now place.now)
-        (λ fault. fault ≢ BuildFault.TooLong) }
+        (IsRefused (λ (claim : ℕ × entries.AddressEntry). NumberText 4294967295 claim.0 ttl.now
+        × EntryTexts claim.1 flags.now place.now)) }
 {
     Ok((long_number(ttl)?, entry(alloc, flags, place)?))
 }
@@ -111,7 +126,7 @@ fn claimed(
 fn encoded(alloc: Global, made: Result<Packet<'_>, NoMemory>) -> Result<Bytes, BuildFault>
     ensures built { IfOk result (λ bytes. (packet : ServicePacket) × (made.entry ≡ Ok packet)
         × (bytes ≡ packet_bytes packet)) }
-    ensures too_long { IfErr result (λ fault. fault ≢ BuildFault.TooLong) }
+    ensures memory { IfErr result (λ fault. fault ≡ BuildFault.Memory) }
 {
     match made {
         Ok(packet) => Ok(encode(alloc, &packet)?),

@@ -1,7 +1,8 @@
 //! Session packets from arguments.
-ghost use Rattle.std.specs.Prelude.{◌≡◌, ◌≢◌, [], map, codes, IfErr, IfOk};
+ghost use Rattle.std.specs.Prelude.{◌≡◌, ◌≢◌, [], map, codes, length, IfErr, IfOk};
 ghost use Rattle.nb_session.specs.Packet.{IsPacket};
 ghost use Rattle.nb_building.specs.Built.{IsSessionBuilt};
+ghost use Rattle.nb_building.specs.Refusals.{Unnamed};
 ghost use Rattle.nb_building.specs.TooMuchData.{GiveTooMuch};
 
 use crate::arguments::{address, code, data, number};
@@ -18,6 +19,7 @@ pub fn build(alloc: Global, what: &str, words: &[&str]) -> Result<Bytes, BuildFa
     ensures built { IfOk result (IsSessionBuilt what.now (map (λ w. w.now) words.now)) }
     ensures too_long { IfErr result (λ fault. fault ≡ BuildFault.TooLong →
         GiveTooMuch what.now (map (λ w. w.now) words.now)) }
+    ensures refused { IfErr result (Unnamed (IsSessionBuilt what.now (map (λ w. w.now) words.now))) }
 {
     match what {
         "request" => request(alloc, words),
@@ -34,6 +36,8 @@ pub fn build(alloc: Global, what: &str, words: &[&str]) -> Result<Bytes, BuildFa
 fn request(alloc: Global, words: &[&str]) -> Result<Bytes, BuildFault>
     ensures built { IfOk result (IsSessionBuilt (codes "request") (map (λ w. w.now) words.now)) }
     ensures too_long { IfErr result (λ fault. fault ≢ BuildFault.TooLong) }
+    ensures refused { IfErr result
+        (Unnamed (IsSessionBuilt (codes "request") (map (λ w. w.now) words.now))) }
 {
     let [called, calling] = words else {
         return Err(BuildFault::Arguments);
@@ -49,6 +53,8 @@ fn message(alloc: Global, words: &[&str]) -> Result<Bytes, BuildFault>
     ensures built { IfOk result (IsSessionBuilt (codes "message") (map (λ w. w.now) words.now)) }
     ensures too_long { IfErr result (λ fault. fault ≡ BuildFault.TooLong →
         GiveTooMuch (codes "message") (map (λ w. w.now) words.now)) }
+    ensures refused { IfErr result
+        (Unnamed (IsSessionBuilt (codes "message") (map (λ w. w.now) words.now))) }
 {
     let [digits] = words else {
         return Err(BuildFault::Arguments);
@@ -64,6 +70,8 @@ fn message(alloc: Global, words: &[&str]) -> Result<Bytes, BuildFault>
 fn negative(alloc: Global, words: &[&str]) -> Result<Bytes, BuildFault>
     ensures built { IfOk result (IsSessionBuilt (codes "negative") (map (λ w. w.now) words.now)) }
     ensures too_long { IfErr result (λ fault. fault ≢ BuildFault.TooLong) }
+    ensures refused { IfErr result
+        (Unnamed (IsSessionBuilt (codes "negative") (map (λ w. w.now) words.now))) }
 {
     let [digits] = words else {
         return Err(BuildFault::Arguments);
@@ -75,6 +83,8 @@ fn negative(alloc: Global, words: &[&str]) -> Result<Bytes, BuildFault>
 fn retarget(alloc: Global, words: &[&str]) -> Result<Bytes, BuildFault>
     ensures built { IfOk result (IsSessionBuilt (codes "retarget") (map (λ w. w.now) words.now)) }
     ensures too_long { IfErr result (λ fault. fault ≢ BuildFault.TooLong) }
+    ensures refused { IfErr result
+        (Unnamed (IsSessionBuilt (codes "retarget") (map (λ w. w.now) words.now))) }
 {
     let [place, port] = words else {
         return Err(BuildFault::Arguments);
@@ -88,6 +98,8 @@ fn retarget(alloc: Global, words: &[&str]) -> Result<Bytes, BuildFault>
 fn bare(alloc: Global, words: &[&str], packet: &Packet<'_>) -> Result<Bytes, BuildFault>
     ensures built { IfOk result (λ bytes. (words.now ≡ []) × IsPacket packet.now bytes) }
     ensures too_long { IfErr result (λ fault. fault ≢ BuildFault.TooLong) }
+    ensures refused { IfErr result
+        (λ fault. fault ≢ BuildFault.Memory → ¬ (length words.now ≡ 0)) }
 {
     match words {
         [] => encoded(alloc, packet),
@@ -98,7 +110,7 @@ fn bare(alloc: Global, words: &[&str], packet: &Packet<'_>) -> Result<Bytes, Bui
 /// The bytes of a packet.
 fn encoded(alloc: Global, packet: &Packet<'_>) -> Result<Bytes, BuildFault>
     ensures built { IfOk result (IsPacket packet.now) }
-    ensures too_long { IfErr result (λ fault. fault ≢ BuildFault.TooLong) }
+    ensures memory { IfErr result (λ fault. fault ≡ BuildFault.Memory) }
 {
     Ok(encode(alloc, packet)?)
 }

@@ -1,5 +1,7 @@
 use Rattle.nb_building.specs.Built.{positive, keepalive}
 use Rattle.nb_building.proofs.BuiltLemmas.{bare_built}
+use Rattle.std.proofs.Common.{ap}
+use Rattle.nb_building.proofs.UnnamedLemmas.{bare_unnamed, session_count}
 use Rattle.nb_building.proofs.session.build.Goals as goal
 
 pub returns-in-request-clause-built : goal.returns-in-request-clause-built
@@ -23,3 +25,12 @@ returns-in-keepalive-clause-built c =
 
 pub returns-in-message-clause-too_long : goal.returns-in-message-clause-too_long
 returns-in-message-clause-too_long c = rw c.in-message.is c.message.ensures.too_long
+
+pub returns-in-positive-clause-refused : goal.returns-in-positive-clause-refused
+returns-in-positive-clause-refused c =
+    bare_unnamed (λ w. w.now) _ c.args.words.now c.bare.result (ap session_count c.in-positive.is) c.bare.ensures.refused
+
+pub returns-in-keepalive-clause-refused : goal.returns-in-keepalive-clause-refused
+returns-in-keepalive-clause-refused c =
+    bare_unnamed (λ w. w.now) _ c.args.words.now c.bare-in-keepalive.result (ap session_count c.in-keepalive.is)
+    c.bare-in-keepalive.ensures.refused

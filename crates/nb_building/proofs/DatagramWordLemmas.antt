@@ -1,0 +1,149 @@
+-- Words that name no packets of port 138.
+use Rattle.std.proofs.Common.{◌≡◌, ◌≢◌, ◌<◌, ◌≤◌, ℕ, ◌+◌, ◌*◌, List, [], ◌∷◌, length, map, get_or, refl, sym, ap, ap₂, ◌∙◌, subst, arith, Contains, Result, Ok, Err}
+use Rattle.std.specs.Prelude.{codes, ◌==◌, if◌then◌else◌, slice_range}
+use Rattle.std.specs.Result.{IfErr}
+use Rattle.std.specs.List.{range_with_len}
+use Rattle.std.proofs.lemmas.List.{length-map, get_or-map}
+use Rattle.nb_names.specs.Hexadecimal.{DataText}
+use Rattle.nb_names.specs.Name.{NetbiosName}
+use Rattle.nb_names.specs.NameText.{IsText}
+use Rattle.nb_datagram.specs.declared.key.Key.{Key}
+use Rattle.nb_datagram.specs.declared.kind.Kind.{Kind}
+use Rattle.nb_datagram.specs.declared.kind.Kind.TheVariants.{Unique, Group, Broadcast}
+use Rattle.nb_datagram.specs.declared.limits.TheConstants.{MAX_LENGTH}
+use Rattle.nb_datagram.specs.declared.packet.QueryKind.{QueryKind}
+use Rattle.nb_datagram.specs.declared.packet.QueryKind.TheVariants.{Request, Positive, Negative}
+use Rattle.nb_datagram.specs.Texts.{kind_text}
+use Rattle.nb_text.specs.Words.{query_word}
+use Rattle.nb_datagram.specs.Datagram.{DatagramParts}
+use Rattle.nb_datagram.specs.Fragment.{FragmentParts, named_length}
+use Rattle.nb_datagram.specs.Pieces.{AreTooLong, piece, piece_count, pieces}
+use Rattle.std.proofs.lemmas.Fmt.{decimal_injective}
+use Rattle.nb_building.specs.declared.build_fault.BuildFault.{BuildFault}
+use Rattle.nb_building.specs.declared.build_fault.BuildFault.TheVariants.{Memory}
+use Rattle.nb_building.specs.Refusals.{Unnamed}
+use Rattle.nb_building.specs.Built.{CodeText, KeyText, NamesDatagrams, NumberText, error, fragments, queries}
+use Rattle.nb_building.proofs.UnnamedLemmas.{one_data}
+
+pub query_letter : (kind : QueryKind) → get_or (query_word kind) 0 0 ≢ 101
+query_letter Request is = absurd (omega (arith, is))
+query_letter Positive is = absurd (omega (arith, is))
+query_letter Negative is = absurd (omega (arith, is))
+
+-- ---- the words of each packet
+
+pub record FragmentWords (a b c e f : List ℕ) : Type 0 where
+  pub whole : DatagramParts
+  pub most : ℕ
+  pub key : KeyText whole.key a
+  pub source : IsText whole.source b
+  pub destination : IsText whole.destination c
+  pub bytes : DataText whole.bytes e
+  pub number : NumberText 65535 most f
+  pub some : 1 ≤ most
+  pub short : length whole.bytes ≤ 65535
+  pub fit : ¬ AreTooLong whole most
+
+pub fragment_words : (what : List ℕ) (texts payloads : List (List ℕ)) (a b c e f : List ℕ) → texts ≡ a ∷ b ∷ c ∷ e ∷ f ∷ []
+    → NamesDatagrams what texts payloads → FragmentWords a b c e f
+fragment_words _ _ _ a b c e f are (fragments d most a' b' c' e' f' is_a is_b is_c is_e is_f some short fit) =
+    record {
+      whole = d;
+      most = most;
+      key = subst (KeyText d.key) (ap (λ l. get_or l 0 []) are) is_a;
+      source = subst (IsText d.source) (ap (λ l. get_or l 1 []) are) is_b;
+      destination = subst (IsText d.destination) (ap (λ l. get_or l 2 []) are) is_c;
+      bytes = subst (DataText d.bytes) (ap (λ l. get_or l 3 []) are) is_e;
+      number = subst (NumberText 65535 most) (ap (λ l. get_or l 4 []) are) is_f;
+      some = some;
+      short = short;
+      fit = fit;
+    }
+fragment_words _ _ _ a b c e f are (error key code d g is_d is_g) = absurd (cc are)
+fragment_words _ _ _ a b c e f are (queries kind key name d g is_d is_g) = absurd (cc are)
+
+-- the first of two words is a key
+pub key_of_two : (what : List ℕ) (texts payloads : List (List ℕ)) (a b : List ℕ) → texts ≡ a ∷ b ∷ [] → NamesDatagrams what texts payloads
+    → (key : Key) × KeyText key a
+key_of_two _ _ _ a b are (fragments d most a' b' c e f is_a is_b is_c is_e is_f some short fit) = absurd (cc are)
+key_of_two _ _ _ a b are (error key code d g is_d is_g) = (key, subst (KeyText key) (ap (λ l. get_or l 0 []) are) is_d)
+key_of_two _ _ _ a b are (queries kind key name d g is_d is_g) = (key, subst (KeyText key) (ap (λ l. get_or l 0 []) are) is_d)
+
+pub code_of_two : (texts payloads : List (List ℕ)) (a b : List ℕ) → texts ≡ a ∷ b ∷ [] → NamesDatagrams (codes "error") texts payloads
+    → (code : ℕ) × CodeText code b
+code_of_two texts payloads a b are names = of_word (codes "error") texts payloads refl are names where
+  of_word : (what : List ℕ) (texts payloads : List (List ℕ)) → get_or what 0 0 ≡ 101 → texts ≡ a ∷ b ∷ [] → NamesDatagrams what texts payloads
+      → (code : ℕ) × CodeText code b
+  of_word _ _ _ is are (fragments d most a' b' c e f is_a is_b is_c is_e is_f some short fit) = absurd (cc are)
+  of_word _ _ _ is are (error key code d g is_d is_g) = (code, subst (CodeText code) (ap (λ l. get_or l 1 []) are) is_g)
+  of_word _ _ _ is are (queries kind key name d g is_d is_g) = absurd (query_letter kind is)
+
+pub name_of_two : (what : List ℕ) (texts payloads : List (List ℕ)) (a b : List ℕ) → get_or what 0 0 ≢ 101 → texts ≡ a ∷ b ∷ []
+    → NamesDatagrams what texts payloads → (name : NetbiosName) × IsText name b
+name_of_two _ _ _ a b other are (fragments d most a' b' c e f is_a is_b is_c is_e is_f some short fit) = absurd (cc are)
+name_of_two _ _ _ a b other are (error key code d g is_d is_g) = absurd (other refl)
+name_of_two _ _ _ a b other are (queries kind key name d g is_d is_g) = (name, subst (IsText name) (ap (λ l. get_or l 1 []) are) is_g)
+
+-- ---- how many words each takes
+
+abbrev pub count_of : List ℕ → ℕ
+count_of what = if get_or what 0 0 == 117 then 5 else if get_or what 0 0 == 103 then 5 else if get_or what 0 0 == 98 then 5 else 2
+
+pub kind_counted : (kind : Kind) → count_of (kind_text kind) ≡ 5
+kind_counted Unique = refl
+kind_counted Group = refl
+kind_counted Broadcast = refl
+
+pub query_counted : (kind : QueryKind) → count_of (query_word kind) ≡ 2
+query_counted Request = refl
+query_counted Positive = refl
+query_counted Negative = refl
+
+texts_counted : (what : List ℕ) (texts payloads : List (List ℕ)) → NamesDatagrams what texts payloads → length texts ≡ count_of what
+texts_counted _ _ _ (fragments d most a b c e f is_a is_b is_c is_e is_f some short fit) = sym (kind_counted d.kind)
+texts_counted _ _ _ (error key code d g is_d is_g) = refl
+texts_counted _ _ _ (queries kind key name d g is_d is_g) = sym (query_counted kind)
+
+pub words_counted : {A : Type 0} (f : A → List ℕ) (words : List A) (what : List ℕ) (payloads : List (List ℕ))
+    → NamesDatagrams what (map f words) payloads → length words ≡ count_of what
+words_counted f words what payloads names = sym (length-map words f) ∙ texts_counted what (map f words) payloads names
+
+-- ---- a datagram is too long whatever its key
+
+pub too_long_anyhow : (d e : DatagramParts) (m : ℕ) → d.source ≡ e.source → d.destination ≡ e.destination → d.bytes ≡ e.bytes
+    → AreTooLong d m → AreTooLong e m
+too_long_anyhow d e m source destination bytes (f, has, long) =
+    let places : List ℕ = range_with_len 0 (piece_count (length d.bytes) m) in
+    let same : range_with_len 0 (piece_count (length e.bytes) m) ≡ places =
+    ap (λ (l : List ℕ). range_with_len 0 (piece_count (length l) m)) (sym bytes) in
+    let within : has.0 < length places = omega (arith, has.1, length-map places (piece d m)) in
+    let is : piece d m (get_or places has.0 0) ≡ f = sym (get_or-map (piece d m) places has.0 0 f within) ∙ has.2 in
+    let g : FragmentParts = piece e m (get_or places has.0 0) in (
+      g,
+      rw same (has.0, omega (arith, within, length-map places (piece e m)), get_or-map (piece e m) places has.0 0 g within),
+      subst (λ (n : ℕ). MAX_LENGTH < n)
+          (ap (λ (p : FragmentParts). named_length p.source p.destination p.bytes) (sym is)
+          ∙ (λ i. named_length (source i) (destination i) (slice_range (bytes i) (get_or places has.0 0 * m) ((get_or places has.0 0 + 1) * m))))
+          long,
+    )
+
+-- words of parts that give a packet more data than it may have
+pub no_fragments : (texts payloads : List (List ℕ)) (a b c e f : List ℕ) (what : List ℕ) (d : DatagramParts) (most : ℕ)
+    → texts ≡ a ∷ b ∷ c ∷ e ∷ f ∷ [] → ((name : NetbiosName) → IsText name b → d.source ≡ name)
+    → ((name : NetbiosName) → IsText name c → d.destination ≡ name) → DataText d.bytes e → NumberText 65535 most f
+    → (1 ≤ most → AreTooLong d most) → ¬ NamesDatagrams what texts payloads
+no_fragments texts payloads a b c e f what d most are is_source is_destination is_bytes is_most long names =
+    let h = fragment_words what texts payloads a b c e f are names in
+    let same : h.most ≡ most = decimal_injective h.most most (omega (arith, h.number.0)) (omega (arith, is_most.0)) (sym h.number.1 ∙ is_most.1) in
+    h.fit (subst (AreTooLong h.whole) (sym same) (too_long_anyhow d h.whole most (is_source h.whole.source h.source)
+    (is_destination h.whole.destination h.destination) (one_data d.bytes h.whole.bytes e is_bytes h.bytes) (long (subst (λ (n : ℕ). 1 ≤ n) same h.some))))
+
+pub fragments_unnamed : {T : Type 0} (what : List ℕ) (texts : List (List ℕ)) (a b c e f : List ℕ) (d : DatagramParts) (most : ℕ)
+    (r : Result T BuildFault) → texts ≡ a ∷ b ∷ c ∷ e ∷ f ∷ []
+    → ((name : NetbiosName) → IsText name b → d.source ≡ name)
+    → ((name : NetbiosName) → IsText name c → d.destination ≡ name) → DataText d.bytes e
+    → NumberText 65535 most f → IfErr r (λ fault. fault ≢ Memory → 1 ≤ most → AreTooLong d most)
+    → IfErr r (Unnamed (NamesDatagrams what texts))
+fragments_unnamed what texts a b c e f d most (Ok x) are is_source is_destination is_bytes is_most long = tt
+fragments_unnamed what texts a b c e f d most (Err fault) are is_source is_destination is_bytes is_most long =
+    λ other payloads. no_fragments texts payloads a b c e f what d most are is_source is_destination is_bytes is_most (long other)

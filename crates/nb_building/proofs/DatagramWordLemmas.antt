@@ -1,5 +1,5 @@
 -- Words that name no packets of port 138.
-use Rattle.std.proofs.Common.{◌≡◌, ◌≢◌, ◌<◌, ◌≤◌, ℕ, ◌+◌, ◌*◌, List, [], ◌∷◌, length, map, get_or, refl, sym, ap, ap₂, ◌∙◌, subst, arith, Contains, Result, Ok, Err}
+use Rattle.std.proofs.Common.{◌≡◌, ◌≢◌, ◌<◌, ◌≤◌, ℕ, ◌+◌, ◌*◌, List, [], ◌∷◌, length, map, get_or, refl, sym, ap, ◌∙◌, subst, arith, Result, Ok, Err}
 use Rattle.std.specs.Prelude.{codes, ◌==◌, if◌then◌else◌, slice_range}
 use Rattle.std.specs.Result.{IfErr}
 use Rattle.std.specs.List.{range_with_len}
@@ -17,7 +17,7 @@ use Rattle.nb_datagram.specs.Texts.{kind_text}
 use Rattle.nb_text.specs.Words.{query_word}
 use Rattle.nb_datagram.specs.Datagram.{DatagramParts}
 use Rattle.nb_datagram.specs.Fragment.{FragmentParts, named_length}
-use Rattle.nb_datagram.specs.Pieces.{AreTooLong, piece, piece_count, pieces}
+use Rattle.nb_datagram.specs.Pieces.{AreTooLong, piece, piece_count}
 use Rattle.std.proofs.lemmas.Fmt.{decimal_injective}
 use Rattle.nb_building.specs.declared.build_fault.BuildFault.{BuildFault}
 use Rattle.nb_building.specs.declared.build_fault.BuildFault.TheVariants.{Memory}

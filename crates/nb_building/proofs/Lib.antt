@@ -6,3 +6,4 @@ mod DatagramWordLemmas
 mod ServiceWordLemmas
 mod BuiltLemmas
 mod BuildingTurns
+mod PortLemmas

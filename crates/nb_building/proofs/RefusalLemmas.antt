@@ -1,5 +1,5 @@
 -- Why words are refused, from why their parts are.
-use Rattle.std.proofs.Common.{◌≡◌, ◌≢◌, ◌⊎◌, inl, inr, ℕ, ◌<◌, ◌+◌, ◌*◌, ◌^◌, List, [], ◌∷◌, ◌++◌, length, Result, Ok, Err, refl, sym, ap, ◌∙◌, subst, arith, append_assoc}
+use Rattle.std.proofs.Common.{◌≡◌, ◌≢◌, inl, inr, ℕ, ◌<◌, ◌^◌, List, [], ◌∷◌, ◌++◌, length, Result, Ok, Err, sym, ◌∙◌, subst, arith, append_assoc}
 use Rattle.std.specs.Int.{IsInRange, w16, to_be_bytes}
 use Rattle.std.specs.Result.{IsErrAnd, MatchResult}
 use Rattle.nb_names.specs.Hexadecimal.{HexText}

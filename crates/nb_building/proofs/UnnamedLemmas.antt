@@ -1,5 +1,5 @@
 -- Words that name nothing, from their parts.
-use Rattle.std.proofs.Common.{◌≡◌, ◌≢◌, ◌<◌, ◌≤◌, ◌⊎◌, inl, inr, ℕ, List, [], ◌∷◌, length, map, get_or, Result, Ok, Err, Option, Some, None, refl, sym, ap, ◌∙◌, subst, arith}
+use Rattle.std.proofs.Common.{◌≡◌, ◌≢◌, ◌<◌, ◌⊎◌, inl, inr, ℕ, List, [], ◌∷◌, length, map, get_or, Result, Ok, Err, refl, sym, ap, ◌∙◌, subst, arith}
 use Rattle.std.specs.Prelude.{IfErr, codes, ◌==◌, if◌then◌else◌}
 use Rattle.std.specs.Result.{IsErrAnd}
 use Rattle.std.proofs.lemmas.List.{length-map}
@@ -11,7 +11,7 @@ use Rattle.nb_session.specs.declared.packet.Packet as session
 use Rattle.nb_session.specs.Packet.{IsPacket}
 use Rattle.nb_building.specs.declared.build_fault.BuildFault.{BuildFault}
 use Rattle.nb_building.specs.declared.build_fault.BuildFault.TheVariants.{Memory}
-use Rattle.nb_building.specs.Built.{AddressText, CodeText, IsSessionBuilt, NamesSession, NumberText, keepalive, message, negative, positive, request, retarget}
+use Rattle.nb_building.specs.Built.{AddressText, IsSessionBuilt, NamesSession, NumberText, keepalive, message, negative, positive, request, retarget}
 use Rattle.nb_building.specs.Refusals.{IsRefused, Unnamed}
 
 -- ---- faults

@@ -29,10 +29,12 @@ NamesNone {A} Named fault = (fault ≡ Arguments) × ((value : A) → ¬ Named v
 abbrev pub IsRefused : {A : Type 0} → (A → Type 0) → BuildFault → Type 0
 IsRefused Named fault = (fault ≡ Memory) ⊎ NamesNone Named fault
 
--- Unnamed Named fault: unless memory ran out, nothing is named
-abbrev pub Unnamed : {A : Type 0} → (A → Type 0) → BuildFault → Type 0
-Unnamed {A} Named fault = fault ≢ Memory → (value : A) → ¬ Named value
-
 -- SplitsAt mark text front behind: the text is what stands before its first such mark, the mark, and what stands behind it
 abbrev pub SplitsAt : ℕ → List ℕ → List ℕ → List ℕ → Type 0
 SplitsAt mark text front behind = (text ≡ front ++ mark ∷ behind) × AllByRecursion (λ byte. byte ≢ mark) front
+
+-- ---- all of the words
+
+-- Unnamed Named fault: unless memory ran out, nothing is named
+abbrev pub Unnamed : {A : Type 0} → (A → Type 0) → BuildFault → Type 0
+Unnamed {A} Named fault = fault ≢ Memory → (value : A) → ¬ Named value

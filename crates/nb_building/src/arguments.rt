@@ -26,7 +26,8 @@ pub fn word(alloc: Global, text: &str) -> Result<u16, BuildFault>
 
 /// The number of sixteen bits that two bytes are.
 fn word_of(bytes: &[u8]) -> Result<u16, BuildFault>
-    ensures { MatchResult result (λ number. (number < 2 ^ 16) × (bytes.now ≡ to_be_bytes w16 number))
+    ensures { MatchResult result (λ number. (number < 2 ^ 16)
+        × (bytes.now ≡ to_be_bytes w16 number))
         (λ fault. (fault ≡ BuildFault.Arguments) × (length bytes.now ≢ 2)) }
 {
     match bytes {

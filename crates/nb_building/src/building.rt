@@ -1,5 +1,5 @@
 //! The packets that words name, as the lines of a capture.
-ghost use Rattle.std.specs.Prelude.{◌≡◌, ◌++◌, Bool, map, IfErr, IfOk, OnOk, string_bytes};
+ghost use Rattle.std.specs.Prelude.{◌≡◌, ◌++◌, ℕ, Bool, List, map, IfErr, IfOk, OnOk, string_bytes};
 ghost use Rattle.nb_building.specs.Building.{AreLinesOf, payload_line, payload_lines};
 ghost use Rattle.nb_building.specs.Built.{IsServiceBuilt, IsSessionBuilt, Names, NamesDatagrams};
 ghost use Rattle.nb_building.specs.Refusals.{Unnamed};
@@ -52,6 +52,8 @@ pub fn capture_lines(
         (string_bytes lines)) }
     ensures too_long { IfErr result (λ fault. fault ≡ BuildFault.TooLong →
         GiveTooMuch what.now (map (λ w. w.now) words.now)) }
+    ensures refused { IfErr result (Unnamed (λ (packets : ℕ × List (List ℕ)).
+        Names broadcast what.now (map (λ w. w.now) words.now) packets.0 packets.1)) }
 {
     match what {
         "query" | "status" | "registration" | "refresh" | "release" | "response" => {
@@ -75,7 +77,8 @@ fn service_line(
         (string_bytes lines)) }
     ensures too_long { IfErr result (λ fault. fault ≡ BuildFault.TooLong →
         GiveTooMuch what.now (map (λ w. w.now) words.now)) }
-    ensures refused { IfErr result (Unnamed (IsServiceBuilt broadcast what.now (map (λ w. w.now) words.now))) }
+    ensures refused { IfErr result
+        (Unnamed (IsServiceBuilt broadcast what.now (map (λ w. w.now) words.now))) }
 {
     let packet = service::build(alloc, what, words, broadcast)?;
     Ok(line(alloc, 137, &packet)?)
@@ -87,7 +90,8 @@ fn session_line(alloc: Global, what: &str, words: &[&str]) -> Result<String, Bui
         AreLinesOf broadcast what.now (map (λ w. w.now) words.now) (string_bytes lines)) }
     ensures too_long { IfErr result (λ fault. fault ≡ BuildFault.TooLong →
         GiveTooMuch what.now (map (λ w. w.now) words.now)) }
-    ensures refused { IfErr result (Unnamed (IsSessionBuilt what.now (map (λ w. w.now) words.now))) }
+    ensures refused { IfErr result
+        (Unnamed (IsSessionBuilt what.now (map (λ w. w.now) words.now))) }
 {
     let packet = session::build(alloc, what, words)?;
     Ok(line(alloc, 139, &packet)?)
@@ -99,7 +103,8 @@ fn datagram_lines(alloc: Global, what: &str, words: &[&str]) -> Result<String, B
         AreLinesOf broadcast what.now (map (λ w. w.now) words.now) (string_bytes lines)) }
     ensures too_long { IfErr result (λ fault. fault ≡ BuildFault.TooLong →
         GiveTooMuch what.now (map (λ w. w.now) words.now)) }
-    ensures refused { IfErr result (Unnamed (NamesDatagrams what.now (map (λ w. w.now) words.now))) }
+    ensures refused { IfErr result
+        (Unnamed (NamesDatagrams what.now (map (λ w. w.now) words.now))) }
 {
     let packets = datagram::build(alloc, what, words)?;
     Ok(lines(alloc, 138, packets.as_slice())?)

@@ -27,7 +27,8 @@ pub fn build(alloc: Global, what: &str, words: &[&str]) -> Result<Items<Bytes>, 
     ensures built { IfOk result (NamesDatagrams what.now (map (λ w. w.now) words.now)) }
     ensures too_long { IfErr result (λ fault. fault ≡ BuildFault.TooLong →
         GiveTooMuch what.now (map (λ w. w.now) words.now)) }
-    ensures refused { IfErr result (Unnamed (NamesDatagrams what.now (map (λ w. w.now) words.now))) }
+    ensures refused { IfErr result
+        (Unnamed (NamesDatagrams what.now (map (λ w. w.now) words.now))) }
 {
     match what {
         "unique" => fragments(alloc, Kind::Unique, words),
@@ -46,7 +47,8 @@ fn fragments(alloc: Global, kind: Kind, words: &[&str]) -> Result<Items<Bytes>, 
     ensures built { IfOk result (NamesDatagrams (kind_text kind) (map (λ w. w.now) words.now)) }
     ensures too_long { IfErr result (λ fault. fault ≡ BuildFault.TooLong →
         GiveTooMuch (kind_text kind) (map (λ w. w.now) words.now)) }
-    ensures refused { IfErr result (Unnamed (NamesDatagrams (kind_text kind) (map (λ w. w.now) words.now))) }
+    ensures refused { IfErr result
+        (Unnamed (NamesDatagrams (kind_text kind) (map (λ w. w.now) words.now))) }
 {
     let [place, source, destination, digits, most] = words else {
         return Err(BuildFault::Arguments);

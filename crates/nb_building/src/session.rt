@@ -19,7 +19,8 @@ pub fn build(alloc: Global, what: &str, words: &[&str]) -> Result<Bytes, BuildFa
     ensures built { IfOk result (IsSessionBuilt what.now (map (λ w. w.now) words.now)) }
     ensures too_long { IfErr result (λ fault. fault ≡ BuildFault.TooLong →
         GiveTooMuch what.now (map (λ w. w.now) words.now)) }
-    ensures refused { IfErr result (Unnamed (IsSessionBuilt what.now (map (λ w. w.now) words.now))) }
+    ensures refused { IfErr result
+        (Unnamed (IsSessionBuilt what.now (map (λ w. w.now) words.now))) }
 {
     match what {
         "request" => request(alloc, words),

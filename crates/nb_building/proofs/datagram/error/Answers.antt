@@ -1,4 +1,4 @@
-use Rattle.std.proofs.Common.{◌≡◌, ◌∙◌, arith, length, refl}
+use Rattle.std.proofs.Common.{◌≡◌, arith, length, refl}
 use Rattle.nb_building.specs.Built.{error}
 use Rattle.nb_building.proofs.ArgumentLemmas.{two_words}
 use Rattle.nb_building.proofs.BuiltLemmas.{datagrams_named}

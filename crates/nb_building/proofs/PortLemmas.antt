@@ -1,0 +1,113 @@
+-- Which port the packets that words name are of, by the first word.
+use Rattle.std.proofs.Common.{◌≡◌, ◌⊎◌, inl, inr, ap, Bool, ℕ, List, get_or, Result, Ok, Err, refl, sym, ◌∙◌, arith}
+use Rattle.std.specs.Prelude.{codes, ◌==◌, if◌then◌else◌}
+use Rattle.std.specs.Result.{IfErr}
+use Rattle.nb_service.specs.Packet.{ServicePacket}
+use Rattle.nb_session.specs.declared.packet.Packet as session
+use Rattle.nb_datagram.specs.declared.kind.Kind.{Kind}
+use Rattle.nb_datagram.specs.declared.kind.Kind.TheVariants.{Unique, Group, Broadcast}
+use Rattle.nb_datagram.specs.declared.packet.QueryKind.{QueryKind}
+use Rattle.nb_datagram.specs.declared.packet.QueryKind.TheVariants as query_kind
+use Rattle.nb_datagram.specs.Texts.{kind_text}
+use Rattle.nb_text.specs.Words.{query_word}
+use Rattle.nb_building.specs.declared.build_fault.BuildFault.{BuildFault}
+use Rattle.nb_building.specs.Built.{IsServiceBuilt, IsSessionBuilt, Names, NamesDatagrams, NamesService, NamesSession, query, status, registration, refresh, release, response, request, message, positive, negative, retarget, keepalive, fragments, error, queries, of_service, of_session, of_datagrams}
+use Rattle.nb_building.specs.Refusals.{Unnamed}
+
+-- the port, by the first letter of the word, or the third of those that begin with `r`, or the second of those with `m`
+abbrev pub port_of : List ℕ → ℕ
+port_of what =
+    if get_or what 0 0 == 113 then 137
+    else if get_or what 0 0 == 115 then 137
+    else if get_or what 0 0 == 112 then 139
+    else if get_or what 0 0 == 110 then 139
+    else if get_or what 0 0 == 107 then 139
+    else if get_or what 0 0 == 109 then (if get_or what 1 0 == 101 then 139 else 138)
+    else if get_or what 0 0 == 114 then (if get_or what 2 0 == 113 then 139 else if get_or what 2 0 == 116 then 139 else 137)
+    else 138
+
+service_port : (broadcast : Bool) (what : List ℕ) (texts : List (List ℕ)) (packet : ServicePacket) → NamesService broadcast what texts packet
+    → port_of what ≡ 137
+service_port broadcast _ _ _ (query id name a b is_a is_b) = refl
+service_port broadcast _ _ _ (status id name a b is_a is_b) = refl
+service_port broadcast _ _ _ (registration id ttl name entry a b c d e is_a is_b is_c is_d) = refl
+service_port broadcast _ _ _ (refresh id ttl name entry a b c d e is_a is_b is_c is_d) = refl
+service_port broadcast _ _ _ (release id name entry a b d e is_a is_b is_d) = refl
+service_port broadcast _ _ _ (response id word kind ttl name bytes rdata a b c d e f is_a is_b is_c is_d is_e is_f has) = refl
+
+session_port : (what : List ℕ) (texts : List (List ℕ)) (packet : session.Packet) → NamesSession what texts packet → port_of what ≡ 139
+session_port _ _ _ (request called calling a b is_a is_b) = refl
+session_port _ _ _ (message bytes a h) = refl
+session_port _ _ _ positive = refl
+session_port _ _ _ (negative code a h) = refl
+session_port _ _ _ (retarget port address a b is_a is_b) = refl
+session_port _ _ _ keepalive = refl
+
+kind_port : (kind : Kind) → port_of (kind_text kind) ≡ 138
+kind_port Unique = refl
+kind_port Group = refl
+kind_port Broadcast = refl
+
+query_port : (kind : QueryKind) → port_of (query_word kind) ≡ 138
+query_port query_kind.Request = refl
+query_port query_kind.Positive = refl
+query_port query_kind.Negative = refl
+
+datagram_port : (what : List ℕ) (texts payloads : List (List ℕ)) → NamesDatagrams what texts payloads → port_of what ≡ 138
+datagram_port _ _ _ (fragments d most a b c e f is_a is_b is_c is_e is_f some short fit) = kind_port d.kind
+datagram_port _ _ _ (error key code a b is_a is_b) = refl
+datagram_port _ _ _ (queries kind key name a b is_a is_b) = query_port kind
+
+service_only : (broadcast : Bool) (what : List ℕ) (texts : List (List ℕ)) → port_of what ≡ 137
+    → ((bytes : List ℕ) → ¬ IsServiceBuilt broadcast what texts bytes) → (port : ℕ) (payloads : List (List ℕ))
+    → ¬ Names broadcast what texts port payloads
+service_only broadcast what texts is none _ _ (of_service bytes h) = none bytes h
+service_only broadcast what texts is none _ _ (of_session bytes h) =
+    let clash = sym is ∙ session_port what texts h.packet h.named in absurd (omega (arith, clash))
+service_only broadcast what texts is none _ _ (of_datagrams payloads h) =
+    let clash = sym is ∙ datagram_port what texts payloads h in absurd (omega (arith, clash))
+
+session_only : (broadcast : Bool) (what : List ℕ) (texts : List (List ℕ)) → port_of what ≡ 139
+    → ((bytes : List ℕ) → ¬ IsSessionBuilt what texts bytes) → (port : ℕ) (payloads : List (List ℕ))
+    → ¬ Names broadcast what texts port payloads
+session_only broadcast what texts is none _ _ (of_service bytes h) =
+    let clash = sym is ∙ service_port broadcast what texts h.packet h.named in absurd (omega (arith, clash))
+session_only broadcast what texts is none _ _ (of_session bytes h) = none bytes h
+session_only broadcast what texts is none _ _ (of_datagrams payloads h) =
+    let clash = sym is ∙ datagram_port what texts payloads h in absurd (omega (arith, clash))
+
+-- ---- what one port's words don't name, those of the others don't either
+
+pub service_unnamed : {T : Type 0} (broadcast : Bool) (what : List ℕ) (texts : List (List ℕ)) (r : Result T BuildFault)
+    → port_of what ≡ 137 → IfErr r (Unnamed (IsServiceBuilt broadcast what texts))
+    → IfErr r (Unnamed (λ (packets : ℕ × List (List ℕ)). Names broadcast what texts packets.0 packets.1))
+service_unnamed broadcast what texts (Ok x) is none = tt
+service_unnamed broadcast what texts (Err fault) is none =
+    λ other packets. service_only broadcast what texts is (none other) packets.0 packets.1
+
+pub session_unnamed : {T : Type 0} (broadcast : Bool) (what : List ℕ) (texts : List (List ℕ)) (r : Result T BuildFault)
+    → port_of what ≡ 139 → IfErr r (Unnamed (IsSessionBuilt what texts))
+    → IfErr r (Unnamed (λ (packets : ℕ × List (List ℕ)). Names broadcast what texts packets.0 packets.1))
+session_unnamed broadcast what texts (Ok x) is none = tt
+session_unnamed broadcast what texts (Err fault) is none =
+    λ other packets. session_only broadcast what texts is (none other) packets.0 packets.1
+
+-- ---- the first words of two ports
+
+pub service_word : (what : List ℕ) → (what ≡ codes "query") ⊎ ((what ≡ codes "status") ⊎ ((what ≡ codes "registration")
+    ⊎ ((what ≡ codes "refresh") ⊎ ((what ≡ codes "release") ⊎ (what ≡ codes "response"))))) → port_of what ≡ 137
+service_word what (inl is) = ap port_of is
+service_word what (inr (inl is)) = ap port_of is
+service_word what (inr (inr (inl is))) = ap port_of is
+service_word what (inr (inr (inr (inl is)))) = ap port_of is
+service_word what (inr (inr (inr (inr (inl is))))) = ap port_of is
+service_word what (inr (inr (inr (inr (inr is))))) = ap port_of is
+
+pub session_word : (what : List ℕ) → (what ≡ codes "request") ⊎ ((what ≡ codes "message") ⊎ ((what ≡ codes "positive")
+    ⊎ ((what ≡ codes "negative") ⊎ ((what ≡ codes "retarget") ⊎ (what ≡ codes "keepalive"))))) → port_of what ≡ 139
+session_word what (inl is) = ap port_of is
+session_word what (inr (inl is)) = ap port_of is
+session_word what (inr (inr (inl is))) = ap port_of is
+session_word what (inr (inr (inr (inl is)))) = ap port_of is
+session_word what (inr (inr (inr (inr (inl is))))) = ap port_of is
+session_word what (inr (inr (inr (inr (inr is))))) = ap port_of is

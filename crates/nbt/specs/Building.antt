@@ -32,6 +32,17 @@ pub record AreTooMuch (matches : ArgMatches) : Type 0 where
   pub given : AreWords matches broadcast what words
   pub too_much : GiveTooMuch what words
 
+-- AreNone matches what: WHAT and the matches' other words name no packets
+pub record AreNone (matches : ArgMatches) (what : List ℕ) : Type 0 where
+  pub broadcast : Bool
+  pub words : List (List ℕ)
+  pub given : AreWords matches broadcast what words
+  pub none : (bytes : List ℕ) → ¬ AreLinesOf broadcast what words bytes
+
+-- NameNone matches: the matches' words name no packets, if there are any
+abbrev pub NameNone : ArgMatches → Type 0
+NameNone matches = (what : List ℕ) → first_value (found_of matches) (codes "WHAT") ≡ Some what → AreNone matches what
+
 -- Builds matches IsPrinted: the lines of the packets that the matches' words name were printed, as IsPrinted says of
 -- the bytes
 pub record Builds (matches : ArgMatches) (IsPrinted : List ℕ → Type 0) : Type 0 where

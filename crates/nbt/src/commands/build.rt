@@ -3,7 +3,7 @@ ghost use Rattle.std.specs.Prelude.{◌≡◌, ◌≢◌, Bool, [], map, option_
 ghost use Rattle.std.specs.Io.KnownBytes.{Appends, Keeps};
 ghost use Rattle.clap.specs.Words.{found_of, matched_of, raw_values};
 ghost use Rattle.nb_names.specs.Devices.{AppendsFront, ShowsWriteFault};
-ghost use Rattle.nbt.specs.Building.{AreBuilt, AreTooMuch, Builds, IsBroadcast};
+ghost use Rattle.nbt.specs.Building.{AreBuilt, AreTooMuch, Builds, IsBroadcast, NameNone};
 
 use crate::fault::Fault;
 use crate::output::Output;
@@ -36,6 +36,8 @@ pub fn run_build<W: Write>(
     ensures why { IfErr result (λ fault. fault ≡ Fault.Write →
         ShowsWriteFault output.old.counts output.new.counts) }
     ensures too_long { IfErr result (λ fault. fault ≡ Fault.TooLong → AreTooMuch matches.now) }
+    ensures refused { IfErr result (λ fault. fault ≢ Fault.Write → fault ≢ Fault.Memory →
+        NameNone matches.now) }
 {
     let lines = lines_of(alloc, matches)?;
     output.print(lines.as_bytes())
@@ -45,6 +47,7 @@ pub fn run_build<W: Write>(
 fn lines_of(alloc: Global, matches: &ArgMatches<'_>) -> Result<String, BuildFault>
     ensures built { IfOk result (λ lines. AreBuilt matches.now (string_bytes lines)) }
     ensures too_long { IfErr result (λ fault. fault ≡ BuildFault.TooLong → AreTooMuch matches.now) }
+    ensures refused { IfErr result (λ fault. fault ≢ BuildFault.Memory → NameNone matches.now) }
 {
     match matches.get_str("WHAT") {
         Some(what) => capture_lines(alloc, what, words_of(matches), is_broadcast(matches)),

@@ -167,15 +167,13 @@ pub(super) fn insert_bytes(
     start: u32,
     bytes: &[u8],
 ) -> Result<(), NoMemory>
+    requires put { 0 < length bytes.now }
     requires apart { AreApart (values_of runs.old.items) }
     requires agree { Agree (values_of runs.old.items) (run_at start bytes.now) }
     ensures ok { OnOk result
         (IsPut (values_of runs.old.items) (run_at start bytes.now) (values_of runs.new.items)) }
     ensures err { OnErr result (values_of runs.new.items ≡ values_of runs.old.items) }
 {
-    if bytes.is_empty() {
-        return Ok(());
-    }
     let first = first_from(runs, start as usize);
     let past = past_to(runs, first, start as usize + bytes.len());
     if past <= first {

@@ -1,8 +1,8 @@
 -- Runs in several rows: where they lie.
-use Rattle.std.proofs.Common.{◌≡◌, ◌<◌, ◌≤◌, ◌+◌, ◌-◌, ◌++◌, ℕ, zero, suc, inl, inr, List, [], ◌∷◌, length, take, drop, slice_get, slice_set, slice_index_or, Some, None, refl, sym, ap, ◌∙◌, subst, arith, length-append, append_assoc}
-use Rattle.std.proofs.lemmas.List.{append-nil, map-append, length-map, take-append-le, get_or-append-add, get_or_append_left, take_all, drop_all}
+use Rattle.std.proofs.Common.{◌≡◌, ◌<◌, ◌≤◌, ◌+◌, ◌-◌, ◌++◌, ℕ, zero, suc, inl, inr, List, [], ◌∷◌, length, take, drop, slice_get, slice_set, slice_index_or, Some, refl, sym, ap, ◌∙◌, subst, arith, length-append, append_assoc}
+use Rattle.std.proofs.lemmas.List.{map-append, length-map, take-append-le, get_or-append-add, get_or_append_left, take_all, drop_all}
 use Rattle.std.proofs.lemmas.Bool.{cases_lt}
-use Rattle.std.proofs.lemmas.Option.{same_Some, slice_get-get_or, slice_get_within, get_or_from_slice_get}
+use Rattle.std.proofs.lemmas.Option.{same_Some}
 use Rattle.std.specs.List.{AllByRecursion}
 use Rattle.std.specs.List.Sorted.{IsNonDecreasingBy}
 use Rattle.std.proofs.lemmas.List.Sorted.{IsNonDecreasingBy-from_all_adjacent}

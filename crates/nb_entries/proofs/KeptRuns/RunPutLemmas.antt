@@ -25,12 +25,6 @@ in_row bs t ss a q x e =
     ∙ ap (λ o. first_of o (first_of (byte_in t q) (look_in ss q))) before
     ∙ ap (λ o. first_of o (look_in ss q)) e
 
-pub put_empty : (rs : List RunValue) (f : RunValue) → AreApart rs → length f.bytes ≡ 0 → IsPut rs f rs
-put_empty rs f a none = record {
-  apart = a;
-  look = λ q. ap (λ o. first_of o (look_in rs q)) (sym (none_from (byte_in f q) (λ x e. (let below = has_below f q x e in let from = has_from f q x e in absurd (omega (arith, below, from, none))))));
-}
-
 pub put_none : (bs ss : List RunValue) (f : RunValue) → AreApart (bs ++ ss) → EndBefore f.start bs → StartsPast (run_end f) ss → 0 < length f.bytes → IsPut (bs ++ ss) f (bs ++ f ∷ ss)
 put_none bs ss f a e p some = record {
   apart = apart_both bs f ss (apart_front bs ss a) e some p (apart_back bs ss a);

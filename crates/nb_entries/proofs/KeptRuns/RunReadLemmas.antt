@@ -1,7 +1,7 @@
 -- What the code reads of its runs.
 use Rattle.std.proofs.Common.{◌≡◌, ◌<◌, ◌≤◌, ◌+◌, ◌-◌, ◌++◌, ℕ, suc, inl, inr, List, [], ◌∷◌, length, take, drop, min, max, slice_get, Some, None, refl, sym, ap, ap₂, ◌∙◌, subst, arith, slice_index_or, length-take, length-drop, length-append, ◌==◌, Bool, true}
 use Rattle.std.proofs.lemmas.Bool.{cases_lt}
-use Rattle.std.proofs.lemmas.List.{drop_all, length-map, get_or-take, get_or-drop}
+use Rattle.std.proofs.lemmas.List.{length-map, get_or-take, get_or-drop}
 use Rattle.std.proofs.lemmas.Option.{same_Some, slice_get_past}
 use Rattle.nb_entries.specs.Runs.{RunValue, run_end, AreApart}
 use Rattle.nb_entries.specs.Code.RunSteps.{value_of, values_of, byte_in, look_in, Meet, EndBefore, look_with, Agree, AgreeOne, AreBetween, Lacks, AreFirst}

@@ -1,5 +1,5 @@
--- Runs that lie in several rows, one after the other; no public contract cites this.
-use Rattle.std.specs.Prelude.{◌≡◌, ◌<◌, ◌≤◌, ◌-◌, ◌++◌, ℕ, List, [], ◌∷◌, length, take, slice_index_or}
+-- Runs that are kept: one in place, or several rows, one after the other; no public contract cites this.
+use Rattle.std.specs.Prelude.{◌≡◌, ◌<◌, ◌≤◌, ◌++◌, ℕ, List, [], ◌∷◌, length, take, slice_index_or}
 use Rattle.std.specs.declared.vec.Vec.{Vec}
 use Rattle.std.specs.List.{AllByRecursion}
 use Rattle.nb_entries.specs.Runs.{RunValue, run_end}

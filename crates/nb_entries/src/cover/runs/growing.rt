@@ -1,5 +1,5 @@
 //! A row of runs, which grow in place.
-ghost use Rattle.std.specs.Prelude.{◌≡◌, ◌+◌, ◌-◌, ◌<◌, ◌≤◌, ◌++◌, ◌∷◌, length, take, drop, min, max, slice_index_or, slice_set, OnOk, OnErr};
+ghost use Rattle.std.specs.Prelude.{◌≡◌, ◌+◌, ◌-◌, ◌<◌, ◌≤◌, ◌++◌, ◌∷◌, length, take, drop, min, max, slice_index_or, OnOk, OnErr};
 ghost use Rattle.std.specs.Vec.{vec_capacity, vec_len};
 ghost use Rattle.nb_entries.specs.Runs.{run_end, AreApart};
 ghost use Rattle.nb_entries.specs.declared.cover.runs.growing.TheConstants.{FEW};
@@ -98,7 +98,8 @@ fn reserve(run: &mut Run, start: u32, end: usize) -> Result<(), NoMemory>
 /// Joins bytes with a run that they overlap or touch.
 pub(super) fn join(run: &mut Run, start: u32, bytes: &[u8]) -> Result<(), NoMemory>
     requires { Meet (value_of run.old) (run_at start bytes.now) }
-    ensures ok { OnOk result (value_of run.new ≡ grown (value_of run.old) (run_at start bytes.now)) }
+    ensures ok { OnOk result
+        (value_of run.new ≡ grown (value_of run.old) (run_at start bytes.now)) }
     ensures err { OnErr result (value_of run.new ≡ value_of run.old) }
 {
     reserve(run, start, start as usize + bytes.len())?;
@@ -166,15 +167,13 @@ pub(super) fn insert_bytes(
     start: u32,
     bytes: &[u8],
 ) -> Result<(), NoMemory>
+    requires put { 0 < length bytes.now }
     requires apart { AreApart (values_of runs.old.items) }
     requires agree { Agree (values_of runs.old.items) (run_at start bytes.now) }
     ensures ok { OnOk result
         (IsPut (values_of runs.old.items) (run_at start bytes.now) (values_of runs.new.items)) }
     ensures err { OnErr result (values_of runs.new.items ≡ values_of runs.old.items) }
 {
-    if bytes.is_empty() {
-        return Ok(());
-    }
     let first = first_from(runs, start as usize);
     let past = past_to(runs, first, start as usize + bytes.len());
     if past <= first {

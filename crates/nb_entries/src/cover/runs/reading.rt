@@ -1,7 +1,7 @@
 //! What runs have that are apart.
-ghost use Rattle.std.specs.Prelude.{◌≡◌, ◌↔◌, ◌≤◌, IsTrue, IfOk, MatchOption, Some};
+ghost use Rattle.std.specs.Prelude.{◌≡◌, ◌↔◌, ◌≤◌, IsTrue, IfOk, MatchOption};
 ghost use Rattle.nb_entries.specs.Runs.{AreApart};
-ghost use Rattle.nb_entries.specs.Code.Rows.{kept_values, values_in, AreFilled, NoneEmpty};
+ghost use Rattle.nb_entries.specs.Code.Rows.{kept_values, AreFilled};
 ghost use Rattle.nb_entries.specs.Code.RunSteps.{value_of, values_of, run_at, Meet, Agree, AgreeOne, look_with, AreBetween, Lacks, AreFirst, LacksOne};
 
 use super::searching::{first_from, first_to, past_to, row_to, rows_to};
@@ -63,12 +63,16 @@ fn row_agrees(runs: &[Run], start: u32, bytes: &[u8]) -> bool
     true
 }
 
-/// Whether no place of several rows has another byte among these.
-fn all_agree(rows: &[Vec<Run>], start: u32, bytes: &[u8]) -> bool
-    requires some { NoneEmpty rows.now }
-    requires apart { AreApart (values_in rows.now) }
-    ensures { IsTrue result ↔ Agree (values_in rows.now) (run_at start bytes.now) }
+/// Whether no place has another byte among these.
+pub(super) fn bytes_agree(kept: &Kept, start: u32, bytes: &[u8]) -> bool
+    requires some { AreFilled kept.now }
+    requires apart { AreApart (kept_values kept.now) }
+    ensures { IsTrue result ↔ Agree (kept_values kept.now) (run_at start bytes.now) }
 {
+    let rows = match kept {
+        Kept::One(run) => return row_agrees(from_ref(run), start, bytes),
+        Kept::Many(rows) => rows.as_slice(),
+    };
     let place = start as usize;
     let first = row_to(rows, place);
     let past = rows_to(rows, first, place + bytes.len());
@@ -79,18 +83,6 @@ fn all_agree(rows: &[Vec<Run>], start: u32, bytes: &[u8]) -> bool
         }
     }
     true
-}
-
-/// Whether no place has another byte among these.
-pub(super) fn bytes_agree(kept: &Kept, start: u32, bytes: &[u8]) -> bool
-    requires some { AreFilled kept.now }
-    requires apart { AreApart (kept_values kept.now) }
-    ensures { IsTrue result ↔ Agree (kept_values kept.now) (run_at start bytes.now) }
-{
-    match kept {
-        Kept::One(run) => row_agrees(from_ref(run), start, bytes),
-        Kept::Many(rows) => all_agree(rows, start, bytes),
-    }
 }
 
 /// The bytes below a place, in order, of the runs with others, if each is there. No memory is taken

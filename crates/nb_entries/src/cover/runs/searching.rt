@@ -2,7 +2,7 @@
 ghost use Rattle.std.specs.Prelude.{◌≡◌, ◌≤◌, ◌<◌, length, take, drop, slice_index_or, ltb, MatchOption, IsTrue};
 ghost use Rattle.nb_entries.specs.Runs.{AreApart, StartsPast};
 ghost use Rattle.nb_entries.specs.Code.RunSteps.{values_of, EndBefore, EndFrom, StartTo, StartAfter};
-ghost use Rattle.nb_entries.specs.Code.Rows.{runs_in, values_in, NoneEmpty, last_end, kept_runs, kept_values, AreFilled, IsFirstTo};
+ghost use Rattle.nb_entries.specs.Code.Rows.{values_in, NoneEmpty, last_end, kept_runs, kept_values, AreFilled, IsFirstTo};
 
 use super::{Kept, Run};
 
@@ -56,21 +56,6 @@ pub(super) fn row_to(rows: &[Vec<Run>], place: usize) -> usize
     rows.partition_point(|row| ends_before(row, place))
 }
 
-/// The first run of several rows that ends at a place or after it.
-fn first_in<'a>(rows: &'a [Vec<Run>], place: usize) -> Option<&'a Run>
-    requires some { NoneEmpty rows.now }
-    requires apart { AreApart (values_in rows.now) }
-    ensures { MatchOption result (EndBefore place (values_in rows.now))
-        (λ run. IsFirstTo (runs_in rows.now) place run.now) }
-{
-    let at = row_to(rows, place);
-    if at == rows.len() {
-        return None;
-    }
-    let row = &rows[at];
-    Some(&row[first_from(row, place)])
-}
-
 /// The first run that ends at a place or after it.
 pub(super) fn first_to<'a>(kept: &'a Kept, place: usize) -> Option<&'a Run>
     requires some { AreFilled kept.now }
@@ -78,11 +63,17 @@ pub(super) fn first_to<'a>(kept: &'a Kept, place: usize) -> Option<&'a Run>
     ensures { MatchOption result (EndBefore place (kept_values kept.now))
         (λ run. IsFirstTo (kept_runs kept.now) place run.now) }
 {
-    match kept {
-        Kept::One(run) if run.end() < place => None,
-        Kept::One(run) => Some(run),
-        Kept::Many(rows) => first_in(rows, place),
+    let rows = match kept {
+        Kept::One(run) if run.end() < place => return None,
+        Kept::One(run) => return Some(run),
+        Kept::Many(rows) => rows.as_slice(),
+    };
+    let at = row_to(rows, place);
+    if at == rows.len() {
+        return None;
     }
+    let row = &rows[at];
+    Some(&row[first_from(row, place)])
 }
 
 /// Whether the first run of a row starts after a place.

@@ -30,11 +30,7 @@ pub(super) fn rows_agree(kept: &Kept, others: &Kept) -> bool
 }
 
 /// The runs of the bytes of two that agree.
-pub(super) fn united(
-    alloc: Global,
-    kept: &Kept,
-    others: &Kept,
-) -> Result<Kept, NoMemory>
+pub(super) fn united(alloc: Global, kept: &Kept, others: &Kept) -> Result<Kept, NoMemory>
     requires some { AreFilled kept.now }
     requires apart { AreApart (kept_values kept.now) }
     requires other_some { AreFilled others.now }

@@ -2,7 +2,6 @@ use Rattle.std.proofs.Common.{◌≤◌, ◌∙◌, ℕ, sym, subst}
 use Rattle.std.specs.Ordering.{nat_cmp}
 use Rattle.std.specs.FinMap as maps
 use Rattle.nb_datagram.specs.declared.limits.TheConstants.{MAX_LENGTH}
-use Rattle.nb_entries.specs.Code.RunSteps.{held_in}
 use Rattle.nb_entries.specs.Code.Rows.{kept_values}
 use Rattle.nb_entries.proofs.Runs.HeldLemmas.{held-runs}
 use Rattle.nb_entries.proofs.cover.runs.Runs.held.Goals as goal

@@ -1,4 +1,4 @@
-use Rattle.std.proofs.Common.{ap, ap₂, ◌∙◌}
+use Rattle.std.proofs.Common.{ap₂, ◌∙◌}
 use Rattle.nb_entries.specs.Cover.{bytes_agree}
 use Rattle.nb_entries.specs.Code.Rows.{kept_values}
 use Rattle.nb_entries.proofs.KeptRuns.RunMapLemmas.{rows_from, map_union}

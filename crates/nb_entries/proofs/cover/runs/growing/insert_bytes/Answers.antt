@@ -1,17 +1,10 @@
-use Rattle.std.proofs.Common.{◌<◌, length, take, sym, ap, subst, slice_set, arith, refl, ◌∙◌}
-use Rattle.std.proofs.lemmas.Bool.{eqb-true}
+use Rattle.std.proofs.Common.{take, sym, ap, subst, slice_set, arith, ◌∙◌}
 use Rattle.std.proofs.lemmas.Result.{on_ok_weaker, on_err_weaker}
 use Rattle.std.proofs.lemmas.List.{map-set}
 use Rattle.nb_entries.specs.Code.RunSteps.{value_of, values_of, run_at, grown, Meet, IsPut, EndBefore}
-use Rattle.nb_entries.proofs.Covers.CoverFactsLemmas.{not_empty}
 use Rattle.nb_entries.proofs.KeptRuns.RunCodeLemmas.{set_same}
-use Rattle.nb_entries.proofs.KeptRuns.RunPutLemmas.{put_empty}
 use Rattle.nb_entries.proofs.KeptRuns.RunPlaceLemmas.{Lies, lies_of, some_run, start_before, meet_at, touch_at, order_at, none_there, one_there, more_there}
 use Rattle.nb_entries.proofs.cover.runs.growing.insert_bytes.Goals as goal
-
-pub returns-then-is_empty-clause-ok : goal.returns-then-is_empty-clause-ok
-returns-then-is_empty-clause-ok c =
-    put_empty (values_of c.args.runs.now.items) (run_at c.args.start c.args.bytes.now) c.requires.apart (eqb-true _ 0 (sym c.is_empty.ensures ∙ c.if-is_empty.true))
 
 pub past_to-past-requires-clause-first : goal.past_to-past-requires-clause-first
 past_to-past-requires-clause-first c =
@@ -23,8 +16,7 @@ returns-then-past-first-clause-ok c =
     let xs = c.args.runs.now.items in
     let f = run_at c.args.start c.args.bytes.now in
     let lies : Lies xs f c.first_from-first.result c.past_to-past.result = lies_of xs _ _ f _ _ c.deref.ensures.value c.deref-2.ensures.value c.first_from-first.ensures.within c.first_from-first.ensures.before c.first_from-first.ensures.after c.past_to-past.ensures.within c.past_to-past.ensures.before c.past_to-past.ensures.after in
-    let some : 0 < length c.args.bytes.now = not_empty c.args.bytes.now c.args.bytes.now refl (sym c.is_empty.ensures ∙ c.if-is_empty.false) in
-    on_ok_weaker c.insert_at.result (λ e. subst (λ rs. IsPut (values_of xs) f rs) (sym e) (none_there xs f _ _ lies c.if-past-first.true c.requires.apart some)) c.insert_at.ensures.ok
+    on_ok_weaker c.insert_at.result (λ e. subst (λ rs. IsPut (values_of xs) f rs) (sym e) (none_there xs f _ _ lies c.if-past-first.true c.requires.apart c.requires.put)) c.insert_at.ensures.ok
 
 pub join-requires : goal.join-requires
 join-requires c =

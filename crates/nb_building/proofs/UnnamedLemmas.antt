@@ -28,17 +28,6 @@ part_unnamed Named P fault (Ok x) h refused part = tt
 part_unnamed Named P fault (Err made) h (inl memory) part = λ other. absurd (other (h ∙ memory))
 part_unnamed Named P fault (Err made) h (inr none) part = λ other value names. let has = part value names in none.1 has.0 has.1
 
--- parts that name nothing
-pub parts_unnamed : {T A B : Type 0} (Named : A → Type 0) (P : B → Type 0) (fault : BuildFault) (r : Result T BuildFault)
-    → IsErrAnd r (λ made. made ≡ fault) → Unnamed P fault → ((value : A) → Named value → (part : B) × P part) → IfErr r (Unnamed Named)
-parts_unnamed Named P fault (Ok x) h refused part = tt
-parts_unnamed Named P fault (Err made) h refused part =
-    λ other value names. let has = part value names in refused (λ memory. other (h ∙ memory)) has.0 has.1
-
-pub memory_unnamed : {T A : Type 0} (Named : A → Type 0) (r : Result T BuildFault) → IfErr r (λ fault. fault ≡ Memory) → IfErr r (Unnamed Named)
-memory_unnamed Named (Ok x) is = tt
-memory_unnamed Named (Err fault) is = λ other. absurd (other is)
-
 -- ---- session packets
 
 -- what the words of a request are

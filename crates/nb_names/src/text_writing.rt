@@ -106,10 +106,7 @@ fn push_plain(text: &mut String, domain: &DomainName) -> Result<(), NoMemory>
             push_items(text, label)?;
             push_spelled(text, rest)
         }
-        None => {
-            text.push_str(".")?;
-            Ok(())
-        }
+        None => push_ascii(b".", text),
     }
 }
 

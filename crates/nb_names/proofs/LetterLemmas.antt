@@ -1,10 +1,10 @@
 -- Labels that begin with the letters of bytes.
-use Rattle.std.proofs.Common.{◌≡◌, ℕ, ◌+◌, ◌-◌, ◌*◌, ◌/◌, ◌%◌, ◌<◌, true, List, [], ◌∷◌, ◌++◌, length, refl, arith}
+use Rattle.std.proofs.Common.{◌≡◌, ℕ, ◌+◌, ◌-◌, ◌*◌, ◌/◌, ◌%◌, ◌<◌, ◌==◌, ◌&&◌, Bool, true, false, List, [], ◌∷◌, ◌++◌, length, zero, suc, slice_index, refl, ◌∙◌, ap, arith}
 use Rattle.std.specs.List.{list_all}
 use Rattle.std.proofs.lemmas.Bool.Decides.{nat_tests}
 use Rattle.nb_names.specs.DomainName.{AreBytes}
-use Rattle.nb_names.specs.FirstLevel.{letter, letters}
-use Rattle.nb_names.specs.NameText.{is_letter, bytes_of_letters, labels_written, bytes_written, scope_text_of}
+use Rattle.nb_names.specs.FirstLevel.{letter, letters, IsLetter, IsFirstNonLetter}
+use Rattle.nb_names.specs.NameText.{is_letter, are_letters, bytes_of_letters, labels_written, domain_written, bytes_written, scope_text_of}
 use Rattle.nb_names.proofs.FirstLevelLemmas.{length-letters}
 
 letter_passes : (half : ℕ) → half < 16 → is_letter (letter half) ≡ true
@@ -28,3 +28,25 @@ pub labels_written-letters : (bytes : List ℕ) (scope : List (List ℕ)) → le
 labels_written-letters bytes scope sixteen each =
     let long : length (letters bytes) ≡ 32 = omega (arith, length-letters bytes, sixteen) in
     rw (long, letters_pass bytes each, bytes_given_back bytes) refl
+
+not_letter : (byte : ℕ) → ¬ IsLetter byte → is_letter byte ≡ false
+not_letter byte non = grind (arith, nat_tests)
+
+and_false : (test : Bool) → (test && false) ≡ false
+and_false true = refl
+and_false false = refl
+
+not_all_letters : (label : List ℕ) (place : ℕ) → place < length label → ¬ IsLetter (slice_index label place) → list_all is_letter label ≡ false
+not_all_letters [] place within non = absurd (omega arith)
+not_all_letters (b ∷ label) zero within non = rw (not_letter b non) refl
+not_all_letters (b ∷ label) (suc place) within non =
+    ap (λ rest. is_letter b && rest) (not_all_letters label place (omega arith) non) ∙ and_false (is_letter b)
+
+as_domain : (first : List ℕ) (scope : List (List ℕ)) → are_letters first ≡ false → labels_written (first ∷ scope) ≡ domain_written (first ∷ scope)
+as_domain first scope e = rw e refl
+
+-- others are written as a domain name
+pub labels_written-others : (first : List ℕ) (scope : List (List ℕ)) (place : ℕ) → IsFirstNonLetter first place
+    → labels_written (first ∷ scope) ≡ domain_written (first ∷ scope)
+labels_written-others first scope place is =
+    as_domain first scope (ap (λ all. (length first == 32) && all) (not_all_letters first place is.within is.non_letter) ∙ and_false (length first == 32))

@@ -1,12 +1,12 @@
 -- What is written of a name is its text.
-use Rattle.std.proofs.Common.{◌≡◌, ◌≢◌, ◌==◌, ◌||◌, ℕ, ◌+◌, ◌-◌, ◌/◌, ◌%◌, ◌<◌, ◌≤◌, ◌^◌, Bool, true, false, IsTrue, if◌then◌else◌, List, [], ◌∷◌, ◌++◌, length, take, zero, suc, replicate, slice_index, refl, sym, ◌∙◌, ap, arith, append_assoc, get_or, lit<}
+use Rattle.std.proofs.Common.{◌≡◌, ◌≢◌, ◌==◌, ◌||◌, ℕ, ◌+◌, ◌-◌, ◌/◌, ◌%◌, ◌<◌, ◌≤◌, ◌^◌, Bool, true, false, IsTrue, if◌then◌else◌, List, [], ◌∷◌, ◌++◌, length, take, zero, suc, replicate, slice_index, refl, sym, ◌∙◌, ap, subst, arith, append_assoc, get_or, lit<}
 use Rattle.std.specs.List.{AllByRecursion}
 use Rattle.std.specs.Char.{digit_value, digit_char, is_ascii_graphic}
 use Rattle.std.proofs.lemmas.Bool.{eqb-true}
 use Rattle.std.proofs.lemmas.Bool.Decides.{nat_tests}
 use Rattle.std.proofs.lemmas.List.{take_more, take_all, length-take, length-append, length-replicate}
 use Rattle.nb_names.specs.DomainName.{IsLabel, AreBytes, AreByteLabels}
-use Rattle.nb_names.specs.Name.{NetbiosName, IsScope, IsName}
+use Rattle.nb_names.specs.Name.{NetbiosName, IsScope, IsName, IsByteName}
 use Rattle.nb_names.specs.NameText.{is_plain, byte_of, Item, plain, escaped, Items, no_item, more_items, ScopeText, no_label, more_labels, Parts, filled, IsText, digits_of, item_of, items_of, scope_text_of, kept_before, trimmed, bytes_written, written}
 
 -- ---- spaces at the end
@@ -156,23 +156,15 @@ written-text name is labels = record {
       sym (take_all 16 name.bytes (omega (arith, is.sixteen))) ∙ take_more name.bytes 15 0 (omega (arith, is.sixteen))
       ∙ ap (λ (front : List ℕ). front ++ last ∷ []) (sym (filled-trimmed (take 15 name.bytes) size))
 
--- the bytes and the scope of a name, written one after the other
-pub text_of_written : (name : NetbiosName) (bytes : List ℕ) (scope : List (List ℕ)) (text : List ℕ) → bytes ≡ name.bytes → scope ≡ name.scope → length bytes ≡ 16 → AreBytes bytes → IsScope scope → AreByteLabels scope → text ≡ bytes_written bytes ++ scope_text_of scope → IsText name text
-text_of_written name bytes scope text b s sixteen small is labels e =
-    let whole : NetbiosName = record { bytes = bytes; scope = scope } in
-    let same : whole ≡ name = λ i. record { bytes = b i; scope = s i } in
-    let found : IsText whole text = rw e (written-text whole (record { sixteen = sixteen; each = small; scope = is }) labels) in
-    rw same at found
+-- what is written of a name, in its place
+pub text_of_written : (name : NetbiosName) (text : List ℕ) → text ≡ written name → IsByteName name → IsText name text
+text_of_written name text e is = subst (IsText name) (sym e) (written-text name is.0 is.1)
 
 -- ---- a loop over labels
 
 -- writing a label leaves what is left to write
-pub label_turn : (label : List ℕ) (labels : List (List ℕ)) (before dotted after whole : List ℕ) → dotted ≡ before ++ 46 ∷ [] → after ≡ dotted ++ items_of label → before ++ scope_text_of (label ∷ labels) ≡ whole → after ++ scope_text_of labels ≡ whole
-label_turn label labels before dotted after whole d a w =
-    let rest : List ℕ = scope_text_of labels in
-    let now : after ≡ (before ++ 46 ∷ []) ++ items_of label = a ∙ ap (λ (front : List ℕ). front ++ items_of label) d in
-    rw now
-    (append_assoc (before ++ 46 ∷ []) (items_of label) rest ∙ append_assoc before (46 ∷ []) (items_of label ++ rest) ∙ w)
+pub label_turn : (label : List ℕ) (labels : List (List ℕ)) (before after whole : List ℕ) → after ≡ before ++ 46 ∷ items_of label → before ++ scope_text_of (label ∷ labels) ≡ whole → after ++ scope_text_of labels ≡ whole
+label_turn label labels before after whole a w = rw a (append_assoc before (46 ∷ items_of label) (scope_text_of labels) ∙ w)
 
 pub all_small : (bs : List ℕ) → ((i : ℕ) → get_or bs i 0 < 256) → AreBytes bs
 all_small [] h = tt

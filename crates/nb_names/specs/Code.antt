@@ -5,5 +5,6 @@ pub mod Kept
 pub mod LengthByte
 pub mod PointerEnds
 pub mod Digits
+pub mod FaultWords
 pub mod TextSteps
 pub mod Collected

@@ -44,8 +44,7 @@ pub fn push_data(bytes: &[u8], text: &mut String) -> Result<(), NoMemory>
     ensures front { OnlyAdds (string_bytes text.old) (string_bytes text.new) }
 {
     if bytes.is_empty() {
-        text.push_str("empty")?;
-        return Ok(());
+        return push_ascii(b"empty", text);
     }
     push_digits(bytes, text)
 }

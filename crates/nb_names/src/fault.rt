@@ -1,6 +1,7 @@
 //! Why no name was read.
 ghost use Rattle.std.specs.Prelude.{◌≡◌};
 ghost use Rattle.nb_names.specs.FaultTexts.{name_fault_place};
+ghost use Rattle.nb_names.specs.Code.FaultWords.{name_fault_words};
 
 use std::error::Error;
 use std::fmt;
@@ -45,6 +46,20 @@ impl NameFault {
             | NameFault::NotNetbios(at) => at,
         }
     }
+
+    /// The words with which its text begins.
+    fn words(self) -> &'static str
+        ensures { result.now ≡ name_fault_words self }
+    {
+        match self {
+            NameFault::Truncated(_) => "truncated",
+            NameFault::ReservedLabel(_) => "reserved label",
+            NameFault::PointerNotAllowed(_) => "pointer not allowed",
+            NameFault::BadPointer(_) => "bad pointer",
+            NameFault::TooLong(_) => "too long",
+            NameFault::NotNetbios(_) => "not netbios",
+        }
+    }
 }
 
 impl fmt::Display for NameFault {
@@ -54,14 +69,8 @@ impl fmt::Display for NameFault {
     ghost output = { λ fault. Some (name_fault_text fault) };
 
     fn fmt<W: fmt::Write>(&self, f: &mut fmt::Formatter<W>) -> fmt::Result {
-        match self {
-            NameFault::Truncated(at) => write!(f, "truncated {at}"),
-            NameFault::ReservedLabel(at) => write!(f, "reserved label {at}"),
-            NameFault::PointerNotAllowed(at) => write!(f, "pointer not allowed {at}"),
-            NameFault::BadPointer(at) => write!(f, "bad pointer {at}"),
-            NameFault::TooLong(at) => write!(f, "too long {at}"),
-            NameFault::NotNetbios(place) => write!(f, "not netbios {place}"),
-        }
+        f.write_str(self.words())?;
+        write!(f, " {}", self.place())
     }
 }
 

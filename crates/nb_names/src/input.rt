@@ -1,5 +1,5 @@
 //! Reading from a reader whose calls are counted, and reading an input whole.
-ghost use Rattle.std.specs.Prelude.{◌≡◌, ◌<◌, ◌≤◌, ℕ, List, length, take, true, false, OnErr, IfOk};
+ghost use Rattle.std.specs.Prelude.{◌≡◌, ◌<◌, ◌≤◌, [], ℕ, List, length, take, true, false, OnErr, IfOk};
 ghost use Rattle.std.specs.Io.KnownBytes.{Consumes, IsAtEnd, Keeps};
 ghost use Rattle.nb_names.specs.Devices.{GrowTo, ShowsReadFault, ShowsUnread};
 ghost use Rattle.nb_names.specs.declared.limits.TheConstants.{MAX_INPUT};
@@ -8,7 +8,7 @@ use crate::bytes::NoMemory;
 use crate::counted::{Counted, Told};
 use crate::device_fault::DeviceFault;
 use crate::limits::{MAX_INPUT, MAX_INTERRUPTS};
-use std::alloc::Global;
+use std::alloc::{AllocError, Global};
 use std::io::Read;
 
 /// The bytes read at a time.
@@ -56,27 +56,35 @@ pub fn read_input<R: Read>(alloc: Global, reader: &mut Counted<R>) -> Result<Inp
         (R.remaining reader.new.inner) bytes) }
 {
     let mut bytes = Vec::new(alloc);
+    let is_whole = read_all(reader, &mut bytes)?;
+    Ok(Input { bytes, is_whole })
+}
+
+/// Reads into a list without bytes, as [`read_input`] does, and answers whether the input is whole.
+fn read_all<R: Read>(reader: &mut Counted<R>, bytes: &mut Vec<u8>) -> Result<bool, NoMemory>
+    requires { bytes.old.items ≡ [] }
+    ensures found { IfOk result (λ whole. Consumes (R.remaining reader.old.inner)
+        (R.remaining reader.new.inner) bytes.new.items) }
+    ensures whole { IfOk result (λ whole. whole ≡ true →
+        IsAtEnd (R.remaining reader.new.inner) × (length bytes.new.items ≤ MAX_INPUT)) }
+    ensures cut { IfOk result (λ whole. whole ≡ false →
+        ShowsUnread MAX_INPUT bytes.new.items reader.old.counts reader.new.counts) }
+    ensures lost { OnErr result ((taken : List ℕ) × Consumes (R.remaining reader.old.inner)
+        (R.remaining reader.new.inner) taken) }
+{
     let mut chunk = [0; CHUNK];
     while bytes.len() <= MAX_INPUT {
         match read_some(reader, &mut chunk) {
-            Ok(0) => {
-                return Ok(Input {
-                    bytes,
-                    is_whole: true,
-                });
-            }
+            Ok(0) => return Ok(true),
             Ok(count) => {
-                if bytes.extend_from_slice(&chunk[..count]).is_err() {
+                if let Err(AllocError) = bytes.extend_from_slice(&chunk[..count]) {
                     return Err(NoMemory);
                 }
             }
-            Err(_) => break,
+            Err(_) => return Ok(false),
         }
     }
-    Ok(Input {
-        bytes,
-        is_whole: false,
-    })
+    Ok(false)
 }
 
 /// Reads some bytes to the front of a buffer that isn't empty, and answers how many; none at the

@@ -7,7 +7,7 @@ use crate::limits::MAX_LABEL;
 const LOWEST_POINTER: usize = 192;
 
 /// What a length byte begins.
-#[derive(Clone, Copy, Debug, PartialEq, Eq)]
+#[derive(Clone, Copy)]
 pub(crate) enum LengthByte {
     /// The length byte, or a byte that it promises, is missing.
     Cut,

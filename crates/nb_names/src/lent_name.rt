@@ -22,7 +22,7 @@ use crate::pointers::Pointers;
 use crate::scope::Scope;
 use crate::skipping::skip_along;
 use crate::spellings::{each_is_a_byte, split_label};
-use crate::text_writing::{push_bytes, push_spelled};
+use crate::text_writing::push_parts;
 use std::marker::Model;
 
 /// A NetBIOS name whose scope is lent, as its spelling. It takes a few words, where a [`Name`] has
@@ -198,6 +198,5 @@ pub fn push_lent_name(text: &mut String, name: &LentName<'_>) -> Result<(), NoMe
         (string_bytes text.new ≡ string_bytes text.old ++ written name.now) }
     ensures front { OnlyAdds (string_bytes text.old) (string_bytes text.new) }
 {
-    push_bytes(text, name.bytes())?;
-    push_spelled(text, name.scope_spelling())
+    push_parts(text, name.bytes(), name.scope_spelling())
 }

@@ -12,6 +12,8 @@ pub fn split_line(text: &[u8]) -> Option<(&[u8], &[u8])>
         length parts.0.now + 1 + length parts.1.now ≡ length text.now) }
     ensures none { IfNone result (IsLine text.now) }
 {
-    let end = memchr(b'\n', text)?;
-    Some((&text[..end], &text[end + 1..]))
+    match memchr(b'\n', text) {
+        Some(end) => Some((&text[..end], &text[end + 1..])),
+        None => None,
+    }
 }

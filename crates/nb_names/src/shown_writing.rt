@@ -6,7 +6,7 @@ ghost use Rattle.nb_names.specs.Growth.{OnlyAdds};
 
 use crate::bytes::NoMemory;
 use arrayvec::ArrayString;
-use std::fmt::{Display, Write};
+use std::fmt::{self, Display, Write};
 
 /// How many bytes of a text there is room for. The longest text of a fault has some 60.
 const ROOM: usize = 128;
@@ -24,9 +24,20 @@ pub fn push_shown<D: Display + Drop>(value: D, text: &mut String) -> Result<(), 
     ensures front { OnlyAdds (string_bytes text.old) (string_bytes text.new) }
 {
     let mut room = ArrayString::<ROOM>::new();
-    if write!(room, "{value}").is_err() {
-        return Err(NoMemory);
+    match show(value, &mut room) {
+        Ok(()) => {
+            text.push_str(room.as_str())?;
+            Ok(())
+        }
+        Err(_) => Err(NoMemory),
     }
-    text.push_str(room.as_str())?;
-    Ok(())
+}
+
+/// Adds a value's text to room.
+#[inline]
+fn show<D: Display + Drop>(value: D, room: &mut ArrayString<ROOM>) -> fmt::Result
+    ensures { OnOk result (IfSome (D.output value)
+        (λ shown. room.new.bytes ≡ room.old.bytes ++ shown)) }
+{
+    write!(room, "{value}")
 }

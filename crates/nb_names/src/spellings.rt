@@ -11,7 +11,9 @@ pub(crate) fn split_label(spelled: &[u8]) -> Option<(&[u8], &[u8])>
         MatchOption result (labels ≡ []) (λ split. BeginsWith labels split.0.now split.1.now) }
     ensures shorter { IfSome result (λ split. length split.1.now < length spelled.now) }
 {
-    let (size, rest) = spelled.split_first()?;
+    let Some((size, rest)) = spelled.split_first() else {
+        return None;
+    };
     if *size == 0 || rest.len() < *size as usize {
         return None;
     }
@@ -26,10 +28,15 @@ pub(crate) fn label_at(spelled: &[u8], place: usize) -> Option<&[u8]>
 {
     let mut rest = spelled;
     for _ in 0..place {
-        rest = split_label(rest)?.1;
+        match split_label(rest) {
+            Some((_, behind)) => rest = behind,
+            None => return None,
+        }
     }
-    let (label, _) = split_label(rest)?;
-    Some(label)
+    match split_label(rest) {
+        Some((label, _)) => Some(label),
+        None => None,
+    }
 }
 
 /// How many labels a spelling has.

@@ -6,7 +6,7 @@ ghost use Rattle.nb_names.specs.Code.TextSteps.{step, step_in_front, step_in_lab
 use crate::hexadecimal::byte_of_pair;
 
 /// Where a reading stands: what the bytes read so far end in.
-#[derive(Clone, Copy, Debug, PartialEq, Eq)]
+#[derive(Clone, Copy)]
 pub(crate) enum Stage {
     /// Any number of items.
     Front,
@@ -33,7 +33,7 @@ pub(crate) enum Stage {
 }
 
 /// What a byte of a text adds to the name.
-#[derive(Clone, Copy, Debug, PartialEq, Eq)]
+#[derive(Clone, Copy)]
 pub(crate) enum Added {
     /// Nothing so far.
     Nothing,

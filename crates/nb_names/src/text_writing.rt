@@ -1,14 +1,14 @@
 //! Writing names as text.
 #![tactic(auto, using(crate::specs::GrowthFacts::front_stays))]
 
-ghost use Rattle.std.specs.Prelude.{◌≡◌, ◌++◌, ◌∷◌, ℕ, List, IfOk, OnOk, IsTrue, length, string_bytes};
+ghost use Rattle.std.specs.Prelude.{◌≡◌, ◌++◌, ◌∷◌, [], ℕ, List, IfOk, OnOk, IsTrue, length, string_bytes};
 ghost use Rattle.nb_names.specs.declared.limits.TheConstants.{NAME_LENGTH};
 ghost use Rattle.std.specs.List.{AllByRecursion, list_all};
 ghost use Rattle.std.specs.Str.{IsAscii};
 ghost use Rattle.nb_names.specs.Growth.{OnlyAdds};
-ghost use Rattle.nb_names.specs.Ascii.{dot};
-ghost use Rattle.nb_names.specs.DomainName.{AreBytes, AreByteLabels, IsLabel, spelling};
-ghost use Rattle.nb_names.specs.NameText.{IsText, written, bytes_written, domain_written, trimmed, item_of, items_of, scope_text_of, labels_written, is_plain as is_plain_byte};
+ghost use Rattle.nb_names.specs.Ascii.{dot, less_than, greater_than};
+ghost use Rattle.nb_names.specs.DomainName.{AreBytes, IsLabel, spelling};
+ghost use Rattle.nb_names.specs.NameText.{IsText, written, bytes_written, domain_written, trimmed, digits_of, item_of, items_of, scope_text_of, labels_written, is_plain as is_plain_byte};
 
 use crate::ascii_writing::push_ascii;
 use crate::bytes::NoMemory;
@@ -35,8 +35,8 @@ pub fn name_text(alloc: Global, name: &Name) -> Result<String, NoMemory>
     ensures read { IfOk result (λ text. IsText name.now (string_bytes text)) }
 {
     let mut text = String::new(alloc);
-    push_bytes(&mut text, name.bytes())?;
-    push_labels(&mut text, name.scope().as_domain())?;
+    push_name(&mut text, name)?;
+    let _ = name.bytes();
     Ok(text)
 }
 
@@ -52,8 +52,7 @@ pub fn push_name(text: &mut String, name: &Name) -> Result<(), NoMemory>
         (string_bytes text.new ≡ string_bytes text.old ++ written name.now) }
     ensures front { OnlyAdds (string_bytes text.old) (string_bytes text.new) }
 {
-    push_bytes(text, name.bytes())?;
-    push_labels(text, name.scope().as_domain())
+    push_parts(text, name.bytes(), name.scope().as_domain().spelling())
 }
 
 /// Adds the text of a domain name that stands in a packet: that of a NetBIOS name, as [`name_text`]
@@ -76,10 +75,7 @@ pub fn push_domain(text: &mut String, domain: &DomainName) -> Result<(), NoMemor
         return push_plain(text, domain);
     }
     match bytes_of(first) {
-        Ok(bytes) => {
-            push_bytes(text, &bytes)?;
-            push_spelled(text, scope)
-        }
+        Ok(bytes) => push_parts(text, &bytes, scope),
         Err(_) => push_plain(text, domain),
     }
 }
@@ -110,15 +106,31 @@ fn push_plain(text: &mut String, domain: &DomainName) -> Result<(), NoMemory>
             push_items(text, label)?;
             push_spelled(text, rest)
         }
-        None => {
-            text.push_str(".")?;
-            Ok(())
-        }
+        None => push_ascii(b".", text),
     }
 }
 
+/// Adds the text of a name of these bytes and a scope that is spelled so.
+#[inline]
+pub(crate) fn push_parts(
+    text: &mut String,
+    bytes: &[u8; NAME_LENGTH],
+    scope: &[u8],
+) -> Result<(), NoMemory>
+    ensures added { (labels : List (List ℕ)) → AllByRecursion IsLabel labels →
+        scope.now ≡ spelling labels → OnOk result (string_bytes text.new
+        ≡ string_bytes text.old ++ (bytes_written bytes.now ++ scope_text_of labels)) }
+    ensures front { OnlyAdds (string_bytes text.old) (string_bytes text.new) }
+    ensures sixteen { length bytes.now ≡ NAME_LENGTH }
+    ensures bytes { AreBytes bytes.now }
+{
+    push_bytes(text, bytes)?;
+    push_spelled(text, scope)
+}
+
 /// Adds a name's bytes: the items of the first fifteen, and the digits of the last.
-pub(crate) fn push_bytes(text: &mut String, bytes: &[u8; NAME_LENGTH]) -> Result<(), NoMemory>
+#[inline]
+fn push_bytes(text: &mut String, bytes: &[u8; NAME_LENGTH]) -> Result<(), NoMemory>
     ensures written { OnOk result
         (string_bytes text.new ≡ string_bytes text.old ++ bytes_written bytes.now) }
     ensures front { OnlyAdds (string_bytes text.old) (string_bytes text.new) }
@@ -126,7 +138,17 @@ pub(crate) fn push_bytes(text: &mut String, bytes: &[u8; NAME_LENGTH]) -> Result
     ensures bytes { AreBytes bytes.now }
 {
     push_items(text, without_last_spaces(&bytes[..FRONT_LENGTH]))?;
-    let [high, low] = pair_of(bytes[FRONT_LENGTH]);
+    push_last(text, bytes[FRONT_LENGTH])
+}
+
+/// Adds the digits of a name's last byte, between `<` and `>`.
+#[inline]
+fn push_last(text: &mut String, byte: u8) -> Result<(), NoMemory>
+    ensures written { OnOk result (string_bytes text.new
+        ≡ string_bytes text.old ++ less_than ∷ digits_of byte ++ greater_than ∷ []) }
+    ensures front { OnlyAdds (string_bytes text.old) (string_bytes text.new) }
+{
+    let [high, low] = pair_of(byte);
     push_ascii(&[b'<', high, low, b'>'], text)
 }
 
@@ -144,18 +166,8 @@ fn without_last_spaces(bytes: &[u8]) -> &[u8]
     kept
 }
 
-/// Adds `.` and the items of each label.
-fn push_labels(text: &mut String, domain: &DomainName) -> Result<(), NoMemory>
-    ensures written { OnOk result
-        (string_bytes text.new ≡ string_bytes text.old ++ scope_text_of domain.now) }
-    ensures front { OnlyAdds (string_bytes text.old) (string_bytes text.new) }
-    ensures bytes { AreByteLabels domain.now }
-{
-    push_spelled(text, domain.spelling())
-}
-
 /// Adds `.` and the items of each label that is spelled.
-pub(crate) fn push_spelled(text: &mut String, spelled: &[u8]) -> Result<(), NoMemory>
+fn push_spelled(text: &mut String, spelled: &[u8]) -> Result<(), NoMemory>
     ensures added { (labels : List (List ℕ)) → AllByRecursion IsLabel labels →
         spelled.now ≡ spelling labels →
         OnOk result (string_bytes text.new ≡ string_bytes text.old ++ scope_text_of labels) }
@@ -242,11 +254,21 @@ fn push_each_label(text: &mut String, spelled: &[u8]) -> Result<(), NoMemory>
 {
     let mut rest = spelled;
     'labels: while let Some((label, behind)) = split_label(rest) {
-        text.push('.')?;
-        push_items(text, label)?;
+        push_label(text, label)?;
         rest = behind;
     }
     Ok(())
+}
+
+/// Adds `.` and the items of a label.
+#[inline]
+fn push_label(text: &mut String, label: &[u8]) -> Result<(), NoMemory>
+    ensures added { OnOk result
+        (string_bytes text.new ≡ string_bytes text.old ++ dot ∷ items_of label.now) }
+    ensures front { OnlyAdds (string_bytes text.old) (string_bytes text.new) }
+{
+    text.push('.')?;
+    push_items(text, label)
 }
 
 /// Adds the items of the bytes, in order.

@@ -1,6 +1,7 @@
 -- The bytes of a packet are read as that packet, whatever follows them.
-use Rattle.std.proofs.Common.{◌≡◌, ℕ, ◌+◌, ◌<◌, ◌≤◌, ◌^◌, Bool, true, false, if◌then◌else◌, List, [], ◌∷◌, ◌++◌, length, take, drop, refl, ap, sym, subst, ◌∙◌, arith, length-append}
-use Rattle.std.proofs.lemmas.List.{take-append-drop, length-take-le, take_at}
+use Rattle.std.proofs.Common.{◌≡◌, ℕ, ◌+◌, ◌<◌, ◌≤◌, ◌^◌, Bool, true, false, if◌then◌else◌, List, [], ◌∷◌, ◌++◌, length, take, drop, refl, ap, sym, subst, ◌∙◌, arith, length-append, get_or}
+use Rattle.std.proofs.lemmas.Grind.{common_steps}
+use Rattle.std.proofs.lemmas.List.{flat_map_more, take_more, take-append-drop, length-take-le, take_at}
 use Rattle.std.specs.Int.{w16, w32, to_be_bytes}
 use Rattle.std.specs.List.{AllByRecursion, flat_map}
 use Rattle.std.specs.Cmp.Lexicographic.{same_text}
@@ -201,3 +202,24 @@ packet_there same law p rest d =
 pub all_append : {A : Type 0} (P : A → Type 0) (xs ys : List A) → AllByRecursion P xs → AllByRecursion P ys → AllByRecursion P (xs ++ ys)
 all_append P [] ys a b = b
 all_append P (x ∷ xs) ys a b = (a.0, all_append P xs ys a.1 b)
+
+one_more : {A : Type 0} (xs : List A) (i : ℕ) (x : A) → i < length xs → x ≡ get_or xs i x → take (i + 1) xs ≡ take i xs ++ x ∷ []
+one_more {A} xs i x within is = take_more xs i x within ∙ ap (λ (y : A). take i xs ++ y ∷ []) (sym is)
+
+-- a turn that wrote the next item
+pub turn_written : {A : Type 0} (f : A → List ℕ) (xs : List A) (i : ℕ) (x : A) (old mid new : List ℕ) → i < length xs → x ≡ get_or xs i x
+    → mid ≡ old ++ flat_map f (take i xs) → new ≡ mid ++ f x → new ≡ old ++ flat_map f (take (i + 1) xs)
+turn_written {A} f xs i x old mid new within is before added =
+    added ∙ ap (λ (t : List ℕ). t ++ f x) before ∙ flat_map_more f old (take i xs) x
+    ∙ ap (λ (ys : List A). old ++ flat_map f ys) (sym (one_more xs i x within is))
+
+pub turn_formed : {A : Type 0} (P : A → Type 0) (xs : List A) (i : ℕ) (x : A) → i < length xs → x ≡ get_or xs i x
+    → AllByRecursion P (take i xs) → P x → AllByRecursion P (take (i + 1) xs)
+turn_formed P xs i x within is before holds =
+    subst (AllByRecursion P) (sym (one_more xs i x within is)) (all_append P (take i xs) (x ∷ []) before (holds, tt))
+
+-- what is written part after part is the packet's bytes
+pub packet_written : (p : ServicePacket) (qs : List Question) (us bs cs : List ResourceRecord) (empty h q u b c : List ℕ) → empty ≡ [] → h ≡ empty ++ header_bytes (header_of p)
+    → q ≡ h ++ flat_map question_bytes qs → u ≡ q ++ flat_map (record_bytes qs) us → b ≡ u ++ flat_map (record_bytes qs) bs → c ≡ b ++ flat_map (record_bytes qs) cs
+    → qs ≡ p.questions → us ≡ p.answers → bs ≡ p.authorities → cs ≡ p.additional → c ≡ packet_bytes p
+packet_written p qs us bs cs empty h q u b c e hs is su sb sc same_q same_u same_b same_c = grind (arith, common_steps)

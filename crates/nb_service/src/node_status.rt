@@ -57,7 +57,9 @@ impl<'a> NodeStatus<'a> {
         if kind != NBSTAT {
             return None;
         }
-        let (count, rest) = bytes.split_first()?;
+        let Some((count, rest)) = bytes.split_first() else {
+            return None;
+        };
         let size = NODE_NAME_LENGTH * *count as usize;
         if rest.len() < size {
             return None;

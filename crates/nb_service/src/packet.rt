@@ -6,7 +6,7 @@ ghost use Rattle.nb_service.specs.Flags.{opcode_of, rcode_of, nm_bits, nm_bits_o
 
 use crate::flags::{NmFlags, nm_flags_of, opcode, rcode};
 use crate::limits::MAX_ENTRIES;
-use crate::lists::{Questions, Records, add};
+use crate::lists::{Questions, Records, add, no_item};
 use crate::push_fault::PushFault;
 use crate::question::Question;
 use crate::record::Record;
@@ -67,10 +67,10 @@ impl<'a> Packet<'a> {
     pub fn new(alloc: Global, id: u16, word: u16) -> Packet<'a>
         ensures { result ≡ empty_packet id word }
     {
-        let questions = Questions::from_vec(Vec::new(alloc));
-        let answers = Records::from_vec(Vec::new(alloc));
-        let authorities = Records::from_vec(Vec::new(alloc));
-        let additional = Records::from_vec(Vec::new(alloc));
+        let questions = no_item(alloc);
+        let answers = no_item(alloc);
+        let authorities = no_item(alloc);
+        let additional = no_item(alloc);
         Packet::with_lists(id, word, questions, answers, authorities, additional)
     }
 

@@ -1,19 +1,32 @@
 //! Requests, built.
-ghost use Rattle.std.specs.Prelude.{◌≡◌, IfOk};
-ghost use Rattle.nb_service.specs.Requests.{inquiry, claim};
+ghost use Rattle.std.specs.Prelude.{◌≡◌, [], ◌∷◌, IfOk};
+ghost use Rattle.nb_service.specs.Requests.{asking, inquiry, claim};
 ghost use Rattle.nb_service.specs.Requests.{query_packet, status_packet};
 ghost use Rattle.nb_service.specs.Requests.{registration_packet, refresh_packet, release_packet};
 
 use crate::classes::IN;
 use crate::kinds::{NB, NBSTAT};
 use crate::limits::ENTRY_LENGTH;
-use crate::lists::{Questions, Records};
+use crate::lists::{Questions, no_item, one_item};
 use crate::packet::Packet;
 use crate::question::Question;
 use crate::rdata::Rdata;
 use crate::record::Record;
 use nb_names::{Name, NoMemory};
 use std::alloc::Global;
+
+/// A question about a name, alone in a list.
+#[inline]
+fn ask(alloc: Global, kind: u16, name: &Name) -> Result<Questions, NoMemory>
+    ensures { IfOk result (λ questions. questions ≡ asking kind name.now ∷ []) }
+{
+    let question = Question {
+        name: name.to_domain(),
+        kind,
+        class: IN,
+    };
+    one_item(alloc, question)
+}
 
 /// A packet with one question, about a name.
 fn build_inquiry<'a>(
@@ -25,19 +38,14 @@ fn build_inquiry<'a>(
 ) -> Result<Packet<'a>, NoMemory>
     ensures { IfOk result (λ packet. packet ≡ inquiry id word kind name.now) }
 {
-    let mut questions = Vec::new(alloc);
-    questions.push(Question {
-        name: name.to_domain(),
-        kind,
-        class: IN,
-    })?;
+    let questions = ask(alloc, kind, name)?;
     Ok(Packet::with_lists(
         id,
         word,
-        Questions::from_vec(questions),
-        Records::from_vec(Vec::new(alloc)),
-        Records::from_vec(Vec::new(alloc)),
-        Records::from_vec(Vec::new(alloc)),
+        questions,
+        no_item(alloc),
+        no_item(alloc),
+        no_item(alloc),
     ))
 }
 
@@ -52,21 +60,16 @@ fn build_claim<'a>(
 ) -> Result<Packet<'a>, NoMemory>
     ensures { IfOk result (λ packet. packet ≡ claim id word name.now ttl entry.entry.now) }
 {
-    let mut questions = Vec::new(alloc);
-    questions.push(Question {
-        name: name.to_domain(),
-        kind: NB,
-        class: IN,
-    })?;
-    let mut additional = Vec::new(alloc);
-    additional.push(Record::new(name.to_domain(), NB, IN, ttl, Rdata::Bytes(entry)))?;
+    let questions = ask(alloc, NB, name)?;
+    let record = Record::new(name.to_domain(), NB, IN, ttl, Rdata::Bytes(entry));
+    let additional = one_item(alloc, record)?;
     Ok(Packet::with_lists(
         id,
         word,
-        Questions::from_vec(questions),
-        Records::from_vec(Vec::new(alloc)),
-        Records::from_vec(Vec::new(alloc)),
-        Records::from_vec(additional),
+        questions,
+        no_item(alloc),
+        no_item(alloc),
+        additional,
     ))
 }
 

@@ -2,7 +2,7 @@
 ghost use Rattle.std.specs.Prelude.{◌≡◌, IfOk};
 ghost use Rattle.nb_service.specs.Responses.{one_answer};
 
-use crate::lists::{Questions, Records};
+use crate::lists::{no_item, one_item};
 use crate::packet::Packet;
 use crate::record::Record;
 use nb_names::NoMemory;
@@ -23,15 +23,14 @@ pub fn response<'a>(
 ) -> Result<Packet<'a>, NoMemory>
     ensures { IfOk result (λ packet. packet ≡ one_answer id word answer.entry) }
 {
-    let mut answers = Vec::new(alloc);
-    answers.push(answer)?;
-    let additional = Records::from_vec(Vec::new(alloc));
+    let answers = one_item(alloc, answer)?;
+    let additional = no_item(alloc);
     Ok(Packet::with_lists(
         id,
         word,
-        Questions::from_vec(Vec::new(alloc)),
-        Records::from_vec(answers),
-        Records::from_vec(Vec::new(alloc)),
+        no_item(alloc),
+        answers,
+        no_item(alloc),
         additional,
     ))
 }

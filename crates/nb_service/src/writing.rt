@@ -25,20 +25,27 @@ fn is_first_question(questions: &[Question], name: &DomainName) -> bool
     }
 }
 
+/// Writes bytes.
+#[inline]
+fn write_bytes(bytes: &mut Vec<u8>, more: &[u8]) -> Result<(), NoMemory>
+    ensures { OnOk result (bytes.new.items ≡ bytes.old.items ++ more.now) }
+{
+    bytes.extend_from_slice(more)?;
+    Ok(())
+}
+
 /// Writes a number of two bytes.
 pub(crate) fn write_16(bytes: &mut Vec<u8>, number: u16) -> Result<(), NoMemory>
     ensures { OnOk result (bytes.new.items ≡ bytes.old.items ++ to_be_bytes w16 number) }
 {
-    bytes.extend_from_slice(&number.to_be_bytes())?;
-    Ok(())
+    write_bytes(bytes, &number.to_be_bytes())
 }
 
 /// Writes a number of four bytes.
 fn write_32(bytes: &mut Vec<u8>, number: u32) -> Result<(), NoMemory>
     ensures { OnOk result (bytes.new.items ≡ bytes.old.items ++ to_be_bytes w32 number) }
 {
-    bytes.extend_from_slice(&number.to_be_bytes())?;
-    Ok(())
+    write_bytes(bytes, &number.to_be_bytes())
 }
 
 /// Writes a question.
@@ -47,7 +54,7 @@ fn write_question(bytes: &mut Vec<u8>, question: &Question) -> Result<(), NoMemo
         (bytes.new.items ≡ bytes.old.items ++ question_bytes question.now) }
     ensures formed { OnOk result (IsQuestion question.now) }
 {
-    bytes.extend_from_slice(question.name.spelling())?;
+    write_bytes(bytes, question.name.spelling())?;
     write_16(bytes, question.kind)?;
     write_16(bytes, question.class)
 }
@@ -64,11 +71,10 @@ fn write_name(
 {
     let spelling = name.spelling();
     if is_first_question(questions, name) {
-        bytes.extend_from_slice(&QUESTION_POINTER)?;
+        write_bytes(bytes, &QUESTION_POINTER)
     } else {
-        bytes.extend_from_slice(spelling)?;
+        write_bytes(bytes, spelling)
     }
-    Ok(())
 }
 
 /// Writes a record of a packet with these questions.
@@ -90,8 +96,7 @@ fn write_record(
         Rdata::Domain(name) => name.spelling(),
     };
     write_16(bytes, rdata.len() as u16)?;
-    bytes.extend_from_slice(rdata)?;
-    Ok(())
+    write_bytes(bytes, rdata)
 }
 
 /// Writes questions, one after the other.

@@ -1,4 +1,4 @@
-use Rattle.std.proofs.Common.{◌++◌, List, ℕ, string_bytes, ◌∙◌, ap, append_assoc}
+use Rattle.std.proofs.Common.{◌++◌, List, ℕ, string_bytes, ◌∙◌, ap}
 use Rattle.std.proofs.lemmas.Result.{on_ok_weaker}
 use Rattle.nb_names.specs.NameText.{bytes_written, scope_text_of}
 use Rattle.nb_names.proofs.lent_name.push_lent_name.Goals as goal
@@ -6,9 +6,6 @@ use Rattle.nb_names.proofs.lent_name.push_lent_name.Goals as goal
 pub returns-clause-added : goal.returns-clause-added
 returns-clause-added c =
     let name = c.args.name.now in
-    let front = c.in_ok-push_bytes.ensures.written ∙ ap (λ (bytes : List ℕ). string_bytes c.args.text.now ++ bytes_written bytes) c.bytes.ensures.value in
-    on_ok_weaker c.push_spelled.result (λ written.
-    written
-    ∙ ap (λ (text : List ℕ). text ++ scope_text_of name.scope) front
-    ∙ append_assoc (string_bytes c.args.text.now) (bytes_written name.bytes) (scope_text_of name.scope))
-    (c.push_spelled.ensures.added name.scope c.bytes.ensures.name.0.scope.domain.each c.scope_spelling.ensures.value)
+    on_ok_weaker c.push_parts.result (λ written.
+    written ∙ ap (λ (bytes : List ℕ). string_bytes c.args.text.now ++ (bytes_written bytes ++ scope_text_of name.scope)) c.bytes.ensures.value)
+    (c.push_parts.ensures.added name.scope c.bytes.ensures.name.0.scope.domain.each c.scope_spelling.ensures.value)

@@ -5,7 +5,7 @@ use Rattle.nb_names.specs.Skipped.{IsSkipped}
 use Rattle.nb_service.specs.declared.fields.Fields.{Fields}
 use Rattle.nb_service.specs.declared.section.Section.{Section}
 use Rattle.nb_service.specs.Header.{header_value}
-use Rattle.nb_service.specs.Items.{PacketItem, asked, told, question_there, record_there, record_fails, IsExtent, fields_of, name_of, section_of}
+use Rattle.nb_service.specs.Items.{PacketItem, asked, told, question_there, record_there, question_fails, record_fails, IsExtent, fields_of, name_of, section_of}
 use Rattle.nb_service.proofs.NumberedLemmas.{item_within, record_counted, record_late}
 use Rattle.nb_service.proofs.item_reading.read_fields.Goals as goal
 
@@ -53,3 +53,7 @@ returns-clause-only c item next is =
     let one = c.one_item.ensures.one _ _ _ _ (told c.in-Some.section there.0) item _ next (record_there c.in-Some.section _ _ c.in-Some.ensures there.1) is in
     let same = same_answer _ _ _ _ _ (told c.in-Some.section there.0) item one.0 (there.2, there.4, refl, there.3) in
     (one.1, same.0, same.1, same.2, same.3)
+
+pub returns-in_err-fields-clause-only : goal.returns-in_err-fields-clause-only
+returns-in_err-fields-clause-only c item next there =
+    absurd (c.one_item.ensures.alone _ _ _ _ _ item next (question_fails c.if-number-header.true c.in_err-fields.ensures.fault) there)

@@ -1,5 +1,5 @@
 use Rattle.nb_service.specs.Header.{header_value}
-use Rattle.nb_service.specs.Items.{asked, told, question_there, record_there, record_fails}
+use Rattle.nb_service.specs.Items.{asked, told, question_there, record_there, question_fails, record_fails}
 use Rattle.nb_service.proofs.NumberedLemmas.{record_counted, record_late}
 use Rattle.nb_service.proofs.item_reading.read_item.Goals as goal
 
@@ -25,3 +25,7 @@ pub returns-clause-only : goal.returns-clause-only
 returns-clause-only c item next there =
     c.one_item.ensures.one _ _ _ _ (told c.in-Some.section c.in_ok-record.record) item c.in_ok-record.extent.next next
     (record_there c.in-Some.section _ _ c.in-Some.ensures c.in_ok-record.ensures.found) there
+
+pub returns-in_err-question-clause-only : goal.returns-in_err-question-clause-only
+returns-in_err-question-clause-only c item next there =
+    absurd (c.one_item.ensures.alone _ _ _ _ _ item next (question_fails c.if-number-header.true c.in_err-question.ensures.fault) there)

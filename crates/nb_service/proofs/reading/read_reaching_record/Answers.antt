@@ -82,3 +82,17 @@ returns-clause-only c entry next there = c.one_record.ensures.one _ _ _ entry _ 
 
 pub returns-clause-found : goal.returns-clause-found
 returns-clause-found c = stands c
+
+pub returns-in_err-name-clause-only : goal.returns-in_err-name-clause-only
+returns-in_err-name-clause-only c entry next there = absurd (c.one_record.ensures.alone _ _ _ entry next (record_name _ c.in_err-name.ensures.fault) there)
+
+pub returns-then-packet-after-lt-RECORD_FIELDS-clause-only : goal.returns-then-packet-after-lt-RECORD_FIELDS-clause-only
+returns-then-packet-after-lt-RECORD_FIELDS-clause-only c entry next there =
+    absurd (c.one_record.ensures.alone _ _ _ entry next (record_cut _ _ c.in_ok-name.ensures.found (omega (arith, ap length c.packet-packet.ensures))) there)
+
+pub returns-then-packet-begin-clause-only : goal.returns-then-packet-begin-clause-only
+returns-then-packet-begin-clause-only c entry next there =
+    absurd
+    (c.one_record.ensures.alone _ _ _ entry next
+    (rdata_cut c.number_16-kind.result c.number_16-size.result (c.in_ok-name.after + 10) (begins _ _ _ _ _ _ _ c.packet-packet.ensures c.in_ok-name.ensures.found c.number_16-kind.ensures c.number_16-size.ensures) (omega (arith, ap length c.packet-packet.ensures)))
+    there)

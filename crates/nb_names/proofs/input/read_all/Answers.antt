@@ -1,9 +1,9 @@
 use Rattle.std.proofs.Common.{take, ◌++◌}
 use Rattle.nb_names.proofs.InputLemmas.{Consumes-more}
-use Rattle.nb_names.proofs.input.read_input.Goals as goal
+use Rattle.nb_names.proofs.input.read_all.Goals as goal
 
-pub returns-then-is_err-clause-lost : goal.returns-then-is_err-clause-lost
-returns-then-is_err-clause-lost g c = (
+pub returns-in-Err-extend_from_slice-clause-lost : goal.returns-in-Err-extend_from_slice-clause-lost
+returns-in-Err-extend_from_slice-clause-lost g c = (
   c.loop-chunk.bytes.items ++ take c.in-Ok.count c.read_some.new.buffer,
   Consumes-more (g.R.Read.remaining c.args.reader.now.inner) (g.R.Read.remaining c.loop-chunk.reader.inner) (g.R.Read.remaining c.read_some.new.reader.inner)
       c.loop-chunk.bytes.items (take c.in-Ok.count c.read_some.new.buffer) c.loop-chunk.invariant.consumes c.in-Ok.ensures.read,

@@ -36,6 +36,7 @@ pub fn name_text(alloc: Global, name: &Name) -> Result<String, NoMemory>
 {
     let mut text = String::new(alloc);
     push_name(&mut text, name)?;
+    // for the clause: a name has sixteen bytes
     let _ = name.bytes();
     Ok(text)
 }

@@ -28,15 +28,10 @@ pub(crate) fn label_at(spelled: &[u8], place: usize) -> Option<&[u8]>
 {
     let mut rest = spelled;
     for _ in 0..place {
-        match split_label(rest) {
-            Some((_, behind)) => rest = behind,
-            None => return None,
-        }
+        rest = split_label(rest)?.1;
     }
-    match split_label(rest) {
-        Some((label, _)) => Some(label),
-        None => None,
-    }
+    let (label, _) = split_label(rest)?;
+    Some(label)
 }
 
 /// How many labels a spelling has.
